@@ -1,0 +1,40 @@
+//! PSCI_FEATURES, and the formats of a power state word.
+
+ghost use Rattle.std.specs.Prelude.{◌≡◌};
+ghost use Rattle.psci_abi.specs.Calls.{features_of};
+ghost use Rattle.psci_abi.specs.declared.format.Format.TheVariants.{Original};
+
+use crate::words::{
+    AFFINITY_INFO_32, AFFINITY_INFO_64, CPU_ON_32, CPU_ON_64, MIGRATE_INFO_TYPE, PSCI_FEATURES,
+    PSCI_VERSION,
+};
+
+/// How power state words are written (DEN0022D, CPU_SUSPEND, the parameter power_state).
+#[derive(Clone, Copy, Debug, PartialEq, Eq)]
+pub enum Format {
+    /// The original format, with a power level field.
+    Original,
+    /// The extended StateID format.
+    Extended,
+}
+
+/// What PSCI_FEATURES answers for a function word: its feature flags, or NOT_SUPPORTED.
+///
+/// No function of this firmware has a flag yet. The format is the board's; it will decide a flag
+/// of CPU_SUSPEND, and boards have the original one until then.
+pub fn features(word: u32, format: Format) -> i32
+    requires { format ≡ Original }
+    ensures { result ≡ features_of word }
+{
+    let _ = format;
+    match word {
+        PSCI_VERSION
+        | CPU_ON_32
+        | CPU_ON_64
+        | AFFINITY_INFO_32
+        | AFFINITY_INFO_64
+        | MIGRATE_INFO_TYPE
+        | PSCI_FEATURES => 0,
+        _ => -1,
+    }
+}

@@ -1,0 +1,75 @@
+//! A function and its arguments.
+
+ghost use Rattle.std.specs.Prelude.{◌≡◌};
+ghost use Rattle.psci_abi.specs.Calls.{request_of};
+
+use crate::registers::{Regs, low};
+use crate::words::{
+    AFFINITY_INFO_32, AFFINITY_INFO_64, CPU_ON_32, CPU_ON_64, MIGRATE_INFO_TYPE, PSCI_FEATURES,
+    PSCI_VERSION,
+};
+
+/// A function with its arguments, each cut to its width, so that no later code sees a register.
+///
+/// Targets, entry points and context ids have 64 bits in an SMC64 call and 32 in an SMC32 call;
+/// levels and function words have 32 bits in both.
+#[derive(Clone, Copy, Debug, PartialEq, Eq)]
+pub enum Request {
+    /// PSCI_VERSION.
+    Version,
+    /// CPU_ON: start the core that `target` names at the entry point, with the context id.
+    CpuOn {
+        /// The affinity word of the core.
+        target: u64,
+        /// The address of its first instruction.
+        entry: u64,
+        /// What it finds in x0 there.
+        context: u64,
+    },
+    /// AFFINITY_INFO: the status of a power domain.
+    AffinityInfo {
+        /// An affinity word; fields below the level are ignored.
+        target: u64,
+        /// The level of the power domain, 0 for a core.
+        level: u32,
+    },
+    /// MIGRATE_INFO_TYPE.
+    MigrateInfoType,
+    /// PSCI_FEATURES: whether a function is there, and its feature flags.
+    Features {
+        /// The function word that is asked about.
+        word: u32,
+    },
+    /// Every other function word: NOT_SUPPORTED.
+    Unknown,
+}
+
+/// The function that the registers call. Every value of every register has one answer.
+pub fn read(regs: Regs) -> Request
+    ensures { result ≡ request_of regs }
+{
+    match low(regs.x0) {
+        PSCI_VERSION => Request::Version,
+        CPU_ON_32 => Request::CpuOn {
+            target: u64::from(low(regs.x1)),
+            entry: u64::from(low(regs.x2)),
+            context: u64::from(low(regs.x3)),
+        },
+        CPU_ON_64 => Request::CpuOn {
+            target: regs.x1,
+            entry: regs.x2,
+            context: regs.x3,
+        },
+        AFFINITY_INFO_32 => Request::AffinityInfo {
+            target: u64::from(low(regs.x1)),
+            level: low(regs.x2),
+        },
+        AFFINITY_INFO_64 => Request::AffinityInfo {
+            target: regs.x1,
+            level: low(regs.x2),
+        },
+        MIGRATE_INFO_TYPE => Request::MigrateInfoType,
+        PSCI_FEATURES => Request::Features { word: low(regs.x1) },
+        _ => Request::Unknown,
+    }
+}

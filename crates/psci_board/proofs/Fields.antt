@@ -1,0 +1,122 @@
+-- The affinity fields of a place, and the place that a word names.
+use Rattle.std.proofs.Common.{◌≡◌, ℕ, ◌+◌, ◌*◌, ◌/◌, ◌%◌, ◌<◌, ◌≤◌, Bool, true, false, ltb, eqb, ◌==◌, cond, List, [], ◌∷◌, take, get_or, sum, refl, arith, Some, None}
+use Rattle.std.proofs.lemmas.Bool.{eq-eqb, eqb-true}
+use Rattle.std.proofs.lemmas.Bool.Decides.{nat_tests}
+use Rattle.psci_board.specs.Board.{group_of, place_in, IsTree, size_below, address_up}
+use Rattle.psci_board.specs.Level.{named, child_in}
+use Rattle.psci_board.proofs.Groups.{stands_at, counted, few_at}
+use Rattle.psci_board.proofs.Search.{found_first, found_none, found, none_passes}
+
+pub record Digit (p a word : ℕ) : Type 0 where
+  pub low : p ≡ word % 256
+  pub high : a ≡ word / 256
+
+digit : (p a word : ℕ) → p < 256 → p + 256 * a ≡ word → Digit p a word
+digit p a word h e = record { low = omega arith; high = omega arith }
+
+-- the group of a place is one of the nodes above, and its place there fits a field
+pub record Fits (w : List ℕ) (ws : List (List ℕ)) (k : ℕ) : Type 0 where
+  pub group : group_of w k < size_below ws
+  pub place : place_in w k < 256
+
+pub fits : (w : List ℕ) (ws : List (List ℕ)) (k : ℕ) → IsTree (w ∷ ws) → k < sum w → Fits w ws k
+fits w ws k t h =
+    let c = counted w k h in
+    let few = few_at w (group_of w k) t.2 in
+    record { group = omega (arith, c.group, t.0); place = omega (arith, c.place, few) }
+
+-- the fields of a place, one level up
+pub fields : (w : List ℕ) (ws : List (List ℕ)) (k word : ℕ) → IsTree (w ∷ ws) → k < sum w
+    → address_up (w ∷ ws) k ≡ word → Digit (place_in w k) (address_up ws (group_of w k)) word
+fields w ws k word t h e = digit _ _ word (fits w ws k t h).place e
+
+-- different places have different fields
+pub address_up-injective : (ws : List (List ℕ)) (i j : ℕ) → IsTree ws → i < size_below ws
+    → j < size_below ws → address_up ws i ≡ address_up ws j → i ≡ j
+address_up-injective [] i j t h k e = omega arith
+address_up-injective (w ∷ ws) i j t h k e =
+    let a = counted w i h in
+    let b = counted w j k in
+    let x = fields w ws i (address_up (w ∷ ws) j) t h e in
+    let y = fields w ws j (address_up (w ∷ ws) j) t k refl in
+    let same : group_of w i ≡ group_of w j =
+    address_up-injective ws (group_of w i) (group_of w j) t.3 (fits w ws i t h).group
+    (fits w ws j t k).group (cc (x.high, y.high)) in
+    let whole : sum (take (group_of w j) w) + place_in w i ≡ i = rw same at a.whole in
+    omega (arith, whole, b.whole, x.low, y.low)
+
+-- Names -------------------------------------------------------------------------------------------
+
+abbrev has_word : List (List ℕ) → ℕ → ℕ → Bool
+has_word ws word i = address_up ws i == word
+
+pub named_at : (ws : List (List ℕ)) (word i : ℕ) → IsTree ws → i < size_below ws
+    → address_up ws i ≡ word → named ws word ≡ Some i
+named_at ws word i t h e =
+    found_first (has_word ws word) (size_below ws) 0 i (omega arith) (omega arith) (eq-eqb _ _ e)
+    (λ j l m. other j m (eqb (address_up ws j) word) refl)
+  where
+    other : (j : ℕ) → j < i → (b : Bool) → eqb (address_up ws j) word ≡ b
+        → eqb (address_up ws j) word ≡ false
+    other j m true q =
+        let alike : address_up ws j ≡ address_up ws i = cc (eqb-true (address_up ws j) word q) in
+        absurd (omega (arith, address_up-injective ws j i t (omega arith) h alike))
+    other j m false q = q
+
+pub record Names (ws : List (List ℕ)) (word i : ℕ) : Type 0 where
+  pub inside : i < size_below ws
+  pub address : address_up ws i ≡ word
+
+pub named_is : (ws : List (List ℕ)) (word i : ℕ) → named ws word ≡ Some i → Names ws word i
+named_is ws word i e =
+    let f = found (has_word ws word) (size_below ws) 0 i e in
+    record { inside = omega (arith, f.below); address = eqb-true _ _ f.passes }
+
+pub named_none : (ws : List (List ℕ)) (word i : ℕ) → named ws word ≡ None → i < size_below ws
+    → address_up ws i ≡ word → ⊥
+named_none ws word i e h a =
+    none_passes (has_word ws word) (size_below ws) 0 i e (omega arith) (omega arith) (eq-eqb _ _ a)
+
+-- none, where each place has another word
+none_named : (ws : List (List ℕ)) (word : ℕ)
+    → ((i : ℕ) → i < size_below ws → address_up ws i ≡ word → ⊥) → named ws word ≡ None
+none_named ws word other =
+    found_none (has_word ws word) (size_below ws) 0
+    (λ j l h. apart j (omega arith) (eqb (address_up ws j) word) refl)
+  where
+    apart : (j : ℕ) → j < size_below ws → (b : Bool) → eqb (address_up ws j) word ≡ b
+        → eqb (address_up ws j) word ≡ false
+    apart j h true q = absurd (other j h (eqb-true _ _ q))
+    apart j h false q = q
+
+-- One level up, a word without its lowest field ------------------------------------------------
+
+pub named_below_none : (w : List ℕ) (ws : List (List ℕ)) (word : ℕ) → IsTree (w ∷ ws)
+    → named ws (word / 256) ≡ None → named (w ∷ ws) word ≡ None
+named_below_none w ws word t e = none_named (w ∷ ws) word (λ i h a.
+    let f = fields w ws i word t h a in
+    named_none ws (word / 256) (group_of w i) e (fits w ws i t h).group f.high)
+
+child_by : (w : List ℕ) (ws : List (List ℕ)) (g word : ℕ) (b : Bool) → IsTree (w ∷ ws)
+    → named ws (word / 256) ≡ Some g → ltb (word % 256) (get_or w g 0) ≡ b
+    → named (w ∷ ws) word ≡ cond b (Some (sum (take g w) + word % 256)) None
+child_by w ws g word true t e b =
+    let n = named_is ws (word / 256) g e in
+    let i = sum (take g w) + word % 256 in
+    let inside : word % 256 < get_or w g 0 = grind (arith, nat_tests) in
+    let s = stands_at w g (word % 256) i (omega (arith, n.inside, t.0)) inside refl in
+    named_at (w ∷ ws) word i t s.inside (rw (s.place, s.group, n.address) (omega arith))
+child_by w ws g word false t e b = none_named (w ∷ ws) word (λ i h a.
+    let past : get_or w g 0 ≤ word % 256 = grind (arith, nat_tests) in
+    let c = counted w i h in
+    let f = fields w ws i word t h a in
+    let n = named_is ws (word / 256) g e in
+    let same : group_of w i ≡ g =
+    address_up-injective ws (group_of w i) g t.3 (fits w ws i t h).group n.inside
+    (cc (f.high, n.address)) in
+    let small : place_in w i < get_or w g 0 = rw same at c.place in
+    absurd (omega (arith, small, f.low)))
+
+pub named_below : (w : List ℕ) (ws : List (List ℕ)) (g word : ℕ) → IsTree (w ∷ ws)
+    → named ws (word / 256) ≡ Some g → named (w ∷ ws) word ≡ child_in w g (word % 256)
+named_below w ws g word t e = child_by w ws g word (ltb (word % 256) (get_or w g 0)) t e refl

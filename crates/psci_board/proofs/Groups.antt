@@ -1,0 +1,130 @@
+-- Places counted through groups.
+use Rattle.std.proofs.Common.{◌≡◌, ℕ, zero, suc, ◌+◌, ◌-◌, ◌<◌, ◌≤◌, Bool, true, false, ltb, List, [], ◌∷◌, length, ◌++◌, take, get_or, sum, refl, arith, add-one, sym, inl, inr}
+use Rattle.std.specs.List.{AllPass}
+use Rattle.std.proofs.lemmas.Bool.{cases_lt}
+use Rattle.std.proofs.lemmas.Bool.Decides.{nat_tests}
+use Rattle.std.proofs.lemmas.List.{get_or_append_left, get_or_push, get_or_past, length_push}
+use Rattle.std.proofs.lemmas.List.Sums.{sum_by-cons}
+use Rattle.psci_board.specs.Board.{group_of, place_in, is_width}
+
+sum-cons : (n : ℕ) (ns : List ℕ) → sum (n ∷ ns) ≡ n + sum ns
+sum-cons n ns = sum_by-cons (λ x. x) n ns
+
+-- i is the p-th of the g-th group
+pub record Stands (w : List ℕ) (i g p : ℕ) : Type 0 where
+  pub group : group_of w i ≡ g
+  pub place : place_in w i ≡ p
+  pub inside : i < sum w
+
+first_stands : (n p : ℕ) (ns : List ℕ) → p < n → Stands (n ∷ ns) p 0 p
+first_stands n p ns h = record {
+  group = grind (arith, nat_tests);
+  place = grind (arith, nat_tests);
+  inside = omega (arith, sum-cons n ns);
+}
+
+later_stands : (n : ℕ) (ns : List ℕ) (i j g p : ℕ) → i ≡ n + j → Stands ns j g p
+    → Stands (n ∷ ns) i (suc g) p
+later_stands n ns i j g p e h =
+    let back : i - n ≡ j = omega arith in
+    let past : ltb i n ≡ false = grind (arith, nat_tests) in
+    record {
+      group = rw (past, back, h.group) (omega arith);
+      place = rw (past, back, h.place) refl;
+      inside = omega (arith, sum-cons n ns, h.inside);
+    }
+
+pub stands_at : (w : List ℕ) (g p i : ℕ) → g < length w → p < get_or w g 0
+    → i ≡ sum (take g w) + p → Stands w i g p
+stands_at [] g p i a b e = absurd (omega arith)
+stands_at (n ∷ ns) zero p i a b e =
+    let same : p ≡ i = omega arith in
+    rw (← same) (first_stands n p ns b)
+stands_at (n ∷ ns) (suc g) p i a b e =
+    let j = sum (take g ns) + p in
+    later_stands n ns i j g p (omega (arith, sum-cons n (take g ns)))
+    (stands_at ns g p j (omega arith) b refl)
+
+-- each i below the sum stands somewhere
+pub record Counted (w : List ℕ) (i : ℕ) : Type 0 where
+  pub group : group_of w i < length w
+  pub place : place_in w i < get_or w (group_of w i) 0
+  pub whole : sum (take (group_of w i) w) + place_in w i ≡ i
+
+counted_by : (n : ℕ) (ns : List ℕ) (i : ℕ) (t : Bool) → ltb i n ≡ t → i < n + sum ns
+    → (i - n < sum ns → Counted ns (i - n)) → Counted (n ∷ ns) i
+counted_by n ns i true e h later =
+    let l : i < n = grind (arith, nat_tests) in
+    record { group = rw e (omega arith); place = rw e l; whole = rw e (omega arith) }
+counted_by n ns i false e h later =
+    let l : n ≤ i = grind (arith, nat_tests) in
+    let c = later (omega arith) in
+    let before = sum-cons n (take (group_of ns (i - n)) ns) in
+    record {
+      group = rw (e, add-one) (omega (arith, c.group));
+      place = rw (e, add-one) c.place;
+      whole = rw (e, add-one) (omega (arith, c.whole, before));
+    }
+
+pub counted : (w : List ℕ) (i : ℕ) → i < sum w → Counted w i
+counted [] i h = absurd (omega arith)
+counted (n ∷ ns) i h =
+    counted_by n ns i (ltb i n) refl (omega (arith, sum-cons n ns)) (counted ns (i - n))
+
+pub in_group : (w : List ℕ) (p q : ℕ) → sum (take p w) ≤ q → q < sum (take p w) + get_or w p 0
+    → group_of w q ≡ p
+in_group w p q a b = elim (cases_lt p (length w)) [
+  | inl m ↦ (stands_at w p (q - sum (take p w)) q m (omega arith) (omega arith)).group
+  | inr m ↦ let none : get_or w p 0 ≡ 0 = get_or_past w p 0 m in absurd (omega arith)
+]
+
+pub group_inside : (w : List ℕ) (p k : ℕ) → k < get_or w p 0 → sum (take p w) + k < sum w
+group_inside w p k h = elim (cases_lt p (length w)) [
+  | inl m ↦ (stands_at w p k (sum (take p w) + k) m h refl).inside
+  | inr m ↦ let none : get_or w p 0 ≡ 0 = get_or_past w p 0 m in absurd (omega arith)
+]
+
+pub group_of-ordered : (w : List ℕ) (i j : ℕ) → i ≤ j → group_of w i ≤ group_of w j
+group_of-ordered [] i j h = omega arith
+group_of-ordered (n ∷ ns) i j h =
+    by_tests (ltb i n) (ltb j n) refl refl (group_of-ordered ns (i - n) (j - n))
+  where
+    by_tests : (s t : Bool) → ltb i n ≡ s → ltb j n ≡ t
+        → (i - n ≤ j - n → group_of ns (i - n) ≤ group_of ns (j - n))
+        → group_of (n ∷ ns) i ≤ group_of (n ∷ ns) j
+    by_tests true t d e later = rw d (omega arith)
+    by_tests false true d e later =
+        let a : n ≤ i = grind (arith, nat_tests) in
+        let b : j < n = grind (arith, nat_tests) in
+        absurd (omega arith)
+    by_tests false false d e later = rw (d, e) (omega (arith, later (omega arith)))
+
+-- Numbers of children -----------------------------------------------------------------------------
+
+pub record Width (n : ℕ) : Type 0 where
+  pub some : 0 < n
+  pub few : n ≤ 16
+
+pub width : (w : List ℕ) (g : ℕ) → AllPass is_width w → g < length w → Width (get_or w g 0)
+width w g h l =
+    let e = h g 0 l in
+    record { some = grind (arith, nat_tests); few = grind (arith, nat_tests) }
+
+pub few_at : (w : List ℕ) (g : ℕ) → AllPass is_width w → get_or w g 0 ≤ 16
+few_at w g h = elim (cases_lt g (length w)) [
+  | inl m ↦ (width w g h m).few
+  | inr m ↦ let none : get_or w g 0 ≡ 0 = get_or_past w g 0 m in omega arith
+]
+
+-- one more child of the g-th node, in the list of the parents of all children
+pub one_more_child : (w ps qs : List ℕ) (g k : ℕ) → g < length w → k < get_or w g 0
+    → length ps ≡ sum (take g w) + k
+    → ((i : ℕ) → i < length ps → get_or ps i 0 ≡ group_of w i) → qs ≡ ps ++ g ∷ []
+    → (i : ℕ) → i < length qs → get_or qs i 0 ≡ group_of w i
+one_more_child w ps qs g k h l n each e i j = elim (cases_lt i (length ps)) [
+  | inl m ↦ rw (e, get_or_append_left ps (g ∷ []) 0 i m) (each i m)
+  | inr m ↦
+      let long : i < length (ps ++ g ∷ []) = rw e at j in
+      let last : length ps ≡ i = omega (arith, length_push ps g) in
+      rw (e, get_or_push ps g 0 i last) (sym (stands_at w g k i h l (omega arith)).group)
+]

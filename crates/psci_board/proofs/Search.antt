@@ -1,0 +1,58 @@
+-- What a search for the first number that passes a test finds.
+use Rattle.std.proofs.Common.{◌≡◌, ℕ, zero, suc, ◌+◌, ◌<◌, ◌≤◌, Bool, true, false, refl, arith, Option, Some, None, inl, inr}
+use Rattle.std.specs.List.{find, range_with_len}
+use Rattle.std.proofs.lemmas.Bool.{cases_lt}
+use Rattle.std.proofs.lemmas.Option.{same_Some, none-some}
+
+pub found_first : (p : ℕ → Bool) (n a i : ℕ) → a ≤ i → i < a + n → p i ≡ true
+    → ((j : ℕ) → a ≤ j → j < i → p j ≡ false) → find p (range_with_len a n) ≡ Some i
+found_first p zero a i l h t fails = absurd (omega arith)
+found_first p (suc n) a i l h t fails = elim (cases_lt a i) [
+  | inr m ↦
+      let same : i ≡ a = omega arith in
+      let now : p a ≡ true = rw same at t in
+      rw (now, same) refl
+  | inl m ↦ rw (fails a (omega arith) m)
+      (found_first p n (a + 1) i (omega arith) (omega arith) t (λ j b. fails j (omega arith)))
+]
+
+pub found_none : (p : ℕ → Bool) (n a : ℕ) → ((j : ℕ) → a ≤ j → j < a + n → p j ≡ false)
+    → find p (range_with_len a n) ≡ None
+found_none p zero a fails = refl
+found_none p (suc n) a fails =
+    rw (fails a (omega arith) (omega arith))
+    (found_none p n (a + 1) (λ j l h. fails j (omega arith) (omega arith)))
+
+pub record Found (p : ℕ → Bool) (a n i : ℕ) : Type 0 where
+  pub from : a ≤ i
+  pub below : i < a + n
+  pub passes : p i ≡ true
+
+found_by : (p : ℕ → Bool) (n a i : ℕ) (b : Bool) → p a ≡ b
+    → find p (range_with_len a (suc n)) ≡ Some i
+    → (find p (range_with_len (a + 1) n) ≡ Some i → Found p (a + 1) n i) → Found p a (suc n) i
+found_by p n a i true t e later =
+    let same : a ≡ i = same_Some _ _ (rw t at e) in
+    record { from = omega arith; below = omega arith; passes = rw (← same) t }
+found_by p n a i false t e later =
+    let f = later (rw t at e) in
+    record { from = omega (arith, f.from); below = omega (arith, f.below); passes = f.passes }
+
+pub found : (p : ℕ → Bool) (n a i : ℕ) → find p (range_with_len a n) ≡ Some i → Found p a n i
+found p zero a i e = absurd (none-some i e)
+found p (suc n) a i e = found_by p n a i (p a) refl e (found p n (a + 1) i)
+
+passes_by : (p : ℕ → Bool) (n a i : ℕ) (b : Bool) → p a ≡ b
+    → find p (range_with_len a (suc n)) ≡ None
+    → p i ≡ true → a ≤ i → (find p (range_with_len (a + 1) n) ≡ None → a + 1 ≤ i → ⊥) → ⊥
+passes_by p n a i true q e t l later = let x : ◌≡◌ {A = Option ℕ} (Some a) None = rw q at e in cc
+passes_by p n a i false q e t l later = elim (cases_lt a i) [
+  | inr m ↦ let same : i ≡ a = omega arith in let r : p a ≡ true = rw same at t in cc
+  | inl m ↦ later (rw q at e) (omega arith)
+]
+
+pub none_passes : (p : ℕ → Bool) (n a i : ℕ) → find p (range_with_len a n) ≡ None
+    → a ≤ i → i < a + n → p i ≡ true → ⊥
+none_passes p zero a i e l h t = absurd (omega arith)
+none_passes p (suc n) a i e l h t =
+    passes_by p n a i (p a) refl e t l (λ f m. none_passes p n (a + 1) i f m (omega arith) t)

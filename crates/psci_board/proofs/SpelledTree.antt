@@ -1,0 +1,116 @@
+-- A tree is read as it is spelled, and in no other way.
+use Rattle.std.proofs.Common.{◌≡◌, ℕ, ◌<◌, Bool, true, false, cond, eqb, List, [], ◌∷◌, ◌++◌, length, Option, Some, refl, arith, subst}
+use Rattle.std.specs.Prelude.{option_and_then}
+use Rattle.std.specs.Char.{is_ascii_digit, digit_value}
+use Rattle.std.specs.Fmt.{decimal}
+use Rattle.std.specs.Str.Parse.{AllDigits}
+use Rattle.std.proofs.lemmas.Bool.Decides.{nat_tests}
+use Rattle.std.proofs.lemmas.Fmt.{decimal_is_IsNumeral, decimal_nonempty}
+use Rattle.std.proofs.lemmas.Option.{option_and_then_some, same_Some}
+use Rattle.psci_board.specs.Grammar.{Mid, TreeText, IsNumber, IsListOf, IsMid, IsTreeText, listed, mid, tree}
+use Rattle.psci_board.specs.Grammar.Mid.{Number, Group}
+use Rattle.psci_board.specs.Grammar.TreeText.{One, Members}
+use Rattle.psci_board.specs.Reading.{number_at, list_at, starts_list, mid_at, tree_at}
+use Rattle.psci_board.proofs.Spelled.{Ends, Reads, list_again, list_takes}
+use Rattle.psci_board.proofs.SpelledWords.{number_reads}
+
+-- A number, or a list of items. Both members of the outer list and trees are read so.
+number_or : {A B : Type 0} → (ℕ → B) → (List A → B) → (List ℕ → Option (A × List ℕ)) → List ℕ
+    → Bool → Option (B × List ℕ)
+number_or one many item bytes is_list = cond is_list
+    (option_and_then (λ xs. Some (many xs.0, xs.1)) (list_at item bytes))
+    (option_and_then (λ n. Some (one n.0, n.1)) (number_at bytes))
+
+-- a number does not begin as a list
+digit_starts : (d : ℕ) → digit_value d < 10 → eqb d 40 ≡ false
+digit_starts d h = grind (arith, nat_tests)
+
+digits_start : (ds rest : List ℕ) → 0 < length ds → AllDigits 10 ds
+    → starts_list (ds ++ rest) ≡ false
+digits_start [] rest some h = absurd (omega arith)
+digits_start (d ∷ ds) rest some h = digit_starts d h.0
+
+number_starts : (n : ℕ) (rest : List ℕ) → IsNumber n → starts_list (decimal n ++ rest) ≡ false
+number_starts n rest h =
+    digits_start (decimal n) rest (decimal_nonempty n h) (decimal_is_IsNumeral n h).0.1
+
+list_starts : {A : Type 0} (P : A → Type 0) (spell : A → List ℕ) (xs : List A) (rest : List ℕ)
+    → IsListOf P xs → starts_list (listed spell xs ++ rest) ≡ true
+list_starts P spell [] rest h = absurd (omega (arith, h.some))
+list_starts P spell (x ∷ xs) rest h = refl
+
+one_again : {A B : Type 0} (one : ℕ → B) (many : List A → B) (item : List ℕ → Option (A × List ℕ))
+    (n : ℕ) (rest : List ℕ) → IsNumber n → Ends is_ascii_digit rest
+    → number_or one many item (decimal n ++ rest) false ≡ Some (one n, rest)
+unfolding number_or
+one_again one many item n rest h e = rw (number_reads.again n rest h e) refl
+
+many_again : {A B : Type 0} (one : ℕ → B) (many : List A → B) (item : List ℕ → Option (A × List ℕ))
+    (spell : A → List ℕ) (P : A → Type 0) → Reads item spell P is_ascii_digit
+    → (xs : List A) (rest : List ℕ) → IsListOf P xs
+    → number_or one many item (listed spell xs ++ rest) true ≡ Some (many xs, rest)
+unfolding number_or
+many_again one many item spell P r xs rest h =
+    rw (list_again item spell P is_ascii_digit r refl refl xs rest h) refl
+
+either_takes : {A B : Type 0} (one : ℕ → B) (many : List A → B)
+    (item : List ℕ → Option (A × List ℕ)) (spell : A → List ℕ) (P : A → Type 0)
+    → Reads item spell P is_ascii_digit → (bytes : List ℕ) (is_list : Bool) (x : B × List ℕ)
+    → number_or one many item bytes is_list ≡ Some x → (C : B × List ℕ → Type 0)
+    → ((n : ℕ) (rest : List ℕ) → IsNumber n → bytes ≡ decimal n ++ rest → C (one n, rest))
+    → ((xs : List A) (rest : List ℕ) → IsListOf P xs → bytes ≡ listed spell xs ++ rest
+    → C (many xs, rest))
+    → C x
+unfolding number_or
+either_takes one many item spell P r bytes true x e C of_one of_many =
+    option_and_then_some _ (list_at item bytes) x e (λ xs a e1.
+    let t = list_takes item spell P is_ascii_digit r bytes xs a in
+    subst C (same_Some _ _ e1) (of_many xs.0 xs.1 t.0 t.1))
+either_takes one many item spell P r bytes false x e C of_one of_many =
+    option_and_then_some _ (number_at bytes) x e (λ n a e1.
+    let t = number_reads.takes bytes n a in
+    subst C (same_Some _ _ e1) (of_one n.0 n.1 t.0 t.1))
+
+-- Members of the outer list ---------------------------------------------------------------------
+
+mid_again : (m : Mid) (rest : List ℕ) → IsMid m → Ends is_ascii_digit rest
+    → mid_at (mid m ++ rest) ≡ Some (m, rest)
+unfolding mid_at number_or
+mid_again (Number n) rest h e =
+    rw (number_starts n rest h) (one_again Number Group number_at n rest h e)
+mid_again (Group ns) rest h e =
+    rw (list_starts IsNumber decimal ns rest h)
+    (many_again Number Group number_at decimal IsNumber number_reads ns rest h)
+
+mid_takes : (bytes : List ℕ) (x : Mid × List ℕ) → mid_at bytes ≡ Some x
+    → IsMid x.0 × (bytes ≡ mid x.0 ++ x.1)
+unfolding mid_at number_or
+mid_takes bytes x e =
+    either_takes Number Group number_at decimal IsNumber number_reads bytes (starts_list bytes) x e
+    (λ (y : Mid × List ℕ). IsMid y.0 × (bytes ≡ mid y.0 ++ y.1))
+    (λ n rest h s. (h, s)) (λ ns rest h s. (h, s))
+
+pub mid_reads : Reads mid_at mid IsMid is_ascii_digit
+mid_reads = record { again = mid_again; takes = mid_takes }
+
+-- Trees -----------------------------------------------------------------------------------------
+
+tree_again : (t : TreeText) (rest : List ℕ) → IsTreeText t → Ends is_ascii_digit rest
+    → tree_at (tree t ++ rest) ≡ Some (t, rest)
+unfolding tree_at number_or
+tree_again (One n) rest h e =
+    rw (number_starts n rest h) (one_again One Members mid_at n rest h e)
+tree_again (Members ms) rest h e =
+    rw (list_starts IsMid mid ms rest h)
+    (many_again One Members mid_at mid IsMid mid_reads ms rest h)
+
+tree_takes : (bytes : List ℕ) (x : TreeText × List ℕ) → tree_at bytes ≡ Some x
+    → IsTreeText x.0 × (bytes ≡ tree x.0 ++ x.1)
+unfolding tree_at number_or
+tree_takes bytes x e =
+    either_takes One Members mid_at mid IsMid mid_reads bytes (starts_list bytes) x e
+    (λ (y : TreeText × List ℕ). IsTreeText y.0 × (bytes ≡ tree y.0 ++ y.1))
+    (λ n rest h s. (h, s)) (λ ms rest h s. (h, s))
+
+pub tree_reads : Reads tree_at tree IsTreeText is_ascii_digit
+tree_reads = record { again = tree_again; takes = tree_takes }

@@ -1,0 +1,20 @@
+use Rattle.std.proofs.Common.{sym, refl}
+use Rattle.psci_board.proofs.Readers.{child-none, child-some}
+use Rattle.psci_board.proofs.board.Board.child.Goals as goal
+
+pub returns-in_err-level : goal.returns-in_err-level
+returns-in_err-level c =
+    let none = child-none c.args.self.now c.args.node c.args.number in
+    rw c.from_residual.ensures (sym (none (sym c.in_err-level.ensures)))
+
+pub returns-in_err-place : goal.returns-in_err-place
+returns-in_err-place c =
+    let some = child-some c.args.self.now c.args.node c.args.number c.in_ok-level.level.now in
+    let e = some (sym c.in_ok-level.ensures) in
+    rw (c.from_residual-in_err-place.ensures, e) (rw (← c.in_err-place.ensures) refl)
+
+pub returns : goal.returns
+returns c =
+    let some = child-some c.args.self.now c.args.node c.args.number c.in_ok-level.level.now in
+    let e = some (sym c.in_ok-level.ensures) in
+    rw e (rw (← c.in_ok-place.ensures) refl)

@@ -1,0 +1,5 @@
+use Rattle.psci_board.proofs.SpelledText.{text_again, text_takes}
+use Rattle.psci_board.proofs.laws.law_board_text.Goals as goal
+
+pub returns : goal.returns
+returns c = record { again = text_again; spelled = text_takes }

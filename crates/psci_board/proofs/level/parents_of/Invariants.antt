@@ -1,0 +1,15 @@
+use Rattle.std.proofs.Common.{◌≡◌, ℕ, ◌+◌, ◌<◌, length, sum, take, get_or}
+use Rattle.psci_board.specs.Board.{group_of}
+use Rattle.psci_board.proofs.level.parents_of.Given as goal
+
+abbrev pub invariant-loop-place : goal.invariant-loop-place
+invariant-loop-place l = record {
+  len : length l.parents.items ≡ sum (take l.place l.counts);
+  each : (i : ℕ) → i < length l.parents.items → get_or l.parents.items i 0 ≡ group_of l.counts i;
+}
+
+abbrev pub invariant-loop-child : goal.invariant-loop-child
+invariant-loop-child l = record {
+  len : length l.parents.items ≡ sum (take l.place l.counts) + l._child;
+  each : (i : ℕ) → i < length l.parents.items → get_or l.parents.items i 0 ≡ group_of l.counts i;
+}

@@ -1,0 +1,86 @@
+-- The grammar of board texts: what a board text is, and how each is spelled.
+use Rattle.std.specs.Prelude.{ℕ, ◌^◌, ◌<◌, ◌≤◌, List, [], ◌∷◌, ◌++◌, length, flat_map, codes}
+use Rattle.std.specs.List.{All, AllPass}
+use Rattle.std.specs.Char.{is_ascii_hexdigit}
+use Rattle.std.specs.Fmt.{decimal}
+
+-- a member of the outer list: a number, or a list of numbers
+pub data Mid : Type 0 where
+  Number : ℕ → Mid
+  Group : List ℕ → Mid
+
+pub data TreeText : Type 0 where
+  One : ℕ → TreeText
+  Members : List Mid → TreeText
+
+-- A board text. An address is given by its digits, since it can be written in several ways.
+pub record BoardText : Type 0 where
+  pub tree : TreeText
+  pub ranges : List (List ℕ × List ℕ)
+  pub boot : List ℕ
+  pub starts : ℕ
+  pub lives : ℕ
+
+-- *(" " item)
+abbrev pub spaced : {A : Type 0} → (A → List ℕ) → List A → List ℕ
+spaced item xs = flat_map (λ x. 32 ∷ item x) xs
+
+-- "(" item *(" " item) ")"
+abbrev pub listed : {A : Type 0} → (A → List ℕ) → List A → List ℕ
+listed item [] = []
+listed item (x ∷ xs) = 40 ∷ item x ++ (spaced item xs ++ 41 ∷ [])
+
+abbrev pub hex : List ℕ → List ℕ
+hex digits = 48 ∷ 120 ∷ digits
+
+abbrev pub range : List ℕ × List ℕ → List ℕ
+range r = hex r.0 ++ 45 ∷ hex r.1
+
+abbrev pub mid : Mid → List ℕ
+mid (Number n) = decimal n
+mid (Group ns) = listed decimal ns
+
+abbrev pub tree : TreeText → List ℕ
+tree (One n) = decimal n
+tree (Members ms) = listed mid ms
+
+-- the spelling of a board text
+abbrev pub spelling : BoardText → List ℕ
+spelling t = tree t.tree ++ (codes " exec" ++ (spaced range t.ranges ++ (codes " boot "
+    ++ (hex t.boot ++ (codes " starts " ++ (decimal t.starts
+    ++ (codes " lives " ++ decimal t.lives)))))))
+
+-- What has a spelling. A number is below 2 ^ 64.
+abbrev pub IsNumber : ℕ → Type 0
+IsNumber n = n < 2 ^ 64
+
+-- an address has 1 to 16 digits
+pub record IsHex (digits : List ℕ) : Type 0 where
+  pub some : 0 < length digits
+  pub most : length digits ≤ 16
+  pub each : AllPass is_ascii_hexdigit digits
+
+pub record IsRange (r : List ℕ × List ℕ) : Type 0 where
+  pub start : IsHex r.0
+  pub end : IsHex r.1
+
+-- one item or more
+pub record IsListOf {A : Type 0} (P : A → Type 0) (xs : List A) : Type 0 where
+  pub some : 0 < length xs
+  pub each : All P xs
+
+abbrev pub IsMid : Mid → Type 0
+IsMid (Number n) = IsNumber n
+IsMid (Group ns) = IsListOf IsNumber ns
+
+abbrev pub IsTreeText : TreeText → Type 0
+IsTreeText (One n) = IsNumber n
+IsTreeText (Members ms) = IsListOf IsMid ms
+
+-- a text of the grammar
+pub record IsBoardText (t : BoardText) : Type 0 where
+  pub tree : IsTreeText t.tree
+  pub ranges : IsListOf IsRange t.ranges
+  pub boot : IsHex t.boot
+  pub starts : IsNumber t.starts
+  pub lives : IsNumber t.lives

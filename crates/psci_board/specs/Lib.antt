@@ -1,0 +1,8 @@
+pub mod Board
+pub mod Grammar
+pub mod Laws
+pub mod Level
+pub mod Reading
+pub mod Seen
+pub mod Summary
+pub mod Verdict

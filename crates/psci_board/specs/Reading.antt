@@ -1,0 +1,129 @@
+-- Reading a board text from left to right. What is read is a value and the bytes after it.
+use Rattle.std.specs.Prelude.{ℕ, zero, suc, ◌^◌, ◌||◌, ◌&&◌, not, Bool, List, [], ◌∷◌, length, take, drop, Option, Some, None, option_and_then, nat_lt, nat_le, ◌==◌, if◌then◌else◌, codes, slice_index}
+use Rattle.std.specs.List.{prefix_len}
+use Rattle.std.specs.Char.{is_ascii_digit, is_ascii_hexdigit}
+use Rattle.std.specs.Str.Parse.{digits_value}
+use Rattle.psci_board.specs.Grammar.{Mid, TreeText, BoardText}
+use Rattle.psci_board.specs.Grammar.Mid.{Number, Group}
+use Rattle.psci_board.specs.Grammar.TreeText.{One, Members}
+
+infixl 10 ◌>>=◌
+abbrev pub ◌>>=◌ : {A B : Type 0} → Option A → (A → Option B) → Option B
+o >>= f = option_and_then f o
+
+-- these very bytes
+unfoldable pub literal_at : List ℕ → List ℕ → Option (List ℕ)
+literal_at [] bytes = Some bytes
+literal_at (w ∷ ws) [] = None
+literal_at (w ∷ ws) (b ∷ bs) = if b == w then literal_at ws bs else None
+
+-- a number has no leading zero, unless it is 0 itself
+abbrev pub is_number : List ℕ → Bool
+is_number digits = nat_lt 0 (length digits)
+    && ((length digits == 1 || not (slice_index digits 0 == 48))
+    && nat_lt (digits_value 10 digits) (2 ^ 64))
+
+unfoldable pub number_at : List ℕ → Option (ℕ × List ℕ)
+number_at bytes = let n = prefix_len is_ascii_digit bytes in
+    if is_number (take n bytes) then Some (digits_value 10 (take n bytes), drop n bytes) else None
+
+-- the digits of an address
+unfoldable pub hex_at : List ℕ → Option (List ℕ × List ℕ)
+hex_at bytes = do
+  rest ← literal_at (codes "0x") bytes
+  let n = prefix_len is_ascii_hexdigit rest
+  if nat_lt 0 n && nat_le n 16 then Some (take n rest, drop n rest) else None
+
+-- its value, and the bytes after it
+abbrev pub hex_value : List ℕ × List ℕ → ℕ × List ℕ
+hex_value x = (digits_value 16 x.0, x.1)
+
+unfoldable pub range_at : List ℕ → Option ((List ℕ × List ℕ) × List ℕ)
+range_at bytes = do
+  from ← hex_at bytes
+  dash ← literal_at (codes "-") from.1
+  to ← hex_at dash
+  Some ((from.0, to.0), to.1)
+
+-- a space, and what follows it
+unfoldable pub spaced_at : {A : Type 0} → (List ℕ → Option (A × List ℕ)) → List ℕ
+    → Option (A × List ℕ)
+spaced_at item bytes = literal_at (codes " ") bytes >>= item
+
+-- What stands at the front, and then what go reads.
+abbrev pub then_more : {A : Type 0} → List ℕ → (List ℕ → List A × List ℕ) → Option (A × List ℕ)
+    → List A × List ℕ
+then_more bytes go None = ([], bytes)
+then_more bytes go (Some x) = (x.0 ∷ (go x.1).0, (go x.1).1)
+
+-- Items behind a space each, as many as there are, but n at most.
+unfoldable pub at_most : {A : Type 0} → (List ℕ → Option (A × List ℕ)) → ℕ → List ℕ
+    → List A × List ℕ
+at_most item zero bytes = ([], bytes)
+at_most item (suc n) bytes = then_more bytes (at_most item n) (spaced_at item bytes)
+
+-- Items behind a space each, as many as there are. Each takes a byte or more.
+unfoldable pub more_at : {A : Type 0} → (List ℕ → Option (A × List ℕ)) → List ℕ → List A × List ℕ
+more_at item bytes = at_most item (length bytes) bytes
+
+-- items between brackets, one or more
+unfoldable pub list_at : {A : Type 0} → (List ℕ → Option (A × List ℕ)) → List ℕ
+    → Option (List A × List ℕ)
+list_at item bytes = do
+  open_ ← literal_at (codes "(") bytes
+  first ← item open_
+  let others = more_at item first.1
+  close ← literal_at (codes ")") others.1
+  Some (first.0 ∷ others.0, close)
+
+-- how many, and the bytes after them
+abbrev pub counted : {A : Type 0} → List A × List ℕ → ℕ × List ℕ
+counted x = (length x.0, x.1)
+
+-- the bytes after it
+abbrev pub rest_of : {A : Type 0} → A × List ℕ → List ℕ
+rest_of x = x.1
+
+abbrev pub starts_list : List ℕ → Bool
+starts_list bytes = slice_index bytes 0 == 40
+
+unfoldable pub mid_at : List ℕ → Option (Mid × List ℕ)
+mid_at bytes = if starts_list bytes
+    then (do
+      ns ← list_at number_at bytes
+      Some (Group ns.0, ns.1))
+    else (do
+      n ← number_at bytes
+      Some (Number n.0, n.1))
+
+unfoldable pub tree_at : List ℕ → Option (TreeText × List ℕ)
+tree_at bytes = if starts_list bytes
+    then (do
+      ms ← list_at mid_at bytes
+      Some (Members ms.0, ms.1))
+    else (do
+      n ← number_at bytes
+      Some (One n.0, n.1))
+
+-- the whole text
+unfoldable pub board_text : List ℕ → Option BoardText
+board_text bytes = do
+  tree ← tree_at bytes
+  rest ← literal_at (codes " exec") tree.1
+  first ← spaced_at range_at rest
+  let others = more_at range_at first.1
+  rest ← literal_at (codes " boot ") others.1
+  boot ← hex_at rest
+  rest ← literal_at (codes " starts ") boot.1
+  starts ← number_at rest
+  rest ← literal_at (codes " lives ") starts.1
+  lives ← number_at rest
+  if length lives.1 == 0
+      then Some (record {
+        tree = tree.0;
+        ranges = first.0 ∷ others.0;
+        boot = boot.0;
+        starts = starts.0;
+        lives = lives.0;
+      })
+      else None

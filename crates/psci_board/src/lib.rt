@@ -1,0 +1,38 @@
+//! The board: its power domain tree, the addresses that a core may enter, and its limits.
+//!
+//! - A *core* is a processing element; cores are numbered from 0 as the board text has them.
+//! - A *node* is a power domain: a core (level 0), a cluster (level 1), up to the system, the one
+//!   node of the highest level. The *height* of the board is that level, 1 to 3.
+//! - The *place* of a node is its position among the nodes of its level, from left to right.
+//! - The *path* of a core is the core and the nodes above it, up to the system.
+//! - An *affinity word* names a core or a node by one field of 8 bits per level (MPIDR_EL1).
+//! - An *entry point* may be entered where it is word aligned and lies in an executable range.
+#![tactic(auto)]
+
+mod affinity;
+mod board;
+mod build;
+mod fault;
+mod laws;
+mod level;
+mod node;
+mod path;
+mod range;
+mod range_text;
+mod read;
+mod seen;
+mod text_seen;
+mod tree_laws;
+mod tree_text;
+mod words;
+
+pub use board::Board;
+pub use fault::{BoardFault, Memory};
+pub use laws::law_board_text;
+pub use node::{Core, Node};
+pub use range::AddressRange;
+pub use tree_laws::{law_children, law_paths, law_sizes, law_words};
+pub use words::{hex, literal, number};
+
+#[cfg(test)]
+mod tests;

@@ -1,0 +1,28 @@
+//! Paths through the tree of power domains.
+
+ghost use Rattle.std.specs.Prelude.{◌≡◌, ◌<◌, ◌≤◌, length};
+ghost use Rattle.psci_board.specs.Board.{IsTree, size_below, nodes_up};
+
+use crate::level::Level;
+use crate::node::Node;
+use arrayvec::ArrayVec;
+
+/// A place on the level below these, and the nodes above it.
+pub fn path_of(levels: &[Level], place: u16) -> ArrayVec<Node, 4>
+    requires tree { IsTree levels.now }
+    requires high { length levels.now ≤ 3 }
+    requires inside { place < size_below levels.now }
+    ensures { result.items ≡ nodes_up 0 levels.now place }
+{
+    let mut path: ArrayVec<Node, 4> = ArrayVec::new();
+    let mut node = Node { level: 0, place };
+    for level in levels {
+        path.push(node);
+        node = Node {
+            level: node.level + 1,
+            place: level.parent(node.place),
+        };
+    }
+    path.push(node);
+    path
+}

@@ -1,0 +1,28 @@
+//! What holds of the tree of every board. Each law is a function that does nothing, whose contract
+//! is the law.
+
+ghost use Rattle.psci_board.specs.Board.{BoardValue, IsBoard};
+ghost use Rattle.psci_board.specs.Laws.{SizeLaws, PathLaws, ChildLaws, WordLaws};
+
+/// Each level has 1 to 64 nodes, and that of the system has one.
+pub fn law_sizes()
+    ensures { (b : BoardValue) → IsBoard b → SizeLaws b }
+{}
+
+/// A path has one node of each level, and cores whose paths meet share them from there up. Each
+/// node is on the path of some core.
+pub fn law_paths()
+    ensures { (b : BoardValue) → IsBoard b → PathLaws b }
+{}
+
+/// The children of a node part the cores below it: each is below exactly one child, and the cores
+/// below a node are those below its first child, then those below the second, and so on.
+pub fn law_children()
+    ensures { (b : BoardValue) → IsBoard b → ChildLaws b }
+{}
+
+/// Each node and core is named by the words that have its affinity fields, and by no others. A core
+/// is named by a word of 24 bits.
+pub fn law_words()
+    ensures { (b : BoardValue) → IsBoard b → WordLaws b }
+{}

@@ -1,0 +1,13 @@
+pub mod Ahead
+pub mod Cutting
+pub mod Finding
+pub mod Known
+pub mod Moved
+pub mod ScriptRows
+pub mod Stands
+pub mod Split
+pub mod Told
+pub mod Ends
+pub mod Begins
+pub mod Steps
+pub mod Finish

@@ -1,0 +1,90 @@
+//! The command line: which command is meant, or the parser's text.
+
+use crate::exit::Failure;
+use crate::fault::ReplayFault;
+use clap::Command;
+use clap::error::{Error, ErrorKind};
+use std::alloc::{AllocError, Global};
+use std::rt::Env;
+use std::{env, io};
+
+/// What the command line asks for.
+#[derive(Clone, Copy, Debug, PartialEq, Eq)]
+pub enum Request {
+    /// Replay a script.
+    Replay,
+    /// Nothing more: help was shown.
+    Nothing,
+}
+
+const ABOUT: &str = "Replays scripts of PSCI calls against the power firmware.";
+
+const ABOUT_REPLAY: &str =
+    "Takes a script from standard input. Each event of it is answered by a line on standard output.
+
+The first line of a script is a board. Each later line is empty, or a comment that begins with #,
+or an event: `call CORE X0 [X1 [X2 [X3]]]` (an SMC of a core, with its registers), or `enter CORE`
+(a started core enters the firmware). A fault is named on standard error, with its line.";
+
+const EXAMPLE: &str = "Example:
+  printf '%s\\n' 'board (2 2) exec 0x40000000-0x40100000 boot 0x40000000 starts 1000 lives 3' \\
+      'enter 0' 'call 0 0x84000000' | psci_cli replay
+writes
+  1 enter 0x40000000 0x0
+  2 return 65537
+
+Exit status: 0 done, 2 command line, 3 script, 4 read or write, 5 memory";
+
+/// The commands of the program.
+fn commands<'a>(alloc: Global) -> Result<Command<'a>, AllocError> {
+    let replay = Command::new(alloc, "replay")
+        .about("Replay a script: standard input to standard output")
+        .long_about(ABOUT_REPLAY)
+        .after_help(EXAMPLE);
+    Command::new(alloc, "psci_cli")
+        .about(ABOUT)
+        .after_help(EXAMPLE)
+        .subcommand_required(true)
+        .subcommand(replay)
+}
+
+/// The words of the command line, the program's name first.
+fn words<R: Env + AllocGlobal + Eprint>(rt: &R) -> Result<Vec<String>, Failure> {
+    match env::args(rt) {
+        Ok(args) => args
+            .collect(rt.alloc())
+            .map_err(|_| Failure::Replay(ReplayFault::Memory)),
+        Err(error) => {
+            if error.kind() == io::ErrorKind::OutOfMemory {
+                return Err(Failure::Replay(ReplayFault::Memory));
+            }
+            let _ = eprintln!(rt; "error: the command line is not UTF-8 text");
+            Err(Failure::CommandLine)
+        }
+    }
+}
+
+/// Shows the parser's text: help on standard output, a fault on standard error.
+fn shown<R: Print + Eprint>(rt: &R, error: &Error) -> Result<Request, Failure> {
+    if error.kind() == ErrorKind::OutOfMemory {
+        return Err(Failure::Replay(ReplayFault::Memory));
+    }
+    let printed = error.print(rt);
+    if error.use_stderr() {
+        Err(Failure::CommandLine)
+    } else {
+        printed
+            .map(|_| Request::Nothing)
+            .map_err(|_| Failure::Replay(ReplayFault::Write))
+    }
+}
+
+/// Reads the command line. Where it asks for no command the parser's text is shown here.
+pub fn asked<R: Env + AllocGlobal + Print + Eprint>(rt: &R) -> Result<Request, Failure> {
+    let words = words(rt)?;
+    let commands = commands(rt.alloc()).map_err(|_| Failure::Replay(ReplayFault::Memory))?;
+    match commands.try_get_matches_from(words.as_slice()) {
+        Ok(_) => Ok(Request::Replay),
+        Err(error) => shown(rt, &error),
+    }
+}

@@ -1,0 +1,53 @@
+//! The program: scripts of PSCI calls, replayed from standard input to standard output.
+#![tactic(auto)]
+
+mod answers;
+mod block;
+mod command_line;
+mod device;
+mod event;
+mod exit;
+mod fault;
+mod firmware_machine;
+mod grammar;
+mod lines;
+mod machine;
+mod replay;
+mod said;
+mod standard;
+#[cfg(test)]
+mod tests;
+mod transfer;
+
+use command_line::{Request, asked};
+use exit::Failure;
+use standard::Std;
+use std::process::ExitCode;
+
+/// Replays the script on standard input against the firmware.
+fn replay_standard(rt: &HostRuntime) -> Result<(), Failure> {
+    let mut source = Std::new(rt.reader());
+    let mut sink = Std::new(rt.stdout());
+    match replay::replay(rt.alloc(), &mut source, &mut sink) {
+        Ok(_) => Ok(()),
+        Err(fault) => Err(Failure::Replay(fault)),
+    }
+}
+
+/// Does what the command line asks for.
+fn run(rt: &HostRuntime) -> Result<(), Failure> {
+    match asked(rt)? {
+        Request::Replay => replay_standard(rt),
+        Request::Nothing => Ok(()),
+    }
+}
+
+fn main(rt: HostRuntime) -> ExitCode {
+    match run(&rt) {
+        Ok(()) => ExitCode::SUCCESS,
+        Err(failure) => {
+            failure.tell(&rt);
+            ExitCode::from(failure.status())
+        }
+    }
+}

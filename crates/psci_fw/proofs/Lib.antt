@@ -1,0 +1,7 @@
+mod Calls
+mod Cores
+mod OneMore
+mod Ranges
+mod Rows
+mod States
+mod Walk

@@ -1,0 +1,40 @@
+-- The rule of AFFINITY_INFO.
+use Rattle.std.specs.Prelude.{ℕ, Bool, true, false, ◌&&◌, ◌==◌, nat_lt, nat_le, if◌then◌else◌, List}
+use Rattle.std.specs.List.{list_any}
+use Rattle.psci_board.specs.Board.{BoardValue, height, nodes, below}
+use Rattle.psci_board.specs.declared.node.Node.{Node}
+use Rattle.psci_fw.specs.declared.status.Status.{Status}
+use Rattle.psci_fw.specs.declared.status.Status.TheVariants.{On, Off, Pending}
+
+-- what AFFINITY_INFO answers for a status (DEN0022D, AFFINITY_INFO: ON, OFF, ON_PENDING)
+abbrev pub status_number : Status → ℕ
+status_number On = 0
+status_number Off = 1
+status_number Pending = 2
+
+abbrev pub is_on : Status → Bool
+is_on On = true
+is_on Off = false
+is_on Pending = false
+
+abbrev pub is_pending : Status → Bool
+is_pending On = false
+is_pending Off = false
+is_pending Pending = true
+
+-- cores together: ON where one is ON, else ON_PENDING where one is, else OFF
+abbrev pub status_over : (ℕ → Status) → List ℕ → Status
+status_over status cs =
+    if list_any (λ c. is_on (status c)) cs then On
+    else (if list_any (λ c. is_pending (status c)) cs then Pending else Off)
+
+abbrev pub has_node : BoardValue → Node → Bool
+has_node b n = nat_le n.level (height b) && nat_lt n.place (nodes b n.level)
+
+-- The status of a power domain, by those of the cores: a core has its own, a domain above has that
+-- of the cores below it. A node that the board does not have is OFF.
+unfoldable pub node_status : BoardValue → (ℕ → Status) → Node → Status
+node_status b status n =
+    if has_node b n
+    then (if n.level == 0 then status n.place else status_over status (below b n))
+    else Off

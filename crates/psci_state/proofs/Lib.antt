@@ -1,0 +1,3 @@
+pub mod Back
+mod Rows
+pub mod Words

@@ -1,0 +1,33 @@
+-- Asks: a depth for each level from 0 to 3.
+use Rattle.std.specs.Prelude.{◌≡◌, ℕ, ◌+◌, ◌≤◌, Bool, ◌&&◌, ◌==◌, List, [], ◌∷◌, length, slice_index, map, nat_le, nat_lt, if◌then◌else◌}
+
+-- One depth for each level. The core itself stops, and no depth grows upwards.
+pub record IsAsk (depths : List ℕ) : Type 0 where
+  pub levels : length depths ≡ 4
+  pub least : 1 ≤ slice_index depths 0
+  pub most : slice_index depths 0 ≤ 3
+  pub falls : (level : ℕ) → slice_index depths (level + 1) ≤ slice_index depths level
+
+-- the same as a test
+abbrev pub is_ask : List ℕ → Bool
+is_ask depths =
+    length depths == 4 && nat_le 1 (slice_index depths 0) && nat_le (slice_index depths 0) 3
+    && nat_le (slice_index depths 1) (slice_index depths 0)
+    && nat_le (slice_index depths 2) (slice_index depths 1)
+    && nat_le (slice_index depths 3) (slice_index depths 2)
+
+-- power-down up to the height
+abbrev pub deepest_of : ℕ → List ℕ
+deepest_of height = map (λ level. if nat_le level height then 3 else 0) (0 ∷ 1 ∷ 2 ∷ 3 ∷ [])
+
+-- the highest level of which something is asked
+abbrev pub highest_of : List ℕ → ℕ
+highest_of ask =
+    (if nat_lt 0 (slice_index ask 3) then 3
+    else (if nat_lt 0 (slice_index ask 2) then 2
+    else (if nat_lt 0 (slice_index ask 1) then 1
+    else 0)))
+
+-- the core itself is asked to power down
+abbrev pub is_deep : List ℕ → Bool
+is_deep ask = slice_index ask 0 == 3

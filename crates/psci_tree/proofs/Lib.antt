@@ -1,0 +1,10 @@
+pub mod Below
+pub mod Bounds
+pub mod Built
+pub mod Granted
+pub mod Looked
+pub mod Places
+pub mod Recounted
+pub mod Rows
+pub mod Shapes
+pub mod Slices

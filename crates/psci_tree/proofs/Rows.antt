@@ -1,0 +1,93 @@
+-- The definitions on a board whose values are known: two clusters of two cores.
+use Rattle.std.proofs.Common.{◌≡◌, ℕ, List, [], ◌∷◌, refl}
+use Rattle.psci_board.specs.declared.node.Node.{Node}
+use Rattle.psci_tree.specs.Recount.{TreeValue, low, known, active, off}
+use Rattle.psci_tree.specs.Changes.{suspended, turned_off, made_pending, started, life_start}
+
+abbrev levels : List (List ℕ)
+levels = (2 ∷ 2 ∷ []) ∷ (2 ∷ []) ∷ []
+
+abbrev root : Node
+root = record { level = 2; place = 0 }
+
+abbrev cluster : Node
+cluster = record { level = 1; place = 1 }
+
+abbrev at_start : TreeValue
+at_start = life_start levels
+
+abbrev first_asks : TreeValue
+first_asks = suspended (started (started at_start 2 1) 3 4) 2 (3 ∷ 3 ∷ 0 ∷ 0 ∷ [])
+
+abbrev retention : TreeValue
+retention = suspended first_asks 3 (3 ∷ 2 ∷ 0 ∷ 0 ∷ [])
+
+abbrev power_down : TreeValue
+power_down = suspended first_asks 3 (3 ∷ 3 ∷ 0 ∷ 0 ∷ [])
+
+abbrev woken : TreeValue
+woken = made_pending power_down 2
+
+abbrev gone : TreeValue
+gone = turned_off woken 2
+
+low_start : low at_start root 2 ≡ 0
+unfolding low life_start made_pending
+low_start = refl
+
+active_start : active at_start root ≡ 1
+unfolding active life_start made_pending
+active_start = refl
+
+off_start : off at_start root ≡ 3
+unfolding off life_start made_pending
+off_start = refl
+
+one_active : low first_asks cluster 1 ≡ 0
+unfolding low suspended started life_start made_pending
+one_active = refl
+
+least_of_two : low retention cluster 1 ≡ 2
+unfolding low suspended started life_start made_pending
+least_of_two = refl
+
+both_down : low power_down cluster 1 ≡ 3
+unfolding low suspended started life_start made_pending
+both_down = refl
+
+pending_asks_nothing : low woken cluster 1 ≡ 0
+unfolding low suspended started life_start made_pending
+pending_asks_nothing = refl
+
+pending_is_active : active woken cluster ≡ 1
+unfolding active suspended started life_start made_pending
+pending_is_active = refl
+
+suspended_is_not_off : off woken cluster ≡ 0
+unfolding off suspended started life_start made_pending
+suspended_is_not_off = refl
+
+off_asks_all : low gone cluster 1 ≡ 3
+unfolding low suspended started life_start made_pending turned_off
+off_asks_all = refl
+
+off_counts : off gone cluster ≡ 1
+unfolding off suspended started life_start made_pending turned_off
+off_counts = refl
+
+known_cluster : known gone cluster ≡ 5
+unfolding known suspended started life_start made_pending turned_off
+known_cluster = refl
+
+known_root : known gone root ≡ 5
+unfolding known suspended started life_start made_pending turned_off
+known_root = refl
+
+-- granted depths: 0 on the path of the boot core and of each core that started
+granted_start : at_start.granted ≡ (0 ∷ 3 ∷ 3 ∷ 3 ∷ []) ∷ (0 ∷ 3 ∷ []) ∷ (0 ∷ []) ∷ []
+unfolding life_start made_pending
+granted_start = refl
+
+granted_after : gone.granted ≡ (0 ∷ 3 ∷ 0 ∷ 0 ∷ []) ∷ (0 ∷ 0 ∷ []) ∷ (0 ∷ []) ∷ []
+unfolding suspended started life_start made_pending turned_off
+granted_after = refl

@@ -1,0 +1,41 @@
+use Rattle.std.proofs.Common.{◌≡◌, ◌∙◌, arith, ap, sym, subst, map, length, replicate, ℕ, List}
+use Rattle.std.proofs.lemmas.List.{with_items_is}
+use Rattle.psci_board.specs.Board.{size_below}
+use Rattle.psci_tree.specs.declared.state.CoreState.{CoreState}
+use Rattle.psci_tree.specs.declared.domain.Domain.{Domain}
+use Rattle.psci_tree.specs.Recount.{TreeValue, IsDomainTree, never_started, sizes}
+use Rattle.psci_tree.specs.Changes.{all_off, rows_of}
+use Rattle.psci_tree.specs.Domains.{cores}
+use Rattle.psci_tree.specs.Inside.{IsTied}
+use Rattle.psci_tree.proofs.Granted.{all_off_valid}
+use Rattle.psci_tree.proofs.Slices.{whole_kept}
+use Rattle.psci_tree.proofs.tree.Tree.turn_off.Goals as goal
+
+pub returns-clause-value : goal.returns-clause-value
+returns-clause-value c =
+    let levels : List (List ℕ) = map (λ v. v.items) c.self.inside.levels.items in
+    let long : length c.fill_rows.new.rows ≡ c.self.inside.granted.len = omega (arith, c.fill_rows.auto.rows, c.deref_mut.ensures.len) in
+    let kept = with_items_is c.self.inside.granted c.fill_rows.new.rows long in
+    let change : List CoreState → List (List ℕ) → TreeValue = λ cs gs. record { levels = levels; cores = cs; granted = gs } in
+    let states : cores c.turn_off.new.self ≡ replicate (size_below levels) never_started = c.turn_off.ensures.cores ∙ ap (λ n. replicate n never_started) c.self.invariant.valid.cores in
+    let rows : map (λ v. v.items) c.fill_rows.new.rows ≡ rows_of (sizes levels) 3 =
+    c.fill_rows.ensures
+    ∙ ap (λ xs. rows_of (map length (map (λ v. v.items) xs)) 3) c.deref_mut.ensures.value
+    ∙ ap (λ ns. rows_of ns 3) c.self.invariant.valid.granted in
+    ap (change (cores c.turn_off.new.self)) (ap (map (λ v. v.items)) kept ∙ rows)
+    ∙ ap (λ cs. change cs (rows_of (sizes levels) 3)) states
+    ∙ ap (λ (t : TreeValue). all_off t.levels) c.self.view_is
+
+pub returns-clause-tree : goal.returns-clause-tree
+returns-clause-tree c =
+    let tied : IsTied c.self.inside.root c.args.self.now = subst (IsTied c.self.inside.root) c.self.view_is c.self.invariant in
+    subst IsDomainTree (sym (returns-clause-value c)) (all_off_valid c.args.self.now.levels tied.valid.tree tied.valid.high)
+
+pub invariant_of-self : goal.invariant_of-self
+invariant_of-self c =
+    let tied : IsTied c.self.inside.root c.args.self.now = subst (IsTied c.self.inside.root) c.self.view_is c.self.invariant in
+    let root : Domain = c.turn_off.new.self in
+    subst (IsTied root) (sym (returns-clause-value c)) (record {
+      whole = whole_kept c.self.inside.root root c.args.self.now.levels c.turn_off.ensures.shape tied.whole;
+      valid = all_off_valid c.args.self.now.levels tied.valid.tree tied.valid.high;
+    })

@@ -1,0 +1,70 @@
+-- What a call changes in a tree of power domains.
+use Rattle.std.specs.Prelude.{◌≡◌, ℕ, ◌+◌, ◌-◌, ◌<◌, ◌≤◌, List, [], ◌∷◌, length, map, replicate, slice_set, slice_index_or}
+use Rattle.psci_board.specs.declared.node.Node.{Node}
+use Rattle.psci_board.specs.Board.{size_below, group_of, place_above}
+use Rattle.psci_tree.specs.declared.state.Activity.{Activity}
+use Rattle.psci_tree.specs.declared.state.Activity.TheVariants.{Active, Suspended, Off}
+use Rattle.psci_tree.specs.Recount.{TreeValue, never_started, known_at, granted_at, sizes}
+
+-- another state of one core
+abbrev pub with_core : TreeValue → ℕ → Activity → ℕ → TreeValue
+with_core t core activity known = record t {
+  cores = slice_set t.cores core (record { activity = activity; known = known });
+}
+
+-- 0 at this place, and at those above it
+abbrev pub zero_up : List (List ℕ) → ℕ → List (List ℕ) → List (List ℕ)
+zero_up levels place [] = []
+zero_up [] place (g ∷ gs) = slice_set g place 0 ∷ zero_up [] place gs
+zero_up (w ∷ ws) place (g ∷ gs) = slice_set g place 0 ∷ zero_up ws (group_of w place) gs
+
+-- nothing is granted on the path of a core
+abbrev pub with_path_on : TreeValue → ℕ → TreeValue
+with_path_on t core = record t { granted = zero_up t.levels core t.granted }
+
+unfoldable pub suspended : TreeValue → ℕ → List ℕ → TreeValue
+suspended t core depths = with_core t core (Suspended depths) (known_at t core)
+
+unfoldable pub turned_off : TreeValue → ℕ → TreeValue
+turned_off t core = with_core t core Off (known_at t core)
+
+unfoldable pub made_pending : TreeValue → ℕ → TreeValue
+made_pending t core = with_path_on (with_core t core Active (known_at t core)) core
+
+unfoldable pub started : TreeValue → ℕ → ℕ → TreeValue
+started t core known = with_path_on (with_core t core Active known) core
+
+-- another granted depth of one domain
+unfoldable pub with_grant : TreeValue → Node → ℕ → TreeValue
+with_grant t n depth = record t {
+  granted = slice_set t.granted n.level
+      (slice_set (slice_index_or t.granted n.level []) n.place depth);
+}
+
+-- rows of these lengths, with one depth throughout
+abbrev pub rows_of : List ℕ → ℕ → List (List ℕ)
+rows_of counts depth = map (λ count. replicate count depth) counts
+
+-- every core off and never started, every domain granted depth 3
+abbrev pub all_off : List (List ℕ) → TreeValue
+all_off levels = record {
+  levels = levels;
+  cores = replicate (size_below levels) never_started;
+  granted = rows_of (sizes levels) 3;
+}
+
+-- the start of a life: the boot core, core 0, is pending, and all else is off
+unfoldable pub life_start : List (List ℕ) → TreeValue
+life_start levels = made_pending (all_off levels) 0
+
+-- Conditions -----------------------------------------------------------------------------------
+
+-- a depth that may be granted to a domain: no child is granted less, and the parent no more
+pub record MayGrant (t : TreeValue) (n : Node) (depth : ℕ) : Type 0 where
+  pub deepest : depth ≤ 3
+  pub children : (core : ℕ) → core < size_below t.levels → 0 < n.level
+      → place_above t.levels n.level core ≡ n.place
+      → depth ≤ granted_at t (n.level - 1) (place_above t.levels (n.level - 1) core)
+  pub parent : (core : ℕ) → core < size_below t.levels → n.level < length t.levels
+      → place_above t.levels n.level core ≡ n.place
+      → granted_at t (n.level + 1) (place_above t.levels (n.level + 1) core) ≤ depth

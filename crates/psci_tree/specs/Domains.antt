@@ -1,0 +1,50 @@
+-- The recursive tree as it stands in memory.
+use Rattle.std.specs.Prelude.{◌≡◌, ℕ, zero, suc, List, [], ◌∷◌, length, sum}
+use Rattle.std.specs.List.{flat_map}
+use Rattle.psci_tree.specs.declared.state.CoreState.{CoreState}
+use Rattle.psci_tree.specs.declared.domain.Domain.{Domain, out-Domain}
+use Rattle.psci_tree.specs.declared.domain.Domain.TheOpen.{Domain-F}
+use Rattle.psci_tree.specs.declared.domain.Domain.TheFolds.{fold-Domain}
+
+-- a domain with no children is a core
+abbrev pub cores_from : CoreState → List (List CoreState) → List CoreState
+cores_from core [] = core ∷ []
+cores_from core (k ∷ ks) = flat_map (λ x. x) (k ∷ ks)
+
+abbrev pub cores_step : Domain-F (List CoreState) → List CoreState
+cores_step n = cores_from n.core n.children.items
+
+-- the cores below a domain, from left to right
+abbrev pub cores : Domain → List CoreState
+cores = fold-Domain (List CoreState) cores_step
+
+abbrev pub children : Domain → List Domain
+children n = (out-Domain n).children.items
+
+-- how many children a domain has
+abbrev pub fan : Domain → ℕ
+fan n = length (children n)
+
+-- the cores below several domains
+abbrev pub cores_in : List Domain → List CoreState
+cores_in ns = flat_map cores ns
+
+-- the domains so many levels below a domain, from left to right
+abbrev pub domains_down : ℕ → Domain → List Domain
+domains_down zero n = n ∷ []
+domains_down (suc k) n = flat_map (domains_down k) (children n)
+
+-- how many children each of them has
+abbrev pub widths : ℕ → Domain → List ℕ
+widths zero n = fan n ∷ []
+widths (suc k) n = flat_map (widths k) (children n)
+
+-- the domains below this one have these numbers of children, level by level
+abbrev pub HasShape : Domain → List (List ℕ) → Type 0
+HasShape n [] = Unit {0}
+HasShape n (w ∷ ws) = (widths (length ws) n ≡ w) × HasShape n ws
+
+-- a whole board: the domains at the end have no children, they are the cores
+pub record IsWhole (n : Domain) (levels : List (List ℕ)) : Type 0 where
+  pub shape : HasShape n levels
+  pub ends : sum (widths (length levels) n) ≡ 0

@@ -1,0 +1,4 @@
+pub mod Changes
+pub mod Domains
+pub mod Inside
+pub mod Recount

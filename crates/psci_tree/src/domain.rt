@@ -1,0 +1,140 @@
+//! Power domains that hold those below them.
+
+ghost use Rattle.std.specs.Prelude.{◌≡◌, ℕ, ◌+◌, ◌*◌, ◌^◌, ◌<◌, ◌≤◌, length, map, replicate, slice_set, take, get_or};
+ghost use Rattle.std.specs.List.{sum_by, count_by};
+ghost use Rattle.psci_tree.specs.declared.domain.Domain.{Domain};
+ghost use Rattle.psci_tree.specs.Recount.{asks, runs, rests, least, never_started};
+ghost use Rattle.psci_tree.specs.Domains.{cores, cores_in, widths};
+
+use crate::state::{CoreState, OFF};
+
+/// A power domain. One without children is a core.
+#[derive(Drop)]
+pub struct Domain {
+    pub children: Vec<Domain>,
+    pub core: CoreState,
+}
+
+impl Domain {
+    /// The number of cores below.
+    fn count(&self) -> usize
+        requires { length (cores self.now) < 2 ^ 16 }
+        ensures { result ≡ length (cores self.now) }
+    {
+        if self.children.is_empty() {
+            return 1;
+        }
+        let mut count = 0;
+        for child in &self.children {
+            count += child.count();
+        }
+        count
+    }
+
+    /// The least ask at a level of the cores below.
+    pub fn low(&self, level: u32) -> u8
+        ensures { result ≡ least (map (λ c. asks c.activity level) (cores self.now)) }
+    {
+        if self.children.is_empty() {
+            return self.core.ask(level);
+        }
+        let mut low: u8 = 3;
+        for child in &self.children {
+            low = low.min(child.low(level));
+        }
+        low
+    }
+
+    /// The sum of the known starts of the cores below.
+    pub fn known(&self) -> u64
+        requires { length (cores self.now) < 2 ^ 16 }
+        ensures value { result ≡ sum_by (λ c. c.known) (cores self.now) }
+        ensures small { result ≤ 2 ^ 32 * length (cores self.now) }
+    {
+        if self.children.is_empty() {
+            return u64::from(self.core.known);
+        }
+        let mut known: u64 = 0;
+        for child in &self.children {
+            known += child.known();
+        }
+        known
+    }
+
+    /// How many cores below are running or pending.
+    pub fn active(&self) -> u32
+        requires { length (cores self.now) < 2 ^ 16 }
+        ensures value { result ≡ count_by (λ c. runs c.activity) (cores self.now) }
+        ensures small { result ≤ length (cores self.now) }
+    {
+        if self.children.is_empty() {
+            return u32::from(self.core.runs());
+        }
+        let mut active = 0;
+        for child in &self.children {
+            active += child.active();
+        }
+        active
+    }
+
+    /// How many cores below are off or going off.
+    pub fn off(&self) -> u32
+        requires { length (cores self.now) < 2 ^ 16 }
+        ensures value { result ≡ count_by (λ c. rests c.activity) (cores self.now) }
+        ensures small { result ≤ length (cores self.now) }
+    {
+        if self.children.is_empty() {
+            return u32::from(self.core.rests());
+        }
+        let mut off = 0;
+        for child in &self.children {
+            off += child.off();
+        }
+        off
+    }
+
+    /// Sets the state of the core at this place below, from the left.
+    pub fn set(&mut self, place: usize, state: CoreState)
+        requires inside { place < length (cores self.old) }
+        requires few { length (cores self.old) < 2 ^ 16 }
+        ensures cores { cores self.new ≡ slice_set (cores self.old) place state }
+        ensures shape { (k : ℕ) → widths k self.new ≡ widths k self.old }
+    {
+        if self.children.is_empty() {
+            self.core = state;
+            return;
+        }
+        let (child, rest) = find(&self.children, place);
+        self.children[child].set(rest, state);
+    }
+
+    /// Turns off every core below, and forgets its starts.
+    pub fn turn_off(&mut self)
+        requires { length (cores self.old) < 2 ^ 16 }
+        ensures cores { cores self.new ≡ replicate (length (cores self.old)) never_started }
+        ensures shape { (k : ℕ) → widths k self.new ≡ widths k self.old }
+    {
+        for place in 0..self.count() {
+            self.set(place, OFF);
+        }
+    }
+}
+
+/// The domain with the core at this place, and the core's place below that domain.
+fn find(domains: &[Domain], place: usize) -> (usize, usize)
+    requires inside { place < length (cores_in domains.now) }
+    requires few { length (cores_in domains.now) < 2 ^ 16 }
+    ensures domain { result.0 < length domains.now }
+    ensures before { length (cores_in (take result.0 domains.now)) + result.1 ≡ place }
+    ensures rest { (n : Domain) → result.1 < length (cores (get_or domains.now result.0 n)) }
+{
+    let mut rest = place;
+    for (at, domain) in domains.iter().enumerate() {
+        let count = domain.count();
+        if rest < count {
+            return (at, rest);
+        }
+        rest -= count;
+    }
+    unreachable!()
+}

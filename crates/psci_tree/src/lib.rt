@@ -1,0 +1,22 @@
+//! The tree of power domains: what each core asks, and the depth that each domain was granted.
+//!
+//! - A core is *active* while it is running or pending, *suspended* with a power state that it
+//!   asked for, or *off*, which includes going off.
+//! - The *ask* of a core is a depth for each level: 0 while it is active, 3 while it is off, and
+//!   that of its power state while it is suspended.
+//! - The *known start* of a core is the number of its last start that was seen to enter.
+//! - The *granted depth* of a domain is that of the last claim on it, 0 once a core below it became
+//!   pending or started.
+//! - A value of a domain *below* is recounted over all cores whose path the domain is on.
+#![tactic(auto)]
+
+mod build;
+mod domain;
+mod laws;
+mod levels;
+mod shape;
+mod state;
+mod tree;
+
+pub use laws::{law_below, law_cores, law_counts, law_granted, law_low};
+pub use tree::Tree;

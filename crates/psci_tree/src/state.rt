@@ -1,0 +1,59 @@
+//! What is kept of a core.
+
+ghost use Rattle.std.specs.Prelude.{◌≡◌, ◌≤◌, ◌<◌, ◌^◌};
+ghost use Rattle.psci_tree.specs.Recount.{asks, runs, rests};
+
+use psci_state::Ask;
+
+/// What a core does, as its power domains see it.
+#[derive(Clone, Copy)]
+pub enum Activity {
+    /// Running or pending.
+    Active,
+    /// Suspended, with this ask.
+    Suspended(Ask),
+    /// Off or going off.
+    Off,
+}
+
+/// What is kept of a core.
+#[derive(Clone, Copy)]
+pub struct CoreState {
+    pub activity: Activity,
+    /// The number of its last start that was seen to enter in this life, or 0.
+    pub known: u32,
+}
+
+/// A core that is off and was never started. A domain above the cores holds it without use.
+pub const OFF: CoreState = CoreState {
+    activity: Activity::Off,
+    known: 0,
+};
+
+impl CoreState {
+    /// The depth that the core asks of its domain of this level.
+    pub fn ask(&self, level: u32) -> u8
+        ensures value { result ≡ asks self.now.activity level }
+        ensures least { result ≤ 3 }
+    {
+        match &self.activity {
+            Activity::Active => 0,
+            Activity::Suspended(ask) => ask.depth(level),
+            Activity::Off => 3,
+        }
+    }
+
+    /// Whether the core is running or pending.
+    pub fn runs(self) -> bool
+        ensures { result ≡ runs self.activity }
+    {
+        matches!(self.activity, Activity::Active)
+    }
+
+    /// Whether the core is off or going off.
+    pub fn rests(self) -> bool
+        ensures { result ≡ rests self.activity }
+    {
+        matches!(self.activity, Activity::Off)
+    }
+}
