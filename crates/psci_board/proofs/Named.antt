@@ -1,5 +1,6 @@
 -- Affinity words and the nodes that they name.
-use Rattle.std.proofs.Common.{◌≡◌, ℕ, zero, suc, ◌+◌, ◌*◌, ◌/◌, ◌^◌, ◌<◌, ◌≤◌, List, [], ◌∷◌, length, drop, refl, sym, ◌∙◌, arith, Option, Some, None, inl, inr}
+use Rattle.std.proofs.Common.{◌≡◌, ℕ, zero, suc, ◌+◌, ◌*◌, ◌/◌, ◌^◌, ◌<◌, ◌≤◌, List, [], ◌∷◌}
+use Rattle.std.proofs.Common.{length, drop, refl, sym, ◌∙◌, arith, Option, Some, None, inl, inr}
 use Rattle.std.specs.Prelude.{option_map}
 use Rattle.std.proofs.lemmas.Bool.{cases_lt}
 use Rattle.std.proofs.lemmas.Nat.{pow-add}
@@ -7,7 +8,9 @@ use Rattle.std.proofs.lemmas.Option.{none-some, same_Some}
 use Rattle.std.proofs.Math.Nat.{div-one, div-div-eq-div-mul, one-le-pow, pow-suc}
 use Rattle.psci_board.specs.declared.node.Node.{Node}
 use Rattle.psci_board.specs.declared.node.Core.{Core}
-use Rattle.psci_board.specs.Board.{BoardValue, HasNode, IsBoard, IsTree, size_below, group_of, place_above, height, nodes, cores, up, address, address_up, node_of, core_of}
+use Rattle.psci_board.specs.Board.{BoardValue, HasNode, IsBoard, IsTree, size_below, group_of}
+use Rattle.psci_board.specs.Board.{place_above, height, nodes, cores, up, address, address_up}
+use Rattle.psci_board.specs.Board.{node_of, core_of}
 use Rattle.psci_board.specs.Laws.{WordLaws}
 use Rattle.psci_board.specs.Level.{named}
 use Rattle.psci_board.proofs.Fields.{fits, fields, named_at, named_is}

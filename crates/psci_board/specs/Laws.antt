@@ -1,9 +1,11 @@
 -- What holds of the tree of every board: facts about its nodes that upper layers build on.
-use Rattle.std.specs.Prelude.{◌≡◌, ℕ, suc, ◌+◌, ◌*◌, ◌/◌, ◌^◌, ◌<◌, ◌≤◌, Some, length, map, flat_map, slice_get, option_map}
+use Rattle.std.specs.Prelude.{◌≡◌, ℕ, suc, ◌+◌, ◌*◌, ◌/◌, ◌^◌, ◌<◌, ◌≤◌, Some, length, map}
+use Rattle.std.specs.Prelude.{flat_map, slice_get, option_map}
 use Rattle.std.specs.List.{range_with_len}
 use Rattle.psci_board.specs.declared.node.Node.{Node}
 use Rattle.psci_board.specs.declared.node.Core.{Core}
-use Rattle.psci_board.specs.Board.{BoardValue, HasNode, height, nodes, cores, path, up, below, children_at, first_child, child, address, node_of, core_of}
+use Rattle.psci_board.specs.Board.{BoardValue, HasNode, height, nodes, cores, path, up, below}
+use Rattle.psci_board.specs.Board.{children_at, first_child, child, address, node_of, core_of}
 
 -- How many nodes there are.
 pub record SizeLaws (b : BoardValue) : Type 0 where
