@@ -58,7 +58,7 @@ pub sixteen_fit : (ds : List ℕ) → AllDigits 16 ds → length ds ≤ 16 → d
 sixteen_fit ds h l = let most : 16 ^ length ds ≤ 16 ^ 16 = pow-le-pow_right (lit< tt) l in
     omega (arith, digits_value-lt 16 ds h)
 
-pub ruleset digit_steps = (
+pub ruleset steps = (
   digits_value_more,
   digit_at_place,
   too_large,
