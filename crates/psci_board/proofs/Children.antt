@@ -68,7 +68,7 @@ few b h (suc l) p = elim (cases_lt l (height b)) [
 
 -- Children by their nodes -------------------------------------------------------------------------
 
-child_inside : (b : BoardValue) → IsBoard b → (l p k : ℕ) → k < children_at b (suc l) p
+pub child_inside : (b : BoardValue) → IsBoard b → (l p k : ℕ) → k < children_at b (suc l) p
     → (l < height b) × (first_child b (suc l) p + k < nodes b l)
 child_inside b h l p k i = elim (cases_lt l (height b)) [
   | inl m ↦ (m, rw (level b.levels l h.tree m).size (group_inside (counts b l) p k i))

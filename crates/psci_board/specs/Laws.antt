@@ -54,6 +54,10 @@ pub record ChildLaws (b : BoardValue) : Type 0 where
 
 -- Affinity words and the nodes that they name.
 pub record WordLaws (b : BoardValue) : Type 0 where
+  -- the system has no fields, and a child has its number in a field below those of its parent
+  pub system : address b (height b) 0 ≡ 0
+  pub child_fields : (n m : Node) (k : ℕ) → child b n k ≡ Some m
+      → address b m.level m.place ≡ k + 256 * address b n.level n.place
   -- a word names a node of the board with its fields
   pub level : (word l : ℕ) (n : Node) → node_of b word l ≡ Some n → n.level ≡ l
   pub node : (word l : ℕ) (n : Node) → node_of b word l ≡ Some n → HasNode b n
