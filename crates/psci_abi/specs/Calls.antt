@@ -4,7 +4,8 @@ use Rattle.std.specs.Int.{cast_unsigned, w32, w64}
 use Rattle.psci_abi.specs.declared.code.Code.{Code}
 use Rattle.psci_abi.specs.declared.registers.Regs.{Regs}
 use Rattle.psci_abi.specs.declared.request.Request.{Request}
-use Rattle.psci_abi.specs.declared.request.Request.TheVariants.{Version, CpuOn, AffinityInfo, MigrateInfoType, Features, Unknown}
+use Rattle.psci_abi.specs.declared.request.Request.TheVariants.{Version, CpuOn, AffinityInfo}
+use Rattle.psci_abi.specs.declared.request.Request.TheVariants.{MigrateInfoType, Features, Unknown}
 
 -- An argument of 32 bits is the low half of its register.
 abbrev pub low : ℕ → ℕ

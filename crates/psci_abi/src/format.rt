@@ -2,7 +2,6 @@
 
 ghost use Rattle.std.specs.Prelude.{◌≡◌};
 ghost use Rattle.psci_abi.specs.Calls.{features_of};
-ghost use Rattle.psci_abi.specs.declared.format.Format.TheVariants.{Original};
 
 use crate::words::{
     AFFINITY_INFO_32, AFFINITY_INFO_64, CPU_ON_32, CPU_ON_64, MIGRATE_INFO_TYPE, PSCI_FEATURES,
@@ -20,10 +19,9 @@ pub enum Format {
 
 /// What PSCI_FEATURES answers for a function word: its feature flags, or NOT_SUPPORTED.
 ///
-/// No function of this firmware has a flag yet. The format is the board's; it will decide a flag
-/// of CPU_SUSPEND, and boards have the original one until then.
+/// No function of this firmware has a flag yet, so the answer is the same in both formats. The
+/// format is the board's; it will decide a flag of CPU_SUSPEND.
 pub fn features(word: u32, format: Format) -> i32
-    requires { format ≡ Original }
     ensures { result ≡ features_of word }
 {
     let _ = format;

@@ -1,5 +1,6 @@
 -- The one reply to each call, by the values before it.
-use Rattle.std.specs.Prelude.{ℕ, pos, negsuc, Bool, ◌||◌, ◌&&◌, not, ◌==◌, nat_lt, nat_le, if◌then◌else◌, Option, None, Some, Result, Ok, Err}
+use Rattle.std.specs.Prelude.{ℕ, pos, negsuc, Bool, ◌||◌, ◌&&◌, not, ◌==◌, nat_lt}
+use Rattle.std.specs.Prelude.{nat_le, if◌then◌else◌, Option, None, Some, Result, Ok, Err}
 use Rattle.psci_abi.specs.Calls.{request_of, features_of}
 use Rattle.psci_abi.specs.declared.code.Code.{Code}
 use Rattle.psci_abi.specs.declared.request.Request.{Request}

@@ -1,6 +1,7 @@
 -- What is known by the calls so far and their replies. A history has its newest entry first, and
 -- every definition looks backwards along it.
-use Rattle.std.specs.Prelude.{◌≡◌, ℕ, Bool, true, false, not, ◌==◌, Option, None, Some, option_map, unwrap_or, List, [], ◌∷◌, sum, map}
+use Rattle.std.specs.Prelude.{◌≡◌, ℕ, Bool, true, false, not, ◌==◌, Option, None}
+use Rattle.std.specs.Prelude.{Some, option_map, unwrap_or, List, [], ◌∷◌, sum, map}
 use Rattle.std.specs.Option.{option_or}
 use Rattle.psci_board.specs.Board.{BoardValue, below}
 use Rattle.psci_board.specs.declared.node.Node.{Node}
