@@ -3,10 +3,8 @@
 ghost use Rattle.std.specs.Prelude.{◌≡◌};
 ghost use Rattle.psci_abi.specs.Calls.{features_of};
 
-use crate::words::{
-    AFFINITY_INFO_32, AFFINITY_INFO_64, CPU_ON_32, CPU_ON_64, MIGRATE_INFO_TYPE, PSCI_FEATURES,
-    PSCI_VERSION,
-};
+use crate::registers::Regs;
+use crate::request::{Request, read};
 
 /// How power state words are written (DEN0022D, CPU_SUSPEND, the parameter power_state).
 #[derive(Clone, Copy, Debug, PartialEq, Eq)]
@@ -25,14 +23,14 @@ pub fn features(word: u32, format: Format) -> i32
     ensures { result ≡ features_of word }
 {
     let _ = format;
-    match word {
-        PSCI_VERSION
-        | CPU_ON_32
-        | CPU_ON_64
-        | AFFINITY_INFO_32
-        | AFFINITY_INFO_64
-        | MIGRATE_INFO_TYPE
-        | PSCI_FEATURES => 0,
-        _ => -1,
+    let call = Regs {
+        x0: u64::from(word),
+        x1: 0,
+        x2: 0,
+        x3: 0,
+    };
+    match read(call) {
+        Request::Unknown => -1,
+        _ => 0,
     }
 }

@@ -18,6 +18,7 @@ abbrev pub first_core : BoardValue → Node → Option Core
 first_core b n =
     if has_node b n then Some (record { number = first_below b.levels n.level n.place }) else None
 
+-- the number of a core, or this one where there is none
 abbrev pub number_or : ℕ → Option Core → ℕ
 number_or end None = end
 number_or end (Some c) = c.number

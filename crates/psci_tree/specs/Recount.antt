@@ -8,6 +8,7 @@ use Rattle.psci_tree.specs.declared.state.CoreState.{CoreState}
 use Rattle.psci_tree.specs.declared.state.Activity.{Activity}
 use Rattle.psci_tree.specs.declared.state.Activity.TheVariants.{Active, Suspended, Off}
 
+-- A tree as contracts see it.
 pub record TreeValue : Type 0 where
   -- the board's levels: from level 1 up, how many children each domain of the level has
   pub levels : List (List ℕ)
@@ -24,11 +25,13 @@ asks Active level = 0
 asks (Suspended depths) level = slice_index depths level
 asks Off level = 3
 
+-- whether a core is running or pending
 abbrev pub runs : Activity → Bool
 runs Active = true
 runs (Suspended depths) = false
 runs Off = false
 
+-- whether a core is off or going off
 abbrev pub rests : Activity → Bool
 rests Active = false
 rests (Suspended depths) = false
@@ -38,12 +41,15 @@ rests Off = true
 abbrev pub never_started : CoreState
 never_started = record { activity = Off; known = 0 }
 
+-- what is kept of the core of this number
 abbrev pub core_at : TreeValue → ℕ → CoreState
 core_at t core = slice_index_or t.cores core never_started
 
+-- the depth that this core asks of its domain of this level
 abbrev pub ask_at : TreeValue → ℕ → ℕ → ℕ
 ask_at t core level = asks (core_at t core).activity level
 
+-- the number of this core's last start that was seen to enter, or 0
 abbrev pub known_at : TreeValue → ℕ → ℕ
 known_at t core = (core_at t core).known
 
@@ -85,6 +91,7 @@ off t n = count_by (λ c. is_off_at t c) (below t.levels n)
 
 -- Granted depths -------------------------------------------------------------------------------
 
+-- the depth that was granted to the domain of this level and place
 abbrev pub granted_at : TreeValue → ℕ → ℕ → ℕ
 granted_at t level place = slice_index (slice_index_or t.granted level []) place
 
