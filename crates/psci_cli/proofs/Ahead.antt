@@ -1,6 +1,6 @@
 -- Reading ahead, step after step.
-use Rattle.std.proofs.Common.{◌≡◌, ℕ, ◌+◌, ◌<◌, ◌≤◌, Bool, true, false, List, [], ◌∷◌, ◌++◌, length, take, drop, refl, ap, sym, ◌∙◌, arith, Option, Some, None, append_assoc, append-nil, Result, Ok, Err, IfOk, IfErr, OnErr, IsErr, IsErrAnd, length-append, subst, nat_lt, if◌then◌else◌, cond, inl, inr}
-use Rattle.std.specs.Io.KnownBytes.{Appends, Consumes, Keeps, IsAtEnd}
+use Rattle.std.proofs.Common.{◌≡◌, ℕ, ◌<◌, Bool, true, false, List, [], ◌++◌, length, take, refl, ap, sym, ◌∙◌, arith, Option, Some, None, append_assoc, append-nil, Result, Ok, Err, IfOk, IfErr, OnErr, IsErr, IsErrAnd, length-append, subst}
+use Rattle.std.specs.Io.KnownBytes.{Appends, Consumes, Keeps}
 use Rattle.psci_cli.specs.declared.fault.ReplayFault.{ReplayFault}
 use Rattle.psci_cli.specs.declared.fault.ReplayFault.TheVariants.{Script, Board, Read, Write, Memory}
 use Rattle.psci_cli.specs.Answered.{Answered}

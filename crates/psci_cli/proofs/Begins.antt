@@ -1,5 +1,5 @@
 -- How a run begins.
-use Rattle.std.proofs.Common.{◌≡◌, ℕ, zero, suc, ◌+◌, ◌<◌, ◌≤◌, Bool, true, false, cond, List, [], ◌∷◌, ◌++◌, length, take, drop, refl, ap, sym, ◌∙◌, arith, append_assoc, append-nil, subst, Option, Some, None, Result, Ok, Err}
+use Rattle.std.proofs.Common.{◌≡◌, ℕ, zero, suc, ◌<◌, ◌≤◌, Bool, true, false, cond, List, [], ◌∷◌, ◌++◌, length, take, drop, refl, ap, sym, ◌∙◌, arith, append_assoc, subst, Option, Result, Ok, Err, inl}
 use Rattle.std.proofs.lemmas.List.{take-append-drop, length-take-le}
 use Rattle.std.specs.Io.KnownBytes.{Appends, Consumes, IsAtEnd}
 use Rattle.psci_board.specs.Board.{BoardValue}
@@ -7,22 +7,21 @@ use Rattle.psci_board.specs.Verdict.{board_of}
 use Rattle.psci_board.specs.declared.fault.BoardFault.{BoardFault}
 use Rattle.psci_cli.specs.declared.fault.Replayed.{Replayed}
 use Rattle.psci_cli.specs.declared.fault.ScriptFault.{ScriptFault}
-use Rattle.psci_cli.specs.declared.fault.ScriptFault.TheVariants.{NoBoard, Line, Long, TooMany}
+use Rattle.psci_cli.specs.declared.fault.ScriptFault.TheVariants.{NoBoard, Long}
 use Rattle.psci_cli.specs.declared.fault.ReplayFault.{ReplayFault}
-use Rattle.psci_cli.specs.declared.fault.ReplayFault.TheVariants.{Script, Board, Read, Write, Memory}
+use Rattle.psci_cli.specs.declared.fault.ReplayFault.TheVariants.{Script, Board}
 use Rattle.psci_cli.specs.declared.lines.Extent.{Extent}
 use Rattle.psci_cli.specs.Answered.{Answered}
 use Rattle.psci_cli.specs.Block.{ReadAhead}
-use Rattle.psci_cli.specs.Legal.{Record}
 use Rattle.psci_cli.specs.Lines.{lines, has_line_feed}
-use Rattle.psci_cli.specs.Progress.{Stand, stand, Ahead, Torn, Broken, IsLine, FaultyLine, NoLine}
+use Rattle.psci_cli.specs.Progress.{Stand, stand, Ahead, Torn, IsLine}
 use Rattle.psci_cli.specs.Script.{Saying, Told, behind_line, told, told_lines, told_first, told_board, told_by, board_line, ok_or, ends}
 use Rattle.psci_board.specs.Reading.{literal_at}
 use Rattle.std.specs.Prelude.{codes}
-use Rattle.psci_cli.specs.Run.{Follows, Taken, Ended, Stopped, Failed, EndsBy, BoardRead}
+use Rattle.psci_cli.specs.Run.{Taken, Ended, Stopped, Failed}
 use Rattle.psci_cli.proofs.Known.{appends_more}
-use Rattle.psci_cli.proofs.Split.{lines_long, lines_none, Longer}
-use Rattle.psci_cli.proofs.Told.{line_first, skipped, is_lt}
+use Rattle.psci_cli.proofs.Split.{lines_none}
+use Rattle.psci_cli.proofs.Told.{line_first, skipped, is_lt, whole_line}
 use Rattle.psci_cli.proofs.Ends.{follows_whole, cut_front}
 
 -- nothing was taken, answered or written yet
@@ -91,10 +90,14 @@ fresh_board says first before s e fault text k i b v = fresh_ends says first bef
     ∙ ap (λ r. told_first says r (lines (drop e.taken s.block.unread ++ rest))) b
     ∙ ap (λ r. told_board says r (lines (drop e.taken s.block.unread ++ rest))) v)
 
-pub fresh_stopped : (says : Saying) (first before : Option (List ℕ)) (s : Stand) → Fresh first before s → Stopped says first before s
-fresh_stopped says first before s k = record {
+pub fresh_stopped : (says : Saying) (Behind : ℕ → List ℕ → Type 0) (first before : Option (List ℕ)) (s : Stand) → Fresh first before s → Behind 1 s.block.unread → Stopped says Behind first before s
+fresh_stopped says Behind first before s k h = record {
   whole = [];
+  lines = inl refl;
+  count = 0;
+  sound = inl (refl, refl);
   part = s.block.unread;
+  behind = h;
   from = k.from;
   at_end = k.at_end;
   written = k.written;
@@ -154,6 +157,7 @@ begun says b first before block left taken answered e text k i l v = record {
       ∙ ap (λ r. told_board says r (lines rest)) v
       ∙ ap (λ (x : List ℕ). behind_line x (told_lines says b [] 1 (lines rest))) (sym k.none);
   events = k.events;
+  lines = λ f. whole_line [] e block i f;
 }
 
 pub open_as : (block : ReadAhead) (answered : Answered) (first before : Option (List ℕ)) (P : Stand → Type 0) → block ≡ record { unread = []; ended = false } → answered ≡ record { waiting = []; events = 0 } → P (stand block first answered before) → P (opened first before)

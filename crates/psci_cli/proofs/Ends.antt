@@ -1,24 +1,23 @@
 -- How a run ends.
-use Rattle.std.proofs.Common.{◌≡◌, ℕ, suc, ◌+◌, ◌<◌, ◌≤◌, Bool, true, false, cond, nat_lt, List, [], ◌∷◌, ◌++◌, length, take, drop, refl, ap, sym, ◌∙◌, arith, append_assoc, append-nil, subst, Option, Some, None, IfSome, Result, Ok, Err, inl, inr}
-use Rattle.std.proofs.Math.Seq.{take-length, take-append_seam}
-use Rattle.std.proofs.lemmas.List.{take_all, take-append-drop, length-take-le}
-use Rattle.std.specs.Io.KnownBytes.{Appends, Consumes, Keeps, IsAtEnd}
+use Rattle.std.proofs.Common.{◌≡◌, ℕ, suc, ◌+◌, ◌<◌, ◌≤◌, true, false, List, [], ◌∷◌, ◌++◌, length, take, drop, refl, ap, sym, ◌∙◌, arith, append_assoc, append-nil, subst, Option, None, Result, Ok, Err, inr}
+use Rattle.std.proofs.Math.Seq.{take-length}
+use Rattle.std.proofs.lemmas.List.{take-append-drop, length-take-le}
+use Rattle.std.specs.Io.KnownBytes.{Consumes, IsAtEnd}
 use Rattle.psci_board.specs.Board.{BoardValue}
 use Rattle.psci_cli.specs.declared.fault.Replayed.{Replayed}
 use Rattle.psci_cli.specs.declared.fault.ScriptFault.{ScriptFault}
 use Rattle.psci_cli.specs.declared.fault.ScriptFault.TheVariants.{NoBoard, Line, Long, TooMany}
 use Rattle.psci_cli.specs.declared.fault.ReplayFault.{ReplayFault}
-use Rattle.psci_cli.specs.declared.fault.ReplayFault.TheVariants.{Script, Board, Read, Write, Memory}
+use Rattle.psci_cli.specs.declared.fault.ReplayFault.TheVariants.{Script}
 use Rattle.psci_cli.specs.declared.lines.Extent.{Extent}
-use Rattle.psci_cli.specs.Answered.{Answered}
 use Rattle.psci_cli.specs.Block.{ReadAhead}
 use Rattle.psci_cli.specs.Legal.{Record}
 use Rattle.psci_cli.specs.Line.{line_of}
 use Rattle.psci_cli.specs.Lines.{lines, has_line_feed}
-use Rattle.psci_cli.specs.Progress.{Stand, stand, Ahead, Torn, Broken, IsLine, FaultyLine, NoLine}
+use Rattle.psci_cli.specs.Progress.{Stand, Torn, IsLine, FaultyLine}
 use Rattle.psci_cli.specs.Script.{Saying, Told, behind_line, told, told_lines, line_said, ok_or, ends}
-use Rattle.psci_cli.specs.Run.{Follows, Taken, Ended, Stopped, Failed, EndsBy, Runs, Answers, AnswersFront, AnswersTorn, Replays}
-use Rattle.psci_cli.proofs.Known.{appends_more, consumes_more}
+use Rattle.psci_cli.specs.Run.{Follows, Taken, Ended, Stopped, Failed}
+use Rattle.psci_cli.proofs.Known.{appends_more}
 use Rattle.psci_cli.proofs.Split.{lines_long, lines_some, lines_none, Longer}
 use Rattle.psci_cli.proofs.Told.{taken_ahead, line_first, told_fault, no_lines_told, line_read, line_long, line_many, skipped}
 
@@ -84,10 +83,20 @@ ends_line says b past n first before s e k i h few o =
     ∙ told_fault says b past n (take e.line s.block.unread) (lines (drop e.taken s.block.unread ++ rest)) Line
     (line_read (n + 1) (take e.line s.block.unread) h few ∙ ap (λ x. ok_or x Line) o))
 
-pub stopped : (says : Saying) (b : BoardValue) (past : List Record) (n : ℕ) (first before : Option (List ℕ)) (s : Stand) → Taken says b past n first before s → Stopped says first before s
-stopped says b past n first before s k = record {
+pub stopped : (says : Saying) (Behind : ℕ → List ℕ → Type 0) (b : BoardValue) (past : List Record) (n : ℕ) (first before : Option (List ℕ)) (s : Stand) → Taken says b past n first before s → (s.block.ended ≡ true → 0 < length s.block.unread) → Behind (n + 1) s.block.unread → Stopped says Behind first before s
+stopped says Behind b past n first before s k f h = record {
   whole = k.whole;
+  lines = k.lines f;
+  count = n;
+  sound = inr (
+    length past,
+    ap (λ (x : List ℕ). (told says x).end) (sym (append-nil k.whole))
+        ∙ ap (λ (r : Told). r.end) (k.answers [] (λ t. (0, refl)))
+        ∙ ap (λ (x : List (List ℕ)). (told_lines says b past n x).end) lines_none
+        ∙ ap (λ (r : Told). r.end) (no_lines_told says b past n),
+  );
   part = s.block.unread;
+  behind = h;
   from = k.from;
   at_end = k.at_end;
   written = k.written;

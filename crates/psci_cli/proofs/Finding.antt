@@ -1,22 +1,22 @@
 -- What a call for the next line finds.
-use Rattle.std.proofs.Common.{◌≡◌, ℕ, ◌+◌, ◌<◌, ◌≤◌, Bool, true, false, List, [], ◌∷◌, ◌++◌, length, take, drop, refl, ap, sym, ◌∙◌, arith, Option, Some, None, Result, Ok, Err, IsErr, IsErrAnd, subst, nat_lt, cond, inl, inr}
+use Rattle.std.proofs.Common.{◌≡◌, ℕ, ◌<◌, ◌≤◌, Bool, true, false, List, [], ◌∷◌, length, refl, ap, sym, ◌∙◌, arith, Option, Some, None, Result, Ok, Err, IsErr, IsErrAnd, subst, nat_lt, cond, inr}
 use Rattle.std.proofs.lemmas.List.{take_all}
 use borrow.Author.Tests.{ltb-true, ltb-false}
 use Rattle.psci_cli.specs.declared.fault.ReplayFault.{ReplayFault}
 use Rattle.psci_cli.specs.declared.fault.ReplayFault.TheVariants.{Script, Board, Read, Write, Memory}
 use Rattle.psci_cli.specs.declared.lines.Extent.{Extent}
 use Rattle.psci_cli.specs.Lines.{has_line_feed}
-use Rattle.psci_cli.specs.Progress.{Stand, Ahead, Torn, Broken, ReadsAhead, NotAhead, NoLine, FindsLine, IsLine}
+use Rattle.psci_cli.specs.Progress.{Stand, Ahead, ReadsAhead, NotAhead, NoLine, FindsLine, IsCut}
 use Rattle.psci_cli.proofs.Ahead.{ahead_more, torn_more, broken_more}
 
-not_found : (e : ReplayFault) (n : ℕ) (s m t : Stand) → NotAhead e m t → Ahead s m → has_line_feed m.block.unread ≡ false → NoLine n e s t
-not_found Read n s m t h a f = (broken_more s m t a h.0, ap has_line_feed h.1 ∙ f)
+not_found : (e : ReplayFault) (n : ℕ) (s m t : Stand) → NotAhead e m t → Ahead s m → IsCut n m.block.unread → NoLine n e s t
+not_found Read n s m t h a f = (broken_more s m t a h.0, subst (λ (x : List ℕ). IsCut n x) (sym h.1) f)
 not_found Write n s m t h a f = torn_more s m t a h
 not_found Memory n s m t h a f = absurd h
 not_found (Board b) n s m t h a f = absurd h
 not_found (Script l b) n s m t h a f = absurd h
 
-pub finds_fault : (r : Result (Option Extent) ReplayFault) (e : ReplayFault) (n : ℕ) (s m t : Stand) → IsErr r × IsErrAnd r (λ f. f ≡ e) → NotAhead e m t → Ahead s m → has_line_feed m.block.unread ≡ false → FindsLine n r s t
+pub finds_fault : (r : Result (Option Extent) ReplayFault) (e : ReplayFault) (n : ℕ) (s m t : Stand) → IsErr r × IsErrAnd r (λ f. f ≡ e) → NotAhead e m t → Ahead s m → IsCut n m.block.unread → FindsLine n r s t
 finds_fault (Ok o) e n s m t h k a f = absurd (h.1)
 finds_fault (Err x) e n s m t h k a f =
     subst (λ (y : ReplayFault). NoLine n y s t) (sym h.1) (not_found e n s m t k a f)

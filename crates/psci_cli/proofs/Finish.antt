@@ -1,14 +1,14 @@
 -- What a replay leaves, when the last answers were written too.
-use Rattle.std.proofs.Common.{◌≡◌, ℕ, ◌+◌, ◌≤◌, Bool, true, false, List, [], ◌∷◌, ◌++◌, length, take, drop, refl, ap, sym, ◌∙◌, append_assoc, append-nil, subst, Option, Some, None, IfSome, Result, Ok, Err, IsErr, IsErrAnd, IfErr}
+use Rattle.std.proofs.Common.{◌≡◌, ℕ, Bool, true, false, List, [], ◌++◌, length, take, drop, refl, ap, sym, ◌∙◌, append_assoc, append-nil, subst, Option, Some, None, Result, Ok, Err, IsErr, IsErrAnd, IfErr, inl}
 use Rattle.std.proofs.Math.Seq.{take-append_seam}
 use Rattle.std.specs.Io.KnownBytes.{Appends, Consumes, IsAtEnd}
 use Rattle.psci_cli.specs.declared.fault.Replayed.{Replayed}
 use Rattle.psci_cli.specs.declared.fault.ReplayFault.{ReplayFault}
 use Rattle.psci_cli.specs.declared.fault.ReplayFault.TheVariants.{Script, Board, Read, Write, Memory}
-use Rattle.psci_cli.specs.Progress.{Stand}
+use Rattle.psci_cli.specs.Progress.{Stand, IsCut}
 use Rattle.std.proofs.lemmas.List.{take-append-drop}
 use Rattle.psci_cli.specs.Script.{Saying, Told, told, told_by}
-use Rattle.psci_cli.specs.Run.{Ended, Stopped, Failed, Runs, Answers, AnswersFront, AnswersTorn, Replays, is_torn}
+use Rattle.psci_cli.specs.Run.{Ended, Stopped, Failed, Runs, Answers, AnswersFront, AnswersTorn, IsAny, Replays, is_torn}
 use Rattle.psci_cli.proofs.Known.{appends_more}
 use Rattle.psci_cli.proofs.Split.{lines_none}
 use Rattle.psci_cli.proofs.Begins.{told_of}
@@ -29,14 +29,18 @@ answers_end says end first before after s k a =
     answers_by says end first s.left before after k.read (k.written ++ s.answered.waiting) s.block.ended k.from k.at_end k.told
     (appends_more before s.taken after k.written s.answered.waiting k.to a)
 
-pub answers_front : (says : Saying) (first before after : Option (List ℕ)) (s : Stand) → Stopped says first before s → Appends s.taken after s.answered.waiting → AnswersFront says first s.left before after
-answers_front says first before after s k a = (
-  k.whole,
-  k.part,
-  k.from,
-  subst (λ (x : List ℕ). Appends before after x) (sym k.told)
-      (appends_more before s.taken after k.written s.answered.waiting k.to a),
-)
+pub answers_front : (says : Saying) (Behind : ℕ → List ℕ → Type 0) (first before after : Option (List ℕ)) (s : Stand) → Stopped says Behind first before s → Appends s.taken after s.answered.waiting → AnswersFront says Behind first s.left before after
+answers_front says Behind first before after s k a = record {
+  whole = k.whole;
+  lines = k.lines;
+  count = k.count;
+  sound = k.sound;
+  part = k.part;
+  behind = k.behind;
+  from = k.from;
+  to = subst (λ (x : List ℕ). Appends before after x) (sym k.told)
+      (appends_more before s.taken after k.written s.answered.waiting k.to a);
+}
 
 torn_of : (says : Saying) (bytes read l written more : List ℕ) (before after : Option (List ℕ)) → bytes ≡ read ++ l → (told says (read ++ l)).text ≡ written ++ more → Appends before after written → (n : ℕ) × Appends before after (take n (told says bytes).text)
 torn_of says bytes read l written more before after e t a = (
@@ -66,8 +70,8 @@ ended_torn says end first before after s n k a =
     (λ rest f. (drop n s.answered.waiting, ap (λ (r : Told). r.text) (k.told rest f) ∙ front_of k.written s.answered.waiting n))
     (appends_more before s.taken after k.written (take n s.answered.waiting) k.to a)
 
-stopped_torn : (says : Saying) (first before after : Option (List ℕ)) (s : Stand) (n : ℕ) → Stopped says first before s → Appends s.taken after (take n s.answered.waiting) → AnswersTorn says first before after
-stopped_torn says first before after s n k a =
+stopped_torn : (says : Saying) (Behind : ℕ → List ℕ → Type 0) (first before after : Option (List ℕ)) (s : Stand) (n : ℕ) → Stopped says Behind first before s → Appends s.taken after (take n s.answered.waiting) → AnswersTorn says first before after
+stopped_torn says Behind first before after s n k a =
     torn_by says first s.left before after (k.whole ++ k.part) (k.written ++ take n s.answered.waiting) s.block.ended k.from k.at_end
     (λ rest f. let m = k.more rest f in (
       drop n s.answered.waiting ++ m.0,
@@ -80,8 +84,8 @@ pub finish_torn : (r : Result Replayed ReplayFault) (says : Saying) (first befor
 finish_torn (Ok x) says first before after s n e k a = ended_torn says (Ok x) first before after s n k a
 finish_torn (Err (Script l f)) says first before after s n e k a = ended_torn says (Err (Script l f)) first before after s n k a
 finish_torn (Err (Board f)) says first before after s n e k a = ended_torn says (Err (Board f)) first before after s n k a
-finish_torn (Err Read) says first before after s n e k a = stopped_torn says first before after s n k a
-finish_torn (Err Memory) says first before after s n e k a = stopped_torn says first before after s n k a
+finish_torn (Err Read) says first before after s n e k a = stopped_torn says IsCut first before after s n k a
+finish_torn (Err Memory) says first before after s n e k a = stopped_torn says IsAny first before after s n k a
 finish_torn (Err Write) says first before after s n e k a = absurd (cc)
 
 -- The last answers were written -------------------------------------------------------------------
@@ -90,8 +94,8 @@ pub finish_done : (r : Result Replayed ReplayFault) (says : Saying) (first befor
 finish_done (Ok x) says first before after s e k a = answers_end says (Ok x) first before after s k a
 finish_done (Err (Script l f)) says first before after s e k a = answers_end says (Err (Script l f)) first before after s k a
 finish_done (Err (Board f)) says first before after s e k a = answers_end says (Err (Board f)) first before after s k a
-finish_done (Err Read) says first before after s e k a = answers_front says first before after s k a
-finish_done (Err Memory) says first before after s e k a = answers_front says first before after s k a
+finish_done (Err Read) says first before after s e k a = answers_front says IsCut first before after s k a
+finish_done (Err Memory) says first before after s e k a = answers_front says IsAny first before after s k a
 finish_done (Err Write) says first before after s e k a = absurd (cc)
 
 -- A write failed before ---------------------------------------------------------------------------
@@ -128,11 +132,15 @@ appends_none : (a : Option (List ℕ)) → (let none : List ℕ = [] in Appends 
 appends_none None = tt
 appends_none (Some p) = sym (append-nil p)
 
-pub nothing_done : (says : Saying) (first before : Option (List ℕ)) → AnswersFront says first first before before
-nothing_done says first before = (
-  [],
-  [],
-  consumes_none first,
-  subst (λ (x : List ℕ). Appends before before x)
-      (sym (ap (λ (r : Told). r.text) (told_of says [] ∙ ap (told_by says) lines_none))) (appends_none before),
-)
+pub nothing_done : (says : Saying) (first before : Option (List ℕ)) → AnswersFront says IsAny first first before before
+nothing_done says first before = record {
+  whole = [];
+  lines = inl refl;
+  count = 0;
+  sound = inl (refl, refl);
+  part = [];
+  behind = tt;
+  from = consumes_none first;
+  to = subst (λ (x : List ℕ). Appends before before x)
+      (sym (ap (λ (r : Told). r.text) (told_of says [] ∙ ap (told_by says) lines_none))) (appends_none before);
+}

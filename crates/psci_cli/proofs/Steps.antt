@@ -1,5 +1,5 @@
 -- One step of a run, by what was answered.
-use Rattle.std.proofs.Common.{◌≡◌, ℕ, ◌+◌, ◌<◌, ◌≤◌, Bool, true, false, List, [], ◌∷◌, ◌++◌, length, take, drop, refl, ap, sym, ◌∙◌, arith, append-nil, subst, Option, Some, None, Result, Ok, Err, IsErr, IsErrAnd, IfErr, inl, inr}
+use Rattle.std.proofs.Common.{◌≡◌, ℕ, ◌+◌, ◌<◌, ◌≤◌, List, [], ◌∷◌, length, take, refl, ap, sym, ◌∙◌, arith, append-nil, subst, Option, Some, None, Result, Ok, Err, IsErr, IsErrAnd, IfErr, inl, inr}
 use Rattle.std.proofs.lemmas.List.{length-take-le}
 use Rattle.psci_board.specs.Board.{BoardValue}
 use Rattle.psci_cli.specs.declared.grammar.Line.{Line as LineSays}
@@ -14,13 +14,13 @@ use Rattle.psci_cli.specs.Answered.{Answered}
 use Rattle.psci_cli.specs.Block.{ReadAhead}
 use Rattle.psci_cli.specs.Legal.{Record}
 use Rattle.psci_cli.specs.Line.{line_of}
-use Rattle.psci_cli.specs.Progress.{Stand, stand, Ahead, IsLine, NoLine, FaultyLine, FindsLine}
+use Rattle.psci_cli.specs.Progress.{Stand, stand, IsLine, IsCut, NoLine, FaultyLine, FindsLine}
 use Rattle.psci_cli.specs.Script.{Saying}
 use Rattle.psci_cli.specs.Text.{answer_line}
-use Rattle.psci_cli.specs.Run.{Taken, Ended, EndsBy, Runs, Goes, BoardRead, LineSaid, LineTaken, EventTaken}
-use Rattle.psci_cli.proofs.Told.{taken_ahead, taken_line, told_blank, told_event, skipped, taken_within}
+use Rattle.psci_cli.specs.Run.{Taken, Ended, EndsBy, IsAny, Runs, Goes, BoardRead, LineSaid, LineTaken, EventTaken}
+use Rattle.psci_cli.proofs.Told.{taken_ahead, taken_line, told_blank, told_event, skipped}
 use Rattle.psci_cli.proofs.Ends.{ends_faulty, ends_line, stopped, failed}
-use Rattle.psci_cli.proofs.Begins.{Fresh, opened, fresh_ahead, fresh_none, fresh_long, fresh_script, fresh_board, fresh_stopped, fresh_failed}
+use Rattle.psci_cli.proofs.Begins.{Fresh, opened, fresh_ahead, fresh_long, fresh_script, fresh_board, fresh_stopped, fresh_failed}
 
 pub ends_so : {X : Type 0} (r : Result X ReplayFault) (e : ReplayFault) (says : Saying) (first before : Option (List ℕ)) (t : Stand) → IsErr r × IsErrAnd r (λ f. f ≡ e) → EndsBy says e first before t → IfErr r (λ f. EndsBy says f first before t)
 ends_so (Ok x) e says first before t h k = tt
@@ -39,7 +39,7 @@ first_faulty l NoBoard says first before t k e h = absurd h
 pub begins_not : (e : ReplayFault) (says : Saying) (first before : Option (List ℕ)) (t : Stand) → NoLine 1 e (opened first before) t → EndsBy says e first before t
 begins_not (Script l fault) says first before t h = first_faulty l fault says first before t (fresh_ahead first before t h.0) h.1 h.2
 begins_not (Board b) says first before t h = absurd h
-begins_not Read says first before t h = fresh_stopped says first before t (fresh_ahead first before t h.0.ahead)
+begins_not Read says first before t h = fresh_stopped says IsCut first before t (fresh_ahead first before t h.0.ahead) h.1
 begins_not Write says first before t h = fresh_failed says first before t h
 begins_not Memory says first before t h = absurd h
 
@@ -49,13 +49,17 @@ board_not (Script l fault) says first before t x k i h =
 board_not (Board fault) says first before t x k i h = fresh_board says first before t x fault h.0 k i h.1 h.2
 board_not Read says first before t x k i h = absurd h
 board_not Write says first before t x k i h = absurd h
-board_not Memory says first before t x k i h = fresh_stopped says first before t k
+board_not Memory says first before t x k i h = fresh_stopped says IsAny first before t k tt
 
 -- A later line --------------------------------------------------------------------------------
 
 line_short : (e : Extent) (block : ReadAhead) → IsLine e block → length (take e.line block.unread) ≤ 256
 line_short e block (few, feeds, inl w) = omega (arith, length-take-le e.line block.unread, w.1)
 line_short e block (few, feeds, inr w) = omega (arith, length-take-le e.line block.unread, w.1)
+
+line_some : (e : Extent) (block : ReadAhead) → IsLine e block → 0 < length block.unread
+line_some e block (few, feeds, inl w) = omega (arith, w.1)
+line_some e block (few, feeds, inr w) = omega (arith, w.1, w.2)
 
 same_answers : (says : Saying) (b : BoardValue) (past : List Record) (n : ℕ) (first before : Option (List ℕ)) (block : ReadAhead) (left taken : Option (List ℕ)) (old new : Answered) → new ≡ old → Taken says b past n first before (stand block left old taken) → Taken says b past n first before (stand block left new taken)
 same_answers says b past n first before block left taken old new e k =
@@ -70,7 +74,7 @@ line_not (Board fault) says b past n first before block left taken old new e h i
 line_not Read says b past n first before block left taken old new e h i k x a = absurd x
 line_not Write says b past n first before block left taken old new e h i k x a = absurd x
 line_not Memory says b past n first before block left taken old new e h i k x a =
-    stopped says b past n first before (stand block left new taken) (same_answers says b past n first before block left taken old new a k)
+    stopped says IsAny b past n first before (stand block left new taken) (same_answers says b past n first before block left taken old new a k) (λ t. line_some e block i) tt
 
 line_said_goes : (o : Option LineSays) (says : Saying) (stands : BoardValue → List Record → Type 0) (b : BoardValue) (past : List Record) (n : ℕ) (first before : Option (List ℕ)) (block : ReadAhead) (left taken : Option (List ℕ)) (old new : Answered) (e : Extent) → line_of (take e.line block.unread) ≡ o → n < 1000000 → length past ≤ n → IsLine e block → Taken says b past n first before (stand block left old taken) → LineSaid says stands b past o old new → Goes says stands (n + 1) first before (stand (skipped block e) left new taken)
 line_said_goes None says stands b past n first before block left taken old new e o h m i k x = absurd x
@@ -107,7 +111,9 @@ later_faulty l says b past n first before t fault k e h =
 pub goes_not : (f : ReplayFault) (says : Saying) (b : BoardValue) (past : List Record) (n : ℕ) (first before : Option (List ℕ)) (s t : Stand) → Taken says b past n first before s → NoLine (n + 1) f s t → EndsBy says f first before t
 goes_not (Script l fault) says b past n first before s t k h = later_faulty l says b past n first before t fault (taken_ahead says b past n first before s t h.0 k) h.1 h.2
 goes_not (Board fault) says b past n first before s t k h = absurd h
-goes_not Read says b past n first before s t k h = stopped says b past n first before t (taken_ahead says b past n first before s t h.0.ahead k)
+goes_not Read says b past n first before s t k h =
+    stopped says IsCut b past n first before t (taken_ahead says b past n first before s t h.0.ahead k)
+    (λ e. absurd (let g = h.0.going in cc)) h.1
 goes_not Write says b past n first before s t k h = failed says b past n first before s t k h
 goes_not Memory says b past n first before s t k h = absurd h
 

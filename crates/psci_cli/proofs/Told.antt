@@ -1,30 +1,28 @@
 -- Lines that are taken one after another are answered one after another.
-use Rattle.std.proofs.Common.{◌≡◌, ℕ, suc, ◌+◌, ◌<◌, ◌≤◌, Bool, true, false, cond, nat_lt, List, [], ◌∷◌, ◌++◌, length, take, drop, refl, ap, sym, ◌∙◌, arith, append_assoc, append-nil, subst, Option, Some, None, Result, Ok, Err, inl, inr}
-use Rattle.std.proofs.Math.Seq.{take-append-add, take-append_seam, drop-append_seam}
+use Rattle.std.proofs.Common.{◌≡◌, ℕ, ◌+◌, ◌<◌, ◌≤◌, Bool, true, false, cond, nat_lt, List, [], ◌∷◌, ◌++◌, length, take, drop, refl, ap, sym, ◌∙◌, arith, append_assoc, append-nil, subst, Option, Some, Result, Ok, Err, inl, inr}
+use Rattle.std.proofs.Math.Seq.{take-append-add}
 use Rattle.std.proofs.lemmas.List.{take_all, take-append-drop, length-take-le}
 use Rattle.std.proofs.lemmas.Bool.Decides.{nat_tests}
-use Rattle.std.specs.Io.KnownBytes.{Appends, Consumes, Keeps, IsAtEnd}
+use Rattle.std.specs.Io.KnownBytes.{Consumes}
 use Rattle.psci_board.specs.Board.{BoardValue}
 use Rattle.psci_cli.specs.declared.event.Event.{Event}
 use Rattle.psci_cli.specs.declared.grammar.Line.{Line as LineSays}
 use Rattle.psci_cli.specs.declared.grammar.Line.TheVariants.{Blank, Event as Says}
 use Rattle.psci_cli.specs.declared.fault.ScriptFault.{ScriptFault}
-use Rattle.psci_cli.specs.declared.fault.ScriptFault.TheVariants.{NoBoard, Line, Long, TooMany}
-use Rattle.psci_cli.specs.declared.fault.ReplayFault.{ReplayFault}
-use Rattle.psci_cli.specs.declared.fault.ReplayFault.TheVariants.{Script, Board, Read, Write, Memory}
+use Rattle.psci_cli.specs.declared.fault.ScriptFault.TheVariants.{Line, Long, TooMany}
+use Rattle.psci_cli.specs.declared.fault.ReplayFault.TheVariants.{Script}
 use Rattle.psci_cli.specs.declared.lines.Extent.{Extent}
 use Rattle.psci_cli.specs.Answered.{Answered}
 use Rattle.psci_cli.specs.Block.{ReadAhead}
 use Rattle.psci_cli.specs.Legal.{Record}
 use Rattle.psci_cli.specs.Line.{line_of}
-use Rattle.psci_cli.specs.Lines.{lines, has_line_feed}
-use Rattle.psci_cli.specs.Progress.{Stand, stand, Ahead, Torn, Broken, IsLine}
+use Rattle.psci_cli.specs.Lines.{lines, has_line_feed, AreWhole}
+use Rattle.psci_cli.specs.Progress.{Stand, stand, Ahead, IsLine}
 use Rattle.psci_cli.specs.Script.{Saying, Told, behind_line, told, told_lines, told_line, line_said, ok_or, ends}
 use Rattle.psci_cli.specs.Text.{answer_line}
-use Rattle.psci_cli.specs.Run.{Follows, Taken, Ended, Stopped, Failed}
-use Rattle.psci_cli.specs.Progress.{FaultyLine}
+use Rattle.psci_cli.specs.Run.{Follows, Taken}
 use Rattle.psci_cli.proofs.Known.{appends_more, consumes_more}
-use Rattle.psci_cli.proofs.Split.{lines_whole, lines_last, lines_none, lines_long, lines_some, Longer}
+use Rattle.psci_cli.proofs.Split.{lines_whole, lines_last, lines_none}
 
 -- Lines ---------------------------------------------------------------------------------------
 
@@ -85,6 +83,10 @@ follows_ahead s t rest a f = λ e.
     let h = f (a.ended e).0 in
     (h.0, h.1 ∙ ap (λ (x : List ℕ). take h.0 x) (same_front s t a e))
 
+still_some : (s t : Stand) → Ahead s t → s.block.ended ≡ true → 0 < length t.block.unread
+    → 0 < length s.block.unread
+still_some s t a e h = omega (arith, h, ap length (same_front s t a e))
+
 pub taken_ahead : (says : Saying) (b : BoardValue) (past : List Record) (n : ℕ) (first before : Option (List ℕ)) (s t : Stand) → Ahead s t → Taken says b past n first before s → Taken says b past n first before t
 taken_ahead says b past n first before s t a k = record {
   whole = k.whole;
@@ -98,6 +100,7 @@ taken_ahead says b past n first before s t a k = record {
       ∙ ap (λ (x : List ℕ). behind_line x (told_lines says b past n (lines rest)))
       (ap (λ (x : List ℕ). k.written ++ x) a.waits ∙ sym (append_assoc k.written a.written t.answered.waiting));
   events = a.events ∙ k.events;
+  lines = λ f. k.lines (λ e. still_some s t a e (f (a.ended e).0));
 }
 
 -- Taking a line -------------------------------------------------------------------------------
@@ -151,6 +154,22 @@ line_follows e block rest h f = λ t.
           ∙ ap (λ (x : List ℕ). take (length (take e.taken block.unread) + g.0) x) (take-append-drop e.taken block.unread),
     )
 
+no_length : (xs : List ℕ) → xs ≡ [] → 0 < length xs → ⊥
+no_length [] e h = omega (arith, h)
+no_length (x ∷ xs) e h = cc
+
+-- whole lines, once a line was taken that was not the last one of the script without a line feed
+pub whole_line : (whole : List ℕ) (e : Extent) (block : ReadAhead) → IsLine e block
+    → (block.ended ≡ true → 0 < length (drop e.taken block.unread))
+    → AreWhole (whole ++ take e.taken block.unread)
+whole_line whole e block (few, feeds, inl w) f = inr (
+  whole ++ take e.line block.unread,
+  ap (λ (x : List ℕ). whole ++ x) (front_of e.line e.taken block.unread w.0 w.1 w.2)
+      ∙ sym (append_assoc whole (take e.line block.unread) (10 ∷ [])),
+)
+whole_line whole e block (few, feeds, inr w) f = absurd (no_length (drop e.taken block.unread)
+    (drop_all_of e.taken block.unread (w.0 ∙ w.1)) (f w.3))
+
 pub taken_within : (e : Extent) (block : ReadAhead) → IsLine e block → e.taken ≤ length block.unread
 taken_within e block (few, feeds, inl w) = omega (arith, w.0, w.1)
 taken_within e block (few, feeds, inr w) = omega (arith, w.0, w.1)
@@ -172,6 +191,7 @@ taken_line says b past later n first before block left taken old new e t i k lin
       ∙ behind_both (k.written ++ old.waiting) t (told_lines says b later (n + 1) (lines rest))
       ∙ ap (λ (x : List ℕ). behind_line x (told_lines says b later (n + 1) (lines rest))) (append_assoc k.written old.waiting t ∙ ap (λ (x : List ℕ). k.written ++ x) (sym w));
   events = ev;
+  lines = λ f. whole_line k.whole e block i f;
 } where
   behind_both : (x y : List ℕ) (z : Told) → behind_line x (behind_line y z) ≡ behind_line (x ++ y) z
   behind_both x y z = ap (λ (v : List ℕ). let r : Told = record { text = v; end = z.end } in r) (sym (append_assoc x y z.text))

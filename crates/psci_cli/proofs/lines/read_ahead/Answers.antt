@@ -1,7 +1,7 @@
-use Rattle.std.proofs.Common.{ap, refl, ◌≡◌, List, ℕ}
+use Rattle.std.proofs.Common.{ap, refl}
 use Rattle.psci_cli.specs.Answered.{Answered}
 use Rattle.psci_cli.specs.Progress.{stand}
-use Rattle.psci_cli.proofs.Ahead.{written, reads_ahead, tears, tears_write}
+use Rattle.psci_cli.proofs.Ahead.{written, reads_ahead, tears_write}
 use Rattle.psci_cli.proofs.lines.read_ahead.Goals as goal
 
 pub returns-in_err-write_to-clause-ahead : goal.returns-in_err-write_to-clause-ahead

@@ -1,9 +1,9 @@
-use Rattle.std.proofs.Common.{ℕ, List, take, ◌+◌, subst, sym, ap, arith, Some, None, Ok, Err, []}
+use Rattle.std.proofs.Common.{ℕ, List, take, subst, sym, Some, None, Ok, Err, []}
 use Rattle.psci_cli.specs.declared.fault.ReplayFault.{ReplayFault}
 use Rattle.psci_cli.specs.declared.fault.ReplayFault.TheVariants.{Memory}
 use Rattle.psci_cli.specs.Block.{ReadAhead}
 use Rattle.psci_cli.specs.Progress.{Stand, stand, NoLine, FindsLine}
-use Rattle.psci_cli.specs.Run.{EndsBy, BoardRead, Taken}
+use Rattle.psci_cli.specs.Run.{EndsBy, BoardRead, IsAny, Taken}
 use Rattle.psci_cli.proofs.Begins.{open_as, fresh_ahead, fresh_none, fresh_stopped, begun}
 use Rattle.psci_cli.proofs.Steps.{ends_so, begins_not, board_not, finds_as}
 use Rattle.psci_cli.proofs.replay.begin.Goals as goal
@@ -38,7 +38,7 @@ returns-in_err-machine-clause-err g c =
     let x = c.in-Some.extent in
     let f = finds_as c.in_ok-extent.field-0 (Some x) 1 _ t c.in-Some.is (open_as c.args.block.now c.args.answers.now (g.S.Source.left c.args.source.now) (g.K.Sink.taken c.args.sink.now) (λ (s : Stand). FindsLine 1 (Ok c.in_ok-extent.field-0) s t) c.requires.block c.requires.answers (c.in_ok-extent.ensures {u = tt}).found) in
     ends_so c.from_residual-in_err-machine.result Memory g.M.Machine.legal _ _ t c.from_residual-in_err-machine.ensures
-    (fresh_stopped g.M.Machine.legal _ _ t (fresh_ahead _ _ t f.0))
+    (fresh_stopped g.M.Machine.legal IsAny _ _ t (fresh_ahead _ _ t f.0) tt)
 
 pub returns-clause-ok : goal.returns-clause-ok
 returns-clause-ok g c =

@@ -1,7 +1,7 @@
 -- How a run ended is what the replay answers, once the last answers were written too.
-use Rattle.std.proofs.Common.{◌≡◌, subst, sym, Err}
+use Rattle.std.proofs.Common.{subst, sym, Err}
 use Rattle.psci_cli.specs.declared.fault.ReplayFault.{ReplayFault}
-use Rattle.psci_cli.specs.declared.fault.ReplayFault.TheVariants.{Memory, Write}
+use Rattle.psci_cli.specs.declared.fault.ReplayFault.TheVariants.{Memory}
 use Rattle.psci_cli.specs.Progress.{stand}
 use Rattle.psci_cli.specs.Run.{Replays}
 use Rattle.psci_cli.proofs.Finish.{finish_torn, finish_done, finish_failed, replays_so, nothing_done}

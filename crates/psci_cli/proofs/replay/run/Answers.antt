@@ -1,4 +1,4 @@
-use Rattle.std.proofs.Common.{ℕ, List, take, ◌+◌, subst, sym, ap, arith, Some, None, Ok}
+use Rattle.std.proofs.Common.{ℕ, ◌+◌, subst, sym, Some, None, Ok}
 use Rattle.psci_cli.specs.Run.{Ended}
 use Rattle.psci_cli.specs.Progress.{stand}
 use Rattle.psci_cli.proofs.Steps.{goes_not, runs_so, finds_as}

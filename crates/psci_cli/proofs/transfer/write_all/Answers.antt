@@ -1,4 +1,4 @@
-use Rattle.std.proofs.Common.{◌≡◌, ◌+◌, ◌-◌, ◌<◌, ◌≤◌, List, ℕ, length, take, drop, arith, ◌∙◌, length-drop}
+use Rattle.std.proofs.Common.{List, ℕ, arith, ◌∙◌, length-drop}
 use Rattle.std.proofs.lemmas.List.{take_rest}
 use Rattle.psci_cli.proofs.Known.{wrote, sound_write}
 use Rattle.psci_cli.proofs.transfer.write_all.Goals as goal

@@ -1,9 +1,9 @@
-use Rattle.std.proofs.Common.{◌≡◌, ◌<◌, ℕ, ap, sym, ◌∙◌, subst, arith, length, Some, None, List, slice_get, slice_set, ◌∷◌, ◌+◌, ◌-◌, ◌^◌, min}
+use Rattle.std.proofs.Common.{◌≡◌, ℕ, ap, sym, ◌∙◌, subst, arith, length, slice_set, ◌∷◌, ◌+◌, ◌-◌, ◌^◌, min}
 use Rattle.std.proofs.lemmas.Option.{slice_get_within}
 use Rattle.psci_fw.specs.After.{after}
 use Rattle.psci_fw.specs.Answers.{answer}
 use Rattle.psci_fw.specs.Seen.{FirmwareValue, seen}
-use Rattle.psci_fw.specs.declared.reply.FwReply.TheVariants.{Out, Fault}
+use Rattle.psci_fw.specs.declared.reply.FwReply.TheVariants.{Out}
 use Rattle.psci_cli.specs.declared.firmware_machine.FirmwareMachine.{FirmwareMachine}
 use Rattle.psci_cli.specs.declared.said.Said.{Said}
 use Rattle.psci_cli.specs.declared.said.Said.TheVariants.{Ignored}
