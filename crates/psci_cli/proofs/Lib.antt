@@ -3,6 +3,7 @@ pub mod Cutting
 pub mod Finding
 pub mod Known
 pub mod Moved
+pub mod Places
 pub mod ScriptRows
 pub mod Stands
 pub mod Split

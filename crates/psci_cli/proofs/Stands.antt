@@ -31,13 +31,13 @@ record_of event said = record { event = event; said = said }
 
 -- Legal, by its tests --------------------------------------------------------------------------
 
-legal_absent : (b : BoardValue) (past : List Record) (event : Event)
+pub legal_absent : (b : BoardValue) (past : List Record) (event : Event)
     → nat_lt (core_in event) (cores b) ≡ false → legal b past event ≡ Absent
 unfolding legal
 legal_absent b past event off = ap (λ (x : Bool). cond x (cond (happens (place past
     (core_in event)) event) (answered b past event) Ignored) Absent) off
 
-legal_here : (b : BoardValue) (past : List Record) (event : Event) (t : Bool)
+pub legal_here : (b : BoardValue) (past : List Record) (event : Event) (t : Bool)
     → nat_lt (core_in event) (cores b) ≡ true → happens (place past (core_in event)) event ≡ t
     → legal b past event ≡ cond t (answered b past event) Ignored
 unfolding legal
@@ -116,7 +116,7 @@ changed true true p q h = refl
 changed true false p q h = let t : false ≡ true = h refl in absurd (cc)
 changed false on p q h = refl
 
-kept_place : (at : Bool) (p : Place) → p ≡ cond at p p
+pub kept_place : (at : Bool) (p : Place) → p ≡ cond at p p
 kept_place true p = refl
 kept_place false p = refl
 
@@ -134,7 +134,7 @@ message_kept : (n : ℕ) (m : Option Message) → option_map (λ (s : Sent). s.m
 message_kept n None = refl
 message_kept n (Some m) = refl
 
-outcome_kept : (n : ℕ) (o : Outcome) → outcome_in o.act (sent_as n o.message) ≡ o
+pub outcome_kept : (n : ℕ) (o : Outcome) → outcome_in o.act (sent_as n o.message) ≡ o
 outcome_kept n o = ap (λ (m : Option Message). record { act = o.act; message = m })
     (message_kept n o.message)
 

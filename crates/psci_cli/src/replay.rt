@@ -4,9 +4,8 @@ ghost use Rattle.std.specs.Prelude.{◌≡◌, ◌+◌, ◌-◌, ◌^◌, ◌<�
 ghost use Rattle.psci_board.specs.Board.{BoardValue};
 ghost use Rattle.psci_cli.specs.declared.fault.ReplayFault.TheVariants.{Read, Write};
 ghost use Rattle.psci_cli.specs.Device.{GaveUp};
-ghost use Rattle.psci_cli.specs.Legal.{Record};
 ghost use Rattle.psci_cli.specs.Progress.{stand, IsLine};
-ghost use Rattle.psci_cli.specs.Legal.{legal};
+ghost use Rattle.psci_cli.specs.Legal.{legal, AnswersAtPlace, Record};
 ghost use Rattle.psci_cli.specs.Run.{Taken, BoardRead, Begins, Goes, EndsBy, Runs, Replays, LineTaken, EventTaken, IsNoDevice, is_torn};
 
 use crate::answers::Answers;
@@ -15,6 +14,7 @@ use crate::device::{Sink, Source};
 use crate::fault::{ReplayFault, Replayed, ScriptFault};
 use crate::firmware_machine::FirmwareMachine;
 use crate::grammar::{Line, read_line};
+use crate::laws::law_places;
 use crate::lines::{Extent, next_line};
 use crate::machine::Machine;
 use psci_board::{Board, BoardFault, literal};
@@ -200,7 +200,9 @@ pub fn replay<S: Source, K: Sink>(
         → GaveUp (S.failed source.new) (S.interruptions source.new)) }
     ensures write { IfErr result (λ fault. fault ≡ Write
         → GaveUp (K.failed sink.new) (K.interruptions sink.new)) }
+    ensures places { AnswersAtPlace }
 {
+    law_places();
     replay_on::<S, K, FirmwareMachine>(alloc, source, sink)
 }
 
