@@ -194,7 +194,8 @@ no_entry_fault : (there late much : Bool) → there ≡ true → late ≡ false 
 no_entry_fault there late much e f g =
     ap (λ (t : Bool). cond (not t) (Some faults.NoCore)
     (cond late (Some faults.NoLife) (cond (much || false) (Some faults.OldStart) None))) e
-    ∙ ap (λ (t : Bool). cond t (Some faults.NoLife) (cond (much || false) (Some faults.OldStart) None)) f
+    ∙ ap (λ (t : Bool). cond t (Some faults.NoLife)
+    (cond (much || false) (Some faults.OldStart) None)) f
     ∙ ap (λ (t : Bool). cond (t || false) (Some faults.OldStart) None) g
 
 none_below : (n : ℕ) → 0 < n → nat_lt n 1 ≡ false
@@ -279,7 +280,8 @@ place_same t p q e = ap (λ (x : Bool). cond x p q) e
 place_other : (t : Bool) (p q : Place) → t ≡ false → cond t p q ≡ q
 place_other t p q e = ap (λ (x : Bool). cond x p q) e
 
-settled_answered : More → (b : BoardValue) (past : List Record) (event : Event) (n : ℕ) (o : Outcome)
+settled_answered : More → (b : BoardValue) (past : List Record) (event : Event) (n : ℕ)
+    (o : Outcome)
     → Settled b past → 0 ≡ core_in event
     → (place_behind o.act ≡ Running
     → IsUp (after b (core_in event) (call_in event) (Out o) (values_of b (history past))))
@@ -344,6 +346,7 @@ pub not_refused : First → More → (b : BoardValue) (past : List Record) (even
     → happens (place past (core_in event)) event ≡ true → IsAnswered (legal b past event)
 not_refused first more b past event some lives l on h =
     let here : nat_lt (core_in event) (cores b) ≡ true = grind (arith, nat_tests) in
-    let a = at_place first b past event (settled first more b past some lives l) some lives here h in
+    let a = at_place first b past event (settled first more b past some lives l) some lives here
+    h in
     subst IsAnswered (sym (legal_here b past event true here h
     ∙ ap (said_by (sent_count past)) a.1)) tt

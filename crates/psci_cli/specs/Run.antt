@@ -40,7 +40,8 @@ pub record Taken (says : Saying) (b : BoardValue) (past : List Record) (count : 
   pub lines : (s.block.ended ≡ true → 0 < length s.block.unread) → AreWhole whole
 
 -- The script came to an end, or to its first fault.
-pub record Ended (says : Saying) (end : Result Replayed ReplayFault) (first before : Option (List ℕ))
+pub record Ended (says : Saying) (end : Result Replayed ReplayFault)
+    (first before : Option (List ℕ))
     (s : Stand) : Type 0 where
   -- the bytes that were read
   pub read : List ℕ
@@ -81,7 +82,8 @@ pub record Stopped (says : Saying) (Behind : ℕ → List ℕ → Type 0) (first
   pub told : (told says whole).text ≡ written ++ s.answered.waiting
 
 -- A write failed: a front part of the answers was written.
-pub record Failed (says : Saying) (first before : Option (List ℕ)) (left taken : Option (List ℕ)) : Type 0 where
+pub record Failed (says : Saying) (first before : Option (List ℕ))
+    (left taken : Option (List ℕ)) : Type 0 where
   pub read : List ℕ
   pub from : Consumes first left read
   pub ended : Bool
@@ -99,7 +101,8 @@ EndsBy says Read first before s = Stopped says IsCut first before s
 EndsBy says Memory first before s = Stopped says IsAny first before s
 EndsBy says Write first before s = Failed says first before s.left s.taken
 
-abbrev pub Runs : Saying → Result Replayed ReplayFault → Option (List ℕ) → Option (List ℕ) → Stand → Type 0
+abbrev pub Runs : Saying → Result Replayed ReplayFault → Option (List ℕ) → Option (List ℕ) → Stand
+    → Type 0
 Runs says (Ok replayed) first before s = Ended says (Ok replayed) first before s
 Runs says (Err fault) first before s = EndsBy says fault first before s
 

@@ -91,6 +91,7 @@ returns-clause-ok c = λ b past s few.
     × Standing b (record_of event x ∷ past) new.firmware new.places.items new.messages)
     (sym said)
     (answered_stands
-    c.law_values.ensures.more b past event old.firmware new.firmware old.places.items new.places.items
+    c.law_values.ensures.more b past event old.firmware new.firmware old.places.items
+    new.places.items
     old.messages new.messages c.in-Some.place o at.1 (sym
     (c.if-not-allows.ensures {u = tt})) reply values board places count few s)
