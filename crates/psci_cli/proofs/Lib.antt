@@ -1,4 +1,5 @@
 pub mod Ahead
+pub mod BootCore
 pub mod Cutting
 pub mod Finding
 pub mod Known
