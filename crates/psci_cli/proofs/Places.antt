@@ -3,7 +3,7 @@ use Rattle.std.proofs.Common.{◌≡◌, ◌<◌, ◌==◌, ℕ, Bool, true, fal
 use Rattle.std.proofs.lemmas.Bool.{eqb-true}
 use Rattle.std.proofs.lemmas.Bool.Decides.{nat_tests}
 use Rattle.psci_abi.specs.declared.registers.Regs.{Regs}
-use Rattle.psci_board.specs.Board.{BoardValue, cores}
+use Rattle.psci_board.specs.Board.{BoardValue, IsBoard, cores}
 use Rattle.psci_fw.specs.declared.outcome.Act.{Act}
 use Rattle.psci_fw.specs.declared.outcome.Act.TheVariants as acts
 use Rattle.psci_fw.specs.declared.outcome.Outcome.{Outcome}
@@ -189,11 +189,12 @@ settled first more b (r ∷ past) some lives l =
 
 -- a core at its place is answered
 pub not_refused : First → More → (b : BoardValue) (past : List Record) (event : Event)
-    → 0 < b.starts → 0 < b.lives → IsLegalPast b past → core_in event < cores b
+    → IsBoard b → IsLegalPast b past → core_in event < cores b
     → happens (place past (core_in event)) event ≡ true → IsAnswered (legal b past event)
-not_refused first more b past event some lives l on h =
+not_refused first more b past event board l on h =
     let here : nat_lt (core_in event) (cores b) ≡ true = grind (arith, nat_tests) in
-    let a = at_place first b past event (settled first more b past some lives l) some lives here
-    h in
+    let a = at_place first b past event
+    (settled first more b past board.some_starts board.some_lives l)
+    board.some_starts board.some_lives here h in
     subst IsAnswered (sym (legal_here b past event true here h
     ∙ ap (said_by (sent_count past)) a.1)) tt

@@ -1,7 +1,7 @@
 -- What is said of an event, by the events before it and what was said of them. A past has its
 -- newest record first, and every definition looks backwards along it.
 use Rattle.std.specs.Prelude.{◌≡◌, ℕ, ◌+◌, ◌<◌, ⊤, Bool, true, false, ◌==◌, nat_lt, if◌then◌else◌, Option, None, Some, option_map, unwrap_or, List, [], ◌∷◌}
-use Rattle.psci_board.specs.Board.{BoardValue, cores}
+use Rattle.psci_board.specs.Board.{BoardValue, IsBoard, cores}
 use Rattle.psci_fw.specs.declared.start.Start.{Start}
 use Rattle.psci_fw.specs.declared.start.Cause.TheVariants.{Boot}
 use Rattle.psci_fw.specs.declared.message.Message.{Message}
@@ -142,8 +142,8 @@ IsAnswered Ignored = ⊥
 IsAnswered Absent = ⊥
 
 -- A core at its place is never refused: after legal records the firmware answers a running core's
--- call and a started core's entry, on a board with a start and a life.
+-- call and a started core's entry.
 abbrev pub AnswersAtPlace : Type 0
-AnswersAtPlace = (b : BoardValue) (past : List Record) (event : Event)
-    → 0 < b.starts → 0 < b.lives → IsLegalPast b past → core_in event < cores b
+AnswersAtPlace = (b : BoardValue) (past : List Record) (event : Event) → IsBoard b
+    → IsLegalPast b past → core_in event < cores b
     → happens (place past (core_in event)) event ≡ true → IsAnswered (legal b past event)
