@@ -1,8 +1,10 @@
 pub mod Ahead
+pub mod BootCore
 pub mod Cutting
 pub mod Finding
 pub mod Known
 pub mod Moved
+pub mod Places
 pub mod ScriptRows
 pub mod Stands
 pub mod Split

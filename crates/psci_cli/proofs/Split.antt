@@ -1,5 +1,5 @@
 -- The lines of bytes that begin with a line.
-use Rattle.std.proofs.Common.{◌≡◌, ℕ, suc, ◌+◌, ◌<◌, ◌≤◌, Bool, true, false, ◌||◌, ◌==◌, cond, List, [], ◌∷◌, ◌++◌, length, take, drop, refl, ap, sym, ◌∙◌, arith}
+use Rattle.std.proofs.Common.{◌≡◌, ℕ, ◌≤◌, Bool, true, false, ◌||◌, ◌==◌, cond, List, [], ◌∷◌, ◌++◌, length, refl, ap, ◌∙◌, arith}
 use Rattle.psci_cli.specs.Lines.{lines, in_line, has_line_feed}
 
 or_false : (a b : Bool) → (a || b) ≡ false → (a ≡ false) × (b ≡ false)
@@ -19,7 +19,8 @@ unfolding lines
 lines_none = refl
 
 -- a line and its line feed
-pub lines_whole : (l rest : List ℕ) → has_line_feed l ≡ false → lines (l ++ 10 ∷ rest) ≡ l ∷ lines rest
+pub lines_whole : (l rest : List ℕ) → has_line_feed l ≡ false
+    → lines (l ++ 10 ∷ rest) ≡ l ∷ lines rest
 lines_whole [] rest h = lines_feed rest
 lines_whole (b ∷ bs) rest h =
     let f = or_false (b == 10) (has_line_feed bs) h in
@@ -32,7 +33,8 @@ pub record Longer (l : List ℕ) (all : List (List ℕ)) : Type 0 where
   pub is : all ≡ first ∷ others
   pub long : length l ≤ length first
 
-in_line_long : (b : ℕ) (bs : List ℕ) (all : List (List ℕ)) → Longer bs all → Longer (b ∷ bs) (in_line b all)
+in_line_long : (b : ℕ) (bs : List ℕ) (all : List (List ℕ)) → Longer bs all
+    → Longer (b ∷ bs) (in_line b all)
 in_line_long b bs all h = record {
   first = b ∷ h.first;
   others = h.others;
@@ -47,24 +49,29 @@ in_line_any b (l ∷ ls) = record { first = b ∷ l; others = ls; is = refl; lon
 along : (l : List ℕ) (x y : List (List ℕ)) → x ≡ y → Longer l y → Longer l x
 along l x y e h = record { first = h.first; others = h.others; is = e ∙ h.is; long = h.long }
 
-pub lines_long : (b : ℕ) (bs rest : List ℕ) → has_line_feed (b ∷ bs) ≡ false → Longer (b ∷ bs) (lines ((b ∷ bs) ++ rest))
+pub lines_long : (b : ℕ) (bs rest : List ℕ) → has_line_feed (b ∷ bs) ≡ false
+    → Longer (b ∷ bs) (lines ((b ∷ bs) ++ rest))
 lines_long b [] rest h =
     let f = or_false (b == 10) false h in
-    along (b ∷ []) (lines (b ∷ rest)) (in_line b (lines rest)) (lines_more b rest f.0) (in_line_any b (lines rest))
+    along (b ∷ []) (lines (b ∷ rest)) (in_line b (lines rest)) (lines_more b rest f.0)
+    (in_line_any b (lines rest))
 lines_long b (c ∷ bs) rest h =
     let f = or_false (b == 10) (has_line_feed (c ∷ bs)) h in
-    along (b ∷ c ∷ bs) (lines (b ∷ ((c ∷ bs) ++ rest))) (in_line b (lines ((c ∷ bs) ++ rest))) (lines_more b ((c ∷ bs) ++ rest) f.0)
+    along (b ∷ c ∷ bs) (lines (b ∷ ((c ∷ bs) ++ rest))) (in_line b (lines ((c ∷ bs) ++ rest)))
+    (lines_more b ((c ∷ bs) ++ rest) f.0)
     (in_line_long b (c ∷ bs) (lines ((c ∷ bs) ++ rest)) (lines_long c bs rest f.1))
 
 -- the last line, without a line feed
-pub lines_last : (b : ℕ) (bs : List ℕ) → has_line_feed (b ∷ bs) ≡ false → lines (b ∷ bs) ≡ (b ∷ bs) ∷ []
+pub lines_last : (b : ℕ) (bs : List ℕ) → has_line_feed (b ∷ bs) ≡ false
+    → lines (b ∷ bs) ≡ (b ∷ bs) ∷ []
 lines_last b [] h =
     let f = or_false (b == 10) false h in lines_more b [] f.0 ∙ ap (in_line b) lines_none
 lines_last b (c ∷ bs) h =
     let f = or_false (b == 10) (has_line_feed (c ∷ bs)) h in
     lines_more b (c ∷ bs) f.0 ∙ ap (in_line b) (lines_last c bs f.1)
 
-some_by : (b : ℕ) (bs : List ℕ) (t : Bool) → (b == 10) ≡ t → Longer [] (cond t ([] ∷ lines bs) (in_line b (lines bs)))
+some_by : (b : ℕ) (bs : List ℕ) (t : Bool) → (b == 10) ≡ t
+    → Longer [] (cond t ([] ∷ lines bs) (in_line b (lines bs)))
 some_by b bs true e = record { first = []; others = lines bs; is = refl; long = omega arith }
 some_by b bs false e =
     let h = in_line_any b (lines bs) in

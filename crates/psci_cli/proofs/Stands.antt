@@ -1,5 +1,5 @@
 -- A firmware with the places of its cores, after one more event.
-use Rattle.std.proofs.Common.{◌≡◌, ◌<◌, ◌≤◌, ◌==◌, ◌+◌, ◌-◌, ◌^◌, ℕ, zero, suc, Bool, true, false, cond, nat_lt, min, List, [], ◌∷◌, length, Option, Some, None, refl, ap, sym, ◌∙◌, subst, arith}
+use Rattle.std.proofs.Common.{◌≡◌, ◌<◌, ◌≤◌, ◌==◌, ◌+◌, ◌-◌, ◌^◌, ℕ, zero, suc, Bool, true, false, cond, nat_lt, min, List, [], ◌∷◌, length, Option, Some, None, refl, ap, sym, ◌∙◌, arith}
 use Rattle.std.specs.Prelude.{slice_get, slice_set, unwrap_or, option_map}
 use Rattle.std.proofs.lemmas.Bool.{eqb-true, eqb-false, ltb-true, lt-ltb}
 use Rattle.std.proofs.lemmas.Option.{none-some, cond_some, slice_get_within}
@@ -9,7 +9,6 @@ use Rattle.psci_board.specs.declared.node.Core.{Core}
 use Rattle.psci_fw.specs.declared.outcome.Outcome.{Outcome}
 use Rattle.psci_fw.specs.declared.message.Message.{Message}
 use Rattle.psci_fw.specs.declared.fault.FwFault.{FwFault}
-use Rattle.psci_fw.specs.declared.call.FwCall.{FwCall}
 use Rattle.psci_fw.specs.declared.reply.FwReply.{FwReply}
 use Rattle.psci_fw.specs.declared.reply.FwReply.TheVariants.{Out, Fault}
 use Rattle.psci_fw.specs.Entry.{Entry}
@@ -21,24 +20,24 @@ use Rattle.psci_fw.specs.Values.{Values}
 use Rattle.psci_cli.specs.declared.event.Event.{Event}
 use Rattle.psci_cli.specs.declared.said.Sent.{Sent}
 use Rattle.psci_cli.specs.declared.said.Said.{Said}
-use Rattle.psci_cli.specs.declared.said.Said.TheVariants.{Firmware, Ignored, Absent}
+use Rattle.psci_cli.specs.declared.said.Said.TheVariants.{Ignored, Absent}
 use Rattle.psci_cli.specs.declared.firmware_machine.Place.{Place}
 use Rattle.psci_cli.specs.Line.{core_in}
-use Rattle.psci_cli.specs.Legal.{Record, history, sent_count, count_of, sent_in, place, place_in, place_behind, happens, call_in, outcome_in, sent_as, said_by, answered, legal}
-use Rattle.psci_cli.specs.Standing.{Standing, first_of, located}
+use Rattle.psci_cli.specs.Legal.{Record, history, sent_count, count_of, sent_in, place, place_behind, happens, call_in, outcome_in, sent_as, said_by, answered, legal}
+use Rattle.psci_cli.specs.Standing.{Standing, located}
 
 abbrev pub record_of : Event → Said → Record
 record_of event said = record { event = event; said = said }
 
 -- Legal, by its tests --------------------------------------------------------------------------
 
-legal_absent : (b : BoardValue) (past : List Record) (event : Event)
+pub legal_absent : (b : BoardValue) (past : List Record) (event : Event)
     → nat_lt (core_in event) (cores b) ≡ false → legal b past event ≡ Absent
 unfolding legal
 legal_absent b past event off = ap (λ (x : Bool). cond x (cond (happens (place past
     (core_in event)) event) (answered b past event) Ignored) Absent) off
 
-legal_here : (b : BoardValue) (past : List Record) (event : Event) (t : Bool)
+pub legal_here : (b : BoardValue) (past : List Record) (event : Event) (t : Bool)
     → nat_lt (core_in event) (cores b) ≡ true → happens (place past (core_in event)) event ≡ t
     → legal b past event ≡ cond t (answered b past event) Ignored
 unfolding legal
@@ -117,7 +116,7 @@ changed true true p q h = refl
 changed true false p q h = let t : false ≡ true = h refl in absurd (cc)
 changed false on p q h = refl
 
-kept_place : (at : Bool) (p : Place) → p ≡ cond at p p
+pub kept_place : (at : Bool) (p : Place) → p ≡ cond at p p
 kept_place true p = refl
 kept_place false p = refl
 
@@ -135,7 +134,7 @@ message_kept : (n : ℕ) (m : Option Message) → option_map (λ (s : Sent). s.m
 message_kept n None = refl
 message_kept n (Some m) = refl
 
-outcome_kept : (n : ℕ) (o : Outcome) → outcome_in o.act (sent_as n o.message) ≡ o
+pub outcome_kept : (n : ℕ) (o : Outcome) → outcome_in o.act (sent_as n o.message) ≡ o
 outcome_kept n o = ap (λ (m : Option Message). record { act = o.act; message = m })
     (message_kept n o.message)
 

@@ -1,7 +1,7 @@
 -- What is said of an event, by the events before it and what was said of them. A past has its
 -- newest record first, and every definition looks backwards along it.
-use Rattle.std.specs.Prelude.{ℕ, ◌+◌, Bool, true, false, ◌==◌, nat_lt, if◌then◌else◌, Option, None, Some, option_map, unwrap_or, List, [], ◌∷◌}
-use Rattle.psci_board.specs.Board.{BoardValue, cores}
+use Rattle.std.specs.Prelude.{◌≡◌, ℕ, ◌+◌, ◌<◌, ⊤, Bool, true, false, ◌==◌, nat_lt, if◌then◌else◌, Option, None, Some, option_map, unwrap_or, List, [], ◌∷◌}
+use Rattle.psci_board.specs.Board.{BoardValue, IsBoard, cores}
 use Rattle.psci_fw.specs.declared.start.Start.{Start}
 use Rattle.psci_fw.specs.declared.start.Cause.TheVariants.{Boot}
 use Rattle.psci_fw.specs.declared.message.Message.{Message}
@@ -110,7 +110,7 @@ happens Stopped event = false
 abbrev pub sent_as : ℕ → Option Message → Option Sent
 sent_as index message = option_map (λ m. record { index = index; message = m }) message
 
--- the outcome, as it is said. A core at its place is never refused.
+-- the outcome, as it is said. A core at its place is never refused: see AnswersAtPlace below.
 abbrev pub said_by : ℕ → FwReply → Said
 said_by index (Out outcome) = Firmware outcome.act (sent_as index outcome.message)
 said_by index (Fault fault) = Ignored
@@ -127,3 +127,23 @@ legal b past event =
     if nat_lt (core_in event) (cores b)
     then (if happens (place past (core_in event)) event then answered b past event else Ignored)
     else Absent
+
+-- Legal records --------------------------------------------------------------------------------
+
+-- of each event that is said which is legal after the records before it
+abbrev pub IsLegalPast : BoardValue → List Record → Type 0
+IsLegalPast b [] = ⊤
+IsLegalPast b (r ∷ past) = (r.said ≡ legal b past r.event) × IsLegalPast b past
+
+-- the firmware answered
+abbrev pub IsAnswered : Said → Type 0
+IsAnswered (Firmware act sent) = ⊤
+IsAnswered Ignored = ⊥
+IsAnswered Absent = ⊥
+
+-- A core at its place is never refused: after legal records the firmware answers a running core's
+-- call and a started core's entry.
+abbrev pub AnswersAtPlace : Type 0
+AnswersAtPlace = (b : BoardValue) (past : List Record) (event : Event) → IsBoard b
+    → IsLegalPast b past → core_in event < cores b
+    → happens (place past (core_in event)) event ≡ true → IsAnswered (legal b past event)

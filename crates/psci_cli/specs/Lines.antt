@@ -1,5 +1,5 @@
 -- The lines of some bytes, and where the first one ends.
-use Rattle.std.specs.Prelude.{◌≡◌, ℕ, ◌+◌, ◌<◌, ◌≤◌, Bool, false, List, [], ◌∷◌, ◌++◌, length, take, drop, ◌==◌, if◌then◌else◌}
+use Rattle.std.specs.Prelude.{◌≡◌, ℕ, ◌+◌, ◌<◌, ◌≤◌, ◌⊎◌, Bool, false, List, [], ◌∷◌, ◌++◌, length, take, drop, ◌==◌, if◌then◌else◌}
 use Rattle.std.specs.List.{list_any}
 use Rattle.psci_cli.specs.declared.lines.Front.{Front}
 use Rattle.psci_cli.specs.declared.lines.Front.TheVariants.{Whole, Part, Long}
@@ -16,6 +16,10 @@ lines (b ∷ bs) = if b == 10 then [] ∷ lines bs else in_line b (lines bs)
 
 abbrev pub has_line_feed : List ℕ → Bool
 has_line_feed bytes = list_any (λ b. b == 10) bytes
+
+-- nothing, or whole lines: the last byte is a line feed
+abbrev pub AreWhole : List ℕ → Type 0
+AreWhole bytes = (bytes ≡ []) ⊎ ((front : List ℕ) × (bytes ≡ front ++ 10 ∷ []))
 
 -- where the first line feed is, among the first 257 bytes
 abbrev pub Cuts : Front → List ℕ → Type 0

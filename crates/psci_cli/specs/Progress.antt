@@ -81,9 +81,14 @@ FaultyLine n Long t =
 FaultyLine n Line t = ⊥
 FaultyLine n NoBoard t = ⊥
 
+-- the front of the line of number n, which is not at fault yet
+abbrev pub IsCut : ℕ → List ℕ → Type 0
+IsCut n part =
+    (has_line_feed part ≡ false) × (length part ≤ 256) × (0 < length part → n ≤ 1000000)
+
 abbrev pub NoLine : ℕ → ReplayFault → Stand → Stand → Type 0
 NoLine n (Script line fault) s t = Ahead s t × (line ≡ n) × FaultyLine n fault t
-NoLine n Read s t = Broken s t × (has_line_feed t.block.unread ≡ false)
+NoLine n Read s t = Broken s t × IsCut n t.block.unread
 NoLine n Write s t = Torn s t
 NoLine n Memory s t = ⊥
 NoLine n (Board fault) s t = ⊥

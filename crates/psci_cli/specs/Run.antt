@@ -1,5 +1,5 @@
 -- Where a run of a script stands, and what it leaves when it ends.
-use Rattle.std.specs.Prelude.{◌≡◌, ℕ, Bool, true, false, List, [], ◌∷◌, ◌++◌, ◌+◌, length, take, ◌≤◌, Option, None, Some, IfSome, Result, Ok, Err}
+use Rattle.std.specs.Prelude.{◌≡◌, ℕ, Bool, true, false, List, [], ◌∷◌, ◌++◌, ◌+◌, length, take, ◌<◌, ◌≤◌, ◌⊎◌, Option, None, Some, IfSome, ⊤, Result, Ok, Err}
 use Rattle.std.specs.Io.KnownBytes.{Appends, Consumes, IsAtEnd}
 use Rattle.psci_board.specs.Board.{BoardValue}
 use Rattle.psci_board.specs.Verdict.{board_of}
@@ -14,9 +14,9 @@ use Rattle.psci_cli.specs.Block.{ReadAhead}
 use Rattle.psci_cli.specs.Line.{line_of}
 use Rattle.psci_cli.specs.Text.{answer_line}
 use Rattle.psci_cli.specs.Legal.{Record}
-use Rattle.psci_cli.specs.Lines.{lines, has_line_feed}
-use Rattle.psci_cli.specs.Progress.{Stand}
-use Rattle.psci_cli.specs.Script.{Saying, Told, behind_line, told, told_lines, board_line}
+use Rattle.psci_cli.specs.Lines.{lines, AreWhole}
+use Rattle.psci_cli.specs.Progress.{Stand, IsCut}
+use Rattle.psci_cli.specs.Script.{Saying, behind_line, told, told_lines, board_line}
 
 -- what may follow the lines that were taken: anything, but behind the end only what was read
 abbrev pub Follows : ReadAhead → List ℕ → Type 0
@@ -36,9 +36,12 @@ pub record Taken (says : Saying) (b : BoardValue) (past : List Record) (count : 
   pub answers : (rest : List ℕ) → Follows s.block rest → told says (whole ++ rest)
       ≡ behind_line (written ++ s.answered.waiting) (told_lines says b past count (lines rest))
   pub events : s.answered.events ≡ length past
+  -- only the last line of a script may have no line feed
+  pub lines : (s.block.ended ≡ true → 0 < length s.block.unread) → AreWhole whole
 
 -- The script came to an end, or to its first fault.
-pub record Ended (says : Saying) (end : Result Replayed ReplayFault) (first before : Option (List ℕ))
+pub record Ended (says : Saying) (end : Result Replayed ReplayFault)
+    (first before : Option (List ℕ))
     (s : Stand) : Type 0 where
   -- the bytes that were read
   pub read : List ℕ
@@ -49,10 +52,26 @@ pub record Ended (says : Saying) (end : Result Replayed ReplayFault) (first befo
   pub told : (rest : List ℕ) → (s.block.ended ≡ true → rest ≡ [])
       → told says (read ++ rest) ≡ record { text = written ++ s.answered.waiting; end = end }
 
--- A device failed or memory ran out behind whole lines, which are answered.
-pub record Stopped (says : Saying) (first before : Option (List ℕ)) (s : Stand) : Type 0 where
+-- there are so many lines, and none is at fault
+abbrev pub AreSound : Saying → ℕ → List ℕ → Type 0
+AreSound says count bytes =
+    ((count ≡ 0) × (bytes ≡ []))
+    ⊎ ((events : ℕ) × ((told says bytes).end ≡ Ok (record { lines = count; events = events })))
+
+-- whatever was read behind the lines before that of number n
+abbrev pub IsAny : ℕ → List ℕ → Type 0
+IsAny n part = ⊤
+
+-- A read failed or memory ran out behind whole lines, which are answered.
+pub record Stopped (says : Saying) (Behind : ℕ → List ℕ → Type 0) (first before : Option (List ℕ))
+    (s : Stand) : Type 0 where
   pub whole : List ℕ
+  pub lines : AreWhole whole
+  pub count : ℕ
+  pub sound : AreSound says count whole
+  -- what was read behind them
   pub part : List ℕ
+  pub behind : Behind (count + 1) part
   pub from : Consumes first s.left (whole ++ part)
   pub at_end : s.block.ended ≡ true → IsAtEnd s.left
   pub written : List ℕ
@@ -63,7 +82,8 @@ pub record Stopped (says : Saying) (first before : Option (List ℕ)) (s : Stand
   pub told : (told says whole).text ≡ written ++ s.answered.waiting
 
 -- A write failed: a front part of the answers was written.
-pub record Failed (says : Saying) (first before : Option (List ℕ)) (left taken : Option (List ℕ)) : Type 0 where
+pub record Failed (says : Saying) (first before : Option (List ℕ))
+    (left taken : Option (List ℕ)) : Type 0 where
   pub read : List ℕ
   pub from : Consumes first left read
   pub ended : Bool
@@ -77,11 +97,12 @@ pub record Failed (says : Saying) (first before : Option (List ℕ)) (left taken
 abbrev pub EndsBy : Saying → ReplayFault → Option (List ℕ) → Option (List ℕ) → Stand → Type 0
 EndsBy says (Script line fault) first before s = Ended says (Err (Script line fault)) first before s
 EndsBy says (Board fault) first before s = Ended says (Err (Board fault)) first before s
-EndsBy says Read first before s = Stopped says first before s
-EndsBy says Memory first before s = Stopped says first before s
+EndsBy says Read first before s = Stopped says IsCut first before s
+EndsBy says Memory first before s = Stopped says IsAny first before s
 EndsBy says Write first before s = Failed says first before s.left s.taken
 
-abbrev pub Runs : Saying → Result Replayed ReplayFault → Option (List ℕ) → Option (List ℕ) → Stand → Type 0
+abbrev pub Runs : Saying → Result Replayed ReplayFault → Option (List ℕ) → Option (List ℕ) → Stand
+    → Type 0
 Runs says (Ok replayed) first before s = Ended says (Ok replayed) first before s
 Runs says (Err fault) first before s = EndsBy says fault first before s
 
@@ -112,12 +133,18 @@ abbrev pub Answers : Saying → Result Replayed ReplayFault → Option (List ℕ
 Answers says end first before after = IfSome first (λ bytes.
     ((told says bytes).end ≡ end) × Appends before after (told says bytes).text)
 
--- whole lines were read, and a part of the next one or more, and the whole lines are answered
-abbrev pub AnswersFront : Saying → Option (List ℕ) → Option (List ℕ) → Option (List ℕ)
-    → Option (List ℕ) → Type 0
-AnswersFront says first left before after =
-    (whole : List ℕ) × (part : List ℕ) × Consumes first left (whole ++ part)
-    × Appends before after (told says whole).text
+-- Whole lines were read, none of them at fault, and exactly these are answered.
+pub record AnswersFront (says : Saying) (Behind : ℕ → List ℕ → Type 0)
+    (first left before after : Option (List ℕ)) : Type 0 where
+  pub whole : List ℕ
+  pub lines : AreWhole whole
+  pub count : ℕ
+  pub sound : AreSound says count whole
+  -- what was read behind them
+  pub part : List ℕ
+  pub behind : Behind (count + 1) part
+  pub from : Consumes first left (whole ++ part)
+  pub to : Appends before after (told says whole).text
 
 -- a front part of the answer text was written
 abbrev pub AnswersTorn : Saying → Option (List ℕ) → Option (List ℕ) → Option (List ℕ) → Type 0
@@ -132,8 +159,10 @@ Replays says (Err (Script line fault)) first left before after =
     Answers says (Err (Script line fault)) first before after
 Replays says (Err (Board fault)) first left before after =
     Answers says (Err (Board fault)) first before after
-Replays says (Err Read) first left before after = AnswersFront says first left before after
-Replays says (Err Memory) first left before after = AnswersFront says first left before after
+Replays says (Err Read) first left before after =
+    AnswersFront says IsCut first left before after
+Replays says (Err Memory) first left before after =
+    AnswersFront says IsAny first left before after
 Replays says (Err Write) first left before after = AnswersTorn says first before after
 
 -- the board of a first line, or what is wrong with it

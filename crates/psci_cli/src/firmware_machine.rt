@@ -127,8 +127,6 @@ impl Machine for FirmwareMachine {
 
     ghost legal = { legal_said };
 
-    ghost sent = { λ m. m.messages };
-
     ghost stands = { λ m b past. Standing b past m.firmware m.places.items m.messages };
 
     fn new(alloc: Global, board: Board) -> Result<FirmwareMachine, Memory> {

@@ -1,6 +1,6 @@
 //! What scripts are run on.
 
-ghost use Rattle.std.specs.Prelude.{◌≡◌, ℕ, ◌^◌, ◌+◌, ◌-◌, ◌<◌, ◌≤◌, List, [], ◌∷◌, length, IfOk, OnOk, OnErr};
+ghost use Rattle.std.specs.Prelude.{◌≡◌, ◌^◌, ◌-◌, ◌<◌, List, [], ◌∷◌, length, IfOk, OnErr};
 ghost use Rattle.psci_board.specs.Board.{BoardValue};
 ghost use Rattle.psci_cli.specs.Legal.{Record};
 
@@ -20,19 +20,14 @@ pub trait Machine: Drop {
     /// The machine of this board stands where these records have left it.
     ghost stands: { Self → BoardValue → List Record → Type 0 };
 
-    /// How many messages were sent.
-    ghost sent: { Self → ℕ };
-
     /// The machine of this board, before any event.
     fn new(alloc: Global, board: Board) -> Result<Self, Memory>
-        ensures sent { IfOk result (λ machine. sent machine ≡ 0) }
         ensures stands { IfOk result (λ machine. stands machine board []) };
 
     /// Makes the event happen, and says what came of it; or changes nothing.
     ///
     /// Messages are numbered from 0 on, as far as 2^64-1 events go.
     fn step(&mut self, event: Event) -> Result<Said, Memory>
-        ensures sent { OnOk result (sent self.new ≤ sent self.old + 1) }
         ensures ok { IfOk result (λ said. (b : BoardValue) (past : List Record)
             → stands self.old b past → length past < 2 ^ 64 - 1 → (said ≡ legal b past event)
             × stands self.new b (record { event = event; said = said } ∷ past)) }

@@ -10,6 +10,7 @@ mod exit;
 mod fault;
 mod firmware_machine;
 mod grammar;
+mod laws;
 mod lines;
 mod machine;
 mod replay;

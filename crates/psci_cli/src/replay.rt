@@ -4,9 +4,8 @@ ghost use Rattle.std.specs.Prelude.{◌≡◌, ◌+◌, ◌-◌, ◌^◌, ◌<�
 ghost use Rattle.psci_board.specs.Board.{BoardValue};
 ghost use Rattle.psci_cli.specs.declared.fault.ReplayFault.TheVariants.{Read, Write};
 ghost use Rattle.psci_cli.specs.Device.{GaveUp};
-ghost use Rattle.psci_cli.specs.Legal.{Record};
 ghost use Rattle.psci_cli.specs.Progress.{stand, IsLine};
-ghost use Rattle.psci_cli.specs.Legal.{legal};
+ghost use Rattle.psci_cli.specs.Legal.{legal, AnswersAtPlace, Record};
 ghost use Rattle.psci_cli.specs.Run.{Taken, BoardRead, Begins, Goes, EndsBy, Runs, Replays, LineTaken, EventTaken, IsNoDevice, is_torn};
 
 use crate::answers::Answers;
@@ -15,6 +14,7 @@ use crate::device::{Sink, Source};
 use crate::fault::{ReplayFault, Replayed, ScriptFault};
 use crate::firmware_machine::FirmwareMachine;
 use crate::grammar::{Line, read_line};
+use crate::laws::law_places;
 use crate::lines::{Extent, next_line};
 use crate::machine::Machine;
 use psci_board::{Board, BoardFault, literal};
@@ -149,9 +149,11 @@ fn run<S: Source, K: Sink, M: Machine>(
 /// Answers the script that comes from the source into the sink, on a machine.
 ///
 /// Where it ends well, or at a script or board fault, exactly the answer text of the script was
-/// written. At a read or memory fault it is the answer text of a front part of what was read, and
-/// at a write fault a front part of the text. A read or write fault is answered only where that
-/// device failed, took none of some bytes, or was interrupted 1,000 times in a row.
+/// written. At a read fault it is the answer text of all whole lines that were read, behind which
+/// stands at most the front of a line; at a memory fault that of the whole lines before the one
+/// at which memory ran out; and none of these lines is at fault. At a write fault it is a front
+/// part of the answer text. A read or write fault is answered only where that device failed, took
+/// none of some bytes, or was interrupted 1,000 times in a row.
 fn replay_on<S: Source, K: Sink, M: Machine>(
     alloc: Global,
     source: &mut S,
@@ -178,6 +180,13 @@ fn replay_on<S: Source, K: Sink, M: Machine>(
 
 /// Answers the script that comes from the source into the sink, on the firmware and a place per
 /// core.
+///
+/// Where it ends well, or at a script or board fault, exactly the answer text of the script was
+/// written. At a read fault it is the answer text of all whole lines that were read, behind which
+/// stands at most the front of a line; at a memory fault that of the whole lines before the one
+/// at which memory ran out; and none of these lines is at fault. At a write fault it is a front
+/// part of the answer text. A read or write fault is answered only where that device failed, took
+/// none of some bytes, or was interrupted 1,000 times in a row.
 pub fn replay<S: Source, K: Sink>(
     alloc: Global,
     source: &mut S,
@@ -191,7 +200,9 @@ pub fn replay<S: Source, K: Sink>(
         → GaveUp (S.failed source.new) (S.interruptions source.new)) }
     ensures write { IfErr result (λ fault. fault ≡ Write
         → GaveUp (K.failed sink.new) (K.interruptions sink.new)) }
+    ensures places { AnswersAtPlace }
 {
+    law_places();
     replay_on::<S, K, FirmwareMachine>(alloc, source, sink)
 }
 

@@ -37,7 +37,8 @@ impl<T> Std<T> {
 
     /// Notes an interruption or a failure.
     fn stop(&mut self, error: &Error) -> Io
-        ensures { Stops result self.old.failed self.new.failed self.old.interruptions self.new.interruptions × (self.new.inner ≡ self.old.inner) }
+        ensures { Stops result self.old.failed self.new.failed self.old.interruptions
+            self.new.interruptions × (self.new.inner ≡ self.old.inner) }
     {
         if error.kind() == ErrorKind::Interrupted {
             self.interruptions = self.interruptions.saturating_add(1).min(1000);

@@ -1,4 +1,4 @@
-use Rattle.std.proofs.Common.{◌≡◌, ◌+◌, ◌-◌, ◌*◌, ◌≤◌, ◌<◌, min, length, take}
+use Rattle.std.proofs.Common.{◌≡◌, ◌+◌, ◌-◌, ◌*◌, ◌≤◌, ◌<◌, length, take}
 use Rattle.std.specs.Io.KnownBytes.{Appends}
 use Rattle.psci_cli.proofs.transfer.write_all.Given as goal
 

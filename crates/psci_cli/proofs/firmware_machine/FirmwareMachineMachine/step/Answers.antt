@@ -1,9 +1,9 @@
-use Rattle.std.proofs.Common.{◌≡◌, ◌<◌, ℕ, ap, sym, ◌∙◌, subst, arith, length, Some, None, List, slice_get, slice_set, ◌∷◌, ◌+◌, ◌-◌, ◌^◌, min}
+use Rattle.std.proofs.Common.{◌≡◌, ℕ, ap, sym, ◌∙◌, subst, arith, length, slice_set, ◌∷◌, ◌+◌, ◌-◌, ◌^◌, min}
 use Rattle.std.proofs.lemmas.Option.{slice_get_within}
 use Rattle.psci_fw.specs.After.{after}
 use Rattle.psci_fw.specs.Answers.{answer}
 use Rattle.psci_fw.specs.Seen.{FirmwareValue, seen}
-use Rattle.psci_fw.specs.declared.reply.FwReply.TheVariants.{Out, Fault}
+use Rattle.psci_fw.specs.declared.reply.FwReply.TheVariants.{Out}
 use Rattle.psci_cli.specs.declared.firmware_machine.FirmwareMachine.{FirmwareMachine}
 use Rattle.psci_cli.specs.declared.said.Said.{Said}
 use Rattle.psci_cli.specs.declared.said.Said.TheVariants.{Ignored}
@@ -91,6 +91,7 @@ returns-clause-ok c = λ b past s few.
     × Standing b (record_of event x ∷ past) new.firmware new.places.items new.messages)
     (sym said)
     (answered_stands
-    c.law_values.ensures.more b past event old.firmware new.firmware old.places.items new.places.items
+    c.law_values.ensures.more b past event old.firmware new.firmware old.places.items
+    new.places.items
     old.messages new.messages c.in-Some.place o at.1 (sym
     (c.if-not-allows.ensures {u = tt})) reply values board places count few s)
