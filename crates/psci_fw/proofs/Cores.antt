@@ -1,6 +1,6 @@
 -- Every board has a core, and a core that a word names is on the board.
-use Rattle.std.proofs.Common.{◌≡◌, ℕ, zero, suc, ◌+◌, ◌<◌, Bool, true, false, List, [], ◌∷◌}
-use Rattle.std.proofs.Common.{length, sum, arith, refl, Option, Some, None}
+use Rattle.std.proofs.Common.{◌≡◌, ℕ, zero, suc, ◌+◌, ◌<◌, Bool, true, false, List}
+use Rattle.std.proofs.Common.{[], ◌∷◌, length, sum, arith, refl, Option, Some, None}
 use Rattle.std.specs.Prelude.{option_map, find, ◌==◌}
 use Rattle.std.specs.List.{AllPass, range_with_len}
 use Rattle.std.proofs.lemmas.Bool.{and_parts, ltb-true}

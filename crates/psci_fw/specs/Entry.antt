@@ -67,7 +67,7 @@ goes_on acts.Stop = false
 goes_on (acts.Enter address context) = true
 goes_on acts.Resume = true
 
--- whether an entry was no stop: its outcome is Enter or Resume
+-- whether an entry was no stop: the outcome of a legal one is then Enter or Resume
 abbrev pub came_on : FwCall → FwReply → Bool
 came_on (Enter s) (Out outcome) = goes_on outcome.act
 came_on (Enter s) (Fault fault) = false

@@ -44,8 +44,9 @@ passes_next test top a false xs e h p k l = p k l
 passes : (test : ℕ → Bool) (top a n : ℕ) → a + n ≤ top
     → Passes test top (filter test (range_with_len a n))
 passes test top a zero h = λ k l. absurd (omega arith)
-passes test top a (suc n) h = passes_next test top a (test a) (filter test
-    (range_with_len (a + 1) n)) refl (omega arith) (passes test top (a + 1) n (omega arith))
+passes test top a (suc n) h =
+    passes_next test top a (test a) (filter test (range_with_len (a + 1) n)) refl (omega arith)
+    (passes test top (a + 1) n (omega arith))
 
 -- Minima and counts of a list ----------------------------------------------------------------
 
@@ -120,13 +121,15 @@ all_from p (x ∷ xs) each =
 
 below_kept : (levels : List (List ℕ)) (n : Node) (c : ℕ) → c < size_below levels
     → place_above levels n.level c ≡ n.place → Kept (below levels n) c
-below_kept levels n c h e = kept (λ x. place_above levels n.level x
-    == n.place) 0 (size_below levels) c (omega arith) (omega arith) (eq-eqb _ _ e)
+below_kept levels n c h e =
+    kept (λ x. place_above levels n.level x == n.place) 0 (size_below levels) c (omega arith)
+    (omega arith) (eq-eqb _ _ e)
 
 below_passes : (levels : List (List ℕ)) (n : Node)
     → Passes (λ x. place_above levels n.level x == n.place) (size_below levels) (below levels n)
-below_passes levels n = passes (λ x. place_above levels n.level x
-    == n.place) (size_below levels) 0 (size_below levels) (omega arith)
+below_passes levels n =
+    passes (λ x. place_above levels n.level x == n.place) (size_below levels) 0
+    (size_below levels) (omega arith)
 
 pub low_each : (t : TreeValue) (n : Node) (level c : ℕ) → c < size_below t.levels
     → place_above t.levels n.level c ≡ n.place → low t n level ≤ ask_at t c level

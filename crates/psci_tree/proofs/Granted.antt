@@ -76,8 +76,9 @@ zero_top (g ∷ gs) (suc l) i h = ap (λ xs. g ∷ xs) (zero_top gs l i (omega a
 
 -- one more level, as a loop upwards takes it
 pub zero_more : (levels gs : List (List ℕ)) (l i : ℕ) → l < length gs
-    → take (suc l) (set gs l (set (get_or gs l []) i 0)) ++ zero_up (drop (suc l)
-    levels) (place_above (drop l levels) 1 i) (drop (suc l) (set gs l (set (get_or gs l []) i 0)))
+    → take (suc l) (set gs l (set (get_or gs l []) i 0))
+    ++ zero_up (drop (suc l) levels) (place_above (drop l levels) 1 i)
+    (drop (suc l) (set gs l (set (get_or gs l []) i 0)))
     ≡ take l gs ++ zero_up (drop l levels) i (drop l gs)
 zero_more levels [] l i h = absurd (omega arith)
 zero_more [] (g ∷ gs) zero i h = refl

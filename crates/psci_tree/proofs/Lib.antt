@@ -8,3 +8,4 @@ pub mod Recounted
 pub mod Rows
 pub mod Shapes
 pub mod Slices
+pub mod Upward

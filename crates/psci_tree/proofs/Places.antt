@@ -1,8 +1,7 @@
 -- Places counted through groups: the cores below a domain stand side by side.
 use Rattle.std.proofs.Common.{◌≡◌, ℕ, zero, suc, ◌+◌, ◌-◌, ◌<◌, ◌≤◌, Bool, true, false, ltb}
 use Rattle.std.proofs.Common.{List, [], ◌∷◌, ◌++◌, length, take, drop, get_or, map, sum, filter}
-use Rattle.std.proofs.Common.{refl, ap, ◌∙◌, ◌==◌, arith}
-use Rattle.std.proofs.Common.{add-one, add-zero, zero-add, inl, inr}
+use Rattle.std.proofs.Common.{refl, ap, ◌∙◌, ◌==◌, arith, add-one, add-zero, zero-add, inl, inr}
 use Rattle.std.specs.List.{range_with_len}
 use Rattle.std.proofs.lemmas.Bool.Decides.{nat_tests}
 use Rattle.std.proofs.lemmas.Bool.{cases_lt, eq-eqb, ne_eqb}

@@ -6,22 +6,21 @@ use Rattle.std.specs.List.{flat_map, AllPass, range_with_len}
 use Rattle.std.proofs.lemmas.Bool.Decides.{nat_tests}
 use Rattle.std.proofs.lemmas.List.{length-take-le, map-append, map-id, take-map, take-append-drop}
 use Rattle.std.proofs.lemmas.List.{drop_at, take_at, length-map, get_or-map, drop_all}
-use Rattle.std.proofs.lemmas.List.Concat.{get_or-flat_map, flat_map-append}
-use Rattle.std.proofs.lemmas.List.Concat.{flat_map_single, length-flat_map}
+use Rattle.std.proofs.lemmas.List.Concat.{flat_map-append, flat_map_single, length-flat_map}
 use Rattle.std.proofs.lemmas.List.Sums.{sum-map, get_or-le-sum_by}
 use Rattle.std.proofs.lemmas.List.Sums.{length-filter, count_by-le-length}
 use Rattle.std.proofs.lemmas.List.FromFn.{length-range_with_len}
 use Rattle.std.proofs.lemmas.List.Elements.{All-take}
 use Rattle.psci_board.specs.declared.node.Node.{Node}
-use Rattle.psci_board.specs.Board.{IsTree, size_below, is_width, group_of, place_in, place_above}
-use Rattle.psci_tree.specs.Recount.{TreeValue, core_at, never_started, below}
-use Rattle.psci_tree.specs.Recount.{HasDomain, IsDomainTree}
+use Rattle.psci_board.specs.Board.{IsTree, size_below, is_width, place_above}
+use Rattle.psci_tree.specs.Recount.{TreeValue, core_at, never_started}
+use Rattle.psci_tree.specs.Recount.{below, HasDomain, IsDomainTree}
 use Rattle.psci_tree.specs.Domains.{cores, cores_in, children, fan}
 use Rattle.psci_tree.specs.Domains.{domains_down, widths, HasShape, IsWhole}
 use Rattle.psci_tree.specs.declared.state.CoreState.{CoreState}
 use Rattle.psci_tree.specs.declared.domain.Domain.{Domain, out-Domain}
 use Rattle.psci_tree.proofs.Below.{cores_of_domain, cores_of_core, cores_drop, length_take}
-use Rattle.psci_tree.proofs.Places.{first_core, width, Counted, counted, sum-cons, sum_take_le}
+use Rattle.psci_tree.proofs.Places.{first_core, width, sum-cons, sum_take_le}
 use Rattle.psci_tree.proofs.Places.{below_is, pick_run, first_grows, first_end}
 
 -- One level down -----------------------------------------------------------------------------
@@ -60,8 +59,8 @@ take_down (suc p) [] = refl
 take_down (suc p) (n ∷ ns) =
     ap (λ x. children n ++ x) (take_down p ns)
     ∙ sym (take_past (children n) (flat_map children ns) (sum (take p (map fan ns))))
-    ∙ ap (λ k. take k (children n
-    ++ flat_map children ns)) (sym (sum-cons (fan n) (take p (map fan ns))))
+    ∙ ap (λ k. take k (children n ++ flat_map children ns))
+    (sym (sum-cons (fan n) (take p (map fan ns))))
 
 -- domains that have children have the cores of their children
 cores_down : (ns : List Domain) → AllPass is_width (map fan ns)
@@ -211,8 +210,8 @@ slice_at n levels at k d t h in' e is =
     ap cores is
     ∙ sym (slice_of (cores_in (take p row)) (cores (get_or row p d)) (cores_in (drop (p + 1) row))
     (first_core levels at.level p) (width levels at) here wide)
-    ∙ ap (λ x. take (width levels at) (drop (first_core levels at.level p) x)) (sym
-    (cores_all n levels at.level k t h e ∙ parts))
+    ∙ ap (λ x. take (width levels at) (drop (first_core levels at.level p) x))
+    (sym (cores_all n levels at.level k t h e ∙ parts))
 
 -- the states of the cores below a domain
 pub states_at : (n : Domain) (t : TreeValue) (at : Node) (k : ℕ) (d : Domain) → IsTree t.levels
@@ -289,49 +288,3 @@ core_of_leaf n t at k d i h same in' e is low =
     let all : (out-Domain d).core ∷ [] ≡ core_at t at.place ∷ [] =
     sym own ∙ states_at n t at k d i h same in' e is ∙ ap (map (λ c. core_at t c)) alone in
     cc
-
--- One level up -------------------------------------------------------------------------------
-
--- the domain at a place, as a child
-pub record ChildAt (root : Domain) (w : List ℕ) (ws : List (List ℕ)) (place : ℕ) : Type 0 where
-  pub group : group_of w place < size_below ws
-  pub inside : (e : Domain) → place_in w place
-      < length (children (get_or (domains_down (length ws) root) (group_of w place) e))
-  pub is : (d e : Domain)
-      → get_or (children (get_or (domains_down (length ws) root) (group_of w place) e)) (place_in w
-      place) d ≡ get_or (domains_down (suc (length ws)) root) place d
-
-pub child_at : (root : Domain) (w : List ℕ) (ws : List (List ℕ)) (place : ℕ) → IsTree (w ∷ ws)
-    → HasShape root (w ∷ ws) → place < sum w → ChildAt root w ws place
-child_at root w ws place t h i = record {
-  group = omega (arith, c.group, t.0);
-  inside = λ e. omega (arith, c.place, fans e);
-  is = λ d e.
-      sym (get_or-flat_map children row (group_of w place) (place_in w place) e d within
-      (omega (arith, c.place, fans e)))
-      ∙ ap (λ k. get_or (flat_map children row) k d) (omega (arith, before, c.whole))
-      ∙ ap (λ x. get_or x place d) (sym (down_step (length ws) root));
-}
-  where
-    c : Counted w place
-    c = counted w place i
-
-    row : List Domain
-    row = domains_down (length ws) root
-
-    same : map fan row ≡ w
-    same = sym (widths_are (length ws) root) ∙ h.0
-
-    within : group_of w place < length row
-    within = omega (arith, c.group, ap length same, length-map row fan)
-
-    fans : (e : Domain) → fan (get_or row (group_of w place) e) ≡ get_or w (group_of w place) 0
-    fans e = sym (get_or-map fan row (group_of w place) e 0 within)
-        ∙ ap (λ x. get_or x (group_of w place) 0) same
-
-    before : length (flat_map children (take (group_of w place) row))
-        ≡ sum (take (group_of w place) w)
-    before = length-flat_map children (take (group_of w place) row)
-        ∙ sym (sum-map fan (take (group_of w place) row))
-        ∙ ap sum (sym (take-map fan (group_of w place) row))
-        ∙ ap (λ x. sum (take (group_of w place) x)) same

@@ -3,7 +3,7 @@ use Rattle.std.proofs.lemmas.List.{get_or_default}
 use Rattle.psci_board.specs.Board.{group_of, place_in}
 use Rattle.psci_tree.specs.declared.domain.Domain.{Domain, out-Domain}
 use Rattle.psci_tree.specs.Domains.{children, domains_down}
-use Rattle.psci_tree.proofs.Slices.{ChildAt, child_at}
+use Rattle.psci_tree.proofs.Upward.{ChildAt, child_at}
 use Rattle.psci_tree.proofs.levels.+domain_at.Goals as goal
 
 pub domain_at-parent-requires : goal.domain_at-parent-requires
