@@ -1,10 +1,12 @@
 -- The function words, the arguments and the results of a call.
-use Rattle.std.specs.Prelude.{ℕ, ◌%◌, ◌/◌, ◌^◌, ◌||◌, Bool, ◌==◌, if◌then◌else◌, ℤ, pos, negsuc}
+use Rattle.std.specs.Prelude.{ℕ, ◌%◌, ◌/◌, ◌^◌, Bool, true, false, ◌==◌, if◌then◌else◌}
+use Rattle.std.specs.Prelude.{ℤ, pos, negsuc}
 use Rattle.std.specs.Int.{cast_unsigned, w32, w64}
 use Rattle.psci_abi.specs.declared.code.Code.{Code}
 use Rattle.psci_abi.specs.declared.registers.Regs.{Regs}
 use Rattle.psci_abi.specs.declared.request.Request.{Request}
-use Rattle.psci_abi.specs.declared.request.Request.TheVariants.{Version, CpuOn, AffinityInfo, MigrateInfoType, Features, Unknown}
+use Rattle.psci_abi.specs.declared.request.Request.TheVariants.{Version, CpuOn, AffinityInfo}
+use Rattle.psci_abi.specs.declared.request.Request.TheVariants.{MigrateInfoType, Features, Unknown}
 
 -- An argument of 32 bits is the low half of its register.
 abbrev pub low : ℕ → ℕ
@@ -26,11 +28,18 @@ request_of r =
 abbrev pub is_wide : Regs → Bool
 is_wide r = r.x0 / 2 ^ 30 % 2 == 1
 
--- which function words are supported
+-- whether the table has the function
+abbrev pub is_known : Request → Bool
+is_known Version = true
+is_known (CpuOn target entry context) = true
+is_known (AffinityInfo target level) = true
+is_known MigrateInfoType = true
+is_known (Features word) = true
+is_known Unknown = false
+
+-- which function words are supported: those of the table
 abbrev pub is_supported : ℕ → Bool
-is_supported word =
-    word == 0x84000000 || word == 0x84000003 || word == 0xC4000003 || word == 0x84000004
-    || word == 0xC4000004 || word == 0x84000006 || word == 0x8400000A
+is_supported word = is_known (request_of (record { x0 = word; x1 = 0; x2 = 0; x3 = 0 }))
 
 -- what PSCI_FEATURES answers: no function has a feature flag yet
 abbrev pub features_of : ℕ → ℤ

@@ -2,12 +2,9 @@
 
 ghost use Rattle.std.specs.Prelude.{◌≡◌};
 ghost use Rattle.psci_abi.specs.Calls.{features_of};
-ghost use Rattle.psci_abi.specs.declared.format.Format.TheVariants.{Original};
 
-use crate::words::{
-    AFFINITY_INFO_32, AFFINITY_INFO_64, CPU_ON_32, CPU_ON_64, MIGRATE_INFO_TYPE, PSCI_FEATURES,
-    PSCI_VERSION,
-};
+use crate::registers::Regs;
+use crate::request::{Request, read};
 
 /// How power state words are written (DEN0022D, CPU_SUSPEND, the parameter power_state).
 #[derive(Clone, Copy, Debug, PartialEq, Eq)]
@@ -20,21 +17,20 @@ pub enum Format {
 
 /// What PSCI_FEATURES answers for a function word: its feature flags, or NOT_SUPPORTED.
 ///
-/// No function of this firmware has a flag yet. The format is the board's; it will decide a flag
-/// of CPU_SUSPEND, and boards have the original one until then.
+/// No function of this firmware has a flag yet, so the answer is the same in both formats. The
+/// format is the board's; it will decide a flag of CPU_SUSPEND.
 pub fn features(word: u32, format: Format) -> i32
-    requires { format ≡ Original }
     ensures { result ≡ features_of word }
 {
     let _ = format;
-    match word {
-        PSCI_VERSION
-        | CPU_ON_32
-        | CPU_ON_64
-        | AFFINITY_INFO_32
-        | AFFINITY_INFO_64
-        | MIGRATE_INFO_TYPE
-        | PSCI_FEATURES => 0,
-        _ => -1,
+    let call = Regs {
+        x0: u64::from(word),
+        x1: 0,
+        x2: 0,
+        x3: 0,
+    };
+    match read(call) {
+        Request::Unknown => -1,
+        _ => 0,
     }
 }

@@ -2,7 +2,8 @@
 use Rattle.std.proofs.Common.{◌≡◌, List, ◌∷◌, [], true, false, refl}
 use Rattle.std.specs.Prelude.{ℕ, Option, Some, None, map, option_map, replicate}
 use Rattle.psci_board.specs.declared.node.Node.{Node}
-use Rattle.psci_board.specs.Board.{BoardValue, core_of, node_of, path, up, below, children, child, may_enter}
+use Rattle.psci_board.specs.Board.{BoardValue, core_of, node_of, path, up, below, children, child}
+use Rattle.psci_board.specs.Board.{may_enter}
 
 abbrev pub board : List (List ℕ) → BoardValue
 board levels = record {

@@ -1,11 +1,14 @@
 -- The children of a node, and the cores below them.
-use Rattle.std.proofs.Common.{◌≡◌, ℕ, zero, suc, ◌+◌, ◌-◌, ◌<◌, ◌≤◌, Bool, true, false, eqb, ltb, List, [], take, get_or, sum, refl, ◌∙◌, arith, sub-one, Some, inl, inr}
+use Rattle.std.proofs.Common.{◌≡◌, ℕ, zero, suc, ◌+◌, ◌-◌, ◌<◌, ◌≤◌, Bool, true, false, eqb, ltb}
+use Rattle.std.proofs.Common.{List, [], take, get_or, sum, refl, ◌∙◌, arith, sub-one, Some, inl}
+use Rattle.std.proofs.Common.{inr}
 use Rattle.std.proofs.lemmas.Bool.{cases_lt, cases_eq}
 use Rattle.std.proofs.lemmas.Bool.Decides.{nat_tests}
 use Rattle.std.proofs.lemmas.List.{get_or_past}
 use Rattle.std.proofs.lemmas.Option.{cond_some}
 use Rattle.psci_board.specs.declared.node.Node.{Node}
-use Rattle.psci_board.specs.Board.{BoardValue, HasNode, IsBoard, group_of, place_above, height, nodes, cores, up, children, children_at, first_child, child}
+use Rattle.psci_board.specs.Board.{BoardValue, HasNode, IsBoard, group_of, place_above, height}
+use Rattle.psci_board.specs.Board.{nodes, cores, up, children, children_at, first_child, child}
 use Rattle.psci_board.specs.Laws.{ChildLaws}
 use Rattle.psci_board.proofs.Groups.{counted, in_group, group_inside, width, few_at}
 use Rattle.psci_board.proofs.Levels.{level}
@@ -65,7 +68,7 @@ few b h (suc l) p = elim (cases_lt l (height b)) [
 
 -- Children by their nodes -------------------------------------------------------------------------
 
-child_inside : (b : BoardValue) → IsBoard b → (l p k : ℕ) → k < children_at b (suc l) p
+pub child_inside : (b : BoardValue) → IsBoard b → (l p k : ℕ) → k < children_at b (suc l) p
     → (l < height b) × (first_child b (suc l) p + k < nodes b l)
 child_inside b h l p k i = elim (cases_lt l (height b)) [
   | inl m ↦ (m, rw (level b.levels l h.tree m).size (group_inside (counts b l) p k i))

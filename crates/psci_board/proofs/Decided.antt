@@ -1,12 +1,15 @@
 -- What is kept of a text decides the verdict on it, and a text without a fault has a board.
-use Rattle.std.proofs.Common.{◌≡◌, ℕ, ◌<◌, ◌≤◌, ◌^◌, ◌-◌, ◌%◌, Bool, true, false, cond, List, [], length, take, map, sum, Option, Some, None, Result, Ok, Err, refl, ap, sym, subst, arith}
+use Rattle.std.proofs.Common.{◌≡◌, ℕ, ◌<◌, ◌≤◌, ◌^◌, ◌-◌, ◌%◌, Bool, true, false, cond, List, []}
+use Rattle.std.proofs.Common.{length, take, map, sum, Option, Some, None, Result, Ok, Err, refl, ap}
+use Rattle.std.proofs.Common.{sym, subst, arith}
 use Rattle.std.specs.Prelude.{◌&&◌, not, ◌==◌}
 use Rattle.std.specs.Str.Parse.{digits_value}
 use Rattle.std.proofs.lemmas.Bool.Decides.{nat_tests}
 use Rattle.std.proofs.lemmas.List.{take_all}
 use Rattle.psci_board.specs.declared.range.AddressRange.{AddressRange}
 use Rattle.psci_board.specs.declared.fault.BoardFault.{BoardFault}
-use Rattle.psci_board.specs.declared.fault.BoardFault.TheVariants.{Uneven, TooWide, TooManyCores, BadRange, BadBoot, BadLimit}
+use Rattle.psci_board.specs.declared.fault.BoardFault.TheVariants.{Uneven, TooWide, TooManyCores}
+use Rattle.psci_board.specs.declared.fault.BoardFault.TheVariants.{BadRange, BadBoot, BadLimit}
 use Rattle.psci_board.specs.declared.text_seen.TextSeen.{TextSeen}
 use Rattle.psci_board.specs.Grammar.{BoardText}
 use Rattle.psci_board.specs.Board.{BoardValue, is_in_some, IsBoard}
@@ -14,7 +17,9 @@ use Rattle.psci_board.specs.Seen.{SeenTree, SeenRanges}
 use Rattle.psci_board.specs.Summary.{text_seen, board_seen, fault_in}
 use Rattle.psci_board.specs.Verdict.{clusters, range_of, has_bad_range, board_in, is_limit, verdict}
 use Rattle.psci_board.proofs.Kept.{kept_ranges, kept_all_ranges}
-use Rattle.psci_board.proofs.KeptTree.{IsFull, kept_tree, tree_is_kept, uneven_kept, wide_kept, total_kept, levels_kept, is_tree, heights, within, left_false}
+use Rattle.psci_board.proofs.KeptTree.{IsFull, kept_tree, tree_is_kept, uneven_kept, wide_kept}
+use Rattle.psci_board.proofs.KeptTree.{total_kept, levels_kept, is_tree, heights, within}
+use Rattle.psci_board.proofs.KeptTree.{left_false}
 
 not_false : (b : Bool) → not b ≡ false → b ≡ true
 not_false true h = refl

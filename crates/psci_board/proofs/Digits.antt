@@ -1,5 +1,6 @@
 -- Digits at the front of a text, and their value.
-use Rattle.std.proofs.Common.{◌≡◌, ℕ, zero, suc, ◌+◌, ◌*◌, ◌<◌, ◌≤◌, ◌^◌, Bool, true, false, cond, List, [], ◌∷◌, length, take, get_or, refl, arith, one-add, lit<}
+use Rattle.std.proofs.Common.{◌≡◌, ℕ, zero, suc, ◌+◌, ◌*◌, ◌<◌, ◌≤◌, ◌^◌, Bool, true, false, cond}
+use Rattle.std.proofs.Common.{List, [], ◌∷◌, length, take, get_or, refl, arith, one-add, lit<}
 use Rattle.std.proofs.Math.Nat.{pow-le-pow_right}
 use Rattle.std.specs.Prelude.{if◌then◌else◌, nat_lt, Some, None}
 use Rattle.std.specs.List.{prefix_len}
@@ -57,7 +58,7 @@ pub sixteen_fit : (ds : List ℕ) → AllDigits 16 ds → length ds ≤ 16 → d
 sixteen_fit ds h l = let most : 16 ^ length ds ≤ 16 ^ 16 = pow-le-pow_right (lit< tt) l in
     omega (arith, digits_value-lt 16 ds h)
 
-pub ruleset digit_steps = (
+pub ruleset steps = (
   digits_value_more,
   digit_at_place,
   too_large,

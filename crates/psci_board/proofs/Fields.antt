@@ -1,5 +1,6 @@
 -- The affinity fields of a place, and the place that a word names.
-use Rattle.std.proofs.Common.{◌≡◌, ℕ, ◌+◌, ◌*◌, ◌/◌, ◌%◌, ◌<◌, ◌≤◌, Bool, true, false, ltb, eqb, ◌==◌, cond, List, [], ◌∷◌, take, get_or, sum, refl, arith, Some, None}
+use Rattle.std.proofs.Common.{◌≡◌, ℕ, ◌+◌, ◌*◌, ◌/◌, ◌%◌, ◌<◌, ◌≤◌, Bool, true, false, ltb, eqb}
+use Rattle.std.proofs.Common.{◌==◌, cond, List, [], ◌∷◌, take, get_or, sum, refl, arith, Some, None}
 use Rattle.std.proofs.lemmas.Bool.{eq-eqb, eqb-true}
 use Rattle.std.proofs.lemmas.Bool.Decides.{nat_tests}
 use Rattle.psci_board.specs.Board.{group_of, place_in, IsTree, size_below, address_up}

@@ -1,5 +1,7 @@
 -- Places counted through groups.
-use Rattle.std.proofs.Common.{◌≡◌, ℕ, zero, suc, ◌+◌, ◌-◌, ◌<◌, ◌≤◌, Bool, true, false, ltb, List, [], ◌∷◌, length, ◌++◌, take, get_or, sum, refl, arith, add-one, sym, inl, inr}
+use Rattle.std.proofs.Common.{◌≡◌, ℕ, zero, suc, ◌+◌, ◌-◌, ◌<◌, ◌≤◌, Bool, true, false, ltb, List}
+use Rattle.std.proofs.Common.{[], ◌∷◌, length, ◌++◌, take, get_or, sum, refl, arith, add-one, sym}
+use Rattle.std.proofs.Common.{inl, inr}
 use Rattle.std.specs.List.{AllPass}
 use Rattle.std.proofs.lemmas.Bool.{cases_lt}
 use Rattle.std.proofs.lemmas.Bool.Decides.{nat_tests}

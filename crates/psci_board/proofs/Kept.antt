@@ -1,5 +1,7 @@
 -- What is kept of numbers, of members and of ranges, said at once of the whole list.
-use Rattle.std.proofs.Common.{◌≡◌, ℕ, zero, suc, ◌+◌, Bool, true, false, min, List, [], ◌∷◌, ◌++◌, length, take, map, sum, refl, ap, sym, ◌∙◌, arith, append_assoc, length-append, length-take}
+use Rattle.std.proofs.Common.{◌≡◌, ℕ, zero, suc, ◌+◌, Bool, true, false, min, List, [], ◌∷◌, ◌++◌}
+use Rattle.std.proofs.Common.{length, take, map, sum, refl, ap, sym, ◌∙◌, arith, append_assoc}
+use Rattle.std.proofs.Common.{length-append, length-take}
 use Rattle.std.specs.Prelude.{◌||◌, not, nat_lt, nat_le, flat_map}
 use Rattle.std.specs.List.{list_any}
 use Rattle.std.proofs.lemmas.Bool.Decides.{nat_tests}
@@ -10,7 +12,8 @@ use Rattle.std.proofs.lemmas.Grind.{flat_map-append}
 use Rattle.psci_board.specs.declared.range.AddressRange.{AddressRange}
 use Rattle.psci_board.specs.Grammar.{Mid}
 use Rattle.psci_board.specs.Grammar.Mid.{Number, Group}
-use Rattle.psci_board.specs.Seen.{SeenNumbers, with_number, with_numbers, SeenTree, with_member, with_members, SeenRanges, with_range, with_ranges}
+use Rattle.psci_board.specs.Seen.{SeenNumbers, with_number, with_numbers, SeenTree, with_member}
+use Rattle.psci_board.specs.Seen.{with_members, SeenRanges, with_range, with_ranges}
 use Rattle.psci_board.specs.Verdict.{is_out_of_width, is_group, numbers_in, range_of, has_bad_range}
 
 -- the first of the first, and more, are the first of all

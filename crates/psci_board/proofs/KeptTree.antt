@@ -1,5 +1,6 @@
 -- What is kept of a tree decides what is said of it, and is the tree where no fault is said.
-use Rattle.std.proofs.Common.{◌≡◌, ℕ, ◌<◌, ◌≤◌, Bool, true, false, cond, min, List, [], ◌∷◌, length, take, map, sum, refl, ap, sym, ◌∙◌, arith, lit<, lit≤}
+use Rattle.std.proofs.Common.{◌≡◌, ℕ, ◌<◌, ◌≤◌, Bool, true, false, cond, min, List, [], ◌∷◌, length}
+use Rattle.std.proofs.Common.{take, map, sum, refl, ap, sym, ◌∙◌, arith, lit<, lit≤}
 use Rattle.std.specs.Prelude.{◌||◌, ◌&&◌, nat_lt, ◌==◌, flat_map}
 use Rattle.std.specs.List.{list_any, list_all, AllPass}
 use Rattle.std.proofs.lemmas.Bool.Decides.{nat_tests}
@@ -12,8 +13,10 @@ use Rattle.psci_board.specs.Grammar.TreeText.{One, Members}
 use Rattle.psci_board.specs.Board.{is_width, IsTree}
 use Rattle.psci_board.specs.Seen.{SeenTree, no_members, tree_seen}
 use Rattle.psci_board.specs.Summary.{levels_seen}
-use Rattle.psci_board.specs.Verdict.{is_out_of_width, is_group, numbers_in, clusters, levels_of, is_uneven, is_too_wide}
-use Rattle.psci_board.proofs.Kept.{capped, kept_numbers, kept_number, size, is_number_alone, same_tests, kept_members, kept_all_members, how_many}
+use Rattle.psci_board.specs.Verdict.{is_out_of_width, is_group, numbers_in, clusters, levels_of}
+use Rattle.psci_board.specs.Verdict.{is_uneven, is_too_wide}
+use Rattle.psci_board.proofs.Kept.{capped, kept_numbers, kept_number, size, is_number_alone}
+use Rattle.psci_board.proofs.Kept.{same_tests, kept_members, kept_all_members, how_many}
 
 -- Widths -------------------------------------------------------------------------------------
 

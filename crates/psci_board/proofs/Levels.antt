@@ -1,5 +1,6 @@
 -- The levels of a tree, from one on.
-use Rattle.std.proofs.Common.{◌≡◌, ℕ, zero, suc, ◌+◌, ◌<◌, List, [], ◌∷◌, length, drop, drop-cons, get_or, sum, refl, add-one, sym}
+use Rattle.std.proofs.Common.{◌≡◌, ℕ, zero, suc, ◌+◌, ◌<◌, List, [], ◌∷◌, length, drop, drop-cons}
+use Rattle.std.proofs.Common.{get_or, sum, refl, add-one, sym}
 use Rattle.std.specs.List.{AllPass}
 use Rattle.std.proofs.lemmas.List.{get_or_default}
 use Rattle.psci_board.specs.Board.{IsTree, size_below, is_width}

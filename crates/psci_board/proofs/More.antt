@@ -1,5 +1,7 @@
 -- Items that follow one another: reading them one at a time.
-use Rattle.std.proofs.Common.{◌≡◌, ℕ, zero, suc, ◌<◌, ◌≤◌, Bool, true, false, cond, eqb, List, [], ◌∷◌, length, Option, Some, None, refl, ap, sym, ◌∙◌, subst, arith, length-drop}
+use Rattle.std.proofs.Common.{◌≡◌, ℕ, zero, suc, ◌<◌, ◌≤◌, Bool, true, false, cond, eqb, List, []}
+use Rattle.std.proofs.Common.{◌∷◌, length, Option, Some, None, refl, ap, sym, ◌∙◌, subst, arith}
+use Rattle.std.proofs.Common.{length-drop}
 use Rattle.std.specs.List.{prefix_len}
 use Rattle.std.specs.Char.{is_ascii_digit, is_ascii_hexdigit}
 use Rattle.std.proofs.lemmas.Bool.Decides.{nat_tests}
@@ -7,7 +9,8 @@ use Rattle.std.proofs.lemmas.Option.{cond_some, option_and_then_some, same_Some}
 use Rattle.std.specs.Prelude.{option_and_then, option_map, IfSome, codes}
 use Rattle.psci_board.specs.Seen.{ranges_at, noted, SeenTree, SeenRanges}
 use Rattle.psci_board.specs.declared.text_seen.TextSeen.{TextSeen}
-use Rattle.psci_board.specs.Reading.{literal_at, spaced_at, number_at, at_most, more_at, then_more, list_at, mid_at, starts_list, rest_of, hex_at, range_at}
+use Rattle.psci_board.specs.Reading.{literal_at, spaced_at, number_at, at_most, more_at, then_more}
+use Rattle.psci_board.specs.Reading.{list_at, mid_at, starts_list, rest_of, hex_at, range_at}
 use Rattle.psci_board.specs.Grammar.Mid.{Number, Group}
 
 -- what is left is no longer than the text

@@ -1,17 +1,26 @@
 -- Affinity words and the nodes that they name.
-use Rattle.std.proofs.Common.{◌≡◌, ℕ, zero, suc, ◌+◌, ◌*◌, ◌/◌, ◌^◌, ◌<◌, ◌≤◌, List, [], ◌∷◌, length, drop, refl, sym, ◌∙◌, arith, Option, Some, None, inl, inr}
+use Rattle.std.proofs.Common.{◌≡◌, ℕ, zero, suc, ◌+◌, ◌-◌, ◌*◌, ◌/◌, ◌^◌, ◌<◌, ◌≤◌, ltb, List, []}
+use Rattle.std.proofs.Common.{◌∷◌, length, drop, take, get_or, sum, refl, sym, ◌∙◌, arith, add-one}
+use Rattle.std.proofs.Common.{sub-one, Option, Some, None, inl, inr}
 use Rattle.std.specs.Prelude.{option_map}
 use Rattle.std.proofs.lemmas.Bool.{cases_lt}
+use Rattle.std.proofs.lemmas.Bool.Decides.{nat_tests}
+use Rattle.std.proofs.lemmas.List.{get_or_default, get_or_past}
 use Rattle.std.proofs.lemmas.Nat.{pow-add}
-use Rattle.std.proofs.lemmas.Option.{none-some, same_Some}
+use Rattle.std.proofs.lemmas.Option.{cond_some, none-some, same_Some}
 use Rattle.std.proofs.Math.Nat.{div-one, div-div-eq-div-mul, one-le-pow, pow-suc}
+use Rattle.std.proofs.Math.Seq.{drop-length}
 use Rattle.psci_board.specs.declared.node.Node.{Node}
 use Rattle.psci_board.specs.declared.node.Core.{Core}
-use Rattle.psci_board.specs.Board.{BoardValue, HasNode, IsBoard, IsTree, size_below, group_of, place_above, height, nodes, cores, up, address, address_up, node_of, core_of}
+use Rattle.psci_board.specs.Board.{BoardValue, HasNode, IsBoard, IsTree, size_below, group_of}
+use Rattle.psci_board.specs.Board.{place_above, height, nodes, cores, up, children_at, first_child}
+use Rattle.psci_board.specs.Board.{children, child, address, address_up, node_of, core_of}
 use Rattle.psci_board.specs.Laws.{WordLaws}
 use Rattle.psci_board.specs.Level.{named}
 use Rattle.psci_board.proofs.Fields.{fits, fields, named_at, named_is}
-use Rattle.psci_board.proofs.Levels.{IsTree-drop}
+use Rattle.psci_board.proofs.Children.{child_inside}
+use Rattle.psci_board.proofs.Groups.{stands_at}
+use Rattle.psci_board.proofs.Levels.{IsTree-drop, drop_level}
 use Rattle.psci_board.proofs.Paths.{inside, some_core}
 use Rattle.psci_board.proofs.Readers.{on, node_of-above, node_of-within}
 
@@ -93,6 +102,33 @@ short (w ∷ ws) (suc n) i t h k =
     let later = short ws n (group_of w i) t.3 f.group (omega arith) in
     rw (pow-suc 256 n) (omega (arith, f.place))
 
+-- a child has its number in a field below those of its parent
+child_place : (b : BoardValue) (l p k : ℕ) → l < height b → k < children_at b (suc l) p
+    → address b l (first_child b (suc l) p + k) ≡ k + 256 * address b (suc l) p
+child_place b l p k h i =
+    let w = get_or b.levels l [] in
+    let e = drop_level b.levels l w h (get_or_default b.levels l [] w h) in
+    elim (cases_lt p (length w)) [
+      | inl m ↦
+          let s = stands_at w p k (sum (take p w) + k) m i refl in
+          rw (e, s.place, s.group, add-one) refl
+      | inr m ↦ let none : get_or w p 0 ≡ 0 = get_or_past w p 0 m in absurd (omega arith)
+    ]
+
+child_at : (b : BoardValue) → IsBoard b → (n m : Node) (k level : ℕ)
+    → k < children_at b level n.place
+    → record { level = level - 1; place = first_child b level n.place + k } ≡ m
+    → address b m.level m.place ≡ k + 256 * address b level n.place
+child_at b h n m k zero i d = absurd (omega arith)
+child_at b h n m k (suc l) i d =
+    rw (← d, sub-one) (child_place b l n.place k (child_inside b h l n.place k i).0 i)
+
+child_fields : (b : BoardValue) → IsBoard b → (n m : Node) (k : ℕ) → child b n k ≡ Some m
+    → address b m.level m.place ≡ k + 256 * address b n.level n.place
+child_fields b h n m k e =
+    let c = cond_some (ltb k (children b n)) _ m e in
+    child_at b h n m k n.level (grind (arith, nat_tests)) c.1
+
 path_named : (b : BoardValue) → IsBoard b → (c l : ℕ) → c < cores b → l ≤ height b
     → node_of b (address b 0 c) l ≡ Some (record { level = l; place = place_above b.levels l c })
 path_named b h c l k m =
@@ -123,6 +159,8 @@ core_node b word =
 pub word_laws : (b : BoardValue) → IsBoard b → WordLaws b
 unfolding up
 word_laws b h = record {
+  system = rw (drop-length b.levels) refl;
+  child_fields = child_fields b h;
   level = λ word l n e. (node_is b word l n e).level;
   node = λ word l n e. has_node b word l n (node_is b word l n e);
   fields = λ word l n e. (node_is b word l n e).fields;

@@ -1,5 +1,6 @@
 -- The nodes above a core.
-use Rattle.std.proofs.Common.{◌≡◌, ℕ, zero, suc, ◌+◌, ◌<◌, ◌≤◌, List, [], ◌∷◌, length, take, drop, get_or, map, sum, refl, arith, Some, inl, inr}
+use Rattle.std.proofs.Common.{◌≡◌, ℕ, zero, suc, ◌+◌, ◌<◌, ◌≤◌, List, [], ◌∷◌, length, take, drop}
+use Rattle.std.proofs.Common.{get_or, map, sum, refl, arith, Some, inl, inr}
 use Rattle.std.specs.Prelude.{slice_get}
 use Rattle.std.specs.List.{range_with_len}
 use Rattle.std.proofs.lemmas.Bool.{cases_lt}
@@ -7,7 +8,8 @@ use Rattle.std.proofs.lemmas.List.FromFn.{fill_by_all}
 use Rattle.std.proofs.lemmas.Option.{get_or_from_slice_get}
 use Rattle.std.proofs.Math.Seq.{drop-length}
 use Rattle.psci_board.specs.declared.node.Node.{Node}
-use Rattle.psci_board.specs.Board.{BoardValue, IsBoard, IsTree, size_below, group_of, place_above, nodes_up, path, height, up}
+use Rattle.psci_board.specs.Board.{BoardValue, IsBoard, IsTree, size_below, group_of, place_above}
+use Rattle.psci_board.specs.Board.{nodes_up, path, height, up}
 use Rattle.psci_board.specs.Laws.{PathLaws, SizeLaws}
 use Rattle.psci_board.proofs.Groups.{stands_at, group_of-ordered, width}
 use Rattle.psci_board.proofs.Fields.{fits}

@@ -1,10 +1,13 @@
 -- What the readers of a board are by its levels.
-use Rattle.std.proofs.Common.{◌≡◌, ℕ, zero, suc, ◌+◌, ◌-◌, ◌*◌, ◌/◌, ◌^◌, ◌<◌, ◌≤◌, Bool, true, false, cond, List, [], get_or, take, drop, sum, refl, arith, Some, None, ltb, leb}
+use Rattle.std.proofs.Common.{◌≡◌, ℕ, zero, suc, ◌+◌, ◌-◌, ◌*◌, ◌/◌, ◌^◌, ◌<◌, ◌≤◌, Bool, true}
+use Rattle.std.proofs.Common.{false, cond, List, [], get_or, take, drop, sum, refl, arith, Some}
+use Rattle.std.proofs.Common.{None, ltb, leb}
 use Rattle.std.specs.Prelude.{option_map, slice_get}
 use Rattle.std.proofs.lemmas.Bool.Decides.{nat_tests}
 use Rattle.std.proofs.lemmas.Option.{get_or_from_slice_get, unwrap_or-slice_get}
 use Rattle.psci_board.specs.declared.node.Node.{Node}
-use Rattle.psci_board.specs.Board.{BoardValue, level_at, children_at, children, child, first_child, node_of, height}
+use Rattle.psci_board.specs.Board.{BoardValue, level_at, children_at, children, child, first_child}
+use Rattle.psci_board.specs.Board.{node_of, height}
 use Rattle.psci_board.specs.Level.{child_in, named}
 
 past : (ls : List (List ℕ)) (i : ℕ) → slice_get ls i ≡ None → get_or ls i [] ≡ []

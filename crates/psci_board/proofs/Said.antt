@@ -1,13 +1,18 @@
 -- What is said of a text, by what was kept of it.
-use Rattle.std.proofs.Common.{◌≡◌, ℕ, ◌<◌, ◌^◌, ◌-◌, ◌%◌, Bool, true, false, cond, List, length, Option, Some, None, Result, Ok, Err, refl, ap, sym, ◌∙◌, subst, arith}
-use Rattle.std.specs.Prelude.{◌||◌, ◌&&◌, not, nat_lt, ◌==◌, codes, option_map, option_and_then, IsOk, IsErrAnd}
+use Rattle.std.proofs.Common.{◌≡◌, ℕ, ◌<◌, ◌^◌, ◌-◌, ◌%◌, Bool, true, false, cond, List, length}
+use Rattle.std.proofs.Common.{Option, Some, None, Result, Ok, Err, refl, ap, sym, ◌∙◌, subst, arith}
+use Rattle.std.specs.Prelude.{◌||◌, ◌&&◌, not, nat_lt, ◌==◌, codes, option_map, option_and_then}
+use Rattle.std.specs.Prelude.{IsOk, IsErrAnd}
 use Rattle.std.proofs.lemmas.Option.{cond_some, option_and_then_some, same_Some}
 use Rattle.psci_board.specs.declared.fault.BoardFault.{BoardFault}
-use Rattle.psci_board.specs.declared.fault.BoardFault.TheVariants.{Grammar, Uneven, TooWide, TooManyCores, BadRange, BadBoot, BadLimit, Memory}
+use Rattle.psci_board.specs.declared.fault.BoardFault.TheVariants.{Grammar, Uneven, TooWide}
+use Rattle.psci_board.specs.declared.fault.BoardFault.TheVariants.{TooManyCores, BadRange, BadBoot}
+use Rattle.psci_board.specs.declared.fault.BoardFault.TheVariants.{BadLimit, Memory}
 use Rattle.psci_board.specs.declared.text_seen.TextSeen.{TextSeen}
 use Rattle.psci_board.specs.Grammar.{TreeText, BoardText}
 use Rattle.psci_board.specs.Grammar.TreeText.{One, Members}
-use Rattle.psci_board.specs.Reading.{literal_at, number_at, hex_at, range_at, spaced_at, more_at, list_at, mid_at, starts_list, tree_at, board_text}
+use Rattle.psci_board.specs.Reading.{literal_at, number_at, hex_at, range_at, spaced_at, more_at}
+use Rattle.psci_board.specs.Reading.{list_at, mid_at, starts_list, tree_at, board_text}
 use Rattle.psci_board.specs.Board.{BoardValue, is_in_some, IsBoard}
 use Rattle.psci_board.specs.Summary.{text_seen, board_seen, fault_in}
 use Rattle.psci_board.specs.Verdict.{is_limit, verdict, verdict_or, board_of, Answers}

@@ -5,7 +5,8 @@ use Rattle.std.specs.Fmt.{digits}
 use Rattle.psci_board.specs.Grammar.{spelling}
 use Rattle.psci_board.specs.Grammar.Mid.{Number, Group}
 use Rattle.psci_board.specs.Grammar.TreeText.{One, Members}
-use Rattle.psci_board.specs.Reading.{literal_at, number_at, hex_at, range_at, spaced_at, at_most, more_at, list_at, mid_at, tree_at, board_text}
+use Rattle.psci_board.specs.Reading.{literal_at, number_at, hex_at, range_at, spaced_at, at_most}
+use Rattle.psci_board.specs.Reading.{more_at, list_at, mid_at, tree_at, board_text}
 
 -- one cluster of four cores
 pub height_1 : spelling (record {
@@ -48,7 +49,8 @@ pub two_ranges : spelling (record {
   starts = 0;
   lives = 18446744073709551615;
 })
-    ≡ codes "((16)) exec 0x0-0xaF 0xfF-0x0123456789abcDEF boot 0x9 starts 0 lives 18446744073709551615"
+    ≡ codes
+    "((16)) exec 0x0-0xaF 0xfF-0x0123456789abcDEF boot 0x9 starts 0 lives 18446744073709551615"
 unfolding digits
 two_ranges = refl
 

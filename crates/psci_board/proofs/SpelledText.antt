@@ -1,14 +1,18 @@
 -- A board text is read as it is spelled, and in no other way.
-use Rattle.std.proofs.Common.{◌≡◌, ℕ, List, [], ◌∷◌, ◌++◌, length, eqb, eqb-true, Some, None, refl, arith, append_assoc, subst}
+use Rattle.std.proofs.Common.{◌≡◌, ℕ, List, [], ◌∷◌, ◌++◌, length, eqb, eqb-true, Some, None, refl}
+use Rattle.std.proofs.Common.{arith, append_assoc, subst}
 use Rattle.std.specs.Prelude.{codes}
 use Rattle.std.specs.Fmt.{decimal}
 use Rattle.std.specs.List.{AllByRecursion}
 use Rattle.std.proofs.lemmas.List.{append-nil, nil_from_length}
 use Rattle.std.proofs.lemmas.List.Elements.{recursion_from_All}
 use Rattle.std.proofs.lemmas.Option.{cond_some, option_and_then_some}
-use Rattle.psci_board.specs.Grammar.{TreeText, BoardText, IsTreeText, IsRange, IsHex, IsNumber, IsBoardText, spaced, tree, range, hex, spelling}
-use Rattle.psci_board.specs.Reading.{literal_at, spaced_at, more_at, number_at, hex_at, range_at, tree_at, board_text}
-use Rattle.psci_board.proofs.Spelled.{literal_takes, first_again, spaced_takes, more_again, more_takes, list_of}
+use Rattle.psci_board.specs.Grammar.{TreeText, BoardText, IsTreeText, IsRange, IsHex, IsNumber}
+use Rattle.psci_board.specs.Grammar.{IsBoardText, spaced, tree, range, hex, spelling}
+use Rattle.psci_board.specs.Reading.{literal_at, spaced_at, more_at, number_at, hex_at, range_at}
+use Rattle.psci_board.specs.Reading.{tree_at, board_text}
+use Rattle.psci_board.proofs.Spelled.{literal_takes, first_again, spaced_takes, more_again}
+use Rattle.psci_board.proofs.Spelled.{more_takes, list_of}
 use Rattle.psci_board.proofs.SpelledWords.{number_reads, hex_reads, range_reads}
 use Rattle.psci_board.proofs.SpelledTree.{tree_reads}
 

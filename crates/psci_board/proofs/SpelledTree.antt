@@ -1,5 +1,6 @@
 -- A tree is read as it is spelled, and in no other way.
-use Rattle.std.proofs.Common.{◌≡◌, ℕ, ◌<◌, Bool, true, false, cond, eqb, List, [], ◌∷◌, ◌++◌, length, Option, Some, refl, arith, subst}
+use Rattle.std.proofs.Common.{◌≡◌, ℕ, ◌<◌, Bool, true, false, cond, eqb, List, [], ◌∷◌, ◌++◌}
+use Rattle.std.proofs.Common.{length, Option, Some, refl, arith, subst}
 use Rattle.std.specs.Prelude.{option_and_then}
 use Rattle.std.specs.Char.{is_ascii_digit, digit_value}
 use Rattle.std.specs.Fmt.{decimal}
@@ -7,7 +8,8 @@ use Rattle.std.specs.Str.Parse.{AllDigits}
 use Rattle.std.proofs.lemmas.Bool.Decides.{nat_tests}
 use Rattle.std.proofs.lemmas.Fmt.{decimal_is_IsNumeral, decimal_nonempty}
 use Rattle.std.proofs.lemmas.Option.{option_and_then_some, same_Some}
-use Rattle.psci_board.specs.Grammar.{Mid, TreeText, IsNumber, IsListOf, IsMid, IsTreeText, listed, mid, tree}
+use Rattle.psci_board.specs.Grammar.{Mid, TreeText, IsNumber, IsListOf, IsMid, IsTreeText, listed}
+use Rattle.psci_board.specs.Grammar.{mid, tree}
 use Rattle.psci_board.specs.Grammar.Mid.{Number, Group}
 use Rattle.psci_board.specs.Grammar.TreeText.{One, Members}
 use Rattle.psci_board.specs.Reading.{number_at, list_at, starts_list, mid_at, tree_at}

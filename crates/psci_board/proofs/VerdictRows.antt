@@ -2,9 +2,12 @@
 use Rattle.std.proofs.Common.{◌≡◌, List, ◌∷◌, [], ◌++◌, refl}
 use Rattle.std.specs.Prelude.{ℕ, codes, Result, Ok, Err, map, replicate}
 use Rattle.psci_board.specs.declared.fault.BoardFault.{BoardFault}
-use Rattle.psci_board.specs.declared.fault.BoardFault.TheVariants.{Grammar, Uneven, TooWide, TooManyCores, BadRange, BadBoot, BadLimit}
+use Rattle.psci_board.specs.declared.fault.BoardFault.TheVariants.{Grammar, Uneven, TooWide}
+use Rattle.psci_board.specs.declared.fault.BoardFault.TheVariants.{TooManyCores, BadRange, BadBoot}
+use Rattle.psci_board.specs.declared.fault.BoardFault.TheVariants.{BadLimit}
 use Rattle.psci_board.specs.Board.{BoardValue}
-use Rattle.psci_board.specs.Reading.{literal_at, number_at, hex_at, range_at, spaced_at, at_most, more_at, list_at, mid_at, tree_at, board_text}
+use Rattle.psci_board.specs.Reading.{literal_at, number_at, hex_at, range_at, spaced_at, at_most}
+use Rattle.psci_board.specs.Reading.{more_at, list_at, mid_at, tree_at, board_text}
 use Rattle.psci_board.specs.Verdict.{board_of, verdict}
 
 abbrev pub fault_in : Result BoardValue BoardFault → List BoardFault
@@ -33,7 +36,8 @@ pub good_trees : with_tree (
     codes "((16 16) (16 16))" ∷
     codes "((1))" ∷
     []) ≡ replicate 6 []
-unfolding board_of verdict board_text tree_at mid_at list_at more_at at_most spaced_at range_at hex_at number_at literal_at
+unfolding board_of verdict board_text tree_at mid_at list_at more_at at_most spaced_at
+    range_at hex_at number_at literal_at
 good_trees = refl
 
 pub not_trees : with_tree (
@@ -51,7 +55,8 @@ pub not_trees : with_tree (
     codes "+2" ∷
     codes "18446744073709551616" ∷
     []) ≡ replicate 13 (Grammar ∷ [])
-unfolding board_of verdict board_text tree_at mid_at list_at more_at at_most spaced_at range_at hex_at number_at literal_at
+unfolding board_of verdict board_text tree_at mid_at list_at more_at at_most spaced_at
+    range_at hex_at number_at literal_at
 not_trees = refl
 
 -- the first of the faults, whatever comes after it
@@ -61,7 +66,8 @@ pub uneven : with_tree (
     codes "(0 (17))" ∷
     codes "(16 16 16 16 (16))" ∷
     []) ≡ replicate 4 (Uneven ∷ [])
-unfolding board_of verdict board_text tree_at mid_at list_at more_at at_most spaced_at range_at hex_at number_at literal_at
+unfolding board_of verdict board_text tree_at mid_at list_at more_at at_most spaced_at
+    range_at hex_at number_at literal_at
 uneven = refl
 
 -- also where there are too many cores
@@ -77,14 +83,16 @@ pub wide : with_tree (
     codes "(1 1 1 1 1 1 1 1 1 1 1 1 1 1 1 1 1)" ∷
     codes "((1) (1) (1) (1) (1) (1) (1) (1) (1) (1) (1) (1) (1) (1) (1) (1) (1))" ∷
     []) ≡ replicate 10 (TooWide ∷ [])
-unfolding board_of verdict board_text tree_at mid_at list_at more_at at_most spaced_at range_at hex_at number_at literal_at
+unfolding board_of verdict board_text tree_at mid_at list_at more_at at_most spaced_at
+    range_at hex_at number_at literal_at
 wide = refl
 
 pub many : with_tree (
     codes "(16 16 16 16 1)" ∷
     codes "((16 16 16 16) (1))" ∷
     []) ≡ replicate 2 (TooManyCores ∷ [])
-unfolding board_of verdict board_text tree_at mid_at list_at more_at at_most spaced_at range_at hex_at number_at literal_at
+unfolding board_of verdict board_text tree_at mid_at list_at more_at at_most spaced_at
+    range_at hex_at number_at literal_at
 many = refl
 
 pub good_ranges : with_ranges (
@@ -93,7 +101,8 @@ pub good_ranges : with_ranges (
     codes "0x0-0x1 boot 0x0000000000000000" ∷
     codes "0xfffffffffffffff0-0xFFFFFFFFFFFFFFFF boot 0xfFfFfFfFfFfFfFfC" ∷
     []) ≡ replicate 4 []
-unfolding board_of verdict board_text tree_at mid_at list_at more_at at_most spaced_at range_at hex_at number_at literal_at
+unfolding board_of verdict board_text tree_at mid_at list_at more_at at_most spaced_at
+    range_at hex_at number_at literal_at
 good_ranges = refl
 
 -- also where the boot address may not be entered
@@ -104,7 +113,8 @@ pub bad_ranges : with_ranges (
     codes "0x0-0x10 0x0-0x10 0x0-0x10 0x0-0x10 0x0-0x10 boot 0x0" ∷
     codes "0x10-0x0 boot 0x1" ∷
     []) ≡ replicate 5 (BadRange ∷ [])
-unfolding board_of verdict board_text tree_at mid_at list_at more_at at_most spaced_at range_at hex_at number_at literal_at
+unfolding board_of verdict board_text tree_at mid_at list_at more_at at_most spaced_at
+    range_at hex_at number_at literal_at
 bad_ranges = refl
 
 pub bad_boot : with_ranges (
@@ -113,14 +123,16 @@ pub bad_boot : with_ranges (
     codes "0x4-0x10 boot 0x0" ∷
     codes "0x0-0x10 0x20-0x30 boot 0x14" ∷
     []) ≡ replicate 4 (BadBoot ∷ [])
-unfolding board_of verdict board_text tree_at mid_at list_at more_at at_most spaced_at range_at hex_at number_at literal_at
+unfolding board_of verdict board_text tree_at mid_at list_at more_at at_most spaced_at
+    range_at hex_at number_at literal_at
 bad_boot = refl
 
 pub good_limits : with_limits (
     codes "starts 1 lives 1" ∷
     codes "starts 4294967295 lives 65535" ∷
     []) ≡ replicate 2 []
-unfolding board_of verdict board_text tree_at mid_at list_at more_at at_most spaced_at range_at hex_at number_at literal_at
+unfolding board_of verdict board_text tree_at mid_at list_at more_at at_most spaced_at
+    range_at hex_at number_at literal_at
 good_limits = refl
 
 pub bad_limits : with_limits (
@@ -130,7 +142,8 @@ pub bad_limits : with_limits (
     codes "starts 1 lives 65536" ∷
     codes "starts 18446744073709551615 lives 1" ∷
     []) ≡ replicate 5 (BadLimit ∷ [])
-unfolding board_of verdict board_text tree_at mid_at list_at more_at at_most spaced_at range_at hex_at number_at literal_at
+unfolding board_of verdict board_text tree_at mid_at list_at more_at at_most spaced_at
+    range_at hex_at number_at literal_at
 bad_limits = refl
 
 pub not_limits : with_limits (
@@ -144,5 +157,6 @@ pub not_limits : with_limits (
     codes "Starts 1 lives 1" ∷
     codes "starts 1 lives 1\t" ∷
     []) ≡ replicate 9 (Grammar ∷ [])
-unfolding board_of verdict board_text tree_at mid_at list_at more_at at_most spaced_at range_at hex_at number_at literal_at
+unfolding board_of verdict board_text tree_at mid_at list_at more_at at_most spaced_at
+    range_at hex_at number_at literal_at
 not_limits = refl

@@ -1,5 +1,8 @@
 -- A board: a finite ordered tree of power domains, executable ranges, a boot address and limits.
-use Rattle.std.specs.Prelude.{◌≡◌, ℕ, zero, suc, ◌+◌, ◌-◌, ◌*◌, ◌/◌, ◌%◌, ◌^◌, ◌<◌, ◌≤◌, Bool, true, List, [], ◌∷◌, length, sum, drop, take, nat_lt, nat_le, ◌&&◌, ◌==◌, if◌then◌else◌, Option, None, Some, option_map, find, filter, slice_index, slice_index_or, slice_get}
+use Rattle.std.specs.Prelude.{◌≡◌, ℕ, zero, suc, ◌+◌, ◌-◌, ◌*◌, ◌/◌, ◌%◌, ◌^◌, ◌<◌, ◌≤◌, Bool, true}
+use Rattle.std.specs.Prelude.{List, [], ◌∷◌, length, sum, drop, take, nat_lt, nat_le, ◌&&◌, ◌==◌}
+use Rattle.std.specs.Prelude.{if◌then◌else◌, Option, None, Some, option_map, find, filter}
+use Rattle.std.specs.Prelude.{slice_index, slice_index_or, slice_get}
 use Rattle.std.specs.List.{list_any, AllPass, range_with_len}
 use Rattle.psci_board.specs.declared.range.AddressRange.{AddressRange}
 use Rattle.psci_board.specs.declared.node.Node.{Node}

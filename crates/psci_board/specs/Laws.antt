@@ -1,9 +1,11 @@
 -- What holds of the tree of every board: facts about its nodes that upper layers build on.
-use Rattle.std.specs.Prelude.{◌≡◌, ℕ, suc, ◌+◌, ◌*◌, ◌/◌, ◌^◌, ◌<◌, ◌≤◌, Some, length, map, flat_map, slice_get, option_map}
+use Rattle.std.specs.Prelude.{◌≡◌, ℕ, suc, ◌+◌, ◌*◌, ◌/◌, ◌^◌, ◌<◌, ◌≤◌, Some, length, map}
+use Rattle.std.specs.Prelude.{flat_map, slice_get, option_map}
 use Rattle.std.specs.List.{range_with_len}
 use Rattle.psci_board.specs.declared.node.Node.{Node}
 use Rattle.psci_board.specs.declared.node.Core.{Core}
-use Rattle.psci_board.specs.Board.{BoardValue, HasNode, height, nodes, cores, path, up, below, children_at, first_child, child, address, node_of, core_of}
+use Rattle.psci_board.specs.Board.{BoardValue, HasNode, height, nodes, cores, path, up, below}
+use Rattle.psci_board.specs.Board.{children_at, first_child, child, address, node_of, core_of}
 
 -- How many nodes there are.
 pub record SizeLaws (b : BoardValue) : Type 0 where
@@ -52,6 +54,10 @@ pub record ChildLaws (b : BoardValue) : Type 0 where
 
 -- Affinity words and the nodes that they name.
 pub record WordLaws (b : BoardValue) : Type 0 where
+  -- the system has no fields, and a child has its number in a field below those of its parent
+  pub system : address b (height b) 0 ≡ 0
+  pub child_fields : (n m : Node) (k : ℕ) → child b n k ≡ Some m
+      → address b m.level m.place ≡ k + 256 * address b n.level n.place
   -- a word names a node of the board with its fields
   pub level : (word l : ℕ) (n : Node) → node_of b word l ≡ Some n → n.level ≡ l
   pub node : (word l : ℕ) (n : Node) → node_of b word l ≡ Some n → HasNode b n

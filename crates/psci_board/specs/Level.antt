@@ -1,5 +1,6 @@
 -- What a level keeps beside the numbers of children, so that each step through the tree is short.
-use Rattle.std.specs.Prelude.{◌≡◌, ◌==◌, ℕ, ◌+◌, ◌^◌, ◌<◌, nat_lt, if◌then◌else◌, Option, Some, None, List, length, sum, take, find, slice_index}
+use Rattle.std.specs.Prelude.{◌≡◌, ◌==◌, ℕ, ◌+◌, ◌^◌, ◌<◌, nat_lt, if◌then◌else◌, Option, Some}
+use Rattle.std.specs.Prelude.{None, List, length, sum, take, find, slice_index}
 use Rattle.std.specs.List.{range_with_len}
 use Rattle.psci_board.specs.Board.{group_of, size_below, address_up}
 

@@ -1,5 +1,6 @@
 -- What is kept of a board text while it is read, however long the text is.
-use Rattle.std.specs.Prelude.{ℕ, ◌+◌, ◌||◌, min, Bool, true, false, List, [], ◌∷◌, ◌++◌, length, take, nat_le, Option, Some}
+use Rattle.std.specs.Prelude.{ℕ, ◌+◌, ◌||◌, min, Bool, true, false, List, [], ◌∷◌, ◌++◌, length}
+use Rattle.std.specs.Prelude.{take, nat_le, Option, Some}
 use Rattle.psci_board.specs.declared.range.AddressRange.{AddressRange}
 use Rattle.psci_board.specs.Grammar.{Mid, TreeText}
 use Rattle.psci_board.specs.Grammar.Mid.{Number, Group}

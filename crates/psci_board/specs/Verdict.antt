@@ -1,10 +1,14 @@
 -- What a board text says: its board, or the first fault.
-use Rattle.std.specs.Prelude.{◌≡◌, ℕ, ◌^◌, ◌-◌, ◌||◌, ◌&&◌, not, Bool, true, false, List, [], ◌∷◌, length, map, flat_map, sum, Option, Some, None, Result, Ok, Err, nat_lt, nat_le, ◌==◌, if◌then◌else◌, IsOk}
+use Rattle.std.specs.Prelude.{◌≡◌, ℕ, ◌^◌, ◌-◌, ◌||◌, ◌&&◌, not, Bool, true, false, List, [], ◌∷◌}
+use Rattle.std.specs.Prelude.{length, map, flat_map, sum, Option, Some, None, Result, Ok, Err}
+use Rattle.std.specs.Prelude.{nat_lt, nat_le, ◌==◌, if◌then◌else◌, IsOk}
 use Rattle.std.specs.List.{list_any}
 use Rattle.std.specs.Str.Parse.{digits_value}
 use Rattle.psci_board.specs.declared.range.AddressRange.{AddressRange}
 use Rattle.psci_board.specs.declared.fault.BoardFault.{BoardFault}
-use Rattle.psci_board.specs.declared.fault.BoardFault.TheVariants.{Grammar, Uneven, TooWide, TooManyCores, BadRange, BadBoot, BadLimit, Memory}
+use Rattle.psci_board.specs.declared.fault.BoardFault.TheVariants.{Grammar, Uneven, TooWide}
+use Rattle.psci_board.specs.declared.fault.BoardFault.TheVariants.{TooManyCores, BadRange, BadBoot}
+use Rattle.psci_board.specs.declared.fault.BoardFault.TheVariants.{BadLimit, Memory}
 use Rattle.psci_board.specs.Grammar.{Mid, TreeText, BoardText}
 use Rattle.psci_board.specs.Grammar.Mid.{Number, Group}
 use Rattle.psci_board.specs.Grammar.TreeText.{One, Members}

@@ -43,7 +43,8 @@ impl Model for Board {
 }
 
 ghost use Rattle.std.specs.Prelude.{◌≡◌, ◌<◌, true, option_map, IfOk};
-ghost use Rattle.psci_board.specs.Board.{IsBoard, HasNode, height, cores, core_at, path, children, child, may_enter, node_of, core_of, is_in_some, level_at};
+ghost use Rattle.psci_board.specs.Board.{IsBoard, HasNode, height, cores, core_at, path, children};
+ghost use Rattle.psci_board.specs.Board.{child, may_enter, node_of, core_of, is_in_some, level_at};
 
 impl Board {
     /// The level of the system, 1 to 3.

@@ -123,7 +123,8 @@ fn parents_of(alloc: Global, counts: &[u16]) -> Result<Vec<u16>, Memory>
     ensures each { IfOk result (λ parents.
         (i : ℕ) → i < sum counts.now → slice_index parents.items i ≡ group_of counts.now i) }
 {
-    let mut parents = Vec::new(alloc);
+    let children: u16 = counts.iter().sum();
+    let mut parents = Vec::with_capacity(alloc, usize::from(children))?;
     for (place, count) in counts.iter().enumerate() {
         for _child in 0..*count {
             parents.push(place as u16)?;

@@ -1,7 +1,6 @@
-//! Board texts whose answers are known, and memory that runs out.
+//! Board texts whose answers are known. `tests/growths` refuses each growth in turn.
 
 use crate::board::Board;
-use crate::fault::BoardFault;
 use crate::node::Core;
 use std::test::Fail;
 
@@ -28,15 +27,6 @@ fn reads_boards_of_each_height(rt: HostRuntime) -> Result<(), Fail> {
     let three = Board::read(rt.alloc(), LARGEST)?;
     assert_eq!(rt; (three.height(), three.cores()), (3, 64));
     Ok(())
-}
-
-/// With `rt try --test --fail-alloc N` the Nth growth is refused.
-#[test]
-fn answers_a_board_or_memory(rt: HostRuntime) {
-    match Board::read(rt.alloc(), LARGEST) {
-        Ok(board) => assert_eq!(rt; board.cores(), 64),
-        Err(fault) => assert_eq!(rt; fault, BoardFault::Memory),
-    }
 }
 
 #[test]

@@ -21,8 +21,8 @@ pub fn law_children()
     ensures { (b : BoardValue) → IsBoard b → ChildLaws b }
 {}
 
-/// Each node and core is named by the words that have its affinity fields, and by no others. A core
-/// is named by a word of 24 bits.
+/// Each node and core is named by the words that have its affinity fields, and by no others. A
+/// child has its number in a field below those of its parent. A core is named by a word of 24 bits.
 pub fn law_words()
     ensures { (b : BoardValue) → IsBoard b → WordLaws b }
 {}

@@ -47,7 +47,7 @@ fn value_of(digits: &[u8], radix: u32) -> Option<u64>
 
 /// The decimal number at the front, and the text behind it. The number takes all digits that
 /// stand there: it has no leading zero, unless it is 0 itself, and is below 2 to the 64.
-#[tactic(auto, using(crate::proofs::Digits::digit_steps), unfolding(crate::specs::Reading::number_at))]
+#[tactic(auto, using(crate::proofs::Digits::steps), unfolding(crate::specs::Reading::number_at))]
 pub fn number(text: &[u8]) -> Option<(u64, &[u8])>
     ensures { option_map (λ x. (x.0, x.1.now)) result ≡ number_at text.now }
 {
@@ -60,7 +60,7 @@ pub fn number(text: &[u8]) -> Option<(u64, &[u8])>
 
 /// The hexadecimal number at the front, and the text behind it. It begins with `0x`, and takes all
 /// digits that stand there: 1 to 16, in upper or lower case.
-#[tactic(auto, using(crate::proofs::Digits::digit_steps), unfolding(crate::specs::Reading::hex_at))]
+#[tactic(auto, using(crate::proofs::Digits::steps), unfolding(crate::specs::Reading::hex_at))]
 pub fn hex(text: &[u8]) -> Option<(u64, &[u8])>
     ensures { option_map (λ x. (x.0, x.1.now)) result
         ≡ option_map hex_value (hex_at text.now) }

@@ -1,5 +1,6 @@
 -- What a call of a running core leaves.
-use Rattle.std.proofs.Common.{◌≡◌, ℕ, ◌==◌, Bool, true, false, cond, Option, None, Some, Result, Ok, Err, refl, sym, ◌∙◌, ap}
+use Rattle.std.proofs.Common.{◌≡◌, ℕ, ◌==◌, Bool, true, false, cond, Option}
+use Rattle.std.proofs.Common.{None, Some, Result, Ok, Err, refl, sym, ◌∙◌, ap}
 use Rattle.std.proofs.lemmas.Bool.{eqb-true}
 use Rattle.psci_abi.specs.Calls.{request_of}
 use Rattle.psci_abi.specs.declared.code.Code.{Code}
@@ -98,3 +99,6 @@ refused_after b v c call r f e = rw e (by_call call)
     by_call : (x : FwCall) → v ≡ change b (effect_of c x (Fault f)) v
     by_call (Smc regs) = refl
     by_call (Enter s) = refl
+
+-- both, for the body of the call
+pub ruleset calls = (call_after, refused_after)

@@ -1,5 +1,6 @@
 -- A history with one more entry says the values that the entry leaves.
-use Rattle.std.proofs.Common.{◌≡◌, ℕ, Bool, true, false, not, cond, ◌==◌, List, [], ◌∷◌, Option, None, Some, unwrap_or, refl}
+use Rattle.std.proofs.Common.{◌≡◌, ℕ, Bool, true, false, not, cond, ◌==◌, List}
+use Rattle.std.proofs.Common.{[], ◌∷◌, Option, None, Some, unwrap_or, refl}
 use Rattle.std.specs.Option.{option_or}
 use Rattle.psci_abi.specs.Calls.{request_of}
 use Rattle.psci_abi.specs.declared.request.Request.{Request}
@@ -19,7 +20,9 @@ use Rattle.psci_fw.specs.declared.reply.FwReply.TheVariants.{Out, Fault}
 use Rattle.psci_fw.specs.Values.{Values, start_of_life, first_status, first_opening}
 use Rattle.psci_fw.specs.Entry.{Entry, PowerOn, on_by, activity_of}
 use Rattle.psci_fw.specs.After.{after, change, call_effect, leaves, summoned, enters, parks}
-use Rattle.psci_fw.specs.History.{values_of, life, present, since, newest, when, says_known, says_status, says_pending, says_activity, says_opening, says_asked}
+use Rattle.psci_fw.specs.History.{values_of, life, present, since, newest}
+use Rattle.psci_fw.specs.History.{when, says_known, says_status, says_pending}
+use Rattle.psci_fw.specs.History.{says_activity, says_opening, says_asked}
 
 -- What one entry adds -------------------------------------------------------------------------
 

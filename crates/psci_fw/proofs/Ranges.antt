@@ -1,5 +1,7 @@
 -- The cores below a node are numbered without a gap.
-use Rattle.std.proofs.Common.{◌≡◌, ℕ, zero, suc, ◌+◌, ◌-◌, ◌<◌, ◌≤◌, ◌==◌, ltb, Bool, true, false, List, [], ◌∷◌, ◌++◌, length, take, drop, sum, refl, ap, ◌∙◌, arith, add-one}
+use Rattle.std.proofs.Common.{◌≡◌, ℕ, zero, suc, ◌+◌, ◌-◌, ◌<◌, ◌≤◌, ◌==◌, ltb}
+use Rattle.std.proofs.Common.{Bool, true, false, List, [], ◌∷◌, ◌++◌, length}
+use Rattle.std.proofs.Common.{take, drop, sum, refl, ap, ◌∙◌, arith, add-one}
 use Rattle.std.specs.Prelude.{filter}
 use Rattle.std.specs.List.{range_with_len, list_any}
 use Rattle.std.proofs.Math.Seq.{drop-cons}
@@ -7,7 +9,8 @@ use Rattle.std.proofs.lemmas.Bool.Decides.{nat_tests}
 use Rattle.std.proofs.lemmas.List.{take_all}
 use Rattle.std.proofs.lemmas.List.Elements.{filter-append}
 use Rattle.std.proofs.lemmas.List.Sums.{sum_by-cons, sum_by-take-le}
-use Rattle.psci_board.specs.Board.{BoardValue, IsTree, size_below, group_of, place_above, up, nodes, cores, height, below}
+use Rattle.psci_board.specs.Board.{BoardValue, IsTree, size_below, group_of}
+use Rattle.psci_board.specs.Board.{place_above, up, nodes, cores, height, below}
 use Rattle.psci_board.specs.declared.node.Node.{Node}
 use Rattle.psci_fw.specs.Below.{first_below}
 use Rattle.psci_fw.specs.declared.core_state.CoreState.{CoreState}

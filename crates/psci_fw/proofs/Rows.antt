@@ -1,6 +1,8 @@
 -- Worked examples: what the definitions answer on one board.
 use Rattle.std.proofs.Common.{◌≡◌, ℕ, ℤ, pos, negsuc, List, [], ◌∷◌, map, reverse, None, Some, refl}
 use Rattle.psci_board.specs.Board.{BoardValue, core_of, node_of, up}
+use Rattle.psci_board.specs.declared.node.Node.{Node}
+use Rattle.psci_fw.specs.declared.status.Status.TheVariants.{On, Off}
 use Rattle.psci_fw.specs.declared.start.Cause.TheVariants.{Boot}
 use Rattle.psci_fw.specs.declared.message.Kind.TheVariants as kinds
 use Rattle.psci_fw.specs.declared.outcome.Act.TheVariants as acts
@@ -12,7 +14,9 @@ use Rattle.psci_fw.specs.declared.reply.FwReply.TheVariants.{Out, Fault}
 use Rattle.psci_fw.specs.Entry.{Entry}
 use Rattle.psci_fw.specs.Status.{node_status}
 use Rattle.psci_fw.specs.Answers.{answer, target_of, returns}
-use Rattle.psci_fw.specs.History.{legal_reply, values_of}
+use Rattle.psci_fw.specs.History.{IsLegal, legal_reply, values_of}
+use Rattle.psci_fw.specs.History.{known_below, opening, phase, status_of_node}
+use Rattle.psci_fw.specs.Phase.{Away, Running}
 
 -- two clusters of two cores
 abbrev board : BoardValue
@@ -35,6 +39,14 @@ after_all h [] = h
 after_all h (s ∷ ss) =
     let reply = legal_reply board h s.core s.call in
     after_all (record { core = s.core; call = s.call; reply = reply } ∷ h) ss
+
+-- each reply of such a history is the one that the entries before it allow
+legal_after : (h : List Entry) (steps : List Step) → IsLegal board h
+    → IsLegal board (after_all h steps)
+legal_after h [] legal = legal
+legal_after h (s ∷ ss) legal =
+    let reply = legal_reply board h s.core s.call in
+    legal_after (record { core = s.core; call = s.call; reply = reply } ∷ h) ss (refl, legal)
 
 -- the replies to them, the first one first
 abbrev replies : List Step → List FwReply
@@ -59,6 +71,9 @@ on_3 = smc 0 0xc4000003 0x101 0x40001000 7
 -- AFFINITY_INFO by the boot core
 abbrev affinity : ℕ → ℕ → Step
 affinity target level = smc 0 0xc4000004 target level 0
+
+abbrev at : ℕ → ℕ → Node
+at level place = record { level = level; place = place }
 
 abbrev code : ℤ → FwReply
 code z = Out (returns (record { 0 = z }))
@@ -151,3 +166,32 @@ lives_row : replies (boot ∷ on_3 ∷ enter 3 2 1 ∷ enter 0 1 2 ∷ boot
     ∷ code (pos 1) ∷ []
 unfolding answer target_of values_of core_of node_of up node_status
 lives_row = refl
+
+-- a core that has used up its starts of this life is not started again
+limit_row : replies (boot ∷ enter 3 1 1000 ∷ on_3 ∷ [])
+    ≡ goes_to 0x40000000 0 ∷ parks 3 1 1000 ∷ code (negsuc 5) ∷ []
+unfolding answer target_of values_of core_of node_of up node_status
+limit_row = refl
+
+-- What a history says ---------------------------------------------------------------------------
+
+-- core 3 has been started and has entered
+abbrev two_run : List Entry
+two_run = after_all [] (boot ∷ on_3 ∷ enter 3 1 1 ∷ [])
+
+known_row : map (known_below board two_run) (at 1 0 ∷ at 1 1 ∷ at 2 0 ∷ []) ≡ 1 ∷ 1 ∷ 2 ∷ []
+unfolding answer target_of values_of core_of up
+known_row = refl
+
+status_row : map (status_of_node board two_run) (at 0 2 ∷ at 1 1 ∷ at 2 0 ∷ []) ≡ Off ∷ On ∷ On ∷ []
+unfolding answer target_of values_of core_of up node_status
+status_row = refl
+
+phase_row : map (phase two_run) (0 ∷ 1 ∷ 3 ∷ []) ≡ Running ∷ Away ∷ Running ∷ []
+unfolding answer target_of values_of core_of
+phase_row = refl
+
+opening_row : map (opening board (after_all [] (boot ∷ on_3 ∷ []))) (0 ∷ 1 ∷ 3 ∷ [])
+    ≡ None ∷ None ∷ Some (record { address = 0x40001000; context = 7 }) ∷ []
+unfolding answer target_of values_of core_of
+opening_row = refl

@@ -1,11 +1,14 @@
 -- The walk down a board to the first core below a node.
-use Rattle.std.proofs.Common.{◌≡◌, ℕ, zero, suc, ◌+◌, ◌-◌, ◌<◌, ◌≤◌, ltb, leb, Bool, true, false, cond, List, [], ◌∷◌, length, take, drop, get_or, sum, refl, sym, ap, ◌∙◌, ◌==◌, ◌||◌, arith, Option, Some, None, inl, inr}
+use Rattle.std.proofs.Common.{◌≡◌, ℕ, zero, suc, ◌+◌, ◌-◌, ◌<◌, ◌≤◌, ltb, leb, Bool, true}
+use Rattle.std.proofs.Common.{false, cond, List, [], ◌∷◌, length, take, drop, get_or, sum, refl}
+use Rattle.std.proofs.Common.{sym, ap, ◌∙◌, ◌==◌, ◌||◌, arith, Option, Some, None, inl, inr}
 use Rattle.std.specs.List.{AllPass, range_with_len}
 use Rattle.std.proofs.lemmas.Bool.{eqb-true, ltb-true, leb-true, and_parts, cases_lt}
 use Rattle.std.proofs.lemmas.Bool.Decides.{nat_tests}
 use Rattle.std.proofs.lemmas.List.{get_or_past}
 use Rattle.std.proofs.lemmas.List.Sums.{sum_by_more, sum_by-take-le}
-use Rattle.psci_board.specs.Board.{BoardValue, IsBoard, IsTree, is_width, size_below, nodes, cores, height, below, child, children_at, first_child}
+use Rattle.psci_board.specs.Board.{BoardValue, IsBoard, IsTree, is_width, size_below, nodes}
+use Rattle.psci_board.specs.Board.{cores, height, below, child, children_at, first_child}
 use Rattle.psci_board.specs.declared.node.Core.{Core}
 use Rattle.psci_board.specs.declared.node.Node.{Node}
 use Rattle.psci_fw.specs.Below.{first_below, first_core, number_or, IsSpan}
@@ -187,6 +190,9 @@ walk_leaf b n e = rw e (by_test (ltb n.place (cores b)) refl)
     by_test false f =
         let zero : leb 0 (height b) ≡ true = grind (arith, nat_tests) in
         rw (zero, f) refl
+
+-- a step of the walk, and its end
+pub ruleset walk = (walk_leaf, walk_none, walk_some)
 
 -- The cores below a node ----------------------------------------------------------------------
 

@@ -28,6 +28,7 @@ pub data Effect : Type 0 where
   -- a core entered, and stopped
   Parks : (core : ℕ) (start : Start) → Effect
 
+-- what a function call comes down to, by how it ended and the CPU_ON that was accepted
 abbrev pub call_effect : ℕ → Act → Option PowerOn → Effect
 call_effect c act None = Leaves c (activity_of act)
 call_effect c act (Some asked) = AsksOn c asked
@@ -51,6 +52,7 @@ summons asked v = record v {
   opening = put v.opening asked.target (Some asked.opening);
 }
 
+-- the same for the target of a CPU_ON, if one was accepted
 abbrev pub summoned : Option PowerOn → Values → Values
 summoned None v = v
 summoned (Some asked) v = summons asked v
@@ -79,6 +81,7 @@ parks c s v = record {
 abbrev pub entered_so : ℕ → Start → Act → Values → Values
 entered_so c s act v = if goes_on act then enters c s v else parks c s v
 
+-- what an effect leaves of the values
 abbrev pub change : BoardValue → Effect → Values → Values
 change b Nothing v = v
 change b (Leaves c activity) v = leaves c activity v

@@ -1,5 +1,6 @@
 -- The one reply to each call, by the values before it.
-use Rattle.std.specs.Prelude.{ℕ, pos, negsuc, Bool, ◌||◌, ◌&&◌, not, ◌==◌, nat_lt, nat_le, if◌then◌else◌, Option, None, Some, Result, Ok, Err}
+use Rattle.std.specs.Prelude.{ℕ, pos, negsuc, Bool, ◌||◌, ◌&&◌, not, ◌==◌, nat_lt}
+use Rattle.std.specs.Prelude.{nat_le, if◌then◌else◌, Option, None, Some, Result, Ok, Err}
 use Rattle.psci_abi.specs.Calls.{request_of, features_of}
 use Rattle.psci_abi.specs.declared.code.Code.{Code}
 use Rattle.psci_abi.specs.declared.request.Request.{Request}
@@ -69,6 +70,7 @@ off_target b v target statuses.Pending = Err on_pending
 off_target b v target statuses.Off =
     if v.known target.number == b.starts then Err internal_failure else Ok target
 
+-- the core that a CPU_ON starts, by the core that its affinity word names
 abbrev pub target_among : BoardValue → Values → ℕ → Option Core → Result Core Code
 target_among b v entry None = Err invalid_parameters
 target_among b v entry (Some target) =
@@ -90,6 +92,7 @@ start_message v target = record {
   number = v.known target.number;
 }
 
+-- what CPU_ON answers, by the core that it starts or the reason why it starts none
 abbrev pub started : Values → Result Core Code → Outcome
 started v (Err code) = returns code
 started v (Ok target) = record {
@@ -103,6 +106,7 @@ cpu_on b v target entry = started v (target_of b v target entry)
 
 -- AFFINITY_INFO -------------------------------------------------------------------------------
 
+-- what AFFINITY_INFO answers, by the node that its affinity word names
 abbrev pub affinity_of : BoardValue → Values → Option Node → Code
 affinity_of b v None = invalid_parameters
 affinity_of b v (Some n) = record { 0 = pos (status_number (node_status b v.status n)) }
@@ -135,6 +139,8 @@ call_fault b v c =
 abbrev pub in_life : BoardValue → ℕ → Values → Values
 in_life b life v = if life == v.life then v else start_of_life b life
 
+-- a start that is over or cannot be: it is of an earlier life, its number is 0 or above the start
+-- limit, or it is no later than the known start of the core
 abbrev pub is_old : BoardValue → Values → ℕ → Start → Bool
 is_old b v c s =
     nat_lt s.life v.life || (s.number == 0 || (nat_lt b.starts s.number
@@ -163,6 +169,7 @@ entry_at c s None = record { act = acts.Stop; message = Some (down_message c s) 
 
 -- The answer ----------------------------------------------------------------------------------
 
+-- a refusal where there is a fault, else the outcome
 abbrev pub reply_or : Option FwFault → Outcome → FwReply
 reply_or (Some fault) outcome = Fault fault
 reply_or None outcome = Out outcome

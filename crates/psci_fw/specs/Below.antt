@@ -1,5 +1,6 @@
 -- Where the cores below a node begin.
-use Rattle.std.specs.Prelude.{ℕ, zero, suc, ◌-◌, ◌≡◌, ◌≤◌, true, List, [], ◌∷◌, sum, take, if◌then◌else◌, Option, None, Some}
+use Rattle.std.specs.Prelude.{ℕ, zero, suc, ◌-◌, ◌≡◌, ◌≤◌, true, List, [], ◌∷◌}
+use Rattle.std.specs.Prelude.{sum, take, if◌then◌else◌, Option, None, Some}
 use Rattle.std.specs.List.{range_with_len}
 use Rattle.psci_board.specs.Board.{BoardValue, below, cores, IsBoard}
 use Rattle.psci_board.specs.declared.node.Core.{Core}
@@ -17,6 +18,7 @@ abbrev pub first_core : BoardValue → Node → Option Core
 first_core b n =
     if has_node b n then Some (record { number = first_below b.levels n.level n.place }) else None
 
+-- the number of a core, or this one where there is none
 abbrev pub number_or : ℕ → Option Core → ℕ
 number_or end None = end
 number_or end (Some c) = c.number

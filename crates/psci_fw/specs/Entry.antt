@@ -32,6 +32,7 @@ pub record PowerOn : Type 0 where
   pub target : ℕ
   pub opening : Opening
 
+-- the core that a call asked on: by how the call ended, its message and its request
 abbrev pub on_by : Act → Option Message → Request → Option PowerOn
 on_by (acts.Return code) (Some m) (requests.CpuOn target entry context) =
     Some (record {
@@ -59,6 +60,7 @@ abbrev pub left : FwReply → Option Activity
 left (Out outcome) = Some (activity_of outcome.act)
 left (Fault fault) = None
 
+-- whether a core executes on after this outcome
 abbrev pub goes_on : Act → Bool
 goes_on (acts.Return code) = true
 goes_on acts.Stop = false

@@ -1,6 +1,7 @@
 -- What is known by the calls so far and their replies. A history has its newest entry first, and
 -- every definition looks backwards along it.
-use Rattle.std.specs.Prelude.{◌≡◌, ℕ, Bool, true, false, not, ◌==◌, Option, None, Some, option_map, unwrap_or, List, [], ◌∷◌, sum, map}
+use Rattle.std.specs.Prelude.{◌≡◌, ℕ, Bool, true, false, not, ◌==◌, Option, None}
+use Rattle.std.specs.Prelude.{Some, option_map, unwrap_or, List, [], ◌∷◌, sum, map}
 use Rattle.std.specs.Option.{option_or}
 use Rattle.psci_board.specs.Board.{BoardValue, below}
 use Rattle.psci_board.specs.declared.node.Node.{Node}
@@ -20,6 +21,7 @@ use Rattle.psci_fw.specs.Answers.{answer}
 
 -- Lives ---------------------------------------------------------------------------------------
 
+-- the life after an entry, by the start that entered and the life before
 abbrev pub life_by : Option Start → ℕ → ℕ
 life_by None before = before
 life_by (Some s) before = s.life
@@ -34,6 +36,7 @@ abbrev pub is_opened_by : ℕ → Option Start → Bool
 is_opened_by before None = false
 is_opened_by before (Some s) = not (s.life == before)
 
+-- the entries of a life: one that opens it is the first of them
 abbrev pub since : Bool → Entry → List Entry → List Entry
 since true e h = e ∷ []
 since false e h = e ∷ h
@@ -50,6 +53,7 @@ abbrev pub newest : {A : Type 0} → (Entry → Option A) → A → List Entry �
 newest says otherwise [] = otherwise
 newest says otherwise (e ∷ h) = unwrap_or (says e) (newest says otherwise h)
 
+-- what is said, where the test holds
 abbrev pub when : {A : Type 0} → Bool → Option A → Option A
 when true o = o
 when false o = None

@@ -19,6 +19,7 @@ phase_of statuses.On activities.Away = Away
 phase_of statuses.Off activities.Running = Running
 phase_of statuses.Off activities.Away = Away
 
+-- whether a core of this phase may call
 abbrev pub is_running : Phase → Bool
 is_running Pending = false
 is_running Running = true

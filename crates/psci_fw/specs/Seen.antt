@@ -10,6 +10,7 @@ use Rattle.psci_fw.specs.declared.core_state.CoreState.{CoreState}
 use Rattle.psci_fw.specs.Values.{Values, first_status, first_opening}
 use Rattle.psci_fw.specs.Status.{is_on, is_pending, node_status}
 
+-- A firmware as contracts see it.
 pub record FirmwareValue : Type 0 where
   pub board : BoardValue
   -- 0 before the first entry
@@ -21,6 +22,7 @@ pub record FirmwareValue : Type 0 where
 abbrev pub absent : CoreState
 absent = record { known = 0; status = Off; activity = Away; opening = None }
 
+-- what is kept of the core of this number
 abbrev pub core_at : List CoreState → ℕ → CoreState
 core_at cores c = slice_index_or cores c absent
 
@@ -34,6 +36,7 @@ values_in life cores = record {
   opening = λ c. (core_at cores c).opening;
 }
 
+-- the values in a firmware
 abbrev pub seen : FirmwareValue → Values
 seen f = values_in f.life f.cores
 

@@ -12,11 +12,13 @@ status_number On = 0
 status_number Off = 1
 status_number Pending = 2
 
+-- whether a status is ON
 abbrev pub is_on : Status → Bool
 is_on On = true
 is_on Off = false
 is_on Pending = false
 
+-- whether a status is ON_PENDING
 abbrev pub is_pending : Status → Bool
 is_pending On = false
 is_pending Off = false
@@ -28,6 +30,7 @@ status_over status cs =
     if list_any (λ c. is_on (status c)) cs then On
     else (if list_any (λ c. is_pending (status c)) cs then Pending else Off)
 
+-- whether the board has this node
 abbrev pub has_node : BoardValue → Node → Bool
 has_node b n = nat_le n.level (height b) && nat_lt n.place (nodes b n.level)
 

@@ -95,7 +95,7 @@ fn first_or(board: &Board, node: Node, end: u16) -> u16
 }
 
 /// The core with the lowest number below a node of the board.
-#[tactic(auto, using(crate::proofs::Walk::walk_leaf, crate::proofs::Walk::walk_none, crate::proofs::Walk::walk_some))]
+#[tactic(auto, using(crate::proofs::Walk::walk))]
 fn first_core(board: &Board, node: Node) -> Option<Core>
     requires { IsBoard board.now }
     ensures { result ≡ first_core board.now node }

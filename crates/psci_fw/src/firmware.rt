@@ -59,7 +59,7 @@ impl Firmware {
     ///
     /// Refused with NoCore where the board has no such core, NoLife before the first entry, and
     /// NotRunning where the core is not running.
-    #[tactic(auto, using(crate::proofs::Calls::call_after, crate::proofs::Calls::refused_after), unfolding(crate::specs::Answers::answer))]
+    #[tactic(auto, using(crate::proofs::Calls::calls), unfolding(crate::specs::Answers::answer))]
     pub fn smc(&mut self, core: Core, regs: Regs) -> Result<Outcome, FwFault>
         ensures answer { reply_of result
             ≡ answer self.old.board (seen self.old) core.number (Smc regs) }

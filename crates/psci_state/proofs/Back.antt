@@ -1,5 +1,6 @@
 -- The ask of a word gives the word back.
-use Rattle.std.proofs.Common.{◌≡◌, ℕ, zero, suc, ◌+◌, ◌*◌, ◌^◌, ◌<◌, ◌≤◌, Bool, true, false, ◌&&◌, ◌==◌, cond, List, length, refl, subst, arith}
+use Rattle.std.proofs.Common.{◌≡◌, ℕ, zero, suc, ◌+◌, ◌*◌, ◌^◌, ◌<◌, ◌≤◌, Bool, true}
+use Rattle.std.proofs.Common.{false, ◌&&◌, ◌==◌, cond, List, length, refl, subst, arith}
 use Rattle.std.proofs.lemmas.Bool.{leb-true, ltb-true, eqb-true}
 use Rattle.std.proofs.lemmas.List.{get_or_past}
 use Rattle.std.specs.Prelude.{Result, Ok, Err, nat_lt, nat_le, slice_index}
@@ -7,7 +8,9 @@ use Rattle.psci_abi.specs.declared.format.Format.{Format}
 use Rattle.psci_abi.specs.declared.format.Format.TheVariants.{Original, Extended}
 use Rattle.psci_state.specs.declared.fault.BadState.{BadState}
 use Rattle.psci_state.specs.Ask.{IsAsk, is_ask, highest_of}
-use Rattle.psci_state.specs.PowerState.{bits, state_id, state_type, has_level, is_clear, asked, is_state_id, is_power_state, type_of, ask_of, id_of, word_of}
+use Rattle.psci_state.specs.PowerState.{bits, state_id, state_type, has_level}
+use Rattle.psci_state.specs.PowerState.{is_clear, asked, is_state_id, is_power_state}
+use Rattle.psci_state.specs.PowerState.{type_of, ask_of, id_of, word_of}
 
 two : (r s : Bool) → (r && s) ≡ true → (r ≡ true) × (s ≡ true)
 two true s test = (refl, test)

@@ -1,5 +1,6 @@
 -- The word of an ask is read as this ask.
-use Rattle.std.proofs.Common.{◌≡◌, ℕ, ◌+◌, ◌*◌, ◌^◌, ◌<◌, ◌≤◌, Bool, true, false, ◌&&◌, ◌==◌, cond, List, [], ◌∷◌, refl, ap, ◌∙◌, arith}
+use Rattle.std.proofs.Common.{◌≡◌, ℕ, ◌+◌, ◌*◌, ◌^◌, ◌<◌, ◌≤◌, Bool, true, false}
+use Rattle.std.proofs.Common.{◌&&◌, ◌==◌, cond, List, [], ◌∷◌, refl, ap, ◌∙◌, arith}
 use Rattle.std.proofs.lemmas.Bool.{le-leb, lt-ltb, eq-eqb}
 use Rattle.std.specs.Cmp.Derive.{both_true}
 use Rattle.std.specs.Prelude.{Result, Ok, Err, nat_lt, nat_le, if◌then◌else◌}
@@ -7,7 +8,8 @@ use Rattle.psci_abi.specs.declared.format.Format.{Format}
 use Rattle.psci_abi.specs.declared.format.Format.TheVariants.{Original, Extended}
 use Rattle.psci_state.specs.declared.fault.BadState.{BadState}
 use Rattle.psci_state.specs.Ask.{IsAsk, is_ask, highest_of}
-use Rattle.psci_state.specs.PowerState.{bits, state_id, state_type, has_level, is_clear, asked, is_state_id, type_of, ask_of, id_of, word_of}
+use Rattle.psci_state.specs.PowerState.{bits, state_id, state_type, has_level, is_clear}
+use Rattle.psci_state.specs.PowerState.{asked, is_state_id, type_of, ask_of, id_of, word_of}
 
 one_bit : (b : Bool) → cond b 1 0 < 2
 one_bit true = omega arith

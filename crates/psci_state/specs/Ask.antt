@@ -1,5 +1,6 @@
 -- Asks: a depth for each level from 0 to 3.
-use Rattle.std.specs.Prelude.{◌≡◌, ℕ, ◌+◌, ◌≤◌, Bool, ◌&&◌, ◌==◌, List, [], ◌∷◌, length, slice_index, map, nat_le, nat_lt, if◌then◌else◌}
+use Rattle.std.specs.Prelude.{◌≡◌, ℕ, ◌+◌, ◌≤◌, Bool, ◌&&◌, ◌==◌, List, [], ◌∷◌}
+use Rattle.std.specs.Prelude.{length, slice_index, map, nat_le, nat_lt, if◌then◌else◌}
 
 -- One depth for each level. The core itself stops, and no depth grows upwards.
 pub record IsAsk (depths : List ℕ) : Type 0 where

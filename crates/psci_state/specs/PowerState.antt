@@ -1,5 +1,7 @@
 -- Power state words: the parameter power_state of CPU_SUSPEND (DEN0022D), in both formats.
-use Rattle.std.specs.Prelude.{ℕ, ◌+◌, ◌-◌, ◌*◌, ◌/◌, ◌%◌, ◌^◌, Bool, ◌&&◌, ◌==◌, nat_le, nat_lt, if◌then◌else◌, List, [], ◌∷◌, slice_index, Option, Some, None, unwrap_or, Result, Ok, Err}
+use Rattle.std.specs.Prelude.{ℕ, ◌+◌, ◌-◌, ◌*◌, ◌/◌, ◌%◌, ◌^◌, Bool, ◌&&◌, ◌==◌, nat_le}
+use Rattle.std.specs.Prelude.{nat_lt, if◌then◌else◌, List, [], ◌∷◌, slice_index, Option}
+use Rattle.std.specs.Prelude.{Some, None, unwrap_or, Result, Ok, Err}
 use Rattle.psci_abi.specs.declared.format.Format.{Format}
 use Rattle.psci_abi.specs.declared.format.Format.TheVariants.{Original, Extended}
 use Rattle.psci_state.specs.declared.fault.BadState.{BadState}

@@ -1,5 +1,7 @@
 -- The equations of the cores below a domain, and of its shape.
-use Rattle.std.proofs.Common.{◌≡◌, ℕ, ◌+◌, ◌-◌, ◌<◌, ◌≤◌, List, [], ◌∷◌, ◌++◌, length, get_or, map, take, drop, replicate, min, arith, refl, ap, ◌∙◌, sym, append-nil, length-append, drop-cons, suc, zero, add-one}
+use Rattle.std.proofs.Common.{◌≡◌, ℕ, ◌+◌, ◌-◌, ◌<◌, ◌≤◌, List, [], ◌∷◌, ◌++◌, length}
+use Rattle.std.proofs.Common.{get_or, map, take, drop, replicate, min, arith, refl, ap, ◌∙◌}
+use Rattle.std.proofs.Common.{sym, append-nil, length-append, drop-cons, suc, zero, add-one}
 use Rattle.std.proofs.Math.ListN.{set, length-set}
 use Rattle.std.specs.Vec.{with_item}
 use Rattle.std.specs.List.{flat_map, sum_by}
@@ -12,10 +14,12 @@ use Rattle.psci_tree.specs.Domains.{cores, cores_from, cores_step, cores_in, chi
 use Rattle.psci_tree.specs.declared.state.CoreState.{CoreState}
 use Rattle.psci_tree.specs.declared.domain.Domain.{Domain}
 use Rattle.psci_tree.specs.declared.domain.Domain.TheOpen.{Domain-F}
-use Rattle.psci_tree.specs.declared.domain.Domain.TheViews.{out-Domain, roll-Domain, out-roll-Domain}
+use Rattle.psci_tree.specs.declared.domain.Domain.TheViews.{out-Domain, roll-Domain}
+use Rattle.psci_tree.specs.declared.domain.Domain.TheViews.{out-roll-Domain}
 use Rattle.psci_tree.specs.declared.domain.Domain.TheFolds.{fold-roll-Domain, fold_out-Domain}
 
-joined : (c : CoreState) (ns : List Domain) → 0 < length ns → cores_from c (map cores ns) ≡ cores_in ns
+joined : (c : CoreState) (ns : List Domain) → 0 < length ns
+    → cores_from c (map cores ns) ≡ cores_in ns
 joined c [] h = absurd (omega arith)
 joined c (n ∷ ns) h = flat_map-map (λ x. x) cores (n ∷ ns)
 
@@ -29,25 +33,33 @@ cores_out = fold_out-Domain (List CoreState) cores_step
 pub cores_of_domain : (n : Domain) → 0 < length (children n) → cores n ≡ cores_in (children n)
 cores_of_domain n h = cores_out n ∙ joined (out-Domain n).core (children n) h
 
-pub length_of_domain : (n : Domain) → 0 < length (children n) → length (cores n) ≡ length (cores_in (children n))
+pub length_of_domain : (n : Domain) → 0 < length (children n)
+    → length (cores n) ≡ length (cores_in (children n))
 length_of_domain n h = ap length (cores_of_domain n h)
 
 pub cores_of_core : (n : Domain) → length (children n) ≡ 0 → cores n ≡ (out-Domain n).core ∷ []
 cores_of_core n h = cores_out n ∙ single (out-Domain n).core (children n) h
 
-pub cores_roll : (x : Domain-F Domain) → 0 < length x.children.items → cores (roll-Domain x) ≡ cores_in x.children.items
+pub cores_roll : (x : Domain-F Domain) → 0 < length x.children.items
+    → cores (roll-Domain x) ≡ cores_in x.children.items
 cores_roll x h = fold-roll-Domain (List CoreState) cores_step x ∙ joined x.core x.children.items h
 
-pub cores_roll_core : (x : Domain-F Domain) → length x.children.items ≡ 0 → cores (roll-Domain x) ≡ x.core ∷ []
-cores_roll_core x h = fold-roll-Domain (List CoreState) cores_step x ∙ single x.core x.children.items h
+pub cores_roll_core : (x : Domain-F Domain) → length x.children.items ≡ 0
+    → cores (roll-Domain x) ≡ x.core ∷ []
+cores_roll_core x h =
+    fold-roll-Domain (List CoreState) cores_step x ∙ single x.core x.children.items h
 
 -- The next child of several ------------------------------------------------------------------
 
-pub cores_drop : (ns : List Domain) (i : ℕ) (d : Domain) → i < length ns → cores_in (drop i ns) ≡ cores (get_or ns i d) ++ cores_in (drop (i + 1) ns)
+pub cores_drop : (ns : List Domain) (i : ℕ) (d : Domain) → i < length ns
+    → cores_in (drop i ns) ≡ cores (get_or ns i d) ++ cores_in (drop (i + 1) ns)
 cores_drop ns i d h = rw add-one (ap cores_in (drop-cons ns i d h))
 
-pub cores_take : (ns : List Domain) (i : ℕ) (d : Domain) → i < length ns → cores_in (take (i + 1) ns) ≡ cores_in (take i ns) ++ cores (get_or ns i d)
-cores_take ns i d h = ap cores_in (take_more ns i d h) ∙ flat_map-append cores (take i ns) (get_or ns i d ∷ []) ∙ ap (λ (x : List CoreState). cores_in (take i ns) ++ x) (append-nil (cores (get_or ns i d)))
+pub cores_take : (ns : List Domain) (i : ℕ) (d : Domain) → i < length ns
+    → cores_in (take (i + 1) ns) ≡ cores_in (take i ns) ++ cores (get_or ns i d)
+cores_take ns i d h =
+    ap cores_in (take_more ns i d h) ∙ flat_map-append cores (take i ns) (get_or ns i d ∷ [])
+    ∙ ap (λ (x : List CoreState). cores_in (take i ns) ++ x) (append-nil (cores (get_or ns i d)))
 
 pub cores_end : (ns : List Domain) (i : ℕ) → length ns ≤ i → cores_in (drop i ns) ≡ []
 cores_end [] zero h = refl
@@ -55,17 +67,25 @@ cores_end [] (suc i) h = refl
 cores_end (n ∷ ns) zero h = absurd (omega arith)
 cores_end (n ∷ ns) (suc i) h = cores_end ns i (omega arith)
 
-pub length_drop : (ns : List Domain) (i : ℕ) (d : Domain) → i < length ns → length (cores_in (drop i ns)) ≡ length (cores (get_or ns i d)) + length (cores_in (drop (i + 1) ns))
-length_drop ns i d h = ap length (cores_drop ns i d h) ∙ length-append (cores (get_or ns i d)) (cores_in (drop (i + 1) ns))
+pub length_drop : (ns : List Domain) (i : ℕ) (d : Domain) → i < length ns
+    → length (cores_in (drop i ns))
+    ≡ length (cores (get_or ns i d)) + length (cores_in (drop (i + 1) ns))
+length_drop ns i d h = ap length (cores_drop ns i d h)
+    ∙ length-append (cores (get_or ns i d)) (cores_in (drop (i + 1) ns))
 
-pub length_take : (ns : List Domain) (i : ℕ) (d : Domain) → i < length ns → length (cores_in (take (i + 1) ns)) ≡ length (cores_in (take i ns)) + length (cores (get_or ns i d))
-length_take ns i d h = ap length (cores_take ns i d h) ∙ length-append (cores_in (take i ns)) (cores (get_or ns i d))
+pub length_take : (ns : List Domain) (i : ℕ) (d : Domain) → i < length ns
+    → length (cores_in (take (i + 1) ns))
+    ≡ length (cores_in (take i ns)) + length (cores (get_or ns i d))
+length_take ns i d h =
+    ap length (cores_take ns i d h) ∙ length-append (cores_in (take i ns)) (cores (get_or ns i d))
 
 -- a domain has no more cores than those beside it together
-pub cores_le : (ns : List Domain) (i : ℕ) (d : Domain) → i < length ns → length (cores (get_or ns i d)) ≤ length (cores_in ns)
+pub cores_le : (ns : List Domain) (i : ℕ) (d : Domain) → i < length ns
+    → length (cores (get_or ns i d)) ≤ length (cores_in ns)
 cores_le [] i d h = absurd (omega arith)
 cores_le (n ∷ ns) zero d h = omega (arith, length-append (cores n) (cores_in ns))
-cores_le (n ∷ ns) (suc i) d h = omega (arith, length-append (cores n) (cores_in ns), cores_le ns i d (omega arith))
+cores_le (n ∷ ns) (suc i) d h =
+    omega (arith, length-append (cores n) (cores_in ns), cores_le ns i d (omega arith))
 
 -- The least ask ------------------------------------------------------------------------------
 
@@ -76,60 +96,88 @@ pub least_le : (ds : List ℕ) → least ds ≤ 3
 least_le [] = omega arith
 least_le (d ∷ ds) = omega (arith, least_le ds)
 
-low-append : (level : ℕ) (xs ys : List CoreState) → low_in level (xs ++ ys) ≡ min (low_in level xs) (low_in level ys)
+low-append : (level : ℕ) (xs ys : List CoreState)
+    → low_in level (xs ++ ys) ≡ min (low_in level xs) (low_in level ys)
 low-append level [] ys = omega (arith, least_le (map (λ c. asks c.activity level) ys))
 low-append level (x ∷ xs) ys = omega (arith, low-append level xs ys)
 
-pub low_of_domain : (level : ℕ) (n : Domain) → 0 < length (children n) → low_in level (cores n) ≡ low_in level (cores_in (children n))
+pub low_of_domain : (level : ℕ) (n : Domain) → 0 < length (children n)
+    → low_in level (cores n) ≡ low_in level (cores_in (children n))
 low_of_domain level n h = ap (low_in level) (cores_of_domain n h)
 
-pub low_of_core : (level : ℕ) (n : Domain) → length (children n) ≡ 0 → low_in level (cores n) ≡ min (asks (out-Domain n).core.activity level) 3
+pub low_of_core : (level : ℕ) (n : Domain) → length (children n) ≡ 0
+    → low_in level (cores n) ≡ min (asks (out-Domain n).core.activity level) 3
 low_of_core level n h = ap (low_in level) (cores_of_core n h)
 
-pub low_drop : (level : ℕ) (ns : List Domain) (i : ℕ) (d : Domain) → i < length ns → low_in level (cores_in (drop i ns)) ≡ min (low_in level (cores (get_or ns i d))) (low_in level (cores_in (drop (i + 1) ns)))
-low_drop level ns i d h = ap (low_in level) (cores_drop ns i d h) ∙ low-append level (cores (get_or ns i d)) (cores_in (drop (i + 1) ns))
+pub low_drop : (level : ℕ) (ns : List Domain) (i : ℕ) (d : Domain) → i < length ns
+    → low_in level (cores_in (drop i ns))
+    ≡ min (low_in level (cores (get_or ns i d))) (low_in level (cores_in (drop (i + 1) ns)))
+low_drop level ns i d h = ap (low_in level) (cores_drop ns i d h)
+    ∙ low-append level (cores (get_or ns i d)) (cores_in (drop (i + 1) ns))
 
-pub low_end : (level : ℕ) (ns : List Domain) (i : ℕ) → length ns ≤ i → low_in level (cores_in (drop i ns)) ≡ 3
+pub low_end : (level : ℕ) (ns : List Domain) (i : ℕ) → length ns ≤ i
+    → low_in level (cores_in (drop i ns)) ≡ 3
 low_end level ns i h = ap (low_in level) (cores_end ns i h)
 
 -- A sum --------------------------------------------------------------------------------------
 
-pub sum_of_domain : (f : CoreState → ℕ) (n : Domain) → 0 < length (children n) → sum_by f (cores n) ≡ sum_by f (cores_in (children n))
+pub sum_of_domain : (f : CoreState → ℕ) (n : Domain) → 0 < length (children n)
+    → sum_by f (cores n) ≡ sum_by f (cores_in (children n))
 sum_of_domain f n h = ap (sum_by f) (cores_of_domain n h)
 
-pub sum_of_core : (f : CoreState → ℕ) (n : Domain) → length (children n) ≡ 0 → sum_by f (cores n) ≡ f (out-Domain n).core
-sum_of_core f n h = ap (sum_by f) (cores_of_core n h) ∙ omega (arith, sum_by-cons f (out-Domain n).core [])
+pub sum_of_core : (f : CoreState → ℕ) (n : Domain) → length (children n) ≡ 0
+    → sum_by f (cores n) ≡ f (out-Domain n).core
+sum_of_core f n h =
+    ap (sum_by f) (cores_of_core n h) ∙ omega (arith, sum_by-cons f (out-Domain n).core [])
 
-pub sum_take : (f : CoreState → ℕ) (ns : List Domain) (i : ℕ) (d : Domain) → i < length ns → sum_by f (cores_in (take (i + 1) ns)) ≡ sum_by f (cores_in (take i ns)) + sum_by f (cores (get_or ns i d))
-sum_take f ns i d h = ap (sum_by f) (cores_take ns i d h) ∙ sum_by-append f (cores_in (take i ns)) (cores (get_or ns i d))
+pub sum_take : (f : CoreState → ℕ) (ns : List Domain) (i : ℕ) (d : Domain) → i < length ns
+    → sum_by f (cores_in (take (i + 1) ns))
+    ≡ sum_by f (cores_in (take i ns)) + sum_by f (cores (get_or ns i d))
+sum_take f ns i d h = ap (sum_by f) (cores_take ns i d h)
+    ∙ sum_by-append f (cores_in (take i ns)) (cores (get_or ns i d))
 
-pub sum_done : (f : CoreState → ℕ) (n : Domain) (ns : List Domain) (i : ℕ) → ns ≡ children n → 0 < length ns → length ns ≤ i → sum_by f (cores_in (take i ns)) ≡ sum_by f (cores n)
+pub sum_done : (f : CoreState → ℕ) (n : Domain) (ns : List Domain) (i : ℕ) → ns ≡ children n
+    → 0 < length ns → length ns ≤ i → sum_by f (cores_in (take i ns)) ≡ sum_by f (cores n)
 sum_done f n ns i e h l =
     let some : 0 < length (children n) = omega (arith, ap length e) in
-    ap (λ (x : List Domain). sum_by f (cores_in x)) (take_all i ns l ∙ e) ∙ sym (sum_of_domain f n some)
+    ap (λ (x : List Domain). sum_by f (cores_in x)) (take_all i ns l ∙ e)
+    ∙ sym (sum_of_domain f n some)
 
 -- Another core -------------------------------------------------------------------------------
 
-pub cores_set : (ns : List Domain) (i rest place : ℕ) (d m : Domain) (s : CoreState) → i < length ns → length (cores_in (take i ns)) + rest ≡ place → rest < length (cores (get_or ns i d)) → cores m ≡ set (cores (get_or ns i d)) rest s → cores_in (set ns i m) ≡ set (cores_in ns) place s
+pub cores_set : (ns : List Domain) (i rest place : ℕ) (d m : Domain) (s : CoreState) → i < length ns
+    → length (cores_in (take i ns)) + rest ≡ place → rest < length (cores (get_or ns i d)) → cores m
+    ≡ set (cores (get_or ns i d)) rest s → cores_in (set ns i m) ≡ set (cores_in ns) place s
 cores_set [] i rest place d m s h e r q = absurd (omega arith)
 cores_set (n ∷ ns) zero rest place d m s h e r q =
     let same : place ≡ rest = omega arith in
-    rw same (rw (set-append_left (cores n) (cores_in ns) rest s r) (ap (λ (x : List CoreState). x ++ cores_in ns) q))
+    rw same (rw (set-append_left (cores n) (cores_in ns) rest s r)
+    (ap (λ (x : List CoreState). x ++ cores_in ns) q))
 cores_set (n ∷ ns) (suc i) rest place d m s h e r q =
-    let split : length (cores n) + length (cores_in (take i ns)) + rest ≡ place = omega (arith, length-append (cores n) (cores_in (take i ns))) in
+    let split : length (cores n) + length (cores_in (take i ns)) + rest ≡ place =
+    omega (arith, length-append (cores n) (cores_in (take i ns))) in
     let left : length (cores n) ≤ place = omega arith in
     rw (set-append_right (cores n) (cores_in ns) (length (cores n)) place s refl left)
-    (ap (λ (x : List CoreState). cores n ++ x) (cores_set ns i rest (place - length (cores n)) d m s (omega arith) (omega arith) r q))
+    (ap (λ (x : List CoreState). cores n ++ x)
+    (cores_set ns i rest (place - length (cores n)) d m s (omega arith) (omega arith) r q))
 
 -- another child with another core makes another domain with that core
-pub cores_with_child : (n : Domain) (i rest place : ℕ) (m : Domain) (s : CoreState) → i < length (children n) → length (cores_in (take i (children n))) + rest ≡ place → rest < length (cores (get_or (children n) i n)) → cores m ≡ set (cores (get_or (children n) i n)) rest s →
-    cores (roll-Domain (record { children = with_item (out-Domain n).children i m; core = (out-Domain n).core })) ≡ set (cores n) place s
+pub cores_with_child : (n : Domain) (i rest place : ℕ) (m : Domain) (s : CoreState)
+    → i < length (children n) → length (cores_in (take i (children n))) + rest ≡ place
+    → rest < length (cores (get_or (children n) i n))
+    → cores m ≡ set (cores (get_or (children n) i n)) rest s →
+    cores (roll-Domain (record {
+      children = with_item (out-Domain n).children i m;
+      core = (out-Domain n).core;
+    })) ≡ set (cores n) place s
 cores_with_child n i rest place m s h e r q =
     let some : 0 < length (children n) = omega arith in
     let more : 0 < length (set (children n) i m) = omega (arith, length-set (children n) i m) in
-    cores_roll _ more ∙ cores_set (children n) i rest place n m s h e r q ∙ ap (λ (x : List CoreState). set x place s) (sym (cores_of_domain n some))
+    cores_roll _ more ∙ cores_set (children n) i rest place n m s h e r q
+    ∙ ap (λ (x : List CoreState). set x place s) (sym (cores_of_domain n some))
 
-flat_map_set : (f : Domain → List ℕ) (ns : List Domain) (i : ℕ) (d m : Domain) → f m ≡ f (get_or ns i d) → flat_map f (set ns i m) ≡ flat_map f ns
+flat_map_set : (f : Domain → List ℕ) (ns : List Domain) (i : ℕ) (d m : Domain)
+    → f m ≡ f (get_or ns i d) → flat_map f (set ns i m) ≡ flat_map f ns
 flat_map_set f [] i d m e = refl
 flat_map_set f (n ∷ ns) zero d m e = ap (λ (x : List ℕ). x ++ flat_map f ns) e
 flat_map_set f (n ∷ ns) (suc i) d m e = ap (λ (x : List ℕ). f n ++ x) (flat_map_set f ns i d m e)
@@ -140,22 +188,31 @@ children_roll x = ap (λ (y : Domain-F Domain). y.children.items) (out-roll-Doma
 widths_zero : (x : Domain-F Domain) → widths zero (roll-Domain x) ≡ length x.children.items ∷ []
 widths_zero x = ap (λ (ns : List Domain). length ns ∷ []) (children_roll x)
 
-widths_suc : (k : ℕ) (x : Domain-F Domain) → widths (suc k) (roll-Domain x) ≡ flat_map (widths k) x.children.items
+widths_suc : (k : ℕ) (x : Domain-F Domain)
+    → widths (suc k) (roll-Domain x) ≡ flat_map (widths k) x.children.items
 widths_suc k x = ap (flat_map (widths k)) (children_roll x)
 
 -- a domain with another child of the same shape has the same shape
-pub widths_with_child : (n : Domain) (i : ℕ) (m : Domain) → ((k : ℕ) → widths k m ≡ widths k (get_or (children n) i n)) → (k : ℕ) →
-    widths k (roll-Domain (record { children = with_item (out-Domain n).children i m; core = (out-Domain n).core })) ≡ widths k n
-widths_with_child n i m each zero = widths_zero _ ∙ ap (λ (x : ℕ). x ∷ []) (length-set (children n) i m)
-widths_with_child n i m each (suc k) = widths_suc k _ ∙ flat_map_set (widths k) (children n) i n m (each k)
+pub widths_with_child : (n : Domain) (i : ℕ) (m : Domain)
+    → ((k : ℕ) → widths k m ≡ widths k (get_or (children n) i n)) → (k : ℕ) →
+    widths k (roll-Domain (record {
+      children = with_item (out-Domain n).children i m;
+      core = (out-Domain n).core;
+    })) ≡ widths k n
+widths_with_child n i m each zero =
+    widths_zero _ ∙ ap (λ (x : ℕ). x ∷ []) (length-set (children n) i m)
+widths_with_child n i m each (suc k) =
+    widths_suc k _ ∙ flat_map_set (widths k) (children n) i n m (each k)
 
 -- a core's state is no part of its shape
-pub widths_with_core : (n : Domain) (s : CoreState) (k : ℕ) → widths k (roll-Domain (record { children = (out-Domain n).children; core = s })) ≡ widths k n
+pub widths_with_core : (n : Domain) (s : CoreState) (k : ℕ)
+    → widths k (roll-Domain (record { children = (out-Domain n).children; core = s })) ≡ widths k n
 widths_with_core n s zero = widths_zero _
 widths_with_core n s (suc k) = widths_suc k _
 
 -- one more core that is like those before it
-pub set_next : (s : CoreState) (xs : List CoreState) (i : ℕ) → i < length xs → set (replicate i s ++ drop i xs) i s ≡ replicate (suc i) s ++ drop (suc i) xs
+pub set_next : (s : CoreState) (xs : List CoreState) (i : ℕ) → i < length xs
+    → set (replicate i s ++ drop i xs) i s ≡ replicate (suc i) s ++ drop (suc i) xs
 set_next s [] i h = absurd (omega arith)
 set_next s (x ∷ xs) zero h = refl
 set_next s (x ∷ xs) (suc i) h = ap (λ ys. s ∷ ys) (set_next s xs i (omega arith))

@@ -1,5 +1,6 @@
 -- Domains put together level by level, from the cores up.
-use Rattle.std.proofs.Common.{◌≡◌, ℕ, zero, suc, ◌<◌, List, [], ◌∷◌, ◌++◌, length, drop, map, sum, refl, ap, sym, ◌∙◌, arith, append-nil, get_or, length-append}
+use Rattle.std.proofs.Common.{◌≡◌, ℕ, zero, suc, ◌<◌, List, [], ◌∷◌, ◌++◌, length, drop, map}
+use Rattle.std.proofs.Common.{sum, refl, ap, sym, ◌∙◌, arith, append-nil, get_or, length-append}
 use Rattle.std.specs.List.{flat_map}
 use Rattle.std.proofs.lemmas.List.{length_push, map-append}
 use Rattle.std.proofs.lemmas.List.Concat.{flat_map-append, flat_map_single}
@@ -14,41 +15,56 @@ use Rattle.psci_tree.proofs.Below.{children_roll}
 pub fan_roll : (x : Domain-F Domain) → fan (roll-Domain x) ≡ length x.children.items
 fan_roll x = ap length (children_roll x)
 
-pub ends_push : (ns : List Domain) (d : Domain) → sum (map fan ns) ≡ 0 → fan d ≡ 0 → sum (map fan (ns ++ d ∷ [])) ≡ 0
-ends_push ns d h e = ap sum (map-append fan ns (d ∷ [])) ∙ sum_by_push (λ x. x) (map fan ns) (fan d) ∙ omega arith
+pub ends_push : (ns : List Domain) (d : Domain) → sum (map fan ns) ≡ 0 → fan d ≡ 0
+    → sum (map fan (ns ++ d ∷ [])) ≡ 0
+ends_push ns d h e =
+    ap sum (map-append fan ns (d ∷ [])) ∙ sum_by_push (λ x. x) (map fan ns) (fan d) ∙ omega arith
 
 -- these domains have the numbers of children of these levels below them
 abbrev pub AreShaped : List Domain → List (List ℕ) → Type 0
 AreShaped ns [] = Unit {0}
 AreShaped ns (w ∷ ws) = (flat_map (widths (length ws)) ns ≡ w) × AreShaped ns ws
 
-widths_down : (k : ℕ) (ns : List Domain) → flat_map (widths (suc k)) ns ≡ flat_map (widths k) (flat_map children ns)
+widths_down : (k : ℕ) (ns : List Domain)
+    → flat_map (widths (suc k)) ns ≡ flat_map (widths k) (flat_map children ns)
 widths_down k [] = refl
-widths_down k (n ∷ ns) = ap (λ x. flat_map (widths k) (children n) ++ x) (widths_down k ns) ∙ sym (flat_map-append (widths k) (children n) (flat_map children ns))
+widths_down k (n ∷ ns) = ap (λ x. flat_map (widths k) (children n) ++ x) (widths_down k ns)
+    ∙ sym (flat_map-append (widths k) (children n) (flat_map children ns))
 
-pub shaped_more : (parents ns : List Domain) (done : List (List ℕ)) (w : List ℕ) → flat_map children parents ≡ ns → map fan parents ≡ w → AreShaped ns done → AreShaped parents (done ++ w ∷ [])
+pub shaped_more : (parents ns : List Domain) (done : List (List ℕ)) (w : List ℕ)
+    → flat_map children parents ≡ ns → map fan parents ≡ w → AreShaped ns done
+    → AreShaped parents (done ++ w ∷ [])
 shaped_more parents ns [] w e f h = (flat_map_single fan parents ∙ f, tt)
 shaped_more parents ns (v ∷ vs) w e f h =
     let up : length (vs ++ w ∷ []) ≡ suc (length vs) = omega (arith, length_push vs w) in (
-      ap (λ k. flat_map (widths k) parents) up ∙ widths_down (length vs) parents ∙ ap (flat_map (widths (length vs))) e ∙ h.0,
+      ap (λ k. flat_map (widths k) parents) up ∙ widths_down (length vs) parents
+          ∙ ap (flat_map (widths (length vs))) e ∙ h.0,
       shaped_more parents ns vs w e f h.1,
     )
 
-pub ends_more : (parents ns : List Domain) (k j : ℕ) → j ≡ suc k → flat_map children parents ≡ ns → sum (flat_map (widths k) ns) ≡ 0 → sum (flat_map (widths j) parents) ≡ 0
-ends_more parents ns k j s e h = ap (λ i. sum (flat_map (widths i) parents)) s ∙ ap sum (widths_down k parents ∙ ap (flat_map (widths k)) e) ∙ h
+pub ends_more : (parents ns : List Domain) (k j : ℕ) → j ≡ suc k → flat_map children parents ≡ ns
+    → sum (flat_map (widths k) ns) ≡ 0 → sum (flat_map (widths j) parents) ≡ 0
+ends_more parents ns k j s e h = ap (λ i. sum (flat_map (widths i) parents)) s
+    ∙ ap sum (widths_down k parents ∙ ap (flat_map (widths k)) e) ∙ h
 
-pub shape_of_one : (n : Domain) (levels : List (List ℕ)) → AreShaped (n ∷ []) levels → HasShape n levels
+pub shape_of_one : (n : Domain) (levels : List (List ℕ)) → AreShaped (n ∷ []) levels
+    → HasShape n levels
 shape_of_one n [] h = tt
 shape_of_one n (w ∷ ws) h = (sym (append-nil (widths (length ws) n)) ∙ h.0, shape_of_one n ws h.1)
 
-pub whole_of_one : (n : Domain) (levels : List (List ℕ)) → AreShaped (n ∷ []) levels → sum (flat_map (widths (length levels)) (n ∷ [])) ≡ 0 → IsWhole n levels
-whole_of_one n levels h e = record { shape = shape_of_one n levels h; ends = ap sum (sym (append-nil (widths (length levels) n))) ∙ e }
+pub whole_of_one : (n : Domain) (levels : List (List ℕ)) → AreShaped (n ∷ []) levels
+    → sum (flat_map (widths (length levels)) (n ∷ [])) ≡ 0 → IsWhole n levels
+whole_of_one n levels h e = record {
+  shape = shape_of_one n levels h;
+  ends = ap sum (sym (append-nil (widths (length levels) n))) ∙ e;
+}
 
 pub one_item : (xs ys : List Domain) (n : Domain) → xs ≡ ys ++ n ∷ [] → length xs ≡ 1 → xs ≡ n ∷ []
 one_item xs [] n e h = e
 one_item xs (y ∷ ys) n e h = absurd (omega (arith, ap length e, length-append ys (n ∷ [])))
 
-pub tree_at : (levels : List (List ℕ)) (l : ℕ) → IsTree levels → l < length levels → length (get_or levels l []) ≡ size_below (drop (suc l) levels)
+pub tree_at : (levels : List (List ℕ)) (l : ℕ) → IsTree levels → l < length levels
+    → length (get_or levels l []) ≡ size_below (drop (suc l) levels)
 tree_at [] l t h = absurd (omega arith)
 tree_at (w ∷ ws) zero t h = t.0
 tree_at (w ∷ ws) (suc l) t h = tree_at ws l t.3 (omega arith)

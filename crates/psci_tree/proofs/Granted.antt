@@ -1,19 +1,25 @@
 -- Granted depths after a change, by level and place.
-use Rattle.std.proofs.Common.{◌≡◌, ℕ, zero, suc, ◌+◌, ◌-◌, ◌<◌, ◌≤◌, Bool, true, false, cond, ◌&&◌, ◌==◌, List, [], ◌∷◌, ◌++◌, length, take, drop, get_or, map, replicate, refl, ap, sym, ◌∙◌, arith, inl, inr}
+use Rattle.std.proofs.Common.{◌≡◌, ℕ, zero, suc, ◌+◌, ◌-◌, ◌<◌, ◌≤◌, Bool, true, false}
+use Rattle.std.proofs.Common.{cond, ◌&&◌, ◌==◌, List, [], ◌∷◌, ◌++◌, length, take, drop}
+use Rattle.std.proofs.Common.{get_or, map, replicate, refl, ap, sym, ◌∙◌, arith, inl, inr}
 use Rattle.std.proofs.Math.ListN.{set, length-set}
 use Rattle.std.proofs.lemmas.Bool.{cases_eq, eq-eqb, ne_eqb, eqb-true}
-use Rattle.std.proofs.lemmas.List.{get_or-set_same, get_or-set_other, get_or-replicate, length-replicate, get_or-map, length-map, drop_all}
+use Rattle.std.proofs.lemmas.List.{get_or-set_same, get_or-set_other, get_or-replicate}
+use Rattle.std.proofs.lemmas.List.{length-replicate, get_or-map, length-map, drop_all}
 use Rattle.psci_board.specs.declared.node.Node.{Node}
 use Rattle.psci_board.specs.Board.{group_of, IsTree, size_below, place_above}
-use Rattle.psci_tree.specs.Recount.{TreeValue, never_started, granted_at, sizes, HasDomain, IsDomainTree}
-use Rattle.psci_tree.specs.Changes.{with_core, with_path_on, zero_up, with_grant, rows_of, all_off, MayGrant}
+use Rattle.psci_tree.specs.Recount.{TreeValue, never_started, granted_at}
+use Rattle.psci_tree.specs.Recount.{sizes, HasDomain, IsDomainTree}
+use Rattle.psci_tree.specs.Changes.{with_core, with_path_on, zero_up}
+use Rattle.psci_tree.specs.Changes.{with_grant, rows_of, all_off, MayGrant}
 use Rattle.psci_tree.specs.declared.state.CoreState.{CoreState}
 use Rattle.psci_tree.specs.declared.state.Activity.{Activity}
 use Rattle.psci_tree.proofs.Places.{group_below}
 
 -- One written place --------------------------------------------------------------------------
 
-pub at_set : (g : List ℕ) (i x p : ℕ) → i < length g → get_or (set g i x) p 0 ≡ cond (i == p) x (get_or g p 0)
+pub at_set : (g : List ℕ) (i x p : ℕ) → i < length g
+    → get_or (set g i x) p 0 ≡ cond (i == p) x (get_or g p 0)
 at_set g i x p h = elim (cases_eq i p) [
   | inl e ↦ rw (eq-eqb i p e, ← e) (get_or-set_same g i x 0 h)
   | inr e ↦ rw (ne_eqb i p e) (get_or-set_other g i p x 0 (λ q. e (sym q)))
@@ -28,7 +34,8 @@ at_set_zero [] i p = zero_either (i == p)
 at_set_zero (x ∷ g) zero zero = refl
 at_set_zero (x ∷ g) zero (suc p) = rw (ne_eqb 0 (suc p) (λ e. absurd (omega arith))) refl
 at_set_zero (x ∷ g) (suc i) zero = rw (ne_eqb (suc i) 0 (λ e. absurd (omega arith))) refl
-at_set_zero (x ∷ g) (suc i) (suc p) = at_set_zero g i p ∙ ap (λ b. cond b 0 (get_or g p 0)) (step i p)
+at_set_zero (x ∷ g) (suc i) (suc p) =
+    at_set_zero g i p ∙ ap (λ b. cond b 0 (get_or g p 0)) (step i p)
   where
     step : (a b : ℕ) → (a == b) ≡ (suc a == suc b)
     step a b = elim (cases_eq a b) [
@@ -43,25 +50,35 @@ above_top zero i = refl
 above_top (suc l) i = refl
 
 -- what is granted after nothing is granted on a path any more
-pub zero_at : (levels gs : List (List ℕ)) (i l p : ℕ) → get_or (get_or (zero_up levels i gs) l []) p 0 ≡ cond (place_above levels l i == p) 0 (get_or (get_or gs l []) p 0)
+pub zero_at : (levels gs : List (List ℕ)) (i l p : ℕ)
+    → get_or (get_or (zero_up levels i gs) l []) p 0
+    ≡ cond (place_above levels l i == p) 0 (get_or (get_or gs l []) p 0)
 zero_at levels [] i l p = zero_either (place_above levels l i == p)
 zero_at [] (g ∷ gs) i zero p = at_set_zero g i p
-zero_at [] (g ∷ gs) i (suc l) p = zero_at [] gs i l p ∙ ap (λ x. cond (x == p) 0 (get_or (get_or gs l []) p 0)) (above_top l i)
+zero_at [] (g ∷ gs) i (suc l) p =
+    zero_at [] gs i l p ∙ ap (λ x. cond (x == p) 0 (get_or (get_or gs l []) p 0)) (above_top l i)
 zero_at (w ∷ ws) (g ∷ gs) i zero p = at_set_zero g i p
 zero_at (w ∷ ws) (g ∷ gs) i (suc l) p = zero_at ws gs (group_of w i) l p
 
-pub zero_lengths : (levels gs : List (List ℕ)) (i : ℕ) → map length (zero_up levels i gs) ≡ map length gs
+pub zero_lengths : (levels gs : List (List ℕ)) (i : ℕ)
+    → map length (zero_up levels i gs) ≡ map length gs
 zero_lengths levels [] i = refl
 zero_lengths [] (g ∷ gs) i = rw (length-set g i 0) (ap (λ xs. length g ∷ xs) (zero_lengths [] gs i))
-zero_lengths (w ∷ ws) (g ∷ gs) i = rw (length-set g i 0) (ap (λ xs. length g ∷ xs) (zero_lengths ws gs (group_of w i)))
+zero_lengths (w ∷ ws) (g ∷ gs) i =
+    rw (length-set g i 0) (ap (λ xs. length g ∷ xs) (zero_lengths ws gs (group_of w i)))
 
-zero_top : (gs : List (List ℕ)) (l i : ℕ) → l < length gs → take (suc l) (set gs l (set (get_or gs l []) i 0)) ++ zero_up [] i (drop (suc l) (set gs l (set (get_or gs l []) i 0))) ≡ take l gs ++ zero_up [] i (drop l gs)
+zero_top : (gs : List (List ℕ)) (l i : ℕ) → l < length gs
+    → take (suc l) (set gs l (set (get_or gs l []) i 0)) ++ zero_up [] i (drop (suc l)
+    (set gs l (set (get_or gs l []) i 0))) ≡ take l gs ++ zero_up [] i (drop l gs)
 zero_top [] l i h = absurd (omega arith)
 zero_top (g ∷ gs) zero i h = refl
 zero_top (g ∷ gs) (suc l) i h = ap (λ xs. g ∷ xs) (zero_top gs l i (omega arith))
 
 -- one more level, as a loop upwards takes it
-pub zero_more : (levels gs : List (List ℕ)) (l i : ℕ) → l < length gs → take (suc l) (set gs l (set (get_or gs l []) i 0)) ++ zero_up (drop (suc l) levels) (place_above (drop l levels) 1 i) (drop (suc l) (set gs l (set (get_or gs l []) i 0))) ≡ take l gs ++ zero_up (drop l levels) i (drop l gs)
+pub zero_more : (levels gs : List (List ℕ)) (l i : ℕ) → l < length gs
+    → take (suc l) (set gs l (set (get_or gs l []) i 0)) ++ zero_up (drop (suc l)
+    levels) (place_above (drop l levels) 1 i) (drop (suc l) (set gs l (set (get_or gs l []) i 0)))
+    ≡ take l gs ++ zero_up (drop l levels) i (drop l gs)
 zero_more levels [] l i h = absurd (omega arith)
 zero_more [] (g ∷ gs) zero i h = refl
 zero_more (w ∷ ws) (g ∷ gs) zero i h = refl
@@ -73,38 +90,46 @@ tree_drop levels zero t = t
 tree_drop [] (suc l) t = t
 tree_drop (w ∷ ws) (suc l) t = tree_drop ws l t.3
 
-pub parent_is : (levels : List (List ℕ)) (l i : ℕ) → l < length levels → place_above (drop l levels) 1 i ≡ group_of (get_or levels l []) i
+pub parent_is : (levels : List (List ℕ)) (l i : ℕ) → l < length levels
+    → place_above (drop l levels) 1 i ≡ group_of (get_or levels l []) i
 parent_is [] l i h = absurd (omega arith)
 parent_is (w ∷ ws) zero i h = refl
 parent_is (w ∷ ws) (suc l) i h = parent_is ws l i (omega arith)
 
-pub parent_none : (levels : List (List ℕ)) (l i : ℕ) → length levels ≤ l → place_above (drop l levels) 1 i ≡ i
+pub parent_none : (levels : List (List ℕ)) (l i : ℕ) → length levels ≤ l
+    → place_above (drop l levels) 1 i ≡ i
 parent_none levels l i h = rw (drop_all l levels h) refl
 
-pub above_lt : (levels : List (List ℕ)) (l i : ℕ) → IsTree levels → i < size_below (drop l levels) → place_above (drop l levels) 1 i < size_below (drop (suc l) levels)
+pub above_lt : (levels : List (List ℕ)) (l i : ℕ) → IsTree levels → i < size_below (drop l levels)
+    → place_above (drop l levels) 1 i < size_below (drop (suc l) levels)
 above_lt [] zero i t h = h
 above_lt [] (suc l) i t h = h
 above_lt (w ∷ ws) zero i t h = group_below w ws i t h
 above_lt (w ∷ ws) (suc l) i t h = above_lt ws l i t.3 h
 
-pub row_lengths : (gs : List (List ℕ)) (l i x : ℕ) → map length (set gs l (set (get_or gs l []) i x)) ≡ map length gs
+pub row_lengths : (gs : List (List ℕ)) (l i x : ℕ)
+    → map length (set gs l (set (get_or gs l []) i x)) ≡ map length gs
 row_lengths [] l i x = refl
 row_lengths (g ∷ gs) zero i x = ap (λ n. n ∷ map length gs) (length-set g i x)
 row_lengths (g ∷ gs) (suc l) i x = ap (λ xs. length g ∷ xs) (row_lengths gs l i x)
 
 -- cores of one domain are of one domain above it
-pub same_up : (levels : List (List ℕ)) (l c d : ℕ) → place_above levels l c ≡ place_above levels l d → place_above levels (suc l) c ≡ place_above levels (suc l) d
+pub same_up : (levels : List (List ℕ)) (l c d : ℕ) → place_above levels l c ≡ place_above levels l d
+    → place_above levels (suc l) c ≡ place_above levels (suc l) d
 same_up [] zero c d e = e
 same_up [] (suc l) c d e = e
 same_up (w ∷ ws) zero c d e = ap (group_of w) e
 same_up (w ∷ ws) (suc l) c d e = same_up ws l (group_of w c) (group_of w d) e
 
-pub place_lt : (levels : List (List ℕ)) (l c : ℕ) → IsTree levels → l ≤ length levels → c < size_below levels → place_above levels l c < size_below (drop l levels)
+pub place_lt : (levels : List (List ℕ)) (l c : ℕ) → IsTree levels → l ≤ length levels
+    → c < size_below levels → place_above levels l c < size_below (drop l levels)
 place_lt levels zero c t h i = i
 place_lt [] (suc l) c t h i = absurd (omega arith)
-place_lt (w ∷ ws) (suc l) c t h i = place_lt ws l (group_of w c) t.3 (omega arith) (group_below w ws c t i)
+place_lt (w ∷ ws) (suc l) c t h i =
+    place_lt ws l (group_of w c) t.3 (omega arith) (group_below w ws c t i)
 
-pub size_of_level : (levels : List (List ℕ)) (l : ℕ) → l ≤ length levels → get_or (sizes levels) l 0 ≡ size_below (drop l levels)
+pub size_of_level : (levels : List (List ℕ)) (l : ℕ) → l ≤ length levels
+    → get_or (sizes levels) l 0 ≡ size_below (drop l levels)
 size_of_level [] zero h = refl
 size_of_level [] (suc l) h = absurd (omega arith)
 size_of_level (w ∷ ws) zero h = refl
@@ -115,14 +140,18 @@ length_sizes [] = refl
 length_sizes (w ∷ ws) = ap suc (length_sizes ws)
 
 -- how long the row of a level is
-pub row_length : (levels gs : List (List ℕ)) (l : ℕ) → map length gs ≡ sizes levels → l ≤ length levels → length (get_or gs l []) ≡ size_below (drop l levels)
+pub row_length : (levels gs : List (List ℕ)) (l : ℕ) → map length gs ≡ sizes levels
+    → l ≤ length levels → length (get_or gs l []) ≡ size_below (drop l levels)
 row_length levels gs l e h =
-    let long : length gs ≡ suc (length levels) = sym (length-map gs length) ∙ ap length e ∙ length_sizes levels in
-    sym (get_or-map length gs l [] 0 (omega arith)) ∙ ap (λ xs. get_or xs l 0) e ∙ size_of_level levels l h
+    let long : length gs ≡ suc (length levels) =
+    sym (length-map gs length) ∙ ap length e ∙ length_sizes levels in
+    sym (get_or-map length gs l [] 0 (omega arith)) ∙ ap (λ xs. get_or xs l 0) e
+    ∙ size_of_level levels l h
 
 -- What holds of every tree -------------------------------------------------------------------
 
-pub core_valid : (t : TreeValue) (core : ℕ) (activity : Activity) (known : ℕ) → IsDomainTree t → IsDomainTree (with_core t core activity known)
+pub core_valid : (t : TreeValue) (core : ℕ) (activity : Activity) (known : ℕ) → IsDomainTree t
+    → IsDomainTree (with_core t core activity known)
 core_valid t core activity known v = record {
   tree = v.tree;
   high = v.high;
@@ -160,22 +189,36 @@ path_valid t core v = record {
 }
 
 -- a granted depth of one domain
-pub grant_at : (t : TreeValue) (n : Node) (depth l p : ℕ) → IsDomainTree t → HasDomain t.levels n → granted_at (with_grant t n depth) l p ≡ cond (n.level == l && n.place == p) depth (granted_at t l p)
+pub grant_at : (t : TreeValue) (n : Node) (depth l p : ℕ) → IsDomainTree t → HasDomain t.levels n
+    → granted_at (with_grant t n depth) l p
+    ≡ cond (n.level == l && n.place == p) depth (granted_at t l p)
 unfolding with_grant
 grant_at t n depth l p v h =
-    let long : length t.granted ≡ suc (length t.levels) = sym (length-map t.granted length) ∙ ap length v.granted ∙ length_sizes t.levels in
-    let row : length (get_or t.granted n.level []) ≡ size_below (drop n.level t.levels) = row_length t.levels t.granted n.level v.granted h.level in
+    let long : length t.granted ≡ suc (length t.levels) =
+    sym (length-map t.granted length) ∙ ap length v.granted ∙ length_sizes t.levels in
+    let row : length (get_or t.granted n.level []) ≡ size_below (drop n.level t.levels) =
+    row_length t.levels t.granted n.level v.granted h.level in
     elim (cases_eq n.level l) [
-      | inl e ↦ rw (eq-eqb n.level l e, ← e, get_or-set_same t.granted n.level (set (get_or t.granted n.level []) n.place depth) [] (omega (arith, h.level)))
+      | inl e ↦ rw (
+        eq-eqb n.level l e,
+        ← e,
+        get_or-set_same t.granted n.level
+            (set (get_or t.granted n.level []) n.place depth) [] (omega (arith, h.level)),
+      )
           (at_set (get_or t.granted n.level []) n.place depth p (omega (arith, h.place)))
-      | inr e ↦ rw (ne_eqb n.level l e, get_or-set_other t.granted n.level l (set (get_or t.granted n.level []) n.place depth) [] (λ q. e (sym q))) refl
+      | inr e ↦ rw (
+        ne_eqb n.level l e,
+        get_or-set_other t.granted n.level l
+            (set (get_or t.granted n.level []) n.place depth) [] (λ q. e (sym q)),
+      ) refl
     ]
 
 grant_le : (b : Bool) (depth x m : ℕ) → depth ≤ m → x ≤ m → cond b depth x ≤ m
 grant_le true depth x m h e = h
 grant_le false depth x m h e = e
 
-grant_both : (b c : Bool) (depth x y : ℕ) → (b ≡ true → c ≡ true → ⊥) → (b ≡ true → depth ≤ y) → (c ≡ true → x ≤ depth) → x ≤ y → cond b depth x ≤ cond c depth y
+grant_both : (b c : Bool) (depth x y : ℕ) → (b ≡ true → c ≡ true → ⊥) → (b ≡ true → depth ≤ y)
+    → (c ≡ true → x ≤ depth) → x ≤ y → cond b depth x ≤ cond c depth y
 grant_both true true depth x y n f g h = absurd (n refl refl)
 grant_both true false depth x y n f g h = f refl
 grant_both false true depth x y n f g h = g refl
@@ -185,17 +228,21 @@ both_tests : (a b : Bool) → (a && b) ≡ true → (a ≡ true) × (b ≡ true)
 both_tests true b h = (refl, h)
 both_tests false b h = absurd (cc)
 
-is_domain : (n : Node) (l p : ℕ) → (n.level == l && n.place == p) ≡ true → (n.level ≡ l) × (n.place ≡ p)
-is_domain n l p h = let e = both_tests (n.level == l) (n.place == p) h in (eqb-true _ _ e.0, eqb-true _ _ e.1)
+is_domain : (n : Node) (l p : ℕ) → (n.level == l && n.place == p) ≡ true
+    → (n.level ≡ l) × (n.place ≡ p)
+is_domain n l p h = let e = both_tests (n.level == l) (n.place == p) h in
+    (eqb-true _ _ e.0, eqb-true _ _ e.1)
 
-pub grant_valid : (t : TreeValue) (n : Node) (depth : ℕ) → IsDomainTree t → HasDomain t.levels n → MayGrant t n depth → IsDomainTree (with_grant t n depth)
+pub grant_valid : (t : TreeValue) (n : Node) (depth : ℕ) → IsDomainTree t → HasDomain t.levels n
+    → MayGrant t n depth → IsDomainTree (with_grant t n depth)
 unfolding with_grant
 grant_valid t n depth v h may = record {
   tree = v.tree;
   high = v.high;
   cores = v.cores;
   granted = row_lengths t.granted n.level n.place depth ∙ v.granted;
-  deepest = λ l p. rw (grant_at t n depth l p v h) (grant_le _ depth _ 3 may.deepest (v.deepest l p));
+  deepest =
+      λ l p. rw (grant_at t n depth l p v h) (grant_le _ depth _ 3 may.deepest (v.deepest l p));
   nested = λ c l i b.
       rw (
         grant_at t n depth (l + 1) (place_above t.levels (l + 1) c) v h,
@@ -208,20 +255,23 @@ grant_valid t n depth v h may = record {
       (v.nested c l i b));
 }
   where
-    child : (c l : ℕ) → c < size_below t.levels → n.level ≡ l + 1 → n.place ≡ place_above t.levels (l + 1) c → depth ≤ granted_at t l (place_above t.levels l c)
+    child : (c l : ℕ) → c < size_below t.levels → n.level ≡ l + 1 → n.place
+        ≡ place_above t.levels (l + 1) c → depth ≤ granted_at t l (place_above t.levels l c)
     child c l i d e =
         let same : n.level - 1 ≡ l = omega arith in
         let here = may.children c i (omega arith) (rw d (sym e)) in
         rw same at here
 
-    parent : (c l : ℕ) → c < size_below t.levels → l < length t.levels → n.level ≡ l → n.place ≡ place_above t.levels l c → granted_at t (l + 1) (place_above t.levels (l + 1) c) ≤ depth
+    parent : (c l : ℕ) → c < size_below t.levels → l < length t.levels → n.level ≡ l → n.place
+        ≡ place_above t.levels l c → granted_at t (l + 1) (place_above t.levels (l + 1) c) ≤ depth
     parent c l i b d e =
         let here = may.parent c i (omega arith) (rw d (sym e)) in
         rw d at here
 
 -- The start of a life ------------------------------------------------------------------------
 
-pub rows_at : (sizes : List ℕ) (l p : ℕ) → p < get_or sizes l 0 → ◌≡◌ {A = ℕ} (get_or (get_or (rows_of sizes 3) l []) p 0) 3
+pub rows_at : (sizes : List ℕ) (l p : ℕ) → p < get_or sizes l 0
+    → ◌≡◌ {A = ℕ} (get_or (get_or (rows_of sizes 3) l []) p 0) 3
 rows_at [] l p h = absurd (omega arith)
 rows_at (n ∷ ns) zero p h = get_or-replicate n p 3 0 h
 rows_at (n ∷ ns) (suc l) p h = rows_at ns l p h
@@ -240,7 +290,9 @@ rows_lengths : (sizes : List ℕ) → map length (rows_of sizes 3) ≡ sizes
 rows_lengths [] = refl
 rows_lengths (n ∷ ns) = rw (length-replicate {A = ℕ} n 3) (ap (λ xs. n ∷ xs) (rows_lengths ns))
 
-pub full_valid : (levels : List (List ℕ)) (cores : List CoreState) → IsTree levels → length levels ≤ 3 → length cores ≡ size_below levels → IsDomainTree (record { levels = levels; cores = cores; granted = rows_of (sizes levels) 3 })
+pub full_valid : (levels : List (List ℕ)) (cores : List CoreState) → IsTree levels
+    → length levels ≤ 3 → length cores ≡ size_below levels
+    → IsDomainTree (record { levels = levels; cores = cores; granted = rows_of (sizes levels) 3 })
 full_valid levels cores t h e = record {
   tree = t;
   high = h;
@@ -249,19 +301,23 @@ full_valid levels cores t h e = record {
   deepest = λ l p. rows_le (sizes levels) l p;
   nested = λ c l i b.
       let inside = place_lt levels l c t (omega arith) i in
-      rw (rows_at (sizes levels) l (place_above levels l c) (omega (arith, inside, size_of_level levels l (omega arith))))
+      rw (rows_at (sizes levels) l (place_above levels l c)
+      (omega (arith, inside, size_of_level levels l (omega arith))))
       (rows_le (sizes levels) (l + 1) (place_above levels (l + 1) c));
 }
 
-pub all_off_valid : (levels : List (List ℕ)) → IsTree levels → length levels ≤ 3 → IsDomainTree (all_off levels)
-all_off_valid levels t h = full_valid levels _ t h (length-replicate (size_below levels) never_started)
+pub all_off_valid : (levels : List (List ℕ)) → IsTree levels → length levels ≤ 3
+    → IsDomainTree (all_off levels)
+all_off_valid levels t h =
+    full_valid levels _ t h (length-replicate (size_below levels) never_started)
 
 -- the row of a domain's level
 pub record RowOf (gs : List (List ℕ)) (n : Node) : Type 0 where
   pub level : n.level < length gs
   pub place : n.place < length (get_or gs n.level [])
 
-pub row_of : (levels gs : List (List ℕ)) (n : Node) → map length gs ≡ sizes levels → HasDomain levels n → RowOf gs n
+pub row_of : (levels gs : List (List ℕ)) (n : Node) → map length gs ≡ sizes levels
+    → HasDomain levels n → RowOf gs n
 row_of levels gs n e h = record {
   level = omega (arith, h.level, length-map gs length, ap length e, length_sizes levels);
   place = omega (arith, h.place, row_length levels gs n.level e h.level);

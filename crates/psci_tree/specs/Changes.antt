@@ -1,5 +1,6 @@
 -- What a call changes in a tree of power domains.
-use Rattle.std.specs.Prelude.{◌≡◌, ℕ, ◌+◌, ◌-◌, ◌<◌, ◌≤◌, List, [], ◌∷◌, length, map, replicate, slice_set, slice_index_or}
+use Rattle.std.specs.Prelude.{◌≡◌, ℕ, ◌+◌, ◌-◌, ◌<◌, ◌≤◌, List, [], ◌∷◌, length}
+use Rattle.std.specs.Prelude.{map, replicate, slice_set, slice_index_or}
 use Rattle.psci_board.specs.declared.node.Node.{Node}
 use Rattle.psci_board.specs.Board.{size_below, group_of, place_above}
 use Rattle.psci_tree.specs.declared.state.Activity.{Activity}
@@ -22,15 +23,20 @@ zero_up (w ∷ ws) place (g ∷ gs) = slice_set g place 0 ∷ zero_up ws (group_
 abbrev pub with_path_on : TreeValue → ℕ → TreeValue
 with_path_on t core = record t { granted = zero_up t.levels core t.granted }
 
+-- a core is suspended, and asks these depths; what was granted stays
 unfoldable pub suspended : TreeValue → ℕ → List ℕ → TreeValue
 suspended t core depths = with_core t core (Suspended depths) (known_at t core)
 
+-- a core is off, or going off; what was granted stays
 unfoldable pub turned_off : TreeValue → ℕ → TreeValue
 turned_off t core = with_core t core Off (known_at t core)
 
+-- a core is pending: it asks for nothing, and nothing is granted on its path
 unfoldable pub made_pending : TreeValue → ℕ → TreeValue
 made_pending t core = with_path_on (with_core t core Active (known_at t core)) core
 
+-- a core runs in its start of this number: it asks for nothing, and nothing is granted on its
+-- path
 unfoldable pub started : TreeValue → ℕ → ℕ → TreeValue
 started t core known = with_path_on (with_core t core Active known) core
 

@@ -11,6 +11,7 @@ abbrev pub cores_from : CoreState → List (List CoreState) → List CoreState
 cores_from core [] = core ∷ []
 cores_from core (k ∷ ks) = flat_map (λ x. x) (k ∷ ks)
 
+-- the same at one domain, where the lists of its children are known
 abbrev pub cores_step : Domain-F (List CoreState) → List CoreState
 cores_step n = cores_from n.core n.children.items
 
@@ -18,6 +19,7 @@ cores_step n = cores_from n.core n.children.items
 abbrev pub cores : Domain → List CoreState
 cores = fold-Domain (List CoreState) cores_step
 
+-- the children of a domain, from left to right
 abbrev pub children : Domain → List Domain
 children n = (out-Domain n).children.items
 

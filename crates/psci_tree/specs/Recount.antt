@@ -1,5 +1,6 @@
 -- What a tree of power domains holds, and what is counted over the cores below a domain.
-use Rattle.std.specs.Prelude.{◌≡◌, ℕ, zero, suc, ◌+◌, ◌-◌, ◌<◌, ◌≤◌, min, Bool, true, false, List, [], ◌∷◌, length, take, drop, map, filter, sum, ◌==◌, slice_index, slice_index_or}
+use Rattle.std.specs.Prelude.{◌≡◌, ℕ, ◌+◌, ◌<◌, ◌≤◌, min, Bool, true, false, List, [], ◌∷◌}
+use Rattle.std.specs.Prelude.{length, drop, map, filter, ◌==◌, slice_index, slice_index_or}
 use Rattle.std.specs.List.{sum_by, count_by, range_with_len}
 use Rattle.psci_board.specs.declared.node.Node.{Node}
 use Rattle.psci_board.specs.Board.{size_below, place_above, IsTree}
@@ -7,6 +8,7 @@ use Rattle.psci_tree.specs.declared.state.CoreState.{CoreState}
 use Rattle.psci_tree.specs.declared.state.Activity.{Activity}
 use Rattle.psci_tree.specs.declared.state.Activity.TheVariants.{Active, Suspended, Off}
 
+-- A tree as contracts see it.
 pub record TreeValue : Type 0 where
   -- the board's levels: from level 1 up, how many children each domain of the level has
   pub levels : List (List ℕ)
@@ -23,11 +25,13 @@ asks Active level = 0
 asks (Suspended depths) level = slice_index depths level
 asks Off level = 3
 
+-- whether a core is running or pending
 abbrev pub runs : Activity → Bool
 runs Active = true
 runs (Suspended depths) = false
 runs Off = false
 
+-- whether a core is off or going off
 abbrev pub rests : Activity → Bool
 rests Active = false
 rests (Suspended depths) = false
@@ -37,12 +41,15 @@ rests Off = true
 abbrev pub never_started : CoreState
 never_started = record { activity = Off; known = 0 }
 
+-- what is kept of the core of this number
 abbrev pub core_at : TreeValue → ℕ → CoreState
 core_at t core = slice_index_or t.cores core never_started
 
+-- the depth that this core asks of its domain of this level
 abbrev pub ask_at : TreeValue → ℕ → ℕ → ℕ
 ask_at t core level = asks (core_at t core).activity level
 
+-- the number of this core's last start that was seen to enter, or 0
 abbrev pub known_at : TreeValue → ℕ → ℕ
 known_at t core = (core_at t core).known
 
@@ -60,16 +67,6 @@ is_off_at t core = rests (core_at t core).activity
 abbrev pub below : List (List ℕ) → Node → List ℕ
 below levels n =
     filter (λ c. place_above levels n.level c == n.place) (range_with_len 0 (size_below levels))
-
--- the number of the first core below the domain of this level and place
-abbrev pub first_core : List (List ℕ) → ℕ → ℕ → ℕ
-first_core levels zero place = place
-first_core levels (suc level) place =
-    first_core levels level (sum (take place (slice_index_or levels level [])))
-
--- how many cores stand below it
-abbrev pub width : List (List ℕ) → Node → ℕ
-width levels n = first_core levels n.level (n.place + 1) - first_core levels n.level n.place
 
 -- the least of these depths, of 0 to 3
 abbrev pub least : List ℕ → ℕ
@@ -94,6 +91,7 @@ off t n = count_by (λ c. is_off_at t c) (below t.levels n)
 
 -- Granted depths -------------------------------------------------------------------------------
 
+-- the depth that was granted to the domain of this level and place
 abbrev pub granted_at : TreeValue → ℕ → ℕ → ℕ
 granted_at t level place = slice_index (slice_index_or t.granted level []) place
 

@@ -1,6 +1,7 @@
 //! Power domains that hold those below them.
 
-ghost use Rattle.std.specs.Prelude.{◌≡◌, ℕ, ◌+◌, ◌*◌, ◌^◌, ◌<◌, ◌≤◌, length, map, replicate, slice_set, take, get_or};
+ghost use Rattle.std.specs.Prelude.{◌≡◌, ℕ, ◌+◌, ◌*◌, ◌^◌, ◌<◌, ◌≤◌, length};
+ghost use Rattle.std.specs.Prelude.{map, replicate, slice_set, take, get_or};
 ghost use Rattle.std.specs.List.{sum_by, count_by};
 ghost use Rattle.psci_tree.specs.declared.domain.Domain.{Domain};
 ghost use Rattle.psci_tree.specs.Recount.{asks, runs, rests, least, never_started};

@@ -1,21 +1,27 @@
 //! What holds of the definitions alone: each law is the contract of a function that does nothing.
 
-ghost use Rattle.std.specs.Prelude.{◌≡◌, ℕ, ◌<◌, ◌≤◌, ◌==◌, ◌&&◌, true, false, if◌then◌else◌, List, length, take, drop};
+ghost use Rattle.std.specs.Prelude.{◌≡◌, ℕ, ◌<◌, ◌≤◌, ◌==◌, ◌&&◌, true, false};
+ghost use Rattle.std.specs.Prelude.{if◌then◌else◌, List, length, map, take, drop};
 ghost use Rattle.std.specs.List.{range_with_len};
 ghost use Rattle.psci_board.specs.declared.node.Node.{Node};
 ghost use Rattle.psci_board.specs.Board.{BoardValue, IsTree, size_below, place_above};
 ghost use Rattle.psci_board.specs.Board as board;
 ghost use Rattle.psci_tree.specs.declared.state.Activity.TheVariants.{Active, Suspended, Off};
-ghost use Rattle.psci_tree.specs.Recount.{TreeValue, HasDomain, IsDomainTree, active, ask_at, below, core_at, first_core, granted_at, is_active_at, is_off_at, known_at, low, never_started, off, width};
-ghost use Rattle.psci_tree.specs.Changes.{life_start, made_pending, started, suspended, turned_off, with_grant};
+ghost use Rattle.psci_tree.specs.Recount.{TreeValue, HasDomain, IsDomainTree, active, ask_at};
+ghost use Rattle.psci_tree.specs.Recount.{below, core_at, granted_at, is_active_at};
+ghost use Rattle.psci_tree.specs.Recount.{is_off_at, known_at, low, never_started, off};
+ghost use Rattle.psci_tree.specs.Changes.{life_start, made_pending, started};
+ghost use Rattle.psci_tree.specs.Changes.{suspended, turned_off, with_grant};
 
-/// The cores below a domain are those of the board's own words. They stand side by side: they are
-/// a slice of all cores, `width` of them from the `first_core` on.
+/// The cores below a domain are those of the board's own words. They stand side by side: their
+/// numbers follow each other, and their states are a slice of those of all cores.
 pub fn law_below()
     ensures board { (b : BoardValue) (n : Node) → board.below b n ≡ below b.levels n }
-    ensures slice { (levels : List (List ℕ)) (n : Node) → IsTree levels → HasDomain levels n
-        → below levels n ≡ take (width levels n) (drop (first_core levels n.level n.place)
-        (range_with_len 0 (size_below levels))) }
+    ensures beside { (levels : List (List ℕ)) (n : Node) → IsTree levels → HasDomain levels n
+        → (first count : ℕ) × (below levels n ≡ range_with_len first count) }
+    ensures slice { (t : TreeValue) (n : Node) → IsDomainTree t → HasDomain t.levels n
+        → (first count : ℕ) × (below t.levels n ≡ range_with_len first count)
+        × (map (λ c. core_at t c) (below t.levels n) ≡ take count (drop first t.cores)) }
 {}
 
 /// The state of each core after each change: that of the named core alone is another one.

@@ -1,6 +1,7 @@
 //! The rows of a board: its levels, and a depth for each domain.
 
-ghost use Rattle.std.specs.Prelude.{◌≡◌, ℕ, ◌+◌, ◌-◌, ◌<◌, ◌≤◌, map, length, replicate, slice_index_or, [], IfOk};
+ghost use Rattle.std.specs.Prelude.{◌≡◌, ℕ, ◌+◌, ◌-◌, ◌<◌, ◌≤◌, map, length};
+ghost use Rattle.std.specs.Prelude.{replicate, slice_index_or, [], IfOk};
 ghost use Rattle.psci_board.specs.Board.{IsTree, size_below};
 ghost use Rattle.psci_tree.specs.Recount.{sizes};
 ghost use Rattle.psci_tree.specs.Changes.{rows_of};

@@ -45,8 +45,10 @@ ghost use Rattle.std.specs.Prelude.{◌≡◌, ℕ, ◌+◌, ◌^◌, ◌<◌, �
 ghost use Rattle.psci_board.specs.Board.{size_below};
 ghost use Rattle.psci_tree.specs.declared.domain.Domain.{Domain, out-Domain};
 ghost use Rattle.psci_tree.specs.declared.state.Activity.TheVariants.{Active, Suspended, Off};
-ghost use Rattle.psci_tree.specs.Recount.{HasDomain, IsDomainTree, core_at, below, known_at, low, known, active, off, granted_at};
-ghost use Rattle.psci_tree.specs.Changes.{MayGrant, suspended, turned_off, made_pending, started, with_grant, with_core, with_path_on, all_off, life_start};
+ghost use Rattle.psci_tree.specs.Recount.{HasDomain, IsDomainTree, core_at, below};
+ghost use Rattle.psci_tree.specs.Recount.{known_at, low, known, active, off, granted_at};
+ghost use Rattle.psci_tree.specs.Changes.{MayGrant, suspended, turned_off, made_pending, started};
+ghost use Rattle.psci_tree.specs.Changes.{with_grant, with_core, with_path_on, all_off, life_start};
 ghost use Rattle.psci_tree.specs.Domains.{cores};
 
 impl Tree {
@@ -221,7 +223,8 @@ impl Tree {
     /// The domain of a node.
     fn domain(&self, node: Node) -> &Domain
         requires { HasDomain self.now.levels node }
-        ensures cores { cores result.now ≡ map (λ c. core_at self.now c) (below self.now.levels node) }
+        ensures cores { cores result.now
+            ≡ map (λ c. core_at self.now c) (below self.now.levels node) }
         ensures few { length (cores result.now) < 2 ^ 16 }
         ensures core { node.level ≡ 0 → (out-Domain result.now).core ≡ core_at self.now node.place }
     {

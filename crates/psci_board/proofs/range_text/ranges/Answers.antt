@@ -2,7 +2,8 @@ use Rattle.std.proofs.Common.{◌≡◌, ◌∷◌, sym, ap, ◌∙◌, refl}
 use Rattle.psci_board.specs.Seen.{with_ranges, ranges_at, no_ranges}
 use Rattle.psci_board.specs.Reading.{range_at, more_at}
 use Rattle.psci_board.specs.Verdict.{range_of}
-use Rattle.psci_board.proofs.More.{range_shortens, spaced_shortens, more_some, more_none, noted_some, noted_none}
+use Rattle.psci_board.proofs.More.{range_shortens, spaced_shortens, more_some, more_none}
+use Rattle.psci_board.proofs.More.{noted_some, noted_none}
 use Rattle.psci_board.proofs.range_text.ranges.Goals as goal
 
 pub returns-in_err-first : goal.returns-in_err-first

@@ -1,7 +1,10 @@
 use Rattle.std.proofs.Common.{◌≡◌, ◌∷◌, sym, ap, ◌∙◌, arith, refl}
 use Rattle.psci_board.specs.Seen.{with_members}
 use Rattle.psci_board.specs.Reading.{mid_at, more_at}
-use Rattle.psci_board.proofs.More.{mid_shortens, spaced_shortens, more_some, more_none, list_ended, list_unclosed, rest_again, if_kept, list_unopened, list_empty, read_some, read_none, spaced_some, spaced_none, unspaced, spaced_unclosed}
+use Rattle.psci_board.proofs.More.{mid_shortens, spaced_shortens, more_some, more_none, list_ended}
+use Rattle.psci_board.proofs.More.{list_unclosed, rest_again, if_kept, list_unopened, list_empty}
+use Rattle.psci_board.proofs.More.{read_some, read_none, spaced_some, spaced_none, unspaced}
+use Rattle.psci_board.proofs.More.{spaced_unclosed}
 use Rattle.psci_board.proofs.tree_text.members.Goals as goal
 
 pub returns-in_err-literal-clause-read : goal.returns-in_err-literal-clause-read

@@ -1,7 +1,8 @@
 use Rattle.std.proofs.Common.{ℕ, ◌∙◌, refl, ap, cond, ◌==◌}
 use Rattle.psci_board.specs.Board.{place_above}
 use Rattle.psci_tree.specs.Recount.{known_at}
-use Rattle.psci_tree.specs.Changes.{suspended, turned_off, made_pending, started, with_core, life_start, all_off}
+use Rattle.psci_tree.specs.Changes.{suspended, turned_off, made_pending}
+use Rattle.psci_tree.specs.Changes.{started, with_core, life_start, all_off}
 use Rattle.psci_tree.specs.declared.state.Activity.TheVariants.{Active}
 use Rattle.psci_tree.proofs.Granted.{grant_at}
 use Rattle.psci_tree.proofs.Looked.{granted_with, granted_off}
@@ -17,7 +18,8 @@ returns-clause-off c = λ t core l p. refl
 
 pub returns-clause-pending : goal.returns-clause-pending
 unfolding made_pending
-returns-clause-pending c = λ t core l p. granted_with (with_core t core Active (known_at t core)) core l p
+returns-clause-pending c =
+    λ t core l p. granted_with (with_core t core Active (known_at t core)) core l p
 
 pub returns-clause-started : goal.returns-clause-started
 unfolding started

@@ -12,5 +12,6 @@ loop-child-init t c = record {
 pub returns-clause-value : goal.returns-clause-value
 returns-clause-value t c =
     c.loop-child.invariant.value
-    ∙ sum_done (λ c. c.known) c.args.self.now c.deref-child-items.result.now c.loop-child.child-index
+    ∙ sum_done (λ c.
+    c.known) c.args.self.now c.deref-child-items.result.now c.loop-child.child-index
     c.deref-child-items.ensures.value (grind arith) c.loop-child-test.false

@@ -7,5 +7,6 @@ abbrev pub invariant-loop-child : goal.invariant-loop-child
 invariant-loop-child l = record {
   value : l.known ≡ sum_by (λ c. c.known) (cores_in (take l.child-index l.child-items));
   small : l.known ≤ 2 ^ 32 * length (cores_in (take l.child-index l.child-items));
-  few : length (cores_in (take l.child-index l.child-items)) + length (cores_in (drop l.child-index l.child-items)) ≡ length (cores l.self);
+  few : length (cores_in (take l.child-index l.child-items))
+      + length (cores_in (drop l.child-index l.child-items)) ≡ length (cores l.self);
 }

@@ -16,6 +16,7 @@ loop-place-preserved c =
           ∙ ap (λ xs. set xs place never_started) c.loop-place.invariant.states
           ∙ set_next never_started old place (omega arith)
           ∙ ap (λ n. replicate n never_started ++ drop n old) (sym up);
-      same = ap length c.set.ensures.cores ∙ length-set (cores c.loop-place.self) place never_started ∙ c.loop-place.invariant.same;
+      same = ap length c.set.ensures.cores
+          ∙ length-set (cores c.loop-place.self) place never_started ∙ c.loop-place.invariant.same;
       shape = λ k. c.set.ensures.shape k ∙ c.loop-place.invariant.shape k;
     }

@@ -9,19 +9,51 @@ pub returns-clause-cores : goal.returns-clause-cores
 returns-clause-cores c =
     let k : ℕ = length (map (λ v. v.items) c.split_at.result.1.now) in
     let is = c.self.view_is in
-    let tied : IsTied c.self.inside.root c.args.self.now = subst (IsTied c.self.inside.root) is c.self.invariant in
-    let e : k + c.args.node.level ≡ length c.args.self.now.levels = omega (arith, ap (λ (v : TreeValue). length v.levels) is, c.requires.level, length-map c.split_at.result.1.now (λ v. v.items), ap length c.split_at.ensures.back, length-drop c.args.node.level c.deref.result.now, ap length c.deref.ensures.value, length-map c.self.inside.levels.items (λ v. v.items)) in
-    states_at c.self.inside.root c.args.self.now c.args.node k c.domain_at.result.now tied.valid.tree tied.whole (ap (λ (v : TreeValue). v.cores) (sym is)) c.requires e (c.domain_at.ensures c.domain_at.result.now)
+    let tied : IsTied c.self.inside.root c.args.self.now =
+    subst (IsTied c.self.inside.root) is c.self.invariant in
+    let e : k + c.args.node.level ≡ length c.args.self.now.levels =
+    omega (
+      arith,
+      ap (λ (v : TreeValue). length v.levels) is,
+      c.requires.level,
+      length-map c.split_at.result.1.now (λ v. v.items),
+      ap length c.split_at.ensures.back,
+      length-drop c.args.node.level c.deref.result.now,
+      ap length c.deref.ensures.value,
+      length-map c.self.inside.levels.items (λ v. v.items),
+    ) in
+    states_at c.self.inside.root c.args.self.now c.args.node k c.domain_at.result.now
+    tied.valid.tree tied.whole (ap (λ (v : TreeValue). v.cores) (sym is)) c.requires e
+    (c.domain_at.ensures c.domain_at.result.now)
 
 pub returns-clause-few : goal.returns-clause-few
 returns-clause-few c =
-    let tied : IsTied c.self.inside.root c.args.self.now = subst (IsTied c.self.inside.root) c.self.view_is c.self.invariant in
-    omega (arith, ap length (returns-clause-cores c), length-map (below c.args.self.now.levels c.args.node) (λ x. core_at c.args.self.now x), few_below c.args.self.now.levels c.args.node tied.valid.tree)
+    let tied : IsTied c.self.inside.root c.args.self.now =
+    subst (IsTied c.self.inside.root) c.self.view_is c.self.invariant in
+    omega (
+      arith,
+      ap length (returns-clause-cores c),
+      length-map (below c.args.self.now.levels c.args.node) (λ x. core_at c.args.self.now x),
+      few_below c.args.self.now.levels c.args.node tied.valid.tree,
+    )
 
 pub returns-clause-core : goal.returns-clause-core
 returns-clause-core c =
     let k : ℕ = length (map (λ v. v.items) c.split_at.result.1.now) in
     let is = c.self.view_is in
-    let tied : IsTied c.self.inside.root c.args.self.now = subst (IsTied c.self.inside.root) is c.self.invariant in
-    let e : k + c.args.node.level ≡ length c.args.self.now.levels = omega (arith, ap (λ (v : TreeValue). length v.levels) is, c.requires.level, length-map c.split_at.result.1.now (λ v. v.items), ap length c.split_at.ensures.back, length-drop c.args.node.level c.deref.result.now, ap length c.deref.ensures.value, length-map c.self.inside.levels.items (λ v. v.items)) in
-    core_of_leaf c.self.inside.root c.args.self.now c.args.node k c.domain_at.result.now tied.valid.tree tied.whole (ap (λ (v : TreeValue). v.cores) (sym is)) c.requires e (c.domain_at.ensures c.domain_at.result.now)
+    let tied : IsTied c.self.inside.root c.args.self.now =
+    subst (IsTied c.self.inside.root) is c.self.invariant in
+    let e : k + c.args.node.level ≡ length c.args.self.now.levels =
+    omega (
+      arith,
+      ap (λ (v : TreeValue). length v.levels) is,
+      c.requires.level,
+      length-map c.split_at.result.1.now (λ v. v.items),
+      ap length c.split_at.ensures.back,
+      length-drop c.args.node.level c.deref.result.now,
+      ap length c.deref.ensures.value,
+      length-map c.self.inside.levels.items (λ v. v.items),
+    ) in
+    core_of_leaf c.self.inside.root c.args.self.now c.args.node k c.domain_at.result.now
+    tied.valid.tree tied.whole (ap (λ (v : TreeValue). v.cores) (sym is)) c.requires e
+    (c.domain_at.ensures c.domain_at.result.now)

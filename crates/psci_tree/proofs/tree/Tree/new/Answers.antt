@@ -16,10 +16,15 @@ invariant_of-tree c =
     let same : levels ≡ c.args.board.now.levels = c.in_ok-levels.ensures {u = tt} in
     let tree : IsTree levels = subst IsTree (sym same) board.tree in
     let high : length levels ≤ 3 = omega (arith, ap length same, board.high) in
-    let whole : IsWhole root levels = subst (λ xs. IsWhole root (map (λ v. v.items) xs)) c.deref-2.ensures.value (c.in_ok-root.ensures {u = tt}) in
-    let granted : map (λ v. v.items) c.in_ok-granted.granted.items ≡ rows_of (sizes levels) 3 = c.in_ok-granted.ensures {u = tt} ∙ ap (λ xs. rows_of (sizes (map (λ v. v.items) xs)) 3) c.deref.ensures.value in
-    let at : List (List ℕ) → TreeValue = λ gs. record { levels = levels; cores = cores root; granted = gs } in
+    let whole : IsWhole root levels = subst (λ xs. IsWhole root (map (λ v. v.items) xs))
+    c.deref-2.ensures.value (c.in_ok-root.ensures {u = tt}) in
+    let granted : map (λ v. v.items) c.in_ok-granted.granted.items ≡ rows_of (sizes levels) 3 =
+    c.in_ok-granted.ensures {u = tt}
+    ∙ ap (λ xs. rows_of (sizes (map (λ v. v.items) xs)) 3) c.deref.ensures.value in
+    let at : List (List ℕ) → TreeValue =
+    λ gs. record { levels = levels; cores = cores root; granted = gs } in
     record {
       whole = whole;
-      valid = subst (λ gs. IsDomainTree (at gs)) (sym granted) (full_valid levels (cores root) tree high (length_cores root levels tree whole));
+      valid = subst (λ gs. IsDomainTree (at gs)) (sym granted)
+          (full_valid levels (cores root) tree high (length_cores root levels tree whole));
     }

@@ -4,4 +4,5 @@ use Rattle.psci_tree.proofs.tree.Tree.reset_life.Goals as goal
 
 pub returns-clause-value : goal.returns-clause-value
 unfolding life_start
-returns-clause-value c = c.set_pending.ensures.value ∙ ap (λ t. made_pending t 0) c.turn_off.ensures.value
+returns-clause-value c =
+    c.set_pending.ensures.value ∙ ap (λ t. made_pending t 0) c.turn_off.ensures.value

@@ -7,4 +7,5 @@ pub returns-clause-value : goal.returns-clause-value
 unfolding suspended
 returns-clause-value c =
     c.set_core.ensures.value
-    ∙ ap (with_core c.args.self.now c.args.core.number (Suspended c.args.ask)) c.known_start-known.ensures
+    ∙ ap (with_core c.args.self.now c.args.core.number
+    (Suspended c.args.ask)) c.known_start-known.ensures

@@ -9,4 +9,5 @@ returns-clause-value c =
     let core = c.args.core.number in
     c.clear_path.ensures.value
     ∙ ap (λ t. with_path_on t core)
-    (c.set_core.ensures.value ∙ ap (with_core c.args.self.now core Active) c.known_start-known.ensures)
+    (c.set_core.ensures.value
+    ∙ ap (with_core c.args.self.now core Active) c.known_start-known.ensures)

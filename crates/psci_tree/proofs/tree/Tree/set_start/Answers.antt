@@ -5,4 +5,5 @@ use Rattle.psci_tree.proofs.tree.Tree.set_start.Goals as goal
 pub returns-clause-value : goal.returns-clause-value
 unfolding started
 returns-clause-value c =
-    c.clear_path.ensures.value ∙ ap (λ t. with_path_on t c.args.core.number) c.set_core.ensures.value
+    c.clear_path.ensures.value
+    ∙ ap (λ t. with_path_on t c.args.core.number) c.set_core.ensures.value

@@ -14,10 +14,14 @@ use Rattle.psci_tree.proofs.tree.Tree.turn_off.Goals as goal
 pub returns-clause-value : goal.returns-clause-value
 returns-clause-value c =
     let levels : List (List ℕ) = map (λ v. v.items) c.self.inside.levels.items in
-    let long : length c.fill_rows.new.rows ≡ c.self.inside.granted.len = omega (arith, c.fill_rows.auto.rows, c.deref_mut.ensures.len) in
+    let long : length c.fill_rows.new.rows ≡ c.self.inside.granted.len =
+    omega (arith, c.fill_rows.auto.rows, c.deref_mut.ensures.len) in
     let kept = with_items_is c.self.inside.granted c.fill_rows.new.rows long in
-    let change : List CoreState → List (List ℕ) → TreeValue = λ cs gs. record { levels = levels; cores = cs; granted = gs } in
-    let states : cores c.turn_off.new.self ≡ replicate (size_below levels) never_started = c.turn_off.ensures.cores ∙ ap (λ n. replicate n never_started) c.self.invariant.valid.cores in
+    let change : List CoreState → List (List ℕ) → TreeValue =
+    λ cs gs. record { levels = levels; cores = cs; granted = gs } in
+    let states : cores c.turn_off.new.self ≡ replicate (size_below levels) never_started =
+    c.turn_off.ensures.cores
+    ∙ ap (λ n. replicate n never_started) c.self.invariant.valid.cores in
     let rows : map (λ v. v.items) c.fill_rows.new.rows ≡ rows_of (sizes levels) 3 =
     c.fill_rows.ensures
     ∙ ap (λ xs. rows_of (map length (map (λ v. v.items) xs)) 3) c.deref_mut.ensures.value
@@ -28,14 +32,18 @@ returns-clause-value c =
 
 pub returns-clause-tree : goal.returns-clause-tree
 returns-clause-tree c =
-    let tied : IsTied c.self.inside.root c.args.self.now = subst (IsTied c.self.inside.root) c.self.view_is c.self.invariant in
-    subst IsDomainTree (sym (returns-clause-value c)) (all_off_valid c.args.self.now.levels tied.valid.tree tied.valid.high)
+    let tied : IsTied c.self.inside.root c.args.self.now =
+    subst (IsTied c.self.inside.root) c.self.view_is c.self.invariant in
+    subst IsDomainTree (sym (returns-clause-value c))
+    (all_off_valid c.args.self.now.levels tied.valid.tree tied.valid.high)
 
 pub invariant_of-self : goal.invariant_of-self
 invariant_of-self c =
-    let tied : IsTied c.self.inside.root c.args.self.now = subst (IsTied c.self.inside.root) c.self.view_is c.self.invariant in
+    let tied : IsTied c.self.inside.root c.args.self.now =
+    subst (IsTied c.self.inside.root) c.self.view_is c.self.invariant in
     let root : Domain = c.turn_off.new.self in
     subst (IsTied root) (sym (returns-clause-value c)) (record {
-      whole = whole_kept c.self.inside.root root c.args.self.now.levels c.turn_off.ensures.shape tied.whole;
+      whole = whole_kept c.self.inside.root root c.args.self.now.levels
+          c.turn_off.ensures.shape tied.whole;
       valid = all_off_valid c.args.self.now.levels tied.valid.tree tied.valid.high;
     })
