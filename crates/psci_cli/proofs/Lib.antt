@@ -1,5 +1,6 @@
 pub mod Ahead
 pub mod BootCore
+pub mod CommandRows
 pub mod Cutting
 pub mod Finding
 pub mod Known

@@ -1,5 +1,5 @@
 -- Exit statuses, and what standard error says of a fault.
-use Rattle.std.specs.Prelude.{ℕ, List, ◌++◌, codes}
+use Rattle.std.specs.Prelude.{ℕ, List, ◌++◌, codes, ⊤}
 use Rattle.std.specs.Fmt.{decimal}
 use Rattle.psci_board.specs.declared.fault.BoardFault.{BoardFault}
 use Rattle.psci_board.specs.declared.fault.BoardFault.TheVariants as boards
@@ -42,6 +42,11 @@ replay_status Memory = 5
 abbrev pub status_of : Failure → ℕ
 status_of CommandLine = 2
 status_of (Replay fault) = replay_status fault
+
+-- the command line was obeyed
+abbrev pub IsOfReplay : Failure → Type 0
+IsOfReplay CommandLine = ⊥
+IsOfReplay (Replay fault) = ⊤
 
 abbrev pub board_report : BoardFault → List ℕ
 board_report boards.Memory = codes "out of memory"

@@ -1,5 +1,6 @@
 pub mod Answered
 pub mod Block
+pub mod Commands
 pub mod Device
 pub mod Exit
 pub mod Legal

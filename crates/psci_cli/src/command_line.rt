@@ -1,5 +1,13 @@
 //! The command line: which command is meant, or the parser's text.
 
+ghost use Rattle.std.specs.Prelude.{◌≡◌, ◌⊎◌, IfOk, IfErr, map, string_bytes, Ok, Err};
+ghost use Rattle.clap.specs.Words.{FailsBy, app_of, fault_of, kind_of};
+ghost use Rattle.clap.specs.declared.error.kind.ErrorKind.TheVariants.{OutOfMemory};
+ghost use Rattle.psci_cli.specs.declared.fault.ReplayFault.TheVariants.{Memory, Write};
+ghost use Rattle.psci_cli.specs.declared.command_line.Request.TheVariants.{Replay, Nothing};
+ghost use Rattle.psci_cli.specs.declared.exit.Failure.TheVariants.{CommandLine};
+ghost use Rattle.psci_cli.specs.Commands.{AsksHelp, IsUnheard, IsWordless, program};
+
 use crate::exit::Failure;
 use crate::fault::ReplayFault;
 use clap::Command;
@@ -36,7 +44,9 @@ writes
 Exit status: 0 done, 2 command line, 3 script, 4 read or write, 5 memory";
 
 /// The commands of the program.
-fn commands<'a>(alloc: Global) -> Result<Command<'a>, AllocError> {
+fn commands<'a>(alloc: Global) -> Result<Command<'a>, AllocError>
+    ensures { IfOk result (λ command. app_of command ≡ program) }
+{
     let replay = Command::new(alloc, "replay")
         .about("Replay a script: standard input to standard output")
         .long_about(ABOUT_REPLAY)
@@ -48,8 +58,19 @@ fn commands<'a>(alloc: Global) -> Result<Command<'a>, AllocError> {
         .subcommand(replay)
 }
 
+/// What these words ask for, the program's name first, or the parser's error.
+fn request_in(alloc: Global, words: &[String]) -> Result<Request, Error>
+    ensures request { IfOk result (λ request. request ≡ Replay) }
+    ensures fault { FailsBy (fault_of program (map string_bytes words.now)) result }
+{
+    let _matches = commands(alloc)?.try_get_matches_from(words)?;
+    Ok(Request::Replay)
+}
+
 /// The words of the command line, the program's name first.
-fn words<R: Env + AllocGlobal + Eprint>(rt: &R) -> Result<Vec<String>, Failure> {
+fn words<R: Env + AllocGlobal + Eprint>(rt: &R) -> Result<Vec<String>, Failure>
+    ensures { IfErr result IsWordless }
+{
     match env::args(rt) {
         Ok(args) => args
             .collect(rt.alloc())
@@ -65,7 +86,13 @@ fn words<R: Env + AllocGlobal + Eprint>(rt: &R) -> Result<Vec<String>, Failure> 
 }
 
 /// Shows the parser's text: help on standard output, a fault on standard error.
-fn shown<R: Print + Eprint>(rt: &R, error: &Error) -> Result<Request, Failure> {
+fn shown<R: Print + Eprint>(rt: &R, error: &Error) -> Result<Request, Failure>
+    ensures memory { kind_of error.now ≡ OutOfMemory → result ≡ Err (Failure.Replay Memory) }
+    ensures help { AsksHelp (kind_of error.now)
+        → (result ≡ Ok Nothing) ⊎ (result ≡ Err (Failure.Replay Write)) }
+    ensures fault { ¬ (kind_of error.now ≡ OutOfMemory) → ¬ (AsksHelp (kind_of error.now))
+        → result ≡ Err CommandLine }
+{
     if error.kind() == ErrorKind::OutOfMemory {
         return Err(Failure::Replay(ReplayFault::Memory));
     }
@@ -80,11 +107,12 @@ fn shown<R: Print + Eprint>(rt: &R, error: &Error) -> Result<Request, Failure> {
 }
 
 /// Reads the command line. Where it asks for no command the parser's text is shown here.
-pub fn asked<R: Env + AllocGlobal + Print + Eprint>(rt: &R) -> Result<Request, Failure> {
+pub fn asked<R: Env + AllocGlobal + Print + Eprint>(rt: &R) -> Result<Request, Failure>
+    ensures { IfErr result IsUnheard }
+{
     let words = words(rt)?;
-    let commands = commands(rt.alloc()).map_err(|_| Failure::Replay(ReplayFault::Memory))?;
-    match commands.try_get_matches_from(words.as_slice()) {
-        Ok(_) => Ok(Request::Replay),
+    match request_in(rt.alloc(), words.as_slice()) {
+        Ok(request) => Ok(request),
         Err(error) => shown(rt, &error),
     }
 }

@@ -20,13 +20,18 @@ mod standard;
 mod tests;
 mod transfer;
 
+ghost use Rattle.std.specs.Prelude.{IfErr};
+ghost use Rattle.psci_cli.specs.Exit.{IsOfReplay};
+
 use command_line::{Request, asked};
 use exit::Failure;
 use standard::Std;
 use std::process::ExitCode;
 
 /// Replays the script on standard input against the firmware.
-fn replay_standard(rt: &HostRuntime) -> Result<(), Failure> {
+fn replay_standard(rt: &HostRuntime) -> Result<(), Failure>
+    ensures { IfErr result IsOfReplay }
+{
     let mut source = Std::new(rt.reader());
     let mut sink = Std::new(rt.stdout());
     match replay::replay(rt.alloc(), &mut source, &mut sink) {

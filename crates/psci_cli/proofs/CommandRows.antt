@@ -1,0 +1,36 @@
+-- What known command lines are answered.
+use Rattle.std.proofs.Common.{◌≡◌, ℕ, List, [], ◌∷◌, refl}
+use Rattle.std.specs.Prelude.{codes}
+use Rattle.clap.specs.Faults.{fault_of, flags_fault, walk_fault, defaults_fault}
+use Rattle.clap.specs.Walk.{walked}
+use Rattle.clap.specs.declared.error.kind.ErrorKind.TheVariants.{DisplayHelp, InvalidSubcommand, MissingSubcommand, UnknownArgument}
+use Rattle.psci_cli.specs.Commands.{program}
+
+pub replay_asked : fault_of program (codes "psci_cli" ∷ codes "replay" ∷ []) ≡ []
+unfolding flags_fault walk_fault walked defaults_fault
+replay_asked = refl
+
+-- no command, and one that there is not
+pub nothing_asked : fault_of program (codes "psci_cli" ∷ []) ≡ MissingSubcommand ∷ []
+unfolding flags_fault walk_fault walked defaults_fault
+nothing_asked = refl
+
+pub rewind_asked : fault_of program (codes "psci_cli" ∷ codes "rewind" ∷ [])
+    ≡ UnknownArgument ∷ InvalidSubcommand ∷ []
+unfolding flags_fault walk_fault walked defaults_fault
+rewind_asked = refl
+
+-- a word too many
+pub replay_twice_asked : fault_of program (codes "psci_cli" ∷ codes "replay" ∷ codes "replay" ∷ [])
+    ≡ UnknownArgument ∷ []
+unfolding flags_fault walk_fault walked defaults_fault
+replay_twice_asked = refl
+
+pub help_asked : fault_of program (codes "psci_cli" ∷ codes "--help" ∷ []) ≡ DisplayHelp ∷ []
+unfolding flags_fault walk_fault walked defaults_fault
+help_asked = refl
+
+pub help_of_replay_asked : fault_of program
+    (codes "psci_cli" ∷ codes "replay" ∷ codes "--help" ∷ []) ≡ DisplayHelp ∷ []
+unfolding flags_fault walk_fault walked defaults_fault
+help_of_replay_asked = refl
