@@ -1,5 +1,5 @@
 -- What known command lines are answered.
-use Rattle.std.proofs.Common.{◌≡◌, ℕ, List, [], ◌∷◌, refl}
+use Rattle.std.proofs.Common.{◌≡◌, [], ◌∷◌, refl}
 use Rattle.std.specs.Prelude.{codes}
 use Rattle.clap.specs.Faults.{fault_of, flags_fault, walk_fault, defaults_fault}
 use Rattle.clap.specs.Walk.{walked}

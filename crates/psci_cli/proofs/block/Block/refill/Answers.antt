@@ -1,4 +1,4 @@
-use Rattle.std.proofs.Common.{◌≡◌, ◌++◌, ◌-◌, ◌≤◌, ◌<◌, ◌∙◌, List, ℕ, ap, take, drop, length, arith, sym}
+use Rattle.std.proofs.Common.{◌-◌, ◌<◌, ◌∙◌, List, ℕ, ap, take, length, arith, sym}
 use Rattle.psci_cli.specs.Block.{ReadAhead}
 use Rattle.psci_cli.proofs.Known.{on_err}
 use Rattle.psci_cli.proofs.Moved.{moved, refilled, unfilled, some_came, none_came, waiting_length, counted, not_counted, end_came}
