@@ -12,7 +12,7 @@ use crate::words::{
 /// A function with its arguments, each cut to its width, so that no later code sees a register.
 ///
 /// Targets, entry points and context ids have 64 bits in an SMC64 call and 32 in an SMC32 call;
-/// levels and function words have 32 bits in both.
+/// levels have 32 bits in both, and so has the function word that PSCI_FEATURES asks about.
 #[derive(Clone, Copy, Debug, PartialEq, Eq)]
 pub enum Request {
     /// PSCI_VERSION.

@@ -32,7 +32,7 @@ const ABOUT_REPLAY: &str =
 
 The first line of a script is a board. Each later line is empty, or a comment that begins with #,
 or an event: `call CORE X0 [X1 [X2 [X3]]]` (an SMC of a core, with its registers), or `enter CORE`
-(a started core enters the firmware). A fault is named on standard error, with its line.";
+(a started core enters the firmware). A fault of the script is named on standard error, with its line.";
 
 const EXAMPLE: &str = "Example:
   printf '%s\\n' 'board (2 2) exec 0x40000000-0x40100000 boot 0x40000000 starts 1000 lives 3' \\

@@ -150,10 +150,11 @@ fn run<S: Source, K: Sink, M: Machine>(
 ///
 /// Where it ends well, or at a script or board fault, exactly the answer text of the script was
 /// written. At a read fault it is the answer text of all whole lines that were read, behind which
-/// stands at most the front of a line; at a memory fault that of the whole lines before the one
-/// at which memory ran out; and none of these lines is at fault. At a write fault it is a front
-/// part of the answer text. A read or write fault is answered only where that device failed, took
-/// none of some bytes, or was interrupted 1,000 times in a row.
+/// stands at most the front of a line. At a memory fault it is that of some whole lines at the
+/// front: those before the line at which memory ran out, though no clause says which one that is.
+/// None of these lines is at fault. At a write fault it is a front part of the answer text. A read
+/// or write fault is answered only where that device failed, took none of some bytes, or was
+/// interrupted 1,000 times in a row.
 fn replay_on<S: Source, K: Sink, M: Machine>(
     alloc: Global,
     source: &mut S,
@@ -183,10 +184,11 @@ fn replay_on<S: Source, K: Sink, M: Machine>(
 ///
 /// Where it ends well, or at a script or board fault, exactly the answer text of the script was
 /// written. At a read fault it is the answer text of all whole lines that were read, behind which
-/// stands at most the front of a line; at a memory fault that of the whole lines before the one
-/// at which memory ran out; and none of these lines is at fault. At a write fault it is a front
-/// part of the answer text. A read or write fault is answered only where that device failed, took
-/// none of some bytes, or was interrupted 1,000 times in a row.
+/// stands at most the front of a line. At a memory fault it is that of some whole lines at the
+/// front: those before the line at which memory ran out, though no clause says which one that is.
+/// None of these lines is at fault. At a write fault it is a front part of the answer text. A read
+/// or write fault is answered only where that device failed, took none of some bytes, or was
+/// interrupted 1,000 times in a row.
 pub fn replay<S: Source, K: Sink>(
     alloc: Global,
     source: &mut S,

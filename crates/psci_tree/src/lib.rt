@@ -4,9 +4,10 @@
 //!   asked for, or *off*, which includes going off.
 //! - The *ask* of a core is a depth for each level: 0 while it is active, 3 while it is off, and
 //!   that of its power state while it is suspended.
-//! - The *known start* of a core is the number of its last start that was seen to enter.
-//! - The *granted depth* of a domain is that of the last claim on it, 0 once a core below it became
-//!   pending or started.
+//! - The *known start* of a core is the number of its last start that was seen to enter in this
+//!   life.
+//! - The *granted depth* of a domain is the depth that it was granted last, 0 once a core below it
+//!   became pending or started.
 //! - A value of a domain *below* is recounted over all cores whose path the domain is on.
 #![tactic(auto)]
 

@@ -5,7 +5,7 @@ ghost use Rattle.std.specs.Prelude.{◌≡◌, None, false};
 use crate::device::{Io, Sink, Source};
 use std::alloc::Global;
 
-/// A script in memory.
+/// A script in memory. A read behind its end fails.
 #[derive(Drop)]
 pub struct Script<'a> {
     /// The bytes that are left.
@@ -16,6 +16,8 @@ pub struct Script<'a> {
     pub pauses: u32,
     /// Whether a failure comes behind the last byte, and not the end.
     pub breaks: bool,
+    /// Whether its end was read.
+    pub ended: bool,
     /// Whether it has failed.
     pub failed: bool,
     /// How many interruptions came in a row.
@@ -33,6 +35,7 @@ impl<'a> Script<'a> {
             most: 1,
             pauses: 0,
             breaks: false,
+            ended: false,
             failed: false,
             interruptions: 0,
         }
@@ -51,10 +54,11 @@ impl Source for Script<'_> {
             self.interruptions = self.interruptions.saturating_add(1).min(1000);
             return Io::Interrupted;
         }
-        if self.breaks && self.rest.is_empty() {
+        if self.rest.is_empty() && (self.breaks || self.ended) {
             self.failed = true;
             return Io::Failed;
         }
+        self.ended = self.rest.is_empty();
         let count = self.most.min(self.rest.len()).min(buffer.len());
         buffer[..count].copy_from_slice(&self.rest[..count]);
         self.rest = &self.rest[count..];
