@@ -1,7 +1,7 @@
 -- Places counted through groups: the cores below a domain stand side by side.
 use Rattle.std.proofs.Common.{◌≡◌, ℕ, zero, suc, ◌+◌, ◌-◌, ◌<◌, ◌≤◌, Bool, true, false, ltb}
 use Rattle.std.proofs.Common.{List, [], ◌∷◌, ◌++◌, length, take, drop, get_or, map, sum, filter}
-use Rattle.std.proofs.Common.{refl, ap, ◌∙◌, ◌==◌, arith, add-one, add-zero, zero-add, inl, inr}
+use Rattle.std.proofs.Common.{refl, ap, sym, ◌∙◌, ◌==◌, arith, add-one, add-zero, zero-add, inl, inr}
 use Rattle.std.specs.List.{range_with_len}
 use Rattle.std.proofs.lemmas.Bool.Decides.{nat_tests}
 use Rattle.std.proofs.lemmas.Bool.{cases_lt, eq-eqb, ne_eqb}
@@ -9,7 +9,7 @@ use Rattle.std.proofs.lemmas.List.Sums.{sum_by-cons, sum_by_more}
 use Rattle.std.proofs.lemmas.List.Elements.{filter-append}
 use Rattle.std.proofs.lemmas.List.{drop_more, take_all, append-nil}
 use Rattle.psci_board.specs.Board.{group_of, place_in, IsTree, size_below, place_above}
-use Rattle.psci_tree.specs.Recount.{below, HasDomain}
+use Rattle.psci_tree.specs.Recount.{below, HasDomain, first_core, width}
 use Rattle.psci_board.specs.declared.node.Node.{Node}
 
 pub sum-cons : (n : ℕ) (ns : List ℕ) → sum (n ∷ ns) ≡ n + sum ns
@@ -81,16 +81,6 @@ group_back w i k h l = let c = counted w i h in
     omega (arith, c.whole, sum_take_grows w k (group_of w i) l)
 
 -- All levels ---------------------------------------------------------------------------------
-
--- the number of the first core below the domain of this level and place
-abbrev pub first_core : List (List ℕ) → ℕ → ℕ → ℕ
-first_core levels zero place = place
-first_core levels (suc level) place =
-    first_core levels level (sum (take place (get_or levels level [])))
-
--- how many cores stand below it
-abbrev pub width : List (List ℕ) → Node → ℕ
-width levels n = first_core levels n.level (n.place + 1) - first_core levels n.level n.place
 
 -- from the lowest level
 first_up : (w : List ℕ) (ws : List (List ℕ)) (l p : ℕ)
@@ -227,3 +217,34 @@ pick_run xs d a zero h = refl
 pick_run xs d a (suc k) h =
     rw (drop_more xs a d (omega arith))
     (ap (λ ys. get_or xs a d ∷ ys) (pick_run xs d (a + 1) k (omega arith)))
+
+take_range : (k a n : ℕ) → k ≤ n → take k (range_with_len a n) ≡ range_with_len a k
+take_range zero a n h = refl
+take_range (suc k) a zero h = absurd (omega arith)
+take_range (suc k) a (suc n) h = ap (λ xs. a ∷ xs) (take_range k (a + 1) n (omega arith))
+
+drop_range : (k a n : ℕ) → drop k (range_with_len a (k + n)) ≡ range_with_len (a + k) n
+drop_range zero a n = rw (zero-add, add-zero) refl
+drop_range (suc k) a n =
+    let e : suc k + n ≡ suc (k + n) = omega arith in
+    let f : a + suc k ≡ a + 1 + k = omega arith in
+    rw (e, f) (drop_range k (a + 1) n)
+
+-- the cores below a domain are a slice of all cores
+pub below_slice : (levels : List (List ℕ)) (n : Node) → IsTree levels → HasDomain levels n
+    → below levels n ≡ take (width levels n) (drop (first_core levels n.level n.place)
+    (range_with_len 0 (size_below levels)))
+below_slice levels n t h =
+    let first : ℕ = first_core levels n.level n.place in
+    let rest : ℕ = size_below levels - first in
+    let up = first_grows levels n.level n.place (n.place + 1) (omega arith) in
+    let last = first_grows levels n.level (n.place + 1) (size_below (drop n.level levels))
+    (omega (arith, h.place)) in
+    let end = first_end levels n.level t h.level in
+    let whole : first + rest ≡ size_below levels = omega (arith, up, last, end) in
+    let cut : drop first (range_with_len 0 (size_below levels)) ≡ range_with_len first rest =
+    ap (λ k. drop first (range_with_len 0 k)) (sym whole) ∙ drop_range first 0 rest
+    ∙ ap (λ a. range_with_len a rest) (zero-add first) in
+    below_is levels n t h
+    ∙ sym (take_range (width levels n) first rest (omega (arith, up, last, end)))
+    ∙ ap (take (width levels n)) (sym cut)

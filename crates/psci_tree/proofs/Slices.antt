@@ -20,7 +20,8 @@ use Rattle.psci_tree.specs.Domains.{domains_down, widths, HasShape, IsWhole}
 use Rattle.psci_tree.specs.declared.state.CoreState.{CoreState}
 use Rattle.psci_tree.specs.declared.domain.Domain.{Domain, out-Domain}
 use Rattle.psci_tree.proofs.Below.{cores_of_domain, cores_of_core, cores_drop, length_take}
-use Rattle.psci_tree.proofs.Places.{first_core, width, sum-cons, sum_take_le}
+use Rattle.psci_tree.specs.Recount.{first_core, width}
+use Rattle.psci_tree.proofs.Places.{sum-cons, sum_take_le}
 use Rattle.psci_tree.proofs.Places.{below_is, pick_run, first_grows, first_end}
 
 -- One level down -----------------------------------------------------------------------------

@@ -1,6 +1,7 @@
 -- What a tree of power domains holds, and what is counted over the cores below a domain.
-use Rattle.std.specs.Prelude.{◌≡◌, ℕ, ◌+◌, ◌<◌, ◌≤◌, min, Bool, true, false, List, [], ◌∷◌}
-use Rattle.std.specs.Prelude.{length, drop, map, filter, ◌==◌, slice_index, slice_index_or}
+use Rattle.std.specs.Prelude.{◌≡◌, ℕ, zero, suc, ◌+◌, ◌-◌, ◌<◌, ◌≤◌, min, Bool, true, false, List}
+use Rattle.std.specs.Prelude.{[], ◌∷◌, length, take, drop, map, filter, sum, ◌==◌, slice_index}
+use Rattle.std.specs.Prelude.{slice_index_or}
 use Rattle.std.specs.List.{sum_by, count_by, range_with_len}
 use Rattle.psci_board.specs.declared.node.Node.{Node}
 use Rattle.psci_board.specs.Board.{size_below, place_above, IsTree}
@@ -67,6 +68,16 @@ is_off_at t core = rests (core_at t core).activity
 abbrev pub below : List (List ℕ) → Node → List ℕ
 below levels n =
     filter (λ c. place_above levels n.level c == n.place) (range_with_len 0 (size_below levels))
+
+-- the number of the first core below the domain of this level and place
+abbrev pub first_core : List (List ℕ) → ℕ → ℕ → ℕ
+first_core levels zero place = place
+first_core levels (suc level) place =
+    first_core levels level (sum (take place (slice_index_or levels level [])))
+
+-- how many cores stand below it
+abbrev pub width : List (List ℕ) → Node → ℕ
+width levels n = first_core levels n.level (n.place + 1) - first_core levels n.level n.place
 
 -- the least of these depths, of 0 to 3
 abbrev pub least : List ℕ → ℕ

@@ -9,19 +9,24 @@ ghost use Rattle.psci_board.specs.Board as board;
 ghost use Rattle.psci_tree.specs.declared.state.Activity.TheVariants.{Active, Suspended, Off};
 ghost use Rattle.psci_tree.specs.Recount.{TreeValue, HasDomain, IsDomainTree, active};
 ghost use Rattle.psci_tree.specs.Recount.{ask_at, below, core_at, granted_at, is_active_at};
-ghost use Rattle.psci_tree.specs.Recount.{is_off_at, known_at, low, never_started, off};
+ghost use Rattle.psci_tree.specs.Recount.{first_core, width, is_off_at, known_at, low};
+ghost use Rattle.psci_tree.specs.Recount.{never_started, off};
 ghost use Rattle.psci_tree.specs.Changes.{life_start, made_pending, started};
 ghost use Rattle.psci_tree.specs.Changes.{suspended, turned_off, with_grant};
 
-/// The cores below a domain are those of the board's own words. They stand side by side: their
-/// numbers follow each other, and their states are a slice of those of all cores.
+/// The cores below a domain are those of the board's own words. They stand side by side: they are
+/// a slice of all cores, `width` of them from the `first_core` on, and so are their states.
 pub fn law_below()
     ensures board { (b : BoardValue) (n : Node) → board.below b n ≡ below b.levels n }
+    ensures slice { (levels : List (List ℕ)) (n : Node) → IsTree levels → HasDomain levels n
+        → below levels n ≡ take (width levels n) (drop (first_core levels n.level n.place)
+        (range_with_len 0 (size_below levels))) }
     ensures beside { (levels : List (List ℕ)) (n : Node) → IsTree levels → HasDomain levels n
-        → (first count : ℕ) × (below levels n ≡ range_with_len first count) }
-    ensures slice { (t : TreeValue) (n : Node) → IsDomainTree t → HasDomain t.levels n
-        → (first count : ℕ) × (below t.levels n ≡ range_with_len first count)
-        × (map (λ c. core_at t c) (below t.levels n) ≡ take count (drop first t.cores)) }
+        → below levels n
+        ≡ range_with_len (first_core levels n.level n.place) (width levels n) }
+    ensures states { (t : TreeValue) (n : Node) → IsDomainTree t → HasDomain t.levels n
+        → map (λ c. core_at t c) (below t.levels n)
+        ≡ take (width t.levels n) (drop (first_core t.levels n.level n.place) t.cores) }
 {}
 
 /// The state of each core after each change: that of the named core alone is another one.
