@@ -70,6 +70,10 @@ core_is : (b : BoardValue) (word : ℕ) (c : Core) → core_of b word ≡ Some c
 unfolding core_of
 core_is b word c e = core_by b word c _ refl e
 
+pub core_inside : (b : BoardValue) (word : ℕ) (c : Core) → core_of b word ≡ Some c
+    → c.number < cores b
+core_inside b word c e = (core_is b word c e).number
+
 core_named : (b : BoardValue) → IsTree b.levels → (c : ℕ) → c < cores b
     → core_of b (address b 0 c) ≡ Some (record { number = c })
 unfolding core_of

@@ -42,7 +42,7 @@ impl Model for Board {
     }) };
 }
 
-ghost use Rattle.std.specs.Prelude.{◌≡◌, ◌<◌, true, option_map, IfOk};
+ghost use Rattle.std.specs.Prelude.{◌≡◌, ◌<◌, true, option_map, IfOk, IfSome};
 ghost use Rattle.psci_board.specs.Board.{IsBoard, HasNode, height, cores, core_at, path, children};
 ghost use Rattle.psci_board.specs.Board.{child, may_enter, node_of, core_of, is_in_some, level_at};
 
@@ -73,7 +73,8 @@ impl Board {
     /// The core that an affinity word names (MPIDR_EL1), if there is one. All 64 bits are looked
     /// at. It takes one step for each level, however many cores there are.
     pub fn core_of(&self, word: u64) -> Option<Core>
-        ensures { result ≡ core_of self.now word }
+        ensures core { result ≡ core_of self.now word }
+        ensures inside { IfSome result (λ core. core.number < cores self.now) }
     {
         let place = place_of(&self.levels, word)?;
         Some(Core { number: place })

@@ -46,7 +46,7 @@ impl Table {
     }
 
     /// The core that a CPU_ON starts, or the code of the first check that fails.
-    #[tactic(auto, using(crate::proofs::Cores::named), unfolding(crate::specs::Answers::target_of))]
+    #[tactic(auto, unfolding(crate::specs::Answers::target_of))]
     fn target(&self, board: &Board, target: u64, entry: u64) -> Result<Core, Code>
         requires { length self.now.cores.items ≡ cores board.now }
         ensures target { result ≡ target_of board.now (kept self.now) target entry }

@@ -1,7 +1,8 @@
 -- Places counted through groups: the cores below a domain stand side by side.
 use Rattle.std.proofs.Common.{◌≡◌, ℕ, zero, suc, ◌+◌, ◌-◌, ◌<◌, ◌≤◌, Bool, true, false, ltb}
 use Rattle.std.proofs.Common.{List, [], ◌∷◌, ◌++◌, length, take, drop, get_or, map, sum, filter}
-use Rattle.std.proofs.Common.{refl, ap, sym, ◌∙◌, ◌==◌, arith, add-one, add-zero, zero-add, inl, inr}
+use Rattle.std.proofs.Common.{refl, ap, sym, ◌∙◌, ◌==◌, arith, add-one, add-zero, zero-add}
+use Rattle.std.proofs.Common.{inl, inr}
 use Rattle.std.specs.List.{range_with_len}
 use Rattle.std.proofs.lemmas.Bool.Decides.{nat_tests}
 use Rattle.std.proofs.lemmas.Bool.{cases_lt, eq-eqb, ne_eqb}

@@ -1,15 +1,20 @@
-use Rattle.std.proofs.Common.{refl}
+use Rattle.std.proofs.Common.{refl, sym}
 use Rattle.psci_board.specs.Board.{core_of}
+use Rattle.psci_board.proofs.Named.{core_inside}
 use Rattle.psci_board.proofs.board.Board.core_of.Goals as goal
 
-pub returns-in_err-place : goal.returns-in_err-place
+pub returns-in_err-place-clause-core : goal.returns-in_err-place-clause-core
 unfolding core_of
-returns-in_err-place c =
+returns-in_err-place-clause-core c =
     let e = rw c.deref.ensures.value at c.in_err-place.ensures in
     rw (c.from_residual.ensures, ← c.self.view_is) (rw (← e) refl)
 
-pub returns : goal.returns
+pub returns-clause-core : goal.returns-clause-core
 unfolding core_of
-returns c =
+returns-clause-core c =
     let e = rw c.deref.ensures.value at c.in_ok-place.ensures in
     rw (← c.self.view_is) (rw (← e) refl)
+
+pub returns-clause-inside : goal.returns-clause-inside
+returns-clause-inside c =
+    core_inside c.args.self.now c.args.word _ (sym (returns-clause-core c))
