@@ -1,2 +1,4 @@
 mod CodeRows
-mod Rows
+mod FeatureRows
+mod RequestRows
+mod ResultRows
