@@ -29,7 +29,7 @@ first_grows = refl
 second_grows : is_ask (3 ∷ 1 ∷ 2 ∷ 0 ∷ []) ≡ false
 second_grows = refl
 
-third_grows : is_ask (3 ∷ 1 ∷ 1 ∷ 2 ∷ []) ≡ false
+third_grows : is_ask (3 ∷ 2 ∷ 1 ∷ 2 ∷ []) ≡ false
 third_grows = refl
 
 -- The highest level -----------------------------------------------------------------------------
