@@ -2,6 +2,7 @@ pub mod AffinityRows
 pub mod Children
 pub mod Decided
 pub mod Digits
+pub mod FaultRows
 pub mod Fields
 pub mod Groups
 pub mod Kept
