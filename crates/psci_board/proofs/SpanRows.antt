@@ -1,5 +1,5 @@
 -- Spans, parents, words and entry points of an uneven board of height 3.
-use Rattle.std.proofs.Common.{◌≡◌, List, ◌∷◌, [], true, false, refl}
+use Rattle.std.proofs.Common.{◌≡◌, ◌∷◌, [], true, false, refl}
 use Rattle.std.specs.Prelude.{ℕ, Option, Some, None, map, replicate}
 use Rattle.psci_board.specs.declared.node.Core.{Core}
 use Rattle.psci_board.specs.declared.span.CoreSpan.{CoreSpan}

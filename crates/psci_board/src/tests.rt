@@ -50,13 +50,25 @@ const TREES: [(&str, u32, u16); 13] = [
     ("(1 2 3) exec 0x0-0x1 boot 0x0 starts 1 lives 1", 2, 6),
     ("(4 3 2 1) exec 0x0-0x1 boot 0x0 starts 1 lives 1", 2, 10),
     ("(1 1 1 1 1) exec 0x0-0x1 boot 0x0 starts 1 lives 1", 2, 5),
-    ("(5 1 1 1 1 1 1 1 1 1 1 1 1 1 1 16) exec 0x0-0x1 boot 0x0 starts 1 lives 1", 2, 35),
+    (
+        "(5 1 1 1 1 1 1 1 1 1 1 1 1 1 1 16) exec 0x0-0x1 boot 0x0 starts 1 lives 1",
+        2,
+        35,
+    ),
     ("((1)) exec 0x0-0x1 boot 0x0 starts 1 lives 1", 3, 1),
     ("((1) (2) (3)) exec 0x0-0x1 boot 0x0 starts 1 lives 1", 3, 6),
     ("((1 2 3)) exec 0x0-0x1 boot 0x0 starts 1 lives 1", 3, 6),
-    ("((1 2 3) (4) (5 6)) exec 0x0-0x1 boot 0x0 starts 1 lives 1", 3, 21),
-    ("((1) (1) (1) (1) (1) (1) (1) (1) (1) (1) (1) (1) (1) (1) (1) (1 2)) \
-        exec 0x0-0x1 0x0-0x1 0x0-0x1 boot 0x0 starts 1 lives 1", 3, 18),
+    (
+        "((1 2 3) (4) (5 6)) exec 0x0-0x1 boot 0x0 starts 1 lives 1",
+        3,
+        21,
+    ),
+    (
+        "((1) (1) (1) (1) (1) (1) (1) (1) (1) (1) (1) (1) (1) (1) (1) (1 2)) \
+        exec 0x0-0x1 0x0-0x1 0x0-0x1 boot 0x0 starts 1 lives 1",
+        3,
+        18,
+    ),
 ];
 
 #[test]
@@ -78,8 +90,14 @@ fn finds_spans_and_parents(rt: HostRuntime) -> Result<(), Fail> {
     )?;
     let group = Node { level: 2, place: 1 };
     let cluster = Node { level: 1, place: 4 };
-    assert_eq!(rt; board.cores_below(group), Some(CoreSpan { first: 4, count: 7 }));
-    assert_eq!(rt; board.cores_below(cluster), Some(CoreSpan { first: 7, count: 4 }));
+    assert_eq!(rt;
+        board.cores_below(group),
+        Some(CoreSpan { first: 4, count: 7 })
+    );
+    assert_eq!(rt;
+        board.cores_below(cluster),
+        Some(CoreSpan { first: 7, count: 4 })
+    );
     assert_eq!(rt; board.parent(cluster), Some(group));
     assert_eq!(rt; board.child_number(cluster), Some(2));
     assert_eq!(rt; (board.nodes(1), board.nodes(3), board.nodes(4)), (5, 1, 0));

@@ -2,8 +2,8 @@ use Rattle.std.proofs.Common.{sym, refl, ap, ◌∙◌}
 use Rattle.std.specs.Str.Parse.{digits_value}
 use Rattle.psci_board.specs.Reading.{board_text}
 use Rattle.psci_board.specs.Summary.{tree_summary, with_ranges, no_ranges}
-use Rattle.psci_board.proofs.More.{value_and_rest_some, value_and_rest_none, ranges_parts}
-use Rattle.psci_board.proofs.More.{ranges_none, same_text}
+use Rattle.psci_board.proofs.Fronts.{value_and_rest_some, value_and_rest_none, ranges_parts}
+use Rattle.psci_board.proofs.Fronts.{ranges_none, same_text}
 use Rattle.psci_board.proofs.text.whole_text.Goals as goal
 
 pub returns-in_err-tree : goal.returns-in_err-tree
