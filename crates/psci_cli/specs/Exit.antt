@@ -5,10 +5,10 @@ use Rattle.psci_board.specs.declared.fault.BoardFault.{BoardFault}
 use Rattle.psci_board.specs.declared.fault.BoardFault.TheVariants as boards
 use Rattle.psci_cli.specs.declared.exit.Failure.{Failure}
 use Rattle.psci_cli.specs.declared.exit.Failure.TheVariants.{CommandLine, Replay}
-use Rattle.psci_cli.specs.declared.fault.ScriptFault.{ScriptFault}
-use Rattle.psci_cli.specs.declared.fault.ScriptFault.TheVariants as scripts
-use Rattle.psci_cli.specs.declared.fault.ReplayFault.{ReplayFault}
-use Rattle.psci_cli.specs.declared.fault.ReplayFault.TheVariants.{Script, Board, Read, Write, Memory}
+use Rattle.psci_bench.specs.declared.fault.ScriptFault.{ScriptFault}
+use Rattle.psci_bench.specs.declared.fault.ScriptFault.TheVariants as scripts
+use Rattle.psci_bench.specs.declared.fault.ReplayFault.{ReplayFault}
+use Rattle.psci_bench.specs.declared.fault.ReplayFault.TheVariants.{Script, Board, Read, Write, Memory}
 
 abbrev pub script_number : ScriptFault → ℕ
 script_number scripts.NoBoard = 1

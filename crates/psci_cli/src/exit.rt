@@ -3,7 +3,7 @@
 ghost use Rattle.std.specs.Prelude.{◌≡◌};
 ghost use Rattle.psci_cli.specs.Exit.{status_of};
 
-use crate::fault::{ReplayFault, ScriptFault};
+use psci_bench::{ReplayFault, ScriptFault};
 use psci_board::BoardFault;
 use std::fmt;
 

@@ -1,0 +1,30 @@
+-- The lines of some bytes, and where the first one ends.
+use Rattle.std.specs.Prelude.{◌≡◌, ℕ, ◌+◌, ◌<◌, ◌≤◌, ◌⊎◌, Bool, false, List, [], ◌∷◌, ◌++◌, length, take, drop, ◌==◌, if◌then◌else◌}
+use Rattle.std.specs.List.{list_any}
+use Rattle.psci_bench.specs.declared.lines.Front.{Front}
+use Rattle.psci_bench.specs.declared.lines.Front.TheVariants.{Whole, Part, Long}
+
+-- one more byte at the front of the first line
+abbrev pub in_line : ℕ → List (List ℕ) → List (List ℕ)
+in_line b [] = (b ∷ []) ∷ []
+in_line b (l ∷ ls) = (b ∷ l) ∷ ls
+
+-- what stands before each line feed, and behind the last one, if anything does
+unfoldable pub lines : List ℕ → List (List ℕ)
+lines [] = []
+lines (b ∷ bs) = if b == 10 then [] ∷ lines bs else in_line b (lines bs)
+
+abbrev pub has_line_feed : List ℕ → Bool
+has_line_feed bytes = list_any (λ b. b == 10) bytes
+
+-- nothing, or whole lines: the last byte is a line feed
+abbrev pub AreWhole : List ℕ → Type 0
+AreWhole bytes = (bytes ≡ []) ⊎ ((front : List ℕ) × (bytes ≡ front ++ 10 ∷ []))
+
+-- where the first line feed is, among the first 257 bytes
+abbrev pub Cuts : Front → List ℕ → Type 0
+Cuts (Whole n) bytes =
+    (n ≤ 256) × (n < length bytes) × (has_line_feed (take n bytes) ≡ false)
+    × (bytes ≡ take n bytes ++ 10 ∷ drop (n + 1) bytes)
+Cuts Part bytes = (length bytes ≤ 256) × (has_line_feed bytes ≡ false)
+Cuts Long bytes = (256 < length bytes) × (has_line_feed (take 257 bytes) ≡ false)

@@ -1,0 +1,100 @@
+-- What the steps of a replay leave: bytes read ahead, answers written, and the next line found.
+use Rattle.std.specs.Prelude.{◌≡◌, ℕ, ◌+◌, ◌<◌, ◌≤◌, ◌⊎◌, Bool, true, false, List, [], ◌∷◌, ◌++◌, length, take, drop, Option, None, Some, Result, Ok, Err}
+use Rattle.std.specs.Io.KnownBytes.{Appends, Consumes, IsAtEnd}
+use Rattle.psci_bench.specs.declared.fault.ScriptFault.{ScriptFault}
+use Rattle.psci_bench.specs.declared.fault.ScriptFault.TheVariants.{NoBoard, Line, Long, TooMany}
+use Rattle.psci_bench.specs.declared.fault.ReplayFault.{ReplayFault}
+use Rattle.psci_bench.specs.declared.fault.ReplayFault.TheVariants.{Script, Board, Read, Write, Memory}
+use Rattle.psci_bench.specs.declared.lines.Extent.{Extent}
+use Rattle.psci_bench.specs.Answered.{Answered}
+use Rattle.psci_bench.specs.Block.{ReadAhead}
+use Rattle.psci_bench.specs.Lines.{has_line_feed}
+
+-- where a replay stands
+pub record Stand : Type 0 where
+  pub block : ReadAhead
+  -- the bytes that the source has left
+  pub left : Option (List ℕ)
+  pub answered : Answered
+  -- the bytes that the sink took
+  pub taken : Option (List ℕ)
+
+abbrev pub stand : ReadAhead → Option (List ℕ) → Answered → Option (List ℕ) → Stand
+stand block left answered taken =
+    record { block = block; left = left; answered = answered; taken = taken }
+
+-- Bytes were read ahead, and answers that waited were written. Behind the end nothing is read.
+pub record Ahead (s t : Stand) : Type 0 where
+  pub bytes : List ℕ
+  pub behind : t.block.unread ≡ s.block.unread ++ bytes
+  pub from : Consumes s.left t.left bytes
+  pub ended : s.block.ended ≡ true → (t.block.ended ≡ true) × (bytes ≡ [])
+  pub at_end : (s.block.ended ≡ true → IsAtEnd s.left) → t.block.ended ≡ true → IsAtEnd t.left
+  pub written : List ℕ
+  pub waits : s.answered.waiting ≡ written ++ t.answered.waiting
+  pub to : Appends s.taken t.taken written
+  pub events : t.answered.events ≡ s.answered.events
+
+-- The same, until a write failed behind a front part of what waited.
+pub record Torn (s t : Stand) : Type 0 where
+  pub before : Stand
+  pub ahead : Ahead s before
+  pub count : ℕ
+  pub to : Appends before.taken t.taken (take count before.answered.waiting)
+  pub left : t.left ≡ before.left
+
+-- The same, until a read failed; no answer waited any more.
+pub record Broken (s t : Stand) : Type 0 where
+  pub ahead : Ahead s t
+  pub none_wait : t.answered.waiting ≡ []
+  pub going : t.block.ended ≡ false
+
+-- what an attempt to read ahead leaves
+abbrev pub NotAhead : ReplayFault → Stand → Stand → Type 0
+NotAhead Read s t = Broken s t × (t.block.unread ≡ s.block.unread)
+NotAhead Write s t = Torn s t
+NotAhead Memory s t = ⊥
+NotAhead (Board fault) s t = ⊥
+NotAhead (Script line fault) s t = ⊥
+
+abbrev pub ReadsAhead : Result Bool ReplayFault → Stand → Stand → Type 0
+ReadsAhead (Ok true) s t = Ahead s t × (length s.block.unread < length t.block.unread)
+ReadsAhead (Ok false) s t =
+    Ahead s t × (t.block.unread ≡ s.block.unread) × (t.block.ended ≡ true)
+ReadsAhead (Err fault) s t = NotAhead fault s t
+
+-- a line with its line feed, or the last one without
+abbrev pub IsLine : Extent → ReadAhead → Type 0
+IsLine e block =
+    (e.line ≤ 256) × (has_line_feed (take e.line block.unread) ≡ false)
+    × (((e.taken ≡ e.line + 1) × (e.line < length block.unread)
+    × (block.unread ≡ take e.line block.unread ++ 10 ∷ drop e.taken block.unread))
+    ⊎ ((e.taken ≡ e.line) × (e.line ≡ length block.unread) × (0 < e.line)
+    × (block.ended ≡ true)))
+
+-- what a line at fault leaves
+abbrev pub FaultyLine : ℕ → ScriptFault → Stand → Type 0
+FaultyLine n TooMany t = (1000000 < n) × (0 < length t.block.unread)
+FaultyLine n Long t =
+    (n ≤ 1000000) × (256 < length t.block.unread)
+    × (has_line_feed (take 257 t.block.unread) ≡ false)
+FaultyLine n Line t = ⊥
+FaultyLine n NoBoard t = ⊥
+
+-- the front of the line of number n, which is not at fault yet
+abbrev pub IsCut : ℕ → List ℕ → Type 0
+IsCut n part =
+    (has_line_feed part ≡ false) × (length part ≤ 256) × (0 < length part → n ≤ 1000000)
+
+abbrev pub NoLine : ℕ → ReplayFault → Stand → Stand → Type 0
+NoLine n (Script line fault) s t = Ahead s t × (line ≡ n) × FaultyLine n fault t
+NoLine n Read s t = Broken s t × IsCut n t.block.unread
+NoLine n Write s t = Torn s t
+NoLine n Memory s t = ⊥
+NoLine n (Board fault) s t = ⊥
+
+-- what a call for the line of number n leaves
+abbrev pub FindsLine : ℕ → Result (Option Extent) ReplayFault → Stand → Stand → Type 0
+FindsLine n (Ok (Some e)) s t = Ahead s t × IsLine e t.block × (n ≤ 1000000)
+FindsLine n (Ok None) s t = Ahead s t × (t.block.unread ≡ []) × (t.block.ended ≡ true)
+FindsLine n (Err fault) s t = NoLine n fault s t
