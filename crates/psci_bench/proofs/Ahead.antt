@@ -5,7 +5,7 @@ use Rattle.psci_bench.specs.declared.fault.ReplayFault.{ReplayFault}
 use Rattle.psci_bench.specs.declared.fault.ReplayFault.TheVariants.{Script, Board, Read, Write, Memory}
 use Rattle.psci_bench.specs.Answered.{Answered}
 use Rattle.psci_bench.specs.Block.{ReadAhead, Refills}
-use Rattle.psci_bench.specs.Progress.{Stand, stand, Ahead, Torn, Broken, ReadsAhead, NotAhead}
+use Rattle.psci_bench.specs.Progress.{Progress, progress, Ahead, WriteFailed, ReadFailed, ReadsAhead, FailsAhead}
 use Rattle.psci_bench.proofs.Known.{appends_more, consumes_more, consumes_keeps}
 
 consumes_none : (a : Option (List ℕ)) → (let none : List ℕ = [] in Consumes a a none)
@@ -16,10 +16,10 @@ appends_none : (a : Option (List ℕ)) → (let none : List ℕ = [] in Appends 
 appends_none None = tt
 appends_none (Some x) = sym (append-nil x)
 
-pub ahead_none : (s : Stand) → Ahead s s
+pub ahead_none : (s : Progress) → Ahead s s
 ahead_none s = record {
   bytes = [];
-  behind = sym (append-nil s.block.unread);
+  appended = sym (append-nil s.block.unread);
   from = consumes_none s.left;
   ended = λ e. (e, refl);
   at_end = λ f e. f e;
@@ -29,10 +29,10 @@ ahead_none s = record {
   events = refl;
 }
 
-pub ahead_more : (s t u : Stand) → Ahead s t → Ahead t u → Ahead s u
+pub ahead_more : (s t u : Progress) → Ahead s t → Ahead t u → Ahead s u
 ahead_more s t u a b = record {
   bytes = a.bytes ++ b.bytes;
-  behind = b.behind ∙ ap (λ (x : List ℕ). x ++ b.bytes) a.behind
+  appended = b.appended ∙ ap (λ (x : List ℕ). x ++ b.bytes) a.appended
       ∙ append_assoc s.block.unread a.bytes b.bytes;
   from = consumes_more s.left t.left u.left a.bytes b.bytes a.from b.from;
   ended = λ e. let f = a.ended e in let g = b.ended f.0 in
@@ -45,8 +45,8 @@ ahead_more s t u a b = record {
   events = b.events ∙ a.events;
 }
 
-pub torn_more : (s t u : Stand) → Ahead s t → Torn t u → Torn s u
-torn_more s t u a b = record {
+pub write_failed_more : (s t u : Progress) → Ahead s t → WriteFailed t u → WriteFailed s u
+write_failed_more s t u a b = record {
   before = b.before;
   ahead = ahead_more s t b.before a b.ahead;
   count = b.count;
@@ -54,8 +54,8 @@ torn_more s t u a b = record {
   left = b.left;
 }
 
-pub broken_more : (s t u : Stand) → Ahead s t → Broken t u → Broken s u
-broken_more s t u a b = record {
+pub read_failed_more : (s t u : Progress) → Ahead s t → ReadFailed t u → ReadFailed s u
+read_failed_more s t u a b = record {
   ahead = ahead_more s t u a b.ahead;
   none_wait = b.none_wait;
   going = b.going;
@@ -64,10 +64,10 @@ broken_more s t u a b = record {
 -- what writing all answers leaves
 pub written : (block : ReadAhead) (left taken after : Option (List ℕ)) (old new : Answered)
     → new ≡ record old { waiting = [] } → Appends taken after old.waiting
-    → Ahead (stand block left old taken) (stand block left new after)
+    → Ahead (progress block left old taken) (progress block left new after)
 written block left taken after old new e w = record {
   bytes = [];
-  behind = sym (append-nil block.unread);
+  appended = sym (append-nil block.unread);
   from = consumes_none left;
   ended = λ e. (e, refl);
   at_end = λ f e. f e;
@@ -82,10 +82,10 @@ written block left taken after old new e w = record {
 pub refilled_ahead : (some : Bool) (old new : ReadAhead) (left after taken : Option (List ℕ))
     (answered : Answered) → Refills some old new left after
     → (old.ended ≡ true → (new.ended ≡ true) × (some ≡ false))
-    → Ahead (stand old left answered taken) (stand new after answered taken)
+    → Ahead (progress old left answered taken) (progress new after answered taken)
 refilled_ahead some old new left after taken answered r k = record {
   bytes = r.bytes;
-  behind = r.behind;
+  appended = r.appended;
   from = r.from;
   ended = λ e. ((k e).0, (r.none (k e).1).0);
   at_end = r.at_end;
@@ -95,18 +95,18 @@ refilled_ahead some old new left after taken answered r k = record {
   events = refl;
 }
 
-behind_end : (some : Bool) (old new : ReadAhead) (left after : Option (List ℕ))
+after_end : (some : Bool) (old new : ReadAhead) (left after : Option (List ℕ))
     → Refills some old new left after → old.ended ≡ true → (new.ended ≡ true) × (some ≡ false)
-behind_end true old new left after r e = absurd (let f = (r.came refl).1 in cc)
-behind_end false old new left after r e = ((r.none refl).1, refl)
+after_end true old new left after r e = absurd (let f = (r.came refl).1 in cc)
+after_end false old new left after r e = ((r.none refl).1, refl)
 
 -- a read that failed leaves all as it was
 unread_ahead : (old new : ReadAhead) (left after taken : Option (List ℕ)) (answered : Answered)
     → new ≡ old → Keeps left after → old.ended ≡ false
-    → Ahead (stand old left answered taken) (stand new after answered taken)
+    → Ahead (progress old left answered taken) (progress new after answered taken)
 unread_ahead old new left after taken answered e k f = record {
   bytes = [];
-  behind = ap (λ (b : ReadAhead). b.unread) e ∙ sym (append-nil old.unread);
+  appended = ap (λ (b : ReadAhead). b.unread) e ∙ sym (append-nil old.unread);
   from = consumes_keeps left left after [] (consumes_none left) k;
   ended = λ g. absurd (cc);
   at_end = λ g h. absurd (let i = ap (λ (b : ReadAhead). b.ended) e in cc);
@@ -120,28 +120,28 @@ more_bytes : (old new bytes : List ℕ) → new ≡ old ++ bytes → 0 < length 
     → length old < length new
 more_bytes old new bytes e h = omega (arith, ap length e, length-append old bytes)
 
-pub reads_ahead : (r : Result Bool ReplayFault) (s : Stand) (new : ReadAhead)
+pub reads_ahead : (r : Result Bool ReplayFault) (s : Progress) (new : ReadAhead)
     (left after taken : Option (List ℕ)) (answered : Answered)
-    → Ahead s (stand s.block left answered taken) → answered.waiting ≡ []
+    → Ahead s (progress s.block left answered taken) → answered.waiting ≡ []
     → IfOk r (λ some. Refills some s.block new left after) → IfErr r (λ f. f ≡ Read)
     → OnErr r (Keeps left after) → OnErr r (new ≡ s.block) → OnErr r (s.block.ended ≡ false)
-    → ReadsAhead r s (stand new after answered taken)
+    → ReadsAhead r s (progress new after answered taken)
 reads_ahead (Ok true) s new left after taken answered a w ok err kept same going = (
-  ahead_more s (stand s.block left answered taken) (stand new after answered taken) a
+  ahead_more s (progress s.block left answered taken) (progress new after answered taken) a
       (refilled_ahead true s.block new left after taken answered ok
-      (behind_end true s.block new left after ok)),
-  more_bytes s.block.unread new.unread ok.bytes ok.behind (ok.came refl).0,
+      (after_end true s.block new left after ok)),
+  more_bytes s.block.unread new.unread ok.bytes ok.appended (ok.came refl).0,
 )
 reads_ahead (Ok false) s new left after taken answered a w ok err kept same going = (
-  ahead_more s (stand s.block left answered taken) (stand new after answered taken) a
+  ahead_more s (progress s.block left answered taken) (progress new after answered taken) a
       (refilled_ahead false s.block new left after taken answered ok
-      (behind_end false s.block new left after ok)),
-  ok.behind ∙ ap (λ (x : List ℕ). s.block.unread ++ x) (ok.none refl).0 ∙ append-nil s.block.unread,
+      (after_end false s.block new left after ok)),
+  ok.appended ∙ ap (λ (x : List ℕ). s.block.unread ++ x) (ok.none refl).0 ∙ append-nil s.block.unread,
   (ok.none refl).1,
 )
 reads_ahead (Err Read) s new left after taken answered a w ok err kept same going = (
   record {
-    ahead = ahead_more s (stand s.block left answered taken) (stand new after answered taken) a
+    ahead = ahead_more s (progress s.block left answered taken) (progress new after answered taken) a
         (unread_ahead s.block new left after taken answered same kept going);
     none_wait = w;
     going = ap (λ (b : ReadAhead). b.ended) same ∙ going;
@@ -157,9 +157,9 @@ reads_ahead (Err (Script l f)) s new left after taken answered a w ok err kept s
     absurd (cc err)
 
 -- a write that failed
-pub tears : (s : Stand) (t : Stand) (count : ℕ)
-    → Appends s.taken t.taken (take count s.answered.waiting) → t.left ≡ s.left → Torn s t
-tears s t count to left = record {
+pub write_failed_at : (s : Progress) (t : Progress) (count : ℕ)
+    → Appends s.taken t.taken (take count s.answered.waiting) → t.left ≡ s.left → WriteFailed s t
+write_failed_at s t count to left = record {
   before = s;
   ahead = ahead_none s;
   count = count;
@@ -167,10 +167,10 @@ tears s t count to left = record {
   left = left;
 }
 
-pub tears_write : (r : Result Bool ReplayFault) (e : ReplayFault) (s t : Stand)
+pub write_failed_ahead : (r : Result Bool ReplayFault) (e : ReplayFault) (s t : Progress)
     → IsErr r × IsErrAnd r (λ f. f ≡ e) → e ≡ Write
     → (n : ℕ) × Appends s.taken t.taken (take n s.answered.waiting) → t.left ≡ s.left
     → ReadsAhead r s t
-tears_write (Ok b) e s t h w front left = absurd (h.1)
-tears_write (Err f) e s t h w front left =
-    subst (λ (x : ReplayFault). NotAhead x s t) (sym (h.1 ∙ w)) (tears s t front.0 front.1 left)
+write_failed_ahead (Ok b) e s t h w front left = absurd (h.1)
+write_failed_ahead (Err f) e s t h w front left =
+    subst (λ (x : ReplayFault). FailsAhead x s t) (sym (h.1 ∙ w)) (write_failed_at s t front.0 front.1 left)

@@ -27,7 +27,7 @@ use Rattle.psci_fw.specs.Answers.{answer, call_fault, entry_fault, entry_at, out
 use Rattle.psci_bench.specs.declared.event.Event.{Event}
 use Rattle.psci_bench.specs.declared.event.Event.TheVariants.{Call, Enter}
 use Rattle.psci_bench.specs.declared.firmware_machine.Place.TheVariants.{Running}
-use Rattle.psci_bench.specs.Legal.{place_behind, call_in, first_start}
+use Rattle.psci_bench.specs.Legal.{place_after, call_in, first_start}
 
 -- the firmware's boot core is up
 abbrev pub IsUp : Values → Type 0
@@ -87,7 +87,7 @@ asks_off b v requests.MigrateInfoType = tt
 asks_off b v (requests.Features word) = tt
 asks_off b v requests.Unknown = tt
 
-runs_on : (act : Act) → place_behind act ≡ Running → activity_of act ≡ activities.Running
+runs_on : (act : Act) → place_after act ≡ Running → activity_of act ≡ activities.Running
 runs_on (acts.Return code) e = refl
 runs_on acts.Stop e = absurd (cc)
 runs_on (acts.Enter address context) e = refl
@@ -102,7 +102,7 @@ other_core v k true e on off =
 other_core v k false e on off = on
 
 up_still : (b : BoardValue) (v : Values) (act : Act) (asked : Option PowerOn) → WasOff v asked
-    → IsUp v → place_behind act ≡ Running → IsUp (change b (call_effect 0 act asked) v)
+    → IsUp v → place_after act ≡ Running → IsUp (change b (call_effect 0 act asked) v)
 up_still b v act None w u e = (u.0, u.1, runs_on act e)
 up_still b v act (Some asked) w u e =
     (u.0, other_core v asked.target (0 == asked.target) refl u.1 w, refl)
@@ -112,7 +112,7 @@ up_still b v act (Some asked) w u e =
 -- it answers, and where its core runs on, the boot core is up
 abbrev pub Answered : BoardValue → ℕ → Event → Values → Type 0
 Answered b c event v = (o : Outcome) × (answer b v c (call_in event) ≡ Out o)
-    × (place_behind o.act ≡ Running → IsUp (after b c (call_in event) (Out o) v))
+    × (place_after o.act ≡ Running → IsUp (after b c (call_in event) (Out o) v))
 
 no_fault : (there lifeless runs : Bool) → there ≡ true → lifeless ≡ false → runs ≡ true
     → cond (not there) (Some faults.NoCore)

@@ -59,7 +59,7 @@ whole_in : (ys zs : List ℕ) (n : ℕ) → n ≡ place ys → n < length ys →
     → Cut (ys ++ zs) n
 whole_in ys zs n e h k =
     let front : take n (ys ++ zs) ≡ take n ys = take-append-le n ys zs (omega arith) in
-    let behind : drop (n + 1) (ys ++ zs) ≡ drop (n + 1) ys ++ zs =
+    let appended : drop (n + 1) (ys ++ zs) ≡ drop (n + 1) ys ++ zs =
     drop-append-le (n + 1) ys zs (omega arith) in
     let one : suc n ≡ n + 1 = omega arith in
     let at : There ys n = subst (λ (m : ℕ). There ys m) (sym e)
@@ -70,7 +70,7 @@ whole_in ys zs n e h k =
       omega (arith, length-append ys zs),
       ap has_line_feed front ∙ ap (λ (m : ℕ). has_line_feed (take m ys)) e ∙ before ys,
       seam ∙ ap (λ (m : ℕ). take n ys ++ 10 ∷ (drop m ys ++ zs)) one
-          ∙ ap (λ (x : List ℕ). take n ys ++ 10 ∷ x) (sym behind)
+          ∙ ap (λ (x : List ℕ). take n ys ++ 10 ∷ x) (sym appended)
           ∙ ap (λ (x : List ℕ). x ++ 10 ∷ drop (n + 1) (ys ++ zs)) (sym front),
     )
 

@@ -11,15 +11,15 @@ use Rattle.psci_bench.specs.declared.fault.ReplayFault.{ReplayFault}
 use Rattle.psci_bench.specs.declared.fault.ReplayFault.TheVariants.{Script}
 use Rattle.psci_bench.specs.declared.lines.Extent.{Extent}
 use Rattle.psci_bench.specs.Block.{ReadAhead}
-use Rattle.psci_bench.specs.Legal.{Record}
+use Rattle.psci_bench.specs.declared.said.Record.{Record}
 use Rattle.psci_bench.specs.Line.{line_of}
 use Rattle.psci_bench.specs.Lines.{lines, has_line_feed}
-use Rattle.psci_bench.specs.Progress.{Stand, Torn, IsLine, FaultyLine}
-use Rattle.psci_bench.specs.Script.{Saying, Told, behind_line, told, told_lines, line_said, ok_or, ends}
-use Rattle.psci_bench.specs.Run.{Follows, Taken, Ended, Stopped, Failed}
+use Rattle.psci_bench.specs.Progress.{Progress, WriteFailed, IsLine, FaultyLine}
+use Rattle.psci_bench.specs.Script.{Saying, Transcript, after_line, transcript, transcript_of_rest, line_said, ok_or, ends}
+use Rattle.psci_bench.specs.Run.{Follows, LinesAnswered, Ended, CutShort, Unwritten}
 use Rattle.psci_bench.proofs.Known.{appends_more}
 use Rattle.psci_bench.proofs.Split.{lines_long, lines_some, lines_none, Longer}
-use Rattle.psci_bench.proofs.Told.{taken_ahead, line_first, told_fault, no_lines_told, line_read, line_long, line_many, skipped}
+use Rattle.psci_bench.proofs.Transcripts.{answered_ahead, line_first, fault_transcript, no_rest_is, line_read, line_long, line_many, skipped}
 
 pub follows_whole : (block : ReadAhead) (rest : List ℕ) → (block.ended ≡ true → rest ≡ [])
     → Follows block (block.unread ++ rest)
@@ -31,10 +31,10 @@ follows_whole block rest f = λ t. (
 
 -- what was read, and what follows it, comes to this end
 pub ended_by : (says : Saying) (b : BoardValue) (past : List Record) (n : ℕ)
-    (first before : Option (List ℕ)) (s : Stand) (end : Result Replayed ReplayFault)
-    → Taken says b past n first before s
+    (first before : Option (List ℕ)) (s : Progress) (end : Result Replayed ReplayFault)
+    → LinesAnswered says b past n first before s
     → ((rest : List ℕ) → (s.block.ended ≡ true → rest ≡ [])
-    → told_lines says b past n (lines (s.block.unread ++ rest)) ≡ ends end)
+    → transcript_of_rest says b past n (lines (s.block.unread ++ rest)) ≡ ends end)
     → Ended says end first before s
 ended_by says b past n first before s end k h = record {
   read = k.whole ++ s.block.unread;
@@ -42,32 +42,32 @@ ended_by says b past n first before s end k h = record {
   at_end = k.at_end;
   written = k.written;
   to = k.to;
-  told = λ rest f.
-      ap (told says) (append_assoc k.whole s.block.unread rest)
+  transcript = λ rest f.
+      ap (transcript says) (append_assoc k.whole s.block.unread rest)
       ∙ k.answers (s.block.unread ++ rest) (follows_whole s.block rest f)
-      ∙ ap (behind_line (k.written ++ s.answered.waiting)) (h rest f)
-      ∙ ap (λ (x : List ℕ). let r : Told = record { text = x; end = end } in r)
+      ∙ ap (after_line (k.written ++ s.answered.waiting)) (h rest f)
+      ∙ ap (λ (x : List ℕ). let r : Transcript = record { text = x; end = end } in r)
       (append-nil (k.written ++ s.answered.waiting));
 }
 
 pub ends_well : (says : Saying) (b : BoardValue) (past : List Record) (n : ℕ)
-    (first before : Option (List ℕ)) (s : Stand) → Taken says b past n first before s
+    (first before : Option (List ℕ)) (s : Progress) → LinesAnswered says b past n first before s
     → s.block.unread ≡ [] → s.block.ended ≡ true
     → Ended says (Ok (record { lines = n; events = s.answered.events })) first before s
 ends_well says b past n first before s k u e =
     ended_by says b past n first before s (Ok (record { lines = n; events = s.answered.events })) k
-    (λ rest f. ap (told_lines says b past n) (ap lines (ap (λ (x : List ℕ). x ++ rest) u ∙ f e)
+    (λ rest f. ap (transcript_of_rest says b past n) (ap lines (ap (λ (x : List ℕ). x ++ rest) u ∙ f e)
     ∙ lines_none)
-    ∙ no_lines_told says b past n
+    ∙ no_rest_is says b past n
     ∙ ap (λ (m : ℕ). ends (Ok (record { lines = n; events = m }))) (sym k.events))
 
 faulty_long : (says : Saying) (b : BoardValue) (past : List Record) (n : ℕ) (u rest front : List ℕ)
     (fault : ScriptFault) → Longer front (lines (u ++ rest))
     → ((l : List ℕ) → length front ≤ length l → line_said (n + 1) l ≡ Err fault)
-    → told_lines says b past n (lines (u ++ rest)) ≡ ends (Err (Script (n + 1) fault))
+    → transcript_of_rest says b past n (lines (u ++ rest)) ≡ ends (Err (Script (n + 1) fault))
 faulty_long says b past n u rest front fault h k =
-    ap (told_lines says b past n) h.is
-    ∙ told_fault says b past n h.first h.others fault (k h.first h.long)
+    ap (transcript_of_rest says b past n) h.is
+    ∙ fault_transcript says b past n h.first h.others fault (k h.first h.long)
 
 pub cut_front : (n : ℕ) (u rest : List ℕ) → n < length u → has_line_feed (take (suc n) u) ≡ false
     → Longer (take (suc n) u) (lines (u ++ rest))
@@ -83,8 +83,8 @@ any_front [] rest h = absurd (omega arith)
 any_front (b ∷ bs) rest h = lines_some b (bs ++ rest)
 
 pub ends_faulty : (says : Saying) (b : BoardValue) (past : List Record) (n : ℕ)
-    (first before : Option (List ℕ)) (s : Stand) (fault : ScriptFault)
-    → Taken says b past n first before s → FaultyLine (n + 1) fault s
+    (first before : Option (List ℕ)) (s : Progress) (fault : ScriptFault)
+    → LinesAnswered says b past n first before s → FaultyLine (n + 1) fault s
     → Ended says (Err (Script (n + 1) fault)) first before s
 ends_faulty says b past n first before s TooMany k h =
     ended_by says b past n first before s (Err (Script (n + 1) TooMany)) k
@@ -102,63 +102,63 @@ ends_faulty says b past n first before s NoBoard k h = absurd h
 
 -- a line outside the grammar
 pub ends_line : (says : Saying) (b : BoardValue) (past : List Record) (n : ℕ)
-    (first before : Option (List ℕ)) (s : Stand) (e : Extent) → Taken says b past n first before s
+    (first before : Option (List ℕ)) (s : Progress) (e : Extent) → LinesAnswered says b past n first before s
     → IsLine e s.block → n + 1 ≤ 1000000 → length (take e.line s.block.unread) ≤ 256
     → line_of (take e.line s.block.unread) ≡ None
     → Ended says (Err (Script (n + 1) Line)) first before s
 ends_line says b past n first before s e k i h few o =
     ended_by says b past n first before s (Err (Script (n + 1) Line)) k
-    (λ rest f. ap (told_lines says b past n)
+    (λ rest f. ap (transcript_of_rest says b past n)
     (ap lines (ap (λ (x : List ℕ). x ++ rest) (sym (take-append-drop e.taken s.block.unread))
     ∙ append_assoc (take e.taken s.block.unread) (drop e.taken s.block.unread) rest)
     ∙ line_first e s.block (drop e.taken s.block.unread ++ rest) i
     (follows_whole (skipped s.block e) rest f))
-    ∙ told_fault says b past n (take e.line s.block.unread)
+    ∙ fault_transcript says b past n (take e.line s.block.unread)
     (lines (drop e.taken s.block.unread ++ rest)) Line
     (line_read (n + 1) (take e.line s.block.unread) h few ∙ ap (λ x. ok_or x Line) o))
 
-pub stopped : (says : Saying) (Behind : ℕ → List ℕ → Type 0) (b : BoardValue) (past : List Record)
-    (n : ℕ) (first before : Option (List ℕ)) (s : Stand) → Taken says b past n first before s
-    → (s.block.ended ≡ true → 0 < length s.block.unread) → Behind (n + 1) s.block.unread
-    → Stopped says Behind first before s
-stopped says Behind b past n first before s k f h = record {
+pub stopped : (says : Saying) (Rest : ℕ → List ℕ → Type 0) (b : BoardValue) (past : List Record)
+    (n : ℕ) (first before : Option (List ℕ)) (s : Progress) → LinesAnswered says b past n first before s
+    → (s.block.ended ≡ true → 0 < length s.block.unread) → Rest (n + 1) s.block.unread
+    → CutShort says Rest first before s
+stopped says Rest b past n first before s k f h = record {
   whole = k.whole;
   lines = k.lines f;
   count = n;
   sound = inr (
     length past,
-    ap (λ (x : List ℕ). (told says x).end) (sym (append-nil k.whole))
-        ∙ ap (λ (r : Told). r.end) (k.answers [] (λ t. (0, refl)))
-        ∙ ap (λ (x : List (List ℕ)). (told_lines says b past n x).end) lines_none
-        ∙ ap (λ (r : Told). r.end) (no_lines_told says b past n),
+    ap (λ (x : List ℕ). (transcript says x).end) (sym (append-nil k.whole))
+        ∙ ap (λ (r : Transcript). r.end) (k.answers [] (λ t. (0, refl)))
+        ∙ ap (λ (x : List (List ℕ)). (transcript_of_rest says b past n x).end) lines_none
+        ∙ ap (λ (r : Transcript). r.end) (no_rest_is says b past n),
   );
   part = s.block.unread;
-  behind = h;
+  fits = h;
   from = k.from;
   at_end = k.at_end;
   written = k.written;
   to = k.to;
   more = λ rest f. (
-    (told_lines says b past n (lines (s.block.unread ++ rest))).text,
-    ap (λ (x : List ℕ). (told says x).text) (append_assoc k.whole s.block.unread rest)
-        ∙ ap (λ (r : Told). r.text) (k.answers (s.block.unread ++ rest)
+    (transcript_of_rest says b past n (lines (s.block.unread ++ rest))).text,
+    ap (λ (x : List ℕ). (transcript says x).text) (append_assoc k.whole s.block.unread rest)
+        ∙ ap (λ (r : Transcript). r.text) (k.answers (s.block.unread ++ rest)
         (follows_whole s.block rest f)),
   );
-  told =
-      ap (λ (x : List ℕ). (told says x).text) (sym (append-nil k.whole))
-      ∙ ap (λ (r : Told). r.text) (k.answers [] (λ t. (0, refl)))
+  transcript =
+      ap (λ (x : List ℕ). (transcript says x).text) (sym (append-nil k.whole))
+      ∙ ap (λ (r : Transcript). r.text) (k.answers [] (λ t. (0, refl)))
       ∙ ap (λ (x : List (List ℕ)).
-      (k.written ++ s.answered.waiting) ++ (told_lines says b past n x).text) lines_none
-      ∙ ap (λ (r : Told). (k.written ++ s.answered.waiting) ++ r.text) (no_lines_told says b past n)
+      (k.written ++ s.answered.waiting) ++ (transcript_of_rest says b past n x).text) lines_none
+      ∙ ap (λ (r : Transcript). (k.written ++ s.answered.waiting) ++ r.text) (no_rest_is says b past n)
       ∙ append-nil (k.written ++ s.answered.waiting);
 }
 
 pub failed : (says : Saying) (b : BoardValue) (past : List Record) (n : ℕ)
-    (first before : Option (List ℕ)) (s t : Stand) → Taken says b past n first before s → Torn s t
-    → Failed says first before t.left t.taken
+    (first before : Option (List ℕ)) (s t : Progress) → LinesAnswered says b past n first before s → WriteFailed s t
+    → Unwritten says first before t.left t.taken
 failed says b past n first before s t k d =
     let m = d.before in
-    let j = taken_ahead says b past n first before s m d.ahead k in
+    let j = answered_ahead says b past n first before s m d.ahead k in
     record {
       read = j.whole ++ m.block.unread;
       from = subst (λ (x : Option (List ℕ)). Consumes first x (j.whole ++ m.block.unread))
@@ -168,20 +168,20 @@ failed says b past n first before s t k d =
       written = j.written ++ take d.count m.answered.waiting;
       to = appends_more before m.taken t.taken j.written
           (take d.count m.answered.waiting) j.to d.to;
-      told = λ rest f. (
-        drop d.count m.answered.waiting ++ (told_lines says b past n
+      transcript = λ rest f. (
+        drop d.count m.answered.waiting ++ (transcript_of_rest says b past n
             (lines (m.block.unread ++ rest))).text,
-        ap (λ (x : List ℕ). (told says x).text) (append_assoc j.whole m.block.unread rest)
-            ∙ ap (λ (r : Told). r.text) (j.answers (m.block.unread ++ rest)
+        ap (λ (x : List ℕ). (transcript says x).text) (append_assoc j.whole m.block.unread rest)
+            ∙ ap (λ (r : Transcript). r.text) (j.answers (m.block.unread ++ rest)
             (follows_whole m.block rest f))
-            ∙ torn_text j.written (take d.count m.answered.waiting)
+            ∙ part_text j.written (take d.count m.answered.waiting)
             (drop d.count m.answered.waiting) m.answered.waiting
-            (told_lines says b past n (lines (m.block.unread ++ rest))).text
+            (transcript_of_rest says b past n (lines (m.block.unread ++ rest))).text
             (take-append-drop d.count m.answered.waiting),
       );
     } where
-      torn_text : (w x y z v : List ℕ) → x ++ y ≡ z → (w ++ z) ++ v ≡ (w ++ x) ++ (y ++ v)
-      torn_text w x y z v e =
+      part_text : (w x y z v : List ℕ) → x ++ y ≡ z → (w ++ z) ++ v ≡ (w ++ x) ++ (y ++ v)
+      part_text w x y z v e =
           ap (λ (a : List ℕ). (w ++ a) ++ v) (sym e)
           ∙ ap (λ (a : List ℕ). a ++ v) (sym (append_assoc w x y))
           ∙ append_assoc (w ++ x) y v

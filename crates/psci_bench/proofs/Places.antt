@@ -20,8 +20,9 @@ use Rattle.psci_bench.specs.declared.said.Said.TheVariants.{Ignored, Absent}
 use Rattle.psci_bench.specs.declared.firmware_machine.Place.{Place}
 use Rattle.psci_bench.specs.declared.firmware_machine.Place.TheVariants.{Started, Running, Stopped}
 use Rattle.psci_bench.specs.Line.{core_in}
-use Rattle.psci_bench.specs.Legal.{Record, IsLegalPast, IsAnswered, history, place, place_behind, happens, call_in, said_by, sent_count, answered, legal}
-use Rattle.psci_bench.proofs.Stands.{record_of, legal_absent, legal_here, outcome_kept, kept_place}
+use Rattle.psci_bench.specs.declared.said.Record.{Record}
+use Rattle.psci_bench.specs.Legal.{IsLegalPast, IsAnswered, history, place, place_after, happens, call_in, said_by, sent_count, answered, legal}
+use Rattle.psci_bench.proofs.MachineSteps.{record_of, legal_absent, legal_here, outcome_kept, kept_place}
 use Rattle.psci_bench.proofs.BootCore.{IsUp, Answered, answers_call, enters_first}
 
 -- what the values of a history are, entry by entry
@@ -115,7 +116,7 @@ at_place first b past (Enter c) s some lives on h =
 
 -- One more record -----------------------------------------------------------------------------
 
-not_started : (act : Act) → place_behind act ≡ Started → ⊥
+not_started : (act : Act) → place_after act ≡ Started → ⊥
 not_started (acts.Return code) e = cc
 not_started acts.Stop e = cc
 not_started (acts.Enter address context) e = cc
@@ -130,7 +131,7 @@ place_other t p q e = ap (λ (x : Bool). cond x p q) e
 settled_answered : More → (b : BoardValue) (past : List Record) (event : Event) (n : ℕ)
     (o : Outcome)
     → Settled b past → 0 ≡ core_in event
-    → (place_behind o.act ≡ Running
+    → (place_after o.act ≡ Running
     → IsUp (after b (core_in event) (call_in event) (Out o) (values_of b (history past))))
     → Settled b (record_of event (said_by n (Out o)) ∷ past)
 settled_answered more b past event n o s e up =
@@ -138,15 +139,15 @@ settled_answered more b past event n o s e up =
     let left : Values = after b (core_in event) (call_in event) (Out o)
     (values_of b (history past)) in
     record {
-      others = λ c f. place_other (c == core_in event) (place_behind o.act) (place past c)
+      others = λ c f. place_other (c == core_in event) (place_after o.act) (place past c)
           (ap (λ (k : ℕ). c == k) (sym e) ∙ f)
           ∙ s.others c f;
       starts = λ f. absurd (not_started o.act (sym (place_same (0 == core_in event)
-          (place_behind o.act) (place past 0) at) ∙ f));
+          (place_after o.act) (place past 0) at) ∙ f));
       runs = λ f. subst IsUp (sym (more b _ (history past)
           ∙ ap (λ (x : Outcome). after b (core_in event) (call_in event) (Out x)
           (values_of b (history past))) (outcome_kept n o)))
-          (up (sym (place_same (0 == core_in event) (place_behind o.act) (place past 0) at) ∙ f));
+          (up (sym (place_same (0 == core_in event) (place_after o.act) (place past 0) at) ∙ f));
     }
 
 settled_reply : More → (b : BoardValue) (past : List Record) (event : Event) → Settled b past

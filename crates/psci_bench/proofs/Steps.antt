@@ -12,18 +12,18 @@ use Rattle.psci_bench.specs.declared.fault.ReplayFault.TheVariants.{Script, Boar
 use Rattle.psci_bench.specs.declared.lines.Extent.{Extent}
 use Rattle.psci_bench.specs.Answered.{Answered}
 use Rattle.psci_bench.specs.Block.{ReadAhead}
-use Rattle.psci_bench.specs.Legal.{Record}
+use Rattle.psci_bench.specs.declared.said.Record.{Record}
 use Rattle.psci_bench.specs.Line.{line_of}
-use Rattle.psci_bench.specs.Progress.{Stand, stand, IsLine, IsCut, NoLine, FaultyLine, FindsLine}
+use Rattle.psci_bench.specs.Progress.{Progress, progress, IsLine, IsLineFront, FailsLine, FaultyLine, FindsLine}
 use Rattle.psci_bench.specs.Script.{Saying}
 use Rattle.psci_bench.specs.Text.{answer_line}
-use Rattle.psci_bench.specs.Run.{Taken, Ended, EndsBy, IsAny, Runs, Goes, BoardRead, LineSaid, LineTaken, EventTaken}
-use Rattle.psci_bench.proofs.Told.{taken_ahead, taken_line, told_blank, told_event, skipped}
+use Rattle.psci_bench.specs.Run.{LinesAnswered, Ended, EndsBy, IsWithinBlock, Runs, IsUnderWay, BoardRead, AnswerLeaves, LineAnswered, LineRefused}
+use Rattle.psci_bench.proofs.Transcripts.{answered_ahead, answered_line, blank_transcript, event_transcript, skipped}
 use Rattle.psci_bench.proofs.Ends.{ends_faulty, ends_line, stopped, failed}
-use Rattle.psci_bench.proofs.Begins.{Fresh, opened, fresh_ahead, fresh_long, fresh_script, fresh_board, fresh_stopped, fresh_failed}
+use Rattle.psci_bench.proofs.Beginning.{Fresh, opened, fresh_ahead, fresh_long, fresh_script, fresh_board, fresh_stopped, fresh_failed}
 
 pub ends_so : {X : Type 0} (r : Result X ReplayFault) (e : ReplayFault) (says : Saying)
-    (first before : Option (List ℕ)) (t : Stand) → IsErr r × IsErrAnd r (λ f. f ≡ e)
+    (first before : Option (List ℕ)) (t : Progress) → IsErr r × IsErrAnd r (λ f. f ≡ e)
     → EndsBy says e first before t → IfErr r (λ f. EndsBy says f first before t)
 ends_so (Ok x) e says first before t h k = tt
 ends_so (Err f) e says first before t h k =
@@ -32,7 +32,7 @@ ends_so (Err f) e says first before t h k =
 -- The first line ------------------------------------------------------------------------------
 
 first_faulty : (l : ℕ) (fault : ScriptFault) (says : Saying) (first before : Option (List ℕ))
-    (t : Stand) → Fresh first before t → l ≡ 1 → FaultyLine 1 fault t
+    (t : Progress) → Fresh first before t → l ≡ 1 → FaultyLine 1 fault t
     → Ended says (Err (Script l fault)) first before t
 first_faulty l TooMany says first before t k e h = absurd (let r : 1000000 < 1 = h.0 in omega arith)
 first_faulty l Long says first before t k e h =
@@ -41,17 +41,17 @@ first_faulty l Long says first before t k e h =
 first_faulty l Line says first before t k e h = absurd h
 first_faulty l NoBoard says first before t k e h = absurd h
 
-pub begins_not : (e : ReplayFault) (says : Saying) (first before : Option (List ℕ)) (t : Stand)
-    → NoLine 1 e (opened first before) t → EndsBy says e first before t
+pub begins_not : (e : ReplayFault) (says : Saying) (first before : Option (List ℕ)) (t : Progress)
+    → FailsLine 1 e (opened first before) t → EndsBy says e first before t
 begins_not (Script l fault) says first before t h =
     first_faulty l fault says first before t (fresh_ahead first before t h.0) h.1 h.2
 begins_not (Board b) says first before t h = absurd h
 begins_not Read says first before t h =
-    fresh_stopped says IsCut first before t (fresh_ahead first before t h.0.ahead) h.1
+    fresh_stopped says IsLineFront first before t (fresh_ahead first before t h.0.ahead) h.1
 begins_not Write says first before t h = fresh_failed says first before t h
 begins_not Memory says first before t h = absurd h
 
-pub board_not : (e : ReplayFault) (says : Saying) (first before : Option (List ℕ)) (t : Stand)
+pub board_not : (e : ReplayFault) (says : Saying) (first before : Option (List ℕ)) (t : Progress)
     (x : Extent) → Fresh first before t → IsLine x t.block
     → BoardRead (Err e) (take x.line t.block.unread) → EndsBy says e first before t
 board_not (Script l fault) says first before t x k i h =
@@ -61,7 +61,7 @@ board_not (Board fault) says first before t x k i h =
     fresh_board says first before t x fault h.0 k i h.1 h.2
 board_not Read says first before t x k i h = absurd h
 board_not Write says first before t x k i h = absurd h
-board_not Memory says first before t x k i h = fresh_stopped says IsAny first before t k tt
+board_not Memory says first before t x k i h = fresh_stopped says IsWithinBlock first before t k tt
 
 -- A later line --------------------------------------------------------------------------------
 
@@ -76,66 +76,66 @@ line_some e block (few, feeds, inr w) = omega (arith, w.1, w.2)
 
 same_answers : (says : Saying) (b : BoardValue) (past : List Record) (n : ℕ)
     (first before : Option (List ℕ)) (block : ReadAhead) (left taken : Option (List ℕ))
-    (old new : Answered) → new ≡ old → Taken says b past n first before (stand block left old taken)
-    → Taken says b past n first before (stand block left new taken)
+    (old new : Answered) → new ≡ old → LinesAnswered says b past n first before (progress block left old taken)
+    → LinesAnswered says b past n first before (progress block left new taken)
 same_answers says b past n first before block left taken old new e k =
-    subst (λ (a : Answered). Taken says b past n first before (stand block left a taken)) (sym e) k
+    subst (λ (a : Answered). LinesAnswered says b past n first before (progress block left a taken)) (sym e) k
 
 pub line_not : (f : ReplayFault) (says : Saying) (b : BoardValue) (past : List Record) (n : ℕ)
     (first before : Option (List ℕ)) (block : ReadAhead) (left taken : Option (List ℕ))
     (old new : Answered) (e : Extent) → n < 1000000 → IsLine e block
-    → Taken says b past n first before (stand block left old taken)
-    → EventTaken f (n + 1) (take e.line block.unread) → new ≡ old
-    → EndsBy says f first before (stand block left new taken)
+    → LinesAnswered says b past n first before (progress block left old taken)
+    → LineRefused f (n + 1) (take e.line block.unread) → new ≡ old
+    → EndsBy says f first before (progress block left new taken)
 line_not (Script l fault) says b past n first before block left taken old new e h i k x a =
-    subst (λ (m : ℕ). Ended says (Err (Script m fault)) first before (stand block left new taken))
+    subst (λ (m : ℕ). Ended says (Err (Script m fault)) first before (progress block left new taken))
     (sym x.0)
     (subst (λ (y : ScriptFault). Ended says (Err (Script (n + 1) y)) first before
-    (stand block left new taken)) (sym x.1)
-    (ends_line says b past n first before (stand block left new taken) e
+    (progress block left new taken)) (sym x.1)
+    (ends_line says b past n first before (progress block left new taken) e
     (same_answers says b past n first before block left taken old new a k) i (omega arith)
     (line_short e block i) x.2))
 line_not (Board fault) says b past n first before block left taken old new e h i k x a = absurd x
 line_not Read says b past n first before block left taken old new e h i k x a = absurd x
 line_not Write says b past n first before block left taken old new e h i k x a = absurd x
 line_not Memory says b past n first before block left taken old new e h i k x a =
-    stopped says IsAny b past n first before (stand block left new taken)
+    stopped says IsWithinBlock b past n first before (progress block left new taken)
     (same_answers says b past n first before block left taken old new a k)
     (λ t. line_some e block i) tt
 
-line_said_goes : (o : Option LineSays) (says : Saying) (stands : BoardValue → List Record → Type 0)
+line_said_goes : (o : Option LineSays) (says : Saying) (is_after : BoardValue → List Record → Type 0)
     (b : BoardValue) (past : List Record) (n : ℕ) (first before : Option (List ℕ))
     (block : ReadAhead) (left taken : Option (List ℕ)) (old new : Answered) (e : Extent)
     → line_of (take e.line block.unread) ≡ o → n < 1000000 → length past ≤ n → IsLine e block
-    → Taken says b past n first before (stand block left old taken)
-    → LineSaid says stands b past o old new
-    → Goes says stands (n + 1) first before (stand (skipped block e) left new taken)
-line_said_goes None says stands b past n first before block left taken old new e o h m i k x =
+    → LinesAnswered says b past n first before (progress block left old taken)
+    → AnswerLeaves says is_after b past o old new
+    → IsUnderWay says is_after (n + 1) first before (progress (skipped block e) left new taken)
+line_said_goes None says is_after b past n first before block left taken old new e o h m i k x =
     absurd x
-line_said_goes (Some Blank) says stands b past n first before block left taken old new e o h m i k
+line_said_goes (Some Blank) says is_after b past n first before block left taken old new e o h m i k
     x = (
       b,
       past,
       x.0,
       omega arith,
-      taken_line says b past past n first before block left taken old new e [] i k
-          (λ ls. told_blank says b past n (take e.line block.unread) ls (omega arith)
+      answered_line says b past past n first before block left taken old new e [] i k
+          (λ ls. blank_transcript says b past n (take e.line block.unread) ls (omega arith)
           (line_short e block i) o)
           (ap (λ (a : Answered). a.waiting) x.1 ∙ sym (append-nil old.waiting))
           (ap (λ (a : Answered). a.events) x.1 ∙ k.events),
     )
-line_said_goes (Some (Says event)) says stands b past n first before block left taken old new e o h
+line_said_goes (Some (Says event)) says is_after b past n first before block left taken old new e o h
     m i k x = (
       b,
       record { event = event; said = says b past event } ∷ past,
       x.0,
       omega arith,
-      taken_line says b past (record {
+      answered_line says b past (record {
         event = event;
         said = says b past event;
       } ∷ past) n first before block left taken old new e
           (answer_line (length past + 1) (says b past event)) i k
-          (λ ls. told_event says b past n (take e.line block.unread) ls event (omega arith)
+          (λ ls. event_transcript says b past n (take e.line block.unread) ls event (omega arith)
           (line_short e block i) o)
           (ap (λ (a : Answered). a.waiting) x.1)
           (ap (λ (a : Answered). a.events) x.1
@@ -145,35 +145,35 @@ line_said_goes (Some (Says event)) says stands b past n first before block left 
           } ∷ past) = omega arith in z)),
     )
 
-pub line_goes : (says : Saying) (stands : BoardValue → List Record → Type 0) (b : BoardValue)
+pub line_goes : (says : Saying) (is_after : BoardValue → List Record → Type 0) (b : BoardValue)
     (past : List Record) (n : ℕ) (first before : Option (List ℕ)) (block : ReadAhead)
     (left taken : Option (List ℕ)) (old new : Answered) (e : Extent) → n < 1000000 → length past ≤ n
-    → IsLine e block → Taken says b past n first before (stand block left old taken)
-    → LineTaken says stands b past (take e.line block.unread) old new
-    → Goes says stands (n + 1) first before (stand (skipped block e) left new taken)
-line_goes says stands b past n first before block left taken old new e h m i k x =
-    line_said_goes (line_of (take e.line block.unread)) says stands b past n first before block left
+    → IsLine e block → LinesAnswered says b past n first before (progress block left old taken)
+    → LineAnswered says is_after b past (take e.line block.unread) old new
+    → IsUnderWay says is_after (n + 1) first before (progress (skipped block e) left new taken)
+line_goes says is_after b past n first before block left taken old new e h m i k x =
+    line_said_goes (line_of (take e.line block.unread)) says is_after b past n first before block left
     taken old new e refl h m i k x
 
 -- A call for the next line that found none
 later_faulty : (l : ℕ) (says : Saying) (b : BoardValue) (past : List Record) (n : ℕ)
-    (first before : Option (List ℕ)) (t : Stand) (fault : ScriptFault)
-    → Taken says b past n first before t → l ≡ n + 1 → FaultyLine (n + 1) fault t
+    (first before : Option (List ℕ)) (t : Progress) (fault : ScriptFault)
+    → LinesAnswered says b past n first before t → l ≡ n + 1 → FaultyLine (n + 1) fault t
     → Ended says (Err (Script l fault)) first before t
 later_faulty l says b past n first before t fault k e h =
     subst (λ (m : ℕ). Ended says (Err (Script m fault)) first before t) (sym e)
     (ends_faulty says b past n first before t fault k h)
 
 pub goes_not : (f : ReplayFault) (says : Saying) (b : BoardValue) (past : List Record) (n : ℕ)
-    (first before : Option (List ℕ)) (s t : Stand) → Taken says b past n first before s
-    → NoLine (n + 1) f s t → EndsBy says f first before t
+    (first before : Option (List ℕ)) (s t : Progress) → LinesAnswered says b past n first before s
+    → FailsLine (n + 1) f s t → EndsBy says f first before t
 goes_not (Script l fault) says b past n first before s t k h =
     later_faulty l says b past n first before t fault
-    (taken_ahead says b past n first before s t h.0 k) h.1 h.2
+    (answered_ahead says b past n first before s t h.0 k) h.1 h.2
 goes_not (Board fault) says b past n first before s t k h = absurd h
 goes_not Read says b past n first before s t k h =
-    stopped says IsCut b past n first before t
-    (taken_ahead says b past n first before s t h.0.ahead k)
+    stopped says IsLineFront b past n first before t
+    (answered_ahead says b past n first before s t h.0.ahead k)
     (λ e. absurd (let g = h.0.going in cc)) h.1
 goes_not Write says b past n first before s t k h = failed says b past n first before s t k h
 goes_not Memory says b past n first before s t k h = absurd h
@@ -184,12 +184,12 @@ if_err_so (Ok x) e P h k = tt
 if_err_so (Err f) e P h k = subst P (sym h.1) k
 
 pub runs_so : (r : Result Replayed ReplayFault) (e : ReplayFault) (says : Saying)
-    (first before : Option (List ℕ)) (t : Stand) → IsErr r × IsErrAnd r (λ f. f ≡ e)
+    (first before : Option (List ℕ)) (t : Progress) → IsErr r × IsErrAnd r (λ f. f ≡ e)
     → EndsBy says e first before t → Runs says r first before t
 runs_so (Ok x) e says first before t h k = absurd (h.1)
 runs_so (Err f) e says first before t h k =
     subst (λ (x : ReplayFault). EndsBy says x first before t) (sym h.1) k
 
-pub finds_as : (o p : Option Extent) (n : ℕ) (s t : Stand) → o ≡ p → FindsLine n (Ok o) s t
+pub finds_as : (o p : Option Extent) (n : ℕ) (s t : Progress) → o ≡ p → FindsLine n (Ok o) s t
     → FindsLine n (Ok p) s t
 finds_as o p n s t e h = subst (λ (x : Option Extent). FindsLine n (Ok x) s t) e h

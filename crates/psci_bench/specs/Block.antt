@@ -11,7 +11,7 @@ pub record ReadAhead : Type 0 where
 -- bytes came from what was left, and stand behind those that waited; none came only at the end
 pub record Refills (some : Bool) (old new : ReadAhead) (left after : Option (List ℕ)) : Type 0 where
   pub bytes : List ℕ
-  pub behind : new.unread ≡ old.unread ++ bytes
+  pub appended : new.unread ≡ old.unread ++ bytes
   pub from : Consumes left after bytes
   pub came : some ≡ true → (0 < length bytes) × (old.ended ≡ false) × (new.ended ≡ false)
   pub none : some ≡ false → (bytes ≡ []) × (new.ended ≡ true)

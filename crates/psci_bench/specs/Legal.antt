@@ -17,17 +17,13 @@ use Rattle.psci_fw.specs.Answers.{answer}
 use Rattle.psci_fw.specs.History.{values_of}
 use Rattle.psci_bench.specs.declared.event.Event.{Event}
 use Rattle.psci_bench.specs.declared.event.Event.TheVariants.{Call, Enter}
+use Rattle.psci_bench.specs.declared.said.Record.{Record}
 use Rattle.psci_bench.specs.declared.said.Sent.{Sent}
 use Rattle.psci_bench.specs.declared.said.Said.{Said}
-use Rattle.psci_bench.specs.declared.said.Said.TheVariants.{Firmware, Ignored, Absent}
+use Rattle.psci_bench.specs.declared.said.Said.TheVariants.{Fw, Ignored, Absent}
 use Rattle.psci_bench.specs.declared.firmware_machine.Place.{Place}
 use Rattle.psci_bench.specs.declared.firmware_machine.Place.TheVariants.{Started, Running, Stopped}
 use Rattle.psci_bench.specs.Line.{core_in}
-
--- an event, and what was said of it
-pub record Record : Type 0 where
-  pub event : Event
-  pub said : Said
 
 -- The firmware's history -----------------------------------------------------------------------
 
@@ -45,7 +41,7 @@ outcome_in act sent = record { act = act; message = option_map (λ s. s.message)
 
 -- the entry that an event makes, where the firmware answered it
 abbrev pub with_entry : Event → Said → List Entry → List Entry
-with_entry event (Firmware act sent) h =
+with_entry event (Fw act sent) h =
     record { core = core_in event; call = call_in event; reply = Out (outcome_in act sent) } ∷ h
 with_entry event Ignored h = h
 with_entry event Absent h = h
@@ -62,7 +58,7 @@ count_of None = 0
 count_of (Some x) = 1
 
 abbrev pub sent_in : Said → Option Sent
-sent_in (Firmware act sent) = sent
+sent_in (Fw act sent) = sent
 sent_in Ignored = None
 sent_in Absent = None
 
@@ -74,15 +70,15 @@ sent_count (r ∷ past) = sent_count past + count_of (sent_in r.said)
 -- Places ---------------------------------------------------------------------------------------
 
 -- a core that stops executes nothing more; any other outcome leaves it running
-abbrev pub place_behind : Act → Place
-place_behind (acts.Return code) = Running
-place_behind acts.Stop = Stopped
-place_behind (acts.Enter address context) = Running
-place_behind acts.Resume = Running
+abbrev pub place_after : Act → Place
+place_after (acts.Return code) = Running
+place_after acts.Stop = Stopped
+place_after (acts.Enter address context) = Running
+place_after acts.Resume = Running
 
 -- what is said of an event of a core says where the core is
 abbrev pub place_in : Said → Option Place
-place_in (Firmware act sent) = Some (place_behind act)
+place_in (Fw act sent) = Some (place_after act)
 place_in Ignored = None
 place_in Absent = None
 
@@ -112,7 +108,7 @@ sent_as index message = option_map (λ m. record { index = index; message = m })
 
 -- the outcome, as it is said. A core at its place is never refused: see AnswersAtPlace below.
 abbrev pub said_by : ℕ → FwReply → Said
-said_by index (Out outcome) = Firmware outcome.act (sent_as index outcome.message)
+said_by index (Out outcome) = Fw outcome.act (sent_as index outcome.message)
 said_by index (Fault fault) = Ignored
 
 -- the firmware's answer after the calls that it has answered
@@ -137,7 +133,7 @@ IsLegalPast b (r ∷ past) = (r.said ≡ legal b past r.event) × IsLegalPast b 
 
 -- the firmware answered
 abbrev pub IsAnswered : Said → Type 0
-IsAnswered (Firmware act sent) = ⊤
+IsAnswered (Fw act sent) = ⊤
 IsAnswered Ignored = ⊥
 IsAnswered Absent = ⊥
 

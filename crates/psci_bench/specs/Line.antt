@@ -40,14 +40,14 @@ enter_at bytes = do
   whole (Enter core.0) core.1
 
 -- what go reads behind a first word, where that stands there, and else this
-abbrev pub behind : Option (List ℕ) → (List ℕ → Option Event) → Option Event → Option Event
-behind None go other = other
-behind (Some rest) go other = go rest
+abbrev pub after_word : Option (List ℕ) → (List ℕ → Option Event) → Option Event → Option Event
+after_word None go other = other
+after_word (Some rest) go other = go rest
 
 abbrev pub event_at : List ℕ → Option Event
 event_at bytes =
-    behind (literal_at (codes "call ") bytes) call_at
-    (behind (literal_at (codes "enter ") bytes) enter_at None)
+    after_word (literal_at (codes "call ") bytes) call_at
+    (after_word (literal_at (codes "enter ") bytes) enter_at None)
 
 -- what a line says: nothing where it is empty or a comment, else its event
 unfoldable pub line_of : List ℕ → Option Line

@@ -22,9 +22,9 @@ abbrev pub AreWhole : List ℕ → Type 0
 AreWhole bytes = (bytes ≡ []) ⊎ ((front : List ℕ) × (bytes ≡ front ++ 10 ∷ []))
 
 -- where the first line feed is, among the first 257 bytes
-abbrev pub Cuts : Front → List ℕ → Type 0
-Cuts (Whole n) bytes =
+abbrev pub IsFrontOf : Front → List ℕ → Type 0
+IsFrontOf (Whole n) bytes =
     (n ≤ 256) × (n < length bytes) × (has_line_feed (take n bytes) ≡ false)
     × (bytes ≡ take n bytes ++ 10 ∷ drop (n + 1) bytes)
-Cuts Part bytes = (length bytes ≤ 256) × (has_line_feed bytes ≡ false)
-Cuts Long bytes = (256 < length bytes) × (has_line_feed (take 257 bytes) ≡ false)
+IsFrontOf Part bytes = (length bytes ≤ 256) × (has_line_feed bytes ≡ false)
+IsFrontOf Long bytes = (256 < length bytes) × (has_line_feed (take 257 bytes) ≡ false)

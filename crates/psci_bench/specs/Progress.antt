@@ -11,7 +11,7 @@ use Rattle.psci_bench.specs.Block.{ReadAhead}
 use Rattle.psci_bench.specs.Lines.{has_line_feed}
 
 -- where a replay stands
-pub record Stand : Type 0 where
+pub record Progress : Type 0 where
   pub block : ReadAhead
   -- the bytes that the source has left
   pub left : Option (List ℕ)
@@ -19,14 +19,14 @@ pub record Stand : Type 0 where
   -- the bytes that the sink took
   pub taken : Option (List ℕ)
 
-abbrev pub stand : ReadAhead → Option (List ℕ) → Answered → Option (List ℕ) → Stand
-stand block left answered taken =
+abbrev pub progress : ReadAhead → Option (List ℕ) → Answered → Option (List ℕ) → Progress
+progress block left answered taken =
     record { block = block; left = left; answered = answered; taken = taken }
 
 -- Bytes were read ahead, and answers that waited were written. Behind the end nothing is read.
-pub record Ahead (s t : Stand) : Type 0 where
+pub record Ahead (s t : Progress) : Type 0 where
   pub bytes : List ℕ
-  pub behind : t.block.unread ≡ s.block.unread ++ bytes
+  pub appended : t.block.unread ≡ s.block.unread ++ bytes
   pub from : Consumes s.left t.left bytes
   pub ended : s.block.ended ≡ true → (t.block.ended ≡ true) × (bytes ≡ [])
   pub at_end : (s.block.ended ≡ true → IsAtEnd s.left) → t.block.ended ≡ true → IsAtEnd t.left
@@ -36,32 +36,32 @@ pub record Ahead (s t : Stand) : Type 0 where
   pub events : t.answered.events ≡ s.answered.events
 
 -- The same, until a write failed behind a front part of what waited.
-pub record Torn (s t : Stand) : Type 0 where
-  pub before : Stand
+pub record WriteFailed (s t : Progress) : Type 0 where
+  pub before : Progress
   pub ahead : Ahead s before
   pub count : ℕ
   pub to : Appends before.taken t.taken (take count before.answered.waiting)
   pub left : t.left ≡ before.left
 
 -- The same, until a read failed; no answer waited any more.
-pub record Broken (s t : Stand) : Type 0 where
+pub record ReadFailed (s t : Progress) : Type 0 where
   pub ahead : Ahead s t
   pub none_wait : t.answered.waiting ≡ []
   pub going : t.block.ended ≡ false
 
 -- what an attempt to read ahead leaves
-abbrev pub NotAhead : ReplayFault → Stand → Stand → Type 0
-NotAhead Read s t = Broken s t × (t.block.unread ≡ s.block.unread)
-NotAhead Write s t = Torn s t
-NotAhead Memory s t = ⊥
-NotAhead (Board fault) s t = ⊥
-NotAhead (Script line fault) s t = ⊥
+abbrev pub FailsAhead : ReplayFault → Progress → Progress → Type 0
+FailsAhead Read s t = ReadFailed s t × (t.block.unread ≡ s.block.unread)
+FailsAhead Write s t = WriteFailed s t
+FailsAhead Memory s t = ⊥
+FailsAhead (Board fault) s t = ⊥
+FailsAhead (Script line fault) s t = ⊥
 
-abbrev pub ReadsAhead : Result Bool ReplayFault → Stand → Stand → Type 0
+abbrev pub ReadsAhead : Result Bool ReplayFault → Progress → Progress → Type 0
 ReadsAhead (Ok true) s t = Ahead s t × (length s.block.unread < length t.block.unread)
 ReadsAhead (Ok false) s t =
     Ahead s t × (t.block.unread ≡ s.block.unread) × (t.block.ended ≡ true)
-ReadsAhead (Err fault) s t = NotAhead fault s t
+ReadsAhead (Err fault) s t = FailsAhead fault s t
 
 -- a line with its line feed, or the last one without
 abbrev pub IsLine : Extent → ReadAhead → Type 0
@@ -73,7 +73,7 @@ IsLine e block =
     × (block.ended ≡ true)))
 
 -- what a line at fault leaves
-abbrev pub FaultyLine : ℕ → ScriptFault → Stand → Type 0
+abbrev pub FaultyLine : ℕ → ScriptFault → Progress → Type 0
 FaultyLine n TooMany t = (1000000 < n) × (0 < length t.block.unread)
 FaultyLine n Long t =
     (n ≤ 1000000) × (256 < length t.block.unread)
@@ -82,19 +82,19 @@ FaultyLine n Line t = ⊥
 FaultyLine n NoBoard t = ⊥
 
 -- the front of the line of number n, which is not at fault yet
-abbrev pub IsCut : ℕ → List ℕ → Type 0
-IsCut n part =
+abbrev pub IsLineFront : ℕ → List ℕ → Type 0
+IsLineFront n part =
     (has_line_feed part ≡ false) × (length part ≤ 256) × (0 < length part → n ≤ 1000000)
 
-abbrev pub NoLine : ℕ → ReplayFault → Stand → Stand → Type 0
-NoLine n (Script line fault) s t = Ahead s t × (line ≡ n) × FaultyLine n fault t
-NoLine n Read s t = Broken s t × IsCut n t.block.unread
-NoLine n Write s t = Torn s t
-NoLine n Memory s t = ⊥
-NoLine n (Board fault) s t = ⊥
+abbrev pub FailsLine : ℕ → ReplayFault → Progress → Progress → Type 0
+FailsLine n (Script line fault) s t = Ahead s t × (line ≡ n) × FaultyLine n fault t
+FailsLine n Read s t = ReadFailed s t × IsLineFront n t.block.unread
+FailsLine n Write s t = WriteFailed s t
+FailsLine n Memory s t = ⊥
+FailsLine n (Board fault) s t = ⊥
 
 -- what a call for the line of number n leaves
-abbrev pub FindsLine : ℕ → Result (Option Extent) ReplayFault → Stand → Stand → Type 0
+abbrev pub FindsLine : ℕ → Result (Option Extent) ReplayFault → Progress → Progress → Type 0
 FindsLine n (Ok (Some e)) s t = Ahead s t × IsLine e t.block × (n ≤ 1000000)
 FindsLine n (Ok None) s t = Ahead s t × (t.block.unread ≡ []) × (t.block.ended ≡ true)
-FindsLine n (Err fault) s t = NoLine n fault s t
+FindsLine n (Err fault) s t = FailsLine n fault s t

@@ -13,10 +13,10 @@ use Rattle.psci_bench.specs.Answered.{Answered}
 use Rattle.psci_bench.specs.Block.{ReadAhead}
 use Rattle.psci_bench.specs.Line.{line_of}
 use Rattle.psci_bench.specs.Text.{answer_line}
-use Rattle.psci_bench.specs.Legal.{Record}
+use Rattle.psci_bench.specs.declared.said.Record.{Record}
 use Rattle.psci_bench.specs.Lines.{lines, AreWhole}
-use Rattle.psci_bench.specs.Progress.{Stand, IsCut}
-use Rattle.psci_bench.specs.Script.{Saying, behind_line, told, told_lines, board_line}
+use Rattle.psci_bench.specs.Progress.{Progress, IsLineFront}
+use Rattle.psci_bench.specs.Script.{Saying, after_line, transcript, transcript_of_rest, board_line}
 
 -- what may follow the lines that were taken: anything, but behind the end only what was read
 abbrev pub Follows : ReadAhead → List ℕ → Type 0
@@ -24,8 +24,8 @@ Follows block rest = block.ended ≡ true → (n : ℕ) × (rest ≡ take n bloc
 
 -- So many lines were taken, and answered by these records: whatever follows is answered as the
 -- lines that are left, behind what was answered.
-pub record Taken (says : Saying) (b : BoardValue) (past : List Record) (count : ℕ)
-    (first : Option (List ℕ)) (before : Option (List ℕ)) (s : Stand) : Type 0 where
+pub record LinesAnswered (says : Saying) (b : BoardValue) (past : List Record) (count : ℕ)
+    (first : Option (List ℕ)) (before : Option (List ℕ)) (s : Progress) : Type 0 where
   -- the bytes of the lines that were taken
   pub whole : List ℕ
   pub from : Consumes first s.left (whole ++ s.block.unread)
@@ -33,8 +33,8 @@ pub record Taken (says : Saying) (b : BoardValue) (past : List Record) (count : 
   -- the answers that were written
   pub written : List ℕ
   pub to : Appends before s.taken written
-  pub answers : (rest : List ℕ) → Follows s.block rest → told says (whole ++ rest)
-      ≡ behind_line (written ++ s.answered.waiting) (told_lines says b past count (lines rest))
+  pub answers : (rest : List ℕ) → Follows s.block rest → transcript says (whole ++ rest)
+      ≡ after_line (written ++ s.answered.waiting) (transcript_of_rest says b past count (lines rest))
   pub events : s.answered.events ≡ length past
   -- only the last line of a script may have no line feed
   pub lines : (s.block.ended ≡ true → 0 < length s.block.unread) → AreWhole whole
@@ -42,47 +42,47 @@ pub record Taken (says : Saying) (b : BoardValue) (past : List Record) (count : 
 -- The script came to an end, or to its first fault.
 pub record Ended (says : Saying) (end : Result Replayed ReplayFault)
     (first before : Option (List ℕ))
-    (s : Stand) : Type 0 where
+    (s : Progress) : Type 0 where
   -- the bytes that were read
   pub read : List ℕ
   pub from : Consumes first s.left read
   pub at_end : s.block.ended ≡ true → IsAtEnd s.left
   pub written : List ℕ
   pub to : Appends before s.taken written
-  pub told : (rest : List ℕ) → (s.block.ended ≡ true → rest ≡ [])
-      → told says (read ++ rest) ≡ record { text = written ++ s.answered.waiting; end = end }
+  pub transcript : (rest : List ℕ) → (s.block.ended ≡ true → rest ≡ [])
+      → transcript says (read ++ rest) ≡ record { text = written ++ s.answered.waiting; end = end }
 
 -- there are so many lines, and none is at fault
 abbrev pub AreSound : Saying → ℕ → List ℕ → Type 0
 AreSound says count bytes =
     ((count ≡ 0) × (bytes ≡ []))
-    ⊎ ((events : ℕ) × ((told says bytes).end ≡ Ok (record { lines = count; events = events })))
+    ⊎ ((events : ℕ) × ((transcript says bytes).end ≡ Ok (record { lines = count; events = events })))
 
 -- whatever was read behind the lines before that of number n
-abbrev pub IsAny : ℕ → List ℕ → Type 0
-IsAny n part = ⊤
+abbrev pub IsWithinBlock : ℕ → List ℕ → Type 0
+IsWithinBlock n part = ⊤
 
 -- A read failed or memory ran out behind whole lines, which are answered.
-pub record Stopped (says : Saying) (Behind : ℕ → List ℕ → Type 0) (first before : Option (List ℕ))
-    (s : Stand) : Type 0 where
+pub record CutShort (says : Saying) (Rest : ℕ → List ℕ → Type 0) (first before : Option (List ℕ))
+    (s : Progress) : Type 0 where
   pub whole : List ℕ
   pub lines : AreWhole whole
   pub count : ℕ
   pub sound : AreSound says count whole
   -- what was read behind them
   pub part : List ℕ
-  pub behind : Behind (count + 1) part
+  pub fits : Rest (count + 1) part
   pub from : Consumes first s.left (whole ++ part)
   pub at_end : s.block.ended ≡ true → IsAtEnd s.left
   pub written : List ℕ
   pub to : Appends before s.taken written
   -- whatever follows is answered behind them
   pub more : (rest : List ℕ) → (s.block.ended ≡ true → rest ≡ []) → (text : List ℕ)
-      × ((told says ((whole ++ part) ++ rest)).text ≡ (written ++ s.answered.waiting) ++ text)
-  pub told : (told says whole).text ≡ written ++ s.answered.waiting
+      × ((transcript says ((whole ++ part) ++ rest)).text ≡ (written ++ s.answered.waiting) ++ text)
+  pub transcript : (transcript says whole).text ≡ written ++ s.answered.waiting
 
 -- A write failed: a front part of the answers was written.
-pub record Failed (says : Saying) (first before : Option (List ℕ))
+pub record Unwritten (says : Saying) (first before : Option (List ℕ))
     (left taken : Option (List ℕ)) : Type 0 where
   pub read : List ℕ
   pub from : Consumes first left read
@@ -90,40 +90,40 @@ pub record Failed (says : Saying) (first before : Option (List ℕ))
   pub at_end : ended ≡ true → IsAtEnd left
   pub written : List ℕ
   pub to : Appends before taken written
-  pub told : (rest : List ℕ) → (ended ≡ true → rest ≡ [])
-      → (more : List ℕ) × ((told says (read ++ rest)).text ≡ written ++ more)
+  pub transcript : (rest : List ℕ) → (ended ≡ true → rest ≡ [])
+      → (more : List ℕ) × ((transcript says (read ++ rest)).text ≡ written ++ more)
 
 -- what a run leaves that ended early
-abbrev pub EndsBy : Saying → ReplayFault → Option (List ℕ) → Option (List ℕ) → Stand → Type 0
+abbrev pub EndsBy : Saying → ReplayFault → Option (List ℕ) → Option (List ℕ) → Progress → Type 0
 EndsBy says (Script line fault) first before s = Ended says (Err (Script line fault)) first before s
 EndsBy says (Board fault) first before s = Ended says (Err (Board fault)) first before s
-EndsBy says Read first before s = Stopped says IsCut first before s
-EndsBy says Memory first before s = Stopped says IsAny first before s
-EndsBy says Write first before s = Failed says first before s.left s.taken
+EndsBy says Read first before s = CutShort says IsLineFront first before s
+EndsBy says Memory first before s = CutShort says IsWithinBlock first before s
+EndsBy says Write first before s = Unwritten says first before s.left s.taken
 
-abbrev pub Runs : Saying → Result Replayed ReplayFault → Option (List ℕ) → Option (List ℕ) → Stand
+abbrev pub Runs : Saying → Result Replayed ReplayFault → Option (List ℕ) → Option (List ℕ) → Progress
     → Type 0
 Runs says (Ok replayed) first before s = Ended says (Ok replayed) first before s
 Runs says (Err fault) first before s = EndsBy says fault first before s
 
 -- a run goes on, on a machine that stands where so many lines have left it
-abbrev pub Goes : Saying → (BoardValue → List Record → Type 0) → ℕ → Option (List ℕ)
-    → Option (List ℕ) → Stand → Type 0
-Goes says stands count first before s =
-    (b : BoardValue) × (past : List Record) × stands b past × (length past ≤ count)
-    × Taken says b past count first before s
+abbrev pub IsUnderWay : Saying → (BoardValue → List Record → Type 0) → ℕ → Option (List ℕ)
+    → Option (List ℕ) → Progress → Type 0
+IsUnderWay says is_after count first before s =
+    (b : BoardValue) × (past : List Record) × is_after b past × (length past ≤ count)
+    × LinesAnswered says b past count first before s
 
-abbrev pub is_write_fault : ReplayFault → Bool
-is_write_fault (Script line fault) = false
-is_write_fault (Board fault) = false
-is_write_fault Read = false
-is_write_fault Write = true
-is_write_fault Memory = false
+abbrev pub names_write : ReplayFault → Bool
+names_write (Script line fault) = false
+names_write (Board fault) = false
+names_write Read = false
+names_write Write = true
+names_write Memory = false
 
 -- a write failed
-abbrev pub is_torn : Result Replayed ReplayFault → Bool
-is_torn (Ok replayed) = false
-is_torn (Err fault) = is_write_fault fault
+abbrev pub is_write_fault : Result Replayed ReplayFault → Bool
+is_write_fault (Ok replayed) = false
+is_write_fault (Err fault) = names_write fault
 
 -- Of a replay ---------------------------------------------------------------------------------
 
@@ -131,10 +131,10 @@ is_torn (Err fault) = is_write_fault fault
 abbrev pub Answers : Saying → Result Replayed ReplayFault → Option (List ℕ) → Option (List ℕ)
     → Option (List ℕ) → Type 0
 Answers says end first before after = IfSome first (λ bytes.
-    ((told says bytes).end ≡ end) × Appends before after (told says bytes).text)
+    ((transcript says bytes).end ≡ end) × Appends before after (transcript says bytes).text)
 
 -- Whole lines were read, none of them at fault, and exactly these are answered.
-pub record AnswersFront (says : Saying) (Behind : ℕ → List ℕ → Type 0)
+pub record AnswersLines (says : Saying) (Rest : ℕ → List ℕ → Type 0)
     (first left before after : Option (List ℕ)) : Type 0 where
   pub whole : List ℕ
   pub lines : AreWhole whole
@@ -142,14 +142,14 @@ pub record AnswersFront (says : Saying) (Behind : ℕ → List ℕ → Type 0)
   pub sound : AreSound says count whole
   -- what was read behind them
   pub part : List ℕ
-  pub behind : Behind (count + 1) part
+  pub fits : Rest (count + 1) part
   pub from : Consumes first left (whole ++ part)
-  pub to : Appends before after (told says whole).text
+  pub to : Appends before after (transcript says whole).text
 
 -- a front part of the answer text was written
-abbrev pub AnswersTorn : Saying → Option (List ℕ) → Option (List ℕ) → Option (List ℕ) → Type 0
-AnswersTorn says first before after = IfSome first (λ bytes.
-    (n : ℕ) × Appends before after (take n (told says bytes).text))
+abbrev pub AnswersPart : Saying → Option (List ℕ) → Option (List ℕ) → Option (List ℕ) → Type 0
+AnswersPart says first before after = IfSome first (λ bytes.
+    (n : ℕ) × Appends before after (take n (transcript says bytes).text))
 
 -- what a replay leaves, by its answer
 abbrev pub Replays : Saying → Result Replayed ReplayFault → Option (List ℕ) → Option (List ℕ)
@@ -160,10 +160,10 @@ Replays says (Err (Script line fault)) first left before after =
 Replays says (Err (Board fault)) first left before after =
     Answers says (Err (Board fault)) first before after
 Replays says (Err Read) first left before after =
-    AnswersFront says IsCut first left before after
+    AnswersLines says IsLineFront first left before after
 Replays says (Err Memory) first left before after =
-    AnswersFront says IsAny first left before after
-Replays says (Err Write) first left before after = AnswersTorn says first before after
+    AnswersLines says IsWithinBlock first left before after
+Replays says (Err Write) first left before after = AnswersPart says first before after
 
 -- the board of a first line, or what is wrong with it
 abbrev pub BoardRead : Result BoardValue ReplayFault → List ℕ → Type 0
@@ -176,34 +176,34 @@ BoardRead (Err Read) line = ⊥
 BoardRead (Err Write) line = ⊥
 
 -- what the first line leaves
-abbrev pub Begins : Saying → (BoardValue → List Record → Type 0) → Option (List ℕ) → Option (List ℕ)
-    → Stand → Type 0
-Begins says stands first before s =
-    (b : BoardValue) × stands b [] × Taken says b [] 1 first before s
+abbrev pub HasBegun : Saying → (BoardValue → List Record → Type 0) → Option (List ℕ) → Option (List ℕ)
+    → Progress → Type 0
+HasBegun says is_after first before s =
+    (b : BoardValue) × is_after b [] × LinesAnswered says b [] 1 first before s
 
-abbrev pub LineSaid : Saying → (BoardValue → List Record → Type 0) → BoardValue → List Record
+abbrev pub AnswerLeaves : Saying → (BoardValue → List Record → Type 0) → BoardValue → List Record
     → Option LineSays → Answered → Answered → Type 0
-LineSaid says stands b past None old new = ⊥
-LineSaid says stands b past (Some Blank) old new = stands b past × (new ≡ old)
-LineSaid says stands b past (Some (Says event)) old new =
-    stands b (record { event = event; said = says b past event } ∷ past)
+AnswerLeaves says is_after b past None old new = ⊥
+AnswerLeaves says is_after b past (Some Blank) old new = is_after b past × (new ≡ old)
+AnswerLeaves says is_after b past (Some (Says event)) old new =
+    is_after b (record { event = event; said = says b past event } ∷ past)
     × (new ≡ record {
       waiting = old.waiting ++ answer_line (length past + 1) (says b past event);
       events = length past + 1;
     })
 
 -- what a line leaves that is answered
-abbrev pub LineTaken : Saying → (BoardValue → List Record → Type 0) → BoardValue → List Record
+abbrev pub LineAnswered : Saying → (BoardValue → List Record → Type 0) → BoardValue → List Record
     → List ℕ → Answered → Answered → Type 0
-LineTaken says stands b past line old new = LineSaid says stands b past (line_of line) old new
+LineAnswered says is_after b past line old new = AnswerLeaves says is_after b past (line_of line) old new
 
 -- why a line is not answered: it is outside the grammar, or memory ran out
-abbrev pub EventTaken : ReplayFault → ℕ → List ℕ → Type 0
-EventTaken Memory number line = Unit {0}
-EventTaken (Script n fault) number line = (n ≡ number) × (fault ≡ Line) × (line_of line ≡ None)
-EventTaken (Board fault) number line = ⊥
-EventTaken Read number line = ⊥
-EventTaken Write number line = ⊥
+abbrev pub LineRefused : ReplayFault → ℕ → List ℕ → Type 0
+LineRefused Memory number line = Unit {0}
+LineRefused (Script n fault) number line = (n ≡ number) × (fault ≡ Line) × (line_of line ≡ None)
+LineRefused (Board fault) number line = ⊥
+LineRefused Read number line = ⊥
+LineRefused Write number line = ⊥
 
 abbrev pub IsNoDevice : ReplayFault → Type 0
 IsNoDevice Memory = Unit {0}

@@ -13,7 +13,7 @@ use Rattle.psci_bench.specs.declared.fault.ScriptFault.{ScriptFault}
 use Rattle.psci_bench.specs.declared.fault.ScriptFault.TheVariants.{NoBoard, Line, Long, TooMany}
 use Rattle.psci_bench.specs.declared.fault.ReplayFault.{ReplayFault}
 use Rattle.psci_bench.specs.declared.fault.ReplayFault.TheVariants.{Script, Board}
-use Rattle.psci_bench.specs.Legal.{Record}
+use Rattle.psci_bench.specs.declared.said.Record.{Record}
 use Rattle.psci_bench.specs.Line.{line_of}
 use Rattle.psci_bench.specs.Lines.{lines}
 use Rattle.psci_bench.specs.Text.{answer_line}
@@ -22,17 +22,17 @@ use Rattle.psci_bench.specs.Text.{answer_line}
 abbrev pub Saying : Type 0
 Saying = BoardValue → List Record → Event → Said
 
-pub record Told : Type 0 where
+pub record Transcript : Type 0 where
   -- the answer lines of the events before the first fault
   pub text : List ℕ
   -- the numbers of lines and events, or the first fault
   pub end : Result Replayed ReplayFault
 
-abbrev pub ends : Result Replayed ReplayFault → Told
+abbrev pub ends : Result Replayed ReplayFault → Transcript
 ends end = record { text = []; end = end }
 
-abbrev pub behind_line : List ℕ → Told → Told
-behind_line line t = record { text = line ++ t.text; end = t.end }
+abbrev pub after_line : List ℕ → Transcript → Transcript
+after_line line t = record { text = line ++ t.text; end = t.end }
 
 -- One line --------------------------------------------------------------------------------------
 
@@ -58,33 +58,33 @@ board_line line = sized 1 line (ok_or (literal_at (codes "board ") line) NoBoard
 
 -- What the line of this number is answered, with the lines behind it: where it is an event, behind
 -- its own answer line, whose number is that of the records with it.
-abbrev pub told_line : Saying → BoardValue → List Record → ℕ → Result LineSays ScriptFault
-    → (List Record → Told) → Told
-told_line says b past number (Err fault) rest = ends (Err (Script number fault))
-told_line says b past number (Ok Blank) rest = rest past
-told_line says b past number (Ok (Says event)) rest =
-    behind_line (answer_line (length past + 1) (says b past event))
+abbrev pub transcript_of_line : Saying → BoardValue → List Record → ℕ → Result LineSays ScriptFault
+    → (List Record → Transcript) → Transcript
+transcript_of_line says b past number (Err fault) rest = ends (Err (Script number fault))
+transcript_of_line says b past number (Ok Blank) rest = rest past
+transcript_of_line says b past number (Ok (Says event)) rest =
+    after_line (answer_line (length past + 1) (says b past event))
     (rest (record { event = event; said = says b past event } ∷ past))
 
 -- what the lines behind the first so many ones are answered
-unfoldable pub told_lines : Saying → BoardValue → List Record → ℕ → List (List ℕ) → Told
-told_lines says b past count [] = ends (Ok (record { lines = count; events = length past }))
-told_lines says b past count (l ∷ ls) =
-    told_line says b past (count + 1) (line_said (count + 1) l)
-    (λ records. told_lines says b records (count + 1) ls)
+unfoldable pub transcript_of_rest : Saying → BoardValue → List Record → ℕ → List (List ℕ) → Transcript
+transcript_of_rest says b past count [] = ends (Ok (record { lines = count; events = length past }))
+transcript_of_rest says b past count (l ∷ ls) =
+    transcript_of_line says b past (count + 1) (line_said (count + 1) l)
+    (λ records. transcript_of_rest says b records (count + 1) ls)
 
-abbrev pub told_board : Saying → Result BoardValue BoardFault → List (List ℕ) → Told
-told_board says (Err fault) ls = ends (Err (Board fault))
-told_board says (Ok b) ls = told_lines says b [] 1 ls
+abbrev pub transcript_of_board : Saying → Result BoardValue BoardFault → List (List ℕ) → Transcript
+transcript_of_board says (Err fault) ls = ends (Err (Board fault))
+transcript_of_board says (Ok b) ls = transcript_of_rest says b [] 1 ls
 
-abbrev pub told_first : Saying → Result (List ℕ) ScriptFault → List (List ℕ) → Told
-told_first says (Err fault) ls = ends (Err (Script 1 fault))
-told_first says (Ok text) ls = told_board says (board_of text) ls
+abbrev pub transcript_of_first : Saying → Result (List ℕ) ScriptFault → List (List ℕ) → Transcript
+transcript_of_first says (Err fault) ls = ends (Err (Script 1 fault))
+transcript_of_first says (Ok text) ls = transcript_of_board says (board_of text) ls
 
-abbrev pub told_by : Saying → List (List ℕ) → Told
-told_by says [] = ends (Err (Script 1 NoBoard))
-told_by says (l ∷ ls) = told_first says (board_line l) ls
+abbrev pub transcript_of_lines : Saying → List (List ℕ) → Transcript
+transcript_of_lines says [] = ends (Err (Script 1 NoBoard))
+transcript_of_lines says (l ∷ ls) = transcript_of_first says (board_line l) ls
 
 -- what the bytes of a script are answered
-unfoldable pub told : Saying → List ℕ → Told
-told says bytes = told_by says (lines bytes)
+unfoldable pub transcript : Saying → List ℕ → Transcript
+transcript says bytes = transcript_of_lines says (lines bytes)

@@ -7,7 +7,7 @@ use Rattle.psci_fw.specs.declared.message.Kind.{Kind}
 use Rattle.psci_fw.specs.declared.message.Kind.TheVariants.{Down, Start, Off, Reset}
 use Rattle.psci_bench.specs.declared.said.Sent.{Sent}
 use Rattle.psci_bench.specs.declared.said.Said.{Said}
-use Rattle.psci_bench.specs.declared.said.Said.TheVariants.{Firmware, Ignored, Absent}
+use Rattle.psci_bench.specs.declared.said.Said.TheVariants.{Fw, Ignored, Absent}
 
 -- an address or a context id: lower-case hexadecimal digits without leading zeros
 abbrev pub hexadecimal : ℕ → List ℕ
@@ -37,7 +37,7 @@ message_text None = []
 message_text (Some sent) = codes " " ++ sent_text sent
 
 abbrev pub said_text : Said → List ℕ
-said_text (Firmware act sent) = act_text act ++ message_text sent
+said_text (Fw act sent) = act_text act ++ message_text sent
 said_text Ignored = codes "ignored"
 said_text Absent = codes "absent"
 

@@ -6,9 +6,10 @@ ghost use Rattle.psci_bench.specs.declared.fault.ReplayFault.TheVariants.{Write}
 ghost use Rattle.psci_bench.specs.Device.{GaveUp};
 ghost use Rattle.psci_bench.specs.Text.{answer_line};
 
+use crate::answer_text::Answer;
 use crate::device::Sink;
 use crate::fault::ReplayFault;
-use crate::said::{Answer, Said};
+use crate::said::Said;
 use crate::transfer::write_all;
 use std::alloc::{AllocError, Global};
 use std::marker::Model;
@@ -53,10 +54,10 @@ impl Answers {
     }
 
     /// Adds the answer to the next event, or changes nothing.
-    pub fn add(&mut self, said: Said) -> Result<(), AllocError>
+    pub fn add(&mut self, said: &Said) -> Result<(), AllocError>
         requires { self.old.events < 2 ^ 64 - 1 }
         ensures ok { OnOk result (self.new ≡ record {
-          waiting = self.old.waiting ++ answer_line (self.old.events + 1) said;
+          waiting = self.old.waiting ++ answer_line (self.old.events + 1) said.now;
           events = self.old.events + 1;
         }) }
         ensures err { OnErr result (self.new ≡ self.old) }

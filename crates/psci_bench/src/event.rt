@@ -9,9 +9,9 @@ use psci_abi::Regs;
 #[derive(Clone, Copy, Debug, PartialEq, Eq)]
 pub enum Event {
     /// The core calls the firmware with these registers.
-    Call { core: u64, registers: Regs },
+    Call(u64, Regs),
     /// The started core enters the firmware.
-    Enter { core: u64 },
+    Enter(u64),
 }
 
 impl Event {
@@ -20,7 +20,7 @@ impl Event {
         ensures { result ≡ core_in self.now }
     {
         match *self {
-            Event::Call { core, .. } | Event::Enter { core } => core,
+            Event::Call(core, _) | Event::Enter(core) => core,
         }
     }
 }

@@ -5,8 +5,8 @@ ghost use Rattle.psci_fw.specs.declared.reply.FwReply.TheVariants.{Out};
 ghost use Rattle.psci_fw.specs.After.{after};
 ghost use Rattle.psci_fw.specs.Answers.{answer, reply_of};
 ghost use Rattle.psci_fw.specs.Seen.{seen};
-ghost use Rattle.psci_bench.specs.Legal.{call_in, count_of, first_place, happens, place_behind, said_by};
-ghost use Rattle.psci_bench.specs.Standing.{first_of, located};
+ghost use Rattle.psci_bench.specs.Legal.{call_in, count_of, first_place, happens, place_after, said_by};
+ghost use Rattle.psci_bench.specs.MachineAfter.{first_of, located};
 
 use crate::event::Event;
 use crate::machine::Machine;
@@ -20,7 +20,7 @@ use std::alloc::Global;
 pub enum Place {
     /// It was started, and has not entered the firmware.
     Started,
-    /// It executes behind the firmware.
+    /// It has entered, and executes outside the firmware.
     Running,
     /// It executes nothing.
     Stopped,
@@ -28,8 +28,8 @@ pub enum Place {
 
 impl Place {
     /// Where a core is that was answered so.
-    fn behind(act: Act) -> Place
-        ensures { result ≡ place_behind act }
+    fn after(act: &Act) -> Place
+        ensures { result ≡ place_after act.now }
     {
         match act {
             Act::Stop => Place::Stopped,
@@ -42,7 +42,7 @@ impl Place {
         ensures { result ≡ happens self event }
     {
         match (self, event) {
-            (Place::Running, Event::Call { .. }) | (Place::Started, Event::Enter { .. }) => true,
+            (Place::Running, Event::Call(..)) | (Place::Started, Event::Enter(_)) => true,
             _ => false,
         }
     }
@@ -97,8 +97,8 @@ impl FirmwareMachine {
         ensures refused { OnErr result (self.new ≡ self.old) }
     {
         match event {
-            Event::Call { registers, .. } => self.firmware.smc(core, registers),
-            Event::Enter { .. } => self.firmware.enter(core, FIRST_START),
+            Event::Call(_, registers) => self.firmware.smc(core, registers),
+            Event::Enter(_) => self.firmware.enter(core, FIRST_START),
         }
     }
 
@@ -107,27 +107,27 @@ impl FirmwareMachine {
         requires { core.number < length self.old.places.items }
         ensures said { result ≡ said_by self.old.messages (Out outcome) }
         ensures places { self.new.places.items
-            ≡ slice_set self.old.places.items core.number (place_behind outcome.act) }
+            ≡ slice_set self.old.places.items core.number (place_after outcome.act) }
         ensures messages { self.new.messages
             ≡ min (2 ^ 64 - 1) (self.old.messages + count_of outcome.message) }
         ensures firmware { self.new.firmware ≡ self.old.firmware }
     {
         let Outcome { act, message } = outcome;
-        self.places[core.number as usize] = Place::behind(act);
+        self.places[core.number as usize] = Place::after(&act);
         let index = self.messages;
         let sent = message.map(|message| Sent { index, message });
         self.messages = index.saturating_add(sent.is_some() as u64);
-        Said::Firmware { act, sent }
+        Said::Fw { act, sent }
     }
 }
 
 impl Machine for FirmwareMachine {
     ghost use Rattle.psci_bench.specs.Legal.{legal as legal_said};
-    ghost use Rattle.psci_bench.specs.Standing.{Standing};
+    ghost use Rattle.psci_bench.specs.MachineAfter.{MachineAfter};
 
     ghost legal = { legal_said };
 
-    ghost stands = { λ m b past. Standing b past m.firmware m.places.items m.messages };
+    ghost is_after = { λ m b past. MachineAfter b past m.firmware m.places.items m.messages };
 
     fn new(alloc: Global, board: Board) -> Result<FirmwareMachine, Memory> {
         law_values();

@@ -1,4 +1,4 @@
-//! The grammar of a line behind the first.
+//! The grammar of a line after the first.
 
 ghost use Rattle.std.specs.Prelude.{◌≡◌, option_map};
 ghost use Rattle.psci_board.specs.Reading.{spaced_at};
@@ -17,7 +17,7 @@ pub enum Line {
     Event(Event),
 }
 
-/// The value of a register at the front, decimal or hexadecimal, and the text behind it.
+/// The value of a register at the front, decimal or hexadecimal, and the text after it.
 #[tactic(auto, unfolding(crate::specs::Line::register_at))]
 fn register(text: &[u8]) -> Option<(u64, &[u8])>
     ensures { option_map (λ x. (x.0, x.1.now)) result ≡ register_at text.now }
@@ -25,7 +25,7 @@ fn register(text: &[u8]) -> Option<(u64, &[u8])>
     hex(text).or_else(|| number(text))
 }
 
-/// The register behind a space, and the text behind it.
+/// The register after a space, and the text after it.
 #[tactic(auto, unfolding(psci_board::specs::Reading::spaced_at))]
 fn spaced_register(text: &[u8]) -> Option<(u64, &[u8])>
     ensures { option_map (λ x. (x.0, x.1.now)) result ≡ spaced_at register_at text.now }
@@ -33,7 +33,7 @@ fn spaced_register(text: &[u8]) -> Option<(u64, &[u8])>
     register(literal(text, b" ")?)
 }
 
-/// The register behind a space and the text behind it, or 0 where there is none.
+/// The register after a space and the text after it, or 0 where there is none.
 #[tactic(auto, unfolding(crate::specs::Line::optional_register_at))]
 fn optional_register(text: &[u8]) -> (u64, &[u8])
     ensures { (result.0, result.1.now) ≡ optional_register_at text.now }
@@ -44,7 +44,7 @@ fn optional_register(text: &[u8]) -> (u64, &[u8])
     }
 }
 
-/// The call behind its first word.
+/// The call after its first word.
 #[tactic(auto, unfolding(crate::specs::Line::call_at))]
 fn call(text: &[u8]) -> Option<Event>
     ensures { result ≡ call_at text.now }
@@ -54,19 +54,16 @@ fn call(text: &[u8]) -> Option<Event>
     let (x1, rest) = optional_register(rest);
     let (x2, rest) = optional_register(rest);
     let (x3, rest) = optional_register(rest);
-    rest.is_empty().then_some(Event::Call {
-        core,
-        registers: Regs { x0, x1, x2, x3 },
-    })
+    rest.is_empty().then_some(Event::Call(core, Regs { x0, x1, x2, x3 }))
 }
 
-/// The entry behind its first word.
+/// The entry after its first word.
 #[tactic(auto, unfolding(crate::specs::Line::enter_at))]
 fn enter(text: &[u8]) -> Option<Event>
     ensures { result ≡ enter_at text.now }
 {
     let (core, rest) = number(text)?;
-    rest.is_empty().then_some(Event::Enter { core })
+    rest.is_empty().then_some(Event::Enter(core))
 }
 
 /// What the line says, or none where it is outside the grammar.

@@ -7,6 +7,7 @@
 //! - A *source* and a *sink* are the devices that a script comes from and its answers go to.
 #![tactic(auto)]
 
+mod answer_text;
 mod answers;
 mod block;
 mod device;
@@ -15,6 +16,7 @@ mod fault;
 mod firmware_machine;
 mod grammar;
 mod laws;
+mod limits;
 mod lines;
 mod machine;
 mod run;
@@ -27,7 +29,7 @@ pub use event::Event;
 pub use fault::{ReplayFault, Replayed, ScriptFault};
 pub use laws::law_places;
 pub use run::replay;
-pub use said::{Said, Sent};
+pub use said::{Record, Said, Sent};
 pub use standard::Std;
 
 #[cfg(test)]

@@ -4,8 +4,8 @@ ghost use Rattle.std.specs.Prelude.{◌≡◌, ◌==◌, ◌<◌, length, take, 
 ghost use Rattle.std.specs.List.{position};
 ghost use Rattle.psci_bench.specs.declared.fault.ReplayFault.TheVariants.{Read, Write};
 ghost use Rattle.psci_bench.specs.Device.{GaveUp};
-ghost use Rattle.psci_bench.specs.Progress.{ReadsAhead, FindsLine, stand};
-ghost use Rattle.psci_bench.specs.Lines.{Cuts};
+ghost use Rattle.psci_bench.specs.Progress.{ReadsAhead, FindsLine, progress};
+ghost use Rattle.psci_bench.specs.Lines.{IsFrontOf};
 
 use crate::answers::Answers;
 use crate::block::Block;
@@ -49,7 +49,7 @@ fn line_feed(bytes: &[u8]) -> Option<usize>
 
 /// What is at the front of these bytes.
 fn cut(bytes: &[u8]) -> Front
-    ensures { Cuts result bytes.now }
+    ensures { IsFrontOf result bytes.now }
 {
     match line_feed(bytes) {
         Some(length) => Front::Whole(length),
@@ -78,9 +78,9 @@ fn read_ahead<S: Source, K: Sink>(
     answers: &mut Answers,
 ) -> Result<bool, ReplayFault>
     requires { length block.old.unread < 65536 }
-    ensures ahead { ReadsAhead result (stand block.old (S.left source.old) answers.old
+    ensures ahead { ReadsAhead result (progress block.old (S.left source.old) answers.old
         (K.taken sink.old))
-        (stand block.new (S.left source.new) answers.new (K.taken sink.new)) }
+        (progress block.new (S.left source.new) answers.new (K.taken sink.new)) }
     ensures read { IfErr result (λ fault. fault ≡ Read
         → GaveUp (S.failed source.new) (S.interruptions source.new)) }
     ensures write { IfErr result (λ fault. fault ≡ Write
@@ -100,9 +100,9 @@ pub fn next_line<S: Source, K: Sink>(
     answers: &mut Answers,
     number: u64,
 ) -> Result<Option<Extent>, ReplayFault>
-    ensures found { FindsLine number result (stand block.old (S.left source.old) answers.old
+    ensures found { FindsLine number result (progress block.old (S.left source.old) answers.old
         (K.taken sink.old))
-        (stand block.new (S.left source.new) answers.new (K.taken sink.new)) }
+        (progress block.new (S.left source.new) answers.new (K.taken sink.new)) }
     ensures read { IfErr result (λ fault. fault ≡ Read
         → GaveUp (S.failed source.new) (S.interruptions source.new)) }
     ensures write { IfErr result (λ fault. fault ≡ Write

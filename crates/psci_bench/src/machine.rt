@@ -2,7 +2,7 @@
 
 ghost use Rattle.std.specs.Prelude.{◌≡◌, ◌^◌, ◌-◌, ◌<◌, List, [], ◌∷◌, length, IfOk, OnErr};
 ghost use Rattle.psci_board.specs.Board.{BoardValue};
-ghost use Rattle.psci_bench.specs.Legal.{Record};
+ghost use Rattle.psci_bench.specs.declared.said.Record.{Record};
 
 use crate::event::Event;
 use crate::said::Said;
@@ -18,19 +18,19 @@ pub trait Machine: Drop {
     ghost legal: { BoardValue → List Record → Event → Said };
 
     /// The machine of this board stands where these records have left it.
-    ghost stands: { Self → BoardValue → List Record → Type 0 };
+    ghost is_after: { Self → BoardValue → List Record → Type 0 };
 
     /// The machine of this board, before any event.
     fn new(alloc: Global, board: Board) -> Result<Self, Memory>
-        ensures stands { IfOk result (λ machine. stands machine board []) };
+        ensures is_after { IfOk result (λ machine. is_after machine board []) };
 
     /// Makes the event happen, and says what came of it; or changes nothing.
     ///
     /// Messages are numbered from 0 on, as far as 2^64-1 events go.
     fn step(&mut self, event: Event) -> Result<Said, Memory>
         ensures ok { IfOk result (λ said. (b : BoardValue) (past : List Record)
-            → stands self.old b past → length past < 2 ^ 64 - 1 → (said ≡ legal b past event)
-            × stands self.new b (record { event = event; said = said } ∷ past)) }
-        ensures err { OnErr result ((b : BoardValue) (past : List Record) → stands self.old b past
-            → stands self.new b past) };
+            → is_after self.old b past → length past < 2 ^ 64 - 1 → (said ≡ legal b past event)
+            × is_after self.new b (record { event = event; said = said } ∷ past)) }
+        ensures err { OnErr result ((b : BoardValue) (past : List Record) → is_after self.old b past
+            → is_after self.new b past) };
 }

@@ -4,9 +4,10 @@ ghost use Rattle.std.specs.Prelude.{◌≡◌, ◌+◌, ◌-◌, ◌^◌, ◌<�
 ghost use Rattle.psci_board.specs.Board.{BoardValue};
 ghost use Rattle.psci_bench.specs.declared.fault.ReplayFault.TheVariants.{Read, Write};
 ghost use Rattle.psci_bench.specs.Device.{GaveUp};
-ghost use Rattle.psci_bench.specs.Progress.{stand, IsLine};
-ghost use Rattle.psci_bench.specs.Legal.{legal, AnswersAtPlace, Record};
-ghost use Rattle.psci_bench.specs.Run.{Taken, BoardRead, Begins, Goes, EndsBy, Runs, Replays, LineTaken, EventTaken, IsNoDevice, is_torn};
+ghost use Rattle.psci_bench.specs.Progress.{progress, IsLine};
+ghost use Rattle.psci_bench.specs.declared.said.Record.{Record};
+ghost use Rattle.psci_bench.specs.Legal.{legal, AnswersAtPlace};
+ghost use Rattle.psci_bench.specs.Run.{LinesAnswered, BoardRead, HasBegun, IsUnderWay, EndsBy, Runs, Replays, LineAnswered, LineRefused, IsNoDevice, is_write_fault};
 
 use crate::answers::Answers;
 use crate::block::Block;
@@ -45,11 +46,11 @@ fn begin<S: Source, K: Sink, M: Machine>(
 ) -> Result<M, ReplayFault>
     requires block { block.old ≡ record { unread = []; ended = false } }
     requires answers { answers.old ≡ record { waiting = []; events = 0 } }
-    ensures ok { IfOk result (λ m. Begins M.legal (M.stands m) (S.left source.old)
+    ensures ok { IfOk result (λ m. HasBegun M.legal (M.is_after m) (S.left source.old)
         (K.taken sink.old)
-        (stand block.new (S.left source.new) answers.new (K.taken sink.new))) }
+        (progress block.new (S.left source.new) answers.new (K.taken sink.new))) }
     ensures err { IfErr result (λ fault. EndsBy M.legal fault (S.left source.old) (K.taken sink.old)
-        (stand block.new (S.left source.new) answers.new (K.taken sink.new))) }
+        (progress block.new (S.left source.new) answers.new (K.taken sink.new))) }
     ensures read { IfErr result (λ fault. fault ≡ Read
         → GaveUp (S.failed source.new) (S.interruptions source.new)) }
     ensures write { IfErr result (λ fault. fault ≡ Write
@@ -72,10 +73,10 @@ fn answer<M: Machine>(
     number: u64,
 ) -> Result<(), ReplayFault>
     requires { answers.old.events < 2 ^ 64 - 1 }
-    ensures ok { OnOk result ((b : BoardValue) (past : List Record) → M.stands machine.old b past
+    ensures ok { OnOk result ((b : BoardValue) (past : List Record) → M.is_after machine.old b past
         → length past < 2 ^ 64 - 1 → answers.old.events ≡ length past
-        → LineTaken M.legal (M.stands machine.new) b past line.now answers.old answers.new) }
-    ensures err { IfErr result (λ fault. EventTaken fault number line.now
+        → LineAnswered M.legal (M.is_after machine.new) b past line.now answers.old answers.new) }
+    ensures err { IfErr result (λ fault. LineRefused fault number line.now
         × (answers.new ≡ answers.old)) }
 {
     match read_line(line) {
@@ -83,7 +84,7 @@ fn answer<M: Machine>(
         Some(Line::Blank) => Ok(()),
         Some(Line::Event(event)) => {
             let said = machine.step(event)?;
-            answers.add(said)?;
+            answers.add(&said)?;
             Ok(())
         }
     }
@@ -102,14 +103,14 @@ fn take_line<M: Machine>(
     requires events { answers.old.events < 2 ^ 64 - 1 }
     ensures ok { OnOk result ((first before left taken : Option (List ℕ)) (b : BoardValue)
         (past : List Record)
-        → M.stands machine.old b past → length past ≤ count
-        → Taken M.legal b past count first before (stand block.old left answers.old taken)
-        → Goes M.legal (M.stands machine.new) (count + 1) first before
-        (stand block.new left answers.new taken)) }
+        → M.is_after machine.old b past → length past ≤ count
+        → LinesAnswered M.legal b past count first before (progress block.old left answers.old taken)
+        → IsUnderWay M.legal (M.is_after machine.new) (count + 1) first before
+        (progress block.new left answers.new taken)) }
     ensures err { IfErr result (λ fault. (first before left taken : Option (List ℕ))
         (b : BoardValue) (past : List Record)
-        → Taken M.legal b past count first before (stand block.old left answers.old taken)
-        → EndsBy M.legal fault first before (stand block.new left answers.new taken)) }
+        → LinesAnswered M.legal b past count first before (progress block.old left answers.old taken)
+        → EndsBy M.legal fault first before (progress block.new left answers.new taken)) }
     ensures fault { IfErr result (λ fault. IsNoDevice fault) }
 {
     answer(machine, answers, &block.unread()[..extent.line], count + 1)?;
@@ -128,7 +129,7 @@ fn run<S: Source, K: Sink, M: Machine>(
     requires block { block.old ≡ record { unread = []; ended = false } }
     requires answers { answers.old ≡ record { waiting = []; events = 0 } }
     ensures runs { Runs M.legal result (S.left source.old) (K.taken sink.old)
-        (stand block.new (S.left source.new) answers.new (K.taken sink.new)) }
+        (progress block.new (S.left source.new) answers.new (K.taken sink.new)) }
     ensures read { IfErr result (λ fault. fault ≡ Read
         → GaveUp (S.failed source.new) (S.interruptions source.new)) }
     ensures write { IfErr result (λ fault. fault ≡ Write
@@ -172,7 +173,7 @@ fn replay_on<S: Source, K: Sink, M: Machine>(
     let mut block = Block::new(alloc)?;
     let mut answers = Answers::new(alloc)?;
     let ended = run::<S, K, M>(alloc, source, sink, &mut block, &mut answers);
-    if is_torn(&ended) {
+    if is_write_fault(&ended) {
         return ended;
     }
     answers.write_to(sink)?;
@@ -209,8 +210,8 @@ pub fn replay<S: Source, K: Sink>(
 }
 
 /// Whether a write failed.
-fn is_torn(ended: &Result<Replayed, ReplayFault>) -> bool
-    ensures { result ≡ is_torn ended.now }
+fn is_write_fault(ended: &Result<Replayed, ReplayFault>) -> bool
+    ensures { result ≡ is_write_fault ended.now }
 {
     matches!(ended, Err(ReplayFault::Write))
 }

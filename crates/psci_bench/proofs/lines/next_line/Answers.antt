@@ -1,7 +1,7 @@
 use Rattle.std.proofs.Common.{ap, sym, ◌∙◌, ◌<◌, ◌≤◌, length, arith, false, true}
 use Rattle.std.proofs.lemmas.Bool.{eqb-true}
 use Rattle.psci_bench.specs.Lines.{has_line_feed}
-use Rattle.psci_bench.specs.Progress.{stand}
+use Rattle.psci_bench.specs.Progress.{progress}
 use Rattle.psci_bench.proofs.Ahead.{ahead_none, ahead_more}
 use Rattle.psci_bench.proofs.Finding.{finds_fault, finds_last, last_extent, reads_as}
 use Rattle.psci_bench.proofs.lines.next_line.Goals as goal
@@ -26,7 +26,7 @@ returns-in_err-read_ahead-clause-found g c =
       ))
     ] in
     finds_fault c.from_residual.result c.in_err-read_ahead.field-0.0 c.args.number _
-    (stand c.loop-unread.block (g.S.Source.left c.loop-unread.source) c.loop-unread.answers
+    (progress c.loop-unread.block (g.S.Source.left c.loop-unread.source) c.loop-unread.answers
     (g.K.Sink.taken c.loop-unread.sink)) _
     c.from_residual.ensures (c.in_err-read_ahead.ensures {u = tt}).ahead c.loop-unread.invariant
     (ap has_line_feed (sym c.unread-unread.ensures) ∙ part.1, few, k)
@@ -47,7 +47,7 @@ returns-then-not-branch-clause-found g c =
       ))
     ] in
     finds_last c.last_line.result c.args.number _
-    (stand c.loop-unread.block (g.S.Source.left c.loop-unread.source) c.loop-unread.answers
+    (progress c.loop-unread.block (g.S.Source.left c.loop-unread.source) c.loop-unread.answers
     (g.K.Sink.taken c.loop-unread.sink)) _
     (c.last_line.ensures ∙ ap last_extent c.unread.ensures) c.loop-unread.invariant
     (reads_as c.in_ok-read_ahead.field-0 false _ _ c.if-not-branch.true
@@ -56,7 +56,7 @@ returns-then-not-branch-clause-found g c =
 
 pub loop-unread-preserved : goal.loop-unread-preserved
 loop-unread-preserved g c =
-    ahead_more _ (stand c.loop-unread.block (g.S.Source.left c.loop-unread.source)
+    ahead_more _ (progress c.loop-unread.block (g.S.Source.left c.loop-unread.source)
     c.loop-unread.answers (g.K.Sink.taken c.loop-unread.sink)) _
     c.loop-unread.invariant
     (reads_as c.in_ok-read_ahead.field-0 true _ _ c.if-not-branch.false

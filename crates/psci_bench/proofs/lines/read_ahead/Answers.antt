@@ -1,21 +1,21 @@
 use Rattle.std.proofs.Common.{ap, refl}
 use Rattle.psci_bench.specs.Answered.{Answered}
-use Rattle.psci_bench.specs.Progress.{stand}
-use Rattle.psci_bench.proofs.Ahead.{written, reads_ahead, tears_write}
+use Rattle.psci_bench.specs.Progress.{progress}
+use Rattle.psci_bench.proofs.Ahead.{written, reads_ahead, write_failed_ahead}
 use Rattle.psci_bench.proofs.lines.read_ahead.Goals as goal
 
 pub returns-in_err-write_to-clause-ahead : goal.returns-in_err-write_to-clause-ahead
 returns-in_err-write_to-clause-ahead g c =
     let w = c.in_err-write_to.ensures {u = tt} in
-    tears_write c.from_residual.result c.in_err-write_to.field-0.0
-    (stand c.args.block.now (g.S.Source.left c.args.source.now) c.args.answers.now
+    write_failed_ahead c.from_residual.result c.in_err-write_to.field-0.0
+    (progress c.args.block.now (g.S.Source.left c.args.source.now) c.args.answers.now
     (g.K.Sink.taken c.args.sink.now)) _ c.from_residual.ensures w.fault w.front refl
 
 pub returns-clause-ahead : goal.returns-clause-ahead
 returns-clause-ahead g c =
     let w = c.in_ok-write_to.ensures {u = tt} in
     let r = c.refill.ensures in
-    reads_ahead c.refill.result (stand c.args.block.now
+    reads_ahead c.refill.result (progress c.args.block.now
     (g.S.Source.left c.args.source.now) c.args.answers.now (g.K.Sink.taken c.args.sink.now))
     c.refill.new.self (g.S.Source.left c.args.source.now) (g.S.Source.left c.refill.new.source)
     (g.K.Sink.taken c.write_to.new.sink) c.write_to.new.self

@@ -1,8 +1,8 @@
 use Rattle.std.proofs.Common.{ℕ, ◌+◌, subst, sym, Some, None, Ok}
 use Rattle.psci_bench.specs.Run.{Ended}
-use Rattle.psci_bench.specs.Progress.{stand}
+use Rattle.psci_bench.specs.Progress.{progress}
 use Rattle.psci_bench.proofs.Steps.{goes_not, runs_so, finds_as}
-use Rattle.psci_bench.proofs.Told.{taken_ahead}
+use Rattle.psci_bench.proofs.Transcripts.{answered_ahead}
 use Rattle.psci_bench.proofs.Ends.{ends_well}
 use Rattle.psci_bench.proofs.run.run.Goals as goal
 
@@ -24,7 +24,7 @@ returns-in_err-take_line-clause-runs g c =
     runs_so c.from_residual-in_err-take_line.result e g.M.Machine.legal _ _ _
     c.from_residual-in_err-take_line.ensures
     ((c.in_err-take_line.ensures {u = tt}).err _ _ _ _ i.0 i.1
-    (taken_ahead g.M.Machine.legal i.0 i.1 c.lines.lines _ _ _ _ f.0 i.4))
+    (answered_ahead g.M.Machine.legal i.0 i.1 c.lines.lines _ _ _ _ f.0 i.4))
 
 pub lines-preserved : goal.lines-preserved
 lines-preserved g c =
@@ -34,13 +34,13 @@ lines-preserved g c =
     record {
       few = f.2;
       goes = (c.in_ok-take_line.ensures {u = tt}).ok _ _ _ _ i.0 i.1 i.2 i.3
-          (taken_ahead g.M.Machine.legal i.0 i.1 c.lines.lines _ _ _ _ f.0 i.4);
+          (answered_ahead g.M.Machine.legal i.0 i.1 c.lines.lines _ _ _ _ f.0 i.4);
     }
 
 pub returns-clause-runs : goal.returns-clause-runs
 returns-clause-runs g c =
     let i = c.lines.invariant.goes in
-    let t = stand c.next_line.new.block (g.S.Source.left c.next_line.new.source)
+    let t = progress c.next_line.new.block (g.S.Source.left c.next_line.new.source)
     c.next_line.new.answers (g.K.Sink.taken c.next_line.new.sink) in
     let f = finds_as c.in_ok-extent.field-0 None (c.lines.lines + 1) _ t c.in_default.is
     (c.in_ok-extent.ensures {u = tt}).found in
@@ -48,4 +48,4 @@ returns-clause-runs g c =
     (g.S.Source.left c.args.source.now) (g.K.Sink.taken c.args.sink.now) t)
     (sym c.events.ensures)
     (ends_well g.M.Machine.legal i.0 i.1 c.lines.lines _ _ t
-    (taken_ahead g.M.Machine.legal i.0 i.1 c.lines.lines _ _ _ t f.0 i.4) f.1 f.2)
+    (answered_ahead g.M.Machine.legal i.0 i.1 c.lines.lines _ _ _ t f.0 i.4) f.1 f.2)

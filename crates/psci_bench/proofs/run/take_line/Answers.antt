@@ -1,7 +1,7 @@
 use Rattle.std.proofs.Common.{ℕ, List, take, ◌+◌, subst, sym, arith}
 use Rattle.psci_bench.specs.Block.{ReadAhead}
-use Rattle.psci_bench.specs.Progress.{stand}
-use Rattle.psci_bench.specs.Run.{EventTaken, LineTaken, Goes}
+use Rattle.psci_bench.specs.Progress.{progress}
+use Rattle.psci_bench.specs.Run.{LineRefused, LineAnswered, IsUnderWay}
 use Rattle.psci_bench.proofs.Steps.{if_err_so, line_not, line_goes}
 use Rattle.psci_bench.proofs.run.take_line.Goals as goal
 
@@ -14,19 +14,19 @@ returns-in_err-answer-clause-err g c =
     (λ first before left taken b past k. line_not f g.M.Machine.legal b past c.args.count first
     before c.args.block.now left taken c.args.answers.now c.answer.new.answers e c.requires.count
     c.requires.line k
-    (subst (λ (u : List ℕ). EventTaken f (c.args.count + 1) (take e.line u)) c.unread.ensures x.0)
+    (subst (λ (u : List ℕ). LineRefused f (c.args.count + 1) (take e.line u)) c.unread.ensures x.0)
     x.1)
 
 pub returns-clause-ok : goal.returns-clause-ok
 returns-clause-ok g c = λ first before left taken b past st few k.
     let e = c.args.extent in
     let x = (c.in_ok-answer.ensures {u = tt}).ok b past st (omega arith) k.events in
-    subst (λ (r : ReadAhead). Goes g.M.Machine.legal (g.M.Machine.stands c.answer.new.machine)
-    (c.args.count + 1) first before (stand r left c.answer.new.answers taken))
+    subst (λ (r : ReadAhead). IsUnderWay g.M.Machine.legal (g.M.Machine.is_after c.answer.new.machine)
+    (c.args.count + 1) first before (progress r left c.answer.new.answers taken))
     (sym c.skip.ensures)
-    (line_goes g.M.Machine.legal (g.M.Machine.stands c.answer.new.machine) b past c.args.count first
+    (line_goes g.M.Machine.legal (g.M.Machine.is_after c.answer.new.machine) b past c.args.count first
     before c.args.block.now left taken c.args.answers.now c.answer.new.answers e c.requires.count
     few c.requires.line k
-    (subst (λ (u : List ℕ). LineTaken g.M.Machine.legal
-    (g.M.Machine.stands c.answer.new.machine) b past
+    (subst (λ (u : List ℕ). LineAnswered g.M.Machine.legal
+    (g.M.Machine.is_after c.answer.new.machine) b past
     (take e.line u) c.args.answers.now c.answer.new.answers) c.unread.ensures x))

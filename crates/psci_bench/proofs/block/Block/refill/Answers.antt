@@ -17,7 +17,7 @@ returns-clause-bytes g c =
     let room : 0 < length buffer = omega (arith, w, v.len, m.len, i.bytes.ok.0, c.read_some.auto.buffer, c.requires) in
     record {
       bytes = take n buffer;
-      behind = refilled _ _ _ _ _ _ _ _ (omega (arith, w, v.len, m.len, i.bytes.ok.0)) e.within (omega (arith, w, v.len, m.len, i.bytes.ok.0, c.read_some.auto.buffer, e.within)) (ap (λ x. take (i.to - i.from) x) (v.value ∙ m.items) ∙ moved i.bytes.items i.from i.to c.self.invariant.0 c.self.invariant.1 ∙ now);
+      appended = refilled _ _ _ _ _ _ _ _ (omega (arith, w, v.len, m.len, i.bytes.ok.0)) e.within (omega (arith, w, v.len, m.len, i.bytes.ok.0, c.read_some.auto.buffer, e.within)) (ap (λ x. take (i.to - i.from) x) (v.value ∙ m.items) ∙ moved i.bytes.items i.from i.to c.self.invariant.0 c.self.invariant.1 ∙ now);
       from = e.bytes;
       came = λ t. (some_came n buffer e.within t, ap (λ (r : ReadAhead). r.ended) (sym c.self.view_is) ∙ c.if-self.false, counted n t);
       none = λ t. (none_came n buffer t, not_counted n t);

@@ -8,15 +8,15 @@ use Rattle.psci_bench.specs.declared.firmware_machine.FirmwareMachine.{FirmwareM
 use Rattle.psci_bench.specs.declared.said.Said.{Said}
 use Rattle.psci_bench.specs.declared.said.Said.TheVariants.{Ignored}
 use Rattle.psci_bench.specs.Line.{core_in}
-use Rattle.psci_bench.specs.Legal.{call_in, count_of, legal, place_behind, said_by}
-use Rattle.psci_bench.specs.Standing.{Standing, located}
-use Rattle.psci_bench.proofs.Stands.{absent_stands, ignored_stands, refused_stands, answered_stands, found, record_of}
+use Rattle.psci_bench.specs.Legal.{call_in, count_of, legal, place_after, said_by}
+use Rattle.psci_bench.specs.MachineAfter.{MachineAfter, located}
+use Rattle.psci_bench.proofs.MachineSteps.{absent_after, ignored_after, refused_after, answered_after, found, record_of}
 use Rattle.psci_bench.proofs.firmware_machine.FirmwareMachineMachine.step.Goals as goal
 
 pub returns-in_default-clause-ok : goal.returns-in_default-clause-ok
 returns-in_default-clause-ok c = λ b past s few.
     let old = c.args.self.now in
-    absent_stands b past c.args.event old.firmware old.places.items old.messages
+    absent_after b past c.args.event old.firmware old.places.items old.messages
     (ap (located old.places.items) (sym c.core.ensures) ∙ sym c.locate.ensures ∙ c.in_default.is) s
 
 pub returns-then-not-allows-clause-ok : goal.returns-then-not-allows-clause-ok
@@ -25,7 +25,7 @@ returns-then-not-allows-clause-ok c = λ b past s few.
     let at = found old.places.items (core_in c.args.event) c.in-Some.core c.in-Some.place
     (ap (located old.places.items) (sym c.core.ensures) ∙ sym c.locate.ensures
     ∙ c.in-Some.is) in
-    ignored_stands b past c.args.event old.firmware old.places.items old.messages c.in-Some.place
+    ignored_after b past c.args.event old.firmware old.places.items old.messages c.in-Some.place
     at.1 (sym (c.if-not-allows.ensures {u = tt})) s
 
 pub returns-in_default-ask-clause-ok : goal.returns-in_default-ask-clause-ok
@@ -39,9 +39,9 @@ returns-in_default-ask-clause-ok c = λ b past s few.
     let reply = asked.answer
     ∙ ap (λ (k : ℕ). answer old.firmware.board (seen old.firmware) k (call_in event)) at.0 in
     subst (λ (m : FirmwareMachine). (Ignored ≡ legal b past event)
-    × Standing b (record_of event Ignored ∷ past) m.firmware m.places.items m.messages)
+    × MachineAfter b (record_of event Ignored ∷ past) m.firmware m.places.items m.messages)
     (sym asked.refused)
-    (refused_stands b past event old.firmware old.places.items old.messages c.in-Some.place
+    (refused_after b past event old.firmware old.places.items old.messages c.in-Some.place
     c.in_default-ask.field-0
     at.1 (sym (c.if-not-allows.ensures {u = tt})) reply s)
 
@@ -80,17 +80,17 @@ returns-clause-ok c = λ b past s few.
     let board = ap (λ (f : FirmwareValue). f.board) c.note.ensures.firmware ∙ asked.board in
     let places = c.note.ensures.places
     ∙ ap (λ (m : FirmwareMachine). slice_set m.places.items c.in-Some.core.number
-    (place_behind o.act)) asked.rest
-    ∙ ap (λ (k : ℕ). slice_set old.places.items k (place_behind o.act)) at.0 in
+    (place_after o.act)) asked.rest
+    ∙ ap (λ (k : ℕ). slice_set old.places.items k (place_after o.act)) at.0 in
     let count = c.note.ensures.messages
     ∙ ap (λ (m : FirmwareMachine). min (2 ^ 64 - 1)
     (m.messages + count_of o.message)) asked.rest in
     let said : c.note.result ≡ said_by old.messages (Out o) = c.note.ensures.said
     ∙ ap (λ (m : FirmwareMachine). said_by m.messages (Out o)) asked.rest in
     subst (λ (x : Said). (x ≡ legal b past event)
-    × Standing b (record_of event x ∷ past) new.firmware new.places.items new.messages)
+    × MachineAfter b (record_of event x ∷ past) new.firmware new.places.items new.messages)
     (sym said)
-    (answered_stands
+    (answered_after
     c.law_values.ensures.more b past event old.firmware new.firmware old.places.items
     new.places.items
     old.messages new.messages c.in-Some.place o at.1 (sym

@@ -14,28 +14,28 @@ use Rattle.psci_bench.specs.declared.fault.ReplayFault.TheVariants.{Script}
 use Rattle.psci_bench.specs.declared.lines.Extent.{Extent}
 use Rattle.psci_bench.specs.Answered.{Answered}
 use Rattle.psci_bench.specs.Block.{ReadAhead}
-use Rattle.psci_bench.specs.Legal.{Record}
+use Rattle.psci_bench.specs.declared.said.Record.{Record}
 use Rattle.psci_bench.specs.Line.{line_of}
 use Rattle.psci_bench.specs.Lines.{lines, has_line_feed, AreWhole}
-use Rattle.psci_bench.specs.Progress.{Stand, stand, Ahead, IsLine}
-use Rattle.psci_bench.specs.Script.{Saying, Told, behind_line, told, told_lines, told_line, line_said, ok_or, ends}
+use Rattle.psci_bench.specs.Progress.{Progress, progress, Ahead, IsLine}
+use Rattle.psci_bench.specs.Script.{Saying, Transcript, after_line, transcript, transcript_of_rest, transcript_of_line, line_said, ok_or, ends}
 use Rattle.psci_bench.specs.Text.{answer_line}
-use Rattle.psci_bench.specs.Run.{Follows, Taken}
+use Rattle.psci_bench.specs.Run.{Follows, LinesAnswered}
 use Rattle.psci_bench.proofs.Known.{appends_more, consumes_more}
 use Rattle.psci_bench.proofs.Split.{lines_whole, lines_last, lines_none}
 
 -- Lines ---------------------------------------------------------------------------------------
 
-pub lines_told : (says : Saying) (b : BoardValue) (past : List Record) (n : ℕ) (l : List ℕ)
-    (ls : List (List ℕ)) → told_lines says b past n (l ∷ ls) ≡ told_line says b past (n + 1)
-    (line_said (n + 1) l) (λ records. told_lines says b records (n + 1) ls)
-unfolding told_lines
-lines_told says b past n l ls = refl
+pub rest_is : (says : Saying) (b : BoardValue) (past : List Record) (n : ℕ) (l : List ℕ)
+    (ls : List (List ℕ)) → transcript_of_rest says b past n (l ∷ ls) ≡ transcript_of_line says b past (n + 1)
+    (line_said (n + 1) l) (λ records. transcript_of_rest says b records (n + 1) ls)
+unfolding transcript_of_rest
+rest_is says b past n l ls = refl
 
-pub no_lines_told : (says : Saying) (b : BoardValue) (past : List Record) (n : ℕ)
-    → told_lines says b past n [] ≡ ends (Ok (record { lines = n; events = length past }))
-unfolding told_lines
-no_lines_told says b past n = refl
+pub no_rest_is : (says : Saying) (b : BoardValue) (past : List Record) (n : ℕ)
+    → transcript_of_rest says b past n [] ≡ ends (Ok (record { lines = n; events = length past }))
+unfolding transcript_of_rest
+no_rest_is says b past n = refl
 
 not_lt : (m n : ℕ) → n ≤ m → nat_lt m n ≡ false
 not_lt m n h = grind (arith, nat_tests)
@@ -62,68 +62,68 @@ line_many n l h =
     (ok_or (line_of l) Line))) (is_lt 1000000 n h)
 
 -- a blank line, an event, and a fault
-pub told_blank : (says : Saying) (b : BoardValue) (past : List Record) (n : ℕ) (l : List ℕ)
+pub blank_transcript : (says : Saying) (b : BoardValue) (past : List Record) (n : ℕ) (l : List ℕ)
     (ls : List (List ℕ)) → n + 1 ≤ 1000000 → length l ≤ 256 → line_of l ≡ Some Blank
-    → told_lines says b past n (l ∷ ls) ≡ behind_line [] (told_lines says b past (n + 1) ls)
-told_blank says b past n l ls h k e =
-    lines_told says b past n l ls
-    ∙ ap (λ (r : Result LineSays ScriptFault). told_line says b past (n + 1) r
-    (λ records. told_lines says b records (n + 1) ls)) (line_read (n + 1) l h k
+    → transcript_of_rest says b past n (l ∷ ls) ≡ after_line [] (transcript_of_rest says b past (n + 1) ls)
+blank_transcript says b past n l ls h k e =
+    rest_is says b past n l ls
+    ∙ ap (λ (r : Result LineSays ScriptFault). transcript_of_line says b past (n + 1) r
+    (λ records. transcript_of_rest says b records (n + 1) ls)) (line_read (n + 1) l h k
     ∙ ap (λ (o : Option LineSays). ok_or o Line) e)
 
 abbrev recorded : Saying → BoardValue → List Record → Event → List Record
 recorded says b past event = record { event = event; said = says b past event } ∷ past
 
-pub told_event : (says : Saying) (b : BoardValue) (past : List Record) (n : ℕ) (l : List ℕ)
+pub event_transcript : (says : Saying) (b : BoardValue) (past : List Record) (n : ℕ) (l : List ℕ)
     (ls : List (List ℕ)) (event : Event) → n + 1 ≤ 1000000 → length l ≤ 256
     → line_of l ≡ Some (Says event)
-    → told_lines says b past n (l ∷ ls) ≡ behind_line
+    → transcript_of_rest says b past n (l ∷ ls) ≡ after_line
     (answer_line (length past + 1) (says b past event))
-    (told_lines says b (recorded says b past event) (n + 1) ls)
-told_event says b past n l ls event h k e =
-    lines_told says b past n l ls
-    ∙ ap (λ (r : Result LineSays ScriptFault). told_line says b past (n + 1) r
-    (λ records. told_lines says b records (n + 1) ls)) (line_read (n + 1) l h k
+    (transcript_of_rest says b (recorded says b past event) (n + 1) ls)
+event_transcript says b past n l ls event h k e =
+    rest_is says b past n l ls
+    ∙ ap (λ (r : Result LineSays ScriptFault). transcript_of_line says b past (n + 1) r
+    (λ records. transcript_of_rest says b records (n + 1) ls)) (line_read (n + 1) l h k
     ∙ ap (λ (o : Option LineSays). ok_or o Line) e)
 
-pub told_fault : (says : Saying) (b : BoardValue) (past : List Record) (n : ℕ) (l : List ℕ)
+pub fault_transcript : (says : Saying) (b : BoardValue) (past : List Record) (n : ℕ) (l : List ℕ)
     (ls : List (List ℕ)) (fault : ScriptFault) → line_said (n + 1) l ≡ Err fault
-    → told_lines says b past n (l ∷ ls) ≡ ends (Err (Script (n + 1) fault))
-told_fault says b past n l ls fault e =
-    lines_told says b past n l ls
-    ∙ ap (λ (r : Result LineSays ScriptFault). told_line says b past (n + 1) r
-    (λ records. told_lines says b records (n + 1) ls)) e
+    → transcript_of_rest says b past n (l ∷ ls) ≡ ends (Err (Script (n + 1) fault))
+fault_transcript says b past n l ls fault e =
+    rest_is says b past n l ls
+    ∙ ap (λ (r : Result LineSays ScriptFault). transcript_of_line says b past (n + 1) r
+    (λ records. transcript_of_rest says b records (n + 1) ls)) e
 
 -- Reading ahead -------------------------------------------------------------------------------
 
-same_front : (s t : Stand) → Ahead s t → s.block.ended ≡ true → t.block.unread ≡ s.block.unread
-same_front s t a e = a.behind ∙ ap (λ (x : List ℕ). s.block.unread ++ x) (a.ended e).1
+same_front : (s t : Progress) → Ahead s t → s.block.ended ≡ true → t.block.unread ≡ s.block.unread
+same_front s t a e = a.appended ∙ ap (λ (x : List ℕ). s.block.unread ++ x) (a.ended e).1
     ∙ append-nil s.block.unread
 
-pub follows_ahead : (s t : Stand) (rest : List ℕ) → Ahead s t → Follows t.block rest
+pub follows_ahead : (s t : Progress) (rest : List ℕ) → Ahead s t → Follows t.block rest
     → Follows s.block rest
 follows_ahead s t rest a f = λ e.
     let h = f (a.ended e).0 in
     (h.0, h.1 ∙ ap (λ (x : List ℕ). take h.0 x) (same_front s t a e))
 
-still_some : (s t : Stand) → Ahead s t → s.block.ended ≡ true → 0 < length t.block.unread
+still_some : (s t : Progress) → Ahead s t → s.block.ended ≡ true → 0 < length t.block.unread
     → 0 < length s.block.unread
 still_some s t a e h = omega (arith, h, ap length (same_front s t a e))
 
-pub taken_ahead : (says : Saying) (b : BoardValue) (past : List Record) (n : ℕ)
-    (first before : Option (List ℕ)) (s t : Stand) → Ahead s t → Taken says b past n first before s
-    → Taken says b past n first before t
-taken_ahead says b past n first before s t a k = record {
+pub answered_ahead : (says : Saying) (b : BoardValue) (past : List Record) (n : ℕ)
+    (first before : Option (List ℕ)) (s t : Progress) → Ahead s t → LinesAnswered says b past n first before s
+    → LinesAnswered says b past n first before t
+answered_ahead says b past n first before s t a k = record {
   whole = k.whole;
   from = subst (λ (x : List ℕ). Consumes first t.left x)
       (append_assoc k.whole s.block.unread a.bytes
-      ∙ ap (λ (x : List ℕ). k.whole ++ x) (sym a.behind))
+      ∙ ap (λ (x : List ℕ). k.whole ++ x) (sym a.appended))
       (consumes_more first s.left t.left (k.whole ++ s.block.unread) a.bytes k.from a.from);
   at_end = a.at_end k.at_end;
   written = k.written ++ a.written;
   to = appends_more before s.taken t.taken k.written a.written k.to a.to;
   answers = λ rest f. k.answers rest (follows_ahead s t rest a f)
-      ∙ ap (λ (x : List ℕ). behind_line x (told_lines says b past n (lines rest)))
+      ∙ ap (λ (x : List ℕ). after_line x (transcript_of_rest says b past n (lines rest)))
       (ap (λ (x : List ℕ). k.written ++ x) a.waits
       ∙ sym (append_assoc k.written a.written t.answered.waiting));
   events = a.events ∙ k.events;
@@ -210,15 +210,15 @@ pub taken_within : (e : Extent) (block : ReadAhead) → IsLine e block → e.tak
 taken_within e block (few, feeds, inl w) = omega (arith, w.0, w.1)
 taken_within e block (few, feeds, inr w) = omega (arith, w.0, w.1)
 
-pub taken_line : (says : Saying) (b : BoardValue) (past later : List Record) (n : ℕ)
+pub answered_line : (says : Saying) (b : BoardValue) (past later : List Record) (n : ℕ)
     (first before : Option (List ℕ)) (block : ReadAhead) (left taken : Option (List ℕ))
     (old new : Answered) (e : Extent) (t : List ℕ) → IsLine e block
-    → Taken says b past n first before (stand block left old taken)
-    → ((ls : List (List ℕ)) → told_lines says b past n
-    (take e.line block.unread ∷ ls) ≡ behind_line t (told_lines says b later (n + 1) ls))
+    → LinesAnswered says b past n first before (progress block left old taken)
+    → ((ls : List (List ℕ)) → transcript_of_rest says b past n
+    (take e.line block.unread ∷ ls) ≡ after_line t (transcript_of_rest says b later (n + 1) ls))
     → new.waiting ≡ old.waiting ++ t → new.events ≡ length later
-    → Taken says b later (n + 1) first before (stand (skipped block e) left new taken)
-taken_line says b past later n first before block left taken old new e t i k line w ev = record {
+    → LinesAnswered says b later (n + 1) first before (progress (skipped block e) left new taken)
+answered_line says b past later n first before block left taken old new e t i k line w ev = record {
   whole = k.whole ++ take e.taken block.unread;
   from = subst (λ (x : List ℕ). Consumes first left x)
       (ap (λ (x : List ℕ). k.whole ++ x) (sym (take-append-drop e.taken block.unread))
@@ -228,18 +228,18 @@ taken_line says b past later n first before block left taken old new e t i k lin
   written = k.written;
   to = k.to;
   answers = λ rest f.
-      ap (told says) (append_assoc k.whole (take e.taken block.unread) rest)
+      ap (transcript says) (append_assoc k.whole (take e.taken block.unread) rest)
       ∙ k.answers (take e.taken block.unread ++ rest)
       (line_follows e block rest (taken_within e block i) f)
-      ∙ ap (λ (x : List (List ℕ)). behind_line (k.written ++ old.waiting)
-      (told_lines says b past n x)) (line_first e block rest i f)
-      ∙ ap (behind_line (k.written ++ old.waiting)) (line (lines rest))
-      ∙ behind_both (k.written ++ old.waiting) t (told_lines says b later (n + 1) (lines rest))
-      ∙ ap (λ (x : List ℕ). behind_line x (told_lines says b later (n + 1) (lines rest)))
+      ∙ ap (λ (x : List (List ℕ)). after_line (k.written ++ old.waiting)
+      (transcript_of_rest says b past n x)) (line_first e block rest i f)
+      ∙ ap (after_line (k.written ++ old.waiting)) (line (lines rest))
+      ∙ after_both (k.written ++ old.waiting) t (transcript_of_rest says b later (n + 1) (lines rest))
+      ∙ ap (λ (x : List ℕ). after_line x (transcript_of_rest says b later (n + 1) (lines rest)))
       (append_assoc k.written old.waiting t ∙ ap (λ (x : List ℕ). k.written ++ x) (sym w));
   events = ev;
   lines = λ f. whole_line k.whole e block i f;
 } where
-  behind_both : (x y : List ℕ) (z : Told) → behind_line x (behind_line y z) ≡ behind_line (x ++ y) z
-  behind_both x y z = ap (λ (v : List ℕ). let r : Told = record { text = v; end = z.end } in r)
+  after_both : (x y : List ℕ) (z : Transcript) → after_line x (after_line y z) ≡ after_line (x ++ y) z
+  after_both x y z = ap (λ (v : List ℕ). let r : Transcript = record { text = v; end = z.end } in r)
       (sym (append_assoc x y z.text))

@@ -5,7 +5,8 @@ use Rattle.psci_board.specs.declared.node.Core.{Core}
 use Rattle.psci_fw.specs.History.{values_of}
 use Rattle.psci_fw.specs.Seen.{FirmwareValue, seen}
 use Rattle.psci_bench.specs.declared.firmware_machine.Place.{Place}
-use Rattle.psci_bench.specs.Legal.{Record, history, place, sent_count}
+use Rattle.psci_bench.specs.declared.said.Record.{Record}
+use Rattle.psci_bench.specs.Legal.{history, place, sent_count}
 
 -- so many places, the first ones of these
 abbrev pub first_of : ℕ → (ℕ → Place) → ℕ → Option Place
@@ -18,7 +19,7 @@ located ps c =
     then option_map (λ p. (record { number = c }, p)) (slice_get ps c)
     else None
 
-pub record Standing (b : BoardValue) (past : List Record) (f : FirmwareValue) (ps : List Place)
+pub record MachineAfter (b : BoardValue) (past : List Record) (f : FirmwareValue) (ps : List Place)
     (n : ℕ) : Type 0 where
   pub board : f.board ≡ b
   pub values : seen f ≡ values_of b (history past)

@@ -23,8 +23,9 @@ use Rattle.psci_bench.specs.declared.said.Said.{Said}
 use Rattle.psci_bench.specs.declared.said.Said.TheVariants.{Ignored, Absent}
 use Rattle.psci_bench.specs.declared.firmware_machine.Place.{Place}
 use Rattle.psci_bench.specs.Line.{core_in}
-use Rattle.psci_bench.specs.Legal.{Record, history, sent_count, count_of, sent_in, place, place_behind, happens, call_in, outcome_in, sent_as, said_by, answered, legal}
-use Rattle.psci_bench.specs.Standing.{Standing, located}
+use Rattle.psci_bench.specs.declared.said.Record.{Record}
+use Rattle.psci_bench.specs.Legal.{history, sent_count, count_of, sent_in, place, place_after, happens, call_in, outcome_in, sent_as, said_by, answered, legal}
+use Rattle.psci_bench.specs.MachineAfter.{MachineAfter, located}
 
 abbrev pub record_of : Event → Said → Record
 record_of event said = record { event = event; said = said }
@@ -149,8 +150,8 @@ sent_within (r ∷ past) = omega (arith, sent_within past, sent_small (sent_in r
 -- Nothing happened -----------------------------------------------------------------------------
 
 still_ignored : (b : BoardValue) (past : List Record) (event : Event) (f : FirmwareValue)
-    (ps : List Place) (n : ℕ) → Standing b past f ps n
-    → Standing b (record_of event Ignored ∷ past) f ps n
+    (ps : List Place) (n : ℕ) → MachineAfter b past f ps n
+    → MachineAfter b (record_of event Ignored ∷ past) f ps n
 still_ignored b past event f ps n s = record {
   board = s.board;
   values = s.values;
@@ -162,8 +163,8 @@ still_ignored b past event f ps n s = record {
 }
 
 still_absent : (b : BoardValue) (past : List Record) (event : Event) (f : FirmwareValue)
-    (ps : List Place) (n : ℕ) → Standing b past f ps n
-    → Standing b (record_of event Absent ∷ past) f ps n
+    (ps : List Place) (n : ℕ) → MachineAfter b past f ps n
+    → MachineAfter b (record_of event Absent ∷ past) f ps n
 still_absent b past event f ps n s = record {
   board = s.board;
   values = s.values;
@@ -175,7 +176,7 @@ still_absent b past event f ps n s = record {
 }
 
 off_board : (b : BoardValue) (past : List Record) (f : FirmwareValue) (ps : List Place) (n i : ℕ)
-    (t : Bool) → nat_lt i (cores b) ≡ t → located ps i ≡ None → Standing b past f ps n → t ≡ false
+    (t : Bool) → nat_lt i (cores b) ≡ t → located ps i ≡ None → MachineAfter b past f ps n → t ≡ false
 off_board b past f ps n i true on lost s =
     let small : nat_lt i (2 ^ 16) ≡ true = lt-ltb i (2 ^ 16) (omega (
       arith,
@@ -188,11 +189,11 @@ off_board b past f ps n i true on lost s =
 off_board b past f ps n i false on lost s = refl
 
 -- the board has no such core
-pub absent_stands : (b : BoardValue) (past : List Record) (event : Event) (f : FirmwareValue)
+pub absent_after : (b : BoardValue) (past : List Record) (event : Event) (f : FirmwareValue)
     (ps : List Place) (n : ℕ)
-    → located ps (core_in event) ≡ None → Standing b past f ps n
-    → (Absent ≡ legal b past event) × Standing b (record_of event Absent ∷ past) f ps n
-absent_stands b past event f ps n lost s =
+    → located ps (core_in event) ≡ None → MachineAfter b past f ps n
+    → (Absent ≡ legal b past event) × MachineAfter b (record_of event Absent ∷ past) f ps n
+absent_after b past event f ps n lost s =
     let off = off_board b past f ps n (core_in event) (nat_lt (core_in event)
     (cores b)) refl lost s in
     (sym (legal_absent b past event off), still_absent b past event f ps n s)
@@ -200,31 +201,31 @@ absent_stands b past event f ps n lost s =
 -- where the core is on the board, and at this place
 here : (b : BoardValue) (past : List Record) (event : Event) (f : FirmwareValue)
     (ps : List Place) (n : ℕ) (p : Place) → slice_get ps (core_in event) ≡ Some p
-    → Standing b past f ps n
+    → MachineAfter b past f ps n
     → (nat_lt (core_in event) (cores b) ≡ true) × (place past (core_in event) ≡ p)
 here b past event f ps n p got s = cond_some (nat_lt (core_in event) (cores b)) (place past
     (core_in event)) p (sym (s.places (core_in event)) ∙ got)
 
 legal_at : (b : BoardValue) (past : List Record) (event : Event) (f : FirmwareValue)
     (ps : List Place) (n : ℕ) (p : Place) (t : Bool) → slice_get ps (core_in event) ≡ Some p
-    → happens p event ≡ t → Standing b past f ps n
+    → happens p event ≡ t → MachineAfter b past f ps n
     → legal b past event ≡ cond t (answered b past event) Ignored
 legal_at b past event f ps n p t got h s =
     let at = here b past event f ps n p got s in
     legal_here b past event t at.0 (ap (λ (q : Place). happens q event) at.1 ∙ h)
 
 -- the core is not at the event's place
-pub ignored_stands : (b : BoardValue) (past : List Record) (event : Event) (f : FirmwareValue)
+pub ignored_after : (b : BoardValue) (past : List Record) (event : Event) (f : FirmwareValue)
     (ps : List Place) (n : ℕ) (p : Place)
-    → slice_get ps (core_in event) ≡ Some p → happens p event ≡ false → Standing b past f ps n
-    → (Ignored ≡ legal b past event) × Standing b (record_of event Ignored ∷ past) f ps n
-ignored_stands b past event f ps n p got h s =
+    → slice_get ps (core_in event) ≡ Some p → happens p event ≡ false → MachineAfter b past f ps n
+    → (Ignored ≡ legal b past event) × MachineAfter b (record_of event Ignored ∷ past) f ps n
+ignored_after b past event f ps n p got h s =
     (sym (legal_at b past event f ps n p false got h s), still_ignored b past event f ps n s)
 
 -- the firmware's answer is the one after the past
 answer_is : (b : BoardValue) (past : List Record) (event : Event) (f : FirmwareValue)
     (ps : List Place) (n : ℕ) (reply : FwReply)
-    → reply ≡ answer f.board (seen f) (core_in event) (call_in event) → Standing b past f ps n
+    → reply ≡ answer f.board (seen f) (core_in event) (call_in event) → MachineAfter b past f ps n
     → said_by n reply ≡ answered b past event
 answer_is b past event f ps n reply e s =
     let legally : reply ≡ answer b (values_of b (history past)) (core_in event) (call_in event) =
@@ -234,31 +235,31 @@ answer_is b past event f ps n reply e s =
     ap (λ (k : ℕ). said_by k reply) s.messages ∙ ap (said_by (sent_count past)) legally
 
 -- a refusal changes nothing
-pub refused_stands : (b : BoardValue) (past : List Record) (event : Event) (f : FirmwareValue)
+pub refused_after : (b : BoardValue) (past : List Record) (event : Event) (f : FirmwareValue)
     (ps : List Place) (n : ℕ) (p : Place) (fault : FwFault)
     → slice_get ps (core_in event) ≡ Some p → happens p event ≡ true
-    → Fault fault ≡ answer f.board (seen f) (core_in event) (call_in event) → Standing b past f ps n
-    → (Ignored ≡ legal b past event) × Standing b (record_of event Ignored ∷ past) f ps n
-refused_stands b past event f ps n p fault got h e s = (
+    → Fault fault ≡ answer f.board (seen f) (core_in event) (call_in event) → MachineAfter b past f ps n
+    → (Ignored ≡ legal b past event) × MachineAfter b (record_of event Ignored ∷ past) f ps n
+refused_after b past event f ps n p fault got h e s = (
   answer_is b past event f ps n (Fault fault) e s
       ∙ sym (legal_at b past event f ps n p true got h s),
   still_ignored b past event f ps n s,
 )
 
 -- an outcome is one more entry
-pub answered_stands : (more : (b : BoardValue) (e : Entry) (h : List Entry)
+pub answered_after : (more : (b : BoardValue) (e : Entry) (h : List Entry)
     → values_of b (e ∷ h) ≡ after b e.core e.call e.reply (values_of b h))
     (b : BoardValue) (past : List Record) (event : Event) (f g : FirmwareValue)
     (ps qs : List Place) (n m : ℕ) (p : Place) (o : Outcome)
     → slice_get ps (core_in event) ≡ Some p → happens p event ≡ true
     → Out o ≡ answer f.board (seen f) (core_in event) (call_in event)
     → seen g ≡ after f.board (core_in event) (call_in event) (Out o) (seen f) → g.board ≡ f.board
-    → qs ≡ slice_set ps (core_in event) (place_behind o.act)
+    → qs ≡ slice_set ps (core_in event) (place_after o.act)
     → m ≡ min (2 ^ 64 - 1) (n + count_of o.message) → length past < 2 ^ 64 - 1
-    → Standing b past f ps n
+    → MachineAfter b past f ps n
     → (said_by n (Out o) ≡ legal b past event)
-    × Standing b (record_of event (said_by n (Out o)) ∷ past) g qs m
-answered_stands more b past event f g ps qs n m p o got h e aft same set counted few s =
+    × MachineAfter b (record_of event (said_by n (Out o)) ∷ past) g qs m
+answered_after more b past event f g ps qs n m p o got h e aft same set counted few s =
     let c = core_in event in
     let on = here b past event f ps n p got s in
     let entry : Entry = record { core = c; call = call_in event; reply = Out o } in
@@ -278,9 +279,9 @@ answered_stands more b past event f g ps qs n m p o got h e aft same set counted
             (record { core = c; call = call_in event; reply = Out x } ∷ history past)) (sym
             (outcome_kept n o));
         places = λ k. ap (λ (l : List Place). slice_get l k) set
-            ∙ get_set ps c k (place_behind o.act) (slice_get_within ps c p got)
-            ∙ ap (λ (x : Option Place). cond (k == c) (Some (place_behind o.act)) x) (s.places k)
-            ∙ changed (k == c) (nat_lt k (cores b)) (place_behind o.act) (place past k) (λ t. ap (λ
+            ∙ get_set ps c k (place_after o.act) (slice_get_within ps c p got)
+            ∙ ap (λ (x : Option Place). cond (k == c) (Some (place_after o.act)) x) (s.places k)
+            ∙ changed (k == c) (nat_lt k (cores b)) (place_after o.act) (place past k) (λ t. ap (λ
             (x : ℕ). nat_lt x (cores b)) (eqb-true k c t) ∙ on.0);
         messages = counted ∙ total ∙ ap (λ (x : ℕ). x + count_of o.message) s.messages
             ∙ ap (λ (x : ℕ). sent_count past + x) (sym sends);
