@@ -5,7 +5,8 @@ use Rattle.psci_bench.specs.declared.fault.ReplayFault.{ReplayFault}
 use Rattle.psci_bench.specs.declared.fault.ReplayFault.TheVariants.{Script, Board, Read, Write, Memory}
 use Rattle.psci_bench.specs.Answered.{Answered}
 use Rattle.psci_bench.specs.Block.{ReadAhead, Refills}
-use Rattle.psci_bench.specs.Progress.{Progress, progress, Ahead, WriteFailed, ReadFailed, ReadsAhead, FailsAhead}
+use Rattle.psci_bench.specs.declared.progress.Progress.{Progress as Fields}
+use Rattle.psci_bench.specs.Progress.{Progress, progress, SameDevices, StaySound, Ahead, WriteFailed, ReadFailed, ReadsAhead, FailsAhead}
 use Rattle.psci_bench.proofs.Known.{appends_more, consumes_more, consumes_keeps}
 
 consumes_none : (a : Option (List ℕ)) → (let none : List ℕ = [] in Consumes a a none)
@@ -15,6 +16,15 @@ consumes_none (Some x) = refl
 appends_none : (a : Option (List ℕ)) → (let none : List ℕ = [] in Appends a a none)
 appends_none None = tt
 appends_none (Some x) = sym (append-nil x)
+
+-- the same devices, and none of them failed, from step to step
+pub same_more : {S K : Type 0} {s t u : Fields S K} → SameDevices s t → SameDevices t u
+    → SameDevices s u
+same_more a b = record { source = b.source ∙ a.source; sink = b.sink ∙ a.sink }
+
+pub sound_more : {S K : Type 0} {s t u : Fields S K} (f : S → Bool) (h : K → Bool)
+    → StaySound f h s t → StaySound f h t u → StaySound f h s u
+sound_more f h a b = record { source = b.source ∙ a.source; sink = b.sink ∙ a.sink }
 
 pub ahead_none : (s : Progress) → Ahead s s
 ahead_none s = record {

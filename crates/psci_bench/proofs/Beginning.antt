@@ -195,11 +195,7 @@ begun says b first before block left taken answered e text k i l v = record {
   lines = λ f. whole_line [] e block i f;
 }
 
-pub open_as : (block : ReadAhead) (answered : Answered) (first before : Option (List ℕ)) (P : Progress
-    → Type 0) → block ≡ record { unread = []; ended = false } → answered ≡ record {
-      waiting = [];
-      events = 0;
-    } → P (progress block first answered before) → P (opened first before)
-open_as block answered first before P e f p =
-    subst (λ (a : Answered). P (progress (record { unread = []; ended = false }) first a before)) f
-    (subst (λ (b : ReadAhead). P (progress b first answered before)) e p)
+
+-- the bytes that wait have room in the block
+pub room_of : {x y : List ℕ} → x ≡ y → length x ≤ 65536 → length y ≤ 65536
+room_of e h = subst (λ (z : List ℕ). length z ≤ 65536) e h

@@ -1,5 +1,5 @@
 -- What a replay leaves, when the last answers were written too.
-use Rattle.std.proofs.Common.{◌≡◌, ℕ, Bool, true, false, List, [], ◌++◌, length, take, drop, refl, ap, sym, ◌∙◌, append_assoc, append-nil, subst, Option, Some, None, Result, Ok, Err, IsErr, IsErrAnd, IfErr, inl}
+use Rattle.std.proofs.Common.{arith, ◌≡◌, ℕ, Bool, true, false, List, [], ◌++◌, length, take, drop, refl, ap, sym, ◌∙◌, append_assoc, append-nil, subst, Option, Some, None, Result, Ok, Err, IsErr, IsErrAnd, IfErr, inl}
 use Rattle.std.proofs.Math.Seq.{take-append_seam}
 use Rattle.std.specs.Io.KnownBytes.{Appends, Consumes, IsAtEnd}
 use Rattle.psci_bench.specs.declared.fault.Replayed.{Replayed}
@@ -196,7 +196,7 @@ nothing_done says first before = record {
   count = 0;
   sound = inl (refl, refl);
   part = [];
-  fits = tt;
+  fits = omega arith;
   from = consumes_none first;
   to = subst (λ (x : List ℕ). Appends before before x)
       (sym (ap (λ (r : Transcript). r.text) (transcript_is says [] ∙ ap (transcript_of_lines says) lines_none)))

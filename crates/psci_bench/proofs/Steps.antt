@@ -17,7 +17,7 @@ use Rattle.psci_bench.specs.Line.{line_of}
 use Rattle.psci_bench.specs.Progress.{Progress, progress, IsLine, IsLineFront, FailsLine, FaultyLine, FindsLine}
 use Rattle.psci_bench.specs.Script.{Saying}
 use Rattle.psci_bench.specs.Text.{answer_line}
-use Rattle.psci_bench.specs.Run.{LinesAnswered, Ended, EndsBy, IsWithinBlock, Runs, IsUnderWay, BoardRead, AnswerLeaves, LineAnswered, LineRefused}
+use Rattle.psci_bench.specs.Run.{LinesAnswered, Ended, EndsBy, IsWithinBlock, Runs, IsUnderWay, BoardRead, LineLeaves, LineRefused}
 use Rattle.psci_bench.proofs.Transcripts.{answered_ahead, answered_line, blank_transcript, event_transcript, skipped}
 use Rattle.psci_bench.proofs.Ends.{ends_faulty, ends_line, stopped, failed}
 use Rattle.psci_bench.proofs.Beginning.{Fresh, opened, fresh_ahead, fresh_long, fresh_script, fresh_board, fresh_stopped, fresh_failed}
@@ -52,16 +52,16 @@ begins_not Write says first before t h = fresh_failed says first before t h
 begins_not Memory says first before t h = absurd h
 
 pub board_not : (e : ReplayFault) (says : Saying) (first before : Option (List ℕ)) (t : Progress)
-    (x : Extent) → Fresh first before t → IsLine x t.block
+    (x : Extent) → length t.block.unread ≤ 65536 → Fresh first before t → IsLine x t.block
     → BoardRead (Err e) (take x.line t.block.unread) → EndsBy says e first before t
-board_not (Script l fault) says first before t x k i h =
+board_not (Script l fault) says first before t x m k i h =
     subst (λ (n : ℕ). Ended says (Err (Script n fault)) first before t) (sym h.0)
     (fresh_script says first before t x fault k i h.1)
-board_not (Board fault) says first before t x k i h =
+board_not (Board fault) says first before t x m k i h =
     fresh_board says first before t x fault h.0 k i h.1 h.2
-board_not Read says first before t x k i h = absurd h
-board_not Write says first before t x k i h = absurd h
-board_not Memory says first before t x k i h = fresh_stopped says IsWithinBlock first before t k tt
+board_not Read says first before t x m k i h = absurd h
+board_not Write says first before t x m k i h = absurd h
+board_not Memory says first before t x m k i h = fresh_stopped says IsWithinBlock first before t k m
 
 -- A later line --------------------------------------------------------------------------------
 
@@ -83,32 +83,32 @@ same_answers says b past n first before block left taken old new e k =
 
 pub line_not : (f : ReplayFault) (says : Saying) (b : BoardValue) (past : List Record) (n : ℕ)
     (first before : Option (List ℕ)) (block : ReadAhead) (left taken : Option (List ℕ))
-    (old new : Answered) (e : Extent) → n < 1000000 → IsLine e block
+    (old new : Answered) (e : Extent) → length block.unread ≤ 65536 → n < 1000000 → IsLine e block
     → LinesAnswered says b past n first before (progress block left old taken)
-    → LineRefused f (n + 1) (take e.line block.unread) → new ≡ old
+    → LineRefused f (n + 1) (line_of (take e.line block.unread)) → new ≡ old
     → EndsBy says f first before (progress block left new taken)
-line_not (Script l fault) says b past n first before block left taken old new e h i k x a =
-    subst (λ (m : ℕ). Ended says (Err (Script m fault)) first before (progress block left new taken))
+line_not (Script l fault) says b past n first before block left taken old new e m h i k x a =
+    subst (λ (w : ℕ). Ended says (Err (Script w fault)) first before (progress block left new taken))
     (sym x.0)
     (subst (λ (y : ScriptFault). Ended says (Err (Script (n + 1) y)) first before
     (progress block left new taken)) (sym x.1)
     (ends_line says b past n first before (progress block left new taken) e
     (same_answers says b past n first before block left taken old new a k) i (omega arith)
     (line_short e block i) x.2))
-line_not (Board fault) says b past n first before block left taken old new e h i k x a = absurd x
-line_not Read says b past n first before block left taken old new e h i k x a = absurd x
-line_not Write says b past n first before block left taken old new e h i k x a = absurd x
-line_not Memory says b past n first before block left taken old new e h i k x a =
+line_not (Board fault) says b past n first before block left taken old new e m h i k x a = absurd x
+line_not Read says b past n first before block left taken old new e m h i k x a = absurd x
+line_not Write says b past n first before block left taken old new e m h i k x a = absurd x
+line_not Memory says b past n first before block left taken old new e m h i k x a =
     stopped says IsWithinBlock b past n first before (progress block left new taken)
     (same_answers says b past n first before block left taken old new a k)
-    (λ t. line_some e block i) tt
+    (λ t. line_some e block i) m
 
 line_said_goes : (o : Option LineSays) (says : Saying) (is_after : BoardValue → List Record → Type 0)
     (b : BoardValue) (past : List Record) (n : ℕ) (first before : Option (List ℕ))
     (block : ReadAhead) (left taken : Option (List ℕ)) (old new : Answered) (e : Extent)
     → line_of (take e.line block.unread) ≡ o → n < 1000000 → length past ≤ n → IsLine e block
     → LinesAnswered says b past n first before (progress block left old taken)
-    → AnswerLeaves says is_after b past o old new
+    → LineLeaves says is_after b past o old new
     → IsUnderWay says is_after (n + 1) first before (progress (skipped block e) left new taken)
 line_said_goes None says is_after b past n first before block left taken old new e o h m i k x =
     absurd x
@@ -149,7 +149,7 @@ pub line_goes : (says : Saying) (is_after : BoardValue → List Record → Type 
     (past : List Record) (n : ℕ) (first before : Option (List ℕ)) (block : ReadAhead)
     (left taken : Option (List ℕ)) (old new : Answered) (e : Extent) → n < 1000000 → length past ≤ n
     → IsLine e block → LinesAnswered says b past n first before (progress block left old taken)
-    → LineAnswered says is_after b past (take e.line block.unread) old new
+    → LineLeaves says is_after b past (line_of (take e.line block.unread)) old new
     → IsUnderWay says is_after (n + 1) first before (progress (skipped block e) left new taken)
 line_goes says is_after b past n first before block left taken old new e h m i k x =
     line_said_goes (line_of (take e.line block.unread)) says is_after b past n first before block left
@@ -161,7 +161,7 @@ later_faulty : (l : ℕ) (says : Saying) (b : BoardValue) (past : List Record) (
     → LinesAnswered says b past n first before t → l ≡ n + 1 → FaultyLine (n + 1) fault t
     → Ended says (Err (Script l fault)) first before t
 later_faulty l says b past n first before t fault k e h =
-    subst (λ (m : ℕ). Ended says (Err (Script m fault)) first before t) (sym e)
+    subst (λ (w : ℕ). Ended says (Err (Script w fault)) first before t) (sym e)
     (ends_faulty says b past n first before t fault k h)
 
 pub goes_not : (f : ReplayFault) (says : Saying) (b : BoardValue) (past : List Record) (n : ℕ)

@@ -2,13 +2,14 @@
 use Rattle.std.specs.Prelude.{◌≡◌, ℕ, ◌<◌, Bool, true, false, List, [], ◌++◌, length, Option}
 use Rattle.std.specs.Io.KnownBytes.{Consumes, IsAtEnd}
 
+-- what was read ahead
 pub record ReadAhead : Type 0 where
   -- the bytes that were read and not yet taken
   pub unread : List ℕ
   -- the end of the script has come
   pub ended : Bool
 
--- bytes came from what was left, and stand behind those that waited; none came only at the end
+-- bytes came from what was left, and stand after those that waited; none came only at the end
 pub record Refills (some : Bool) (old new : ReadAhead) (left after : Option (List ℕ)) : Type 0 where
   pub bytes : List ℕ
   pub appended : new.unread ≡ old.unread ++ bytes

@@ -1,6 +1,9 @@
 -- What one read or write leaves, by its answer.
 use Rattle.std.specs.Prelude.{◌≡◌, ℕ, ◌+◌, ◌<◌, ◌≤◌, ◌||◌, ◌&&◌, min, List, length, take, Bool, true, ◌⊎◌, nat_lt, ◌==◌, Option, ⊤}
 use Rattle.std.specs.Io.KnownBytes.{Appends, Consumes, Keeps, IsAtEnd}
+use Rattle.std.specs.declared.io.ErrorKind.{ErrorKind}
+use Rattle.std.specs.declared.io.ErrorKind.TheVariants as kinds
+use Rattle.psci_bench.specs.Limits.{most_interruptions}
 use Rattle.psci_bench.specs.declared.device.Io.{Io}
 use Rattle.psci_bench.specs.declared.device.Io.TheVariants.{Bytes, Interrupted, Failed}
 
@@ -18,21 +21,19 @@ Takes (Bytes n) bytes old new = (n ≤ length bytes) × Appends old new (take n 
 Takes Interrupted bytes old new = Keeps old new
 Takes Failed bytes old new = Keeps old new
 
+-- whether the device has failed after a read
 abbrev pub FailsRead : Io → Bool → Bool → Type 0
 FailsRead (Bytes n) old new = new ≡ old
 FailsRead Interrupted old new = new ≡ old
 FailsRead Failed old new = new ≡ true
 
--- a write that takes none of some bytes has failed
+-- the same after a write: one that takes none of some bytes has failed
 abbrev pub FailsWrite : Io → List ℕ → Bool → Bool → Type 0
 FailsWrite (Bytes n) bytes old new = new ≡ (old || (n == 0 && nat_lt 0 (length bytes)))
 FailsWrite Interrupted bytes old new = new ≡ old
 FailsWrite Failed bytes old new = new ≡ true
 
--- the limit of interruptions in a row
-abbrev pub most_interruptions : ℕ
-most_interruptions = 1000
-
+-- the present row of interruptions, counted to its limit
 abbrev pub Interrupts : Io → ℕ → ℕ → Type 0
 Interrupts (Bytes n) old new = new ≡ 0
 Interrupts Interrupted old new = new ≡ min most_interruptions (old + 1)
@@ -42,8 +43,9 @@ Interrupts Failed old new = ⊤
 abbrev pub GaveUp : Bool → ℕ → Type 0
 GaveUp failed interruptions = (failed ≡ true) ⊎ (interruptions ≡ most_interruptions)
 
--- an answer that no byte went with
-abbrev pub Stops : Io → Bool → Bool → ℕ → ℕ → Type 0
-Stops (Bytes n) old new before after = ⊥
-Stops Interrupted old new before after = (new ≡ old) × (after ≡ min most_interruptions (before + 1))
-Stops Failed old new before after = new ≡ true
+-- an answer that no byte went with: Interrupted exactly where the error is of that kind
+abbrev pub Stops : ErrorKind → Io → Bool → Bool → ℕ → ℕ → Type 0
+Stops kind (Bytes n) old new before after = ⊥
+Stops kind Interrupted old new before after =
+    (kind ≡ kinds.Interrupted) × (new ≡ old) × (after ≡ min most_interruptions (before + 1))
+Stops kind Failed old new before after = ¬ (kind ≡ kinds.Interrupted) × (new ≡ true)

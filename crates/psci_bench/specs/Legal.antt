@@ -36,6 +36,7 @@ abbrev pub call_in : Event → FwCall
 call_in (Call core registers) = calls.Smc registers
 call_in (Enter core) = calls.Enter first_start
 
+-- the outcome that is said
 abbrev pub outcome_in : Act → Option Sent → Outcome
 outcome_in act sent = record { act = act; message = option_map (λ s. s.message) sent }
 
@@ -53,10 +54,12 @@ history (r ∷ past) = with_entry r.event r.said (history past)
 
 -- Messages -------------------------------------------------------------------------------------
 
+-- how many values there are
 abbrev pub count_of : {A : Type 0} → Option A → ℕ
 count_of None = 0
 count_of (Some x) = 1
 
+-- the message that was sent
 abbrev pub sent_in : Said → Option Sent
 sent_in (Fw act sent) = sent
 sent_in Ignored = None

@@ -1,4 +1,4 @@
--- A firmware, with where each core is, stands where a past has left it.
+-- A firmware, with where each core is, after a past.
 use Rattle.std.specs.Prelude.{◌≡◌, ℕ, ◌<◌, ◌^◌, nat_lt, if◌then◌else◌, Option, None, Some, List, slice_get, option_map}
 use Rattle.psci_board.specs.Board.{BoardValue, cores}
 use Rattle.psci_board.specs.declared.node.Core.{Core}
@@ -19,6 +19,7 @@ located ps c =
     then option_map (λ p. (record { number = c }, p)) (slice_get ps c)
     else None
 
+-- the firmware, the places and the number of messages are those after the past
 pub record MachineAfter (b : BoardValue) (past : List Record) (f : FirmwareValue) (ps : List Place)
     (n : ℕ) : Type 0 where
   pub board : f.board ≡ b

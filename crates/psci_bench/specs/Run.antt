@@ -11,19 +11,19 @@ use Rattle.psci_bench.specs.declared.grammar.Line.{Line as LineSays}
 use Rattle.psci_bench.specs.declared.grammar.Line.TheVariants.{Blank, Event as Says}
 use Rattle.psci_bench.specs.Answered.{Answered}
 use Rattle.psci_bench.specs.Block.{ReadAhead}
-use Rattle.psci_bench.specs.Line.{line_of}
 use Rattle.psci_bench.specs.Text.{answer_line}
 use Rattle.psci_bench.specs.declared.said.Record.{Record}
+use Rattle.psci_bench.specs.Limits.{block_room}
 use Rattle.psci_bench.specs.Lines.{lines, AreWhole}
 use Rattle.psci_bench.specs.Progress.{Progress, IsLineFront}
 use Rattle.psci_bench.specs.Script.{Saying, after_line, transcript, transcript_of_rest, board_line}
 
--- what may follow the lines that were taken: anything, but behind the end only what was read
+-- what may follow the lines that were taken: anything, but after the end only what was read
 abbrev pub Follows : ReadAhead → List ℕ → Type 0
 Follows block rest = block.ended ≡ true → (n : ℕ) × (rest ≡ take n block.unread)
 
 -- So many lines were taken, and answered by these records: whatever follows is answered as the
--- lines that are left, behind what was answered.
+-- lines that are left, after what was answered.
 pub record LinesAnswered (says : Saying) (b : BoardValue) (past : List Record) (count : ℕ)
     (first : Option (List ℕ)) (before : Option (List ℕ)) (s : Progress) : Type 0 where
   -- the bytes of the lines that were taken
@@ -33,16 +33,16 @@ pub record LinesAnswered (says : Saying) (b : BoardValue) (past : List Record) (
   -- the answers that were written
   pub written : List ℕ
   pub to : Appends before s.taken written
-  pub answers : (rest : List ℕ) → Follows s.block rest → transcript says (whole ++ rest)
-      ≡ after_line (written ++ s.answered.waiting) (transcript_of_rest says b past count (lines rest))
+  pub answers : (rest : List ℕ) → Follows s.block rest
+      → transcript says (whole ++ rest) ≡ after_line (written ++ s.answered.waiting)
+      (transcript_of_rest says b past count (lines rest))
   pub events : s.answered.events ≡ length past
   -- only the last line of a script may have no line feed
   pub lines : (s.block.ended ≡ true → 0 < length s.block.unread) → AreWhole whole
 
 -- The script came to an end, or to its first fault.
 pub record Ended (says : Saying) (end : Result Replayed ReplayFault)
-    (first before : Option (List ℕ))
-    (s : Progress) : Type 0 where
+    (first before : Option (List ℕ)) (s : Progress) : Type 0 where
   -- the bytes that were read
   pub read : List ℕ
   pub from : Consumes first s.left read
@@ -56,27 +56,28 @@ pub record Ended (says : Saying) (end : Result Replayed ReplayFault)
 abbrev pub AreSound : Saying → ℕ → List ℕ → Type 0
 AreSound says count bytes =
     ((count ≡ 0) × (bytes ≡ []))
-    ⊎ ((events : ℕ) × ((transcript says bytes).end ≡ Ok (record { lines = count; events = events })))
+    ⊎ ((events : ℕ)
+    × ((transcript says bytes).end ≡ Ok (record { lines = count; events = events })))
 
--- whatever was read behind the lines before that of number n
+-- what was read ahead after the lines before that of number n: one block at most
 abbrev pub IsWithinBlock : ℕ → List ℕ → Type 0
-IsWithinBlock n part = ⊤
+IsWithinBlock n part = length part ≤ block_room
 
--- A read failed or memory ran out behind whole lines, which are answered.
+-- A read failed or memory ran out after whole lines, which are answered.
 pub record CutShort (says : Saying) (Rest : ℕ → List ℕ → Type 0) (first before : Option (List ℕ))
     (s : Progress) : Type 0 where
   pub whole : List ℕ
   pub lines : AreWhole whole
   pub count : ℕ
   pub sound : AreSound says count whole
-  -- what was read behind them
+  -- what was read after them
   pub part : List ℕ
   pub fits : Rest (count + 1) part
   pub from : Consumes first s.left (whole ++ part)
   pub at_end : s.block.ended ≡ true → IsAtEnd s.left
   pub written : List ℕ
   pub to : Appends before s.taken written
-  -- whatever follows is answered behind them
+  -- whatever follows is answered after them
   pub more : (rest : List ℕ) → (s.block.ended ≡ true → rest ≡ []) → (text : List ℕ)
       × ((transcript says ((whole ++ part) ++ rest)).text ≡ (written ++ s.answered.waiting) ++ text)
   pub transcript : (transcript says whole).text ≡ written ++ s.answered.waiting
@@ -101,6 +102,7 @@ EndsBy says Read first before s = CutShort says IsLineFront first before s
 EndsBy says Memory first before s = CutShort says IsWithinBlock first before s
 EndsBy says Write first before s = Unwritten says first before s.left s.taken
 
+-- what a run leaves, by how it ended
 abbrev pub Runs : Saying → Result Replayed ReplayFault → Option (List ℕ) → Option (List ℕ) → Progress
     → Type 0
 Runs says (Ok replayed) first before s = Ended says (Ok replayed) first before s
@@ -113,17 +115,14 @@ IsUnderWay says is_after count first before s =
     (b : BoardValue) × (past : List Record) × is_after b past × (length past ≤ count)
     × LinesAnswered says b past count first before s
 
-abbrev pub names_write : ReplayFault → Bool
-names_write (Script line fault) = false
-names_write (Board fault) = false
-names_write Read = false
-names_write Write = true
-names_write Memory = false
-
 -- a write failed
 abbrev pub is_write_fault : Result Replayed ReplayFault → Bool
 is_write_fault (Ok replayed) = false
-is_write_fault (Err fault) = names_write fault
+is_write_fault (Err (Script line fault)) = false
+is_write_fault (Err (Board fault)) = false
+is_write_fault (Err Read) = false
+is_write_fault (Err Write) = true
+is_write_fault (Err Memory) = false
 
 -- Of a replay ---------------------------------------------------------------------------------
 
@@ -140,7 +139,7 @@ pub record AnswersLines (says : Saying) (Rest : ℕ → List ℕ → Type 0)
   pub lines : AreWhole whole
   pub count : ℕ
   pub sound : AreSound says count whole
-  -- what was read behind them
+  -- what was read after them
   pub part : List ℕ
   pub fits : Rest (count + 1) part
   pub from : Consumes first left (whole ++ part)
@@ -176,35 +175,32 @@ BoardRead (Err Read) line = ⊥
 BoardRead (Err Write) line = ⊥
 
 -- what the first line leaves
-abbrev pub HasBegun : Saying → (BoardValue → List Record → Type 0) → Option (List ℕ) → Option (List ℕ)
-    → Progress → Type 0
+abbrev pub HasBegun : Saying → (BoardValue → List Record → Type 0) → Option (List ℕ)
+    → Option (List ℕ) → Progress → Type 0
 HasBegun says is_after first before s =
     (b : BoardValue) × is_after b [] × LinesAnswered says b [] 1 first before s
 
-abbrev pub AnswerLeaves : Saying → (BoardValue → List Record → Type 0) → BoardValue → List Record
+-- what a line leaves that is answered, by what it says
+abbrev pub LineLeaves : Saying → (BoardValue → List Record → Type 0) → BoardValue → List Record
     → Option LineSays → Answered → Answered → Type 0
-AnswerLeaves says is_after b past None old new = ⊥
-AnswerLeaves says is_after b past (Some Blank) old new = is_after b past × (new ≡ old)
-AnswerLeaves says is_after b past (Some (Says event)) old new =
+LineLeaves says is_after b past None old new = ⊥
+LineLeaves says is_after b past (Some Blank) old new = is_after b past × (new ≡ old)
+LineLeaves says is_after b past (Some (Says event)) old new =
     is_after b (record { event = event; said = says b past event } ∷ past)
     × (new ≡ record {
       waiting = old.waiting ++ answer_line (length past + 1) (says b past event);
       events = length past + 1;
     })
 
--- what a line leaves that is answered
-abbrev pub LineAnswered : Saying → (BoardValue → List Record → Type 0) → BoardValue → List Record
-    → List ℕ → Answered → Answered → Type 0
-LineAnswered says is_after b past line old new = AnswerLeaves says is_after b past (line_of line) old new
-
 -- why a line is not answered: it is outside the grammar, or memory ran out
-abbrev pub LineRefused : ReplayFault → ℕ → List ℕ → Type 0
+abbrev pub LineRefused : ReplayFault → ℕ → Option LineSays → Type 0
 LineRefused Memory number line = Unit {0}
-LineRefused (Script n fault) number line = (n ≡ number) × (fault ≡ Line) × (line_of line ≡ None)
+LineRefused (Script n fault) number line = (n ≡ number) × (fault ≡ Line) × (line ≡ None)
 LineRefused (Board fault) number line = ⊥
 LineRefused Read number line = ⊥
 LineRefused Write number line = ⊥
 
+-- a fault of the script or of memory, and of no device
 abbrev pub IsNoDevice : ReplayFault → Type 0
 IsNoDevice Memory = Unit {0}
 IsNoDevice (Script n fault) = Unit {0}

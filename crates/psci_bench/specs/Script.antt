@@ -14,6 +14,7 @@ use Rattle.psci_bench.specs.declared.fault.ScriptFault.TheVariants.{NoBoard, Lin
 use Rattle.psci_bench.specs.declared.fault.ReplayFault.{ReplayFault}
 use Rattle.psci_bench.specs.declared.fault.ReplayFault.TheVariants.{Script, Board}
 use Rattle.psci_bench.specs.declared.said.Record.{Record}
+use Rattle.psci_bench.specs.Limits.{longest_line, most_lines}
 use Rattle.psci_bench.specs.Line.{line_of}
 use Rattle.psci_bench.specs.Lines.{lines}
 use Rattle.psci_bench.specs.Text.{answer_line}
@@ -22,15 +23,18 @@ use Rattle.psci_bench.specs.Text.{answer_line}
 abbrev pub Saying : Type 0
 Saying = BoardValue → List Record → Event → Said
 
+-- what a script is answered
 pub record Transcript : Type 0 where
   -- the answer lines of the events before the first fault
   pub text : List ℕ
   -- the numbers of lines and events, or the first fault
   pub end : Result Replayed ReplayFault
 
+-- nothing was answered before this end
 abbrev pub ends : Result Replayed ReplayFault → Transcript
 ends end = record { text = []; end = end }
 
+-- the same with this text before it
 abbrev pub after_line : List ℕ → Transcript → Transcript
 after_line line t = record { text = line ++ t.text; end = t.end }
 
@@ -39,14 +43,15 @@ after_line line t = record { text = line ++ t.text; end = t.end }
 -- too many lines come first, then a line that is too long
 abbrev pub sized : {A : Type 0} → ℕ → List ℕ → Result A ScriptFault → Result A ScriptFault
 sized number line what =
-    if nat_lt 1000000 number then Err TooMany
-    else (if nat_lt 256 (length line) then Err Long else what)
+    if nat_lt most_lines number then Err TooMany
+    else (if nat_lt longest_line (length line) then Err Long else what)
 
+-- the value, or this fault where there is none
 abbrev pub ok_or : {A : Type 0} → Option A → ScriptFault → Result A ScriptFault
 ok_or None fault = Err fault
 ok_or (Some x) fault = Ok x
 
--- what a line behind the first says, or the first thing that is wrong with it
+-- what a line after the first says, or the first thing that is wrong with it
 abbrev pub line_said : ℕ → List ℕ → Result LineSays ScriptFault
 line_said number line = sized number line (ok_or (line_of line) Line)
 
@@ -56,7 +61,7 @@ board_line line = sized 1 line (ok_or (literal_at (codes "board ") line) NoBoard
 
 -- All lines -------------------------------------------------------------------------------------
 
--- What the line of this number is answered, with the lines behind it: where it is an event, behind
+-- What the line of this number is answered, with the lines after it: where it is an event, after
 -- its own answer line, whose number is that of the records with it.
 abbrev pub transcript_of_line : Saying → BoardValue → List Record → ℕ → Result LineSays ScriptFault
     → (List Record → Transcript) → Transcript
@@ -66,21 +71,24 @@ transcript_of_line says b past number (Ok (Says event)) rest =
     after_line (answer_line (length past + 1) (says b past event))
     (rest (record { event = event; said = says b past event } ∷ past))
 
--- what the lines behind the first so many ones are answered
+-- what the lines after the first so many ones are answered
 unfoldable pub transcript_of_rest : Saying → BoardValue → List Record → ℕ → List (List ℕ) → Transcript
 transcript_of_rest says b past count [] = ends (Ok (record { lines = count; events = length past }))
 transcript_of_rest says b past count (l ∷ ls) =
     transcript_of_line says b past (count + 1) (line_said (count + 1) l)
     (λ records. transcript_of_rest says b records (count + 1) ls)
 
+-- what the lines after the board line are answered, by its board
 abbrev pub transcript_of_board : Saying → Result BoardValue BoardFault → List (List ℕ) → Transcript
 transcript_of_board says (Err fault) ls = ends (Err (Board fault))
 transcript_of_board says (Ok b) ls = transcript_of_rest says b [] 1 ls
 
+-- what all lines are answered, by the board text of the first, and the lines after it
 abbrev pub transcript_of_first : Saying → Result (List ℕ) ScriptFault → List (List ℕ) → Transcript
 transcript_of_first says (Err fault) ls = ends (Err (Script 1 fault))
 transcript_of_first says (Ok text) ls = transcript_of_board says (board_of text) ls
 
+-- what these lines are answered
 abbrev pub transcript_of_lines : Saying → List (List ℕ) → Transcript
 transcript_of_lines says [] = ends (Err (Script 1 NoBoard))
 transcript_of_lines says (l ∷ ls) = transcript_of_first says (board_line l) ls

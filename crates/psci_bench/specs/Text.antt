@@ -13,6 +13,7 @@ use Rattle.psci_bench.specs.declared.said.Said.TheVariants.{Fw, Ignored, Absent}
 abbrev pub hexadecimal : ℕ → List ℕ
 hexadecimal n = codes "0x" ++ digits 16 false n
 
+-- what the core does next
 abbrev pub act_text : Act → List ℕ
 act_text (Return code) = codes "return " ++ signed_decimal code.0
 act_text Stop = codes "stop"
@@ -20,22 +21,26 @@ act_text (Enter address context) =
     codes "enter " ++ (hexadecimal address ++ (codes " " ++ hexadecimal context))
 act_text Resume = codes "resume 0"
 
+-- the word of a kind of message
 abbrev pub kind_text : Kind → List ℕ
 kind_text Down = codes "down"
 kind_text Start = codes "start"
 kind_text Off = codes "off"
 kind_text Reset = codes "reset"
 
+-- a message, with how many were sent before it
 abbrev pub sent_text : Sent → List ℕ
 sent_text s =
     codes "#" ++ (decimal s.index ++ (codes " " ++ (kind_text s.message.kind ++ (codes " "
     ++ (decimal s.message.core.number ++ (codes " life " ++ (decimal s.message.life
     ++ (codes " number " ++ decimal s.message.number))))))))
 
+-- the message after the act, where one was sent
 abbrev pub message_text : Option Sent → List ℕ
 message_text None = []
 message_text (Some sent) = codes " " ++ sent_text sent
 
+-- what is said of an event
 abbrev pub said_text : Said → List ℕ
 said_text (Fw act sent) = act_text act ++ message_text sent
 said_text Ignored = codes "ignored"

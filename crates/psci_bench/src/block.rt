@@ -5,15 +5,14 @@ ghost use Rattle.std.specs.Io.KnownBytes.{Keeps};
 ghost use Rattle.psci_bench.specs.declared.fault.ReplayFault.TheVariants.{Read};
 ghost use Rattle.psci_bench.specs.Block.{Refills};
 ghost use Rattle.psci_bench.specs.Device.{GaveUp};
+ghost use Rattle.psci_bench.specs.Limits.{block_room};
 
 use crate::device::Source;
 use crate::fault::ReplayFault;
+use crate::limits::BLOCK_ROOM;
 use crate::transfer::read_some;
 use std::alloc::{AllocError, Global};
 use std::marker::Model;
-
-/// How many bytes are read at once, at most.
-const ROOM: usize = 65536;
 
 /// Bytes that were read and not yet taken, and whether the end of the script has come.
 #[derive(Drop)]
@@ -27,6 +26,7 @@ pub struct Block {
 impl Model for Block {
     ghost use Rattle.std.specs.Prelude.{◌≡◌, ◌≤◌, length, take, drop};
     ghost use Rattle.psci_bench.specs.Block.{ReadAhead};
+    ghost use Rattle.psci_bench.specs.Limits.{block_room};
 
     ghost Value = { ReadAhead };
 
@@ -37,7 +37,7 @@ impl Model for Block {
     } };
 
     ghost invariant = { λ b. (b.from ≤ b.to) × (b.to ≤ length b.bytes.items)
-        × (length b.bytes.items ≡ 65536) };
+        × (length b.bytes.items ≡ block_room) };
 }
 
 impl Block {
@@ -46,7 +46,7 @@ impl Block {
         ensures { IfOk result (λ block. block ≡ record { unread = []; ended = false }) }
     {
         Ok(Block {
-            bytes: vec![in alloc; 0; ROOM]?,
+            bytes: vec![in alloc; 0; BLOCK_ROOM]?,
             from: 0,
             to: 0,
             ended: false,
@@ -55,7 +55,8 @@ impl Block {
 
     /// The bytes.
     pub fn unread(&self) -> &[u8]
-        ensures { result.now ≡ self.now.unread }
+        ensures bytes { result.now ≡ self.now.unread }
+        ensures room { length result.now ≤ block_room }
     {
         &self.bytes[self.from..self.to]
     }
@@ -68,12 +69,13 @@ impl Block {
         self.from += count;
     }
 
-    /// Reads bytes behind those that are here, and says whether any came. Behind the end of the
+    /// Reads bytes after those that are here, and says whether any came. After the end of the
     /// script it reads nothing.
     pub fn refill<S: Source>(&mut self, source: &mut S) -> Result<bool, ReplayFault>
-        requires { length self.old.unread < 65536 }
+        requires { length self.old.unread < block_room }
         ensures bytes { IfOk result (λ some. Refills some self.old self.new (S.left source.old)
             (S.left source.new)) }
+        ensures sound { OnOk result (S.failed source.new ≡ S.failed source.old) }
         ensures fault { IfErr result (λ fault. fault ≡ Read) }
         ensures kept { OnErr result (Keeps (S.left source.old) (S.left source.new)) }
         ensures waiting { OnErr result (self.new ≡ self.old) }

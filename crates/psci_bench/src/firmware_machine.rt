@@ -124,8 +124,11 @@ impl FirmwareMachine {
 impl Machine for FirmwareMachine {
     ghost use Rattle.psci_bench.specs.Legal.{legal as legal_said};
     ghost use Rattle.psci_bench.specs.MachineAfter.{MachineAfter};
+    ghost use Rattle.std.specs.Prelude.{false};
 
     ghost legal = { legal_said };
+
+    ghost wants_memory = { false };
 
     ghost is_after = { λ m b past. MachineAfter b past m.firmware m.places.items m.messages };
 

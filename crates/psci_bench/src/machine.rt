@@ -1,6 +1,6 @@
 //! What scripts are run on.
 
-ghost use Rattle.std.specs.Prelude.{◌≡◌, ◌^◌, ◌-◌, ◌<◌, List, [], ◌∷◌, length, IfOk, OnErr};
+ghost use Rattle.std.specs.Prelude.{◌≡◌, ◌^◌, ◌-◌, ◌<◌, List, [], ◌∷◌, length, IfOk, OnErr, Bool, true};
 ghost use Rattle.psci_board.specs.Board.{BoardValue};
 ghost use Rattle.psci_bench.specs.declared.said.Record.{Record};
 
@@ -17,8 +17,11 @@ pub trait Machine: Drop {
     /// What is said of an event of this board after these records, the newest first.
     ghost legal: { BoardValue → List Record → Event → Said };
 
-    /// The machine of this board stands where these records have left it.
+    /// The machine is that of this board, after these records.
     ghost is_after: { Self → BoardValue → List Record → Type 0 };
+
+    /// Whether a step may want memory.
+    ghost wants_memory: { Bool };
 
     /// The machine of this board, before any event.
     fn new(alloc: Global, board: Board) -> Result<Self, Memory>
@@ -32,5 +35,6 @@ pub trait Machine: Drop {
             → is_after self.old b past → length past < 2 ^ 64 - 1 → (said ≡ legal b past event)
             × is_after self.new b (record { event = event; said = said } ∷ past)) }
         ensures err { OnErr result ((b : BoardValue) (past : List Record) → is_after self.old b past
-            → is_after self.new b past) };
+            → is_after self.new b past) }
+        ensures wants_memory { OnErr result (wants_memory ≡ true) };
 }

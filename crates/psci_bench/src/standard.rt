@@ -1,9 +1,11 @@
 //! Devices made of the standard library's readers and writers.
 
 ghost use Rattle.std.specs.Prelude.{◌≡◌, false};
+ghost use Rattle.std.specs.IoError.{error_kind};
 ghost use Rattle.psci_bench.specs.Device.{Stops};
 
 use crate::device::{Io, Sink, Source};
+use crate::limits::MOST_INTERRUPTIONS;
 use std::io::{Error, ErrorKind, Read, Write};
 
 /// A reader or a writer as a device.
@@ -37,11 +39,12 @@ impl<T> Std<T> {
 
     /// Notes an interruption or a failure.
     fn stop(&mut self, error: &Error) -> Io
-        ensures { Stops result self.old.failed self.new.failed self.old.interruptions
-            self.new.interruptions × (self.new.inner ≡ self.old.inner) }
+        ensures stops { Stops (error_kind error.now) result self.old.failed self.new.failed
+            self.old.interruptions self.new.interruptions }
+        ensures inner { self.new.inner ≡ self.old.inner }
     {
         if error.kind() == ErrorKind::Interrupted {
-            self.interruptions = self.interruptions.saturating_add(1).min(1000);
+            self.interruptions = self.interruptions.saturating_add(1).min(MOST_INTERRUPTIONS);
             Io::Interrupted
         } else {
             self.failed = true;

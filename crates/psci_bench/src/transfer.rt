@@ -7,9 +7,7 @@ ghost use Rattle.psci_bench.specs.Device.{GaveUp};
 
 use crate::device::{Io, Sink, Source};
 use crate::fault::ReplayFault;
-
-/// Interruptions in a row that are a fault.
-const MOST_INTERRUPTIONS: u32 = 1000;
+use crate::limits::MOST_INTERRUPTIONS;
 
 /// Reads bytes into the front of the buffer: how many came, none only at the end.
 ///

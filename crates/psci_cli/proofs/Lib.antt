@@ -1,1 +1,2 @@
 pub mod CommandRows
+pub mod ExitRows

@@ -7,8 +7,8 @@ returns-in-Some c = whole_cut c.args.bytes.now c.in-Some.length (sym (c.in-Some.
 
 pub returns-in-None : goal.returns-in-None
 returns-in-None c =
-    (c.if-bytes-gt-LONGEST.true, none_cut c.args.bytes.now (sym (c.in-None.ensures {u = tt})))
+    (c.if-bytes-gt-LONGEST_LINE.true, none_cut c.args.bytes.now (sym (c.in-None.ensures {u = tt})))
 
 pub returns-in-None-2 : goal.returns-in-None-2
 returns-in-None-2 c =
-    part_cut c.args.bytes.now (sym (c.in-None.ensures {u = tt})) c.if-bytes-gt-LONGEST.false
+    part_cut c.args.bytes.now (sym (c.in-None.ensures {u = tt})) c.if-bytes-gt-LONGEST_LINE.false

@@ -1,10 +1,6 @@
--- How a run ended is what the replay answers, once the last answers were written too.
-use Rattle.std.proofs.Common.{subst, sym, Err}
-use Rattle.psci_bench.specs.declared.fault.ReplayFault.{ReplayFault}
+-- Where no memory is had for the first room, nothing was done.
 use Rattle.psci_bench.specs.declared.fault.ReplayFault.TheVariants.{Memory}
-use Rattle.psci_bench.specs.Progress.{progress}
-use Rattle.psci_bench.specs.Run.{Replays}
-use Rattle.psci_bench.proofs.Finish.{finish_part, finish_done, finish_failed, replays_so, nothing_done}
+use Rattle.psci_bench.proofs.Finish.{replays_so, nothing_done}
 use Rattle.psci_bench.proofs.run.replay_on.Goals as goal
 
 pub returns-in_err-block-clause-replays : goal.returns-in_err-block-clause-replays
@@ -19,35 +15,3 @@ returns-in_err-answers-clause-replays g c =
     c.from_residual-in_err-answers.ensures
     (nothing_done g.M.Machine.legal (g.S.Source.left c.args.source.now)
     (g.K.Sink.taken c.args.sink.now))
-
-pub returns-then-is_write_fault-clause-replays : goal.returns-then-is_write_fault-clause-replays
-returns-then-is_write_fault-clause-replays g c =
-    let s = progress c.run-ended.new.block (g.S.Source.left c.run-ended.new.source)
-    c.run-ended.new.answers (g.K.Sink.taken c.run-ended.new.sink) in
-    finish_failed c.run-ended.result g.M.Machine.legal (g.S.Source.left c.args.source.now)
-    (g.K.Sink.taken c.args.sink.now) s
-    (sym c.if-is_write_fault.ensures) c.run-ended.ensures.runs
-
-pub returns-in_err-write_to-clause-replays : goal.returns-in_err-write_to-clause-replays
-returns-in_err-write_to-clause-replays g c =
-    let s = progress c.run-ended.new.block (g.S.Source.left c.run-ended.new.source)
-    c.run-ended.new.answers (g.K.Sink.taken c.run-ended.new.sink) in
-    let first = g.S.Source.left c.args.source.now in
-    let before = g.K.Sink.taken c.args.sink.now in
-    let after = g.K.Sink.taken c.write_to.new.sink in
-    let left = g.S.Source.left c.run-ended.new.source in
-    let w = c.in_err-write_to.ensures {u = tt} in
-    replays_so c.from_residual-in_err-write_to.result c.in_err-write_to.field-0.0 g.M.Machine.legal
-    first left before after c.from_residual-in_err-write_to.ensures
-    (subst (λ (e : ReplayFault). Replays g.M.Machine.legal (Err e) first left before after)
-    (sym w.fault)
-    (finish_part c.run-ended.result g.M.Machine.legal first before after s w.front.0
-    (sym c.if-is_write_fault.ensures) c.run-ended.ensures.runs w.front.1))
-
-pub returns-clause-replays : goal.returns-clause-replays
-returns-clause-replays g c =
-    let s = progress c.run-ended.new.block (g.S.Source.left c.run-ended.new.source)
-    c.run-ended.new.answers (g.K.Sink.taken c.run-ended.new.sink) in
-    finish_done c.run-ended.result g.M.Machine.legal (g.S.Source.left c.args.source.now)
-    (g.K.Sink.taken c.args.sink.now) (g.K.Sink.taken c.write_to.new.sink) s
-    (sym c.if-is_write_fault.ensures) c.run-ended.ensures.runs (c.in_ok-write_to.ensures {u = tt}).written
