@@ -1,16 +1,2 @@
-pub mod Ahead
-pub mod BootCore
 pub mod CommandRows
-pub mod Cutting
-pub mod Finding
-pub mod Known
-pub mod Moved
-pub mod Places
-pub mod ScriptRows
-pub mod Stands
-pub mod Split
-pub mod Told
-pub mod Ends
-pub mod Begins
-pub mod Steps
-pub mod Finish
+pub mod ExitRows

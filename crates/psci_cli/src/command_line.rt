@@ -3,15 +3,15 @@
 ghost use Rattle.std.specs.Prelude.{◌≡◌, ◌⊎◌, IfOk, IfErr, map, string_bytes, Ok, Err};
 ghost use Rattle.clap.specs.Words.{FailsBy, app_of, fault_of, kind_of};
 ghost use Rattle.clap.specs.declared.error.kind.ErrorKind.TheVariants.{OutOfMemory};
-ghost use Rattle.psci_cli.specs.declared.fault.ReplayFault.TheVariants.{Memory, Write};
+ghost use Rattle.psci_bench.specs.declared.fault.ReplayFault.TheVariants.{Memory, Write};
 ghost use Rattle.psci_cli.specs.declared.command_line.Request.TheVariants.{Replay, Nothing};
 ghost use Rattle.psci_cli.specs.declared.exit.Failure.TheVariants.{CommandLine};
 ghost use Rattle.psci_cli.specs.Commands.{AsksHelp, IsUnheard, IsWordless, program};
 
 use crate::exit::Failure;
-use crate::fault::ReplayFault;
 use clap::Command;
 use clap::error::{Error, ErrorKind};
+use psci_bench::ReplayFault;
 use std::alloc::{AllocError, Global};
 use std::rt::Env;
 use std::{env, io};

@@ -1,0 +1,15 @@
+pub mod Ahead
+pub mod Beginning
+pub mod BootCore
+pub mod Cutting
+pub mod Ends
+pub mod Finding
+pub mod Finish
+pub mod Known
+pub mod MachineSteps
+pub mod Moved
+pub mod Places
+pub mod ScriptRows
+pub mod Split
+pub mod Steps
+pub mod Transcripts
