@@ -7,11 +7,11 @@ use Rattle.std.proofs.lemmas.Bool.{cases_eq, eq-eqb, ne_eqb, eqb-true}
 use Rattle.std.proofs.lemmas.List.{get_or-set_same, get_or-set_other, get_or-replicate}
 use Rattle.std.proofs.lemmas.List.{length-replicate, get_or-map, length-map, drop_all}
 use Rattle.psci_board.specs.declared.node.Node.{Node}
-use Rattle.psci_board.specs.Board.{group_of, IsTree, size_below, place_above}
-use Rattle.psci_tree.specs.Recount.{TreeValue, never_started, granted_at}
-use Rattle.psci_tree.specs.Recount.{sizes, HasDomain, IsDomainTree}
-use Rattle.psci_tree.specs.Changes.{with_core, with_path_on, zero_up}
-use Rattle.psci_tree.specs.Changes.{with_grant, rows_of, all_off, MayGrant}
+use Rattle.psci_board.specs.Board.{group_of, IsTree, HasNodeIn, size_below, place_above}
+use Rattle.psci_tree.specs.Recount.{TreeValue, IsActivity, never_started, granted_at}
+use Rattle.psci_tree.specs.Recount.{level_sizes, IsDomainTree}
+use Rattle.psci_tree.specs.Changes.{with_core_state, with_path_cleared, path_cleared}
+use Rattle.psci_tree.specs.Changes.{with_grant, rows_with_depth, all_off, MayGrant}
 use Rattle.psci_tree.specs.declared.state.CoreState.{CoreState}
 use Rattle.psci_tree.specs.declared.state.Activity.{Activity}
 use Rattle.psci_tree.proofs.Places.{group_below}
@@ -51,7 +51,7 @@ above_top (suc l) i = refl
 
 -- what is granted after nothing is granted on a path any more
 pub zero_at : (levels gs : List (List ℕ)) (i l p : ℕ)
-    → get_or (get_or (zero_up levels i gs) l []) p 0
+    → get_or (get_or (path_cleared levels i gs) l []) p 0
     ≡ cond (place_above levels l i == p) 0 (get_or (get_or gs l []) p 0)
 zero_at levels [] i l p = zero_either (place_above levels l i == p)
 zero_at [] (g ∷ gs) i zero p = at_set_zero g i p
@@ -61,15 +61,15 @@ zero_at (w ∷ ws) (g ∷ gs) i zero p = at_set_zero g i p
 zero_at (w ∷ ws) (g ∷ gs) i (suc l) p = zero_at ws gs (group_of w i) l p
 
 pub zero_lengths : (levels gs : List (List ℕ)) (i : ℕ)
-    → map length (zero_up levels i gs) ≡ map length gs
+    → map length (path_cleared levels i gs) ≡ map length gs
 zero_lengths levels [] i = refl
 zero_lengths [] (g ∷ gs) i = rw (length-set g i 0) (ap (λ xs. length g ∷ xs) (zero_lengths [] gs i))
 zero_lengths (w ∷ ws) (g ∷ gs) i =
     rw (length-set g i 0) (ap (λ xs. length g ∷ xs) (zero_lengths ws gs (group_of w i)))
 
 zero_top : (gs : List (List ℕ)) (l i : ℕ) → l < length gs
-    → take (suc l) (set gs l (set (get_or gs l []) i 0)) ++ zero_up [] i (drop (suc l)
-    (set gs l (set (get_or gs l []) i 0))) ≡ take l gs ++ zero_up [] i (drop l gs)
+    → take (suc l) (set gs l (set (get_or gs l []) i 0)) ++ path_cleared [] i (drop (suc l)
+    (set gs l (set (get_or gs l []) i 0))) ≡ take l gs ++ path_cleared [] i (drop l gs)
 zero_top [] l i h = absurd (omega arith)
 zero_top (g ∷ gs) zero i h = refl
 zero_top (g ∷ gs) (suc l) i h = ap (λ xs. g ∷ xs) (zero_top gs l i (omega arith))
@@ -77,9 +77,9 @@ zero_top (g ∷ gs) (suc l) i h = ap (λ xs. g ∷ xs) (zero_top gs l i (omega a
 -- one more level, as a loop upwards takes it
 pub zero_more : (levels gs : List (List ℕ)) (l i : ℕ) → l < length gs
     → take (suc l) (set gs l (set (get_or gs l []) i 0))
-    ++ zero_up (drop (suc l) levels) (place_above (drop l levels) 1 i)
+    ++ path_cleared (drop (suc l) levels) (place_above (drop l levels) 1 i)
     (drop (suc l) (set gs l (set (get_or gs l []) i 0)))
-    ≡ take l gs ++ zero_up (drop l levels) i (drop l gs)
+    ≡ take l gs ++ path_cleared (drop l levels) i (drop l gs)
 zero_more levels [] l i h = absurd (omega arith)
 zero_more [] (g ∷ gs) zero i h = refl
 zero_more (w ∷ ws) (g ∷ gs) zero i h = refl
@@ -130,30 +130,41 @@ place_lt (w ∷ ws) (suc l) c t h i =
     place_lt ws l (group_of w c) t.3 (omega arith) (group_below w ws c t i)
 
 pub size_of_level : (levels : List (List ℕ)) (l : ℕ) → l ≤ length levels
-    → get_or (sizes levels) l 0 ≡ size_below (drop l levels)
+    → get_or (level_sizes levels) l 0 ≡ size_below (drop l levels)
 size_of_level [] zero h = refl
 size_of_level [] (suc l) h = absurd (omega arith)
 size_of_level (w ∷ ws) zero h = refl
 size_of_level (w ∷ ws) (suc l) h = size_of_level ws l (omega arith)
 
-pub length_sizes : (levels : List (List ℕ)) → length (sizes levels) ≡ suc (length levels)
-length_sizes [] = refl
-length_sizes (w ∷ ws) = ap suc (length_sizes ws)
+pub length_level_sizes : (levels : List (List ℕ)) → length (level_sizes levels) ≡ suc (length levels)
+length_level_sizes [] = refl
+length_level_sizes (w ∷ ws) = ap suc (length_level_sizes ws)
 
 -- how long the row of a level is
-pub row_length : (levels gs : List (List ℕ)) (l : ℕ) → map length gs ≡ sizes levels
+pub row_length : (levels gs : List (List ℕ)) (l : ℕ) → map length gs ≡ level_sizes levels
     → l ≤ length levels → length (get_or gs l []) ≡ size_below (drop l levels)
 row_length levels gs l e h =
     let long : length gs ≡ suc (length levels) =
-    sym (length-map gs length) ∙ ap length e ∙ length_sizes levels in
+    sym (length-map gs length) ∙ ap length e ∙ length_level_sizes levels in
     sym (get_or-map length gs l [] 0 (omega arith)) ∙ ap (λ xs. get_or xs l 0) e
     ∙ size_of_level levels l h
 
 -- What holds of every tree -------------------------------------------------------------------
 
+-- what holds of each core holds of each after one was written
+set_keeps : (xs : List CoreState) (i : ℕ) (s : CoreState) → IsActivity s.activity
+    → ((c : ℕ) → IsActivity (get_or xs c never_started).activity) → (c : ℕ)
+    → IsActivity (get_or (set xs i s) c never_started).activity
+set_keeps [] i s a h c = h c
+set_keeps (x ∷ xs) zero s a h zero = a
+set_keeps (x ∷ xs) zero s a h (suc c) = h (suc c)
+set_keeps (x ∷ xs) (suc i) s a h zero = h zero
+set_keeps (x ∷ xs) (suc i) s a h (suc c) = set_keeps xs i s a (λ d. h (suc d)) c
+
 pub core_valid : (t : TreeValue) (core : ℕ) (activity : Activity) (known : ℕ) → IsDomainTree t
-    → IsDomainTree (with_core t core activity known)
-core_valid t core activity known v = record {
+    → IsActivity activity → IsDomainTree (with_core_state t core activity known)
+core_valid t core activity known v a = record {
+  asks = set_keeps t.cores core (record { activity = activity; known = known }) a v.asks;
   tree = v.tree;
   high = v.high;
   cores = length-set t.cores core _ ∙ v.cores;
@@ -171,11 +182,12 @@ zero_both true c x y h e = omega arith
 zero_both false false x y h e = e
 zero_both false true x y h e = absurd (let no : false ≡ true = h refl in cc)
 
-pub path_valid : (t : TreeValue) (core : ℕ) → IsDomainTree t → IsDomainTree (with_path_on t core)
+pub path_valid : (t : TreeValue) (core : ℕ) → IsDomainTree t → IsDomainTree (with_path_cleared t core)
 path_valid t core v = record {
   tree = v.tree;
   high = v.high;
   cores = v.cores;
+  asks = v.asks;
   granted = zero_lengths t.levels t.granted core ∙ v.granted;
   deepest = λ l p. rw (zero_at t.levels t.granted core l p) (zero_le _ _ 3 (v.deepest l p));
   nested = λ c l i h.
@@ -190,13 +202,13 @@ path_valid t core v = record {
 }
 
 -- a granted depth of one domain
-pub grant_at : (t : TreeValue) (n : Node) (depth l p : ℕ) → IsDomainTree t → HasDomain t.levels n
+pub grant_at : (t : TreeValue) (n : Node) (depth l p : ℕ) → IsDomainTree t → HasNodeIn t.levels n
     → granted_at (with_grant t n depth) l p
     ≡ cond (n.level == l && n.place == p) depth (granted_at t l p)
 unfolding with_grant
 grant_at t n depth l p v h =
     let long : length t.granted ≡ suc (length t.levels) =
-    sym (length-map t.granted length) ∙ ap length v.granted ∙ length_sizes t.levels in
+    sym (length-map t.granted length) ∙ ap length v.granted ∙ length_level_sizes t.levels in
     let row : length (get_or t.granted n.level []) ≡ size_below (drop n.level t.levels) =
     row_length t.levels t.granted n.level v.granted h.level in
     elim (cases_eq n.level l) [
@@ -225,7 +237,7 @@ grant_both true false depth x y n f g h = f refl
 grant_both false true depth x y n f g h = g refl
 grant_both false false depth x y n f g h = h
 
-both_tests : (a b : Bool) → (a && b) ≡ true → (a ≡ true) × (b ≡ true)
+pub both_tests : (a b : Bool) → (a && b) ≡ true → (a ≡ true) × (b ≡ true)
 both_tests true b h = (refl, h)
 both_tests false b h = absurd (cc)
 
@@ -234,13 +246,14 @@ is_domain : (n : Node) (l p : ℕ) → (n.level == l && n.place == p) ≡ true
 is_domain n l p h = let e = both_tests (n.level == l) (n.place == p) h in
     (eqb-true _ _ e.0, eqb-true _ _ e.1)
 
-pub grant_valid : (t : TreeValue) (n : Node) (depth : ℕ) → IsDomainTree t → HasDomain t.levels n
+pub grant_valid : (t : TreeValue) (n : Node) (depth : ℕ) → IsDomainTree t → HasNodeIn t.levels n
     → MayGrant t n depth → IsDomainTree (with_grant t n depth)
 unfolding with_grant
 grant_valid t n depth v h may = record {
   tree = v.tree;
   high = v.high;
   cores = v.cores;
+  asks = v.asks;
   granted = row_lengths t.granted n.level n.place depth ∙ v.granted;
   deepest =
       λ l p. rw (grant_at t n depth l p v h) (grant_le _ depth _ 3 may.deepest (v.deepest l p));
@@ -271,8 +284,8 @@ grant_valid t n depth v h may = record {
 
 -- The start of a life ------------------------------------------------------------------------
 
-pub rows_at : (sizes : List ℕ) (l p : ℕ) → p < get_or sizes l 0
-    → ◌≡◌ {A = ℕ} (get_or (get_or (rows_of sizes 3) l []) p 0) 3
+pub rows_at : (level_sizes : List ℕ) (l p : ℕ) → p < get_or level_sizes l 0
+    → ◌≡◌ {A = ℕ} (get_or (get_or (rows_with_depth level_sizes 3) l []) p 0) 3
 rows_at [] l p h = absurd (omega arith)
 rows_at (n ∷ ns) zero p h = get_or-replicate n p 3 0 h
 rows_at (n ∷ ns) (suc l) p h = rows_at ns l p h
@@ -282,44 +295,56 @@ row_le zero p = omega arith
 row_le (suc n) zero = omega arith
 row_le (suc n) (suc p) = row_le n p
 
-rows_le : (sizes : List ℕ) (l p : ℕ) → get_or (get_or (rows_of sizes 3) l []) p 0 ≤ 3
+rows_le : (level_sizes : List ℕ) (l p : ℕ) → get_or (get_or (rows_with_depth level_sizes 3) l []) p 0 ≤ 3
 rows_le [] l p = omega arith
 rows_le (n ∷ ns) zero p = row_le n p
 rows_le (n ∷ ns) (suc l) p = rows_le ns l p
 
-rows_lengths : (sizes : List ℕ) → map length (rows_of sizes 3) ≡ sizes
+rows_lengths : (level_sizes : List ℕ) → map length (rows_with_depth level_sizes 3) ≡ level_sizes
 rows_lengths [] = refl
 rows_lengths (n ∷ ns) = rw (length-replicate {A = ℕ} n 3) (ap (λ xs. n ∷ xs) (rows_lengths ns))
 
 pub full_valid : (levels : List (List ℕ)) (cores : List CoreState) → IsTree levels
     → length levels ≤ 3 → length cores ≡ size_below levels
-    → IsDomainTree (record { levels = levels; cores = cores; granted = rows_of (sizes levels) 3 })
-full_valid levels cores t h e = record {
+    → ((c : ℕ) → IsActivity (get_or cores c never_started).activity) → IsDomainTree (record {
+      levels = levels;
+      cores = cores;
+      granted = rows_with_depth (level_sizes levels) 3;
+    })
+full_valid levels cores t h e a = record {
   tree = t;
   high = h;
   cores = e;
-  granted = rows_lengths (sizes levels);
-  deepest = λ l p. rows_le (sizes levels) l p;
+  asks = a;
+  granted = rows_lengths (level_sizes levels);
+  deepest = λ l p. rows_le (level_sizes levels) l p;
   nested = λ c l i b.
       let inside = place_lt levels l c t (omega arith) i in
-      rw (rows_at (sizes levels) l (place_above levels l c)
+      rw (rows_at (level_sizes levels) l (place_above levels l c)
       (omega (arith, inside, size_of_level levels l (omega arith))))
-      (rows_le (sizes levels) (l + 1) (place_above levels (l + 1) c));
+      (rows_le (level_sizes levels) (l + 1) (place_above levels (l + 1) c));
 }
+
+pub all_idle : (n c : ℕ)
+    → IsActivity (get_or (replicate n never_started) c never_started).activity
+all_idle zero c = tt
+all_idle (suc n) zero = tt
+all_idle (suc n) (suc c) = all_idle n c
 
 pub all_off_valid : (levels : List (List ℕ)) → IsTree levels → length levels ≤ 3
     → IsDomainTree (all_off levels)
 all_off_valid levels t h =
     full_valid levels _ t h (length-replicate (size_below levels) never_started)
+    (all_idle (size_below levels))
 
 -- the row of a domain's level
 pub record RowOf (gs : List (List ℕ)) (n : Node) : Type 0 where
   pub level : n.level < length gs
   pub place : n.place < length (get_or gs n.level [])
 
-pub row_of : (levels gs : List (List ℕ)) (n : Node) → map length gs ≡ sizes levels
-    → HasDomain levels n → RowOf gs n
+pub row_of : (levels gs : List (List ℕ)) (n : Node) → map length gs ≡ level_sizes levels
+    → HasNodeIn levels n → RowOf gs n
 row_of levels gs n e h = record {
-  level = omega (arith, h.level, length-map gs length, ap length e, length_sizes levels);
+  level = omega (arith, h.level, length-map gs length, ap length e, length_level_sizes levels);
   place = omega (arith, h.place, row_length levels gs n.level e h.level);
 }
