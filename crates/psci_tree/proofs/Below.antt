@@ -185,7 +185,8 @@ flat_map_set f (n ∷ ns) (suc i) d m e = ap (λ (x : List ℕ). f n ++ x) (flat
 pub children_roll : (x : Domain-F Domain) → children (roll-Domain x) ≡ x.children.items
 children_roll x = ap (λ (y : Domain-F Domain). y.children.items) (out-roll-Domain x)
 
-widths_zero : (x : Domain-F Domain) → child_counts zero (roll-Domain x) ≡ length x.children.items ∷ []
+widths_zero : (x : Domain-F Domain)
+    → child_counts zero (roll-Domain x) ≡ length x.children.items ∷ []
 widths_zero x = ap (λ (ns : List Domain). length ns ∷ []) (children_roll x)
 
 widths_suc : (k : ℕ) (x : Domain-F Domain)
@@ -206,7 +207,8 @@ widths_with_child n i m each (suc k) =
 
 -- a core's state is no part of its shape
 pub widths_with_core : (n : Domain) (s : CoreState) (k : ℕ)
-    → child_counts k (roll-Domain (record { children = (out-Domain n).children; core = s })) ≡ child_counts k n
+    → child_counts k (roll-Domain (record { children = (out-Domain n).children; core = s }))
+    ≡ child_counts k n
 widths_with_core n s zero = widths_zero _
 widths_with_core n s (suc k) = widths_suc k _
 

@@ -18,7 +18,8 @@ child_count_roll x = ap length (children_roll x)
 pub ends_push : (ns : List Domain) (d : Domain) → sum (map child_count ns) ≡ 0 → child_count d ≡ 0
     → sum (map child_count (ns ++ d ∷ [])) ≡ 0
 ends_push ns d h e =
-    ap sum (map-append child_count ns (d ∷ [])) ∙ sum_by_push (λ x. x) (map child_count ns) (child_count d) ∙ omega arith
+    ap sum (map-append child_count ns (d ∷ []))
+    ∙ sum_by_push (λ x. x) (map child_count ns) (child_count d) ∙ omega arith
 
 -- these domains have the numbers of children of these levels below them
 abbrev pub AreShaped : List Domain → List (List ℕ) → Type 0
@@ -50,7 +51,8 @@ ends_more parents ns k j s e h = ap (λ i. sum (flat_map (child_counts i) parent
 pub shape_of_one : (n : Domain) (levels : List (List ℕ)) → AreShaped (n ∷ []) levels
     → HasShape n levels
 shape_of_one n [] h = tt
-shape_of_one n (w ∷ ws) h = (sym (append-nil (child_counts (length ws) n)) ∙ h.0, shape_of_one n ws h.1)
+shape_of_one n (w ∷ ws) h =
+    (sym (append-nil (child_counts (length ws) n)) ∙ h.0, shape_of_one n ws h.1)
 
 pub whole_of_one : (n : Domain) (levels : List (List ℕ)) → AreShaped (n ∷ []) levels
     → sum (flat_map (child_counts (length levels)) (n ∷ [])) ≡ 0 → IsWhole n levels
@@ -74,10 +76,12 @@ pub children_push : (ps : List Domain) (x : Domain-F Domain)
     → flat_map children (ps ++ roll-Domain x ∷ []) ≡ flat_map children ps ++ x.children.items
 children_push ps x =
     flat_map-append children ps (roll-Domain x ∷ [])
-    ∙ ap (λ ys. flat_map children ps ++ ys) (append-nil (children (roll-Domain x)) ∙ children_roll x)
+    ∙ ap (λ ys. flat_map children ps ++ ys)
+    (append-nil (children (roll-Domain x)) ∙ children_roll x)
 
 pub counts_push : (ps : List Domain) (x : Domain-F Domain)
-    → map child_count (ps ++ roll-Domain x ∷ []) ≡ map child_count ps ++ length x.children.items ∷ []
+    → map child_count (ps ++ roll-Domain x ∷ [])
+    ≡ map child_count ps ++ length x.children.items ∷ []
 counts_push ps x =
     map-append child_count ps (roll-Domain x ∷ [])
     ∙ ap (λ k. map child_count ps ++ k ∷ []) (child_count_roll x)

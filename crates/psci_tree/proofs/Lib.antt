@@ -13,3 +13,4 @@ pub mod Slices
 pub mod Sums
 pub mod UnevenRows
 pub mod Upward
+pub mod Valid

@@ -36,7 +36,8 @@ core_off levels c = filled (size_below levels) c
 
 pub granted_off : (levels : List (List ℕ)) (l p : ℕ) → l ≤ length levels
     → p < size_below (drop l levels) → granted_at (all_off levels) l p ≡ 3
-granted_off levels l p h i = rows_at (level_sizes levels) l p (omega (arith, size_of_level levels l h))
+granted_off levels l p h i =
+    rows_at (level_sizes levels) l p (omega (arith, size_of_level levels l h))
 
 pub cores_off : (levels : List (List ℕ)) → length (all_off levels).cores ≡ size_below levels
 cores_off levels = length-replicate (size_below levels) never_started

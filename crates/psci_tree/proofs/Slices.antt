@@ -36,11 +36,13 @@ down_step zero n =
     flat_map_single (λ m. m) (children n) ∙ map-id (children n) ∙ sym (append-nil (children n))
 down_step (suc k) n = down_in (domains_down (suc k)) (domains_down k) (down_step k) (children n)
 
-widths_in : (f : Domain → List ℕ) (g : Domain → List Domain) → ((n : Domain) → f n ≡ map child_count (g n))
+widths_in : (f : Domain → List ℕ) (g : Domain → List Domain)
+    → ((n : Domain) → f n ≡ map child_count (g n))
     → (ns : List Domain) → flat_map f ns ≡ map child_count (flat_map g ns)
 widths_in f g h [] = refl
 widths_in f g h (n ∷ ns) = ap (λ x. x ++ flat_map f ns) (h n)
-    ∙ ap (λ x. map child_count (g n) ++ x) (widths_in f g h ns) ∙ sym (map-append child_count (g n) (flat_map g ns))
+    ∙ ap (λ x. map child_count (g n) ++ x) (widths_in f g h ns)
+    ∙ sym (map-append child_count (g n) (flat_map g ns))
 
 pub widths_are : (k : ℕ) (n : Domain) → child_counts k n ≡ map child_count (domains_down k n)
 widths_are zero n = refl
@@ -53,7 +55,8 @@ take_past (x ∷ xs) ys k = let e : suc (length xs) + k ≡ suc (length xs + k) 
     rw e (ap (λ zs. x ∷ zs) (take_past xs ys k))
 
 take_down : (p : ℕ) (ns : List Domain)
-    → flat_map children (take p ns) ≡ take (sum (take p (map child_count ns))) (flat_map children ns)
+    → flat_map children (take p ns)
+    ≡ take (sum (take p (map child_count ns))) (flat_map children ns)
 take_down zero ns = refl
 take_down (suc p) [] = refl
 take_down (suc p) (n ∷ ns) =
@@ -140,12 +143,14 @@ length_cores n levels t h =
     ∙ h.ends)
     ∙ size_at n levels 0 (length levels) h (omega arith)
 
-shape_kept : (n m : Domain) (levels : List (List ℕ)) → ((k : ℕ) → child_counts k m ≡ child_counts k n)
+shape_kept : (n m : Domain) (levels : List (List ℕ))
+    → ((k : ℕ) → child_counts k m ≡ child_counts k n)
     → HasShape n levels → HasShape m levels
 shape_kept n m [] same h = tt
 shape_kept n m (w ∷ ws) same h = (same (length ws) ∙ h.0, shape_kept n m ws same h.1)
 
-pub whole_kept : (n m : Domain) (levels : List (List ℕ)) → ((k : ℕ) → child_counts k m ≡ child_counts k n)
+pub whole_kept : (n m : Domain) (levels : List (List ℕ))
+    → ((k : ℕ) → child_counts k m ≡ child_counts k n)
     → IsWhole n levels → IsWhole m levels
 whole_kept n m levels same h = record {
   shape = shape_kept n m levels same h.shape;
@@ -164,7 +169,8 @@ first_len n levels zero k p t h e b =
     let none : sum (map child_count row) ≡ 0 =
     ap sum (sym (widths_are k n)) ∙ ap (λ j. sum (child_counts j n)) same ∙ h.ends in
     let few : sum (map child_count (take p row)) ≡ 0 =
-    ap sum (sym (take-map child_count p row)) ∙ omega (arith, sum_take_le (map child_count row) p) in
+    ap sum (sym (take-map child_count p row))
+    ∙ omega (arith, sum_take_le (map child_count row) p) in
     cores_ends (take p row) few ∙ length-take-le p row b
 first_len n levels (suc l) k p t h e b =
     let row : List Domain = domains_down k n in
@@ -241,7 +247,8 @@ states_at n t at k d laws i h same in' e is =
     ∙ ap (λ x. take (span t.levels at).count (drop (span t.levels at).first x)) (sym same)
     ∙ sym (states_slice t at laws (ap length same ∙ length_cores n t.levels i h) in')
 
-pub few_below : (levels : List (List ℕ)) (n : Node) → IsTree levels → length (below_in levels n) ≤ 64
+pub few_below : (levels : List (List ℕ)) (n : Node) → IsTree levels
+    → length (below_in levels n) ≤ 64
 few_below levels n t =
     omega (
       arith,

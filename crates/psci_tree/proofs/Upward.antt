@@ -1,6 +1,7 @@
 -- A domain as a child of the one above it.
 use Rattle.std.proofs.Common.{◌≡◌, ℕ, zero, suc, ◌+◌, ◌-◌, ◌<◌, List, [], ◌∷◌, length, take, drop}
-use Rattle.std.proofs.Common.{get_or, map, sum, ap, sym, refl, subst, ◌∙◌, arith, add-one, drop-cons}
+use Rattle.std.proofs.Common.{get_or, map, sum, ap, sym, refl, subst, ◌∙◌, arith, add-one}
+use Rattle.std.proofs.Common.{drop-cons}
 use Rattle.std.proofs.Common.{Bool, true, false, cond, ◌&&◌, ltb}
 use Rattle.std.specs.Prelude.{Some, None, unwrap_or}
 use Rattle.std.specs.List.{flat_map}
@@ -14,7 +15,8 @@ use Rattle.psci_board.specs.Board.{height, nodes, parent, child_number, place_ab
 use Rattle.psci_tree.specs.Domains.{children, child_count, domains_down, HasShape}
 use Rattle.psci_tree.specs.declared.domain.Domain.{Domain}
 use Rattle.psci_tree.proofs.Places.{Counted, counted}
-use Rattle.psci_tree.proofs.Granted.{both_tests, tree_drop, parent_is, above_lt}
+use Rattle.psci_tree.proofs.Granted.{tree_drop, parent_is, above_lt}
+use Rattle.psci_tree.proofs.Valid.{both_tests}
 use Rattle.psci_tree.proofs.Slices.{down_step, widths_are}
 
 -- the domain at a place, as a child
@@ -51,7 +53,8 @@ child_at root w ws place t h i = record {
     within : group_of w place < length row
     within = omega (arith, c.group, ap length same, length-map row child_count)
 
-    fans : (e : Domain) → child_count (get_or row (group_of w place) e) ≡ get_or w (group_of w place) 0
+    fans : (e : Domain)
+        → child_count (get_or row (group_of w place) e) ≡ get_or w (group_of w place) 0
     fans e = sym (get_or-map child_count row (group_of w place) e 0 within)
         ∙ ap (λ x. get_or x (group_of w place) 0) same
 

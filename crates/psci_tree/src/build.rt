@@ -3,7 +3,7 @@
 ghost use Rattle.std.specs.Prelude.{◌≡◌, ℕ, ◌+◌, ◌<◌, ◌≤◌, ◌^◌, map, length, sum, replicate};
 ghost use Rattle.std.specs.Prelude.{slice_index_or, [], IfOk};
 ghost use Rattle.std.specs.List.{flat_map};
-ghost use Rattle.psci_board.specs.Board.{IsTree, size_below, height};
+ghost use Rattle.psci_board.specs.Board.{IsBoard, size_below, height};
 ghost use Rattle.psci_tree.specs.declared.domain.Domain.{Domain};
 ghost use Rattle.psci_tree.specs.Recount.{never_started};
 ghost use Rattle.psci_tree.specs.Domains.{IsWhole, children, child_count, cores, cores_in};
@@ -53,8 +53,7 @@ fn parents_of(
     below: u32,
     row: Vec<Domain>,
 ) -> Result<Vec<Domain>, Memory>
-    requires tree { IsTree board.now.levels }
-    requires high { height board.now ≤ 3 }
+    requires board { IsBoard board.now }
     requires level { below < height board.now }
     requires children { sum (slice_index_or board.now.levels below []) ≡ length row.items }
     ensures children { IfOk result (λ parents. flat_map children parents.items ≡ row.items) }

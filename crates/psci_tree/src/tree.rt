@@ -52,7 +52,8 @@ ghost use Rattle.psci_tree.specs.declared.state.Activity.TheVariants.{Active, Su
 ghost use Rattle.psci_tree.specs.Recount.{IsActivity, IsDomainTree, core_at};
 ghost use Rattle.psci_tree.specs.Recount.{known_at, low, known, active, off, granted_at};
 ghost use Rattle.psci_tree.specs.Changes.{MayGrant, suspended, turned_off, made_pending, started};
-ghost use Rattle.psci_tree.specs.Changes.{with_grant, with_core_state, with_path_cleared, all_off, start_of_life};
+ghost use Rattle.psci_tree.specs.Changes.{with_grant, with_core_state, with_path_cleared};
+ghost use Rattle.psci_tree.specs.Changes.{all_off, start_of_life};
 ghost use Rattle.psci_tree.specs.Domains.{cores};
 
 impl Tree {

@@ -20,7 +20,7 @@ split_off-requires c =
       c.loop-place-test.true,
       c.nodes-place-end.ensures.there (omega (arith, c.requires.level)),
       ap (λ l. size_below (drop l levels)) up,
-      tree_at levels c.args.below c.requires.tree c.requires.level,
+      tree_at levels c.args.below c.requires.board.tree c.requires.level,
     ) in
     let count : c.children-count.result ≡ get_or own place 0 =
     c.children-count.ensures ∙ ap (λ l. children_at c.args.board.now l place) up in
@@ -43,7 +43,7 @@ loop-place-preserved c =
       c.loop-place-test.true,
       c.nodes-place-end.ensures.there (omega (arith, c.requires.level)),
       ap (λ l. size_below (drop l levels)) up,
-      tree_at levels c.args.below c.requires.tree c.requires.level,
+      tree_at levels c.args.below c.requires.board.tree c.requires.level,
     ) in
     let count : c.children-count.result ≡ get_or own place 0 =
     c.children-count.ensures ∙ ap (λ l. children_at c.args.board.now l place) up in

@@ -1,7 +1,7 @@
-use Rattle.std.proofs.Common.{◌<◌, ◌∙◌, ap, sym, length, get_or, arith}
+use Rattle.std.proofs.Common.{◌≡◌, ◌<◌, ◌-◌, ◌∙◌, ap, sym, length, get_or, arith}
 use Rattle.std.proofs.lemmas.List.{get_or_default}
 use Rattle.psci_tree.specs.declared.domain.Domain.{Domain, out-Domain}
-use Rattle.psci_tree.specs.Domains.{children}
+use Rattle.psci_tree.specs.Domains.{children, domains_down}
 use Rattle.psci_tree.proofs.Upward.{StepsDown, steps_down}
 use Rattle.psci_tree.proofs.descent.+domain_at.Goals as goal
 
@@ -36,7 +36,9 @@ returns t c = λ d.
     steps_down _ c.args.board.now _ _ _ c.requires.tree c.requires.shape
     (sym c.in-Some-Some.ensures) (sym c.in-Some-Some.ensures') in
     let parent : Domain = c.domain_at-parent.result.now in
-    let at = c.domain_at-parent.ensures parent in
+    let at : parent ≡ get_or (domains_down (length c.args.board.now.levels
+    - c.in-Some-Some.parent.level) c.args.root.now) c.in-Some-Some.parent.place parent =
+    c.domain_at-parent.ensures parent in
     let fits : c.in-Some-Some.number < length (children parent) =
     omega (arith, down.inside parent, ap (λ n. length (children n)) at) in
     c.index.ensures

@@ -22,7 +22,8 @@ returns-clause-pending c =
 
 pub returns-clause-started : goal.returns-clause-started
 unfolding started
-returns-clause-started c = λ t core known l p. granted_with (with_core_state t core Active known) core l p
+returns-clause-started c =
+    λ t core known l p. granted_with (with_core_state t core Active known) core l p
 
 pub returns-clause-grant : goal.returns-clause-grant
 returns-clause-grant c = grant_at

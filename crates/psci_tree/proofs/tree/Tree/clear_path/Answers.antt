@@ -1,4 +1,5 @@
-use Rattle.std.proofs.Common.{◌≡◌, ◌<◌, ◌++◌, ◌∙◌, arith, ap, sym, subst, map, length, take, drop, ℕ, List}
+use Rattle.std.proofs.Common.{◌≡◌, ◌<◌, ◌++◌, ◌∙◌, arith, ap, sym, subst, map, length, take, drop, ℕ}
+use Rattle.std.proofs.Common.{List}
 use Rattle.std.proofs.lemmas.List.{with_items_is}
 use Rattle.psci_board.specs.declared.node.Node.{Node}
 use Rattle.psci_board.specs.Board.{HasNodeIn, size_below}
@@ -6,7 +7,7 @@ use Rattle.psci_tree.specs.Recount.{TreeValue, IsDomainTree}
 use Rattle.psci_tree.specs.Changes.{with_path_cleared, path_cleared}
 use Rattle.psci_tree.specs.Domains.{cores}
 use Rattle.psci_tree.specs.Inside.{IsTied}
-use Rattle.psci_tree.proofs.Granted.{path_valid}
+use Rattle.psci_tree.proofs.Valid.{path_valid}
 use Rattle.psci_tree.proofs.tree.Tree.clear_path.Goals as goal
 
 pub clear_up-requires : goal.clear_up-requires

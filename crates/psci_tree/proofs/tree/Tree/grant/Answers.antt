@@ -6,7 +6,8 @@ use Rattle.psci_tree.specs.Recount.{TreeValue, IsDomainTree}
 use Rattle.psci_tree.specs.Changes.{with_grant}
 use Rattle.psci_tree.specs.Domains.{cores}
 use Rattle.psci_tree.specs.Inside.{IsTied}
-use Rattle.psci_tree.proofs.Granted.{RowOf, row_of, grant_valid}
+use Rattle.psci_tree.proofs.Granted.{RowOf, row_of}
+use Rattle.psci_tree.proofs.Valid.{grant_valid}
 use Rattle.psci_tree.proofs.tree.Tree.grant.Goals as goal
 
 pub write-requires : goal.write-requires

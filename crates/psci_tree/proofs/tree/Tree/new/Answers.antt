@@ -5,7 +5,7 @@ use Rattle.psci_tree.specs.declared.domain.Domain.{Domain}
 use Rattle.psci_tree.specs.Recount.{TreeValue, IsActivity, IsDomainTree, level_sizes, never_started}
 use Rattle.psci_tree.specs.Changes.{rows_with_depth, made_pending, start_of_life, all_off}
 use Rattle.psci_tree.specs.Domains.{cores, IsWhole}
-use Rattle.psci_tree.proofs.Granted.{full_valid, all_idle}
+use Rattle.psci_tree.proofs.Valid.{full_valid, all_idle}
 use Rattle.psci_tree.proofs.Slices.{length_cores}
 use Rattle.psci_tree.proofs.tree.Tree.new.Goals as goal
 

@@ -7,7 +7,7 @@ use Rattle.psci_tree.specs.Recount.{TreeValue, IsDomainTree, never_started, leve
 use Rattle.psci_tree.specs.Changes.{all_off, rows_with_depth}
 use Rattle.psci_tree.specs.Domains.{cores}
 use Rattle.psci_tree.specs.Inside.{IsTied}
-use Rattle.psci_tree.proofs.Granted.{all_off_valid}
+use Rattle.psci_tree.proofs.Valid.{all_off_valid}
 use Rattle.psci_tree.proofs.Slices.{whole_kept}
 use Rattle.psci_tree.proofs.tree.Tree.turn_off.Goals as goal
 
