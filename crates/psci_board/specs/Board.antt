@@ -5,10 +5,13 @@ use Rattle.std.specs.Prelude.{if◌then◌else◌, Option, None, Some, option_ma
 use Rattle.std.specs.Prelude.{slice_index, slice_index_or, slice_get}
 use Rattle.std.specs.List.{list_any, AllPass, range_with_len}
 use Rattle.psci_board.specs.declared.range.AddressRange.{AddressRange}
+use Rattle.psci_board.specs.declared.limits.TheConstants.{MOST_LEVELS, MOST_CHILDREN, MOST_CORES}
+use Rattle.psci_board.specs.declared.limits.TheConstants.{MOST_LIVES}
 use Rattle.psci_board.specs.declared.node.Node.{Node}
 use Rattle.psci_board.specs.declared.node.Core.{Core}
 use Rattle.psci_board.specs.declared.span.CoreSpan.{CoreSpan}
 
+-- A board as contracts see it.
 pub record BoardValue : Type 0 where
   -- from level 1 up, how many children each node of the level has, from left to right
   pub levels : List (List ℕ)
@@ -23,20 +26,22 @@ pub record BoardValue : Type 0 where
 
 -- The tree ------------------------------------------------------------------------------------
 
--- a node has 1 to 16 children
+-- a node has one child or more, and no more than it may have
 abbrev pub is_width : ℕ → Bool
-is_width n = nat_lt 0 n && nat_le n 16
+is_width n = nat_lt 0 n && nat_le n MOST_CHILDREN
 
 -- how many nodes stand below these levels: the system alone, where there is none
 abbrev pub size_below : List (List ℕ) → ℕ
 size_below [] = 1
 size_below (w ∷ ws) = sum w
 
--- each level has one group of children for each node of the next one, and 64 nodes at most
+-- each level has one group of children for each node of the next one, and no more nodes than a
+-- board may have cores
 abbrev pub IsTree : List (List ℕ) → Type 0
 IsTree [] = Unit {0}
-IsTree (w ∷ ws) = (length w ≡ size_below ws) × (sum w ≤ 64) × AllPass is_width w × IsTree ws
+IsTree (w ∷ ws) = (length w ≡ size_below ws) × (sum w ≤ MOST_CORES) × AllPass is_width w × IsTree ws
 
+-- the level of the system
 abbrev pub height : BoardValue → ℕ
 height b = length b.levels
 
@@ -44,6 +49,7 @@ height b = length b.levels
 abbrev pub nodes : BoardValue → ℕ → ℕ
 nodes b level = size_below (drop level b.levels)
 
+-- how many cores there are: the nodes of level 0
 abbrev pub cores : BoardValue → ℕ
 cores b = nodes b 0
 
@@ -56,6 +62,7 @@ abbrev pub group_of : List ℕ → ℕ → ℕ
 group_of [] i = 0
 group_of (n ∷ ns) i = if nat_lt i n then 0 else group_of ns (i - n) + 1
 
+-- the place within its group
 abbrev pub place_in : List ℕ → ℕ → ℕ
 place_in [] i = i
 place_in (n ∷ ns) i = if nat_lt i n then i else place_in ns (i - n)
@@ -106,6 +113,7 @@ abbrev pub first_child : BoardValue → ℕ → ℕ → ℕ
 first_child b zero place = 0
 first_child b (suc level) place = sum (take place (slice_index_or b.levels level []))
 
+-- how many children a node has
 abbrev pub children : BoardValue → Node → ℕ
 children b n = children_at b n.level n.place
 
@@ -185,6 +193,7 @@ core_of b word =
 
 -- Addresses -----------------------------------------------------------------------------------
 
+-- the address lies in one of the ranges: at its start or after it, and before its end
 abbrev pub is_in_some : List AddressRange → ℕ → Bool
 is_in_some ranges a = list_any (λ r. nat_le r.start a && nat_lt a r.end) ranges
 
@@ -207,9 +216,9 @@ HasNode b n = HasNodeIn b.levels n
 pub record IsBoard (b : BoardValue) : Type 0 where
   pub tree : IsTree b.levels
   pub low : 0 < height b
-  pub high : height b ≤ 3
+  pub high : height b ≤ MOST_LEVELS
   pub boot : may_enter b b.boot ≡ true
   pub some_starts : 0 < b.starts
   pub starts : b.starts < 2 ^ 32
   pub some_lives : 0 < b.lives
-  pub lives : b.lives ≤ 65535
+  pub lives : b.lives ≤ MOST_LIVES
