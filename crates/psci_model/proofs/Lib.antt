@@ -1,1 +1,5 @@
+mod Callers
+mod Follows
 mod OneMore
+mod SameReplies
+mod Targets
