@@ -1,5 +1,10 @@
 mod Callers
+mod CpuOnRows
 mod Follows
 mod OneMore
+mod ParkRows
+mod RefusalRows
 mod SameReplies
+mod StatusRows
+mod Steps
 mod Targets
