@@ -1,6 +1,8 @@
 mod Callers
 mod CpuOnRows
+mod EffectRows
 mod Follows
+mod LegalRows
 mod OneMore
 mod ParkRows
 mod RefusalRows
@@ -8,3 +10,4 @@ mod SameReplies
 mod StatusRows
 mod Steps
 mod Targets
+mod ValueRows
