@@ -85,7 +85,8 @@ pub asks_on_same : (b : BoardValue) (v : Values) (c : ℕ) (asked : PowerOn) →
 asks_on_same b v c asked are runs =
     let on = is_on_at b v c are runs in
     λ i. record (with_pending asked v) {
-      phase = λ k. pending_phase v c asked.target k (k == c) (k == asked.target) refl refl on runs i;
+      phase = λ k. pending_phase v c asked.target k (k == c) (k == asked.target) refl refl on runs
+          i;
     }
 
 other_runs : (v : Values) (c x : ℕ) (t : Bool) → (c == x) ≡ t → v.status c ≡ On

@@ -33,19 +33,19 @@ unfolding answer after target_of values_of core_of up
 target_first_row = record { history = refl; values = refl }
 
 -- an entry point that may not be entered comes before what the target does: OFF, ON, ON_PENDING
-entry_second_row : AreAnswered board
+point_second_row : AreAnswered board
     (boot ∷ on 0x101 0x40001002 ∷ on 0 0x40001002 ∷ on_3 ∷ on 0x101 0x40001002 ∷ [])
     (boots ∷ code (negsuc 8) ∷ code (negsuc 8) ∷ starts 3 1 0 ∷ code (negsuc 8) ∷ [])
 unfolding answer after target_of values_of core_of up
-entry_second_row = record { history = refl; values = refl }
+point_second_row = record { history = refl; values = refl }
 
 -- entry points at the ends of the executable range, and one beside each
-entry_points_row : AreAnswered board
+points_row : AreAnswered board
     (boot ∷ on 0x001 0x3ffffffc ∷ on 0x001 0x40100000 ∷ on 0x001 0x40000000
     ∷ on 0x100 0x400ffffc ∷ [])
     (boots ∷ code (negsuc 8) ∷ code (negsuc 8) ∷ starts 1 1 0 ∷ starts 2 1 0 ∷ [])
 unfolding answer after target_of values_of core_of up
-entry_points_row = record { history = refl; values = refl }
+points_row = record { history = refl; values = refl }
 
 -- a core asks itself on, and another core than the boot core asks on
 callers_row : AreAnswered board

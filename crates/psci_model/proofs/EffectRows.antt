@@ -25,8 +25,8 @@ use Rattle.psci_model.proofs.Steps.{board, down_of, on_3, start_of, version}
 abbrev zero_code : Act
 zero_code = acts.Return (record { 0 = pos 0 })
 
-abbrev some_entry : Act
-some_entry = acts.Enter 0x40001000 7
+abbrev elsewhere : Act
+elsewhere = acts.Enter 0x40001000 7
 
 -- a reply with this act and message
 abbrev ends : Act → Option Message → FwReply
@@ -44,18 +44,18 @@ ask_version = (version 0).call
 abbrev start : Start
 start = record { life = 2; number = 5; cause = Wake }
 
-goes_on_row : map goes_on (zero_code ∷ acts.Stop ∷ some_entry ∷ acts.Resume ∷ [])
+goes_on_row : map goes_on (zero_code ∷ acts.Stop ∷ elsewhere ∷ acts.Resume ∷ [])
     ≡ true ∷ false ∷ true ∷ true ∷ []
 goes_on_row = refl
 
 -- what a function leaves its caller doing, and what a start leaves its core doing
 function_phase_row : map (phase_by ask_version) (ends zero_code None ∷ ends acts.Stop None
-    ∷ ends some_entry None ∷ ends acts.Resume None ∷ Fault NotRunning ∷ [])
+    ∷ ends elsewhere None ∷ ends acts.Resume None ∷ Fault NotRunning ∷ [])
     ≡ Some phases.Running ∷ Some phases.Away ∷ Some phases.Running ∷ Some phases.Running ∷ None ∷ []
 function_phase_row = refl
 
 enter_phase_row : map (phase_by (Enter start)) (ends zero_code None ∷ ends acts.Stop None
-    ∷ ends some_entry None ∷ ends acts.Resume None ∷ Fault OldStart ∷ [])
+    ∷ ends elsewhere None ∷ ends acts.Resume None ∷ Fault OldStart ∷ [])
     ≡ Some phases.Running ∷ Some phases.Away ∷ Some phases.Running ∷ Some phases.Running ∷ None ∷ []
 enter_phase_row = refl
 
@@ -79,7 +79,7 @@ on_effect_row : map (effect_of 0 ask_on) (ends zero_code (Some (start_of 3 1 0))
 on_effect_row = refl
 
 -- a core that enters: it goes on, or parks, or is refused
-enter_effect_row : map (effect_of 3 (Enter start)) (ends some_entry None ∷ ends acts.Resume None
+enter_effect_row : map (effect_of 3 (Enter start)) (ends elsewhere None ∷ ends acts.Resume None
     ∷ ends zero_code None ∷ ends acts.Stop (Some (down_of 3 2 5)) ∷ ends acts.Stop None
     ∷ Fault OldStart ∷ [])
     ≡ Enters 3 start ∷ Enters 3 start ∷ Enters 3 start ∷ Parks 3 start ∷ Parks 3 start

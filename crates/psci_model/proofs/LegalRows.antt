@@ -53,7 +53,7 @@ code_row : is_legal board (replied (version 0) (code (pos 65536)) booted) ≡ fa
 unfolding answer values_of
 code_row = refl
 
--- a stop, a resume or an entry in place of a return, and a return in place of an entry
+-- a stop, a resume or an Enter in place of a return, and a return in place of an Enter
 abbrev ends : Act → FwReply
 ends act = Out (record { act = act; message = None })
 
@@ -65,9 +65,9 @@ resume_row : is_legal board (replied (version 0) (ends acts.Resume) booted) ≡ 
 unfolding answer values_of
 resume_row = refl
 
-entry_row : is_legal board (replied (version 0) (goes_to 0x40000000 0) booted) ≡ false
+enter_row : is_legal board (replied (version 0) (goes_to 0x40000000 0) booted) ≡ false
 unfolding answer values_of
-entry_row = refl
+enter_row = refl
 
 return_row : is_legal board (replied boot (code (pos 0)) []) ≡ false
 unfolding answer values_of

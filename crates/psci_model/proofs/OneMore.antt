@@ -19,7 +19,8 @@ use Rattle.psci_model.specs.Lives.{start_of_life}
 use Rattle.psci_model.specs.Outcomes.{asked_by, goes_on}
 use Rattle.psci_model.specs.Phases.{phase_under}
 use Rattle.psci_model.specs.Values.{Values}
-use Rattle.psci_model.proofs.CallSays.{asked_agrees, function_known, function_life, function_opening}
+use Rattle.psci_model.proofs.CallSays.{asked_agrees, function_known, function_life}
+use Rattle.psci_model.proofs.CallSays.{function_opening}
 use Rattle.psci_model.proofs.CallSays.{function_phase, function_status, silent}
 use Rattle.psci_model.proofs.EnterSays.{enter_known, enter_life, enter_opening, enter_phase}
 use Rattle.psci_model.proofs.EnterSays.{enter_status}

@@ -1,7 +1,8 @@
 -- Worked examples: which calls are refused, and which of two reasons is told.
 use Rattle.std.proofs.Common.{[], ◌∷◌, pos, refl}
 use Rattle.psci_board.specs.Board.{core_of, up}
-use Rattle.psci_model.specs.declared.fault.FwFault.TheVariants.{NoCore, NoLife, NotRunning, OldStart}
+use Rattle.psci_model.specs.declared.fault.FwFault.TheVariants.{NoCore, NoLife, NotRunning}
+use Rattle.psci_model.specs.declared.fault.FwFault.TheVariants.{OldStart}
 use Rattle.psci_model.specs.declared.reply.FwReply.TheVariants.{Fault}
 use Rattle.psci_model.specs.Answer.{answer}
 use Rattle.psci_model.specs.Changes.{after}
@@ -75,3 +76,20 @@ refused_row : AreAnswered board
     ∷ code (pos 65537) ∷ goes_to 0x40001000 7 ∷ [])
 unfolding answer after values_of core_of up target_of
 refused_row = record { history = refl; values = refl }
+
+-- the smallest limits: one start of each core, one life
+smallest_row : AreAnswered (record board { starts = 1; lives = 1 })
+    (enter 0 2 1 ∷ enter 0 1 2 ∷ boot ∷ on_3 ∷ enter 3 1 2 ∷ enter 3 1 1 ∷ enter 0 2 1 ∷ [])
+    (Fault NoLife ∷ Fault OldStart ∷ boots ∷ starts 3 1 0 ∷ Fault OldStart ∷ goes_to 0x40001000 7
+    ∷ Fault NoLife ∷ [])
+unfolding answer after values_of core_of up target_of
+smallest_row = record { history = refl; values = refl }
+
+-- the largest ones
+largest_row : AreAnswered (record board { starts = 0xffffffff; lives = 65535 })
+    (enter 0 65536 1 ∷ enter 0 65535 0x100000000 ∷ enter 0 65535 0xffffffff ∷ version 0
+    ∷ enter 0 65535 0xffffffff ∷ enter 1 65534 1 ∷ [])
+    (Fault NoLife ∷ Fault OldStart ∷ boots ∷ code (pos 65537) ∷ Fault OldStart ∷ Fault OldStart
+    ∷ [])
+unfolding answer after values_of
+largest_row = record { history = refl; values = refl }

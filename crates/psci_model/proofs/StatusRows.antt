@@ -120,7 +120,8 @@ one_on_rule_row : map (node_status board (only_2 On)) (at 0 2 ∷ at 1 0 ∷ at 
 unfolding node_status up
 one_on_rule_row = refl
 
-all_off_row : map (node_status board (λ c. Off)) (at 0 0 ∷ at 1 0 ∷ at 2 0 ∷ []) ≡ Off ∷ Off ∷ Off ∷ []
+all_off_row : map (node_status board (λ c. Off)) (at 0 0 ∷ at 1 0 ∷ at 2 0 ∷ [])
+    ≡ Off ∷ Off ∷ Off ∷ []
 unfolding node_status up
 all_off_row = refl
 

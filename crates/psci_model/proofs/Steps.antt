@@ -58,7 +58,7 @@ on_3 = smc 0 0xc4000003 0x101 0x40001000 7
 
 -- CPU_ON by the boot core: affinity word, entry point
 abbrev pub on : ℕ → ℕ → Step
-on target entry = smc 0 0xc4000003 target entry 0
+on target entry_point = smc 0 0xc4000003 target entry_point 0
 
 -- AFFINITY_INFO by the boot core: affinity word, level
 abbrev pub affinity : ℕ → ℕ → Step

@@ -196,7 +196,8 @@ unfolding answer values_of after
 resumed_row = record { history = refl; kept = refl }
 
 -- a pending core that was answered is pending still
-pending_caller_row : Says (then_replied asked_history (version 3) (ends zero_code None)) core_3_pending
+pending_caller_row : Says (then_replied asked_history (version 3) (ends zero_code None))
+    core_3_pending
 unfolding answer values_of after target_of core_of up
 pending_caller_row = record { history = refl; kept = refl }
 
@@ -223,7 +224,8 @@ unfolding answer values_of after
 other_target_row = record { history = refl; kept = refl }
 
 -- one without a message was refused, and so was one that stopped; another function asks none on
-no_message_row : Says (then_replied (history_of board (boot ∷ [])) on_3 (ends zero_code None)) booted
+no_message_row : Says (then_replied (history_of board (boot ∷ [])) on_3 (ends zero_code None))
+    booted
 unfolding answer values_of after
 no_message_row = record { history = refl; kept = refl }
 

@@ -33,7 +33,7 @@ call_fault b v caller =
 -- what a running core is answered to its request
 abbrev pub outcome_of : BoardValue → Values → ℕ → Request → Outcome
 outcome_of b v caller requests.Version = returns version
-outcome_of b v caller (requests.CpuOn target entry context) = cpu_on b v target entry
+outcome_of b v caller (requests.CpuOn target entry_point context) = cpu_on b v target entry_point
 outcome_of b v caller (requests.AffinityInfo target level) =
     returns (affinity_info b v target level)
 outcome_of b v caller requests.MigrateInfoType = returns no_migration

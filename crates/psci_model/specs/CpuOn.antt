@@ -23,16 +23,16 @@ off_target b v target Off =
 
 -- the core that a CPU_ON starts, by the core that its affinity word names
 abbrev pub target_among : BoardValue → Values → ℕ → Option Core → Result Core Code
-target_among b v entry None = Err invalid_parameters
-target_among b v entry (Some target) =
-    if may_enter b entry
+target_among b v entry_point None = Err invalid_parameters
+target_among b v entry_point (Some target) =
+    if may_enter b entry_point
     then off_target b v target (v.status target.number)
     else Err invalid_address
 
 -- The core that a CPU_ON starts, or why it starts none: the target is looked at first, then the
 -- entry point, then what the target does, and last how often it was started.
 unfoldable pub target_of : BoardValue → Values → ℕ → ℕ → Result Core Code
-target_of b v target entry = target_among b v entry (core_of b target)
+target_of b v target entry_point = target_among b v entry_point (core_of b target)
 
 -- what an accepted CPU_ON sends: the target, and its known start
 abbrev pub start_message : Values → Core → Message
@@ -53,4 +53,4 @@ started v (Ok target) = record {
 
 -- CPU_ON (DEN0022D): SUCCESS and a Start message, or an error code
 abbrev pub cpu_on : BoardValue → Values → ℕ → ℕ → Outcome
-cpu_on b v target entry = started v (target_of b v target entry)
+cpu_on b v target entry_point = started v (target_of b v target entry_point)

@@ -7,5 +7,7 @@ use Rattle.psci_model.specs.declared.reply.FwReply.{FwReply}
 pub record Entry : Type 0 where
   -- the number of the core
   pub core : ℕ
+  -- what it asked of the firmware
   pub call : FwCall
+  -- what it was answered
   pub reply : FwReply

@@ -24,16 +24,18 @@ goes_on acts.Resume = true
 
 -- A core that was asked on, and where it goes on when it enters.
 pub record PowerOn : Type 0 where
+  -- the number of the core
   pub target : ℕ
+  -- entry point and context id
   pub opening : Opening
 
 -- the CPU_ON that a function with this outcome was, if it was accepted: it returns, with a message
 -- to its target, and a refused one with none
 abbrev pub asked_by : Request → Act → Option Message → Option PowerOn
-asked_by (requests.CpuOn target entry context) (acts.Return code) (Some m) =
+asked_by (requests.CpuOn target entry_point context) (acts.Return code) (Some m) =
     Some (record {
       target = m.core.number;
-      opening = record { address = entry; context = context };
+      opening = record { address = entry_point; context = context };
     })
 asked_by request act message = None
 
