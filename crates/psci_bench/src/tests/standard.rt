@@ -82,7 +82,11 @@ fn interruptions_are_no_failures(rt: HostRuntime) {
     };
     let mut writer = Writer::new(rt.alloc());
     writer.pauses = 999;
-    let ended = run::replay(rt.alloc(), &mut Std::new(reader), &mut Std::new(&mut writer));
+    let ended = run::replay(
+        rt.alloc(),
+        &mut Std::new(reader),
+        &mut Std::new(&mut writer),
+    );
     assert_eq!(rt; ended, Ok(WHOLE));
     assert_eq!(rt; writer.taken.as_slice(), TEXT);
 }
@@ -95,7 +99,11 @@ fn thousand_interruptions_are_a_read_fault(rt: HostRuntime) {
         failure: None,
     };
     let mut writer = Writer::new(rt.alloc());
-    let ended = run::replay(rt.alloc(), &mut Std::new(reader), &mut Std::new(&mut writer));
+    let ended = run::replay(
+        rt.alloc(),
+        &mut Std::new(reader),
+        &mut Std::new(&mut writer),
+    );
     assert_eq!(rt; ended, Err(ReplayFault::Read));
     assert_eq!(rt; writer.taken.as_slice(), b"".as_slice());
 }
@@ -108,7 +116,11 @@ fn failed_read_is_a_read_fault(rt: HostRuntime) {
         failure: Some(ErrorKind::BrokenPipe),
     };
     let mut writer = Writer::new(rt.alloc());
-    let ended = run::replay(rt.alloc(), &mut Std::new(reader), &mut Std::new(&mut writer));
+    let ended = run::replay(
+        rt.alloc(),
+        &mut Std::new(reader),
+        &mut Std::new(&mut writer),
+    );
     assert_eq!(rt; ended, Err(ReplayFault::Read));
     assert_eq!(rt; writer.taken.as_slice(), TEXT);
 }
@@ -123,7 +135,11 @@ fn failed_write_is_a_write_fault(rt: HostRuntime) {
     let mut writer = Writer::new(rt.alloc());
     writer.room = 10;
     writer.failure = Some(ErrorKind::StorageFull);
-    let ended = run::replay(rt.alloc(), &mut Std::new(reader), &mut Std::new(&mut writer));
+    let ended = run::replay(
+        rt.alloc(),
+        &mut Std::new(reader),
+        &mut Std::new(&mut writer),
+    );
     assert_eq!(rt; ended, Err(ReplayFault::Write));
     assert_eq!(rt; writer.taken.as_slice(), b"1 enter 0x".as_slice());
 }
@@ -137,7 +153,11 @@ fn write_of_no_byte_is_a_write_fault(rt: HostRuntime) {
     };
     let mut writer = Writer::new(rt.alloc());
     writer.room = 10;
-    let ended = run::replay(rt.alloc(), &mut Std::new(reader), &mut Std::new(&mut writer));
+    let ended = run::replay(
+        rt.alloc(),
+        &mut Std::new(reader),
+        &mut Std::new(&mut writer),
+    );
     assert_eq!(rt; ended, Err(ReplayFault::Write));
     assert_eq!(rt; writer.taken.as_slice(), b"1 enter 0x".as_slice());
 }
