@@ -1,0 +1,104 @@
+//! The entry of a started core: it arrives, and then goes on or parks.
+
+ghost use Rattle.std.specs.Prelude.{◌≡◌, ◌<◌, ◌≤◌, MatchResult, None, Some};
+ghost use Rattle.psci_board.specs.Board.{cores};
+ghost use Rattle.psci_model.specs.Changes.{change, with_arrival};
+ghost use Rattle.psci_model.specs.Effects.{enter_effect};
+ghost use Rattle.psci_model.specs.Entering.{down_message, enter_fault, is_old, outcome_at};
+ghost use Rattle.psci_model.specs.Lives.{in_life};
+ghost use Rattle.psci_fw.specs.Seen.{seen};
+
+use crate::firmware::Firmware;
+use crate::row::CoreRow;
+use psci_board::Core;
+use psci_model::{Act, FwFault, Kind, Message, Opening, Outcome, Phase, Start, Status};
+
+impl Firmware {
+    /// Whether a core may enter by this start, or the first reason why it may not.
+    pub(crate) fn check_start(&self, core: Core, start: Start) -> Result<(), FwFault>
+        ensures { let fault = enter_fault self.now.board (seen self.now) core.number start in
+            MatchResult result (λ _. fault ≡ None) (λ e. fault ≡ Some e) }
+    {
+        if core.number >= self.board.cores() {
+            return Err(FwFault::NoCore);
+        }
+        if start.life == 0 || start.life > self.board.life_limit() {
+            return Err(FwFault::NoLife);
+        }
+        if self.is_old(core, start) {
+            return Err(FwFault::OldStart);
+        }
+        Ok(())
+    }
+
+    /// Whether a start is over, or is none that the board has.
+    fn is_old(&self, core: Core, start: Start) -> bool
+        ensures { result ≡ is_old self.now.board (seen self.now) core.number start }
+    {
+        start.life < self.life
+            || start.number == 0
+            || start.number > self.board.start_limit()
+            || (start.life == self.life && start.number <= self.row(core).known)
+    }
+
+    /// A core arrives by this start, and uses up its opening. A start of another life begins that
+    /// life first.
+    pub(crate) fn arrive(&mut self, core: Core, start: Start) -> Option<Opening>
+        requires inside { core.number < cores self.old.board }
+        requires limit { start.number ≤ self.old.board.starts }
+        ensures opening { result
+            ≡ (in_life self.old.board start.life (seen self.old)).opening core.number }
+        ensures after { seen self.new
+            ≡ with_arrival self.old.board core.number start (seen self.old) }
+        ensures board { self.new.board ≡ self.old.board }
+    {
+        self.begin_life(start.life);
+        let row = &mut self.rows[core.number as usize];
+        row.known = start.number;
+        row.opening.take()
+    }
+
+    /// The firmware is in this life: every core is as at its start, if it is a new one.
+    fn begin_life(&mut self, life: u32)
+        ensures after { seen self.new ≡ in_life self.old.board life (seen self.old) }
+        ensures board { self.new.board ≡ self.old.board }
+    {
+        if life == self.life {
+            return;
+        }
+        self.life = life;
+        for core in 0..self.board.cores() {
+            self.rows[core as usize] = CoreRow::first(&self.board, core);
+        }
+    }
+
+    /// The core that arrived goes on at its opening, or parks where it has none.
+    pub(crate) fn finish_entry(
+        &mut self,
+        core: Core,
+        start: Start,
+        opening: Option<Opening>,
+    ) -> Outcome
+        requires { core.number < cores self.old.board }
+        ensures answer { result ≡ outcome_at core.number start opening }
+        ensures after { seen self.new ≡ finished core.number opening (seen self.old) }
+        ensures board { self.new.board ≡ self.old.board }
+    {
+        match opening {
+            Some(Opening { address, context }) => {
+                self.set_running(core);
+                Outcome {
+                    act: Act::Enter { address, context },
+                    message: None,
+                }
+            }
+            None => {
+                self.set_away(core);
+                Outcome {
+                    act: Act::Stop,
+                    message: Some(down_message(core, start)),
+                }
+            }
+        }
+    }
+}
