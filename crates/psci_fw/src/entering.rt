@@ -2,14 +2,14 @@
 
 ghost use Rattle.std.specs.Prelude.{◌≡◌, ◌<◌, ◌≤◌, MatchResult, None, Some};
 ghost use Rattle.psci_board.specs.Board.{cores};
-ghost use Rattle.psci_model.specs.Changes.{change, with_arrival};
-ghost use Rattle.psci_model.specs.Effects.{enter_effect};
+ghost use Rattle.psci_model.specs.Changes.{with_arrival, with_phase, with_running};
+ghost use Rattle.psci_model.specs.declared.phase.Phase.TheVariants.{Away};
 ghost use Rattle.psci_model.specs.Entering.{down_message, enter_fault, is_old, outcome_at};
 ghost use Rattle.psci_model.specs.Lives.{in_life};
 ghost use Rattle.psci_fw.specs.Seen.{seen};
 
 use crate::firmware::Firmware;
-use crate::row::CoreRow;
+use crate::row::{CoreRow, reset_rows};
 use psci_board::Core;
 use psci_model::{Act, FwFault, Kind, Message, Opening, Outcome, Phase, Start, Status};
 
@@ -53,9 +53,14 @@ impl Firmware {
         ensures board { self.new.board ≡ self.old.board }
     {
         self.begin_life(start.life);
-        let row = &mut self.rows[core.number as usize];
-        row.known = start.number;
-        row.opening.take()
+        let row = self.row(core);
+        let arrived = CoreRow {
+            known: start.number,
+            opening: None,
+            ..row
+        };
+        self.set_row(core, arrived);
+        row.opening
     }
 
     /// The firmware is in this life: every core is as at its start, if it is a new one.
@@ -67,38 +72,64 @@ impl Firmware {
             return;
         }
         self.life = life;
-        for core in 0..self.board.cores() {
-            self.rows[core as usize] = CoreRow::first(&self.board, core);
-        }
+        reset_rows(&mut self.rows, &self.board);
     }
 
-    /// The core that arrived goes on at its opening, or parks where it has none.
-    pub(crate) fn finish_entry(
-        &mut self,
-        core: Core,
-        start: Start,
-        opening: Option<Opening>,
-    ) -> Outcome
+    /// A core that has arrived goes on: it is ON and runs.
+    pub(crate) fn set_running(&mut self, core: Core)
         requires { core.number < cores self.old.board }
-        ensures answer { result ≡ outcome_at core.number start opening }
-        ensures after { seen self.new ≡ finished core.number opening (seen self.old) }
+        ensures after { seen self.new ≡ with_running core.number (seen self.old) }
         ensures board { self.new.board ≡ self.old.board }
     {
-        match opening {
-            Some(Opening { address, context }) => {
-                self.set_running(core);
-                Outcome {
-                    act: Act::Enter { address, context },
-                    message: None,
-                }
-            }
-            None => {
-                self.set_away(core);
-                Outcome {
-                    act: Act::Stop,
-                    message: Some(down_message(core, start)),
-                }
-            }
-        }
+        let row = CoreRow {
+            status: Status::On,
+            phase: Phase::Running,
+            ..self.row(core)
+        };
+        self.set_row(core, row);
+    }
+
+    /// A core that has arrived stops, as one that goes off: it is away, but for one that is
+    /// ON_PENDING, which is pending.
+    pub(crate) fn set_away(&mut self, core: Core)
+        requires { core.number < cores self.old.board }
+        ensures after { seen self.new ≡ with_phase core.number Away (seen self.old) }
+        ensures board { self.new.board ≡ self.old.board }
+    {
+        let row = self.row(core);
+        let phase = match row.status {
+            Status::Pending => Phase::Pending,
+            Status::On | Status::Off => Phase::Away,
+        };
+        self.set_row(core, CoreRow { phase, ..row });
+    }
+}
+
+/// What a core is answered that entered by this start: it goes on at its opening, or parks where it
+/// has none.
+pub(crate) fn outcome_at(core: Core, start: Start, opening: Option<Opening>) -> Outcome
+    ensures { result ≡ outcome_at core.number start opening }
+{
+    match opening {
+        Some(Opening { address, context }) => Outcome {
+            act: Act::Enter { address, context },
+            message: None,
+        },
+        None => Outcome {
+            act: Act::Stop,
+            message: Some(down_message(core, start)),
+        },
+    }
+}
+
+/// What a core sends that stops in this start.
+fn down_message(core: Core, start: Start) -> Message
+    ensures { result ≡ down_message core.number start }
+{
+    Message {
+        kind: Kind::Down,
+        core,
+        life: start.life,
+        number: start.number,
     }
 }

@@ -1,6 +1,7 @@
 //! The firmware of one board.
 
-use crate::row::CoreRow;
+use crate::entering::outcome_at;
+use crate::row::{CoreRow, first_rows};
 use psci_abi::{Regs, read};
 use psci_board::{Board, Core, Memory, Node};
 use psci_model::{FwFault, Outcome, Phase, Start, Status};
@@ -31,7 +32,7 @@ impl Model for Firmware {
     }) };
 }
 
-ghost use Rattle.std.specs.Prelude.{◌≡◌, ◌<◌, ◌≤◌, length, IfOk, OnErr};
+ghost use Rattle.std.specs.Prelude.{◌≡◌, ◌<◌, ◌≤◌, length, slice_set, IfOk, OnErr};
 ghost use Rattle.psci_board.specs.Board.{cores};
 ghost use Rattle.psci_model.specs.declared.call.FwCall.TheVariants.{Smc, Enter};
 ghost use Rattle.psci_model.specs.Answer.{answer, reply_of};
@@ -49,14 +50,10 @@ impl Firmware {
         ensures values { IfOk result (λ f. seen f ≡ start_of_life board.now 0) }
     {
         let board = board.copy(alloc)?;
-        let mut rows = Vec::with_capacity(alloc, board.cores() as usize)?;
-        for core in 0..board.cores() {
-            rows.push(CoreRow::first(&board, core))?;
-        }
         Ok(Firmware {
-            board,
+            rows: first_rows(alloc, &board)?,
             life: 0,
-            rows,
+            board,
         })
     }
 
@@ -96,7 +93,12 @@ impl Firmware {
     {
         self.check_start(core, start)?;
         let opening = self.arrive(core, start);
-        Ok(self.finish_entry(core, start, opening))
+        if opening.is_some() {
+            self.set_running(core);
+        } else {
+            self.set_away(core);
+        }
+        Ok(outcome_at(core, start, opening))
     }
 
     /// The status of a core or power domain by the rule of AFFINITY_INFO; None before any core has
@@ -130,5 +132,14 @@ impl Firmware {
             .get(core.number as usize)
             .copied()
             .unwrap_or(CoreRow::OFF)
+    }
+
+    /// Keeps this of a core.
+    pub(crate) fn set_row(&mut self, core: Core, row: CoreRow)
+        requires inside { core.number < cores self.old.board }
+        requires known { row.known ≤ self.old.board.starts }
+        ensures { self.new ≡ record self.old { rows = slice_set self.old.rows core.number row } }
+    {
+        self.rows[core.number as usize] = row;
     }
 }

@@ -10,6 +10,7 @@ ghost use Rattle.psci_model.specs.Phases.{is_running};
 ghost use Rattle.psci_fw.specs.Seen.{seen};
 
 use crate::firmware::Firmware;
+use crate::row::CoreRow;
 use psci_abi::Code;
 use psci_board::Core;
 use psci_model::{Act, Kind, Message, Opening, Outcome, Phase, Status};
@@ -83,9 +84,12 @@ impl Firmware {
             ≡ with_pending (record { target = core.number; opening = opening }) (seen self.old) }
         ensures board { self.new.board ≡ self.old.board }
     {
-        let row = &mut self.rows[core.number as usize];
-        row.status = Status::Pending;
-        row.phase = Phase::Pending;
-        row.opening = Some(opening);
+        let row = CoreRow {
+            status: Status::Pending,
+            phase: Phase::Pending,
+            opening: Some(opening),
+            ..self.row(core)
+        };
+        self.set_row(core, row);
     }
 }

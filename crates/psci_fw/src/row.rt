@@ -1,10 +1,12 @@
 //! What the firmware keeps of one core.
 
-ghost use Rattle.std.specs.Prelude.{◌≡◌};
-ghost use Rattle.psci_fw.specs.Rows.{first_row, off_row};
+ghost use Rattle.std.specs.Prelude.{◌≡◌, length, IfOk};
+ghost use Rattle.psci_board.specs.Board.{cores};
+ghost use Rattle.psci_fw.specs.Rows.{AreFirst, first_row};
 
-use psci_board::Board;
+use psci_board::{Board, Memory};
 use psci_model::{Opening, Phase, Status};
+use std::alloc::Global;
 
 /// What the firmware keeps of one core.
 #[derive(Clone, Copy)]
@@ -45,5 +47,26 @@ impl CoreRow {
                 context: 0,
             }),
         }
+    }
+}
+
+/// A row for each core of the board, as at the start of a life.
+pub fn first_rows(alloc: Global, board: &Board) -> Result<Vec<CoreRow>, Memory>
+    ensures { IfOk result (λ rows. AreFirst board.now rows.items) }
+{
+    let mut rows = Vec::with_capacity(alloc, board.cores() as usize)?;
+    for core in 0..board.cores() {
+        rows.push(CoreRow::first(board, core))?;
+    }
+    Ok(rows)
+}
+
+/// Puts each core's row to what it is at the start of a life.
+pub fn reset_rows(rows: &mut [CoreRow], board: &Board)
+    requires { length rows.old ≡ cores board.now }
+    ensures { AreFirst board.now rows.new }
+{
+    for core in 0..board.cores() {
+        rows[core as usize] = CoreRow::first(board, core);
     }
 }
