@@ -1,1 +1,13 @@
+mod Callers
+mod CpuOnRows
+mod EffectRows
+mod Follows
+mod LegalRows
 mod OneMore
+mod ParkRows
+mod RefusalRows
+mod SameReplies
+mod StatusRows
+mod Steps
+mod Targets
+mod ValueRows

@@ -7,7 +7,8 @@ use Rattle.psci_model.specs.declared.phase.Phase.TheVariants as phases
 use Rattle.psci_model.specs.declared.reply.FwReply.{FwReply}
 use Rattle.psci_model.specs.declared.start.Start.{Start}
 use Rattle.psci_model.specs.declared.status.Status.TheVariants as statuses
-use Rattle.psci_model.specs.Effects.{Effect, Nothing, GoesOn, AsksOn, Rests, Enters, Parks, effect_of}
+use Rattle.psci_model.specs.Effects.{Effect, Nothing, GoesOn, AsksOn, Rests, Enters, Parks}
+use Rattle.psci_model.specs.Effects.{effect_of}
 use Rattle.psci_model.specs.Lives.{in_life}
 use Rattle.psci_model.specs.Outcomes.{PowerOn}
 use Rattle.psci_model.specs.Phases.{phase_under}

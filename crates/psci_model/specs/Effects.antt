@@ -9,7 +9,7 @@ use Rattle.psci_model.specs.declared.phase.Phase.{Phase}
 use Rattle.psci_model.specs.declared.reply.FwReply.{FwReply}
 use Rattle.psci_model.specs.declared.reply.FwReply.TheVariants.{Out, Fault}
 use Rattle.psci_model.specs.declared.start.Start.{Start}
-use Rattle.psci_model.specs.Outcomes.{PowerOn, asked_by, goes_on, phase_at_rest}
+use Rattle.psci_model.specs.Outcomes.{PowerOn, goes_on, phase_at_rest, power_on_of}
 
 -- Every reply to every call comes down to one of these.
 pub data Effect : Type 0 where
@@ -35,7 +35,7 @@ effect_by c None false rest = Rests c rest
 -- what a function comes down to: its caller, what was asked for, and how it ended
 abbrev pub function_effect : ℕ → Request → Outcome → Effect
 function_effect c request outcome =
-    effect_by c (asked_by request outcome.act outcome.message) (goes_on outcome.act)
+    effect_by c (power_on_of request outcome) (goes_on outcome.act)
     (phase_at_rest request outcome.message)
 
 -- what a core that entered comes down to

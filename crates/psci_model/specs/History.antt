@@ -14,7 +14,7 @@ use Rattle.psci_model.specs.Entry.{Entry}
 use Rattle.psci_model.specs.Lives.{first_status, first_opening}
 use Rattle.psci_model.specs.Outcomes.{PowerOn}
 use Rattle.psci_model.specs.Phases.{phase_under}
-use Rattle.psci_model.specs.Said.{entered, asked_on, enters, phase_by}
+use Rattle.psci_model.specs.Said.{entered, asked_on, entry_goes_on, phase_by}
 use Rattle.psci_model.specs.Values.{Values}
 
 -- Theorems speak of histories in which every reply is the answer. Of other ones the definitions
@@ -76,7 +76,7 @@ says_pending c (Some asked) = only_if (c == asked.target) (Some Pending)
 abbrev pub says_status : ℕ → List Entry → Entry → Option Status
 says_status c before e =
     option_or (says_pending c (asked_on e.call e.reply))
-    (only_if (c == e.core) (only_if (enters e.call e.reply) (Some On)))
+    (only_if (c == e.core) (only_if (entry_goes_on e.call e.reply) (Some On)))
 
 -- the status of a core: by the last accepted CPU_ON for it, or the last time that it entered and
 -- went on; with neither it is ON_PENDING for the boot core, and OFF for every other

@@ -7,6 +7,7 @@ pub mod Effects
 pub mod Entering
 pub mod Entry
 pub mod History
+pub mod Invariant
 pub mod Legal
 pub mod Lives
 pub mod Outcomes

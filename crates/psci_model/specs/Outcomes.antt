@@ -37,6 +37,10 @@ asked_by (requests.CpuOn target entry context) (acts.Return code) (Some m) =
     })
 asked_by request act message = None
 
+-- the same, of an outcome
+abbrev pub power_on_of : Request → Outcome → Option PowerOn
+power_on_of request outcome = asked_by request outcome.act outcome.message
+
 -- what a function that stops its caller leaves it doing: it is off or goes off
 abbrev pub phase_at_rest : Request → Option Message → Phase
 phase_at_rest request message = Away

@@ -8,7 +8,7 @@ use Rattle.psci_model.specs.declared.phase.Phase.TheVariants.{Running, Away}
 use Rattle.psci_model.specs.declared.reply.FwReply.{FwReply}
 use Rattle.psci_model.specs.declared.reply.FwReply.TheVariants.{Out, Fault}
 use Rattle.psci_model.specs.declared.start.Start.{Start}
-use Rattle.psci_model.specs.Outcomes.{PowerOn, asked_by, goes_on, phase_after}
+use Rattle.psci_model.specs.Outcomes.{PowerOn, goes_on, phase_after, power_on_of}
 
 -- the start by which a core entered, where one did and was not refused
 abbrev pub entered : FwCall → FwReply → Option Start
@@ -18,15 +18,15 @@ entered (Smc regs) reply = None
 
 -- the CPU_ON that was accepted, if the call was one
 abbrev pub asked_on : FwCall → FwReply → Option PowerOn
-asked_on (Smc regs) (Out outcome) = asked_by (request_of regs) outcome.act outcome.message
+asked_on (Smc regs) (Out outcome) = power_on_of (request_of regs) outcome
 asked_on (Smc regs) (Fault fault) = None
 asked_on (Enter s) reply = None
 
 -- whether a core entered and goes on: a legal outcome is then Enter or Resume
-abbrev pub enters : FwCall → FwReply → Bool
-enters (Enter s) (Out outcome) = goes_on outcome.act
-enters (Enter s) (Fault fault) = false
-enters (Smc regs) reply = false
+abbrev pub entry_goes_on : FwCall → FwReply → Bool
+entry_goes_on (Enter s) (Out outcome) = goes_on outcome.act
+entry_goes_on (Enter s) (Fault fault) = false
+entry_goes_on (Smc regs) reply = false
 
 -- what the outcome leaves its core doing: a core that enters and stops goes off
 abbrev pub phase_by : FwCall → FwReply → Option Phase

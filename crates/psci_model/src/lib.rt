@@ -22,7 +22,9 @@ mod status;
 
 pub use call::FwCall;
 pub use fault::FwFault;
-pub use laws::law_values;
+pub use laws::{
+    law_caller, law_enters, law_first_start, law_invariant, law_legal, law_power_on, law_values,
+};
 pub use message::{Kind, Message};
 pub use opening::Opening;
 pub use outcome::{Act, Outcome};
