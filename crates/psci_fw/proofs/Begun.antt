@@ -1,12 +1,12 @@
 -- Rows as at the start of a life say the values of that start.
 use Rattle.std.proofs.Common.{◌≡◌, ◌≢◌, ℕ, ◌<◌, ◌≤◌, ◌==◌, false, List, [], ◌∷◌, length, sum, refl}
-use Rattle.std.proofs.Common.{◌∙◌, ap, arith, inl, inr}
+use Rattle.std.proofs.Common.{◌∙◌, arith, inl, inr}
 use Rattle.std.specs.List.{AllPass}
 use Rattle.std.proofs.lemmas.Bool.{and_parts, cases_lt, ltb-true}
 use Rattle.std.proofs.lemmas.List.{get_or_past}
 use Rattle.std.proofs.lemmas.List.Sums.{sum_by-cons}
 use Rattle.psci_board.specs.Board.{BoardValue, IsBoard, IsTree, is_width, size_below, cores}
-use Rattle.psci_model.specs.Lives.{start_of_life}
+use Rattle.psci_model.specs.Lives.{in_life, start_of_life}
 use Rattle.psci_fw.specs.declared.row.CoreRow.{CoreRow}
 use Rattle.psci_fw.specs.Rows.{AreFirst, first_row, off_row, row_at}
 use Rattle.psci_fw.specs.Seen.{values_in}
@@ -36,7 +36,7 @@ pub each_first : (b : BoardValue) (rows : List CoreRow) → IsBoard b → AreFir
 each_first b rows is first k = elim (cases_lt k (cores b)) [
   | inl h ↦ first.each k h
   | inr h ↦ get_or_past rows k off_row (omega (arith, first.count))
-    ∙ beyond b k (omega (arith, some_below b.levels is.tree))
+      ∙ beyond b k (omega (arith, some_below b.levels is.tree))
 ]
 
 pub at_start : (b : BoardValue) (life : ℕ) (rows : List CoreRow) → IsBoard b → AreFirst b rows
@@ -51,9 +51,10 @@ at_start b life rows is first =
       opening = λ k. (each k i).opening;
     }
 
--- no core has a known start then
-pub none_known : (b : BoardValue) (rows : List CoreRow) → IsBoard b → AreFirst b rows
-    → (k : ℕ) → (row_at rows k).known ≤ b.starts
-none_known b rows is first k =
-    let none : (row_at rows k).known ≡ 0 = ap (λ (r : CoreRow). r.known) (each_first b rows is first k) in
-    omega arith
+-- a life that is not the firmware's begins
+pub begun : (b : BoardValue) (life before : ℕ) (rows first : List CoreRow) → IsBoard b
+    → (life ≡ before → ⊥) → AreFirst b first
+    → values_in life first ≡ in_life b life (values_in before rows)
+begun b life before rows first is other are =
+    let new : (life == before) ≡ false = grind arith in
+    at_start b life first is are ∙ rw new refl

@@ -1,12 +1,14 @@
 -- What a table says whose row of one core was set, as functions of the number of a core.
-use Rattle.std.proofs.Common.{◌≡◌, ℕ, ◌<◌, ◌==◌, Bool, true, false, cond, List, length, get_or}
+use Rattle.std.proofs.Common.{◌≡◌, ℕ, ◌<◌, ◌≤◌, ◌==◌, Bool, true, false, cond, List, length, get_or}
 use Rattle.std.proofs.Common.{None, Some, Option, refl, sym, ◌∙◌, ap, arith, inl, inr}
 use Rattle.std.proofs.Math.ListN.{set}
 use Rattle.std.proofs.lemmas.Bool.{eqb-true, eqb-false}
 use Rattle.std.proofs.lemmas.List.{get_or-set_same, get_or-set_other}
+use Rattle.psci_board.specs.Board.{BoardValue}
 use Rattle.psci_model.specs.declared.phase.Phase.{Phase}
 use Rattle.psci_model.specs.declared.status.Status.{Status}
 use Rattle.psci_model.specs.declared.opening.Opening.{Opening}
+use Rattle.psci_model.specs.Invariant.{AreValues, agrees}
 use Rattle.psci_model.specs.Values.{Values, updated}
 use Rattle.psci_fw.specs.declared.row.CoreRow.{CoreRow}
 use Rattle.psci_fw.specs.Rows.{off_row, row_at}
@@ -116,3 +118,28 @@ arrival_set life rows c n inside =
       phase = λ k. stays (λ k. (row_at rows k).phase) c k (row_at rows c).phase refl i;
       opening = updated (values_in life rows).opening c None;
     })
+
+-- What holds of every firmware's values -------------------------------------------------------
+
+module _ (b : BoardValue) (life : ℕ) (rows : List CoreRow) (c : ℕ) (r : CoreRow)
+    (inside : c < length rows) (are : AreValues b (values_in life rows)) where
+  known_by : (k : ℕ) (t : Bool) → (k == c) ≡ t → r.known ≤ b.starts
+      → (row_at (set rows c r) k).known ≤ b.starts
+  known_by k true e h =
+      omega (arith, row_by rows c r inside (λ x. x.known) k true e)
+  known_by k false e h =
+      omega (arith, row_by rows c r inside (λ x. x.known) k false e, are.known k)
+
+  agree_by : (k : ℕ) (t : Bool) → (k == c) ≡ t → agrees r.status r.phase ≡ true
+      → agrees (row_at (set rows c r) k).status (row_at (set rows c r) k).phase ≡ true
+  agree_by k true e h =
+      row_by rows c r inside (λ x. agrees x.status x.phase) k true e ∙ h
+  agree_by k false e h =
+      row_by rows c r inside (λ x. agrees x.status x.phase) k false e ∙ are.agree k
+
+  pub are_set : r.known ≤ b.starts → agrees r.status r.phase ≡ true
+      → AreValues b (values_in life (set rows c r))
+  are_set known agree = record {
+    known = λ k. known_by k (k == c) refl known;
+    agree = λ k. agree_by k (k == c) refl agree;
+  }

@@ -1,10 +1,11 @@
 -- What the firmware is seen as: the board, and what it keeps, core by core.
-use Rattle.std.specs.Prelude.{◌≡◌, ℕ, ◌≤◌, List, length, Option, None, Some, ◌==◌}
+use Rattle.std.specs.Prelude.{◌≡◌, ℕ, List, length, Option, None, Some, ◌==◌}
 use Rattle.std.specs.Prelude.{if◌then◌else◌}
 use Rattle.psci_board.specs.Board.{BoardValue, cores}
 use Rattle.psci_board.specs.declared.node.Node.{Node}
 use Rattle.psci_model.specs.declared.status.Status.{Status}
 use Rattle.psci_model.specs.AffinityInfo.{node_status}
+use Rattle.psci_model.specs.Invariant.{AreValues}
 use Rattle.psci_model.specs.Values.{Values}
 use Rattle.psci_fw.specs.declared.row.CoreRow.{CoreRow}
 use Rattle.psci_fw.specs.Rows.{row_at}
@@ -31,11 +32,11 @@ values_in life rows = record {
 abbrev pub seen : FirmwareValue → Values
 seen f = values_in f.life f.rows
 
--- what holds of every firmware: it has a row for each core of its board, and no known start is
--- above the start limit
+-- what holds of every firmware: it has a row for each core of its board, and its values are such as
+-- a firmware keeps
 pub record IsFirmware (f : FirmwareValue) : Type 0 where
   pub rows : length f.rows ≡ cores f.board
-  pub known : (c : ℕ) → (row_at f.rows c).known ≤ f.board.starts
+  pub values : AreValues f.board (values_in f.life f.rows)
 
 -- the life, None before any core has entered
 abbrev pub life_shown : ℕ → Option ℕ

@@ -9,7 +9,7 @@ ghost use Rattle.psci_fw.specs.Seen.{seen};
 use crate::firmware::Firmware;
 use crate::row::CoreRow;
 use psci_abi::Code;
-use psci_board::Node;
+use psci_board::{Node, law_spans};
 use psci_model::Status;
 
 impl Firmware {
@@ -29,6 +29,8 @@ impl Firmware {
     pub(crate) fn node_status(&self, node: Node) -> Status
         ensures { result ≡ node_status self.now.board (seen self.now).status node }
     {
+        law_spans();
+        let _cores = self.board.cores();
         match self.board.cores_below(node) {
             Some(span) => {
                 let first = span.first as usize;

@@ -6,6 +6,7 @@ ghost use Rattle.psci_model.specs.Changes.{with_arrival, with_phase, with_runnin
 ghost use Rattle.psci_model.specs.declared.phase.Phase.TheVariants.{Away};
 ghost use Rattle.psci_model.specs.Entering.{down_message, enter_fault, is_old, outcome_at};
 ghost use Rattle.psci_model.specs.Lives.{in_life};
+ghost use Rattle.psci_model.specs.Phases.{phase_under};
 ghost use Rattle.psci_fw.specs.Seen.{seen};
 
 use crate::firmware::Firmware;
@@ -71,6 +72,7 @@ impl Firmware {
         if life == self.life {
             return;
         }
+        let _cores = self.board.cores();
         self.life = life;
         reset_rows(&mut self.rows, &self.board);
     }
@@ -97,11 +99,18 @@ impl Firmware {
         ensures board { self.new.board ≡ self.old.board }
     {
         let row = self.row(core);
-        let phase = match row.status {
-            Status::Pending => Phase::Pending,
-            Status::On | Status::Off => Phase::Away,
-        };
+        let phase = phase_under(row.status, Phase::Away);
         self.set_row(core, CoreRow { phase, ..row });
+    }
+}
+
+/// The phase of a core with this status that its last outcome left so.
+fn phase_under(status: Status, left: Phase) -> Phase
+    ensures { result ≡ phase_under status left }
+{
+    match status {
+        Status::Pending => Phase::Pending,
+        Status::On | Status::Off => left,
     }
 }
 

@@ -32,15 +32,16 @@ impl Model for Firmware {
     }) };
 }
 
-ghost use Rattle.std.specs.Prelude.{◌≡◌, ◌<◌, ◌≤◌, length, slice_set, IfOk, OnErr};
+ghost use Rattle.std.specs.Prelude.{◌≡◌, ◌<◌, ◌≤◌, length, slice_set, true, IfOk, OnErr};
 ghost use Rattle.psci_board.specs.Board.{cores};
 ghost use Rattle.psci_model.specs.declared.call.FwCall.TheVariants.{Smc, Enter};
 ghost use Rattle.psci_model.specs.Answer.{answer, reply_of};
 ghost use Rattle.psci_model.specs.Changes.{after};
+ghost use Rattle.psci_model.specs.Invariant.{agrees};
 ghost use Rattle.psci_model.specs.Lives.{start_of_life};
 ghost use Rattle.psci_model.specs.Phases.{is_running};
 ghost use Rattle.psci_fw.specs.Rows.{row_at};
-ghost use Rattle.psci_fw.specs.Seen.{life_shown, seen, status_shown};
+ghost use Rattle.psci_fw.specs.Seen.{IsFirmware, life_shown, seen, status_shown};
 
 impl Firmware {
     /// The firmware of this board, before any core has entered. It takes the memory of all its
@@ -63,6 +64,7 @@ impl Firmware {
     ///
     /// Refused with NoCore where the board has no such core, NoLife before any core has entered,
     /// and NotRunning where the core is not running.
+    #[tactic(auto, unfolding(psci_model::specs::Answer::answer, psci_model::specs::Changes::after))]
     pub fn smc(&mut self, core: Core, regs: Regs) -> Result<Outcome, FwFault>
         ensures answer { reply_of result
             ≡ answer self.old.board (seen self.old) core.number (Smc regs) }
@@ -83,6 +85,7 @@ impl Firmware {
     /// OldStart where the start is over or can't be: its life is an earlier one than the
     /// firmware's, its number is none that the board allows, or it is no later one than the core's
     /// known start in the firmware's life.
+    #[tactic(auto, unfolding(psci_model::specs::Answer::answer, psci_model::specs::Changes::after))]
     pub fn enter(&mut self, core: Core, start: Start) -> Result<Outcome, FwFault>
         ensures answer { reply_of result
             ≡ answer self.old.board (seen self.old) core.number (Enter start) }
@@ -123,10 +126,19 @@ impl Firmware {
         (self.life != 0).then_some(self.life)
     }
 
+    /// What holds of every firmware, for proofs: it does nothing.
+    pub(crate) fn law(&self)
+        ensures { IsFirmware self.now }
+    {
+        let _life = self.life;
+    }
+
     /// What is kept of a core; of one that the board does not have, that it is off.
     pub(crate) fn row(&self, core: Core) -> CoreRow
         ensures row { result ≡ row_at self.now.rows core.number }
         ensures known { result.known ≤ self.now.board.starts }
+        ensures agree { agrees result.status result.phase ≡ true }
+        ensures count { length self.now.rows ≡ cores self.now.board }
     {
         self.rows
             .get(core.number as usize)
@@ -138,6 +150,7 @@ impl Firmware {
     pub(crate) fn set_row(&mut self, core: Core, row: CoreRow)
         requires inside { core.number < cores self.old.board }
         requires known { row.known ≤ self.old.board.starts }
+        requires agree { agrees row.status row.phase ≡ true }
         ensures { self.new ≡ record self.old { rows = slice_set self.old.rows core.number row } }
     {
         self.rows[core.number as usize] = row;

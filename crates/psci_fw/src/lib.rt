@@ -13,8 +13,10 @@ mod row;
 mod smc;
 
 pub use firmware::Firmware;
-pub use psci_model::{Act, Cause, FwCall, FwFault, FwReply, Kind, Message, Opening, Outcome, Phase};
-pub use psci_model::{Start, Status, law_values};
+pub use psci_model::{
+    Act, Cause, FwCall, FwFault, FwReply, Kind, Message, Opening, Outcome, Phase, Start, Status,
+    law_caller, law_first_start, law_power_on, law_values,
+};
 
 #[cfg(test)]
 mod tests;

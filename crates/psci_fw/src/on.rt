@@ -1,31 +1,33 @@
 //! CPU_ON.
 
-ghost use Rattle.std.specs.Prelude.{◌≡◌, ◌<◌, Some, IfOk, true};
+ghost use Rattle.std.specs.Prelude.{◌≡◌, ◌<◌, Some, IfOk};
 ghost use Rattle.psci_abi.specs.declared.request.Request.TheVariants.{CpuOn};
 ghost use Rattle.psci_board.specs.Board.{cores};
+ghost use Rattle.psci_model.specs.declared.phase.Phase.TheVariants.{Running};
 ghost use Rattle.psci_model.specs.Changes.{change, with_pending};
 ghost use Rattle.psci_model.specs.CpuOn.{cpu_on, start_message, target_of};
 ghost use Rattle.psci_model.specs.Effects.{function_effect};
-ghost use Rattle.psci_model.specs.Phases.{is_running};
 ghost use Rattle.psci_fw.specs.Seen.{seen};
 
 use crate::firmware::Firmware;
 use crate::row::CoreRow;
 use psci_abi::Code;
 use psci_board::Core;
-use psci_model::{Act, Kind, Message, Opening, Outcome, Phase, Status};
+use psci_model::{Act, Kind, Message, Opening, Outcome, Phase, Status, law_caller};
 
 impl Firmware {
     /// CPU_ON (DEN0022D): the core that `target` names is to be started, and will enter at `entry`
     /// with `context`. A refused call changes nothing.
     pub(crate) fn cpu_on(&mut self, caller: Core, target: u64, entry: u64, context: u64) -> Outcome
-        requires running { is_running ((seen self.old).phase caller.number) ≡ true }
+        requires running { (seen self.old).phase caller.number ≡ Running }
         ensures answer { result ≡ cpu_on self.old.board (seen self.old) target entry }
         ensures after { seen self.new ≡ change self.old.board
             (function_effect caller.number (CpuOn target entry context) result)
             (seen self.old) }
         ensures board { self.new.board ≡ self.old.board }
     {
+        law_caller();
+        self.law();
         let target = match self.check_target(target, entry) {
             Ok(target) => target,
             Err(code) => return Outcome::returns(code),

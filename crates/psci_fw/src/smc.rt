@@ -1,17 +1,17 @@
 //! The functions that a running core calls.
 
-ghost use Rattle.std.specs.Prelude.{◌≡◌, ◌<◌, MatchResult, None, Some, true};
+ghost use Rattle.std.specs.Prelude.{◌≡◌, ◌<◌, MatchResult, None, Some};
 ghost use Rattle.psci_board.specs.Board.{cores};
+ghost use Rattle.psci_model.specs.declared.phase.Phase.TheVariants.{Running};
 ghost use Rattle.psci_model.specs.Calls.{call_fault, outcome_of};
 ghost use Rattle.psci_model.specs.Changes.{change};
 ghost use Rattle.psci_model.specs.Effects.{function_effect};
-ghost use Rattle.psci_model.specs.Phases.{is_running};
 ghost use Rattle.psci_fw.specs.Seen.{seen};
 
 use crate::firmware::Firmware;
 use psci_abi::{Code, Format, Request, features};
 use psci_board::Core;
-use psci_model::{FwFault, Outcome};
+use psci_model::{FwFault, Outcome, law_caller};
 
 /// PSCI 1.1: the major version in bits 31:16, the minor one in bits 15:0.
 const VERSION: Code = Code(0x0001_0001);
@@ -39,13 +39,15 @@ impl Firmware {
 
     /// What a running core is answered to its request.
     pub(crate) fn dispatch(&mut self, caller: Core, request: Request) -> Outcome
-        requires running { is_running ((seen self.old).phase caller.number) ≡ true }
+        requires running { (seen self.old).phase caller.number ≡ Running }
         ensures answer { result
             ≡ outcome_of self.old.board (seen self.old) caller.number request }
         ensures after { seen self.new ≡ change self.old.board
             (function_effect caller.number request result) (seen self.old) }
         ensures board { self.new.board ≡ self.old.board }
     {
+        law_caller();
+        self.law();
         match request {
             Request::Version => Outcome::returns(VERSION),
             Request::CpuOn {
