@@ -2,7 +2,8 @@
 use Rattle.std.proofs.Common.{◌≡◌, ◌∷◌, [], refl}
 use Rattle.std.specs.Prelude.{ℕ, Option, Some, None, map, replicate}
 use Rattle.psci_board.specs.declared.span.CoreSpan.{CoreSpan}
-use Rattle.psci_board.specs.Board.{BoardValue, cores_below, parent, child_number, child, path, below}
+use Rattle.psci_board.specs.Board.{BoardValue, cores_below, parent, child_number, child, path}
+use Rattle.psci_board.specs.Board.{below}
 use Rattle.psci_board.specs.Board.{address}
 use Rattle.psci_board.proofs.AffinityRows.{board, cluster, clusters, at, node}
 
@@ -42,7 +43,8 @@ cores_of_clusters = refl
 
 pub parents_of_cores : map (parent uneven)
     (at 0 0 ∷ at 0 1 ∷ at 0 3 ∷ at 0 4 ∷ at 0 5 ∷ at 0 6 ∷ at 0 7 ∷ at 0 10 ∷ at 0 11 ∷ [])
-    ≡ node 1 0 ∷ node 1 1 ∷ node 1 1 ∷ node 1 2 ∷ node 1 2 ∷ node 1 3 ∷ node 1 4 ∷ node 1 4 ∷ None ∷ []
+    ≡ node 1 0 ∷ node 1 1 ∷ node 1 1 ∷ node 1 2 ∷ node 1 2 ∷ node 1 3 ∷ node 1 4 ∷ node 1 4 ∷
+    None ∷ []
 parents_of_cores = refl
 
 pub parents_of_clusters : map (parent uneven)

@@ -1,30 +1,26 @@
 -- Worked examples: what a call with its reply says and comes down to, and what holds of values.
-use Rattle.std.proofs.Common.{◌≡◌, ◌≤◌, ◌<◌, ℕ, ℤ, pos, Bool, true, false, List, [], ◌∷◌, map}
+use Rattle.std.proofs.Common.{◌≡◌, ◌≤◌, ℕ, pos, true, false, [], ◌∷◌, map}
 use Rattle.std.proofs.Common.{Option, None, Some, refl, arith}
-use Rattle.psci_board.specs.declared.node.Core.{Core}
 use Rattle.psci_model.specs.declared.call.FwCall.{FwCall}
-use Rattle.psci_model.specs.declared.call.FwCall.TheVariants.{Smc, Enter}
+use Rattle.psci_model.specs.declared.call.FwCall.TheVariants.{Enter}
 use Rattle.psci_model.specs.declared.fault.FwFault.TheVariants.{NotRunning, OldStart}
 use Rattle.psci_model.specs.declared.message.Message.{Message}
 use Rattle.psci_model.specs.declared.outcome.Act.{Act}
 use Rattle.psci_model.specs.declared.outcome.Act.TheVariants as acts
-use Rattle.psci_model.specs.declared.phase.Phase.{Phase}
 use Rattle.psci_model.specs.declared.phase.Phase.TheVariants as phases
 use Rattle.psci_model.specs.declared.reply.FwReply.{FwReply}
 use Rattle.psci_model.specs.declared.reply.FwReply.TheVariants.{Out, Fault}
 use Rattle.psci_model.specs.declared.start.Cause.TheVariants.{Wake}
 use Rattle.psci_model.specs.declared.start.Start.{Start}
-use Rattle.psci_model.specs.declared.status.Status.{Status}
 use Rattle.psci_model.specs.declared.status.Status.TheVariants.{On, Off, Pending}
-use Rattle.psci_model.specs.Answer.{reply_of}
-use Rattle.psci_model.specs.Effects.{Effect, Nothing, GoesOn, AsksOn, Rests, Enters, Parks, effect_of}
+use Rattle.psci_model.specs.Effects.{Nothing, GoesOn, AsksOn, Rests, Enters, Parks, effect_of}
 use Rattle.psci_model.specs.Invariant.{AreValues, agrees}
 use Rattle.psci_model.specs.Lives.{start_of_life}
-use Rattle.psci_model.specs.Outcomes.{goes_on, returns}
+use Rattle.psci_model.specs.Outcomes.{goes_on}
 use Rattle.psci_model.specs.Phases.{is_running, phase_under}
 use Rattle.psci_model.specs.Said.{phase_by}
 use Rattle.psci_model.specs.Values.{Values}
-use Rattle.psci_model.proofs.Steps.{Step, board, down_of, on_3, start_of, version}
+use Rattle.psci_model.proofs.Steps.{board, down_of, on_3, start_of, version}
 
 abbrev zero_code : Act
 zero_code = acts.Return (record { 0 = pos 0 })

@@ -1,11 +1,10 @@
 -- Worked examples: a history that is legal, and for each way to be wrong one that is not.
-use Rattle.std.proofs.Common.{◌≡◌, ℕ, ℤ, pos, negsuc, true, false, List, [], ◌∷◌, Option, None, Some}
+use Rattle.std.proofs.Common.{◌≡◌, ℕ, pos, true, false, List, [], ◌∷◌, None, Some}
 use Rattle.std.proofs.Common.{refl}
 use Rattle.psci_board.specs.Board.{BoardValue, core_of, up}
-use Rattle.psci_model.specs.declared.fault.FwFault.TheVariants.{NoCore, NoLife, NotRunning, OldStart}
+use Rattle.psci_model.specs.declared.fault.FwFault.TheVariants.{NoLife, NotRunning}
 use Rattle.psci_model.specs.declared.message.Kind.{Kind}
 use Rattle.psci_model.specs.declared.message.Kind.TheVariants as kinds
-use Rattle.psci_model.specs.declared.message.Message.{Message}
 use Rattle.psci_model.specs.declared.outcome.Act.{Act}
 use Rattle.psci_model.specs.declared.outcome.Act.TheVariants as acts
 use Rattle.psci_model.specs.declared.reply.FwReply.{FwReply}

@@ -1,6 +1,8 @@
+mod CallSays
 mod Callers
 mod CpuOnRows
 mod EffectRows
+mod EnterSays
 mod Follows
 mod LegalRows
 mod OneMore

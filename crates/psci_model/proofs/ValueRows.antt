@@ -1,8 +1,6 @@
 -- Worked examples: what is known after some calls, by looking backwards and by what is kept.
-use Rattle.std.proofs.Common.{◌≡◌, ℕ, ℤ, pos, List, [], ◌∷◌, map, Option, None, Some, refl}
-use Rattle.psci_abi.specs.declared.code.Code.{Code}
-use Rattle.psci_board.specs.Board.{BoardValue, core_of, up}
-use Rattle.psci_model.specs.declared.call.FwCall.{FwCall}
+use Rattle.std.proofs.Common.{◌≡◌, ℕ, pos, List, [], ◌∷◌, map, Option, None, Some, refl}
+use Rattle.psci_board.specs.Board.{core_of, up}
 use Rattle.psci_model.specs.declared.fault.FwFault.TheVariants.{NotRunning}
 use Rattle.psci_model.specs.declared.message.Message.{Message}
 use Rattle.psci_model.specs.declared.opening.Opening.{Opening}

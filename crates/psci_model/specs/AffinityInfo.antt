@@ -1,10 +1,10 @@
 -- AFFINITY_INFO: the status of a core or power domain.
-use Rattle.std.specs.Prelude.{ℕ, pos, Bool, true, false, ◌&&◌, ◌==◌, nat_lt, nat_le}
+use Rattle.std.specs.Prelude.{ℕ, pos, Bool, true, false, ◌==◌}
 use Rattle.std.specs.Prelude.{if◌then◌else◌, List, Option, None, Some}
 use Rattle.std.specs.List.{list_any}
 use Rattle.psci_abi.specs.Codes.{invalid_parameters}
 use Rattle.psci_abi.specs.declared.code.Code.{Code}
-use Rattle.psci_board.specs.Board.{BoardValue, below, height, node_of, nodes}
+use Rattle.psci_board.specs.Board.{BoardValue, below, has_node, node_of}
 use Rattle.psci_board.specs.declared.node.Node.{Node}
 use Rattle.psci_model.specs.declared.status.Status.{Status}
 use Rattle.psci_model.specs.declared.status.Status.TheVariants.{On, Off, Pending}
@@ -33,10 +33,6 @@ abbrev pub status_over : (ℕ → Status) → List ℕ → Status
 status_over status cs =
     if list_any (λ c. is_on (status c)) cs then On
     else (if list_any (λ c. is_pending (status c)) cs then Pending else Off)
-
--- whether the board has this node
-abbrev pub has_node : BoardValue → Node → Bool
-has_node b n = nat_le n.level (height b) && nat_lt n.place (nodes b n.level)
 
 -- The status of a power domain, by those of the cores: a core has its own, a domain above has that
 -- of the cores below it. A node that the board does not have is OFF.
