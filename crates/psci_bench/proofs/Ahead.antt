@@ -1,12 +1,17 @@
 -- Reading ahead, step after step.
-use Rattle.std.proofs.Common.{◌≡◌, ℕ, ◌<◌, Bool, true, false, List, [], ◌++◌, length, take, refl, ap, sym, ◌∙◌, arith, Option, Some, None, append_assoc, append-nil, Result, Ok, Err, IfOk, IfErr, OnErr, IsErr, IsErrAnd, length-append, subst}
+use Rattle.std.proofs.Common.{◌≡◌, ℕ, ◌<◌, Bool, true, false, List, [], ◌++◌, length, take, refl}
+use Rattle.std.proofs.Common.{ap, sym, ◌∙◌, arith, Option, Some, None, append_assoc, append-nil}
+use Rattle.std.proofs.Common.{Result, Ok, Err, IfOk, IfErr, OnErr, IsErr, IsErrAnd, length-append}
+use Rattle.std.proofs.Common.{subst}
 use Rattle.std.specs.Io.KnownBytes.{Appends, Consumes, Keeps}
 use Rattle.psci_bench.specs.declared.fault.ReplayFault.{ReplayFault}
-use Rattle.psci_bench.specs.declared.fault.ReplayFault.TheVariants.{Script, Board, Read, Write, Memory}
+use Rattle.psci_bench.specs.declared.fault.ReplayFault.TheVariants.{Script, Board, Read, Write}
+use Rattle.psci_bench.specs.declared.fault.ReplayFault.TheVariants.{Memory}
 use Rattle.psci_bench.specs.Answered.{Answered}
 use Rattle.psci_bench.specs.Block.{ReadAhead, Refills}
 use Rattle.psci_bench.specs.declared.progress.Progress.{Progress as Fields}
-use Rattle.psci_bench.specs.Progress.{Progress, progress, SameDevices, StaySound, Ahead, WriteFailed, ReadFailed, ReadsAhead, FailsAhead}
+use Rattle.psci_bench.specs.Progress.{Progress, progress, SameDevices, StaySound, Ahead}
+use Rattle.psci_bench.specs.Progress.{WriteFailed, ReadFailed, ReadsAhead, FailsAhead}
 use Rattle.psci_bench.proofs.Known.{appends_more, consumes_more, consumes_keeps}
 
 consumes_none : (a : Option (List ℕ)) → (let none : List ℕ = [] in Consumes a a none)
@@ -146,12 +151,14 @@ reads_ahead (Ok false) s new left after taken answered a w ok err kept same goin
   ahead_more s (progress s.block left answered taken) (progress new after answered taken) a
       (refilled_ahead false s.block new left after taken answered ok
       (after_end false s.block new left after ok)),
-  ok.appended ∙ ap (λ (x : List ℕ). s.block.unread ++ x) (ok.none refl).0 ∙ append-nil s.block.unread,
+  ok.appended ∙ ap (λ (x : List ℕ). s.block.unread ++ x) (ok.none refl).0
+      ∙ append-nil s.block.unread,
   (ok.none refl).1,
 )
 reads_ahead (Err Read) s new left after taken answered a w ok err kept same going = (
   record {
-    ahead = ahead_more s (progress s.block left answered taken) (progress new after answered taken) a
+    ahead = ahead_more s (progress s.block left answered taken)
+        (progress new after answered taken) a
         (unread_ahead s.block new left after taken answered same kept going);
     none_wait = w;
     going = ap (λ (b : ReadAhead). b.ended) same ∙ going;
@@ -183,4 +190,5 @@ pub write_failed_ahead : (r : Result Bool ReplayFault) (e : ReplayFault) (s t : 
     → ReadsAhead r s t
 write_failed_ahead (Ok b) e s t h w front left = absurd (h.1)
 write_failed_ahead (Err f) e s t h w front left =
-    subst (λ (x : ReplayFault). FailsAhead x s t) (sym (h.1 ∙ w)) (write_failed_at s t front.0 front.1 left)
+    subst (λ (x : ReplayFault). FailsAhead x s t) (sym (h.1 ∙ w))
+    (write_failed_at s t front.0 front.1 left)

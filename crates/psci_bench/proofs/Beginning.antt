@@ -1,5 +1,7 @@
 -- How a run begins.
-use Rattle.std.proofs.Common.{◌≡◌, ℕ, zero, suc, ◌<◌, ◌≤◌, Bool, true, false, cond, List, [], ◌∷◌, ◌++◌, length, take, drop, refl, ap, sym, ◌∙◌, arith, append_assoc, subst, Option, Result, Ok, Err, inl}
+use Rattle.std.proofs.Common.{◌≡◌, ℕ, zero, suc, ◌<◌, ◌≤◌, Bool, true, false, cond, List, [], ◌∷◌}
+use Rattle.std.proofs.Common.{◌++◌, length, take, drop, refl, ap, sym, ◌∙◌, arith, append_assoc}
+use Rattle.std.proofs.Common.{subst, Option, Result, Ok, Err, inl}
 use Rattle.std.proofs.lemmas.List.{take-append-drop, length-take-le}
 use Rattle.std.specs.Io.KnownBytes.{Appends, Consumes, IsAtEnd}
 use Rattle.psci_board.specs.Board.{BoardValue}
@@ -15,7 +17,9 @@ use Rattle.psci_bench.specs.Answered.{Answered}
 use Rattle.psci_bench.specs.Block.{ReadAhead}
 use Rattle.psci_bench.specs.Lines.{lines, has_line_feed}
 use Rattle.psci_bench.specs.Progress.{Progress, progress, Ahead, WriteFailed, IsLine}
-use Rattle.psci_bench.specs.Script.{Saying, Transcript, after_line, transcript, transcript_of_rest, transcript_of_first, transcript_of_board, transcript_of_lines, board_line, ok_or, ends}
+use Rattle.psci_bench.specs.Script.{Saying, Transcript, after_line, transcript, transcript_of_rest}
+use Rattle.psci_bench.specs.Script.{transcript_of_first, transcript_of_board, transcript_of_lines}
+use Rattle.psci_bench.specs.Script.{board_line, ok_or, ends}
 use Rattle.psci_board.specs.Reading.{literal_at}
 use Rattle.std.specs.Prelude.{codes}
 use Rattle.psci_bench.specs.Run.{LinesAnswered, Ended, CutShort, Unwritten}
@@ -35,7 +39,11 @@ pub record Fresh (first before : Option (List ℕ)) (s : Progress) : Type 0 wher
 
 abbrev pub opened : Option (List ℕ) → Option (List ℕ) → Progress
 opened first before =
-    progress (record { unread = []; ended = false }) first (record { waiting = []; events = 0 }) before
+    progress (record { unread = []; ended = false }) first (record {
+      waiting =
+          [];
+      events = 0;
+    }) before
 
 pub fresh_ahead : (first before : Option (List ℕ)) (s : Progress) → Ahead (opened first before) s
     → Fresh first before s
@@ -48,14 +56,16 @@ fresh_ahead first before s a = record {
   events = a.events;
 }
 
-pub transcript_is : (says : Saying) (bytes : List ℕ) → transcript says bytes ≡ transcript_of_lines says (lines bytes)
+pub transcript_is : (says : Saying) (bytes : List ℕ) → transcript says bytes
+    ≡ transcript_of_lines says (lines bytes)
 unfolding transcript
 transcript_is says bytes = refl
 
 fresh_ends : (says : Saying) (first before : Option (List ℕ)) (s : Progress)
     (end : Result Replayed ReplayFault) → Fresh first before s
     → ((rest : List ℕ) → (s.block.ended ≡ true → rest ≡ [])
-    → transcript_of_lines says (lines (s.block.unread ++ rest)) ≡ ends end) → Ended says end first before s
+    → transcript_of_lines says (lines (s.block.unread ++ rest)) ≡ ends end)
+    → Ended says end first before s
 fresh_ends says first before s end k h = record {
   read = s.block.unread;
   from = k.from;
@@ -66,13 +76,16 @@ fresh_ends says first before s end k h = record {
       ∙ ap (λ (x : List ℕ). let r : Transcript = record { text = x; end = end } in r) (sym k.none);
 }
 
-pub fresh_none : (says : Saying) (first before : Option (List ℕ)) (s : Progress) → Fresh first before s
+pub fresh_none : (says : Saying) (first before : Option (List ℕ)) (s : Progress)
+    → Fresh first before s
     → s.block.unread ≡ [] → s.block.ended ≡ true
     → Ended says (Err (Script 1 NoBoard)) first before s
 fresh_none says first before s k u e = fresh_ends says first before s (Err (Script 1 NoBoard)) k
-    (λ rest f. ap (transcript_of_lines says) (ap lines (ap (λ (x : List ℕ). x ++ rest) u ∙ f e) ∙ lines_none))
+    (λ rest f. ap (transcript_of_lines says) (ap lines (ap (λ (x : List ℕ). x ++ rest) u ∙ f e)
+    ∙ lines_none))
 
-pub fresh_long : (says : Saying) (first before : Option (List ℕ)) (s : Progress) → Fresh first before s
+pub fresh_long : (says : Saying) (first before : Option (List ℕ)) (s : Progress)
+    → Fresh first before s
     → 256 < length s.block.unread → has_line_feed (take 257 s.block.unread) ≡ false
     → Ended says (Err (Script 1 Long)) first before s
 fresh_long says first before s k h f =
@@ -133,7 +146,8 @@ fresh_stopped says Rest first before s k h = record {
     (transcript says (s.block.unread ++ rest)).text,
     ap (λ (x : List ℕ). x ++ (transcript says (s.block.unread ++ rest)).text) (sym k.none),
   );
-  transcript = ap (λ (r : Transcript). r.text) (transcript_is says [] ∙ ap (transcript_of_lines says) lines_none) ∙ sym k.none;
+  transcript = ap (λ (r : Transcript). r.text) (transcript_is says [] ∙ ap
+      (transcript_of_lines says) lines_none) ∙ sym k.none;
 }
 
 nothing_first : (x y : List ℕ) → x ++ y ≡ [] → x ≡ []
@@ -190,11 +204,11 @@ begun says b first before block left taken answered e text k i l v = record {
       ∙ ap (transcript_of_lines says) (line_first e block rest i f)
       ∙ ap (λ r. transcript_of_first says r (lines rest)) l
       ∙ ap (λ r. transcript_of_board says r (lines rest)) v
-      ∙ ap (λ (x : List ℕ). after_line x (transcript_of_rest says b [] 1 (lines rest))) (sym k.none);
+      ∙ ap (λ (x : List ℕ). after_line x (transcript_of_rest says b [] 1 (lines rest)))
+      (sym k.none);
   events = k.events;
   lines = λ f. whole_line [] e block i f;
 }
-
 
 -- the bytes that wait have room in the block
 pub room_of : {x y : List ℕ} → x ≡ y → length x ≤ 65536 → length y ≤ 65536

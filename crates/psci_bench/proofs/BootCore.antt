@@ -1,5 +1,6 @@
 -- What the firmware answers the boot core, before it has entered and while it runs.
-use Rattle.std.proofs.Common.{◌≡◌, ◌<◌, ◌==◌, ◌||◌, ℕ, Bool, true, false, not, cond, nat_lt, Option, Some, None, Result, Ok, Err, refl, ap, sym, ◌∙◌, arith}
+use Rattle.std.proofs.Common.{◌≡◌, ◌<◌, ◌==◌, ◌||◌, ℕ, Bool, true, false, not, cond, nat_lt, Option}
+use Rattle.std.proofs.Common.{Some, None, Result, Ok, Err, refl, ap, sym, ◌∙◌, arith}
 use Rattle.std.proofs.lemmas.Bool.{eqb-true}
 use Rattle.std.proofs.lemmas.Bool.Decides.{nat_tests}
 use Rattle.psci_abi.specs.Calls.{request_of}
@@ -23,7 +24,8 @@ use Rattle.psci_fw.specs.Phase.{phase_of, is_running}
 use Rattle.psci_fw.specs.Values.{Values, start_of_life}
 use Rattle.psci_fw.specs.Entry.{PowerOn, on_by, activity_of}
 use Rattle.psci_fw.specs.After.{after, change, call_effect}
-use Rattle.psci_fw.specs.Answers.{answer, call_fault, entry_fault, entry_at, outcome_of, reply_or, started, target_of, target_among, off_target, in_life}
+use Rattle.psci_fw.specs.Answers.{answer, call_fault, entry_fault, entry_at, outcome_of, reply_or}
+use Rattle.psci_fw.specs.Answers.{started, target_of, target_among, off_target, in_life}
 use Rattle.psci_bench.specs.declared.event.Event.{Event}
 use Rattle.psci_bench.specs.declared.event.Event.TheVariants.{Call, Enter}
 use Rattle.psci_bench.specs.declared.firmware_machine.Place.TheVariants.{Running}

@@ -1,5 +1,7 @@
 -- How a run ends.
-use Rattle.std.proofs.Common.{◌≡◌, ℕ, suc, ◌+◌, ◌<◌, ◌≤◌, true, false, List, [], ◌∷◌, ◌++◌, length, take, drop, refl, ap, sym, ◌∙◌, arith, append_assoc, append-nil, subst, Option, None, Result, Ok, Err, inr}
+use Rattle.std.proofs.Common.{◌≡◌, ℕ, suc, ◌+◌, ◌<◌, ◌≤◌, true, false, List, [], ◌∷◌, ◌++◌, length}
+use Rattle.std.proofs.Common.{take, drop, refl, ap, sym, ◌∙◌, arith, append_assoc, append-nil}
+use Rattle.std.proofs.Common.{subst, Option, None, Result, Ok, Err, inr}
 use Rattle.std.proofs.Math.Seq.{take-length}
 use Rattle.std.proofs.lemmas.List.{take-append-drop, length-take-le}
 use Rattle.std.specs.Io.KnownBytes.{Consumes, IsAtEnd}
@@ -15,11 +17,13 @@ use Rattle.psci_bench.specs.declared.said.Record.{Record}
 use Rattle.psci_bench.specs.Line.{line_of}
 use Rattle.psci_bench.specs.Lines.{lines, has_line_feed}
 use Rattle.psci_bench.specs.Progress.{Progress, WriteFailed, IsLine, FaultyLine}
-use Rattle.psci_bench.specs.Script.{Saying, Transcript, after_line, transcript, transcript_of_rest, line_said, ok_or, ends}
+use Rattle.psci_bench.specs.Script.{Saying, Transcript, after_line, transcript, transcript_of_rest}
+use Rattle.psci_bench.specs.Script.{line_said, ok_or, ends}
 use Rattle.psci_bench.specs.Run.{Follows, LinesAnswered, Ended, CutShort, Unwritten}
 use Rattle.psci_bench.proofs.Known.{appends_more}
 use Rattle.psci_bench.proofs.Split.{lines_long, lines_some, lines_none, Longer}
-use Rattle.psci_bench.proofs.Transcripts.{answered_ahead, line_first, fault_transcript, no_rest_is, line_read, line_long, line_many, skipped}
+use Rattle.psci_bench.proofs.Transcripts.{answered_ahead, line_first, fault_transcript, no_rest_is}
+use Rattle.psci_bench.proofs.Transcripts.{line_read, line_long, line_many, skipped}
 
 pub follows_whole : (block : ReadAhead) (rest : List ℕ) → (block.ended ≡ true → rest ≡ [])
     → Follows block (block.unread ++ rest)
@@ -56,7 +60,8 @@ pub ends_well : (says : Saying) (b : BoardValue) (past : List Record) (n : ℕ)
     → Ended says (Ok (record { lines = n; events = s.answered.events })) first before s
 ends_well says b past n first before s k u e =
     ended_by says b past n first before s (Ok (record { lines = n; events = s.answered.events })) k
-    (λ rest f. ap (transcript_of_rest says b past n) (ap lines (ap (λ (x : List ℕ). x ++ rest) u ∙ f e)
+    (λ rest f. ap (transcript_of_rest says b past n) (ap lines (ap (λ (x : List ℕ). x ++ rest) u
+    ∙ f e)
     ∙ lines_none)
     ∙ no_rest_is says b past n
     ∙ ap (λ (m : ℕ). ends (Ok (record { lines = n; events = m }))) (sym k.events))
@@ -102,7 +107,8 @@ ends_faulty says b past n first before s NoBoard k h = absurd h
 
 -- a line outside the grammar
 pub ends_line : (says : Saying) (b : BoardValue) (past : List Record) (n : ℕ)
-    (first before : Option (List ℕ)) (s : Progress) (e : Extent) → LinesAnswered says b past n first before s
+    (first before : Option (List ℕ)) (s : Progress) (e : Extent)
+    → LinesAnswered says b past n first before s
     → IsLine e s.block → n + 1 ≤ 1000000 → length (take e.line s.block.unread) ≤ 256
     → line_of (take e.line s.block.unread) ≡ None
     → Ended says (Err (Script (n + 1) Line)) first before s
@@ -118,7 +124,8 @@ ends_line says b past n first before s e k i h few o =
     (line_read (n + 1) (take e.line s.block.unread) h few ∙ ap (λ x. ok_or x Line) o))
 
 pub stopped : (says : Saying) (Rest : ℕ → List ℕ → Type 0) (b : BoardValue) (past : List Record)
-    (n : ℕ) (first before : Option (List ℕ)) (s : Progress) → LinesAnswered says b past n first before s
+    (n : ℕ) (first before : Option (List ℕ)) (s : Progress)
+    → LinesAnswered says b past n first before s
     → (s.block.ended ≡ true → 0 < length s.block.unread) → Rest (n + 1) s.block.unread
     → CutShort says Rest first before s
 stopped says Rest b past n first before s k f h = record {
@@ -149,12 +156,14 @@ stopped says Rest b past n first before s k f h = record {
       ∙ ap (λ (r : Transcript). r.text) (k.answers [] (λ t. (0, refl)))
       ∙ ap (λ (x : List (List ℕ)).
       (k.written ++ s.answered.waiting) ++ (transcript_of_rest says b past n x).text) lines_none
-      ∙ ap (λ (r : Transcript). (k.written ++ s.answered.waiting) ++ r.text) (no_rest_is says b past n)
+      ∙ ap (λ (r : Transcript). (k.written ++ s.answered.waiting) ++ r.text)
+      (no_rest_is says b past n)
       ∙ append-nil (k.written ++ s.answered.waiting);
 }
 
 pub failed : (says : Saying) (b : BoardValue) (past : List Record) (n : ℕ)
-    (first before : Option (List ℕ)) (s t : Progress) → LinesAnswered says b past n first before s → WriteFailed s t
+    (first before : Option (List ℕ)) (s t : Progress)
+    → LinesAnswered says b past n first before s → WriteFailed s t
     → Unwritten says first before t.left t.taken
 failed says b past n first before s t k d =
     let m = d.before in

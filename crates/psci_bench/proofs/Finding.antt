@@ -1,12 +1,16 @@
 -- What a call for the next line finds.
-use Rattle.std.proofs.Common.{◌≡◌, ℕ, ◌<◌, ◌≤◌, Bool, true, false, List, [], ◌∷◌, length, refl, ap, sym, ◌∙◌, arith, Option, Some, None, Result, Ok, Err, IsErr, IsErrAnd, subst, nat_lt, cond, inr}
+use Rattle.std.proofs.Common.{◌≡◌, ℕ, ◌<◌, ◌≤◌, Bool, true, false, List, [], ◌∷◌, length, refl, ap}
+use Rattle.std.proofs.Common.{sym, ◌∙◌, arith, Option, Some, None, Result, Ok, Err, IsErr, IsErrAnd}
+use Rattle.std.proofs.Common.{subst, nat_lt, cond, inr}
 use Rattle.std.proofs.lemmas.List.{take_all}
 use borrow.Author.Tests.{ltb-true, ltb-false}
 use Rattle.psci_bench.specs.declared.fault.ReplayFault.{ReplayFault}
-use Rattle.psci_bench.specs.declared.fault.ReplayFault.TheVariants.{Script, Board, Read, Write, Memory}
+use Rattle.psci_bench.specs.declared.fault.ReplayFault.TheVariants.{Script, Board, Read, Write}
+use Rattle.psci_bench.specs.declared.fault.ReplayFault.TheVariants.{Memory}
 use Rattle.psci_bench.specs.declared.lines.Extent.{Extent}
 use Rattle.psci_bench.specs.Lines.{has_line_feed}
-use Rattle.psci_bench.specs.Progress.{Progress, Ahead, ReadsAhead, FailsAhead, FailsLine, FindsLine, IsLineFront}
+use Rattle.psci_bench.specs.Progress.{Progress, Ahead, ReadsAhead, FailsAhead, FailsLine, FindsLine}
+use Rattle.psci_bench.specs.Progress.{IsLineFront}
 use Rattle.psci_bench.proofs.Ahead.{ahead_more, write_failed_more, read_failed_more}
 
 not_found : (e : ReplayFault) (n : ℕ) (s m t : Progress) → FailsAhead e m t → Ahead s m
@@ -18,8 +22,10 @@ not_found Memory n s m t h a f = absurd h
 not_found (Board b) n s m t h a f = absurd h
 not_found (Script l b) n s m t h a f = absurd h
 
-pub finds_fault : (r : Result (Option Extent) ReplayFault) (e : ReplayFault) (n : ℕ) (s m t : Progress)
-    → IsErr r × IsErrAnd r (λ f. f ≡ e) → FailsAhead e m t → Ahead s m → IsLineFront n m.block.unread
+pub finds_fault : (r : Result (Option Extent) ReplayFault) (e : ReplayFault) (n : ℕ)
+    (s m t : Progress)
+    → IsErr r × IsErrAnd r (λ f. f ≡ e) → FailsAhead e m t → Ahead s m
+    → IsLineFront n m.block.unread
     → FindsLine n r s t
 finds_fault (Ok o) e n s m t h k a f = absurd (h.1)
 finds_fault (Err x) e n s m t h k a f =

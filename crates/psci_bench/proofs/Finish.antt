@@ -1,14 +1,18 @@
 -- What a replay leaves, when the last answers were written too.
-use Rattle.std.proofs.Common.{arith, ◌≡◌, ℕ, Bool, true, false, List, [], ◌++◌, length, take, drop, refl, ap, sym, ◌∙◌, append_assoc, append-nil, subst, Option, Some, None, Result, Ok, Err, IsErr, IsErrAnd, IfErr, inl}
+use Rattle.std.proofs.Common.{arith, ◌≡◌, ℕ, Bool, true, false, List, [], ◌++◌, length, take, drop}
+use Rattle.std.proofs.Common.{refl, ap, sym, ◌∙◌, append_assoc, append-nil, subst, Option, Some}
+use Rattle.std.proofs.Common.{None, Result, Ok, Err, IsErr, IsErrAnd, IfErr, inl}
 use Rattle.std.proofs.Math.Seq.{take-append_seam}
 use Rattle.std.specs.Io.KnownBytes.{Appends, Consumes, IsAtEnd}
 use Rattle.psci_bench.specs.declared.fault.Replayed.{Replayed}
 use Rattle.psci_bench.specs.declared.fault.ReplayFault.{ReplayFault}
-use Rattle.psci_bench.specs.declared.fault.ReplayFault.TheVariants.{Script, Board, Read, Write, Memory}
+use Rattle.psci_bench.specs.declared.fault.ReplayFault.TheVariants.{Script, Board, Read, Write}
+use Rattle.psci_bench.specs.declared.fault.ReplayFault.TheVariants.{Memory}
 use Rattle.psci_bench.specs.Progress.{Progress, IsLineFront}
 use Rattle.std.proofs.lemmas.List.{take-append-drop}
 use Rattle.psci_bench.specs.Script.{Saying, Transcript, transcript, transcript_of_lines}
-use Rattle.psci_bench.specs.Run.{Ended, CutShort, Unwritten, Runs, Answers, AnswersLines, AnswersPart, IsWithinBlock, Replays, is_write_fault}
+use Rattle.psci_bench.specs.Run.{Ended, CutShort, Unwritten, Runs, Answers, AnswersLines}
+use Rattle.psci_bench.specs.Run.{AnswersPart, IsWithinBlock, Replays, is_write_fault}
 use Rattle.psci_bench.proofs.Known.{appends_more}
 use Rattle.psci_bench.proofs.Split.{lines_none}
 use Rattle.psci_bench.proofs.Beginning.{transcript_is}
@@ -60,11 +64,13 @@ answers_lines says Rest first before after s k a = record {
 
 part_of : (says : Saying) (bytes read l written more : List ℕ) (before after : Option (List ℕ))
     → bytes ≡ read ++ l → (transcript says (read ++ l)).text ≡ written ++ more
-    → Appends before after written → (n : ℕ) × Appends before after (take n (transcript says bytes).text)
+    → Appends before after written → (n : ℕ) × Appends before after (take n
+    (transcript says bytes).text)
 part_of says bytes read l written more before after e t a = (
   length written,
   subst (λ (x : List ℕ). Appends before after x)
-      (sym (ap (λ (x : List ℕ). take (length written) x) (ap (λ (x : List ℕ). (transcript says x).text) e
+      (sym (ap (λ (x : List ℕ). take (length written) x) (ap (λ (x : List ℕ).
+      (transcript says x).text) e
       ∙ t) ∙ take-append_seam written more)) a,
 )
 
@@ -152,7 +158,8 @@ finish_done (Err Write) says first before after s e k a = absurd (cc)
 -- A write failed before ---------------------------------------------------------------------------
 
 pub finish_failed : (r : Result Replayed ReplayFault) (says : Saying)
-    (first before : Option (List ℕ)) (s : Progress) → is_write_fault r ≡ true → Runs says r first before s
+    (first before : Option (List ℕ)) (s : Progress) → is_write_fault r ≡ true
+    → Runs says r first before s
     → Replays says r first s.left before s.taken
 finish_failed (Ok x) says first before s e k = absurd (cc)
 finish_failed (Err (Script l f)) says first before s e k = absurd (cc)
@@ -199,6 +206,7 @@ nothing_done says first before = record {
   fits = omega arith;
   from = consumes_none first;
   to = subst (λ (x : List ℕ). Appends before before x)
-      (sym (ap (λ (r : Transcript). r.text) (transcript_is says [] ∙ ap (transcript_of_lines says) lines_none)))
+      (sym (ap (λ (r : Transcript). r.text) (transcript_is says [] ∙ ap
+      (transcript_of_lines says) lines_none)))
       (appends_none before);
 }

@@ -1,6 +1,8 @@
 -- What a read or a write in steps does to the known bytes.
 use Rattle.std.proofs.lemmas.Bool.Decides.{nat_tests}
-use Rattle.std.proofs.Common.{◌≡◌, ◌<◌, ◌==◌, ◌||◌, ◌&&◌, Bool, arith, ℕ, ◌+◌, List, ◌++◌, take, drop, ap, sym, ◌∙◌, Option, Some, None, Result, Ok, Err, OnErr, append_assoc, append-nil, subst, []}
+use Rattle.std.proofs.Common.{◌≡◌, ◌<◌, ◌==◌, ◌||◌, ◌&&◌, Bool, arith, ℕ, ◌+◌, List, ◌++◌, take}
+use Rattle.std.proofs.Common.{drop, ap, sym, ◌∙◌, Option, Some, None, Result, Ok, Err, OnErr}
+use Rattle.std.proofs.Common.{append_assoc, append-nil, subst, []}
 use Rattle.std.proofs.Math.Seq.{take-add}
 use Rattle.std.specs.Io.KnownBytes.{Appends, Consumes, Keeps}
 

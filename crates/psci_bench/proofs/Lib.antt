@@ -3,6 +3,8 @@ pub mod Beginning
 pub mod BootCore
 pub mod Cutting
 pub mod Ends
+pub mod EventLines
+pub mod FaultRows
 pub mod Finding
 pub mod Finish
 pub mod Known
@@ -16,3 +18,4 @@ pub mod Split
 pub mod Steps
 pub mod TextRows
 pub mod Transcripts
+pub mod Words

@@ -1,8 +1,7 @@
 -- What each form of a line says.
-use Rattle.std.proofs.Common.{◌≡◌, ℕ, List, [], ◌∷◌, ◌++◌, refl}
+use Rattle.std.proofs.Common.{◌≡◌, ℕ, [], ◌∷◌, ◌++◌, refl}
 use Rattle.std.specs.Prelude.{Option, None, Some, Err, Ok, codes, replicate}
 use Rattle.psci_board.specs.Reading.{literal_at, number_at, hex_at, spaced_at}
-use Rattle.psci_bench.specs.declared.event.Event.{Event}
 use Rattle.psci_bench.specs.declared.event.Event.TheVariants.{Call, Enter}
 use Rattle.psci_bench.specs.declared.fault.ScriptFault.TheVariants.{Line, Long, NoBoard, TooMany}
 use Rattle.psci_bench.specs.declared.grammar.Line.{Line as LineSays}
@@ -151,7 +150,8 @@ unfolding line_of call_at enter_at register_at optional_register_at spaced_at he
     literal_at
 call_three_registers = refl
 
-pub call_four_registers : line_of (codes "call 2 0xc4000003 0x101 0x40001000 7") ≡ call 2 0xc4000003 0x101 0x40001000 7
+pub call_four_registers : line_of (codes "call 2 0xc4000003 0x101 0x40001000 7")
+    ≡ call 2 0xc4000003 0x101 0x40001000 7
 unfolding line_of call_at enter_at register_at optional_register_at spaced_at hex_at number_at
     literal_at
 call_four_registers = refl

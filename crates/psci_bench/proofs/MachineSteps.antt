@@ -1,5 +1,7 @@
 -- A firmware with the places of its cores, after one more event.
-use Rattle.std.proofs.Common.{◌≡◌, ◌<◌, ◌≤◌, ◌==◌, ◌+◌, ◌-◌, ◌^◌, ℕ, zero, suc, Bool, true, false, cond, nat_lt, min, List, [], ◌∷◌, length, Option, Some, None, refl, ap, sym, ◌∙◌, arith}
+use Rattle.std.proofs.Common.{◌≡◌, ◌<◌, ◌≤◌, ◌==◌, ◌+◌, ◌-◌, ◌^◌, ℕ, zero, suc, Bool, true, false}
+use Rattle.std.proofs.Common.{cond, nat_lt, min, List, [], ◌∷◌, length, Option, Some, None, refl}
+use Rattle.std.proofs.Common.{ap, sym, ◌∙◌, arith}
 use Rattle.std.specs.Prelude.{slice_get, slice_set, unwrap_or, option_map}
 use Rattle.std.proofs.lemmas.Bool.{eqb-true, eqb-false, ltb-true, lt-ltb}
 use Rattle.std.proofs.lemmas.Option.{none-some, cond_some, slice_get_within}
@@ -24,7 +26,8 @@ use Rattle.psci_bench.specs.declared.said.Said.TheVariants.{Ignored, Absent}
 use Rattle.psci_bench.specs.declared.firmware_machine.Place.{Place}
 use Rattle.psci_bench.specs.Line.{core_in}
 use Rattle.psci_bench.specs.declared.said.Record.{Record}
-use Rattle.psci_bench.specs.Legal.{history, sent_count, count_of, sent_in, place, place_after, happens, call_in, outcome_in, sent_as, said_by, answered, legal}
+use Rattle.psci_bench.specs.Legal.{history, sent_count, count_of, sent_in, place, place_after}
+use Rattle.psci_bench.specs.Legal.{happens, call_in, outcome_in, sent_as, said_by, answered, legal}
 use Rattle.psci_bench.specs.MachineAfter.{MachineAfter, located}
 
 abbrev pub record_of : Event → Said → Record
@@ -176,7 +179,8 @@ still_absent b past event f ps n s = record {
 }
 
 off_board : (b : BoardValue) (past : List Record) (f : FirmwareValue) (ps : List Place) (n i : ℕ)
-    (t : Bool) → nat_lt i (cores b) ≡ t → located ps i ≡ None → MachineAfter b past f ps n → t ≡ false
+    (t : Bool) → nat_lt i (cores b) ≡ t → located ps i ≡ None → MachineAfter b past f ps n → t
+    ≡ false
 off_board b past f ps n i true on lost s =
     let small : nat_lt i (2 ^ 16) ≡ true = lt-ltb i (2 ^ 16) (omega (
       arith,
@@ -238,7 +242,8 @@ answer_is b past event f ps n reply e s =
 pub refused_after : (b : BoardValue) (past : List Record) (event : Event) (f : FirmwareValue)
     (ps : List Place) (n : ℕ) (p : Place) (fault : FwFault)
     → slice_get ps (core_in event) ≡ Some p → happens p event ≡ true
-    → Fault fault ≡ answer f.board (seen f) (core_in event) (call_in event) → MachineAfter b past f ps n
+    → Fault fault ≡ answer f.board (seen f) (core_in event) (call_in event)
+    → MachineAfter b past f ps n
     → (Ignored ≡ legal b past event) × MachineAfter b (record_of event Ignored ∷ past) f ps n
 refused_after b past event f ps n p fault got h e s = (
   answer_is b past event f ps n (Fault fault) e s

@@ -1,5 +1,6 @@
 -- Bytes that move to the front of their room.
-use Rattle.std.proofs.Common.{◌≡◌, ℕ, ◌+◌, ◌-◌, ◌≤◌, List, ◌++◌, length, take, drop, ap, sym, ◌∙◌, arith, length-drop, append_assoc, ◌<◌, ◌==◌, nat_lt, true, false, []}
+use Rattle.std.proofs.Common.{◌≡◌, ℕ, ◌+◌, ◌-◌, ◌≤◌, List, ◌++◌, length, take, drop, ap, sym, ◌∙◌}
+use Rattle.std.proofs.Common.{arith, length-drop, append_assoc, ◌<◌, ◌==◌, nat_lt, true, false, []}
 use Rattle.std.proofs.Math.Seq.{take-append-add}
 use Rattle.std.proofs.lemmas.List.{take-take, drop-take, take-append-le, length-take-le}
 use Rattle.std.proofs.lemmas.List.Edits.{take-paste}

@@ -1,6 +1,6 @@
 -- Where a core is, what may happen to it there, and what is said of it.
-use Rattle.std.proofs.Common.{◌≡◌, ℕ, pos, List, [], ◌∷◌, Bool, true, false, refl}
-use Rattle.std.specs.Prelude.{Option, None, Some}
+use Rattle.std.proofs.Common.{◌≡◌, ℕ, pos, [], ◌∷◌, true, false, refl}
+use Rattle.std.specs.Prelude.{None, Some}
 use Rattle.psci_board.specs.Board.{BoardValue, core_of, node_of, up}
 use Rattle.psci_fw.specs.declared.call.FwCall.TheVariants as calls
 use Rattle.psci_fw.specs.declared.fault.FwFault.TheVariants.{NotRunning}
@@ -19,7 +19,8 @@ use Rattle.psci_bench.specs.declared.firmware_machine.Place.TheVariants.{Started
 use Rattle.psci_bench.specs.declared.said.Record.{Record}
 use Rattle.psci_bench.specs.declared.said.Said.{Said}
 use Rattle.psci_bench.specs.declared.said.Said.TheVariants.{Fw, Ignored, Absent}
-use Rattle.psci_bench.specs.Legal.{call_in, first_start, happens, history, legal, place, said_by, sent_count}
+use Rattle.psci_bench.specs.Legal.{call_in, first_start, happens, history, legal, place, said_by}
+use Rattle.psci_bench.specs.Legal.{sent_count}
 
 -- two clusters of two cores
 abbrev board : BoardValue
@@ -83,7 +84,8 @@ runs_after_resume = refl
 pub stopped_after_stop : place (did (call 0) acts.Stop ∷ []) 0 ≡ Stopped
 stopped_after_stop = refl
 
-pub last_outcome_counts : place (did (call 0) acts.Stop ∷ did (Enter 0) (acts.Enter 0 0) ∷ []) 0 ≡ Stopped
+pub last_outcome_counts : place (did (call 0) acts.Stop ∷ did (Enter 0) (acts.Enter 0 0) ∷ []) 0
+    ≡ Stopped
 last_outcome_counts = refl
 
 -- what was ignored, or is of another core, moves it nowhere
@@ -119,14 +121,16 @@ entry_stopped = refl
 pub no_message_yet : sent_count [] ≡ 0
 no_message_yet = refl
 
-pub one_message : sent_count (did (call 0) returned ∷ sent (call 0) returned 0 ∷ said (call 1) Ignored ∷ []) ≡ 1
+pub one_message : sent_count (did (call 0) returned ∷ sent (call 0) returned 0 ∷ said
+    (call 1) Ignored ∷ []) ≡ 1
 one_message = refl
 
 pub two_messages : sent_count (sent (call 0) returned 1 ∷ sent (call 0) acts.Stop 0 ∷ []) ≡ 2
 two_messages = refl
 
 -- an outcome is said with its message under that number, and a refusal as Ignored
-pub numbered_message : said_by 5 (Out (record { act = acts.Stop; message = Some message })) ≡ Fw acts.Stop (Some (record { index = 5; message = message }))
+pub numbered_message : said_by 5 (Out (record { act = acts.Stop; message = Some message }))
+    ≡ Fw acts.Stop (Some (record { index = 5; message = message }))
 numbered_message = refl
 
 pub no_message : said_by 5 (Out (record { act = acts.Stop; message = None })) ≡ Fw acts.Stop None
@@ -136,7 +140,8 @@ pub refusal : said_by 5 (Fault NotRunning) ≡ Ignored
 refusal = refl
 
 -- what the firmware answered, newest first, and nothing that was ignored or absent
-pub history_of_two : history (did (call 0) returned ∷ said (call 9) Absent ∷ said (call 1) Ignored ∷ did (Enter 0) (acts.Enter 64 7) ∷ []) ≡ record {
+pub history_of_two : history (did (call 0) returned ∷ said (call 9) Absent ∷ said
+    (call 1) Ignored ∷ did (Enter 0) (acts.Enter 64 7) ∷ []) ≡ record {
       core = 0;
       call = call_in (call 0);
       reply = Out (record { act = returned; message = None });
@@ -148,10 +153,10 @@ pub history_of_two : history (did (call 0) returned ∷ said (call 9) Absent ∷
 history_of_two = refl
 
 pub history_with_message : history (sent (call 0) returned 4 ∷ []) ≡ record {
-      core = 0;
-      call = call_in (call 0);
-      reply = Out (record { act = returned; message = Some message });
-    } ∷ []
+  core = 0;
+  call = call_in (call 0);
+  reply = Out (record { act = returned; message = Some message });
+} ∷ []
 history_with_message = refl
 
 -- a core beyond the board, also where nothing runs yet
@@ -172,10 +177,12 @@ pub boot_core_enters : legal board [] (Enter 0) ≡ Fw (acts.Enter 0x40000000 0)
 unfolding legal answer target_of values_of core_of node_of up node_status
 boot_core_enters = refl
 
-pub boot_core_calls : legal board (did (Enter 0) (acts.Enter 0x40000000 0) ∷ []) (call 0) ≡ Fw (acts.Return (record { 0 = pos 65537 })) None
+pub boot_core_calls : legal board (did (Enter 0) (acts.Enter 0x40000000 0) ∷ []) (call 0) ≡ Fw
+    (acts.Return (record { 0 = pos 65537 })) None
 unfolding legal answer target_of values_of core_of node_of up node_status
 boot_core_calls = refl
 
-pub boot_core_enters_again : legal board (did (Enter 0) (acts.Enter 0x40000000 0) ∷ []) (Enter 0) ≡ Ignored
+pub boot_core_enters_again : legal board (did (Enter 0) (acts.Enter 0x40000000 0) ∷ []) (Enter 0)
+    ≡ Ignored
 unfolding legal answer target_of values_of core_of node_of up node_status
 boot_core_enters_again = refl

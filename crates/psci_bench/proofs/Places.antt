@@ -1,5 +1,6 @@
 -- The firmware refuses no core that is at its place.
-use Rattle.std.proofs.Common.{◌≡◌, ◌<◌, ◌==◌, ℕ, Bool, true, false, cond, nat_lt, List, [], ◌∷◌, refl, ap, sym, ◌∙◌, subst, arith}
+use Rattle.std.proofs.Common.{◌≡◌, ◌<◌, ◌==◌, ℕ, Bool, true, false, cond, nat_lt, List, [], ◌∷◌}
+use Rattle.std.proofs.Common.{refl, ap, sym, ◌∙◌, subst, arith}
 use Rattle.std.proofs.lemmas.Bool.{eqb-true}
 use Rattle.std.proofs.lemmas.Bool.Decides.{nat_tests}
 use Rattle.psci_abi.specs.declared.registers.Regs.{Regs}
@@ -21,8 +22,10 @@ use Rattle.psci_bench.specs.declared.firmware_machine.Place.{Place}
 use Rattle.psci_bench.specs.declared.firmware_machine.Place.TheVariants.{Started, Running, Stopped}
 use Rattle.psci_bench.specs.Line.{core_in}
 use Rattle.psci_bench.specs.declared.said.Record.{Record}
-use Rattle.psci_bench.specs.Legal.{IsLegalPast, IsAnswered, history, place, place_after, happens, call_in, said_by, sent_count, answered, legal}
-use Rattle.psci_bench.proofs.MachineSteps.{record_of, legal_absent, legal_here, outcome_kept, kept_place}
+use Rattle.psci_bench.specs.Legal.{IsLegalPast, IsAnswered, history, place, place_after, happens}
+use Rattle.psci_bench.specs.Legal.{call_in, said_by, sent_count, answered, legal}
+use Rattle.psci_bench.proofs.MachineSteps.{record_of, legal_absent, legal_here, outcome_kept}
+use Rattle.psci_bench.proofs.MachineSteps.{kept_place}
 use Rattle.psci_bench.proofs.BootCore.{IsUp, Answered, answers_call, enters_first}
 
 -- what the values of a history are, entry by entry

@@ -1,16 +1,16 @@
 -- What known scripts are answered.
 use Rattle.std.proofs.Common.{◌≡◌, ℕ, List, [], ◌∷◌, ◌++◌, refl}
-use Rattle.std.specs.Prelude.{codes, Ok, Err, replicate}
+use Rattle.std.specs.Prelude.{codes, Ok, Err}
 use Rattle.std.specs.Fmt.{digits}
 use Rattle.psci_board.specs.Board.{core_of, node_of, up}
-use Rattle.psci_board.specs.Reading.{literal_at, number_at, hex_at, range_at, spaced_at, at_most, more_at, list_at, mid_at, tree_at, board_text}
+use Rattle.psci_board.specs.Reading.{literal_at, number_at, hex_at, range_at, spaced_at, at_most}
+use Rattle.psci_board.specs.Reading.{more_at, list_at, mid_at, tree_at, board_text}
 use Rattle.psci_board.specs.Verdict.{board_of, verdict}
-use Rattle.psci_board.specs.declared.fault.BoardFault.TheVariants.{Grammar, Uneven, TooWide, BadRange, BadBoot, BadLimit}
 use Rattle.psci_fw.specs.Answers.{answer, target_of}
 use Rattle.psci_fw.specs.History.{values_of}
 use Rattle.psci_fw.specs.Status.{node_status}
-use Rattle.psci_bench.specs.declared.fault.ScriptFault.TheVariants.{NoBoard, Line, Long}
-use Rattle.psci_bench.specs.declared.fault.ReplayFault.TheVariants.{Script, Board}
+use Rattle.psci_bench.specs.declared.fault.ScriptFault.TheVariants.{Line}
+use Rattle.psci_bench.specs.declared.fault.ReplayFault.TheVariants.{Script}
 use Rattle.psci_bench.specs.Legal.{legal}
 use Rattle.psci_bench.specs.Line.{line_of, call_at, enter_at, register_at, optional_register_at}
 use Rattle.psci_bench.specs.Lines.{lines}
@@ -26,18 +26,21 @@ abbrev board : List ℕ
 board = codes "board (2 2) exec 0x40000000-0x40100000 boot 0x40000000 starts 1000 lives 3"
 
 -- the boot core enters, and asks for the version
-pub boot_and_version : transcript legal (text (board ∷ codes "enter 0" ∷ codes "call 0 0x84000000" ∷ []))
+pub boot_and_version : transcript legal (text
+    (board ∷ codes "enter 0" ∷ codes "call 0 0x84000000" ∷ []))
     ≡ record {
       text = text (codes "1 enter 0x40000000 0x0" ∷ codes "2 return 65537" ∷ []);
       end = Ok (record { lines = 3; events = 2 });
     }
-unfolding transcript transcript_of_rest lines legal line_of call_at enter_at register_at optional_register_at
-    board_of verdict board_text tree_at mid_at list_at more_at at_most spaced_at range_at hex_at
-    number_at literal_at answer target_of values_of core_of node_of up node_status digits
+unfolding transcript transcript_of_rest lines legal line_of call_at enter_at register_at
+    optional_register_at board_of verdict board_text tree_at mid_at list_at more_at at_most
+    spaced_at range_at hex_at number_at literal_at answer target_of values_of core_of node_of up
+    node_status digits
 boot_and_version = refl
 
 -- a core is asked on, and is ON_PENDING
-pub start_second_core : transcript legal (text (board ∷ codes "enter 0" ∷ codes "call 0 0x84000000" ∷
+pub start_second_core : transcript legal (text
+    (board ∷ codes "enter 0" ∷ codes "call 0 0x84000000" ∷
     codes "call 0 0xc4000003 0x101 0x40001000 0x7" ∷ codes "call 0 0xc4000004 0x101 0" ∷
     []))
     ≡ record {
@@ -45,9 +48,10 @@ pub start_second_core : transcript legal (text (board ∷ codes "enter 0" ∷ co
           codes "3 return 0 #0 start 3 life 1 number 0" ∷ codes "4 return 2" ∷ []);
       end = Ok (record { lines = 5; events = 4 });
     }
-unfolding transcript transcript_of_rest lines legal line_of call_at enter_at register_at optional_register_at
-    board_of verdict board_text tree_at mid_at list_at more_at at_most spaced_at range_at hex_at
-    number_at literal_at answer target_of values_of core_of node_of up node_status digits
+unfolding transcript transcript_of_rest lines legal line_of call_at enter_at register_at
+    optional_register_at board_of verdict board_text tree_at mid_at list_at more_at at_most
+    spaced_at range_at hex_at number_at literal_at answer target_of values_of core_of node_of up
+    node_status digits
 start_second_core = refl
 
 -- an unknown function, a core that does not run, one that was not started, and none
@@ -59,9 +63,10 @@ pub not_supported_ignored_absent : transcript legal
           codes "4 ignored" ∷ codes "5 absent" ∷ []);
       end = Ok (record { lines = 6; events = 5 });
     }
-unfolding transcript transcript_of_rest lines legal line_of call_at enter_at register_at optional_register_at
-    board_of verdict board_text tree_at mid_at list_at more_at at_most spaced_at range_at hex_at
-    number_at literal_at answer target_of values_of core_of node_of up node_status digits
+unfolding transcript transcript_of_rest lines legal line_of call_at enter_at register_at
+    optional_register_at board_of verdict board_text tree_at mid_at list_at more_at at_most
+    spaced_at range_at hex_at number_at literal_at answer target_of values_of core_of node_of up
+    node_status digits
 not_supported_ignored_absent = refl
 
 -- a cluster is OFF, then ON_PENDING with its core; the system is ON; there is no level 3
@@ -75,9 +80,10 @@ pub affinity_of_clusters : transcript legal
           codes "5 return 0" ∷ codes "6 return -2" ∷ []);
       end = Ok (record { lines = 7; events = 6 });
     }
-unfolding transcript transcript_of_rest lines legal line_of call_at enter_at register_at optional_register_at
-    board_of verdict board_text tree_at mid_at list_at more_at at_most spaced_at range_at hex_at
-    number_at literal_at answer target_of values_of core_of node_of up node_status digits
+unfolding transcript transcript_of_rest lines legal line_of call_at enter_at register_at
+    optional_register_at board_of verdict board_text tree_at mid_at list_at more_at at_most
+    spaced_at range_at hex_at number_at literal_at answer target_of values_of core_of node_of up
+    node_status digits
 affinity_of_clusters = refl
 
 -- the last line may end with the script
@@ -87,9 +93,10 @@ pub no_last_newline : transcript legal (text (board ∷ codes "enter 0" ∷ [])
       text = text (codes "1 enter 0x40000000 0x0" ∷ codes "2 return -1" ∷ []);
       end = Ok (record { lines = 3; events = 2 });
     }
-unfolding transcript transcript_of_rest lines legal line_of call_at enter_at register_at optional_register_at
-    board_of verdict board_text tree_at mid_at list_at more_at at_most spaced_at range_at hex_at
-    number_at literal_at answer target_of values_of core_of node_of up node_status digits
+unfolding transcript transcript_of_rest lines legal line_of call_at enter_at register_at
+    optional_register_at board_of verdict board_text tree_at mid_at list_at more_at at_most
+    spaced_at range_at hex_at number_at literal_at answer target_of values_of core_of node_of up
+    node_status digits
 no_last_newline = refl
 
 -- comments of any bytes and empty lines answer nothing
@@ -99,235 +106,21 @@ pub absent_cores_comments_blank_lines : transcript legal
       text = text (codes "1 absent" ∷ []);
       end = Ok (record { lines = 4; events = 1 });
     }
-unfolding transcript transcript_of_rest lines legal line_of call_at enter_at register_at optional_register_at
-    board_of verdict board_text tree_at mid_at list_at more_at at_most spaced_at range_at hex_at
-    number_at literal_at answer target_of values_of core_of node_of up node_status digits
+unfolding transcript transcript_of_rest lines legal line_of call_at enter_at register_at
+    optional_register_at board_of verdict board_text tree_at mid_at list_at more_at at_most
+    spaced_at range_at hex_at number_at literal_at answer target_of values_of core_of node_of up
+    node_status digits
 absent_cores_comments_blank_lines = refl
 
--- the lines before a fault are answered, and none behind it
+-- the lines before a fault are answered, and none after it
 pub deliver_before_its_time : transcript legal
     (text (board ∷ codes "enter 0" ∷ codes "deliver 0" ∷ codes "enter 0" ∷ []))
     ≡ record {
       text = text (codes "1 enter 0x40000000 0x0" ∷ []);
       end = Err (Script 3 Line);
     }
-unfolding transcript transcript_of_rest lines legal line_of call_at enter_at register_at optional_register_at
-    board_of verdict board_text tree_at mid_at list_at more_at at_most spaced_at range_at hex_at
-    number_at literal_at answer target_of values_of core_of node_of up node_status digits
+unfolding transcript transcript_of_rest lines legal line_of call_at enter_at register_at
+    optional_register_at board_of verdict board_text tree_at mid_at list_at more_at at_most
+    spaced_at range_at hex_at number_at literal_at answer target_of values_of core_of node_of up
+    node_status digits
 deliver_before_its_time = refl
-
--- lines outside the grammar
-pub bad_line_1 : transcript legal (text (board ∷ codes "enter" ∷ codes "enter 0" ∷ []))
-    ≡ record {
-      text = text ([]);
-      end = Err (Script 2 Line);
-    }
-unfolding transcript transcript_of_rest lines legal line_of call_at enter_at register_at optional_register_at
-    board_of verdict board_text tree_at mid_at list_at more_at at_most spaced_at range_at hex_at
-    number_at literal_at answer target_of values_of core_of node_of up node_status digits
-bad_line_1 = refl
-
-pub bad_line_2 : transcript legal (text (board ∷ codes "enter  0" ∷ codes "enter 0" ∷ []))
-    ≡ record {
-      text = text ([]);
-      end = Err (Script 2 Line);
-    }
-unfolding transcript transcript_of_rest lines legal line_of call_at enter_at register_at optional_register_at
-    board_of verdict board_text tree_at mid_at list_at more_at at_most spaced_at range_at hex_at
-    number_at literal_at answer target_of values_of core_of node_of up node_status digits
-bad_line_2 = refl
-
-pub bad_line_3 : transcript legal (text (board ∷ codes "enter 00" ∷ codes "enter 0" ∷ []))
-    ≡ record {
-      text = text ([]);
-      end = Err (Script 2 Line);
-    }
-unfolding transcript transcript_of_rest lines legal line_of call_at enter_at register_at optional_register_at
-    board_of verdict board_text tree_at mid_at list_at more_at at_most spaced_at range_at hex_at
-    number_at literal_at answer target_of values_of core_of node_of up node_status digits
-bad_line_3 = refl
-
-pub bad_line_4 : transcript legal (text (board ∷ codes "call 0" ∷ codes "enter 0" ∷ []))
-    ≡ record {
-      text = text ([]);
-      end = Err (Script 2 Line);
-    }
-unfolding transcript transcript_of_rest lines legal line_of call_at enter_at register_at optional_register_at
-    board_of verdict board_text tree_at mid_at list_at more_at at_most spaced_at range_at hex_at
-    number_at literal_at answer target_of values_of core_of node_of up node_status digits
-bad_line_4 = refl
-
-pub bad_line_5 : transcript legal
-    (text (board ∷ (101 ∷ 110 ∷ 116 ∷ 101 ∷ 114 ∷ 32 ∷ 48 ∷ 13 ∷ []) ∷ codes "enter 0" ∷ []))
-    ≡ record {
-      text = text ([]);
-      end = Err (Script 2 Line);
-    }
-unfolding transcript transcript_of_rest lines legal line_of call_at enter_at register_at optional_register_at
-    board_of verdict board_text tree_at mid_at list_at more_at at_most spaced_at range_at hex_at
-    number_at literal_at answer target_of values_of core_of node_of up node_status digits
-bad_line_5 = refl
-
-pub bad_line_6 : transcript legal
-    (text (board ∷ codes "take 18446744073709551616" ∷ codes "enter 0" ∷ []))
-    ≡ record {
-      text = text ([]);
-      end = Err (Script 2 Line);
-    }
-unfolding transcript transcript_of_rest lines legal line_of call_at enter_at register_at optional_register_at
-    board_of verdict board_text tree_at mid_at list_at more_at at_most spaced_at range_at hex_at
-    number_at literal_at answer target_of values_of core_of node_of up node_status digits
-bad_line_6 = refl
-
-pub bad_line_7 : transcript legal
-    (text (board ∷ codes "call 0 0x12345678901234567" ∷ codes "enter 0" ∷ []))
-    ≡ record {
-      text = text ([]);
-      end = Err (Script 2 Line);
-    }
-unfolding transcript transcript_of_rest lines legal line_of call_at enter_at register_at optional_register_at
-    board_of verdict board_text tree_at mid_at list_at more_at at_most spaced_at range_at hex_at
-    number_at literal_at answer target_of values_of core_of node_of up node_status digits
-bad_line_7 = refl
-
-pub bad_line_8 : transcript legal (text (board ∷ (255 ∷ []) ∷ codes "enter 0" ∷ []))
-    ≡ record {
-      text = text ([]);
-      end = Err (Script 2 Line);
-    }
-unfolding transcript transcript_of_rest lines legal line_of call_at enter_at register_at optional_register_at
-    board_of verdict board_text tree_at mid_at list_at more_at at_most spaced_at range_at hex_at
-    number_at literal_at answer target_of values_of core_of node_of up node_status digits
-bad_line_8 = refl
-
--- a line has 256 bytes at most
-pub comment_of_256_bytes : transcript legal (text (board ∷ (35 ∷ replicate 255 120) ∷ []))
-    ≡ record {
-      text = text ([]);
-      end = Ok (record { lines = 2; events = 0 });
-    }
-unfolding transcript transcript_of_rest lines legal line_of call_at enter_at register_at optional_register_at
-    board_of verdict board_text tree_at mid_at list_at more_at at_most spaced_at range_at hex_at
-    number_at literal_at answer target_of values_of core_of node_of up node_status digits
-comment_of_256_bytes = refl
-
-pub comment_of_257_bytes : transcript legal (text (board ∷ (35 ∷ replicate 256 120) ∷ []))
-    ≡ record {
-      text = text ([]);
-      end = Err (Script 2 Long);
-    }
-unfolding transcript transcript_of_rest lines legal line_of call_at enter_at register_at optional_register_at
-    board_of verdict board_text tree_at mid_at list_at more_at at_most spaced_at range_at hex_at
-    number_at literal_at answer target_of values_of core_of node_of up node_status digits
-comment_of_257_bytes = refl
-
--- scripts without a board line
-pub empty_script : transcript legal (text ([]))
-    ≡ record {
-      text = text ([]);
-      end = Err (Script 1 NoBoard);
-    }
-unfolding transcript transcript_of_rest lines legal line_of call_at enter_at register_at optional_register_at
-    board_of verdict board_text tree_at mid_at list_at more_at at_most spaced_at range_at hex_at
-    number_at literal_at answer target_of values_of core_of node_of up node_status digits
-empty_script = refl
-
-pub first_line_empty : transcript legal (text ([] ∷ board ∷ []))
-    ≡ record {
-      text = text ([]);
-      end = Err (Script 1 NoBoard);
-    }
-unfolding transcript transcript_of_rest lines legal line_of call_at enter_at register_at optional_register_at
-    board_of verdict board_text tree_at mid_at list_at more_at at_most spaced_at range_at hex_at
-    number_at literal_at answer target_of values_of core_of node_of up node_status digits
-first_line_empty = refl
-
-pub board_without_a_space : transcript legal (text (codes "board" ∷ []))
-    ≡ record {
-      text = text ([]);
-      end = Err (Script 1 NoBoard);
-    }
-unfolding transcript transcript_of_rest lines legal line_of call_at enter_at register_at optional_register_at
-    board_of verdict board_text tree_at mid_at list_at more_at at_most spaced_at range_at hex_at
-    number_at literal_at answer target_of values_of core_of node_of up node_status digits
-board_without_a_space = refl
-
--- board texts with a fault
-pub board_grammar : transcript legal
-    (text (codes "board () exec 0x40000000-0x40100000 boot 0x40000000 starts 1000 lives 3" ∷ []))
-    ≡ record {
-      text = text ([]);
-      end = Err (Board Grammar);
-    }
-unfolding transcript transcript_of_rest lines legal line_of call_at enter_at register_at optional_register_at
-    board_of verdict board_text tree_at mid_at list_at more_at at_most spaced_at range_at hex_at
-    number_at literal_at answer target_of values_of core_of node_of up node_status digits
-board_grammar = refl
-
-pub board_uneven : transcript legal (text (
-    codes "board (2 (2)) exec 0x40000000-0x40100000 boot 0x40000000 starts 1000 lives 3" ∷
-    []))
-    ≡ record {
-      text = text ([]);
-      end = Err (Board Uneven);
-    }
-unfolding transcript transcript_of_rest lines legal line_of call_at enter_at register_at optional_register_at
-    board_of verdict board_text tree_at mid_at list_at more_at at_most spaced_at range_at hex_at
-    number_at literal_at answer target_of values_of core_of node_of up node_status digits
-board_uneven = refl
-
-pub board_too_wide : transcript legal
-    (text (codes "board 17 exec 0x40000000-0x40100000 boot 0x40000000 starts 1000 lives 3" ∷ []))
-    ≡ record {
-      text = text ([]);
-      end = Err (Board TooWide);
-    }
-unfolding transcript transcript_of_rest lines legal line_of call_at enter_at register_at optional_register_at
-    board_of verdict board_text tree_at mid_at list_at more_at at_most spaced_at range_at hex_at
-    number_at literal_at answer target_of values_of core_of node_of up node_status digits
-board_too_wide = refl
-
-pub board_bad_range : transcript legal
-    (text (codes "board (2 2) exec 0x10-0x10 boot 0x40000000 starts 1000 lives 3" ∷ []))
-    ≡ record {
-      text = text ([]);
-      end = Err (Board BadRange);
-    }
-unfolding transcript transcript_of_rest lines legal line_of call_at enter_at register_at optional_register_at
-    board_of verdict board_text tree_at mid_at list_at more_at at_most spaced_at range_at hex_at
-    number_at literal_at answer target_of values_of core_of node_of up node_status digits
-board_bad_range = refl
-
-pub board_bad_boot : transcript legal
-    (text (codes "board (2 2) exec 0x40000000-0x40100000 boot 0x40000002 starts 1000 lives 3" ∷
-    []))
-    ≡ record {
-      text = text ([]);
-      end = Err (Board BadBoot);
-    }
-unfolding transcript transcript_of_rest lines legal line_of call_at enter_at register_at optional_register_at
-    board_of verdict board_text tree_at mid_at list_at more_at at_most spaced_at range_at hex_at
-    number_at literal_at answer target_of values_of core_of node_of up node_status digits
-board_bad_boot = refl
-
-pub board_bad_limit : transcript legal
-    (text (codes "board (2 2) exec 0x40000000-0x40100000 boot 0x40000000 starts 0 lives 3" ∷ []))
-    ≡ record {
-      text = text ([]);
-      end = Err (Board BadLimit);
-    }
-unfolding transcript transcript_of_rest lines legal line_of call_at enter_at register_at optional_register_at
-    board_of verdict board_text tree_at mid_at list_at more_at at_most spaced_at range_at hex_at
-    number_at literal_at answer target_of values_of core_of node_of up node_status digits
-board_bad_limit = refl
-
-pub board_zero_cores : transcript legal
-    (text (codes "board 0 exec 0x40000000-0x40100000 boot 0x40000000 starts 1000 lives 3" ∷ []))
-    ≡ record {
-      text = text ([]);
-      end = Err (Board TooWide);
-    }
-unfolding transcript transcript_of_rest lines legal line_of call_at enter_at register_at optional_register_at
-    board_of verdict board_text tree_at mid_at list_at more_at at_most spaced_at range_at hex_at
-    number_at literal_at answer target_of values_of core_of node_of up node_status digits
-board_zero_cores = refl

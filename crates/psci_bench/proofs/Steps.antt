@@ -1,5 +1,7 @@
 -- One step of a run, by what was answered.
-use Rattle.std.proofs.Common.{◌≡◌, ℕ, ◌+◌, ◌<◌, ◌≤◌, List, [], ◌∷◌, length, take, refl, ap, sym, ◌∙◌, arith, append-nil, subst, Option, Some, None, Result, Ok, Err, IsErr, IsErrAnd, IfErr, inl, inr}
+use Rattle.std.proofs.Common.{◌≡◌, ℕ, ◌+◌, ◌<◌, ◌≤◌, List, [], ◌∷◌, length, take, refl, ap, sym}
+use Rattle.std.proofs.Common.{◌∙◌, arith, append-nil, subst, Option, Some, None, Result, Ok, Err}
+use Rattle.std.proofs.Common.{IsErr, IsErrAnd, IfErr, inl, inr}
 use Rattle.std.proofs.lemmas.List.{length-take-le}
 use Rattle.psci_board.specs.Board.{BoardValue}
 use Rattle.psci_bench.specs.declared.grammar.Line.{Line as LineSays}
@@ -8,19 +10,24 @@ use Rattle.psci_bench.specs.declared.fault.Replayed.{Replayed}
 use Rattle.psci_bench.specs.declared.fault.ScriptFault.{ScriptFault}
 use Rattle.psci_bench.specs.declared.fault.ScriptFault.TheVariants.{NoBoard, Line, Long, TooMany}
 use Rattle.psci_bench.specs.declared.fault.ReplayFault.{ReplayFault}
-use Rattle.psci_bench.specs.declared.fault.ReplayFault.TheVariants.{Script, Board, Read, Write, Memory}
+use Rattle.psci_bench.specs.declared.fault.ReplayFault.TheVariants.{Script, Board, Read, Write}
+use Rattle.psci_bench.specs.declared.fault.ReplayFault.TheVariants.{Memory}
 use Rattle.psci_bench.specs.declared.lines.Extent.{Extent}
 use Rattle.psci_bench.specs.Answered.{Answered}
 use Rattle.psci_bench.specs.Block.{ReadAhead}
 use Rattle.psci_bench.specs.declared.said.Record.{Record}
 use Rattle.psci_bench.specs.Line.{line_of}
-use Rattle.psci_bench.specs.Progress.{Progress, progress, IsLine, IsLineFront, FailsLine, FaultyLine, FindsLine}
+use Rattle.psci_bench.specs.Progress.{Progress, progress, IsLine, IsLineFront, FailsLine}
+use Rattle.psci_bench.specs.Progress.{FaultyLine, FindsLine}
 use Rattle.psci_bench.specs.Script.{Saying}
 use Rattle.psci_bench.specs.Text.{answer_line}
-use Rattle.psci_bench.specs.Run.{LinesAnswered, Ended, EndsBy, IsWithinBlock, Runs, IsUnderWay, BoardRead, LineLeaves, LineRefused}
-use Rattle.psci_bench.proofs.Transcripts.{answered_ahead, answered_line, blank_transcript, event_transcript, skipped}
+use Rattle.psci_bench.specs.Run.{LinesAnswered, Ended, EndsBy, IsWithinBlock, Runs, IsUnderWay}
+use Rattle.psci_bench.specs.Run.{BoardRead, LineLeaves, LineRefused}
+use Rattle.psci_bench.proofs.Transcripts.{answered_ahead, answered_line, blank_transcript}
+use Rattle.psci_bench.proofs.Transcripts.{event_transcript, skipped}
 use Rattle.psci_bench.proofs.Ends.{ends_faulty, ends_line, stopped, failed}
-use Rattle.psci_bench.proofs.Beginning.{Fresh, opened, fresh_ahead, fresh_long, fresh_script, fresh_board, fresh_stopped, fresh_failed}
+use Rattle.psci_bench.proofs.Beginning.{Fresh, opened, fresh_ahead, fresh_long, fresh_script}
+use Rattle.psci_bench.proofs.Beginning.{fresh_board, fresh_stopped, fresh_failed}
 
 pub ends_so : {X : Type 0} (r : Result X ReplayFault) (e : ReplayFault) (says : Saying)
     (first before : Option (List ℕ)) (t : Progress) → IsErr r × IsErrAnd r (λ f. f ≡ e)
@@ -76,10 +83,12 @@ line_some e block (few, feeds, inr w) = omega (arith, w.1, w.2)
 
 same_answers : (says : Saying) (b : BoardValue) (past : List Record) (n : ℕ)
     (first before : Option (List ℕ)) (block : ReadAhead) (left taken : Option (List ℕ))
-    (old new : Answered) → new ≡ old → LinesAnswered says b past n first before (progress block left old taken)
+    (old new : Answered) → new ≡ old → LinesAnswered says b past n first before
+    (progress block left old taken)
     → LinesAnswered says b past n first before (progress block left new taken)
 same_answers says b past n first before block left taken old new e k =
-    subst (λ (a : Answered). LinesAnswered says b past n first before (progress block left a taken)) (sym e) k
+    subst (λ (a : Answered). LinesAnswered says b past n first before
+    (progress block left a taken)) (sym e) k
 
 pub line_not : (f : ReplayFault) (says : Saying) (b : BoardValue) (past : List Record) (n : ℕ)
     (first before : Option (List ℕ)) (block : ReadAhead) (left taken : Option (List ℕ))
@@ -88,7 +97,8 @@ pub line_not : (f : ReplayFault) (says : Saying) (b : BoardValue) (past : List R
     → LineRefused f (n + 1) (line_of (take e.line block.unread)) → new ≡ old
     → EndsBy says f first before (progress block left new taken)
 line_not (Script l fault) says b past n first before block left taken old new e m h i k x a =
-    subst (λ (w : ℕ). Ended says (Err (Script w fault)) first before (progress block left new taken))
+    subst (λ (w : ℕ). Ended says (Err (Script w fault)) first before
+    (progress block left new taken))
     (sym x.0)
     (subst (λ (y : ScriptFault). Ended says (Err (Script (n + 1) y)) first before
     (progress block left new taken)) (sym x.1)
@@ -103,7 +113,8 @@ line_not Memory says b past n first before block left taken old new e m h i k x 
     (same_answers says b past n first before block left taken old new a k)
     (λ t. line_some e block i) m
 
-line_said_goes : (o : Option LineSays) (says : Saying) (is_after : BoardValue → List Record → Type 0)
+line_said_goes : (o : Option LineSays) (says : Saying) (is_after : BoardValue → List Record
+    → Type 0)
     (b : BoardValue) (past : List Record) (n : ℕ) (first before : Option (List ℕ))
     (block : ReadAhead) (left taken : Option (List ℕ)) (old new : Answered) (e : Extent)
     → line_of (take e.line block.unread) ≡ o → n < 1000000 → length past ≤ n → IsLine e block
@@ -152,7 +163,8 @@ pub line_goes : (says : Saying) (is_after : BoardValue → List Record → Type 
     → LineLeaves says is_after b past (line_of (take e.line block.unread)) old new
     → IsUnderWay says is_after (n + 1) first before (progress (skipped block e) left new taken)
 line_goes says is_after b past n first before block left taken old new e h m i k x =
-    line_said_goes (line_of (take e.line block.unread)) says is_after b past n first before block left
+    line_said_goes (line_of
+    (take e.line block.unread)) says is_after b past n first before block left
     taken old new e refl h m i k x
 
 -- A call for the next line that found none

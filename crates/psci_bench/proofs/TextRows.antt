@@ -1,12 +1,11 @@
 -- The answer line of each thing that is said.
-use Rattle.std.proofs.Common.{◌≡◌, ℕ, ℤ, pos, negsuc, List, [], ◌∷◌, ◌++◌, refl}
+use Rattle.std.proofs.Common.{◌≡◌, ℕ, pos, negsuc, List, [], ◌∷◌, ◌++◌, refl}
 use Rattle.std.specs.Prelude.{None, Some, codes}
 use Rattle.std.specs.Fmt.{digits}
 use Rattle.psci_fw.specs.declared.message.Kind.{Kind}
 use Rattle.psci_fw.specs.declared.message.Kind.TheVariants.{Down, Start, Off, Reset}
 use Rattle.psci_fw.specs.declared.outcome.Act.{Act}
 use Rattle.psci_fw.specs.declared.outcome.Act.TheVariants.{Return, Stop, Enter, Resume}
-use Rattle.psci_bench.specs.declared.said.Said.{Said}
 use Rattle.psci_bench.specs.declared.said.Said.TheVariants.{Fw, Ignored, Absent}
 use Rattle.psci_bench.specs.Text.{answer_line, said_text}
 
@@ -51,7 +50,8 @@ pub enter_at_address : alone (Enter 0x40001000 0xabcdef) ≡ codes "enter 0x4000
 unfolding digits
 enter_at_address = refl
 
-pub enter_largest : alone (Enter 0xfffffffffffffffc 0xffffffffffffffff) ≡ codes "enter 0xfffffffffffffffc 0xffffffffffffffff"
+pub enter_largest : alone (Enter 0xfffffffffffffffc 0xffffffffffffffff)
+    ≡ codes "enter 0xfffffffffffffffc 0xffffffffffffffff"
 unfolding digits
 enter_largest = refl
 
@@ -74,7 +74,8 @@ pub down : with_message Stop Down ≡ codes "stop #12 down 3 life 2 number 10"
 unfolding digits
 down = refl
 
-pub start : with_message (Return (record { 0 = pos 0 })) Start ≡ codes "return 0 #12 start 3 life 2 number 10"
+pub start : with_message (Return (record { 0 = pos 0 })) Start
+    ≡ codes "return 0 #12 start 3 life 2 number 10"
 unfolding digits
 start = refl
 

@@ -1,5 +1,7 @@
 -- Lines that are taken one after another are answered one after another.
-use Rattle.std.proofs.Common.{◌≡◌, ℕ, ◌+◌, ◌<◌, ◌≤◌, Bool, true, false, cond, nat_lt, List, [], ◌∷◌, ◌++◌, length, take, drop, refl, ap, sym, ◌∙◌, arith, append_assoc, append-nil, subst, Option, Some, Result, Ok, Err, inl, inr}
+use Rattle.std.proofs.Common.{◌≡◌, ℕ, ◌+◌, ◌<◌, ◌≤◌, Bool, true, false, cond, nat_lt, List, [], ◌∷◌}
+use Rattle.std.proofs.Common.{◌++◌, length, take, drop, refl, ap, sym, ◌∙◌, arith, append_assoc}
+use Rattle.std.proofs.Common.{append-nil, subst, Option, Some, Result, Ok, Err, inl, inr}
 use Rattle.std.proofs.Math.Seq.{take-append-add}
 use Rattle.std.proofs.lemmas.List.{take_all, take-append-drop, length-take-le}
 use Rattle.std.proofs.lemmas.Bool.Decides.{nat_tests}
@@ -18,7 +20,8 @@ use Rattle.psci_bench.specs.declared.said.Record.{Record}
 use Rattle.psci_bench.specs.Line.{line_of}
 use Rattle.psci_bench.specs.Lines.{lines, has_line_feed, AreWhole}
 use Rattle.psci_bench.specs.Progress.{Progress, progress, Ahead, IsLine}
-use Rattle.psci_bench.specs.Script.{Saying, Transcript, after_line, transcript, transcript_of_rest, transcript_of_line, line_said, ok_or, ends}
+use Rattle.psci_bench.specs.Script.{Saying, Transcript, after_line, transcript, transcript_of_rest}
+use Rattle.psci_bench.specs.Script.{transcript_of_line, line_said, ok_or, ends}
 use Rattle.psci_bench.specs.Text.{answer_line}
 use Rattle.psci_bench.specs.Run.{Follows, LinesAnswered}
 use Rattle.psci_bench.proofs.Known.{appends_more, consumes_more}
@@ -27,7 +30,8 @@ use Rattle.psci_bench.proofs.Split.{lines_whole, lines_last, lines_none}
 -- Lines ---------------------------------------------------------------------------------------
 
 pub rest_is : (says : Saying) (b : BoardValue) (past : List Record) (n : ℕ) (l : List ℕ)
-    (ls : List (List ℕ)) → transcript_of_rest says b past n (l ∷ ls) ≡ transcript_of_line says b past (n + 1)
+    (ls : List (List ℕ)) → transcript_of_rest says b past n (l ∷ ls)
+    ≡ transcript_of_line says b past (n + 1)
     (line_said (n + 1) l) (λ records. transcript_of_rest says b records (n + 1) ls)
 unfolding transcript_of_rest
 rest_is says b past n l ls = refl
@@ -64,7 +68,8 @@ line_many n l h =
 -- a blank line, an event, and a fault
 pub blank_transcript : (says : Saying) (b : BoardValue) (past : List Record) (n : ℕ) (l : List ℕ)
     (ls : List (List ℕ)) → n + 1 ≤ 1000000 → length l ≤ 256 → line_of l ≡ Some Blank
-    → transcript_of_rest says b past n (l ∷ ls) ≡ after_line [] (transcript_of_rest says b past (n + 1) ls)
+    → transcript_of_rest says b past n (l ∷ ls) ≡ after_line [] (transcript_of_rest says b past
+    (n + 1) ls)
 blank_transcript says b past n l ls h k e =
     rest_is says b past n l ls
     ∙ ap (λ (r : Result LineSays ScriptFault). transcript_of_line says b past (n + 1) r
@@ -111,7 +116,8 @@ still_some : (s t : Progress) → Ahead s t → s.block.ended ≡ true → 0 < l
 still_some s t a e h = omega (arith, h, ap length (same_front s t a e))
 
 pub answered_ahead : (says : Saying) (b : BoardValue) (past : List Record) (n : ℕ)
-    (first before : Option (List ℕ)) (s t : Progress) → Ahead s t → LinesAnswered says b past n first before s
+    (first before : Option (List ℕ)) (s t : Progress) → Ahead s t
+    → LinesAnswered says b past n first before s
     → LinesAnswered says b past n first before t
 answered_ahead says b past n first before s t a k = record {
   whole = k.whole;
@@ -234,12 +240,14 @@ answered_line says b past later n first before block left taken old new e t i k 
       ∙ ap (λ (x : List (List ℕ)). after_line (k.written ++ old.waiting)
       (transcript_of_rest says b past n x)) (line_first e block rest i f)
       ∙ ap (after_line (k.written ++ old.waiting)) (line (lines rest))
-      ∙ after_both (k.written ++ old.waiting) t (transcript_of_rest says b later (n + 1) (lines rest))
+      ∙ after_both (k.written ++ old.waiting) t (transcript_of_rest says b later (n + 1)
+      (lines rest))
       ∙ ap (λ (x : List ℕ). after_line x (transcript_of_rest says b later (n + 1) (lines rest)))
       (append_assoc k.written old.waiting t ∙ ap (λ (x : List ℕ). k.written ++ x) (sym w));
   events = ev;
   lines = λ f. whole_line k.whole e block i f;
 } where
-  after_both : (x y : List ℕ) (z : Transcript) → after_line x (after_line y z) ≡ after_line (x ++ y) z
+  after_both : (x y : List ℕ) (z : Transcript) → after_line x (after_line y z) ≡ after_line
+      (x ++ y) z
   after_both x y z = ap (λ (v : List ℕ). let r : Transcript = record { text = v; end = z.end } in r)
       (sym (append_assoc x y z.text))

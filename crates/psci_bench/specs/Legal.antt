@@ -1,6 +1,7 @@
 -- What is said of an event, by the events before it and what was said of them. A past has its
 -- newest record first, and every definition looks backwards along it.
-use Rattle.std.specs.Prelude.{◌≡◌, ℕ, ◌+◌, ◌<◌, ⊤, Bool, true, false, ◌==◌, nat_lt, if◌then◌else◌, Option, None, Some, option_map, unwrap_or, List, [], ◌∷◌}
+use Rattle.std.specs.Prelude.{◌≡◌, ℕ, ◌+◌, ◌<◌, ⊤, Bool, true, false, ◌==◌, nat_lt, if◌then◌else◌}
+use Rattle.std.specs.Prelude.{Option, None, Some, option_map, unwrap_or, List, [], ◌∷◌}
 use Rattle.psci_board.specs.Board.{BoardValue, IsBoard, cores}
 use Rattle.psci_fw.specs.declared.start.Start.{Start}
 use Rattle.psci_fw.specs.declared.start.Cause.TheVariants.{Boot}

@@ -1,6 +1,7 @@
 pub mod Answered
 pub mod Block
 pub mod Device
+pub mod EventText
 pub mod Legal
 pub mod Limits
 pub mod Line

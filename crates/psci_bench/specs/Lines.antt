@@ -1,5 +1,6 @@
 -- The lines of some bytes, and where the first one ends.
-use Rattle.std.specs.Prelude.{◌≡◌, ℕ, ◌+◌, ◌<◌, ◌≤◌, ◌⊎◌, Bool, false, List, [], ◌∷◌, ◌++◌, length, take, drop, ◌==◌, if◌then◌else◌}
+use Rattle.std.specs.Prelude.{◌≡◌, ℕ, ◌+◌, ◌<◌, ◌≤◌, ◌⊎◌, Bool, false, List, [], ◌∷◌, ◌++◌, length}
+use Rattle.std.specs.Prelude.{take, drop, ◌==◌, if◌then◌else◌}
 use Rattle.std.specs.List.{list_any}
 use Rattle.psci_bench.specs.Limits.{longest_line}
 use Rattle.psci_bench.specs.declared.lines.Front.{Front}
@@ -29,4 +30,5 @@ IsFrontOf (Whole n) bytes =
     (n ≤ longest_line) × (n < length bytes) × (has_line_feed (take n bytes) ≡ false)
     × (bytes ≡ take n bytes ++ 10 ∷ drop (n + 1) bytes)
 IsFrontOf Part bytes = (length bytes ≤ longest_line) × (has_line_feed bytes ≡ false)
-IsFrontOf Long bytes = (longest_line < length bytes) × (has_line_feed (take (longest_line + 1) bytes) ≡ false)
+IsFrontOf Long bytes = (longest_line < length bytes) × (has_line_feed (take
+    (longest_line + 1) bytes) ≡ false)

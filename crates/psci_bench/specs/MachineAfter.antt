@@ -1,5 +1,6 @@
 -- A firmware, with where each core is, after a past.
-use Rattle.std.specs.Prelude.{◌≡◌, ℕ, ◌<◌, ◌^◌, nat_lt, if◌then◌else◌, Option, None, Some, List, slice_get, option_map}
+use Rattle.std.specs.Prelude.{◌≡◌, ℕ, ◌<◌, ◌^◌, nat_lt, if◌then◌else◌, Option, None, Some, List}
+use Rattle.std.specs.Prelude.{slice_get, option_map}
 use Rattle.psci_board.specs.Board.{BoardValue, cores}
 use Rattle.psci_board.specs.declared.node.Core.{Core}
 use Rattle.psci_fw.specs.History.{values_of}

@@ -1,11 +1,13 @@
 -- How far a replay has come, and what its steps leave: bytes read ahead, answers written, and the
 -- next line found.
-use Rattle.std.specs.Prelude.{◌≡◌, ℕ, ◌+◌, ◌<◌, ◌≤◌, ◌⊎◌, Bool, true, false, List, [], ◌∷◌, ◌++◌, length, take, drop, Option, None, Some, Result, Ok, Err}
+use Rattle.std.specs.Prelude.{◌≡◌, ℕ, ◌+◌, ◌<◌, ◌≤◌, ◌⊎◌, Bool, true, false, List, [], ◌∷◌, ◌++◌}
+use Rattle.std.specs.Prelude.{length, take, drop, Option, None, Some, Result, Ok, Err}
 use Rattle.std.specs.Io.KnownBytes.{Appends, Consumes, IsAtEnd}
 use Rattle.psci_bench.specs.declared.fault.ScriptFault.{ScriptFault}
 use Rattle.psci_bench.specs.declared.fault.ScriptFault.TheVariants.{NoBoard, Line, Long, TooMany}
 use Rattle.psci_bench.specs.declared.fault.ReplayFault.{ReplayFault}
-use Rattle.psci_bench.specs.declared.fault.ReplayFault.TheVariants.{Script, Board, Read, Write, Memory}
+use Rattle.psci_bench.specs.declared.fault.ReplayFault.TheVariants.{Script, Board, Read, Write}
+use Rattle.psci_bench.specs.declared.fault.ReplayFault.TheVariants.{Memory}
 use Rattle.psci_bench.specs.declared.lines.Extent.{Extent}
 use Rattle.psci_bench.specs.declared.progress.Progress.{Progress as Fields}
 use Rattle.psci_bench.specs.Answered.{Answered}
@@ -38,7 +40,11 @@ progress_of left taken p =
 -- a replay that has not begun: nothing was read or answered
 abbrev pub first_progress : Option (List ℕ) → Option (List ℕ) → Progress
 first_progress left taken =
-    progress (record { unread = []; ended = false }) left (record { waiting = []; events = 0 }) taken
+    progress (record { unread = []; ended = false }) left (record {
+      waiting =
+          [];
+      events = 0;
+    }) taken
 
 -- a replay keeps its devices
 pub record SameDevices {S K : Type 0} (old new : Fields S K) : Type 0 where

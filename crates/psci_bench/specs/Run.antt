@@ -1,11 +1,13 @@
 -- Where a run of a script stands, and what it leaves when it ends.
-use Rattle.std.specs.Prelude.{◌≡◌, ℕ, Bool, true, false, List, [], ◌∷◌, ◌++◌, ◌+◌, length, take, ◌<◌, ◌≤◌, ◌⊎◌, Option, None, Some, IfSome, ⊤, Result, Ok, Err}
+use Rattle.std.specs.Prelude.{◌≡◌, ℕ, Bool, true, false, List, [], ◌∷◌, ◌++◌, ◌+◌, length, take}
+use Rattle.std.specs.Prelude.{◌<◌, ◌≤◌, ◌⊎◌, Option, None, Some, IfSome, Result, Ok, Err}
 use Rattle.std.specs.Io.KnownBytes.{Appends, Consumes, IsAtEnd}
 use Rattle.psci_board.specs.Board.{BoardValue}
 use Rattle.psci_board.specs.Verdict.{board_of}
 use Rattle.psci_bench.specs.declared.fault.Replayed.{Replayed}
 use Rattle.psci_bench.specs.declared.fault.ReplayFault.{ReplayFault}
-use Rattle.psci_bench.specs.declared.fault.ReplayFault.TheVariants.{Script, Board, Read, Write, Memory}
+use Rattle.psci_bench.specs.declared.fault.ReplayFault.TheVariants.{Script, Board, Read, Write}
+use Rattle.psci_bench.specs.declared.fault.ReplayFault.TheVariants.{Memory}
 use Rattle.psci_bench.specs.declared.fault.ScriptFault.TheVariants.{Line}
 use Rattle.psci_bench.specs.declared.grammar.Line.{Line as LineSays}
 use Rattle.psci_bench.specs.declared.grammar.Line.TheVariants.{Blank, Event as Says}
@@ -103,7 +105,8 @@ EndsBy says Memory first before s = CutShort says IsWithinBlock first before s
 EndsBy says Write first before s = Unwritten says first before s.left s.taken
 
 -- what a run leaves, by how it ended
-abbrev pub Runs : Saying → Result Replayed ReplayFault → Option (List ℕ) → Option (List ℕ) → Progress
+abbrev pub Runs : Saying → Result Replayed ReplayFault → Option (List ℕ) → Option (List ℕ)
+    → Progress
     → Type 0
 Runs says (Ok replayed) first before s = Ended says (Ok replayed) first before s
 Runs says (Err fault) first before s = EndsBy says fault first before s

@@ -1,5 +1,6 @@
 -- What the bytes of a script are answered, line by line, up to the first fault.
-use Rattle.std.specs.Prelude.{ℕ, ◌+◌, List, [], ◌∷◌, ◌++◌, length, nat_lt, if◌then◌else◌, Option, None, Some, Result, Ok, Err, codes}
+use Rattle.std.specs.Prelude.{ℕ, ◌+◌, List, [], ◌∷◌, ◌++◌, length, nat_lt, if◌then◌else◌, Option}
+use Rattle.std.specs.Prelude.{None, Some, Result, Ok, Err, codes}
 use Rattle.psci_board.specs.Board.{BoardValue}
 use Rattle.psci_board.specs.Reading.{literal_at}
 use Rattle.psci_board.specs.Verdict.{board_of}
@@ -72,7 +73,8 @@ transcript_of_line says b past number (Ok (Says event)) rest =
     (rest (record { event = event; said = says b past event } ∷ past))
 
 -- what the lines after the first so many ones are answered
-unfoldable pub transcript_of_rest : Saying → BoardValue → List Record → ℕ → List (List ℕ) → Transcript
+unfoldable pub transcript_of_rest : Saying → BoardValue → List Record → ℕ → List (List ℕ)
+    → Transcript
 transcript_of_rest says b past count [] = ends (Ok (record { lines = count; events = length past }))
 transcript_of_rest says b past count (l ∷ ls) =
     transcript_of_line says b past (count + 1) (line_said (count + 1) l)

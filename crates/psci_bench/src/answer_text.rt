@@ -67,7 +67,11 @@ impl fmt::Display for Sent {
         let core = message.core.number;
         let life = message.life;
         let number = message.number;
-        write!(f, "#{} {kind} {core} life {life} number {number}", self.index)
+        write!(
+            f,
+            "#{} {kind} {core} life {life} number {number}",
+            self.index
+        )
     }
 }
 

@@ -1,6 +1,7 @@
 //! The bytes that were read ahead.
 
-ghost use Rattle.std.specs.Prelude.{◌≡◌, [], ◌<◌, ◌≤◌, length, drop, false, true, IfOk, OnOk, OnErr, IfErr};
+ghost use Rattle.std.specs.Prelude.{◌≡◌, [], ◌<◌, ◌≤◌, length, drop, false, true, IfOk, OnOk};
+ghost use Rattle.std.specs.Prelude.{OnErr, IfErr};
 ghost use Rattle.std.specs.Io.KnownBytes.{Keeps};
 ghost use Rattle.psci_bench.specs.declared.fault.ReplayFault.TheVariants.{Read};
 ghost use Rattle.psci_bench.specs.Block.{Refills};

@@ -1,11 +1,13 @@
 //! A firmware with no power controller, and where each core is.
 
-ghost use Rattle.std.specs.Prelude.{◌≡◌, ℕ, ◌+◌, ◌-◌, ◌^◌, ◌<◌, min, length, slice_set, slice_get, IfOk, OnErr, Some};
+ghost use Rattle.std.specs.Prelude.{◌≡◌, ℕ, ◌+◌, ◌-◌, ◌^◌, ◌<◌, min, length, slice_set, slice_get};
+ghost use Rattle.std.specs.Prelude.{IfOk, OnErr, Some};
 ghost use Rattle.psci_fw.specs.declared.reply.FwReply.TheVariants.{Out};
 ghost use Rattle.psci_fw.specs.After.{after};
 ghost use Rattle.psci_fw.specs.Answers.{answer, reply_of};
 ghost use Rattle.psci_fw.specs.Seen.{seen};
-ghost use Rattle.psci_bench.specs.Legal.{call_in, count_of, first_place, happens, place_after, said_by};
+ghost use Rattle.psci_bench.specs.Legal.{call_in, count_of, first_place, happens, place_after};
+ghost use Rattle.psci_bench.specs.Legal.{said_by};
 ghost use Rattle.psci_bench.specs.MachineAfter.{first_of, located};
 
 use crate::event::Event;

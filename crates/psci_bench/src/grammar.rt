@@ -2,7 +2,8 @@
 
 ghost use Rattle.std.specs.Prelude.{◌≡◌, option_map};
 ghost use Rattle.psci_board.specs.Reading.{spaced_at};
-ghost use Rattle.psci_bench.specs.Line.{register_at, optional_register_at, call_at, enter_at, line_of};
+ghost use Rattle.psci_bench.specs.Line.{register_at, optional_register_at, call_at, enter_at};
+ghost use Rattle.psci_bench.specs.Line.{line_of};
 
 use crate::event::Event;
 use psci_abi::Regs;
@@ -54,7 +55,8 @@ fn call(text: &[u8]) -> Option<Event>
     let (x1, rest) = optional_register(rest);
     let (x2, rest) = optional_register(rest);
     let (x3, rest) = optional_register(rest);
-    rest.is_empty().then_some(Event::Call(core, Regs { x0, x1, x2, x3 }))
+    rest.is_empty()
+        .then_some(Event::Call(core, Regs { x0, x1, x2, x3 }))
 }
 
 /// The entry after its first word.

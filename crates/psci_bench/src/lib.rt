@@ -28,7 +28,7 @@ mod transfer;
 pub use device::{Io, Sink, Source};
 pub use event::Event;
 pub use fault::{ReplayFault, Replayed, ScriptFault};
-pub use laws::law_places;
+pub use laws::{law_event_lines, law_places};
 pub use run::replay;
 pub use said::{Record, Said, Sent};
 pub use standard::Std;

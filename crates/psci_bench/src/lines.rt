@@ -1,6 +1,7 @@
 //! Lines of a script, cut from the bytes that were read ahead.
 
-ghost use Rattle.std.specs.Prelude.{◌≡◌, ◌==◌, ◌+◌, length, take, nat_lt, if◌then◌else◌, Some, None};
+ghost use Rattle.std.specs.Prelude.{◌≡◌, ◌==◌, ◌+◌, length, take, nat_lt, if◌then◌else◌, Some};
+ghost use Rattle.std.specs.Prelude.{None};
 ghost use Rattle.std.specs.List.{position};
 ghost use Rattle.psci_bench.specs.Limits.{longest_line};
 ghost use Rattle.psci_bench.specs.Lines.{IsFrontOf};

@@ -1,6 +1,7 @@
 //! What scripts are run on.
 
-ghost use Rattle.std.specs.Prelude.{◌≡◌, ◌^◌, ◌-◌, ◌<◌, List, [], ◌∷◌, length, IfOk, OnErr, Bool, true};
+ghost use Rattle.std.specs.Prelude.{◌≡◌, ◌^◌, ◌-◌, ◌<◌, List, [], ◌∷◌, length, IfOk, OnErr, Bool};
+ghost use Rattle.std.specs.Prelude.{true};
 ghost use Rattle.psci_board.specs.Board.{BoardValue};
 ghost use Rattle.psci_bench.specs.declared.said.Record.{Record};
 

@@ -4,7 +4,8 @@ ghost use Rattle.std.specs.Prelude.{◌≡◌, ◌<◌, length, IfErr, OnOk};
 ghost use Rattle.psci_bench.specs.declared.fault.ReplayFault.TheVariants.{Read, Write};
 ghost use Rattle.psci_bench.specs.Device.{GaveUp};
 ghost use Rattle.psci_bench.specs.Limits.{block_room};
-ghost use Rattle.psci_bench.specs.Progress.{ReadsAhead, FindsLine, SameDevices, StaySound, progress, progress_of};
+ghost use Rattle.psci_bench.specs.Progress.{ReadsAhead, FindsLine, SameDevices, StaySound};
+ghost use Rattle.psci_bench.specs.Progress.{progress, progress_of};
 
 use crate::answers::Answers;
 use crate::block::Block;

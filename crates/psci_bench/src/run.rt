@@ -1,14 +1,18 @@
 //! Scripts, answered event by event.
 
-ghost use Rattle.std.specs.Prelude.{◌≡◌, ◌+◌, ◌-◌, ◌^◌, ◌<◌, ◌≤◌, ℕ, List, length, false, Option, IfOk, IfErr, OnOk};
+ghost use Rattle.std.specs.Prelude.{◌≡◌, ◌+◌, ◌-◌, ◌^◌, ◌<◌, ◌≤◌, ℕ, List, length, false, Option};
+ghost use Rattle.std.specs.Prelude.{IfOk, IfErr, OnOk};
 ghost use Rattle.psci_board.specs.Board.{BoardValue};
 ghost use Rattle.psci_bench.specs.declared.fault.ReplayFault.TheVariants.{Read, Write};
 ghost use Rattle.psci_bench.specs.declared.said.Record.{Record};
 ghost use Rattle.psci_bench.specs.Device.{GaveUp};
 ghost use Rattle.psci_bench.specs.Legal.{legal, AnswersAtPlace};
 ghost use Rattle.psci_bench.specs.Limits.{longest_line, most_lines};
-ghost use Rattle.psci_bench.specs.Progress.{IsLine, SameDevices, StaySound, first_progress, progress_of};
-ghost use Rattle.psci_bench.specs.Run.{LinesAnswered, BoardRead, HasBegun, IsUnderWay, EndsBy, Runs, Replays, LineLeaves, LineRefused, IsNoDevice, is_write_fault};
+ghost use Rattle.psci_bench.specs.Progress.{IsLine, SameDevices, StaySound, first_progress};
+ghost use Rattle.psci_bench.specs.Progress.{progress_of};
+ghost use Rattle.psci_bench.specs.Run.{LinesAnswered, BoardRead, HasBegun, IsUnderWay, EndsBy};
+ghost use Rattle.psci_bench.specs.Run.{Runs, Replays, LineLeaves, LineRefused, IsNoDevice};
+ghost use Rattle.psci_bench.specs.Run.{is_write_fault};
 
 use crate::answers::Answers;
 use crate::block::Block;

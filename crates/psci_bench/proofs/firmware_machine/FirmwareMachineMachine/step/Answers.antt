@@ -1,4 +1,5 @@
-use Rattle.std.proofs.Common.{◌≡◌, ℕ, ap, sym, ◌∙◌, subst, arith, length, slice_set, ◌∷◌, ◌+◌, ◌-◌, ◌^◌, min}
+use Rattle.std.proofs.Common.{◌≡◌, ℕ, ap, sym, ◌∙◌, subst, arith, length, slice_set, ◌∷◌, ◌+◌, ◌-◌}
+use Rattle.std.proofs.Common.{◌^◌, min}
 use Rattle.std.proofs.lemmas.Option.{slice_get_within}
 use Rattle.psci_fw.specs.After.{after}
 use Rattle.psci_fw.specs.Answers.{answer}
@@ -10,7 +11,8 @@ use Rattle.psci_bench.specs.declared.said.Said.TheVariants.{Ignored}
 use Rattle.psci_bench.specs.Line.{core_in}
 use Rattle.psci_bench.specs.Legal.{call_in, count_of, legal, place_after, said_by}
 use Rattle.psci_bench.specs.MachineAfter.{MachineAfter, located}
-use Rattle.psci_bench.proofs.MachineSteps.{absent_after, ignored_after, refused_after, answered_after, found, record_of}
+use Rattle.psci_bench.proofs.MachineSteps.{absent_after, ignored_after, refused_after}
+use Rattle.psci_bench.proofs.MachineSteps.{answered_after, found, record_of}
 use Rattle.psci_bench.proofs.firmware_machine.FirmwareMachineMachine.step.Goals as goal
 
 pub returns-in_default-clause-ok : goal.returns-in_default-clause-ok

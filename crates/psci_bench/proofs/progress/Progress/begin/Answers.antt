@@ -22,7 +22,8 @@ returns-in_default-clause-err g c =
     let f = finds_as c.in_ok-extent.field-0 None 1 _ t c.in_default.is
     (subst (λ (s : Progress). FindsLine 1 (Ok c.in_ok-extent.field-0) s t) c.requires
     (c.in_ok-extent.ensures {u = tt}).found) in
-    subst (λ (x : ReplayFault). EndsBy g.M.Machine.legal x (g.S.Source.left c.args.self.now.source.now)
+    subst (λ (x : ReplayFault). EndsBy g.M.Machine.legal x
+    (g.S.Source.left c.args.self.now.source.now)
     (g.K.Sink.taken c.args.self.now.sink.now) t) (sym c.at.ensures)
     (fresh_none g.M.Machine.legal _ _ t (fresh_ahead _ _ t f.0) f.1 f.2)
 
@@ -36,7 +37,8 @@ returns-in_err-board-clause-err g c =
     (c.in_ok-extent.ensures {u = tt}).found) in
     ends_so c.from_residual-in_err-board.result e g.M.Machine.legal _ _ t
     c.from_residual-in_err-board.ensures
-    (board_not e g.M.Machine.legal _ _ t x (room_of c.unread.ensures.bytes c.unread.ensures.room) (fresh_ahead _ _ t f.0) f.1
+    (board_not e g.M.Machine.legal _ _ t x (room_of c.unread.ensures.bytes c.unread.ensures.room)
+    (fresh_ahead _ _ t f.0) f.1
     (subst (λ (u : List ℕ). BoardRead (Err e) (take x.line u)) c.unread.ensures.bytes
     (c.in_err-board.ensures {u = tt})))
 

@@ -33,4 +33,5 @@ returns-clause-replays g c =
     let s = progress_of g.S.Source.left g.K.Sink.taken c.run-ended.new.self in
     finish_done c.run-ended.result g.M.Machine.legal (g.S.Source.left c.args.self.now.source.now)
     (g.K.Sink.taken c.args.self.now.sink.now) (g.K.Sink.taken c.write_to.new.sink) s
-    (sym c.if-is_write_fault.ensures) c.run-ended.ensures.runs (c.in_ok-write_to.ensures {u = tt}).written
+    (sym c.if-is_write_fault.ensures) c.run-ended.ensures.runs
+    (c.in_ok-write_to.ensures {u = tt}).written

@@ -5,7 +5,8 @@ use Rattle.psci_bench.specs.Progress.{progress_of}
 use Rattle.psci_bench.proofs.Ahead.{ahead_none, ahead_more, same_more, sound_more}
 use Rattle.psci_bench.proofs.Finding.{finds_fault, finds_last, last_extent, reads_as}
 use Rattle.psci_bench.proofs.progress.Progress.next_line.Goals as goal
-use Rattle.psci_bench.proofs.progress.Progress.next_line.Goals.{else-not-is_empty-via-then-not-is_empty+else-number-gt-MOST_LINES, else-not-is_empty-via-else-not-is_empty}
+use Rattle.psci_bench.proofs.progress.Progress.next_line.Goals.{else-not-is_empty-via-then-not-is_empty+else-number-gt-MOST_LINES}
+use Rattle.psci_bench.proofs.progress.Progress.next_line.Goals.{else-not-is_empty-via-else-not-is_empty}
 
 pub loop-unread-init : goal.loop-unread-init
 loop-unread-init g c = record {
@@ -31,7 +32,8 @@ returns-in_err-read_ahead-clause-found g c =
     ] in
     finds_fault c.from_residual.result c.in_err-read_ahead.field-0.0 c.args.number _
     (progress_of g.S.Source.left g.K.Sink.taken c.loop-unread.self) _
-    c.from_residual.ensures (c.in_err-read_ahead.ensures {u = tt}).ahead c.loop-unread.invariant.ahead
+    c.from_residual.ensures
+    (c.in_err-read_ahead.ensures {u = tt}).ahead c.loop-unread.invariant.ahead
     (ap has_line_feed (sym c.unread-unread.ensures.bytes) ∙ part.1, few, k)
 
 pub returns-then-not-branch-clause-found : goal.returns-then-not-branch-clause-found
@@ -60,10 +62,10 @@ pub loop-unread-preserved : goal.loop-unread-preserved
 loop-unread-preserved g c =
     let r = c.in_ok-read_ahead.ensures {u = tt} in
     record {
-  ahead = ahead_more _ (progress_of g.S.Source.left g.K.Sink.taken c.loop-unread.self) _
-    c.loop-unread.invariant.ahead
-    (reads_as c.in_ok-read_ahead.field-0 true _ _ c.if-not-branch.false
-    (c.in_ok-read_ahead.ensures {u = tt}).ahead).0;
-  devices = same_more c.loop-unread.invariant.devices c.read_ahead.ensures.devices;
-  sound = sound_more _ _ c.loop-unread.invariant.sound r.sound;
-}
+      ahead = ahead_more _ (progress_of g.S.Source.left g.K.Sink.taken c.loop-unread.self) _
+          c.loop-unread.invariant.ahead
+          (reads_as c.in_ok-read_ahead.field-0 true _ _ c.if-not-branch.false
+          (c.in_ok-read_ahead.ensures {u = tt}).ahead).0;
+      devices = same_more c.loop-unread.invariant.devices c.read_ahead.ensures.devices;
+      sound = sound_more _ _ c.loop-unread.invariant.sound r.sound;
+    }

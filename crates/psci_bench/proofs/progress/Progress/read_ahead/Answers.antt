@@ -15,9 +15,11 @@ returns-clause-ahead g c =
     let w = c.in_ok-write_to.ensures {u = tt} in
     let r = c.refill.ensures in
     reads_ahead c.refill.result (progress_of g.S.Source.left g.K.Sink.taken c.args.self.now)
-    c.refill.new.self (g.S.Source.left c.args.self.now.source.now) (g.S.Source.left c.refill.new.source)
+    c.refill.new.self (g.S.Source.left c.args.self.now.source.now)
+    (g.S.Source.left c.refill.new.source)
     (g.K.Sink.taken c.write_to.new.sink) c.write_to.new.self
-    (written c.args.self.now.block.now (g.S.Source.left c.args.self.now.source.now) (g.K.Sink.taken c.args.self.now.sink.now)
+    (written c.args.self.now.block.now (g.S.Source.left c.args.self.now.source.now)
+    (g.K.Sink.taken c.args.self.now.sink.now)
     (g.K.Sink.taken c.write_to.new.sink) c.args.self.now.answers.now c.write_to.new.self w.none_wait
     w.written)
     (ap (λ (a : Answered). a.waiting) w.none_wait) r.bytes r.fault r.kept r.waiting r.going
