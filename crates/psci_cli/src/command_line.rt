@@ -21,9 +21,12 @@ use std::{env, io};
 pub enum Request {
     /// Replay a script.
     Replay,
-    /// Nothing more: help was shown.
+    /// Nothing more: help, or the version, was shown.
     Nothing,
 }
+
+/// The version of the program, as `--version` names it.
+const VERSION: &str = "0.1.0";
 
 const ABOUT: &str = "Replays scripts of PSCI calls against the power firmware.";
 
@@ -52,6 +55,7 @@ fn commands<'a>(alloc: Global) -> Result<Command<'a>, AllocError>
         .long_about(ABOUT_REPLAY)
         .after_help(EXAMPLE);
     Command::new(alloc, "psci_cli")
+        .version(VERSION)
         .about(ABOUT)
         .after_help(EXAMPLE)
         .subcommand_required(true)
@@ -85,7 +89,7 @@ fn words<R: Env + AllocGlobal + Eprint>(rt: &R) -> Result<Vec<String>, Failure>
     }
 }
 
-/// Shows the parser's text: help on standard output, a fault on standard error.
+/// Shows the parser's text: help and the version on standard output, a fault on standard error.
 fn shown<R: Print + Eprint>(rt: &R, error: &Error) -> Result<Request, Failure>
     ensures memory { kind_of error.now ≡ OutOfMemory → result ≡ Err (Failure.Replay Memory) }
     ensures help { AsksHelp (kind_of error.now)
