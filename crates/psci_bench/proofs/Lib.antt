@@ -6,10 +6,13 @@ pub mod Ends
 pub mod Finding
 pub mod Finish
 pub mod Known
+pub mod LineRows
 pub mod MachineSteps
 pub mod Moved
+pub mod PlaceRows
 pub mod Places
 pub mod ScriptRows
 pub mod Split
 pub mod Steps
+pub mod TextRows
 pub mod Transcripts
