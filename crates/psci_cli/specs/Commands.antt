@@ -11,7 +11,7 @@ use Rattle.psci_cli.specs.declared.exit.Failure.TheVariants.{CommandLine, Replay
 abbrev pub program : App
 program = with_subcommand
     (on_top (λ s. record s { subcommand_required = true; has_version = true })
-        (new_app (codes "psci_cli")))
+    (new_app (codes "psci_cli")))
     (new_shape (codes "replay"))
 
 -- what the parser's error asks for, and is no fault: help, or the version
