@@ -3,6 +3,8 @@
 ghost use Rattle.std.specs.Prelude.{◌≡◌, false};
 
 mod devices;
+mod standard;
+mod whole;
 
 use crate::fault::{ReplayFault, Replayed};
 use crate::run;
@@ -73,7 +75,7 @@ fn page_takes_nothing(rt: HostRuntime) {
 }
 
 #[test]
-fn script_fails_behind_a_line(rt: HostRuntime) {
+fn script_fails_after_a_line(rt: HostRuntime) {
     let mut script = Script::new(ENTRY);
     script.breaks = true;
     let page = Page::new(rt.alloc());

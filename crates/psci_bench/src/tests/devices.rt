@@ -5,7 +5,7 @@ ghost use Rattle.std.specs.Prelude.{◌≡◌, None, false};
 use crate::device::{Io, Sink, Source};
 use std::alloc::Global;
 
-/// A script in memory. A read behind its end fails.
+/// A script in memory. A read after its end fails.
 #[derive(Drop)]
 pub struct Script<'a> {
     /// The bytes that are left.
@@ -14,7 +14,7 @@ pub struct Script<'a> {
     pub most: usize,
     /// How many interruptions come before each read, at most 1,000.
     pub pauses: u32,
-    /// Whether a failure comes behind the last byte, and not the end.
+    /// Whether a failure comes after the last byte, and not the end.
     pub breaks: bool,
     /// Whether its end was read.
     pub ended: bool,
