@@ -1,2 +1,3 @@
 pub mod CommandRows
 pub mod ExitRows
+pub mod PlainRows

@@ -3,6 +3,7 @@
 
 mod command_line;
 mod exit;
+mod plain;
 
 ghost use Rattle.std.specs.Prelude.{IfErr};
 ghost use Rattle.psci_cli.specs.Exit.{IsOfReplay};
