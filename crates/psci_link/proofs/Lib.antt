@@ -1,0 +1,4 @@
+pub mod Frames
+pub mod Headings
+pub mod Parts
+pub mod Places
