@@ -1,4 +1,5 @@
 pub mod Frames
 pub mod Headings
+pub mod History
 pub mod Parts
 pub mod Places

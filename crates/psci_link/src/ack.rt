@@ -1,6 +1,7 @@
 //! Acknowledgements of the power controller.
 
 use crate::kind::Kind;
+use crate::message::Message;
 use psci_board::Core;
 use std::marker::Model;
 
@@ -56,6 +57,7 @@ impl Model for Ack {
 }
 
 ghost use Rattle.std.specs.Prelude.{◌≡◌};
+ghost use Rattle.psci_link.specs.Slots.{answers, is_done};
 
 impl Ack {
     /// The same acknowledgement again.
@@ -70,5 +72,24 @@ impl Ack {
             applied: self.applied,
             stale: self.stale,
         }
+    }
+
+    /// Whether it is of this message: they have the same kind, core, life and number.
+    pub fn answers(&self, message: &Message) -> bool
+        ensures { result ≡ answers self.now message.now }
+    {
+        self.kind == message.kind
+            && self.core == message.core
+            && self.life == message.life
+            && self.number == message.number
+    }
+
+    /// Whether nothing of this message is left to do.
+    pub fn is_done(&self, message: &Message) -> bool
+        ensures { result ≡ is_done self.now message.now }
+    {
+        self.stale
+            || self.kind != Kind::Down
+            || usize::from(self.applied) >= message.parts.as_slice().len()
     }
 }

@@ -18,6 +18,8 @@ mod heading;
 mod kind;
 mod laws;
 mod message;
+mod slots;
+mod taken;
 
 pub use ack::Ack;
 pub use decoding::decode;
@@ -25,5 +27,7 @@ pub use encoding::encode;
 pub use fault::FrameFault;
 pub use frame::{FRAME_LEN, Frame};
 pub use kind::Kind;
-pub use laws::law_frames;
+pub use laws::{law_frames, law_slots};
 pub use message::Message;
+pub use slots::Slots;
+pub use taken::Taken;
