@@ -1,7 +1,35 @@
 -- The laws of frames: bytes without a fault are the spelling of what they hold, and the spelling of
 -- a frame of the board has no fault and holds the frame.
-use Rattle.std.proofs.Common.{◌≡◌, ◌∙◌, ℕ, zero, suc, ◌+◌, ◌-◌, ◌*◌, ◌^◌, ◌<◌, ◌≤◌, Bool, true, false, not}
-use Rattle.std.proofs.Common.{List, [], ◌∷◌, ◌++◌, length, get_or, take, drop, replicate, Option, Some}
+use Rattle.std.proofs.Common.{
+  ◌≡◌,
+  ◌∙◌,
+  ℕ,
+  zero,
+  suc,
+  ◌+◌,
+  ◌-◌,
+  ◌*◌,
+  ◌^◌,
+  ◌<◌,
+  ◌≤◌,
+  Bool,
+  true,
+  false,
+  not,
+}
+use Rattle.std.proofs.Common.{
+  List,
+  [],
+  ◌∷◌,
+  ◌++◌,
+  length,
+  get_or,
+  take,
+  drop,
+  replicate,
+  Option,
+  Some,
+}
 use Rattle.std.proofs.Common.{None, cond, refl, sym, ap, arith, subst}
 use Rattle.std.specs.Prelude.{if◌then◌else◌, ◌==◌, ◌&&◌, nat_lt, slice_index, slice_range}
 use Rattle.std.specs.List.{flat_map, list_all}
@@ -20,13 +48,26 @@ use Rattle.psci_link.specs.declared.frame.Frame.TheVariants.{Message, Ack}
 use Rattle.psci_link.specs.declared.heading.Heading.{Heading}
 use Rattle.psci_link.specs.declared.heading.Heading.TheVariants as headings
 use Rattle.psci_link.specs.Message.{MessageValue, AckValue, is_climbing, is_falling, most_applied}
-use Rattle.psci_link.specs.Heading.{is_magic, heading_of, allows_count, parts_of, IsHeld, HasHeading}
+use Rattle.psci_link.specs.Heading.{
+  is_magic,
+  heading_of,
+  allows_count,
+  parts_of,
+  IsHeld,
+  HasHeading,
+}
 use Rattle.psci_link.specs.Frame.{kind_code, part_bytes, places, spelling, IsFrame, IsOf, is_within}
 use Rattle.psci_link.specs.Frame.{parts_in, number_at, places_in, count_in, is_unused_after}
 use Rattle.psci_link.specs.Frame.{AreBytes, frame_in, fault_at, fault_of_kind, first_fault}
 use Rattle.psci_link.proofs.Headings.{heading_byte, heading_of-some, heading_of-byte, parts_of-few}
 use Rattle.psci_link.proofs.Headings.{is-held, counted}
-use Rattle.psci_link.proofs.Places.{AreBytes-drop, AreBytes-take, four_bytes-fit, generations-fit, length-parts_in}
+use Rattle.psci_link.proofs.Places.{
+  AreBytes-drop,
+  AreBytes-take,
+  four_bytes-fit,
+  generations-fit,
+  length-parts_in,
+}
 use Rattle.psci_link.proofs.Places.{places-written, parts-in-places, length-places, unused-places}
 
 -- What every test says of bytes of this kind that have no fault.
@@ -36,9 +77,11 @@ pub record HasNoFault (b : BoardValue) (bytes : List ℕ) (h : Heading) : Type 0
   pub core : slice_index bytes 3 < cores b
   pub falling : is_falling 3 (parts_in (parts_of h (count_in bytes)) (places_in bytes)) ≡ true
   pub climbing : is_climbing 0 (parts_in (parts_of h (count_in bytes)) (places_in bytes)) ≡ true
-  pub within : is_within (height b) (parts_in (parts_of h (count_in bytes)) (places_in bytes)) ≡ true
+  pub within : is_within (height b) (parts_in (parts_of h (count_in bytes)) (places_in bytes))
+      ≡ true
 
-passed : (t : Bool) (e : FrameFault) (rest : Option FrameFault) → (if not t then Some e else rest) ≡ None
+passed : (t : Bool) (e : FrameFault) (rest : Option FrameFault)
+    → (if not t then Some e else rest) ≡ None
     → (t ≡ true) × (rest ≡ None)
 passed true e rest given = (refl, given)
 passed false e rest given = absurd cc
@@ -48,7 +91,8 @@ passes : (t : Bool) (e : FrameFault) (rest : Option FrameFault) → t ≡ true �
 passes true e rest holds none = none
 passes false e rest holds none = absurd cc
 
-pub has-no-fault : (b : BoardValue) (bytes : List ℕ) (h : Heading) → fault_of_kind b bytes h ≡ None → HasNoFault b bytes h
+pub has-no-fault : (b : BoardValue) (bytes : List ℕ) (h : Heading) → fault_of_kind b bytes h ≡ None
+    → HasNoFault b bytes h
 unfolding fault_of_kind
 has-no-fault b bytes h none =
     let n = parts_of h (count_in bytes) in
@@ -68,7 +112,8 @@ has-no-fault b bytes h none =
       within = levels.1;
     }
 
-pub is-without-fault : (b : BoardValue) (bytes : List ℕ) (h : Heading) → HasNoFault b bytes h → fault_of_kind b bytes h ≡ None
+pub is-without-fault : (b : BoardValue) (bytes : List ℕ) (h : Heading) → HasNoFault b bytes h
+    → fault_of_kind b bytes h ≡ None
 unfolding fault_of_kind
 is-without-fault b bytes h holds =
     passes _ _ _ holds.allowed (passes _ _ _ holds.unused
@@ -92,7 +137,8 @@ one-heading bytes h i has also = same_Some h i (sym has.kind ∙ also.kind)
 -- Reading, then writing -----------------------------------------------------------------------
 
 -- the bytes of a frame from their fields
-same-fields : (kind k core count n : ℕ) (lives ls numbers ns parts ps : List ℕ) → kind ≡ k → lives ≡ ls
+same-fields : (kind k core count n : ℕ) (lives ls numbers ns parts ps : List ℕ) → kind ≡ k
+    → lives ≡ ls
     → numbers ≡ ns → count ≡ n → parts ≡ ps
     → (0x50 ∷ 0x44 ∷ kind ∷ core ∷ lives ++ (numbers ++ count ∷ [])) ++ parts
     ≡ (0x50 ∷ 0x44 ∷ k ∷ core ∷ ls ++ (ns ++ n ∷ [])) ++ ps
@@ -103,7 +149,8 @@ number-written : (bytes : List ℕ) (start : ℕ) → AreBytes bytes → start +
     → to_be_bytes w32 (number_at bytes start) ≡ slice_range bytes start (start + 4)
 number-written bytes start fits long =
     let four : (start + 4) - start ≡ 4 = omega arith in
-    let room : (start + 4) - start ≤ length (drop start bytes) = omega (arith, length-drop start bytes) in
+    let room : (start + 4) - start ≤ length (drop start bytes)
+    = omega (arith, length-drop start bytes) in
     be_bytes_4 (slice_range bytes start (start + 4)) (number_at bytes start)
     (length-take-le ((start + 4) - start) (drop start bytes) room ∙ four)
     (AreBytes-take ((start + 4) - start) (drop start bytes) (AreBytes-drop start bytes fits)) refl
@@ -121,9 +168,12 @@ frame-fields (a ∷ b ∷ c ∷ d ∷ e ∷ f ∷ []) magic whole = absurd (omeg
 frame-fields (a ∷ b ∷ c ∷ d ∷ e ∷ f ∷ g ∷ []) magic whole = absurd (omega (arith, whole))
 frame-fields (a ∷ b ∷ c ∷ d ∷ e ∷ f ∷ g ∷ h ∷ []) magic whole = absurd (omega (arith, whole))
 frame-fields (a ∷ b ∷ c ∷ d ∷ e ∷ f ∷ g ∷ h ∷ i ∷ []) magic whole = absurd (omega (arith, whole))
-frame-fields (a ∷ b ∷ c ∷ d ∷ e ∷ f ∷ g ∷ h ∷ i ∷ j ∷ []) magic whole = absurd (omega (arith, whole))
-frame-fields (a ∷ b ∷ c ∷ d ∷ e ∷ f ∷ g ∷ h ∷ i ∷ j ∷ k ∷ []) magic whole = absurd (omega (arith, whole))
-frame-fields (a ∷ b ∷ c ∷ d ∷ e ∷ f ∷ g ∷ h ∷ i ∷ j ∷ k ∷ l ∷ []) magic whole = absurd (omega (arith, whole))
+frame-fields (a ∷ b ∷ c ∷ d ∷ e ∷ f ∷ g ∷ h ∷ i ∷ j ∷ []) magic whole
+    = absurd (omega (arith, whole))
+frame-fields (a ∷ b ∷ c ∷ d ∷ e ∷ f ∷ g ∷ h ∷ i ∷ j ∷ k ∷ []) magic whole
+    = absurd (omega (arith, whole))
+frame-fields (a ∷ b ∷ c ∷ d ∷ e ∷ f ∷ g ∷ h ∷ i ∷ j ∷ k ∷ l ∷ []) magic whole
+    = absurd (omega (arith, whole))
 frame-fields (a ∷ b ∷ c ∷ d ∷ e ∷ f ∷ g ∷ h ∷ i ∷ j ∷ k ∷ l ∷ m ∷ rest) magic whole =
     let both = and_parts (a == 0x50) (b == 0x44) magic in
     let first : a ≡ 0x50 = eqb-true a 0x50 both.0 in
@@ -155,10 +205,12 @@ frame-written b bytes (headings.Ack kind stale) fits has sound =
     (sym (heading_of-some (slice_index bytes 2) (headings.Ack kind stale) has.kind))
     (number-written bytes 4 fits (omega (arith, has.whole)))
     (number-written bytes 8 fits (omega (arith, has.whole))) refl
-    (places-written 0 (places_in bytes) (AreBytes-drop 13 bytes fits) forty (omega arith) sound.unused)
+    (places-written 0 (places_in bytes) (AreBytes-drop 13 bytes fits) forty
+    (omega arith) sound.unused)
     ∙ frame-fields bytes has.magic has.whole
 
-pub frame-is-of : (b : BoardValue) (bytes : List ℕ) (h : Heading) → HasNoFault b bytes h → IsOf b (frame_in h bytes)
+pub frame-is-of : (b : BoardValue) (bytes : List ℕ) (h : Heading) → HasNoFault b bytes h
+    → IsOf b (frame_in h bytes)
 unfolding frame_in
 frame-is-of b bytes (headings.Message kind) sound = (sound.core, sound.within)
 frame-is-of b bytes (headings.Ack kind stale) sound = sound.core
@@ -182,7 +234,8 @@ spelled-heading (Ack a) fits = record {
   kind = heading_of-byte (headings.Ack a.kind a.stale);
 }
 
-pub spelled-sound : (b : BoardValue) (f : Frame) → IsFrame f → IsOf b f → HasNoFault b (spelling f) (heading_for f)
+pub spelled-sound : (b : BoardValue) (f : Frame) → IsFrame f → IsOf b f
+    → HasNoFault b (spelling f) (heading_for f)
 spelled-sound b (Message m) fits of =
     let looked = counted m.kind m.parts fits.message.parts in
     let read = parts-in-places m.parts fits.generations in
@@ -203,44 +256,68 @@ spelled-sound b (Ack a) fits of = record {
   within = refl;
 }
 
-same-message : (kind : Kind) (core : Core) (life l number n : ℕ) (parts ps : List Part) → life ≡ l → number ≡ n
+same-message : (kind : Kind) (core : Core) (life l number n : ℕ) (parts ps : List Part) → life ≡ l
+    → number ≡ n
     → parts ≡ ps → ◌≡◌ {A = Frame}
     (Message (record { kind = kind; core = core; life = life; number = number; parts = parts }))
     (Message (record { kind = kind; core = core; life = l; number = n; parts = ps }))
 same-message kind core life l number n parts ps a b c = cc
 
-same-ack : (kind : Kind) (core : Core) (life l number n applied : ℕ) (stale : Bool) → life ≡ l → number ≡ n
+same-ack : (kind : Kind) (core : Core) (life l number n applied : ℕ) (stale : Bool) → life ≡ l
+    → number ≡ n
     → ◌≡◌ {A = Frame}
-    (Ack (record { kind = kind; core = core; life = life; number = number; applied = applied; stale = stale }))
-    (Ack (record { kind = kind; core = core; life = l; number = n; applied = applied; stale = stale }))
+    (Ack (record {
+      kind = kind;
+      core = core;
+      life = life;
+      number = number;
+      applied = applied;
+      stale
+          = stale;
+    }))
+    (Ack (record {
+      kind = kind;
+      core = core;
+      life = l;
+      number = n;
+      applied = applied;
+      stale
+          = stale;
+    }))
 same-ack kind core life l number n applied stale a b = cc
 
 pub spelled-held : (f : Frame) → IsFrame f → frame_in (heading_for f) (spelling f) ≡ f
 unfolding frame_in
 spelled-held (Message m) fits =
     same-message m.kind m.core (from_be_bytes w32 (to_be_bytes w32 m.life)) m.life
-    (from_be_bytes w32 (to_be_bytes w32 m.number)) m.number (parts_in (length m.parts) (places m.parts)) m.parts
-    (from_be_bytes-to_be_bytes_4 m.life fits.life) (from_be_bytes-to_be_bytes_4 m.number fits.number)
+    (from_be_bytes w32 (to_be_bytes w32 m.number)) m.number
+    (parts_in (length m.parts) (places m.parts)) m.parts
+    (from_be_bytes-to_be_bytes_4 m.life fits.life)
+    (from_be_bytes-to_be_bytes_4 m.number fits.number)
     (parts-in-places m.parts fits.generations)
 spelled-held (Ack a) fits =
     same-ack a.kind a.core (from_be_bytes w32 (to_be_bytes w32 a.life)) a.life
     (from_be_bytes w32 (to_be_bytes w32 a.number)) a.number a.applied a.stale
-    (from_be_bytes-to_be_bytes_4 a.life fits.life) (from_be_bytes-to_be_bytes_4 a.number fits.number)
+    (from_be_bytes-to_be_bytes_4 a.life fits.life)
+    (from_be_bytes-to_be_bytes_4 a.number fits.number)
 
 -- the bytes of a frame of the board have no fault
-pub spelled-faultless : (b : BoardValue) (f : Frame) → IsFrame f → IsOf b f → first_fault b (spelling f) ≡ None
+pub spelled-faultless : (b : BoardValue) (f : Frame) → IsFrame f → IsOf b f
+    → first_fault b (spelling f) ≡ None
 spelled-faultless b f fits of =
     first_fault-heading b (spelling f) (heading_for f) (spelled-heading f fits)
     ∙ is-without-fault b (spelling f) (heading_for f) (spelled-sound b f fits of)
 
 -- bytes with a fault are not those of a frame of the board
-pub not-refused : (b : BoardValue) (f : Frame) (bytes : List ℕ) (fault : FrameFault) → IsFrame f → IsOf b f
+pub not-refused : (b : BoardValue) (f : Frame) (bytes : List ℕ) (fault : FrameFault) → IsFrame f
+    → IsOf b f
     → spelling f ≡ bytes → first_fault b bytes ≡ Some fault → ⊥
 not-refused b f bytes fault fits of same refused =
     none-some fault (sym (spelled-faultless b f fits of) ∙ ap (first_fault b) same ∙ refused)
 
 -- bytes that spell a frame hold it
-pub is-read : (f : Frame) (bytes : List ℕ) (h : Heading) → IsFrame f → spelling f ≡ bytes → HasHeading bytes h
+pub is-read : (f : Frame) (bytes : List ℕ) (h : Heading) → IsFrame f → spelling f ≡ bytes
+    → HasHeading bytes h
     → frame_in h bytes ≡ f
 is-read f bytes h fits same has =
     let here : HasHeading bytes (heading_for f)
@@ -255,7 +332,8 @@ length-spelling f fits = (spelled-heading f fits).whole
 
 pub one-frame : (f g : Frame) → IsFrame f → IsFrame g → spelling f ≡ spelling g → f ≡ g
 one-frame f g fits also same =
-    sym (is-read f (spelling g) (heading_for g) fits same (spelled-heading g also)) ∙ spelled-held g also
+    sym (is-read f (spelling g) (heading_for g) fits same (spelled-heading g also))
+    ∙ spelled-held g also
 
 number-fits : (bytes : List ℕ) (start : ℕ) → AreBytes bytes → number_at bytes start < 2 ^ 32
 number-fits bytes start fits =

@@ -1,6 +1,36 @@
 -- Kind bytes: each says what it was written for, and counts go with parts.
-use Rattle.std.proofs.Common.{◌≡◌, ◌∙◌, ℕ, zero, suc, ◌+◌, ◌*◌, ◌/◌, ◌%◌, ◌<◌, ◌≤◌, Bool, true, false}
-use Rattle.std.proofs.Common.{List, [], ◌∷◌, length, Option, Some, None, refl, sym, ap, arith, subst, inl, inr}
+use Rattle.std.proofs.Common.{
+  ◌≡◌,
+  ◌∙◌,
+  ℕ,
+  zero,
+  suc,
+  ◌+◌,
+  ◌*◌,
+  ◌/◌,
+  ◌%◌,
+  ◌<◌,
+  ◌≤◌,
+  Bool,
+  true,
+  false,
+}
+use Rattle.std.proofs.Common.{
+  List,
+  [],
+  ◌∷◌,
+  length,
+  Option,
+  Some,
+  None,
+  refl,
+  sym,
+  ap,
+  arith,
+  subst,
+  inl,
+  inr,
+}
 use Rattle.std.specs.Prelude.{if◌then◌else◌, nat_le, ◌==◌, ◌⊎◌}
 use Rattle.std.proofs.lemmas.Option.{same_Some, none-some, option_and_then_some}
 use Rattle.std.proofs.lemmas.Bool.{and_parts, and_from, eqb-true, leb-true, le-leb}
@@ -11,7 +41,14 @@ use Rattle.psci_link.specs.declared.kind.Kind.TheVariants.{Down, Start, Off, Res
 use Rattle.psci_link.specs.declared.heading.Heading.{Heading}
 use Rattle.psci_link.specs.declared.heading.Heading.TheVariants.{Message, Ack}
 use Rattle.psci_link.specs.Message.{is_climbing, is_falling, IsClaim, ArePartsOf, most_applied}
-use Rattle.psci_link.specs.Heading.{kind_of, heading_of, heading_with, allows_count, parts_of, IsHeld}
+use Rattle.psci_link.specs.Heading.{
+  kind_of,
+  heading_of,
+  heading_with,
+  allows_count,
+  parts_of,
+  IsHeld,
+}
 use Rattle.psci_link.specs.Frame.{kind_code}
 
 -- the kind byte that says this
@@ -19,7 +56,8 @@ abbrev pub heading_byte : Heading → ℕ
 heading_byte (Message kind) = kind_code kind
 heading_byte (Ack kind stale) = (if stale then 32 else 16) + kind_code kind
 
-chosen : {A : Type 0} (t : Bool) (x : A) (rest : Option A) (y : A) → (if t then Some x else rest) ≡ Some y
+chosen : {A : Type 0} (t : Bool) (x : A) (rest : Option A) (y : A)
+    → (if t then Some x else rest) ≡ Some y
     → ((t ≡ true) × (x ≡ y)) ⊎ (rest ≡ Some y)
 chosen true x rest y e = inl (refl, same_Some x y e)
 chosen false x rest y e = inr e
@@ -57,7 +95,8 @@ heading_with-some high kind h e =
 -- a byte that says this is the one that is written for it
 pub heading_of-some : (byte : ℕ) (h : Heading) → heading_of byte ≡ Some h → byte ≡ heading_byte h
 heading_of-some byte h e =
-    option_and_then_some {P = byte ≡ heading_byte h} (heading_with (byte / 16)) (kind_of (byte % 16)) h e (λ kind named says.
+    option_and_then_some {P = byte ≡ heading_byte h} (heading_with (byte / 16))
+    (kind_of (byte % 16)) h e (λ kind named says.
     let low = kind_of-some (byte % 16) kind named in
     let whole = heading_with-some (byte / 16) kind h says in
     omega (arith, low, whole))
@@ -80,16 +119,26 @@ heading_of-byte (Ack Reset true) = refl
 -- no frame has more than four parts
 pub parts_of-few : (h : Heading) (n : ℕ) → allows_count h n ≡ true → parts_of h n ≤ 4
 parts_of-few (Message Down) n e = leb-true n 4 (and_parts (nat_le 1 n) (nat_le n 4) e).1
-parts_of-few (Message Start) n e = omega (arith, leb-true n 0 (and_parts (nat_le 0 n) (nat_le n 0) e).1)
-parts_of-few (Message Off) n e = omega (arith, leb-true n 0 (and_parts (nat_le 0 n) (nat_le n 0) e).1)
-parts_of-few (Message Reset) n e = omega (arith, leb-true n 0 (and_parts (nat_le 0 n) (nat_le n 0) e).1)
+parts_of-few (Message Start) n e = omega (
+  arith,
+  leb-true n 0 (and_parts (nat_le 0 n) (nat_le n 0) e).1,
+)
+parts_of-few (Message Off) n e = omega (
+  arith,
+  leb-true n 0 (and_parts (nat_le 0 n) (nat_le n 0) e).1,
+)
+parts_of-few (Message Reset) n e = omega (
+  arith,
+  leb-true n 0 (and_parts (nat_le 0 n) (nat_le n 0) e).1,
+)
 parts_of-few (Ack kind stale) n e = omega arith
 
 -- what was looked at is what every message and every acknowledgement keeps
 none-left : (n : ℕ) (ps : List Part) → length ps ≡ n → n ≤ 0 → ps ≡ []
 none-left n ps same few = nil_from_length ps (omega arith)
 
-pub is-held : (h : Heading) (n : ℕ) (ps : List Part) → length ps ≡ parts_of h n → allows_count h n ≡ true
+pub is-held : (h : Heading) (n : ℕ) (ps : List Part) → length ps ≡ parts_of h n
+    → allows_count h n ≡ true
     → is_falling 3 ps ≡ true → is_climbing 0 ps ≡ true → IsHeld h n ps
 is-held (Message Down) n ps same allowed falling climbing =
     let both = and_parts (nat_le 1 n) (nat_le n 4) allowed in
@@ -111,7 +160,8 @@ pub record Counted (kind : Kind) (ps : List Part) : Type 0 where
   pub falling : is_falling 3 ps ≡ true
   pub climbing : is_climbing 0 ps ≡ true
 
-nothing-counted : (kind : Kind) (ps : List Part) → ps ≡ [] → allows_count (Message kind) 0 ≡ true → Counted kind ps
+nothing-counted : (kind : Kind) (ps : List Part) → ps ≡ [] → allows_count (Message kind) 0 ≡ true
+    → Counted kind ps
 nothing-counted kind ps none allowed =
     subst (λ (xs : List Part). Counted kind xs) (sym none)
     (record { few = omega arith; allowed = allowed; falling = refl; climbing = refl })

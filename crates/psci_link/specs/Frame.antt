@@ -8,6 +8,7 @@ use Rattle.std.specs.Int.{w32, w64, to_be_bytes, from_be_bytes}
 use Rattle.psci_board.specs.declared.node.Core.{Core}
 use Rattle.psci_board.specs.Board.{BoardValue, cores, height}
 use Rattle.psci_coord.specs.declared.part.Part.{Part}
+use Rattle.psci_link.specs.declared.frame.TheConstants.{FRAME_LEN, HEADER_LEN, PART_LEN, PART_PLACES}
 use Rattle.psci_link.specs.declared.kind.Kind.{Kind}
 use Rattle.psci_link.specs.declared.kind.Kind.TheVariants.{Down, Start, Off, Reset}
 use Rattle.psci_link.specs.declared.fault.FrameFault.{FrameFault}
@@ -37,7 +38,8 @@ kind_byte (Ack a) = (if a.stale then 32 else 16) + kind_code a.kind
 -- the bytes before the parts
 abbrev pub header : ℕ → Core → ℕ → ℕ → ℕ → List ℕ
 header kind core life number count =
-    0x50 ∷ 0x44 ∷ kind ∷ core.number ∷ to_be_bytes w32 life ++ (to_be_bytes w32 number ++ count ∷ [])
+    0x50 ∷ 0x44 ∷ kind ∷ core.number ∷ to_be_bytes w32 life ++
+    (to_be_bytes w32 number ++ count ∷ [])
 
 -- a part in its place of ten bytes
 abbrev pub part_bytes : Part → List ℕ
@@ -45,7 +47,7 @@ part_bytes p = p.level ∷ p.depth ∷ to_be_bytes w64 p.generation
 
 -- the parts in the first of four places, and zeros in the others
 unfoldable pub places : List Part → List ℕ
-places ps = flat_map part_bytes ps ++ replicate (10 * (4 - length ps)) 0
+places ps = flat_map part_bytes ps ++ replicate (PART_LEN * (PART_PLACES - length ps)) 0
 
 -- the 53 bytes of a frame
 abbrev pub spelling : Frame → List ℕ
@@ -62,11 +64,13 @@ pub record MessageFits (m : MessageValue) : Type 0 where
   pub number : m.number < 2 ^ 32
   pub generations : AllByRecursion (λ p. p.generation < 2 ^ 64) m.parts
 
+-- the same of an acknowledgement
 pub record AckFits (a : AckValue) : Type 0 where
   pub ack : IsAck a
   pub life : a.life < 2 ^ 32
   pub number : a.number < 2 ^ 32
 
+-- a frame that can be spelled
 abbrev pub IsFrame : Frame → Type 0
 IsFrame (Message m) = MessageFits m
 IsFrame (Ack a) = AckFits a
@@ -97,16 +101,17 @@ part_in bytes = record {
 -- the parts of so many places
 abbrev pub parts_in : ℕ → List ℕ → List Part
 parts_in zero bytes = []
-parts_in (suc n) bytes = part_in bytes ∷ parts_in n (drop 10 bytes)
+parts_in (suc n) bytes = part_in bytes ∷ parts_in n (drop PART_LEN bytes)
 
 -- the number of four bytes that begins at this one
 abbrev pub number_at : List ℕ → ℕ → ℕ
 number_at bytes start = from_be_bytes w32 (slice_range bytes start (start + 4))
 
--- the part places of a frame, and its count
+-- the four part places
 abbrev pub places_in : List ℕ → List ℕ
-places_in bytes = drop 13 bytes
+places_in bytes = drop HEADER_LEN bytes
 
+-- the count
 abbrev pub count_in : List ℕ → ℕ
 count_in bytes = slice_index bytes 12
 
@@ -132,7 +137,7 @@ frame_in (headings.Ack kind stale) bytes = Ack (record {
 
 -- each byte of the part places after so many is zero
 abbrev pub is_unused_after : ℕ → List ℕ → Bool
-is_unused_after n bytes = list_all (λ byte. byte == 0) (drop (10 * n) (places_in bytes))
+is_unused_after n bytes = list_all (λ byte. byte == 0) (drop (PART_LEN * n) (places_in bytes))
 
 -- the first fault of bytes of this kind
 unfoldable pub fault_of_kind : BoardValue → List ℕ → Heading → Option FrameFault
@@ -146,6 +151,7 @@ fault_of_kind b bytes heading =
     else (if not (is_climbing 0 parts && is_within (height b) parts) then Some faults.Level
     else None))))
 
+-- the first fault, where the kind byte says this
 abbrev pub fault_at : BoardValue → List ℕ → Option Heading → Option FrameFault
 fault_at b bytes None = Some faults.Kind
 fault_at b bytes (Some heading) = fault_of_kind b bytes heading
@@ -153,6 +159,6 @@ fault_at b bytes (Some heading) = fault_of_kind b bytes heading
 -- the first fault of bytes, where they are no frame of the board
 unfoldable pub first_fault : BoardValue → List ℕ → Option FrameFault
 first_fault b bytes =
-    if not (length bytes == 53) then Some faults.Length
+    if not (length bytes == FRAME_LEN) then Some faults.Length
     else (if not (is_magic bytes) then Some faults.Magic
     else fault_at b bytes (heading_of (slice_index bytes 2)))

@@ -1,7 +1,23 @@
 -- What the kind byte of a frame says, and which counts go with it.
-use Rattle.std.specs.Prelude.{◌≡◌, length, slice_index, ℕ, ◌/◌, ◌%◌, ◌≤◌, List, Bool, true, false, ◌&&◌, ◌==◌, nat_le}
+use Rattle.std.specs.Prelude.{
+  ◌≡◌,
+  length,
+  slice_index,
+  ℕ,
+  ◌/◌,
+  ◌%◌,
+  ◌≤◌,
+  List,
+  Bool,
+  true,
+  false,
+  ◌&&◌,
+  ◌==◌,
+  nat_le,
+}
 use Rattle.std.specs.Prelude.{if◌then◌else◌, Option, Some, None, option_and_then}
 use Rattle.psci_coord.specs.declared.part.Part.{Part}
+use Rattle.psci_link.specs.declared.frame.TheConstants.{FRAME_LEN, PART_PLACES}
 use Rattle.psci_link.specs.declared.kind.Kind.{Kind}
 use Rattle.psci_link.specs.declared.kind.Kind.TheVariants.{Down, Start, Off, Reset}
 use Rattle.psci_link.specs.declared.heading.Heading.{Heading}
@@ -33,15 +49,16 @@ heading_with high kind =
 abbrev pub heading_of : ℕ → Option Heading
 heading_of byte = option_and_then (heading_with (byte / 16)) (kind_of (byte % 16))
 
--- how many parts a message has, at least and at most
+-- how many parts a message has at least
 abbrev pub least_parts : Kind → ℕ
 least_parts Down = 1
 least_parts Start = 0
 least_parts Off = 0
 least_parts Reset = 0
 
+-- and at most
 abbrev pub most_parts : Kind → ℕ
-most_parts Down = 4
+most_parts Down = PART_PLACES
 most_parts Start = 0
 most_parts Off = 0
 most_parts Reset = 0
@@ -63,6 +80,6 @@ IsHeld (Ack kind stale) n ps = n ≤ most_applied kind
 
 -- bytes that have the length, the beginning and the kind byte of such a frame
 pub record HasHeading (bytes : List ℕ) (h : Heading) : Type 0 where
-  pub whole : length bytes ≡ 53
+  pub whole : length bytes ≡ FRAME_LEN
   pub magic : is_magic bytes ≡ true
   pub kind : heading_of (slice_index bytes 2) ≡ Some h

@@ -38,14 +38,17 @@ ends slot m (Acknowledge a) = answers a m && is_done a m
 -- the outstanding message of a slot
 unfoldable pub outstanding : Slot → List Change → Option MessageValue
 outstanding slot changes =
-    option_and_then (λ m. if list_any (ends slot m) (changes_since slot changes) then None else Some m)
+    option_and_then
+    (λ m. if list_any (ends slot m) (changes_since slot changes) then None else Some m)
     (last_message slot changes)
 
+-- what is sent for a core is for one that has a slot
 abbrev pub IsChange : ℕ → Change → Type 0
 IsChange cores (Put m) = IsOfCores cores (slot_of m.kind m.core)
 IsChange cores (Clear core) = Unit {0}
 IsChange cores ClearAll = Unit {0}
 IsChange cores (Acknowledge a) = Unit {0}
 
+-- the same of a history
 abbrev pub AreChanges : ℕ → List Change → Type 0
 AreChanges cores changes = AllByRecursion (IsChange cores) changes

@@ -1,6 +1,29 @@
 -- Outstanding messages: the slots that hold them, and what a history of changes says is in each.
-use Rattle.std.specs.Prelude.{◌≡◌, ℕ, ◌<◌, ◌≤◌, Bool, true, false, ◌&&◌, ◌||◌, not, ◌==◌, nat_le, nat_lt}
-use Rattle.std.specs.Prelude.{List, [], ◌∷◌, length, replicate, take_while, slice_set, slice_index_or}
+use Rattle.std.specs.Prelude.{
+  ◌≡◌,
+  ℕ,
+  ◌<◌,
+  ◌≤◌,
+  Bool,
+  true,
+  false,
+  ◌&&◌,
+  ◌||◌,
+  not,
+  ◌==◌,
+  nat_le,
+  nat_lt,
+}
+use Rattle.std.specs.Prelude.{
+  List,
+  [],
+  ◌∷◌,
+  length,
+  replicate,
+  take_while,
+  slice_set,
+  slice_index_or,
+}
 use Rattle.std.specs.Prelude.{if◌then◌else◌, Option, Some, None, option_and_then, is_none}
 use Rattle.std.specs.List.{list_any, AllByRecursion}
 use Rattle.psci_board.specs.declared.node.Core.{Core}
@@ -15,6 +38,7 @@ pub record SlotsValue : Type 0 where
   pub cores : List (Option MessageValue)
   pub system : Option MessageValue
 
+-- where a message is while it is outstanding
 pub data Slot : Type 0 where
   OfCore : ℕ → Slot
   OfSystem : Slot
@@ -26,6 +50,7 @@ slot_of Start core = OfCore core.number
 slot_of Off core = OfSystem
 slot_of Reset core = OfSystem
 
+-- both are the same slot
 abbrev pub is_slot : Slot → Slot → Bool
 is_slot (OfCore c) (OfCore d) = c == d
 is_slot (OfCore c) OfSystem = false
@@ -34,6 +59,7 @@ is_slot OfSystem OfSystem = true
 
 -- Acknowledgements ----------------------------------------------------------------------------
 
+-- both are the same kind
 abbrev pub is_kind : Kind → Kind → Bool
 is_kind Down Down = true
 is_kind Start Start = true
@@ -52,6 +78,7 @@ is_done a m = a.stale || (not (is_kind a.kind Down) || nat_le (length m.parts) a
 
 -- The map from slots to messages --------------------------------------------------------------
 
+-- the message in a slot
 abbrev pub message_in : SlotsValue → Slot → Option MessageValue
 message_in s (OfCore c) = slice_index_or s.cores c None
 message_in s OfSystem = s.system

@@ -1,6 +1,7 @@
 //! Reading frames.
 
-ghost use Rattle.std.specs.Prelude.{◌≡◌, ◌≤◌, ◌<◌, ◌^◌, ◌+◌, ◌*◌, MatchResult, IfOk, IfErr, Ok, Some, None};
+ghost use Rattle.std.specs.Prelude.{◌≡◌, ◌≤◌, ◌<◌, ◌^◌, ◌+◌, ◌*◌, Ok, Some, None};
+ghost use Rattle.std.specs.Prelude.{MatchResult, IfOk, IfErr};
 ghost use Rattle.std.specs.Prelude.{length, drop, slice_index};
 ghost use Rattle.psci_link.specs.Message.{is_climbing, is_falling};
 ghost use Rattle.psci_link.specs.Heading.{parts_of, IsHeld, HasHeading};
@@ -13,9 +14,9 @@ ghost use Rattle.psci_link.specs.Frame.{places_in, count_in, fault_of_kind};
 ghost use Rattle.psci_link.specs.Frame.{first_fault, frame_in};
 
 use crate::ack::Ack;
-use crate::encoding::{HEADER_LEN, MAGIC, PART_LEN};
+use crate::encoding::MAGIC;
 use crate::fault::FrameFault;
-use crate::frame::{FRAME_LEN, Frame};
+use crate::frame::{FRAME_LEN, Frame, HEADER_LEN, PART_LEN};
 use crate::heading::Heading;
 use crate::message::Message;
 use psci_board::{Board, Core};
@@ -40,7 +41,8 @@ pub fn decode(bytes: &[u8], board: &Board) -> Result<Frame, FrameFault>
 #[tactic(auto, unfolding(crate::specs::Frame::first_fault))]
 fn heading_in(bytes: &[u8]) -> Result<Heading, FrameFault>
     ensures kind { IfOk result (HasHeading bytes.now) }
-    ensures fault { IfErr result (λ fault. (b : BoardValue) → first_fault b bytes.now ≡ Some fault) }
+    ensures fault { IfErr result (λ fault. (b : BoardValue)
+        → first_fault b bytes.now ≡ Some fault) }
 {
     if bytes.len() != FRAME_LEN {
         return Err(FrameFault::Length);
@@ -88,7 +90,8 @@ fn parts_on(board: &Board, heading: Heading, bytes: &[u8]) -> Result<Parts, Fram
 #[tactic(auto, unfolding(crate::specs::Frame::frame_in))]
 fn frame_with(heading: Heading, bytes: &[u8], parts: Parts) -> Frame
     requires whole { length bytes.now ≡ 53 }
-    requires parts { parts ≡ parts_in (parts_of heading (count_in bytes.now)) (places_in bytes.now) }
+    requires parts { parts
+        ≡ parts_in (parts_of heading (count_in bytes.now)) (places_in bytes.now) }
     requires held { IsHeld heading (count_in bytes.now) parts }
     ensures { result ≡ frame_in heading bytes.now }
 {

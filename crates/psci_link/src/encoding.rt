@@ -6,19 +6,13 @@ ghost use Rattle.std.specs.List.{AllByRecursion};
 ghost use Rattle.psci_link.specs.Frame.{kind_code, header, part_bytes, places, spelling, IsFrame};
 ghost use Rattle.psci_link.specs.Message.{is_climbing};
 
-use crate::frame::{FRAME_LEN, Frame};
+use crate::frame::{FRAME_LEN, Frame, HEADER_LEN, PART_LEN, PART_PLACES};
 use crate::kind::Kind;
 use psci_board::Core;
 use psci_coord::Part;
 
 /// The first two bytes of a frame.
 pub(crate) const MAGIC: [u8; 2] = [0x50, 0x44];
-
-/// How many bytes stand before the parts.
-pub(crate) const HEADER_LEN: usize = 13;
-
-/// How many bytes a part has.
-pub(crate) const PART_LEN: usize = 10;
 
 /// The bytes of a frame.
 pub fn encode(frame: &Frame) -> [u8; FRAME_LEN]
@@ -71,7 +65,7 @@ fn header(kind: u8, core: Core, life: u32, number: u32, count: u8) -> [u8; HEADE
 
 /// The header and the parts, and zeros in the places that are not used.
 fn joined(header: [u8; HEADER_LEN], parts: &[Part]) -> [u8; FRAME_LEN]
-    requires few { length parts.now ≤ 4 }
+    requires few { length parts.now ≤ PART_PLACES }
     requires levels { is_climbing 0 parts.now ≡ true }
     ensures bytes { result ≡ header ++ places parts.now }
     ensures fits { AllByRecursion (λ part. part.generation < 2 ^ 64) parts.now }

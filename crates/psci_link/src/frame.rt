@@ -8,6 +8,15 @@ use crate::message::Message;
 /// How many bytes a frame has.
 pub const FRAME_LEN: usize = 53;
 
+/// How many bytes stand before the parts.
+pub(crate) const HEADER_LEN: usize = 13;
+
+/// How many bytes a part has.
+pub(crate) const PART_LEN: usize = 10;
+
+/// How many parts a frame has room for.
+pub const PART_PLACES: usize = 4;
+
 /// A message or an acknowledgement.
 #[derive(Debug, PartialEq, Eq, Drop)]
 pub enum Frame {

@@ -12,7 +12,7 @@ pub(crate) enum Heading {
 }
 
 ghost use Rattle.std.specs.Prelude.{◌≡◌, ◌≤◌, true};
-ghost use Rattle.psci_link.specs.Heading.{kind_of, heading_of, heading_with, allows_count, parts_of};
+ghost use Rattle.psci_link.specs.Heading.{kind_of, heading_of, allows_count, parts_of};
 
 impl Heading {
     /// What a kind byte says, if it is one.

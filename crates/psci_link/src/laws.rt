@@ -4,8 +4,8 @@ ghost use Rattle.std.specs.Prelude.{◌≡◌, ℕ, List, None, Some, true, leng
 ghost use Rattle.psci_board.specs.Board.{BoardValue};
 ghost use Rattle.psci_link.specs.declared.frame.Frame.{Frame};
 ghost use Rattle.psci_link.specs.Frame.{AreBytes, IsFrame, IsOf, spelling, first_fault};
-
-ghost use Rattle.psci_link.specs.Message.{MessageValue};
+ghost use Rattle.psci_link.specs.Message.{MessageValue, IsClaim, PartByPart};
+ghost use Rattle.psci_coord.specs.declared.part.Part.{Part};
 ghost use Rattle.psci_link.specs.Slots.{SlotsValue, Slot, slot_of, is_slot, message_in, Change};
 ghost use Rattle.psci_link.specs.Slots.{after, after_all, changed};
 ghost use Rattle.psci_link.specs.Outstanding.{outstanding, IsChange, AreChanges};
@@ -20,6 +20,12 @@ pub fn law_frames()
         → (f : Frame) × IsFrame f × IsOf b f × (spelling f ≡ bytes) }
 {}
 
+/// A list of parts is a claim exactly where each of its parts is as it should be.
+pub fn law_parts()
+    ensures claim { (ps : List Part) → PartByPart ps → IsClaim ps }
+    ensures parts { (ps : List Part) → IsClaim ps → PartByPart ps }
+{}
+
 /// The slots hold what the history of changes says.
 pub fn law_slots()
     // What each change leaves in each slot.
@@ -31,5 +37,4 @@ pub fn law_slots()
     // A slot holds only messages of its own core, or of the system.
     ensures own { (slot : Slot) (changes : List Change) (m : MessageValue)
         → outstanding slot changes ≡ Some m → is_slot (slot_of m.kind m.core) slot ≡ true }
-{
-}
+{}

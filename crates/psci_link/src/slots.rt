@@ -32,7 +32,8 @@ ghost use Rattle.psci_link.specs.Slots.Change.{Put, Clear, ClearAll, Acknowledge
 impl Slots {
     /// No message is outstanding, on a board of so many cores.
     pub fn new(alloc: Global, cores: u16) -> Result<Slots, Memory>
-        ensures { IfOk result (λ slots. slots ≡ no_messages cores) }
+        ensures slots { IfOk result (λ slots. slots ≡ no_messages cores) }
+        ensures cores { IfOk result (λ slots. length slots.cores ≡ cores) }
     {
         Ok(Slots {
             cores: no_messages(alloc, cores)?,
@@ -43,21 +44,24 @@ impl Slots {
     /// Notes that this message was sent: the one before it in its slot is forgotten.
     pub fn put(&mut self, message: Message)
         requires { IsOfCores (length self.old.cores) (slot_of message.kind message.core) }
-        ensures { self.new ≡ after self.old (Put message) }
+        ensures slots { self.new ≡ after self.old (Put message) }
+        ensures cores { length self.new.cores ≡ length self.old.cores }
     {
         self.set(message.kind, message.core, Some(message));
     }
 
     /// Forgets the message of a core that enters.
     pub fn clear(&mut self, core: Core)
-        ensures { self.new ≡ after self.old (Clear core) }
+        ensures slots { self.new ≡ after self.old (Clear core) }
+        ensures cores { length self.new.cores ≡ length self.old.cores }
     {
         set_at(&mut self.cores, core, None);
     }
 
     /// Forgets all messages, as a life begins.
     pub fn clear_all(&mut self)
-        ensures { self.new ≡ after self.old ClearAll }
+        ensures slots { self.new ≡ after self.old ClearAll }
+        ensures cores { length self.new.cores ≡ length self.old.cores }
     {
         forget(&mut self.cores);
         self.system = None;
@@ -67,6 +71,7 @@ impl Slots {
     pub fn take_ack(&mut self, ack: Ack) -> Taken
         ensures taken { result ≡ taken ack (message_in self.old (slot_of ack.kind ack.core)) }
         ensures slots { self.new ≡ after self.old (Acknowledge ack) }
+        ensures cores { length self.new.cores ≡ length self.old.cores }
     {
         let Some(message) = self.message(ack.kind, ack.core) else {
             return Taken::Old;
@@ -94,7 +99,8 @@ impl Slots {
 
     /// The outstanding message in the slot of this kind and core.
     fn message(&self, kind: Kind, core: Core) -> Option<&Message>
-        ensures { option_map (λ message. message.now) result ≡ message_in self.now (slot_of kind core) }
+        ensures { option_map (λ message. message.now) result
+            ≡ message_in self.now (slot_of kind core) }
     {
         match kind {
             Kind::Down | Kind::Start => message_of(&self.cores, usize::from(core.number)),
@@ -104,7 +110,8 @@ impl Slots {
 
     /// Fills or empties the slot of this kind and core, if the board has it.
     fn set(&mut self, kind: Kind, core: Core, message: Option<Message>)
-        ensures { self.new ≡ with_message self.old (slot_of kind core) message }
+        ensures slots { self.new ≡ with_message self.old (slot_of kind core) message }
+        ensures cores { length self.new.cores ≡ length self.old.cores }
     {
         match kind {
             Kind::Down | Kind::Start => set_at(&mut self.cores, core, message),

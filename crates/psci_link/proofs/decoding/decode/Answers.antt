@@ -16,25 +16,30 @@ frame_with-requires-clause-held c =
     let bytes = c.args.bytes.now in
     let sound = has-no-fault c.args.board.now bytes heading c.in_ok-parts.ensures.fault in
     let parts = parts_of heading (count_in bytes) in
-    rw c.in_ok-parts.ensures.parts (is-held heading (count_in bytes) (parts_in parts (places_in bytes))
+    rw c.in_ok-parts.ensures.parts (is-held heading (count_in bytes)
+    (parts_in parts (places_in bytes))
     (length-parts_in parts (places_in bytes)) sound.allowed sound.falling sound.climbing)
 
 pub returns-in_err-heading-clause-spelled : goal.returns-in_err-heading-clause-spelled
 returns-in_err-heading-clause-spelled c = λ frame fits of same.
-    absurd (not-refused c.args.board.now frame c.args.bytes.now c.in_err-heading.field-0.0 fits of same
+    absurd (not-refused c.args.board.now frame c.args.bytes.now c.in_err-heading.field-0.0 fits of
+    same
     (c.in_err-heading.ensures.fault c.args.board.now))
 
 pub returns-in_err-parts-clause-spelled : goal.returns-in_err-parts-clause-spelled
 returns-in_err-parts-clause-spelled c = λ frame fits of same.
-    absurd (not-refused c.args.board.now frame c.args.bytes.now c.in_err-parts.field-0.0 fits of same
-    (first_fault-heading c.args.board.now c.args.bytes.now c.in_ok-heading.heading c.in_ok-heading.ensures.kind
+    absurd (not-refused c.args.board.now frame c.args.bytes.now c.in_err-parts.field-0.0 fits of
+    same
+    (first_fault-heading c.args.board.now c.args.bytes.now c.in_ok-heading.heading
+    c.in_ok-heading.ensures.kind
     ∙ c.in_err-parts.ensures.fault))
 
 pub returns-in_err-parts-clause-fault : goal.returns-in_err-parts-clause-fault
 returns-in_err-parts-clause-fault c =
     let b = c.args.board.now in
     let bytes = c.args.bytes.now in
-    let p = err_from_is_err_and c.from_residual-in_err-parts.result c.from_residual-in_err-parts.ensures.1 in
+    let p = err_from_is_err_and c.from_residual-in_err-parts.result
+    c.from_residual-in_err-parts.ensures.1 in
     let refused = first_fault-heading b bytes c.in_ok-heading.heading c.in_ok-heading.ensures.kind
     ∙ c.in_err-parts.ensures.fault in
     rw (p.1, p.2) refused
@@ -58,5 +63,6 @@ returns-clause-spelled c = λ frame fits of same.
 
 pub returns-clause-fault : goal.returns-clause-fault
 returns-clause-fault c =
-    first_fault-heading c.args.board.now c.args.bytes.now c.in_ok-heading.heading c.in_ok-heading.ensures.kind
+    first_fault-heading c.args.board.now c.args.bytes.now c.in_ok-heading.heading
+    c.in_ok-heading.ensures.kind
     ∙ c.in_ok-parts.ensures.fault

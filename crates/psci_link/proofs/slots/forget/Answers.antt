@@ -6,6 +6,7 @@ use Rattle.psci_link.proofs.slots.forget.Goals as goal
 pub returns : goal.returns
 returns c =
     let n = length c.args.slots.now in
-    same_lists c.loop-slot.slots (replicate n None) (c.loop-slot.auto.slots ∙ sym (length-replicate n None))
+    same_lists c.loop-slot.slots (replicate n None) (c.loop-slot.auto.slots
+    ∙ sym (length-replicate n None))
     (λ k d inside. get_or_default c.loop-slot.slots k d None inside
     ∙ (c.loop-slot.invariant k (omega arith) ∙ sym (get_or-replicate n k None d (omega arith))))
