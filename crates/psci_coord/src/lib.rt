@@ -1,0 +1,17 @@
+//! What a core that stops asks of its power domains.
+//!
+//! - A *part* asks the domain of one level on the path of the core that stops to go to a depth:
+//!   1 standby, 2 retention, 3 power-down.
+//! - Its *generation* is the sum of the known starts of the cores below that domain when it was
+//!   made. So it is out of date as soon as one of them starts again.
+//! - A *claim* is the list of the parts of one stop: one part for each level, from the core up.
+#![tactic(auto)]
+
+mod part;
+mod parts;
+
+pub use part::Part;
+pub use parts::{MOST_PARTS, Parts};
+
+#[cfg(test)]
+mod tests;
