@@ -1,2 +1,5 @@
+mod Boards
+mod ClaimRows
 mod Climbing
+mod LastCoreRows
 mod TreeView
