@@ -9,12 +9,15 @@ pub mod KeptTree
 pub mod Levels
 pub mod More
 pub mod Named
+pub mod Parents
 pub mod Parts
 pub mod Paths
 pub mod Readers
 pub mod Rows
 pub mod Said
 pub mod Search
+pub mod SpanRows
+pub mod Spans
 pub mod Spelled
 pub mod SpelledRows
 pub mod SpelledText

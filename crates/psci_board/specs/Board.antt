@@ -7,6 +7,7 @@ use Rattle.std.specs.List.{list_any, AllPass, range_with_len}
 use Rattle.psci_board.specs.declared.range.AddressRange.{AddressRange}
 use Rattle.psci_board.specs.declared.node.Node.{Node}
 use Rattle.psci_board.specs.declared.node.Core.{Core}
+use Rattle.psci_board.specs.declared.span.CoreSpan.{CoreSpan}
 
 pub record BoardValue : Type 0 where
   -- from level 1 up, how many children each node of the level has, from left to right
@@ -81,9 +82,14 @@ place_above (w ∷ ws) (suc l) i = place_above ws l (group_of w i)
 unfoldable pub up : BoardValue → ℕ → ℕ → ℕ
 up b level core = place_above b.levels level core
 
+-- the cores below a node of these levels, from left to right: those whose node of its level it is
+abbrev pub below_in : List (List ℕ) → Node → List ℕ
+below_in levels n =
+    filter (λ c. place_above levels n.level c == n.place) (range_with_len 0 (size_below levels))
+
 -- the cores below a node, from left to right
 abbrev pub below : BoardValue → Node → List ℕ
-below b n = filter (λ c. up b n.level c == n.place) (range_with_len 0 (cores b))
+below b n = below_in b.levels n
 
 -- the nodes of a level above the cores, each by its number of children
 abbrev pub level_at : BoardValue → ℕ → Option (List ℕ)
@@ -109,6 +115,47 @@ child b n k =
     if nat_lt k (children b n)
     then Some (record { level = n.level - 1; place = first_child b n.level n.place + k })
     else None
+
+-- one level up, the node whose child a node is: none above the system
+abbrev pub parent : BoardValue → Node → Option Node
+parent b n =
+    if nat_lt n.level (height b) && nat_lt n.place (nodes b n.level)
+    then Some (record {
+      level = n.level + 1;
+      place = group_of (slice_index_or b.levels n.level []) n.place;
+    })
+    else None
+
+-- the number of a node among the children of its parent, from left to right and from 0
+abbrev pub child_number : BoardValue → Node → Option ℕ
+child_number b n =
+    if nat_lt n.level (height b) && nat_lt n.place (nodes b n.level)
+    then Some (place_in (slice_index_or b.levels n.level []) n.place)
+    else None
+
+-- Spans ---------------------------------------------------------------------------------------
+
+-- the number of the first core below the node of this level and place: that of the first core
+-- below its first child
+abbrev pub first_core : List (List ℕ) → ℕ → ℕ → ℕ
+first_core levels zero place = place
+first_core levels (suc level) place =
+    first_core levels level (sum (take place (slice_index_or levels level [])))
+
+-- the cores from the first one below a node on, before the first one below the node after it
+abbrev pub span : List (List ℕ) → Node → CoreSpan
+span levels n = record {
+  first = first_core levels n.level n.place;
+  count = first_core levels n.level (n.place + 1) - first_core levels n.level n.place;
+}
+
+-- the board has this node
+abbrev pub has_node : BoardValue → Node → Bool
+has_node b n = nat_le n.level (height b) && nat_lt n.place (nodes b n.level)
+
+-- the span of a node of the board
+abbrev pub cores_below : BoardValue → Node → Option CoreSpan
+cores_below b n = if has_node b n then Some (span b.levels n) else None
 
 -- Affinity words ------------------------------------------------------------------------------
 
@@ -147,10 +194,14 @@ may_enter b a = a % 4 == 0 && is_in_some b.ranges a
 
 -- Facts ---------------------------------------------------------------------------------------
 
+-- a node of these levels
+pub record HasNodeIn (levels : List (List ℕ)) (n : Node) : Type 0 where
+  pub level : n.level ≤ length levels
+  pub place : n.place < size_below (drop n.level levels)
+
 -- a node of the board
-pub record HasNode (b : BoardValue) (n : Node) : Type 0 where
-  pub level : n.level ≤ height b
-  pub place : n.place < nodes b n.level
+abbrev pub HasNode : BoardValue → Node → Type 0
+HasNode b n = HasNodeIn b.levels n
 
 -- what holds of every board that was read
 pub record IsBoard (b : BoardValue) : Type 0 where

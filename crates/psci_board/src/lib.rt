@@ -21,6 +21,7 @@ mod range;
 mod range_text;
 mod read;
 mod seen;
+mod span;
 mod text_seen;
 mod tree_laws;
 mod tree_text;
@@ -31,7 +32,8 @@ pub use fault::{BoardFault, Memory};
 pub use laws::law_board_text;
 pub use node::{Core, Node};
 pub use range::AddressRange;
-pub use tree_laws::{law_children, law_paths, law_sizes, law_words};
+pub use span::CoreSpan;
+pub use tree_laws::{law_children, law_parents, law_paths, law_sizes, law_spans, law_words};
 pub use words::{hex, literal, number};
 
 #[cfg(test)]
