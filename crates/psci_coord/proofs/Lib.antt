@@ -1,4 +1,5 @@
 mod Boards
+mod ClaimLaws
 mod ClaimRows
 mod Climbing
 mod LastCoreRows

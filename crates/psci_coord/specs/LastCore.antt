@@ -1,9 +1,9 @@
 -- Whether a core may take its domains down as their last core, in OS-initiated mode.
-use Rattle.std.specs.Prelude.{ℕ, ◌-◌, Bool, not, ◌==◌, List, [], ◌∷◌, slice_index, nat_lt}
-use Rattle.std.specs.Prelude.{filter, flat_map, Result, Ok, Err, if◌then◌else◌}
-use Rattle.std.specs.List.{filter_map, list_any, range_with_len}
+use Rattle.std.specs.Prelude.{ℕ, ◌-◌, Bool, not, ◌==◌, List, [], ◌∷◌, nat_lt}
+use Rattle.std.specs.Prelude.{map, filter, flat_map, Result, Ok, Err, if◌then◌else◌}
+use Rattle.std.specs.List.{list_any, range_with_len}
 use Rattle.psci_board.specs.declared.node.Node.{Node}
-use Rattle.psci_board.specs.Board.{BoardValue, height, children, child}
+use Rattle.psci_board.specs.Board.{BoardValue, height, children, first_child}
 use Rattle.psci_coord.specs.declared.part.Part.{Part}
 use Rattle.psci_coord.specs.declared.osi.Osi.{Osi}
 use Rattle.psci_coord.specs.declared.osi.Osi.TheVariants.{Invalid, Denied}
@@ -12,7 +12,9 @@ use Rattle.psci_coord.specs.Claim.{own_wish, own_claim}
 
 -- the children of a domain, from left to right
 abbrev pub children_of : BoardValue → Node → List Node
-children_of b n = filter_map (child b n) (range_with_len 0 (children b n))
+children_of b n =
+    map (λ place. record { level = n.level - 1; place = place })
+    (range_with_len (first_child b n.level n.place) (children b n))
 
 -- the children of a core's domain of this level that are not on the core's path
 unfoldable pub siblings : BoardValue → ℕ → ℕ → List Node

@@ -8,11 +8,13 @@
 #![tactic(auto)]
 
 mod claim;
+mod laws;
 mod osi;
 mod part;
 mod parts;
 
 pub use claim::{claims, own_parts};
+pub use laws::{law_claims, law_platform};
 pub use osi::Osi;
 pub use part::Part;
 pub use parts::{MOST_PARTS, Parts};
