@@ -3,4 +3,5 @@ mod ClaimLaws
 mod ClaimRows
 mod Climbing
 mod LastCoreRows
+mod LeastBelow
 mod TreeView
