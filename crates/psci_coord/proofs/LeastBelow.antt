@@ -29,8 +29,8 @@ least-below f test a (suc n) c h i e = elim (cases_eq a c) [
   | inr s ↦
       let rest = least-below f test (a + 1) n c (omega (arith, s)) (omega arith) e in
       elim (cases_Bool (test a)) [
-      | inl t ↦ rw t (omega (arith, rest))
-      | inr t ↦ rw t rest
+        | inl t ↦ rw t (omega (arith, rest))
+        | inr t ↦ rw t rest
       ]
 ]
 
@@ -42,8 +42,8 @@ least-above f test a zero m h each = h
 least-above f test a (suc n) m h each =
     let rest = least-above f test (a + 1) n m h (λ c i j. each c (omega arith) (omega arith)) in
     elim (cases_Bool (test a)) [
-    | inl t ↦ rw t (omega (arith, rest, each a (omega arith) (omega arith) t))
-    | inr t ↦ rw t rest
+      | inl t ↦ rw t (omega (arith, rest, each a (omega arith) (omega arith) t))
+      | inr t ↦ rw t rest
     ]
 
 -- where the least is 0, one of them is
@@ -57,7 +57,7 @@ least-zero f test a (suc n) e = elim (cases_Bool (test a)) [
         let less = rw t at e in
         let rest = least-zero f test (a + 1) n (omega arith) in
         (rest.0, omega (arith, rest.1), omega (arith, rest.2), rest.3, rest.4)
-    ]
+  ]
   | inr t ↦
       let less = rw t at e in
       let rest = least-zero f test (a + 1) n less in
