@@ -2,7 +2,10 @@ pub mod AffinityRows
 pub mod Children
 pub mod Decided
 pub mod Digits
+pub mod FaultRows
 pub mod Fields
+pub mod FirstCores
+pub mod Fronts
 pub mod Groups
 pub mod Kept
 pub mod KeptTree
@@ -12,6 +15,7 @@ pub mod Named
 pub mod Parents
 pub mod Parts
 pub mod Paths
+pub mod Ranges
 pub mod Readers
 pub mod Rows
 pub mod Said

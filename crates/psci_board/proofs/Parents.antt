@@ -104,7 +104,11 @@ parent_node b h n m e =
     let here = below b m c.0 in
     let at = level b.levels m.level h.tree here.level in
     let group = (counted (counts b m.level) m.place (omega (arith, at.size, here.place))).group in
-    rw (← c.1) (record { level = omega (arith, here.level); place = rw add-one (omega (arith, at.above, group)) })
+    rw (← c.1) (record {
+      level = omega (arith, here.level);
+      place =
+          rw add-one (omega (arith, at.above, group));
+    })
 
 pub parent_laws : (b : BoardValue) → IsBoard b → ParentLaws b
 unfolding up

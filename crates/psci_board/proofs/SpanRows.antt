@@ -1,14 +1,19 @@
--- Spans, parents and numbers of children of known boards.
-use Rattle.std.proofs.Common.{◌≡◌, ◌∷◌, [], refl}
+-- Spans, parents, words and entry points of an uneven board of height 3.
+use Rattle.std.proofs.Common.{◌≡◌, ◌∷◌, [], true, false, refl}
 use Rattle.std.specs.Prelude.{ℕ, Option, Some, None, map, replicate}
+use Rattle.psci_board.specs.declared.node.Core.{Core}
 use Rattle.psci_board.specs.declared.span.CoreSpan.{CoreSpan}
-use Rattle.psci_board.specs.Board.{BoardValue, cores_below, parent, child_number, child, path, below}
-use Rattle.psci_board.specs.Board.{address}
+use Rattle.psci_board.specs.Board.{BoardValue, cores_below, parent, child_number, child, path}
+use Rattle.psci_board.specs.Board.{below}
+use Rattle.psci_board.specs.Board.{address, core_of, node_of, may_enter}
 use Rattle.psci_board.proofs.AffinityRows.{board, cluster, clusters, at, node}
 
 -- ((1 3) (2 1 4)): cores 0, 1 to 3, 4 and 5, 6, 7 to 10 in five clusters of two groups
 abbrev pub uneven : BoardValue
 uneven = board ((1 ∷ 3 ∷ 2 ∷ 1 ∷ 4 ∷ []) ∷ (2 ∷ 3 ∷ []) ∷ (2 ∷ []) ∷ [])
+
+abbrev core : ℕ → Option Core
+core number = Some (record { number = number })
 
 abbrev pub cores : ℕ → ℕ → Option CoreSpan
 cores first count = Some (record { first = first; count = count })
@@ -42,7 +47,8 @@ cores_of_clusters = refl
 
 pub parents_of_cores : map (parent uneven)
     (at 0 0 ∷ at 0 1 ∷ at 0 3 ∷ at 0 4 ∷ at 0 5 ∷ at 0 6 ∷ at 0 7 ∷ at 0 10 ∷ at 0 11 ∷ [])
-    ≡ node 1 0 ∷ node 1 1 ∷ node 1 1 ∷ node 1 2 ∷ node 1 2 ∷ node 1 3 ∷ node 1 4 ∷ node 1 4 ∷ None ∷ []
+    ≡ node 1 0 ∷ node 1 1 ∷ node 1 1 ∷ node 1 2 ∷ node 1 2 ∷ node 1 3 ∷ node 1 4 ∷ node 1 4 ∷
+    None ∷ []
 parents_of_cores = refl
 
 pub parents_of_clusters : map (parent uneven)
@@ -81,6 +87,32 @@ pub paths : path uneven 0 ∷ path uneven 6 ∷ path uneven 10 ∷ []
     ∷ (at 0 10 ∷ at 1 4 ∷ at 2 1 ∷ at 3 0 ∷ []) ∷ []
 paths = refl
 
+pub words : map (λ w. core_of uneven w) (0 ∷ 0x102 ∷ 0x103 ∷ 0x10001 ∷ 0x10100 ∷ 0x10203 ∷
+    0x10204 ∷ [])
+    ≡ core 0 ∷ core 3 ∷ None ∷ core 5 ∷ core 6 ∷ core 10 ∷ None ∷ []
+unfolding core_of
+words = refl
+
+pub words_of_clusters : map (node_of uneven 0x10100) (0 ∷ 1 ∷ 2 ∷ 3 ∷ 4 ∷ [])
+    ≡ node 0 6 ∷ node 1 3 ∷ node 2 1 ∷ node 3 0 ∷ None ∷ []
+unfolding node_of
+words_of_clusters = refl
+
 pub fields : map (address uneven 0) (0 ∷ 3 ∷ 5 ∷ 6 ∷ 10 ∷ [])
     ≡ 0 ∷ 0x102 ∷ 0x10001 ∷ 0x10100 ∷ 0x10203 ∷ []
 fields = refl
+
+-- Entry points ----------------------------------------------------------------------------------
+
+-- two ranges that touch, and a third whose last multiple of 4 has one byte in it
+abbrev ranged : BoardValue
+ranged = record uneven {
+  ranges = record { start = 0x1000; end = 0x2000 } ∷ record { start = 0x2000; end = 0x2008 }
+      ∷ record { start = 0x3002; end = 0x3009 } ∷ [];
+}
+
+pub entries : map (may_enter ranged)
+    (0xffc ∷ 0x1000 ∷ 0x1ffc ∷ 0x1ffe ∷ 0x2000 ∷ 0x2004 ∷ 0x2008 ∷ 0x3000 ∷ 0x3002 ∷ 0x3004 ∷
+    0x3008 ∷ 0x300c ∷ [])
+    ≡ false ∷ true ∷ true ∷ false ∷ true ∷ true ∷ false ∷ false ∷ false ∷ true ∷ true ∷ false ∷ []
+entries = refl

@@ -5,6 +5,8 @@ use Rattle.std.specs.Prelude.{if◌then◌else◌, Option, None, Some, option_ma
 use Rattle.std.specs.Prelude.{slice_index, slice_index_or, slice_get}
 use Rattle.std.specs.List.{list_any, AllPass, range_with_len}
 use Rattle.psci_board.specs.declared.range.AddressRange.{AddressRange}
+use Rattle.psci_board.specs.declared.limits.TheConstants.{MOST_LEVELS, MOST_CHILDREN, MOST_CORES}
+use Rattle.psci_board.specs.declared.limits.TheConstants.{MOST_LIVES}
 use Rattle.psci_board.specs.declared.node.Node.{Node}
 use Rattle.psci_board.specs.declared.node.Core.{Core}
 use Rattle.psci_board.specs.declared.span.CoreSpan.{CoreSpan}
@@ -23,19 +25,20 @@ pub record BoardValue : Type 0 where
 
 -- The tree ------------------------------------------------------------------------------------
 
--- a node has 1 to 16 children
+-- a node has one child or more, and no more than it may have
 abbrev pub is_width : ℕ → Bool
-is_width n = nat_lt 0 n && nat_le n 16
+is_width n = nat_lt 0 n && nat_le n MOST_CHILDREN
 
 -- how many nodes stand below these levels: the system alone, where there is none
 abbrev pub size_below : List (List ℕ) → ℕ
 size_below [] = 1
 size_below (w ∷ ws) = sum w
 
--- each level has one group of children for each node of the next one, and 64 nodes at most
+-- each level has one group of children for each node of the next one, and no more nodes than a
+-- board may have cores
 abbrev pub IsTree : List (List ℕ) → Type 0
 IsTree [] = Unit {0}
-IsTree (w ∷ ws) = (length w ≡ size_below ws) × (sum w ≤ 64) × AllPass is_width w × IsTree ws
+IsTree (w ∷ ws) = (length w ≡ size_below ws) × (sum w ≤ MOST_CORES) × AllPass is_width w × IsTree ws
 
 abbrev pub height : BoardValue → ℕ
 height b = length b.levels
@@ -207,9 +210,9 @@ HasNode b n = HasNodeIn b.levels n
 pub record IsBoard (b : BoardValue) : Type 0 where
   pub tree : IsTree b.levels
   pub low : 0 < height b
-  pub high : height b ≤ 3
+  pub high : height b ≤ MOST_LEVELS
   pub boot : may_enter b b.boot ≡ true
   pub some_starts : 0 < b.starts
   pub starts : b.starts < 2 ^ 32
   pub some_lives : 0 < b.lives
-  pub lives : b.lives ≤ 65535
+  pub lives : b.lives ≤ MOST_LIVES

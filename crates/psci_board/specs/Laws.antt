@@ -3,6 +3,7 @@ use Rattle.std.specs.Prelude.{◌≡◌, ℕ, suc, ◌+◌, ◌*◌, ◌/◌, �
 use Rattle.std.specs.Prelude.{map, take, drop, sum, flat_map, slice_get, slice_index}
 use Rattle.std.specs.Prelude.{slice_index_or, option_map}
 use Rattle.std.specs.List.{range_with_len}
+use Rattle.psci_board.specs.declared.limits.TheConstants.{MOST_CHILDREN, MOST_CORES}
 use Rattle.psci_board.specs.declared.node.Node.{Node}
 use Rattle.psci_board.specs.declared.node.Core.{Core}
 use Rattle.psci_board.specs.Board.{BoardValue, HasNode, height, nodes, cores, path, up, below}
@@ -12,7 +13,7 @@ use Rattle.psci_board.specs.Board.{parent, child_number, HasNodeIn, below_in, sp
 -- How many nodes there are.
 pub record SizeLaws (b : BoardValue) : Type 0 where
   pub some : (l : ℕ) → 0 < nodes b l
-  pub most : (l : ℕ) → nodes b l ≤ 64
+  pub most : (l : ℕ) → nodes b l ≤ MOST_CORES
   pub system : nodes b (height b) ≡ 1
 
 -- Cores and the nodes above them.
@@ -46,13 +47,13 @@ pub record ChildLaws (b : BoardValue) : Type 0 where
       → below b (record { level = suc l; place = p })
       ≡ flat_map (λ k. below b (record { level = l; place = first_child b (suc l) p + k }))
       (range_with_len 0 (children_at b (suc l) p))
-  -- children are nodes, 1 to 16 of each node
+  -- children are nodes, one or more of each node and no more than it may have
   pub inside : (l p k : ℕ) → l < height b → k < children_at b (suc l) p
       → first_child b (suc l) p + k < nodes b l
   pub child_node : (n m : Node) (k : ℕ) → child b n k ≡ Some m → HasNode b m
   pub child_level : (n m : Node) (k : ℕ) → child b n k ≡ Some m → m.level + 1 ≡ n.level
   pub some_child : (l p : ℕ) → l < height b → p < nodes b (suc l) → 0 < children_at b (suc l) p
-  pub few : (l p : ℕ) → children_at b l p ≤ 16
+  pub few : (l p : ℕ) → children_at b l p ≤ MOST_CHILDREN
 
 -- Nodes and their parents.
 pub record ParentLaws (b : BoardValue) : Type 0 where
@@ -103,7 +104,8 @@ pub record SpanLaws (levels : List (List ℕ)) : Type 0 where
       + (span levels (record { level = suc l; place = p })).count
       ≡ (span levels (record {
         level = l;
-        place = sum (take p (slice_index_or levels l [])) + slice_index (slice_index_or levels l []) p;
+        place = sum (take p (slice_index_or levels l []))
+            + slice_index (slice_index_or levels l []) p;
       })).first
 
 -- Affinity words and the nodes that they name.

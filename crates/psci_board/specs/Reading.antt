@@ -5,8 +5,8 @@ use Rattle.std.specs.Prelude.{if◌then◌else◌, codes, slice_index}
 use Rattle.std.specs.List.{prefix_len}
 use Rattle.std.specs.Char.{is_ascii_digit, is_ascii_hexdigit}
 use Rattle.std.specs.Str.Parse.{digits_value}
-use Rattle.psci_board.specs.Grammar.{Mid, TreeText, BoardText}
-use Rattle.psci_board.specs.Grammar.Mid.{Number, Group}
+use Rattle.psci_board.specs.Grammar.{Member, TreeText, BoardText}
+use Rattle.psci_board.specs.Grammar.Member.{Cluster, Group}
 use Rattle.psci_board.specs.Grammar.TreeText.{One, Members}
 
 infixl 10 ◌>>=◌
@@ -58,13 +58,13 @@ abbrev pub then_more : {A : Type 0} → List ℕ → (List ℕ → List A × Lis
 then_more bytes go None = ([], bytes)
 then_more bytes go (Some x) = (x.0 ∷ (go x.1).0, (go x.1).1)
 
--- Items behind a space each, as many as there are, but n at most.
+-- Items after a space each, as many as there are, but n at most.
 unfoldable pub at_most : {A : Type 0} → (List ℕ → Option (A × List ℕ)) → ℕ → List ℕ
     → List A × List ℕ
 at_most item zero bytes = ([], bytes)
 at_most item (suc n) bytes = then_more bytes (at_most item n) (spaced_at item bytes)
 
--- Items behind a space each, as many as there are. Each takes a byte or more.
+-- Items after a space each, as many as there are. Each takes a byte or more.
 unfoldable pub more_at : {A : Type 0} → (List ℕ → Option (A × List ℕ)) → List ℕ → List A × List ℕ
 more_at item bytes = at_most item (length bytes) bytes
 
@@ -79,8 +79,8 @@ list_at item bytes = do
   Some (first.0 ∷ others.0, close)
 
 -- how many, and the bytes after them
-abbrev pub counted : {A : Type 0} → List A × List ℕ → ℕ × List ℕ
-counted x = (length x.0, x.1)
+abbrev pub count_and_rest : {A : Type 0} → List A × List ℕ → ℕ × List ℕ
+count_and_rest x = (length x.0, x.1)
 
 -- the bytes after it
 abbrev pub rest_of : {A : Type 0} → A × List ℕ → List ℕ
@@ -89,19 +89,19 @@ rest_of x = x.1
 abbrev pub starts_list : List ℕ → Bool
 starts_list bytes = slice_index bytes 0 == 40
 
-unfoldable pub mid_at : List ℕ → Option (Mid × List ℕ)
-mid_at bytes = if starts_list bytes
+unfoldable pub member_at : List ℕ → Option (Member × List ℕ)
+member_at bytes = if starts_list bytes
     then (do
       ns ← list_at number_at bytes
       Some (Group ns.0, ns.1))
     else (do
       n ← number_at bytes
-      Some (Number n.0, n.1))
+      Some (Cluster n.0, n.1))
 
 unfoldable pub tree_at : List ℕ → Option (TreeText × List ℕ)
 tree_at bytes = if starts_list bytes
     then (do
-      ms ← list_at mid_at bytes
+      ms ← list_at member_at bytes
       Some (Members ms.0, ms.1))
     else (do
       n ← number_at bytes

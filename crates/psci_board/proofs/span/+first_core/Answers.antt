@@ -1,4 +1,4 @@
-use Rattle.psci_board.proofs.Spans.{first_step}
+use Rattle.psci_board.proofs.FirstCores.{first_step}
 use Rattle.psci_board.proofs.span.+first_core.Goals as goal
 
 pub returns-in-Some : goal.returns-in-Some

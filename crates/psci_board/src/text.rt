@@ -3,22 +3,23 @@
 ghost use Rattle.std.specs.Prelude.{◌≡◌, option_map};
 ghost use Rattle.psci_board.specs.Reading.{board_text};
 ghost use Rattle.psci_board.specs.Verdict.{is_limit};
-ghost use Rattle.psci_board.specs.Summary.{text_seen, fault_in};
+ghost use Rattle.psci_board.specs.SummaryVerdict.{text_summary, fault_in};
 
 use crate::board::is_in_some;
 use crate::fault::BoardFault;
+use crate::limits::MOST_LIVES;
 use crate::range_text::ranges;
-use crate::seen::{RangesSeen, TreeSeen};
+use crate::summary::{RangesSummary, TreeSummary};
 use crate::tree_text::tree;
 use crate::words::{hex, literal, number};
 
 /// What is kept of a board text.
 #[derive(Drop)]
-pub struct TextSeen {
+pub struct TextSummary {
     /// The tree.
-    pub tree: TreeSeen,
+    pub tree: TreeSummary,
     /// The executable ranges.
-    pub ranges: RangesSeen,
+    pub ranges: RangesSummary,
     /// Where the boot core enters first.
     pub boot: u64,
     /// How often a core may be started in one life.
@@ -28,9 +29,9 @@ pub struct TextSeen {
 }
 
 /// What is kept of the text, where it is of the grammar.
-#[tactic(auto, unfolding(crate::specs::Reading::board_text, crate::specs::Seen::ranges_at))]
-pub fn whole_text(text: &[u8]) -> Option<TextSeen>
-    ensures { result ≡ option_map text_seen (board_text text.now) }
+#[tactic(auto, unfolding(crate::specs::Reading::board_text, crate::specs::Summary::ranges_at))]
+pub fn whole_text(text: &[u8]) -> Option<TextSummary>
+    ensures { result ≡ option_map text_summary (board_text text.now) }
 {
     let (tree, rest) = tree(text)?;
     let (ranges, rest) = ranges(literal(rest, b" exec")?)?;
@@ -38,7 +39,7 @@ pub fn whole_text(text: &[u8]) -> Option<TextSeen>
     let (starts, rest) = number(literal(rest, b" starts ")?)?;
     let (lives, rest) = number(literal(rest, b" lives ")?)?;
     if rest.is_empty() {
-        Some(TextSeen {
+        Some(TextSummary {
             tree,
             ranges,
             boot,
@@ -51,8 +52,8 @@ pub fn whole_text(text: &[u8]) -> Option<TextSeen>
 }
 
 /// The first fault of what was read, in the order in which faults are looked for.
-#[tactic(auto, unfolding(crate::specs::Summary::fault_in))]
-pub fn fault(text: &TextSeen) -> Option<BoardFault>
+#[tactic(auto, unfolding(crate::specs::SummaryVerdict::fault_in))]
+pub fn fault(text: &TextSummary) -> Option<BoardFault>
     ensures { result ≡ fault_in text.now }
 {
     let tree = &text.tree;
@@ -66,7 +67,9 @@ pub fn fault(text: &TextSeen) -> Option<BoardFault>
         Some(BoardFault::BadRange)
     } else if !(text.boot % 4 == 0 && is_in_some(text.ranges.first(), text.boot)) {
         Some(BoardFault::BadBoot)
-    } else if !(is_limit(u64::from(u32::MAX), text.starts) && is_limit(65535, text.lives)) {
+    } else if !(is_limit(u64::from(u32::MAX), text.starts)
+        && is_limit(u64::from(MOST_LIVES), text.lives))
+    {
         Some(BoardFault::BadLimit)
     } else {
         None

@@ -1,38 +1,39 @@
 use Rattle.std.proofs.Common.{sym, refl, ap, ◌∙◌}
 use Rattle.std.specs.Str.Parse.{digits_value}
 use Rattle.psci_board.specs.Reading.{board_text}
-use Rattle.psci_board.specs.Seen.{tree_seen, with_ranges, no_ranges}
-use Rattle.psci_board.proofs.More.{noted_some, noted_none, ranges_parts, ranges_none, same_text}
-use Rattle.psci_board.proofs.text_seen.whole_text.Goals as goal
+use Rattle.psci_board.specs.Summary.{tree_summary, with_ranges, no_ranges}
+use Rattle.psci_board.proofs.Fronts.{value_and_rest_some, value_and_rest_none, ranges_parts}
+use Rattle.psci_board.proofs.Fronts.{ranges_none, same_text}
+use Rattle.psci_board.proofs.text.whole_text.Goals as goal
 
 pub returns-in_err-tree : goal.returns-in_err-tree
 unfolding board_text
 returns-in_err-tree c =
-    rw (noted_none tree_seen _ c.in_err-tree.ensures, c.from_residual.ensures) refl
+    rw (value_and_rest_none tree_summary _ c.in_err-tree.ensures, c.from_residual.ensures) refl
 
 pub returns-in_err-literal : goal.returns-in_err-literal
 unfolding board_text
 returns-in_err-literal c =
-    let t = noted_some tree_seen _ _ _ c.in_ok-tree.ensures in
+    let t = value_and_rest_some tree_summary _ _ _ c.in_ok-tree.ensures in
     rw (t.1, sym c.in_err-literal.ensures, c.from_residual-in_err-literal.ensures) refl
 
 pub returns-in_err-ranges : goal.returns-in_err-ranges
 unfolding board_text
 returns-in_err-ranges c =
-    let t = noted_some tree_seen _ _ _ c.in_ok-tree.ensures in
+    let t = value_and_rest_some tree_summary _ _ _ c.in_ok-tree.ensures in
     rw (
       t.1,
       sym c.in_ok-literal.ensures,
       ranges_none _
-          (noted_none (with_ranges no_ranges) _ c.in_err-ranges.ensures),
+          (value_and_rest_none (with_ranges no_ranges) _ c.in_err-ranges.ensures),
       c.from_residual-in_err-ranges.ensures,
     ) refl
 
 pub returns-in_err-literal-2 : goal.returns-in_err-literal-2
 unfolding board_text
 returns-in_err-literal-2 c =
-    let t = noted_some tree_seen _ _ _ c.in_ok-tree.ensures in
-    let r = noted_some (with_ranges no_ranges) _ _ _ c.in_ok-ranges.ensures in
+    let t = value_and_rest_some tree_summary _ _ _ c.in_ok-tree.ensures in
+    let r = value_and_rest_some (with_ranges no_ranges) _ _ _ c.in_ok-ranges.ensures in
     let first = ranges_parts _ _ _ r.1 in
     rw (
       t.1,
@@ -46,8 +47,8 @@ returns-in_err-literal-2 c =
 pub returns-in_err-boot : goal.returns-in_err-boot
 unfolding board_text
 returns-in_err-boot c =
-    let t = noted_some tree_seen _ _ _ c.in_ok-tree.ensures in
-    let r = noted_some (with_ranges no_ranges) _ _ _ c.in_ok-ranges.ensures in
+    let t = value_and_rest_some tree_summary _ _ _ c.in_ok-tree.ensures in
+    let r = value_and_rest_some (with_ranges no_ranges) _ _ _ c.in_ok-ranges.ensures in
     let first = ranges_parts _ _ _ r.1 in
     rw (
       t.1,
@@ -55,7 +56,7 @@ returns-in_err-boot c =
       first.1,
       first.3,
       sym c.in_ok-literal-2.ensures,
-      noted_none (digits_value 16) _ c.in_err-boot.ensures,
+      value_and_rest_none (digits_value 16) _ c.in_err-boot.ensures,
       c.from_residual-in_err-boot.ensures,
     )
     refl
@@ -63,10 +64,10 @@ returns-in_err-boot c =
 pub returns-in_err-literal-3 : goal.returns-in_err-literal-3
 unfolding board_text
 returns-in_err-literal-3 c =
-    let t = noted_some tree_seen _ _ _ c.in_ok-tree.ensures in
-    let r = noted_some (with_ranges no_ranges) _ _ _ c.in_ok-ranges.ensures in
+    let t = value_and_rest_some tree_summary _ _ _ c.in_ok-tree.ensures in
+    let r = value_and_rest_some (with_ranges no_ranges) _ _ _ c.in_ok-ranges.ensures in
     let first = ranges_parts _ _ _ r.1 in
-    let b = noted_some (digits_value 16) _ _ _ c.in_ok-boot.ensures in
+    let b = value_and_rest_some (digits_value 16) _ _ _ c.in_ok-boot.ensures in
     rw (
       t.1,
       sym c.in_ok-literal.ensures,
@@ -82,10 +83,10 @@ returns-in_err-literal-3 c =
 pub returns-in_err-starts : goal.returns-in_err-starts
 unfolding board_text
 returns-in_err-starts c =
-    let t = noted_some tree_seen _ _ _ c.in_ok-tree.ensures in
-    let r = noted_some (with_ranges no_ranges) _ _ _ c.in_ok-ranges.ensures in
+    let t = value_and_rest_some tree_summary _ _ _ c.in_ok-tree.ensures in
+    let r = value_and_rest_some (with_ranges no_ranges) _ _ _ c.in_ok-ranges.ensures in
     let first = ranges_parts _ _ _ r.1 in
-    let b = noted_some (digits_value 16) _ _ _ c.in_ok-boot.ensures in
+    let b = value_and_rest_some (digits_value 16) _ _ _ c.in_ok-boot.ensures in
     rw (
       t.1,
       sym c.in_ok-literal.ensures,
@@ -102,10 +103,10 @@ returns-in_err-starts c =
 pub returns-in_err-literal-4 : goal.returns-in_err-literal-4
 unfolding board_text
 returns-in_err-literal-4 c =
-    let t = noted_some tree_seen _ _ _ c.in_ok-tree.ensures in
-    let r = noted_some (with_ranges no_ranges) _ _ _ c.in_ok-ranges.ensures in
+    let t = value_and_rest_some tree_summary _ _ _ c.in_ok-tree.ensures in
+    let r = value_and_rest_some (with_ranges no_ranges) _ _ _ c.in_ok-ranges.ensures in
     let first = ranges_parts _ _ _ r.1 in
-    let b = noted_some (digits_value 16) _ _ _ c.in_ok-boot.ensures in
+    let b = value_and_rest_some (digits_value 16) _ _ _ c.in_ok-boot.ensures in
     rw (
       t.1,
       sym c.in_ok-literal.ensures,
@@ -123,10 +124,10 @@ returns-in_err-literal-4 c =
 pub returns-in_err-lives : goal.returns-in_err-lives
 unfolding board_text
 returns-in_err-lives c =
-    let t = noted_some tree_seen _ _ _ c.in_ok-tree.ensures in
-    let r = noted_some (with_ranges no_ranges) _ _ _ c.in_ok-ranges.ensures in
+    let t = value_and_rest_some tree_summary _ _ _ c.in_ok-tree.ensures in
+    let r = value_and_rest_some (with_ranges no_ranges) _ _ _ c.in_ok-ranges.ensures in
     let first = ranges_parts _ _ _ r.1 in
-    let b = noted_some (digits_value 16) _ _ _ c.in_ok-boot.ensures in
+    let b = value_and_rest_some (digits_value 16) _ _ _ c.in_ok-boot.ensures in
     rw (
       t.1,
       sym c.in_ok-literal.ensures,
@@ -146,10 +147,10 @@ returns-in_err-lives c =
 pub returns-then-is_empty : goal.returns-then-is_empty
 unfolding board_text
 returns-then-is_empty c =
-    let t = noted_some tree_seen _ _ _ c.in_ok-tree.ensures in
-    let r = noted_some (with_ranges no_ranges) _ _ _ c.in_ok-ranges.ensures in
+    let t = value_and_rest_some tree_summary _ _ _ c.in_ok-tree.ensures in
+    let r = value_and_rest_some (with_ranges no_ranges) _ _ _ c.in_ok-ranges.ensures in
     let first = ranges_parts _ _ _ r.1 in
-    let b = noted_some (digits_value 16) _ _ _ c.in_ok-boot.ensures in
+    let b = value_and_rest_some (digits_value 16) _ _ _ c.in_ok-boot.ensures in
     rw (
       t.1,
       sym c.in_ok-literal.ensures,
@@ -170,10 +171,10 @@ returns-then-is_empty c =
 pub returns-else-is_empty : goal.returns-else-is_empty
 unfolding board_text
 returns-else-is_empty c =
-    let t = noted_some tree_seen _ _ _ c.in_ok-tree.ensures in
-    let r = noted_some (with_ranges no_ranges) _ _ _ c.in_ok-ranges.ensures in
+    let t = value_and_rest_some tree_summary _ _ _ c.in_ok-tree.ensures in
+    let r = value_and_rest_some (with_ranges no_ranges) _ _ _ c.in_ok-ranges.ensures in
     let first = ranges_parts _ _ _ r.1 in
-    let b = noted_some (digits_value 16) _ _ _ c.in_ok-boot.ensures in
+    let b = value_and_rest_some (digits_value 16) _ _ _ c.in_ok-boot.ensures in
     rw (
       t.1,
       sym c.in_ok-literal.ensures,

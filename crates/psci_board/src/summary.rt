@@ -1,54 +1,59 @@
 //! What is kept of a board text while it is read, however long the text is.
 
+use crate::limits::{MOST_CHILDREN, MOST_CORES, MOST_RANGES};
 use crate::range::AddressRange;
 use arrayvec::ArrayVec;
 use std::marker::Model;
 
 /// The numbers of a tree, as far as a board may have them.
 #[derive(Drop)]
-pub struct NumbersSeen {
+pub struct NumbersSummary {
     /// The first 64, each above 16 as 17.
-    first: ArrayVec<u16, 64>,
+    first: ArrayVec<u16, MOST_CORES>,
     /// Their sum, or 65.
     total: u64,
     /// One is 0 or above 16.
-    wide: bool,
+    bad_width: bool,
 }
 
-impl Model for NumbersSeen {
-    ghost use Rattle.psci_board.specs.Seen.{SeenNumbers};
+impl Model for NumbersSummary {
+    ghost use Rattle.psci_board.specs.Summary.{NumbersSummaryValue};
 
-    ghost Value = { SeenNumbers };
+    ghost Value = { NumbersSummaryValue };
 
-    ghost view = { λ s. record { first = s.first.items; total = s.total; wide = s.wide } };
+    ghost view = { λ s. record {
+      first = s.first.items;
+      total = s.total;
+      bad_width = s.bad_width;
+    } };
 }
 
 ghost use Rattle.std.specs.Prelude.{◌≡◌, ◌≤◌, ◌||◌, ◌&&◌, true, false, ℕ, min, nat_lt, nat_le};
 ghost use Rattle.std.specs.Prelude.{List, [], ◌∷◌, ◌++◌, take, length};
-ghost use Rattle.psci_board.specs.Grammar.Mid.{Number};
+ghost use Rattle.psci_board.specs.Grammar.Member.{Cluster};
 ghost use Rattle.psci_board.specs.Verdict.{is_out_of_width};
-ghost use Rattle.psci_board.specs.Seen.{SeenTree, no_numbers, no_members, no_ranges};
-ghost use Rattle.psci_board.specs.Seen.{with_number, with_member, with_range, with_size};
+ghost use Rattle.psci_board.specs.Summary.{TreeSummaryValue, no_numbers, no_members, no_ranges};
+ghost use Rattle.psci_board.specs.Summary.{with_number, with_member, with_range, with_size};
 
-impl NumbersSeen {
+impl NumbersSummary {
     /// No number so far.
-    pub fn new() -> NumbersSeen
+    pub fn new() -> NumbersSummary
         ensures { result ≡ no_numbers }
     {
-        NumbersSeen {
+        NumbersSummary {
             first: ArrayVec::new(),
             total: 0,
-            wide: false,
+            bad_width: false,
         }
     }
 
     /// Takes the next number.
-    pub fn note(&mut self, number: u64)
+    pub fn add(&mut self, number: u64)
         ensures { self.new ≡ with_number self.old number }
     {
-        keep(&mut self.first, number.min(17) as u16);
-        self.total = self.total.saturating_add(number).min(65);
-        self.wide = self.wide || is_out_of_width(number);
+        keep(&mut self.first, number.min(MOST_CHILDREN as u64 + 1) as u16);
+        self.total = self.total.saturating_add(number).min(MOST_CORES as u64 + 1);
+        self.bad_width = self.bad_width || is_out_of_width(number);
     }
 }
 
@@ -56,7 +61,7 @@ impl NumbersSeen {
 fn is_out_of_width(number: u64) -> bool
     ensures { result ≡ is_out_of_width number }
 {
-    number == 0 || number > 16
+    number == 0 || number > MOST_CHILDREN as u64
 }
 
 /// Keeps an item, if there is room.
@@ -70,84 +75,84 @@ fn keep<T: Copy, const N: usize>(kept: &mut ArrayVec<T, N>, item: T)
 
 /// The tree, as far as a board may have it.
 #[derive(Drop)]
-pub struct TreeSeen {
+pub struct TreeSummary {
     /// The numbers, in lists and beside them.
-    pub numbers: NumbersSeen,
+    pub numbers: NumbersSummary,
     /// How many numbers each of the first 16 members has, above 16 as 17.
-    sizes: ArrayVec<u16, 16>,
+    sizes: ArrayVec<u16, MOST_CHILDREN>,
     /// There are more than 16 members, or one is a list of more than 16.
-    wide: bool,
+    bad_width: bool,
     /// A member is a number.
-    loose: bool,
+    has_cluster: bool,
     /// A member is a list.
-    grouped: bool,
+    has_group: bool,
 }
 
-impl Model for TreeSeen {
-    ghost use Rattle.psci_board.specs.Seen.{SeenTree};
+impl Model for TreeSummary {
+    ghost use Rattle.psci_board.specs.Summary.{TreeSummaryValue};
 
-    ghost Value = { SeenTree };
+    ghost Value = { TreeSummaryValue };
 
     ghost view = { λ s. record {
       numbers = s.numbers;
       sizes = s.sizes.items;
-      wide = s.wide;
-      loose = s.loose;
-      grouped = s.grouped;
+      bad_width = s.bad_width;
+      has_cluster = s.has_cluster;
+      has_group = s.has_group;
     } };
 }
 
-impl TreeSeen {
+impl TreeSummary {
     /// No member of the outer list so far.
-    pub fn new() -> TreeSeen
+    pub fn new() -> TreeSummary
         ensures { result ≡ no_members }
     {
-        TreeSeen {
-            numbers: NumbersSeen::new(),
+        TreeSummary {
+            numbers: NumbersSummary::new(),
             sizes: ArrayVec::new(),
-            wide: false,
-            loose: false,
-            grouped: false,
+            bad_width: false,
+            has_cluster: false,
+            has_group: false,
         }
     }
 
     /// Takes a member that is a number.
-    #[tactic(auto, unfolding(crate::specs::Seen::with_numbers))]
-    pub fn note_number(&mut self, number: u64)
-        ensures { self.new ≡ with_member self.old (Number number) }
+    #[tactic(auto, unfolding(crate::specs::Summary::with_numbers))]
+    pub fn add_cluster(&mut self, number: u64)
+        ensures { self.new ≡ with_member self.old (Cluster number) }
     {
-        self.numbers.note(number);
-        self.note_size(1);
-        self.loose = true;
+        self.numbers.add(number);
+        self.add_size(1);
+        self.has_cluster = true;
     }
 
     /// Takes the length of a member that is a list, whose numbers were taken.
-    pub fn note_list(&mut self, count: usize)
-        ensures { self.new ≡ record (with_size self.old count) { grouped = true } }
+    pub fn add_group(&mut self, count: usize)
+        ensures { self.new ≡ record (with_size self.old count) { has_group = true } }
     {
-        self.note_size(count);
-        self.grouped = true;
+        self.add_size(count);
+        self.has_group = true;
     }
 
     /// Whether numbers and lists stand side by side.
     pub fn is_uneven(&self) -> bool
-        ensures { result ≡ self.now.grouped && self.now.loose }
+        ensures { result ≡ self.now.has_group && self.now.has_cluster }
     {
-        self.grouped && self.loose
+        self.has_group && self.has_cluster
     }
 
     /// Whether a node would have no child or more than 16.
     pub fn is_too_wide(&self) -> bool
-        ensures { result ≡ self.now.numbers.wide || self.now.wide }
+        ensures { result ≡ self.now.numbers.bad_width || self.now.bad_width }
     {
-        self.numbers.wide || self.wide
+        self.numbers.bad_width || self.bad_width
     }
 
     /// Whether there are more than 64 cores.
     pub fn has_too_many(&self) -> bool
-        ensures { result ≡ nat_lt 64 self.now.numbers.total }
+        ensures { result ≡ nat_lt MOST_CORES self.now.numbers.total }
     {
-        self.numbers.total > 64
+        self.numbers.total > MOST_CORES as u64
     }
 
     /// The first numbers, each above 16 as 17: how many cores each cluster has.
@@ -160,65 +165,65 @@ impl TreeSeen {
     /// How many numbers each of the first members has, above 16 as 17.
     pub fn sizes(&self) -> &[u16]
         ensures sizes { result.now ≡ self.now.sizes }
-        ensures few { length result.now ≤ 16 }
+        ensures few { length result.now ≤ MOST_CHILDREN }
     {
         self.sizes.as_slice()
     }
 
     /// Whether members are lists.
-    pub fn is_grouped(&self) -> bool
-        ensures { result ≡ self.now.grouped }
+    pub fn has_group(&self) -> bool
+        ensures { result ≡ self.now.has_group }
     {
-        self.grouped
+        self.has_group
     }
 
     /// Whether the tree is a list.
     pub fn is_list(&self) -> bool
-        ensures { result ≡ self.now.grouped || self.now.loose }
+        ensures { result ≡ self.now.has_group || self.now.has_cluster }
     {
-        self.grouped || self.loose
+        self.has_group || self.has_cluster
     }
 
     /// Takes how many numbers the next member has.
-    fn note_size(&mut self, size: usize)
+    fn add_size(&mut self, size: usize)
         ensures { self.new ≡ with_size self.old size }
     {
         let size = size as u64;
-        self.wide = self.wide || self.sizes.is_full() || is_out_of_width(size);
-        keep(&mut self.sizes, size.min(17) as u16);
+        self.bad_width = self.bad_width || self.sizes.is_full() || is_out_of_width(size);
+        keep(&mut self.sizes, size.min(MOST_CHILDREN as u64 + 1) as u16);
     }
 }
 
 /// The ranges, as far as a board may have them.
 #[derive(Drop)]
-pub struct RangesSeen {
+pub struct RangesSummary {
     /// The first four.
-    first: ArrayVec<AddressRange, 4>,
+    first: ArrayVec<AddressRange, MOST_RANGES>,
     /// There are more than four, or one holds no address.
     faulty: bool,
 }
 
-impl Model for RangesSeen {
-    ghost use Rattle.psci_board.specs.Seen.{SeenRanges};
+impl Model for RangesSummary {
+    ghost use Rattle.psci_board.specs.Summary.{RangesSummaryValue};
 
-    ghost Value = { SeenRanges };
+    ghost Value = { RangesSummaryValue };
 
     ghost view = { λ s. record { first = s.first.items; faulty = s.faulty } };
 }
 
-impl RangesSeen {
+impl RangesSummary {
     /// No range so far.
-    pub fn new() -> RangesSeen
+    pub fn new() -> RangesSummary
         ensures { result ≡ no_ranges }
     {
-        RangesSeen {
+        RangesSummary {
             first: ArrayVec::new(),
             faulty: false,
         }
     }
 
     /// Takes the next range.
-    pub fn note(&mut self, range: AddressRange)
+    pub fn add(&mut self, range: AddressRange)
         ensures { self.new ≡ with_range self.old range }
     {
         self.faulty = self.faulty || self.first.is_full() || range.end <= range.start;
