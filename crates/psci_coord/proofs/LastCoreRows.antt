@@ -8,7 +8,7 @@ use Rattle.psci_coord.specs.declared.osi.Osi.{Osi}
 use Rattle.psci_coord.specs.declared.osi.Osi.TheVariants.{Invalid, Denied}
 use Rattle.psci_coord.specs.View.{generation, is_idle, is_all_off}
 use Rattle.psci_coord.specs.Claim.{claim_of, off_claim}
-use Rattle.psci_coord.specs.LastCore.{siblings, shallow, last_core_check}
+use Rattle.psci_coord.specs.LastCore.{shallow_at, shallow, refusal, last_core_check}
 use Rattle.psci_coord.proofs.Boards.{two_clusters, uneven, high, active, asleep, off, seen, part}
 
 -- the answer to a core that asks for this, where cores do that, and domains were granted those
@@ -23,7 +23,7 @@ system_down : check two_clusters 0 (3 ∷ 3 ∷ 3 ∷ 0 ∷ [])
     (active 1 ∷ off 0 ∷ off 0 ∷ off 0 ∷ [])
     ((0 ∷ 3 ∷ 3 ∷ 3 ∷ []) ∷ (0 ∷ 3 ∷ []) ∷ (0 ∷ []) ∷ [])
     ≡ Ok (part 0 3 1 ∷ part 1 3 1 ∷ part 2 3 1 ∷ [])
-unfolding last_core_check shallow siblings claim_of generation is_idle up
+unfolding last_core_check refusal shallow shallow_at claim_of generation is_idle up
 system_down = refl
 
 -- the other cluster runs
@@ -31,7 +31,7 @@ other_runs : check two_clusters 0 (3 ∷ 3 ∷ 3 ∷ 0 ∷ [])
     (active 1 ∷ off 0 ∷ off 0 ∷ active 1 ∷ [])
     ((0 ∷ 3 ∷ 3 ∷ 0 ∷ []) ∷ (0 ∷ 0 ∷ []) ∷ (0 ∷ []) ∷ [])
     ≡ Err Denied
-unfolding last_core_check shallow siblings claim_of generation is_idle up
+unfolding last_core_check refusal shallow shallow_at claim_of generation is_idle up
 other_runs = refl
 
 -- the core of the other cluster sleeps, and left its cluster up
@@ -39,7 +39,7 @@ other_sleeps : check two_clusters 0 (3 ∷ 3 ∷ 3 ∷ 0 ∷ [])
     (active 1 ∷ off 0 ∷ off 0 ∷ asleep (3 ∷ 0 ∷ 0 ∷ 0 ∷ []) 1 ∷ [])
     ((0 ∷ 3 ∷ 3 ∷ 3 ∷ []) ∷ (0 ∷ 0 ∷ []) ∷ (0 ∷ []) ∷ [])
     ≡ Err Invalid
-unfolding last_core_check shallow siblings claim_of generation is_idle up
+unfolding last_core_check refusal shallow shallow_at claim_of generation is_idle up
 other_sleeps = refl
 
 -- the core beside sleeps too shallow, and the other cluster runs: the first wins
@@ -47,7 +47,7 @@ beside_sleeps : check two_clusters 0 (3 ∷ 3 ∷ 3 ∷ 0 ∷ [])
     (active 1 ∷ asleep (1 ∷ 0 ∷ 0 ∷ 0 ∷ []) 1 ∷ off 0 ∷ active 2 ∷ [])
     ((0 ∷ 1 ∷ 3 ∷ 0 ∷ []) ∷ (0 ∷ 0 ∷ []) ∷ (0 ∷ []) ∷ [])
     ≡ Err Invalid
-unfolding last_core_check shallow siblings claim_of generation is_idle up
+unfolding last_core_check refusal shallow shallow_at claim_of generation is_idle up
 beside_sleeps = refl
 
 -- the core beside runs, and the other cluster sleeps too shallow: the second wins
@@ -55,7 +55,7 @@ beside_runs : check two_clusters 0 (3 ∷ 3 ∷ 3 ∷ 0 ∷ [])
     (active 1 ∷ active 1 ∷ off 0 ∷ asleep (3 ∷ 0 ∷ 0 ∷ 0 ∷ []) 2 ∷ [])
     ((0 ∷ 0 ∷ 3 ∷ 3 ∷ []) ∷ (0 ∷ 0 ∷ []) ∷ (0 ∷ []) ∷ [])
     ≡ Err Invalid
-unfolding last_core_check shallow siblings claim_of generation is_idle up
+unfolding last_core_check refusal shallow shallow_at claim_of generation is_idle up
 beside_runs = refl
 
 -- the core beside runs, and the other cluster sleeps deep enough
@@ -63,7 +63,7 @@ beside_alone : check two_clusters 0 (3 ∷ 3 ∷ 3 ∷ 0 ∷ [])
     (active 1 ∷ active 1 ∷ off 0 ∷ off 2 ∷ [])
     ((0 ∷ 0 ∷ 3 ∷ 3 ∷ []) ∷ (0 ∷ 3 ∷ []) ∷ (0 ∷ []) ∷ [])
     ≡ Err Denied
-unfolding last_core_check shallow siblings claim_of generation is_idle up
+unfolding last_core_check refusal shallow shallow_at claim_of generation is_idle up
 beside_alone = refl
 
 -- the same, where less is asked: of the core alone, whatever runs
@@ -71,7 +71,7 @@ core_alone : check two_clusters 0 (3 ∷ 0 ∷ 0 ∷ 0 ∷ [])
     (active 1 ∷ active 1 ∷ off 0 ∷ off 2 ∷ [])
     ((0 ∷ 0 ∷ 3 ∷ 3 ∷ []) ∷ (0 ∷ 3 ∷ []) ∷ (0 ∷ []) ∷ [])
     ≡ Ok (part 0 3 1 ∷ [])
-unfolding last_core_check shallow siblings claim_of generation is_idle up
+unfolding last_core_check refusal shallow shallow_at claim_of generation is_idle up
 core_alone = refl
 
 -- of the cluster alone, where the other cluster runs
@@ -79,7 +79,7 @@ cluster_alone : check two_clusters 2 (3 ∷ 2 ∷ 0 ∷ 0 ∷ [])
     (active 1 ∷ off 0 ∷ active 4 ∷ asleep (2 ∷ 0 ∷ 0 ∷ 0 ∷ []) 2 ∷ [])
     ((0 ∷ 3 ∷ 0 ∷ 2 ∷ []) ∷ (0 ∷ 0 ∷ []) ∷ (0 ∷ []) ∷ [])
     ≡ Ok (part 0 3 4 ∷ part 1 2 6 ∷ [])
-unfolding last_core_check shallow siblings claim_of generation is_idle up
+unfolding last_core_check refusal shallow shallow_at claim_of generation is_idle up
 cluster_alone = refl
 
 -- one more than was granted
@@ -87,7 +87,7 @@ one_deeper : check two_clusters 2 (3 ∷ 3 ∷ 0 ∷ 0 ∷ [])
     (active 1 ∷ off 0 ∷ active 4 ∷ asleep (2 ∷ 0 ∷ 0 ∷ 0 ∷ []) 2 ∷ [])
     ((0 ∷ 3 ∷ 0 ∷ 2 ∷ []) ∷ (0 ∷ 0 ∷ []) ∷ (0 ∷ []) ∷ [])
     ≡ Err Invalid
-unfolding last_core_check shallow siblings claim_of generation is_idle up
+unfolding last_core_check refusal shallow shallow_at claim_of generation is_idle up
 one_deeper = refl
 
 -- what was granted counts, and not what the cores of the other cluster ask
@@ -95,7 +95,7 @@ granted_counts : check two_clusters 0 (3 ∷ 3 ∷ 3 ∷ 0 ∷ [])
     (active 1 ∷ off 0 ∷ off 1 ∷ off 1 ∷ [])
     ((0 ∷ 3 ∷ 3 ∷ 3 ∷ []) ∷ (0 ∷ 2 ∷ []) ∷ (0 ∷ []) ∷ [])
     ≡ Err Invalid
-unfolding last_core_check shallow siblings claim_of generation is_idle up
+unfolding last_core_check refusal shallow shallow_at claim_of generation is_idle up
 granted_counts = refl
 
 -- Higher boards ----------------------------------------------------------------------------------
@@ -105,7 +105,7 @@ alone_in_cluster : check uneven 0 (3 ∷ 3 ∷ 0 ∷ 0 ∷ [])
     (active 1 ∷ active 1 ∷ active 1 ∷ active 1 ∷ [])
     ((0 ∷ 0 ∷ 0 ∷ 0 ∷ []) ∷ (0 ∷ 0 ∷ 0 ∷ []) ∷ (0 ∷ 0 ∷ []) ∷ (0 ∷ []) ∷ [])
     ≡ Ok (part 0 3 1 ∷ part 1 3 1 ∷ [])
-unfolding last_core_check shallow siblings claim_of generation is_idle up
+unfolding last_core_check refusal shallow shallow_at claim_of generation is_idle up
 alone_in_cluster = refl
 
 -- one core of two runs in the cluster beside
@@ -113,7 +113,7 @@ half_runs : check uneven 0 (3 ∷ 3 ∷ 3 ∷ 0 ∷ [])
     (active 1 ∷ off 0 ∷ active 1 ∷ off 1 ∷ [])
     ((0 ∷ 3 ∷ 0 ∷ 3 ∷ []) ∷ (0 ∷ 0 ∷ 3 ∷ []) ∷ (0 ∷ 3 ∷ []) ∷ (0 ∷ []) ∷ [])
     ≡ Err Denied
-unfolding last_core_check shallow siblings claim_of generation is_idle up
+unfolding last_core_check refusal shallow shallow_at claim_of generation is_idle up
 half_runs = refl
 
 -- the last child is looked at, and the group beside at level 3
@@ -121,21 +121,21 @@ last_child : check uneven 1 (3 ∷ 3 ∷ 3 ∷ 1 ∷ [])
     (off 1 ∷ active 1 ∷ off 1 ∷ off 1 ∷ [])
     ((3 ∷ 0 ∷ 2 ∷ 3 ∷ []) ∷ (3 ∷ 0 ∷ 3 ∷ []) ∷ (0 ∷ 3 ∷ []) ∷ (0 ∷ []) ∷ [])
     ≡ Err Invalid
-unfolding last_core_check shallow siblings claim_of generation is_idle up
+unfolding last_core_check refusal shallow shallow_at claim_of generation is_idle up
 last_child = refl
 
 group_beside : check uneven 1 (3 ∷ 3 ∷ 3 ∷ 1 ∷ [])
     (off 1 ∷ active 1 ∷ off 1 ∷ active 1 ∷ [])
     ((3 ∷ 0 ∷ 3 ∷ 0 ∷ []) ∷ (3 ∷ 0 ∷ 0 ∷ []) ∷ (0 ∷ 0 ∷ []) ∷ (0 ∷ []) ∷ [])
     ≡ Err Denied
-unfolding last_core_check shallow siblings claim_of generation is_idle up
+unfolding last_core_check refusal shallow shallow_at claim_of generation is_idle up
 group_beside = refl
 
 group_accepted : check uneven 1 (3 ∷ 3 ∷ 3 ∷ 1 ∷ [])
     (off 1 ∷ active 2 ∷ off 1 ∷ asleep (3 ∷ 3 ∷ 1 ∷ 0 ∷ []) 1 ∷ [])
     ((3 ∷ 0 ∷ 3 ∷ 3 ∷ []) ∷ (3 ∷ 0 ∷ 3 ∷ []) ∷ (0 ∷ 1 ∷ []) ∷ (0 ∷ []) ∷ [])
     ≡ Ok (part 0 3 2 ∷ part 1 3 3 ∷ part 2 3 4 ∷ part 3 1 5 ∷ [])
-unfolding last_core_check shallow siblings claim_of generation is_idle up
+unfolding last_core_check refusal shallow shallow_at claim_of generation is_idle up
 group_accepted = refl
 
 -- the first child is looked at, and the children before and after the caller's own
@@ -143,7 +143,7 @@ first_child : check high 3 (3 ∷ 3 ∷ 3 ∷ 0 ∷ [])
     (active 1 ∷ off 0 ∷ asleep (2 ∷ 2 ∷ 0 ∷ 0 ∷ []) 1 ∷ active 1 ∷ [])
     ((0 ∷ 3 ∷ 2 ∷ 0 ∷ []) ∷ (0 ∷ 3 ∷ 2 ∷ 0 ∷ []) ∷ (0 ∷ 0 ∷ []) ∷ (0 ∷ []) ∷ [])
     ≡ Err Invalid
-unfolding last_core_check shallow siblings claim_of generation is_idle up
+unfolding last_core_check refusal shallow shallow_at claim_of generation is_idle up
 first_child = refl
 
 -- CPU_OFF ------------------------------------------------------------------------------------------

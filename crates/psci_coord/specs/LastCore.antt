@@ -1,9 +1,9 @@
 -- Whether a core may take its domains down as their last core, in OS-initiated mode.
-use Rattle.std.specs.Prelude.{ℕ, ◌-◌, Bool, not, ◌==◌, List, [], ◌∷◌, nat_lt}
-use Rattle.std.specs.Prelude.{map, filter, flat_map, Result, Ok, Err, if◌then◌else◌}
+use Rattle.std.specs.Prelude.{ℕ, ◌-◌, Bool, not, ◌==◌, List, length, nat_lt, map, filter, flat_map}
+use Rattle.std.specs.Prelude.{Option, None, Some, Result, Ok, Err, if◌then◌else◌}
 use Rattle.std.specs.List.{list_any, range_with_len}
 use Rattle.psci_board.specs.declared.node.Node.{Node}
-use Rattle.psci_board.specs.Board.{BoardValue, height, children, first_child}
+use Rattle.psci_board.specs.Board.{BoardValue, height, up, children, first_child}
 use Rattle.psci_coord.specs.declared.part.Part.{Part}
 use Rattle.psci_coord.specs.declared.osi.Osi.{Osi}
 use Rattle.psci_coord.specs.declared.osi.Osi.TheVariants.{Invalid, Denied}
@@ -16,29 +16,39 @@ children_of b n =
     map (λ place. record { level = n.level - 1; place = place })
     (range_with_len (first_child b n.level n.place) (children b n))
 
--- the children of a core's domain of this level that are not on the core's path
-unfoldable pub siblings : BoardValue → ℕ → ℕ → List Node
-siblings b core level =
-    filter (λ n. not (n.place == (domain_of b core (level - 1)).place))
-    (children_of b (domain_of b core level))
+-- those of some domains that do not have this place
+abbrev pub beside : ℕ → List Node → List Node
+beside place ns = filter (λ n. not (n.place == place)) ns
 
--- a domain was granted less than this depth
-abbrev pub is_shallow : PowerView → ℕ → Node → Bool
-is_shallow v depth n = nat_lt (v.granted n.level n.place) depth
+-- those of some domains that were granted less than this depth
+abbrev pub granted_less : PowerView → ℕ → List Node → List Node
+granted_less v depth ns = filter (λ n. nat_lt (v.granted n.level n.place) depth) ns
 
--- the shallow domains of an ask: beside the core's path, below its domain of each level from 1 up,
--- those that were granted less than is asked of that level. Where nothing is asked there are none.
+-- The shallow domains of an ask at a level: the children of the core's domain of that level that are
+-- not on the core's path and were granted less than is asked of the level. Where nothing is asked
+-- there are none.
+unfoldable pub shallow_at : BoardValue → PowerView → ℕ → List ℕ → ℕ → List Node
+shallow_at b v core ask level =
+    granted_less v (own_wish ask level)
+    (beside (up b (level - 1) core) (children_of b (domain_of b core level)))
+
+-- the shallow domains of an ask, at all levels from 1 up
 unfoldable pub shallow : BoardValue → PowerView → ℕ → List ℕ → List Node
-shallow b v core ask =
-    flat_map (λ level. filter (is_shallow v (own_wish ask level)) (siblings b core level))
-    (range_with_len 1 (height b))
+shallow b v core ask = flat_map (shallow_at b v core ask) (range_with_len 1 (height b))
 
--- The answer to a request with these shallow domains: Invalid where one has no core running or
--- pending below it, else Denied where there is one, else the claim.
-abbrev pub verdict : BoardValue → PowerView → List Node → List Part → Result (List Part) Osi
-verdict b v [] parts = Ok parts
-verdict b v (n ∷ ns) parts = if list_any (is_idle b v) (n ∷ ns) then Err Invalid else Err Denied
+-- why a request with these shallow domains is refused: Invalid where no core is running or pending
+-- below one of them, else Denied where there is one
+unfoldable pub refusal : BoardValue → PowerView → List Node → Option Osi
+refusal b v ns =
+    if list_any (is_idle b v) ns then Some Invalid
+    else (if nat_lt 0 (length ns) then Some Denied else None)
 
--- the last-core check of an OS-initiated request
+-- the answer to a request, by the reason why it is refused, if there is one
+abbrev pub answer_by : Option Osi → List Part → Result (List Part) Osi
+answer_by (Some fault) parts = Err fault
+answer_by None parts = Ok parts
+
+-- the last-core check of an OS-initiated request: why it is refused, or its claim
 unfoldable pub last_core_check : BoardValue → PowerView → ℕ → List ℕ → Result (List Part) Osi
-last_core_check b v core ask = verdict b v (shallow b v core ask) (own_claim b v core ask)
+last_core_check b v core ask =
+    answer_by (refusal b v (shallow b v core ask)) (own_claim b v core ask)
