@@ -1,7 +1,8 @@
 //! The last-core check.
 
-ghost use Rattle.std.specs.Prelude.{◌≡◌, ◌<◌, ◌+◌, ◌≤◌, ◌∷◌, []};
-ghost use Rattle.psci_board.specs.Board.{HasNode, IsBoard, cores};
+ghost use Rattle.std.specs.Prelude.{◌≡◌, ◌≢◌, ◌<◌, ◌≤◌};
+ghost use Rattle.psci_board.specs.Board.{IsBoard, cores};
+ghost use Rattle.psci_tree.specs.Recount.{HasDomain, active, granted_at};
 ghost use Rattle.psci_coord.specs.LastCore.{beside, children_of, granted_less, last_core_check};
 ghost use Rattle.psci_coord.specs.LastCore.{refusal, shallow};
 ghost use Rattle.psci_coord.specs.Looked.{view_of};
@@ -57,17 +58,24 @@ fn level_refusal(tree: &Tree, board: &Board, above: Node, own: u16, depth: u8) -
         let Some(child) = board.child(above, number) else {
             break;
         };
-        fault = worse(fault, child_refusal(tree, board, child, own, depth));
+        fault = worse(fault, child_refusal(tree, child, own, depth));
     }
     fault
 }
 
-/// Why a request for this depth of a domain is refused by this child.
-fn child_refusal(tree: &Tree, board: &Board, child: Node, own: u16, depth: u8) -> Option<Osi>
-    requires board { tree.now.levels ≡ board.now.levels }
-    requires child { HasNode board.now child }
-    ensures { result ≡ refusal board.now (view_of tree.now)
-        (granted_less (view_of tree.now) depth (beside own (child ∷ []))) }
+/// Why a request for this depth of a domain is refused by this child: it is neither on the path nor
+/// was it granted as much.
+fn child_refusal(tree: &Tree, child: Node, own: u16, depth: u8) -> Option<Osi>
+    requires { HasDomain tree.now.levels child }
+    ensures own { child.place ≡ own → result ≡ None }
+    ensures deep { child.place ≢ own → depth ≤ granted_at tree.now child.level child.place
+        → result ≡ None }
+    ensures idle { child.place ≢ own → granted_at tree.now child.level child.place < depth
+        → active tree.now child ≡ 0
+        → result ≡ Some Osi.Invalid }
+    ensures busy { child.place ≢ own → granted_at tree.now child.level child.place < depth
+        → active tree.now child ≢ 0
+        → result ≡ Some Osi.Denied }
 {
     if child.place == own {
         return None;
