@@ -1,10 +1,10 @@
 -- What an OS-initiated request that is accepted says of the cores beside the caller.
 use Rattle.std.proofs.Common.{◌≡◌, ℕ, zero, suc, ◌+◌, ◌-◌, ◌<◌, ◌≤◌, Bool, true, false, ◌==◌, List}
-use Rattle.std.proofs.Common.{[], ◌∷◌, ◌++◌, length, map, filter, refl, ap, sym, ◌∙◌, arith, inl}
-use Rattle.std.proofs.Common.{inr, None, Some, Ok, subst}
-use Rattle.std.specs.Prelude.{Option, not, nat_lt, flat_map, slice_get, slice_index}
+use Rattle.std.proofs.Common.{[], ◌++◌, length, map, filter, refl, ap, sym, ◌∙◌, arith, inl}
+use Rattle.std.proofs.Common.{inr, None, Some, Ok}
+use Rattle.std.specs.Prelude.{Option, not, nat_lt, flat_map, slice_index}
 use Rattle.std.specs.List.{list_any, range_with_len}
-use Rattle.std.proofs.lemmas.Bool.{cases_Bool, cases_eq, cases_lt, lt-ltb, ltb-false}
+use Rattle.std.proofs.lemmas.Bool.{cases_Bool, cases_eq, lt-ltb, ltb-false}
 use Rattle.std.proofs.lemmas.Bool.{eqb-true, false_from_ne_true}
 use Rattle.std.proofs.lemmas.List.{nil_from_length, length-append}
 use Rattle.std.proofs.lemmas.List.Concat.{flat_map-cons}
@@ -26,8 +26,7 @@ use Rattle.psci_coord.proofs.ClaimLaws.{claim_laws}
 
 none_in_front : (xs ys : List Node) → xs ++ ys ≡ [] → (xs ≡ []) × (ys ≡ [])
 none_in_front xs ys e =
-    let both = ap length e in
-    (
+    let both = ap length e in (
       nil_from_length xs (omega (arith, both, length-append xs ys)),
       nil_from_length ys (omega (arith, both, length-append xs ys)),
     )
@@ -39,8 +38,8 @@ flat_map-none f a (suc n) k e h i =
     let parts = none_in_front (f a) (flat_map f (range_with_len (a + 1) n))
     (sym (flat_map-cons f a (range_with_len (a + 1) n)) ∙ e) in
     elim (cases_eq a k) [
-    | inl same ↦ ap f (sym same) ∙ parts.0
-    | inr other ↦ flat_map-none f (a + 1) n k parts.1 (omega (arith, other)) (omega arith)
+      | inl same ↦ ap f (sym same) ∙ parts.0
+      | inr other ↦ flat_map-none f (a + 1) n k parts.1 (omega (arith, other)) (omega arith)
     ]
 
 -- none of some domains passes both tests
@@ -52,21 +51,21 @@ filters-none p q g a (suc n) k e h i t = elim (cases_eq a k) [
   | inl same ↦
       let here : q (g a) ≡ true = ap (λ x. q (g x)) same ∙ t in
       elim (cases_Bool (p (g a))) [
-      | inl passes ↦ let never = rw (here, passes) at e in absurd (cc never)
-      | inr fails ↦ ap (λ x. p (g x)) (sym same) ∙ fails
+        | inl passes ↦ let never = rw (here, passes) at e in absurd (cc never)
+        | inr fails ↦ ap (λ x. p (g x)) (sym same) ∙ fails
       ]
   | inr other ↦
       let later : a + 1 ≤ k = omega (arith, other) in
       elim (cases_Bool (q (g a))) [
-      | inl passes ↦ elim (cases_Bool (p (g a))) [
-        | inl both ↦ let never = rw (passes, both) at e in absurd (cc never)
-        | inr one ↦
-            let rest = rw (passes, one) at e in
-            filters-none p q g (a + 1) n k rest later (omega arith) t
+        | inl passes ↦ elim (cases_Bool (p (g a))) [
+          | inl both ↦ let never = rw (passes, both) at e in absurd (cc never)
+          | inr one ↦
+              let rest = rw (passes, one) at e in
+              filters-none p q g (a + 1) n k rest later (omega arith) t
         ]
-      | inr fails ↦
-          let rest = rw fails at e in
-          filters-none p q g (a + 1) n k rest later (omega arith) t
+        | inr fails ↦
+            let rest = rw fails at e in
+            filters-none p q g (a + 1) n k rest later (omega arith) t
       ]
 ]
 
@@ -79,7 +78,7 @@ refusal-none b v ns e = elim (cases_Bool (list_any (is_idle b v) ns)) [
   | inr busy ↦ elim (eq-zero-or-pos (length ns)) [
     | inl none ↦ nil_from_length ns none
     | inr some ↦ let never = rw (busy, lt-ltb 0 (length ns) some) at e in absurd (cc never)
-    ]
+  ]
 ]
 
 answered : (o : Option Osi) (parts claim : List Part) → answer_by o claim ≡ Ok parts
@@ -110,8 +109,10 @@ granted_beside b v core ask level c paths child none h i joined apart =
     + children_at b (suc level) (up b (suc level) core) =
     rw (← joined) (child.last c level h i) in
     let other : not (up b level c == up b (suc level - 1) core) ≡ true =
-    rw (down, false_from_ne_true (up b level c == up b level core) (λ same. apart (eqb-true _ _ same)))
-    refl in
+    rw (
+      down,
+      false_from_ne_true (up b level c == up b level core) (λ same. apart (eqb-true _ _ same)),
+    ) refl in
     let test = filters-none (λ n. nat_lt (v.granted n.level n.place) (slice_index ask (suc level)))
     (λ n. not (n.place == up b (suc level - 1) core))
     (λ place. record { level = suc level - 1; place = place })
@@ -144,12 +145,12 @@ asked_below b v core ask (suc level) c paths child is grants none h i at apart =
     let step = is.falls level in
     let falls = rw next at step in
     elim (cases_eq (up b level c) (up b level core)) [
-    | inl same ↦ omega (
+      | inl same ↦ omega (
         arith,
         falls,
         asked_below b v core ask level c paths child is grants none h (omega arith) same apart,
       )
-    | inr other ↦ omega (
+      | inr other ↦ omega (
         arith,
         granted_beside b v core ask level c paths child none h (omega arith) at other,
         granted_below b v level c paths grants h (omega arith),

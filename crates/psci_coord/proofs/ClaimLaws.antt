@@ -1,10 +1,10 @@
 -- What holds of every claim, and of those of platform-coordinated mode.
-use Rattle.std.proofs.Common.{◌≡◌, ℕ, suc, ◌+◌, ◌<◌, ◌≤◌, refl, arith, ap, sym, subst, ◌∙◌, length}
+use Rattle.std.proofs.Common.{◌≡◌, ℕ, suc, ◌+◌, ◌<◌, arith}
 use Rattle.std.proofs.lemmas.Option.{slice_get_within}
-use Rattle.psci_board.specs.Board.{BoardValue, IsBoard, height, cores, up}
+use Rattle.psci_board.specs.Board.{BoardValue, height, cores, up}
 use Rattle.psci_board.specs.Laws.{PathLaws}
 use Rattle.psci_coord.specs.View.{PowerView, domain_of, generation, least_ask}
-use Rattle.psci_coord.specs.Claim.{claim_of, climb, least_wish}
+use Rattle.psci_coord.specs.Claim.{claim_of, least_wish}
 use Rattle.psci_coord.specs.Laws.{ClaimLaws, PlatformLaws}
 use Rattle.psci_coord.proofs.LeastBelow.{least_ask-most, least_ask-below, least_ask-above}
 use Rattle.psci_coord.proofs.LeastBelow.{least_ask-zero}
@@ -37,7 +37,11 @@ platform_laws b v core paths h =
       ends = λ few. least_ask-zero b v core _ (laws.ends few);
       falls = λ asks l p q e f.
           let inside : l < height b =
-          omega (arith, slice_get_within (claim_of b v core (least_wish b v core)) (l + 1) q f, laws.few) in
+          omega (
+            arith,
+            slice_get_within (claim_of b v core (least_wish b v core)) (l + 1) q f,
+            laws.few,
+          ) in
           rw (laws.depth l p e, laws.depth (l + 1) q f)
           (least_ask-above b v core l (least_ask b v (domain_of b core (l + 1)))
           (least_ask-most b v core (l + 1)) (λ c i at.

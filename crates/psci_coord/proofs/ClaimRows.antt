@@ -18,7 +18,8 @@ unfolding claim_of least_ask generation up
 all_down = refl
 
 -- the last core asks for retention of the system alone
-system_retention : claims two_clusters 0 (asleep (3 ∷ 3 ∷ 2 ∷ 0 ∷ []) 1 ∷ off 0 ∷ off 0 ∷ off 0 ∷ [])
+system_retention : claims two_clusters 0
+    (asleep (3 ∷ 3 ∷ 2 ∷ 0 ∷ []) 1 ∷ off 0 ∷ off 0 ∷ off 0 ∷ [])
     ≡ part 0 3 1 ∷ part 1 3 1 ∷ part 2 2 1 ∷ []
 unfolding claim_of least_ask generation up
 system_retention = refl

@@ -52,7 +52,8 @@ climbed-more b v core wanted level parts part c h l d g some =
     let wished : 0 < wanted level = omega (arith, d, some) in
     let same : record { level = level; depth = wanted level; generation = gs level } ≡ part =
     rw (l, d, g) refl in
-    let next : climb wanted gs level (height b + 1 - level) ≡ part ∷ climb wanted gs (level + 1) left =
+    let next : climb wanted gs level (height b + 1 - level)
+    ≡ part ∷ climb wanted gs (level + 1) left =
     ap (climb wanted gs level) one ∙ climb-more wanted gs level left wished
     ∙ ap (λ p. p ∷ climb wanted gs (level + 1) left) same in
     record {
@@ -78,7 +79,7 @@ climbed-all b v core wanted level parts c h =
     let none : height b + 1 - level ≡ 0 = omega arith in
     sym (ap (λ xs. parts ++ xs) (ap (climb wanted gs level) none) ∙ append-nil parts) ∙ c.rest
 
--- Laws of a climb ----------------------------------------------------------------------------------
+-- Laws of a climb -----------------------------------------------------------------------------
 
 pub climb-levels : (wanted gs : ℕ → ℕ) (level count : ℕ)
     → map (λ p. p.level) (climb wanted gs level count)

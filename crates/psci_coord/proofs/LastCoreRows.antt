@@ -146,7 +146,7 @@ first_child : check high 3 (3 ∷ 3 ∷ 3 ∷ 0 ∷ [])
 unfolding last_core_check refusal shallow shallow_at claim_of generation is_idle up
 first_child = refl
 
--- CPU_OFF ------------------------------------------------------------------------------------------
+-- CPU_OFF -------------------------------------------------------------------------------------
 
 abbrev off_parts : BoardValue → ℕ → List CoreState → List Part
 off_parts b core cores = off_claim b (seen b cores []) core

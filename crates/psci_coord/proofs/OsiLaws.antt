@@ -1,19 +1,18 @@
 -- What holds of the claims of OS-initiated mode.
-use Rattle.std.proofs.Common.{◌≡◌, ℕ, zero, suc, ◌+◌, ◌<◌, ◌≤◌, Bool, true, false, ◌==◌, List}
+use Rattle.std.proofs.Common.{◌≡◌, ℕ, zero, suc, ◌+◌, ◌<◌, ◌≤◌, Bool, true, false, List}
 use Rattle.std.proofs.Common.{length, filter, refl, ap, sym, ◌∙◌, arith, inl, inr, true≢false}
 use Rattle.std.proofs.Common.{get_or, Some}
 use Rattle.std.specs.Prelude.{slice_index, slice_get}
 use Rattle.std.specs.List.{list_all, range_with_len}
-use Rattle.std.proofs.lemmas.Bool.{cases_Bool, cases_eq, cases_lt, eq-eqb, eqb-true, lt-ltb, le-ltb}
+use Rattle.std.proofs.lemmas.Bool.{cases_Bool, cases_eq, cases_lt, eq-eqb, eqb-true}
 use Rattle.std.proofs.lemmas.Option.{slice_get-get_or}
 use Rattle.std.proofs.Math.Nat.{eq-zero-or-pos}
-use Rattle.psci_board.specs.Board.{BoardValue, height, cores, up}
+use Rattle.psci_board.specs.Board.{BoardValue, cores, up}
 use Rattle.psci_state.specs.Ask.{IsAsk}
 use Rattle.psci_coord.specs.declared.part.Part.{Part}
-use Rattle.psci_coord.specs.View.{PowerView, domain_of, generation, is_all_off}
-use Rattle.psci_coord.specs.Claim.{climb, claim_of, own_claim, own_wish, off_claim, off_wish}
+use Rattle.psci_coord.specs.View.{PowerView, domain_of, is_all_off}
+use Rattle.psci_coord.specs.Claim.{own_claim, own_wish, off_claim, off_wish}
 use Rattle.psci_coord.specs.Laws.{OwnLaws, OffLaws}
-use Rattle.psci_coord.proofs.Climbing.{climb-more}
 use Rattle.psci_coord.proofs.ClaimLaws.{claim_laws}
 
 -- All and some of the cores below ----------------------------------------------------------------
@@ -26,16 +25,16 @@ all-pass p test a (suc n) c e h i t = elim (cases_Bool (test a)) [
     | inl passes ↦
         let rest = rw (kept, passes) at e in
         elim (cases_eq a c) [
-        | inl same ↦ ap p (sym same) ∙ passes
-        | inr other ↦ all-pass p test (a + 1) n c rest (omega (arith, other)) (omega arith) t
+          | inl same ↦ ap p (sym same) ∙ passes
+          | inr other ↦ all-pass p test (a + 1) n c rest (omega (arith, other)) (omega arith) t
         ]
     | inr fails ↦ let never = rw (kept, fails) at e in absurd (true≢false (sym never))
-    ]
+  ]
   | inr dropped ↦
       let rest = rw dropped at e in
       elim (cases_eq a c) [
-      | inl same ↦ absurd (true≢false (sym (ap test same ∙ t) ∙ dropped))
-      | inr other ↦ all-pass p test (a + 1) n c rest (omega (arith, other)) (omega arith) t
+        | inl same ↦ absurd (true≢false (sym (ap test same ∙ t) ∙ dropped))
+        | inr other ↦ all-pass p test (a + 1) n c rest (omega (arith, other)) (omega arith) t
       ]
 ]
 
@@ -50,7 +49,7 @@ some-fails p test a (suc n) e = elim (cases_Bool (test a)) [
         let rest = some-fails p test (a + 1) n less in
         (rest.0, omega (arith, rest.1), omega (arith, rest.2), rest.3, rest.4)
     | inr fails ↦ (a, omega arith, omega arith, kept, fails)
-    ]
+  ]
   | inr dropped ↦
       let less = rw dropped at e in
       let rest = some-fails p test (a + 1) n less in
@@ -72,17 +71,18 @@ some_on-below b v core level e =
     let one = some-fails v.is_off _ 0 (cores b) e in
     (one.0, omega (arith, one.2), eqb-true _ _ one.3, one.4)
 
--- CPU_OFF ------------------------------------------------------------------------------------------
+-- CPU_OFF -------------------------------------------------------------------------------------
 
 -- above the core, power-down is wanted where all is off, and nothing elsewhere
 off-yes : (b : BoardValue) (v : PowerView) (core level : ℕ) → 0 < level
     → 0 < off_wish b v core level
     → is_all_off b v (domain_of b core level) ≡ true
 off-yes b v core zero h i = absurd (omega arith)
-off-yes b v core (suc level) h i = elim (cases_Bool (is_all_off b v (domain_of b core (suc level)))) [
-  | inl all ↦ all
-  | inr part ↦ let never = rw part at i in absurd (omega arith)
-]
+off-yes b v core (suc level) h i =
+    elim (cases_Bool (is_all_off b v (domain_of b core (suc level)))) [
+      | inl all ↦ all
+      | inr part ↦ let never = rw part at i in absurd (omega arith)
+    ]
 
 off-no : (b : BoardValue) (v : PowerView) (core level : ℕ) → off_wish b v core level ≡ 0
     → is_all_off b v (domain_of b core level) ≡ false
@@ -95,21 +95,22 @@ off-no b v core (suc level) e = elim (cases_Bool (is_all_off b v (domain_of b co
 off-three : (b : BoardValue) (v : PowerView) (core level : ℕ) → 0 < off_wish b v core level
     → off_wish b v core level ≡ 3
 off-three b v core zero h = refl
-off-three b v core (suc level) h = elim (cases_Bool (is_all_off b v (domain_of b core (suc level)))) [
-  | inl all ↦ rw all refl
-  | inr part ↦ let never = rw part at h in absurd (omega arith)
-]
+off-three b v core (suc level) h =
+    elim (cases_Bool (is_all_off b v (domain_of b core (suc level)))) [
+      | inl all ↦ rw all refl
+      | inr part ↦ let never = rw part at h in absurd (omega arith)
+    ]
 
 off-some : (b : BoardValue) (v : PowerView) (core : ℕ) → 0 < length (off_claim b v core)
 off-some b v core =
     let laws = claim_laws b v core (off_wish b v core) in
     elim (eq-zero-or-pos (length (off_claim b v core))) [
-    | inl none ↦
-        let ends : off_wish b v core (length (off_claim b v core)) ≡ 0 =
-        laws.ends (omega (arith, none)) in
-        let never = rw none at ends in
-        absurd (omega arith)
-    | inr some ↦ some
+      | inl none ↦
+          let ends : off_wish b v core (length (off_claim b v core)) ≡ 0 =
+          laws.ends (omega (arith, none)) in
+          let never = rw none at ends in
+          absurd (omega arith)
+      | inr some ↦ some
     ]
 
 pub off_laws : (b : BoardValue) (v : PowerView) (core : ℕ) → OffLaws b v core
@@ -117,7 +118,8 @@ off_laws b v core =
     let laws = claim_laws b v core (off_wish b v core) in
     record {
       deep = λ l p e.
-          laws.depth l p e ∙ off-three b v core l (omega (arith, laws.some l p e, laws.depth l p e));
+          laws.depth l p e
+          ∙ off-three b v core l (omega (arith, laws.some l p e, laws.depth l p e));
       some = off-some b v core;
       off = λ l c p e h i at.
           all_off-below b v core l c
@@ -125,7 +127,7 @@ off_laws b v core =
       ends = λ few. some_on-below b v core _ (off-no b v core _ (laws.ends few));
     }
 
--- What a core asks itself --------------------------------------------------------------------------
+-- What a core asks itself ---------------------------------------------------------------------
 
 asks-fall : (ask : List ℕ) (low high : ℕ) → IsAsk ask → low ≤ high
     → slice_index ask high ≤ slice_index ask low

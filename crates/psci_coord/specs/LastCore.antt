@@ -1,5 +1,5 @@
 -- Whether a core may take its domains down as their last core, in OS-initiated mode.
-use Rattle.std.specs.Prelude.{ℕ, ◌-◌, Bool, not, ◌==◌, List, length, nat_lt, map, filter, flat_map}
+use Rattle.std.specs.Prelude.{ℕ, ◌-◌, not, ◌==◌, List, length, nat_lt, map, filter, flat_map}
 use Rattle.std.specs.Prelude.{Option, None, Some, Result, Ok, Err, if◌then◌else◌}
 use Rattle.std.specs.List.{list_any, range_with_len}
 use Rattle.psci_board.specs.declared.node.Node.{Node}
@@ -24,9 +24,9 @@ beside place ns = filter (λ n. not (n.place == place)) ns
 abbrev pub granted_less : PowerView → ℕ → List Node → List Node
 granted_less v depth ns = filter (λ n. nat_lt (v.granted n.level n.place) depth) ns
 
--- The shallow domains of an ask at a level: the children of the core's domain of that level that are
--- not on the core's path and were granted less than is asked of the level. Where nothing is asked
--- there are none.
+-- The shallow domains of an ask at a level: the children of the core's domain of that level that
+-- are not on the core's path and were granted less than is asked of the level. Where nothing is
+-- asked there are none.
 unfoldable pub shallow_at : BoardValue → PowerView → ℕ → List ℕ → ℕ → List Node
 shallow_at b v core ask level =
     granted_less v (own_wish ask level)

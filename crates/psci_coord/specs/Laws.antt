@@ -50,7 +50,8 @@ pub record PlatformLaws (b : BoardValue) (v : PowerView) (core : ℕ) : Type 0 w
   -- one level more would be too much: some core below that domain asks 0 of it
   pub ends : length (platform_claim b v core) < height b + 1
       → (c : ℕ) × (c < cores b) × (up b (length (platform_claim b v core)) c
-      ≡ up b (length (platform_claim b v core)) core) × (v.ask c (length (platform_claim b v core)) ≡ 0)
+      ≡ up b (length (platform_claim b v core)) core)
+      × (v.ask c (length (platform_claim b v core)) ≡ 0)
 
 -- The claim of what a core itself asks.
 pub record OwnLaws (b : BoardValue) (v : PowerView) (core : ℕ) (ask : List ℕ) : Type 0 where

@@ -1,6 +1,6 @@
 -- Two climbs that want the same as far as the first of them goes.
 use Rattle.std.proofs.Common.{◌≡◌, ℕ, zero, suc, ◌+◌, ◌<◌, ◌≤◌, [], refl, ap, sym, ◌∙◌, arith, inl}
-use Rattle.std.proofs.Common.{inr, ◌∷◌}
+use Rattle.std.proofs.Common.{inr}
 use Rattle.std.specs.Prelude.{slice_index, nat_le, if◌then◌else◌}
 use Rattle.std.proofs.lemmas.Bool.{cases_lt, lt-ltb, le-leb, lt-leb}
 use Rattle.std.proofs.Math.Nat.{eq-zero-or-pos}

@@ -1,5 +1,5 @@
 -- How many cores below a domain pass a test, and whether none or all do.
-use Rattle.std.proofs.Common.{◌≡◌, ℕ, suc, ◌+◌, ◌≤◌, Bool, true, false, cond, ◌==◌, List, []}
+use Rattle.std.proofs.Common.{◌≡◌, ℕ, ◌+◌, Bool, true, false, cond, ◌==◌, List, []}
 use Rattle.std.proofs.Common.{◌∷◌, length, refl, ap, sym, ◌∙◌, arith, inl, inr, true≢false, Some}
 use Rattle.std.specs.Prelude.{not}
 use Rattle.std.specs.List.{count_by, list_all}
@@ -20,7 +20,8 @@ count-cons : (p : ℕ → Bool) (x : ℕ) (xs : List ℕ)
     → count_by p (x ∷ xs) ≡ one_if (p x) + count_by p xs
 count-cons p x xs = sum_by-cons (λ y. one_if (p y)) x xs
 
-none-counted : (p : ℕ → Bool) (xs : List ℕ) → count_by p xs ≡ 0 → list_all (λ x. not (p x)) xs ≡ true
+none-counted : (p : ℕ → Bool) (xs : List ℕ) → count_by p xs ≡ 0
+    → list_all (λ x. not (p x)) xs ≡ true
 none-counted p [] e = refl
 none-counted p (x ∷ xs) e = elim (cases_Bool (p x)) [
   | inl holds ↦ absurd (omega (arith, count-cons p x xs, ap one_if holds))

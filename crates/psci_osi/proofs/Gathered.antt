@@ -1,6 +1,6 @@
 -- Shallow domains are gathered child by child, and level by level.
 use Rattle.std.proofs.Common.{◌≡◌, ℕ, ◌+◌, ◌-◌, ◌<◌, ◌≤◌, List, [], ◌∷◌, ◌++◌, refl, ap, sym, ◌∙◌}
-use Rattle.std.proofs.Common.{arith, map, None, Some, zero, suc, append-nil}
+use Rattle.std.proofs.Common.{arith, map, Some, zero, suc, append-nil}
 use Rattle.std.specs.Prelude.{Option, flat_map, slice_index, slice_index_or}
 use Rattle.std.proofs.lemmas.Option.{get_or_from_slice_get}
 use Rattle.std.specs.List.{range_with_len}
@@ -16,7 +16,6 @@ use Rattle.psci_coord.specs.declared.osi.Osi.{Osi}
 use Rattle.psci_coord.specs.View.{PowerView, domain_of}
 use Rattle.psci_coord.specs.Claim.{own_wish}
 use Rattle.psci_coord.specs.LastCore.{refusal, granted_less, beside, children_of, shallow_at}
-use Rattle.psci_coord.specs.LastCore.{shallow}
 use Rattle.psci_osi.specs.Worse.{worse}
 use Rattle.psci_osi.proofs.Refusals.{refusal-append}
 

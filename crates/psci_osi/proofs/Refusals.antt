@@ -1,9 +1,11 @@
 -- The reasons to refuse a request, one domain after another.
-use Rattle.std.proofs.Common.{◌≡◌, ℕ, ◌+◌, ◌<◌, ◌≤◌, Bool, true, false, List, [], ◌∷◌, ◌++◌}
-use Rattle.std.proofs.Common.{length, refl, ap, sym, ◌∙◌, arith, inl, inr, Some, None, ◌==◌, zero-add}
+use Rattle.std.proofs.Common.{◌≡◌, ℕ, ◌+◌, ◌<◌, ◌≤◌, true, false, List, [], ◌∷◌, ◌++◌}
+use Rattle.std.proofs.Common.{length, refl, ◌∙◌, arith, inl, inr, Some, None}
+use Rattle.std.proofs.Common.{◌==◌, zero-add}
 use Rattle.std.specs.Prelude.{Option}
 use Rattle.std.specs.List.{list_any}
-use Rattle.std.proofs.lemmas.Bool.{cases_Bool, cases_eq, cases_lt, lt-ltb, le-ltb, eq-eqb, false_from_ne_true, eqb-true}
+use Rattle.std.proofs.lemmas.Bool.{cases_Bool, cases_eq, cases_lt, lt-ltb, le-ltb, eq-eqb}
+use Rattle.std.proofs.lemmas.Bool.{false_from_ne_true, eqb-true}
 use Rattle.std.proofs.lemmas.List.Folds.{list_any-append}
 use Rattle.std.proofs.lemmas.List.{length-append}
 use Rattle.std.proofs.Math.Nat.{eq-zero-or-pos}
@@ -37,7 +39,8 @@ refusal-append b v xs ys =
               elim (eq-zero-or-pos (length ys)) [
                 | inl none ↦ rw (i, j, lt-ltb 0 _ more, lt-ltb 0 (length xs) some, none) refl
                 | inr more_ys ↦
-                    rw (i, j, lt-ltb 0 _ more, lt-ltb 0 (length xs) some, lt-ltb 0 (length ys) more_ys) refl
+                    let some_ys = lt-ltb 0 (length ys) more_ys in
+                    rw (i, j, lt-ltb 0 _ more, lt-ltb 0 (length xs) some, some_ys) refl
               ]
         ]
       ]

@@ -17,28 +17,30 @@ loop-level-preserved c =
     let core : ℕ = c.args.core.number in
     let level : ℕ = c.loop-level.level in
     let wished = wanted c.args.board.now (view_of c.args.tree.now) core c.args.wish.now in
-    let node = path-at c.args.board.now core level c.deref.result.now (record { level = 0; place = 0 })
+    let node = path-at c.args.board.now core level c.deref.result.now
+    (record { level = 0; place = 0 })
     (c.law_paths.ensures c.args.board.now c.height-level-end.ensures.board)
     (c.deref.ensures.0 ∙ c.path-path.ensures)
     (omega (arith, c.loop-level-test.true, c.height-level-end.ensures.height)) in
+    let depth = wanted-is c.args.board.now c.args.tree.now core level _ c.args.wish.now
+    c.requires.board node in
+    let known = known-is c.args.board.now c.args.tree.now core level _ c.requires.board node in
     rw c.push.ensures (climbed-more c.args.board.now (view_of c.args.tree.now) core
-    wished level c.loop-level.parts _
-    c.loop-level.invariant (omega (arith, c.loop-level-test.true, c.height-level-end.ensures.height))
-    refl
-    (c.depth-depth.ensures ∙ wanted-is c.args.board.now c.args.tree.now core level _ c.args.wish.now c.requires.board node)
-    (c.known.ensures ∙ known-is c.args.board.now c.args.tree.now core level _ c.requires.board node)
-    c.if-depth-eq0.false)
+    wished level c.loop-level.parts _ c.loop-level.invariant
+    (omega (arith, c.loop-level-test.true, c.height-level-end.ensures.height))
+    refl (c.depth-depth.ensures ∙ depth) (c.known.ensures ∙ known) c.if-depth-eq0.false)
 
 pub returns-then-depth-eq0 : goal.returns-then-depth-eq0
 returns-then-depth-eq0 c =
     let core : ℕ = c.args.core.number in
     let level : ℕ = c.loop-level.level in
     let wished = wanted c.args.board.now (view_of c.args.tree.now) core c.args.wish.now in
-    let node = path-at c.args.board.now core level c.deref.result.now (record { level = 0; place = 0 })
+    let node = path-at c.args.board.now core level c.deref.result.now
+    (record { level = 0; place = 0 })
     (c.law_paths.ensures c.args.board.now c.height-level-end.ensures.board)
     (c.deref.ensures.0 ∙ c.path-path.ensures)
     (omega (arith, c.loop-level-test.true, c.height-level-end.ensures.height)) in
+    let depth = wanted-is c.args.board.now c.args.tree.now core level _ c.args.wish.now
+    c.requires.board node in
     climbed-ends c.args.board.now (view_of c.args.tree.now) core wished level c.loop-level.parts
-    c.loop-level.invariant
-    (sym (wanted-is c.args.board.now c.args.tree.now core level _ c.args.wish.now c.requires.board node)
-    ∙ sym c.depth-depth.ensures ∙ c.if-depth-eq0.true)
+    c.loop-level.invariant (sym depth ∙ sym c.depth-depth.ensures ∙ c.if-depth-eq0.true)
