@@ -1,6 +1,6 @@
 -- Worked examples: a history that is legal, and for each way to be wrong one that is not.
 use Rattle.std.proofs.Common.{◌≡◌, ℕ, pos, true, false, List, [], ◌∷◌, None, Some}
-use Rattle.std.proofs.Common.{refl}
+use Rattle.std.proofs.Common.{ap, refl}
 use Rattle.psci_board.specs.Board.{BoardValue, core_of, up}
 use Rattle.psci_model.specs.declared.fault.FwFault.TheVariants.{NoLife, NotRunning}
 use Rattle.psci_model.specs.declared.message.Kind.{Kind}
@@ -14,6 +14,7 @@ use Rattle.psci_model.specs.CpuOn.{target_of}
 use Rattle.psci_model.specs.Entry.{Entry}
 use Rattle.psci_model.specs.History.{values_of}
 use Rattle.psci_model.specs.Legal.{IsLegal, is_legal, legal_reply}
+use Rattle.psci_model.specs.Same.{is_same_reply}
 use Rattle.psci_model.proofs.Steps.{Step, board, boot, boots, code, enter, goes_to, history_from}
 use Rattle.psci_model.proofs.Steps.{on_3, parks, starts, version}
 
@@ -154,3 +155,13 @@ first_row = refl
 too_late_row : is_legal board (replied (version 0) (code (pos 65537)) []) ≡ false
 unfolding answer values_of
 too_late_row = refl
+
+-- a history with a wrong reply is not legal
+never : false ≡ true → ⊥
+never e = absurd (cc)
+
+illegal : IsLegal board (replied boot (code (pos 0)) []) → ⊥
+unfolding answer values_of
+illegal legal =
+    let same : code (pos 0) ≡ boots = legal.0 in
+    never (ap (is_same_reply boots) same)
