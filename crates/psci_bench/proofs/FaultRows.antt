@@ -4,13 +4,14 @@ use Rattle.std.specs.Prelude.{codes, Ok, Err, replicate}
 use Rattle.std.specs.Fmt.{digits}
 use Rattle.psci_board.specs.Board.{core_of, node_of, up}
 use Rattle.psci_board.specs.Reading.{literal_at, number_at, hex_at, range_at, spaced_at, at_most}
-use Rattle.psci_board.specs.Reading.{more_at, list_at, mid_at, tree_at, board_text}
+use Rattle.psci_board.specs.Reading.{more_at, list_at, member_at, tree_at, board_text}
 use Rattle.psci_board.specs.Verdict.{board_of, verdict}
 use Rattle.psci_board.specs.declared.fault.BoardFault.TheVariants.{Grammar, Uneven, TooWide}
 use Rattle.psci_board.specs.declared.fault.BoardFault.TheVariants.{BadRange, BadBoot, BadLimit}
-use Rattle.psci_fw.specs.Answers.{answer, target_of}
-use Rattle.psci_fw.specs.History.{values_of}
-use Rattle.psci_fw.specs.Status.{node_status}
+use Rattle.psci_model.specs.Answer.{answer}
+use Rattle.psci_model.specs.CpuOn.{target_of}
+use Rattle.psci_model.specs.History.{values_of}
+use Rattle.psci_model.specs.AffinityInfo.{node_status}
 use Rattle.psci_bench.specs.declared.fault.ScriptFault.TheVariants.{NoBoard, Line, Long}
 use Rattle.psci_bench.specs.declared.fault.ReplayFault.TheVariants.{Script, Board}
 use Rattle.psci_bench.specs.Legal.{legal}
@@ -34,7 +35,7 @@ pub bad_line_1 : transcript legal (text (board ∷ codes "enter" ∷ codes "ente
       end = Err (Script 2 Line);
     }
 unfolding transcript transcript_of_rest lines legal line_of call_at enter_at register_at
-    optional_register_at board_of verdict board_text tree_at mid_at list_at more_at at_most
+    optional_register_at board_of verdict board_text tree_at member_at list_at more_at at_most
     spaced_at range_at hex_at number_at literal_at answer target_of values_of core_of node_of up
     node_status digits
 bad_line_1 = refl
@@ -45,7 +46,7 @@ pub bad_line_2 : transcript legal (text (board ∷ codes "enter  0" ∷ codes "e
       end = Err (Script 2 Line);
     }
 unfolding transcript transcript_of_rest lines legal line_of call_at enter_at register_at
-    optional_register_at board_of verdict board_text tree_at mid_at list_at more_at at_most
+    optional_register_at board_of verdict board_text tree_at member_at list_at more_at at_most
     spaced_at range_at hex_at number_at literal_at answer target_of values_of core_of node_of up
     node_status digits
 bad_line_2 = refl
@@ -56,7 +57,7 @@ pub bad_line_3 : transcript legal (text (board ∷ codes "enter 00" ∷ codes "e
       end = Err (Script 2 Line);
     }
 unfolding transcript transcript_of_rest lines legal line_of call_at enter_at register_at
-    optional_register_at board_of verdict board_text tree_at mid_at list_at more_at at_most
+    optional_register_at board_of verdict board_text tree_at member_at list_at more_at at_most
     spaced_at range_at hex_at number_at literal_at answer target_of values_of core_of node_of up
     node_status digits
 bad_line_3 = refl
@@ -67,7 +68,7 @@ pub bad_line_4 : transcript legal (text (board ∷ codes "call 0" ∷ codes "ent
       end = Err (Script 2 Line);
     }
 unfolding transcript transcript_of_rest lines legal line_of call_at enter_at register_at
-    optional_register_at board_of verdict board_text tree_at mid_at list_at more_at at_most
+    optional_register_at board_of verdict board_text tree_at member_at list_at more_at at_most
     spaced_at range_at hex_at number_at literal_at answer target_of values_of core_of node_of up
     node_status digits
 bad_line_4 = refl
@@ -79,7 +80,7 @@ pub bad_line_5 : transcript legal
       end = Err (Script 2 Line);
     }
 unfolding transcript transcript_of_rest lines legal line_of call_at enter_at register_at
-    optional_register_at board_of verdict board_text tree_at mid_at list_at more_at at_most
+    optional_register_at board_of verdict board_text tree_at member_at list_at more_at at_most
     spaced_at range_at hex_at number_at literal_at answer target_of values_of core_of node_of up
     node_status digits
 bad_line_5 = refl
@@ -91,7 +92,7 @@ pub bad_line_6 : transcript legal
       end = Err (Script 2 Line);
     }
 unfolding transcript transcript_of_rest lines legal line_of call_at enter_at register_at
-    optional_register_at board_of verdict board_text tree_at mid_at list_at more_at at_most
+    optional_register_at board_of verdict board_text tree_at member_at list_at more_at at_most
     spaced_at range_at hex_at number_at literal_at answer target_of values_of core_of node_of up
     node_status digits
 bad_line_6 = refl
@@ -103,7 +104,7 @@ pub bad_line_7 : transcript legal
       end = Err (Script 2 Line);
     }
 unfolding transcript transcript_of_rest lines legal line_of call_at enter_at register_at
-    optional_register_at board_of verdict board_text tree_at mid_at list_at more_at at_most
+    optional_register_at board_of verdict board_text tree_at member_at list_at more_at at_most
     spaced_at range_at hex_at number_at literal_at answer target_of values_of core_of node_of up
     node_status digits
 bad_line_7 = refl
@@ -114,7 +115,7 @@ pub bad_line_8 : transcript legal (text (board ∷ (255 ∷ []) ∷ codes "enter
       end = Err (Script 2 Line);
     }
 unfolding transcript transcript_of_rest lines legal line_of call_at enter_at register_at
-    optional_register_at board_of verdict board_text tree_at mid_at list_at more_at at_most
+    optional_register_at board_of verdict board_text tree_at member_at list_at more_at at_most
     spaced_at range_at hex_at number_at literal_at answer target_of values_of core_of node_of up
     node_status digits
 bad_line_8 = refl
@@ -126,7 +127,7 @@ pub comment_of_256_bytes : transcript legal (text (board ∷ (35 ∷ replicate 2
       end = Ok (record { lines = 2; events = 0 });
     }
 unfolding transcript transcript_of_rest lines legal line_of call_at enter_at register_at
-    optional_register_at board_of verdict board_text tree_at mid_at list_at more_at at_most
+    optional_register_at board_of verdict board_text tree_at member_at list_at more_at at_most
     spaced_at range_at hex_at number_at literal_at answer target_of values_of core_of node_of up
     node_status digits
 comment_of_256_bytes = refl
@@ -137,7 +138,7 @@ pub comment_of_257_bytes : transcript legal (text (board ∷ (35 ∷ replicate 2
       end = Err (Script 2 Long);
     }
 unfolding transcript transcript_of_rest lines legal line_of call_at enter_at register_at
-    optional_register_at board_of verdict board_text tree_at mid_at list_at more_at at_most
+    optional_register_at board_of verdict board_text tree_at member_at list_at more_at at_most
     spaced_at range_at hex_at number_at literal_at answer target_of values_of core_of node_of up
     node_status digits
 comment_of_257_bytes = refl
@@ -149,7 +150,7 @@ pub empty_script : transcript legal (text ([]))
       end = Err (Script 1 NoBoard);
     }
 unfolding transcript transcript_of_rest lines legal line_of call_at enter_at register_at
-    optional_register_at board_of verdict board_text tree_at mid_at list_at more_at at_most
+    optional_register_at board_of verdict board_text tree_at member_at list_at more_at at_most
     spaced_at range_at hex_at number_at literal_at answer target_of values_of core_of node_of up
     node_status digits
 empty_script = refl
@@ -160,7 +161,7 @@ pub first_line_empty : transcript legal (text ([] ∷ board ∷ []))
       end = Err (Script 1 NoBoard);
     }
 unfolding transcript transcript_of_rest lines legal line_of call_at enter_at register_at
-    optional_register_at board_of verdict board_text tree_at mid_at list_at more_at at_most
+    optional_register_at board_of verdict board_text tree_at member_at list_at more_at at_most
     spaced_at range_at hex_at number_at literal_at answer target_of values_of core_of node_of up
     node_status digits
 first_line_empty = refl
@@ -171,7 +172,7 @@ pub board_without_a_space : transcript legal (text (codes "board" ∷ []))
       end = Err (Script 1 NoBoard);
     }
 unfolding transcript transcript_of_rest lines legal line_of call_at enter_at register_at
-    optional_register_at board_of verdict board_text tree_at mid_at list_at more_at at_most
+    optional_register_at board_of verdict board_text tree_at member_at list_at more_at at_most
     spaced_at range_at hex_at number_at literal_at answer target_of values_of core_of node_of up
     node_status digits
 board_without_a_space = refl
@@ -184,7 +185,7 @@ pub board_grammar : transcript legal
       end = Err (Board Grammar);
     }
 unfolding transcript transcript_of_rest lines legal line_of call_at enter_at register_at
-    optional_register_at board_of verdict board_text tree_at mid_at list_at more_at at_most
+    optional_register_at board_of verdict board_text tree_at member_at list_at more_at at_most
     spaced_at range_at hex_at number_at literal_at answer target_of values_of core_of node_of up
     node_status digits
 board_grammar = refl
@@ -197,7 +198,7 @@ pub board_uneven : transcript legal (text (
       end = Err (Board Uneven);
     }
 unfolding transcript transcript_of_rest lines legal line_of call_at enter_at register_at
-    optional_register_at board_of verdict board_text tree_at mid_at list_at more_at at_most
+    optional_register_at board_of verdict board_text tree_at member_at list_at more_at at_most
     spaced_at range_at hex_at number_at literal_at answer target_of values_of core_of node_of up
     node_status digits
 board_uneven = refl
@@ -209,7 +210,7 @@ pub board_too_wide : transcript legal
       end = Err (Board TooWide);
     }
 unfolding transcript transcript_of_rest lines legal line_of call_at enter_at register_at
-    optional_register_at board_of verdict board_text tree_at mid_at list_at more_at at_most
+    optional_register_at board_of verdict board_text tree_at member_at list_at more_at at_most
     spaced_at range_at hex_at number_at literal_at answer target_of values_of core_of node_of up
     node_status digits
 board_too_wide = refl
@@ -221,7 +222,7 @@ pub board_bad_range : transcript legal
       end = Err (Board BadRange);
     }
 unfolding transcript transcript_of_rest lines legal line_of call_at enter_at register_at
-    optional_register_at board_of verdict board_text tree_at mid_at list_at more_at at_most
+    optional_register_at board_of verdict board_text tree_at member_at list_at more_at at_most
     spaced_at range_at hex_at number_at literal_at answer target_of values_of core_of node_of up
     node_status digits
 board_bad_range = refl
@@ -234,7 +235,7 @@ pub board_bad_boot : transcript legal
       end = Err (Board BadBoot);
     }
 unfolding transcript transcript_of_rest lines legal line_of call_at enter_at register_at
-    optional_register_at board_of verdict board_text tree_at mid_at list_at more_at at_most
+    optional_register_at board_of verdict board_text tree_at member_at list_at more_at at_most
     spaced_at range_at hex_at number_at literal_at answer target_of values_of core_of node_of up
     node_status digits
 board_bad_boot = refl
@@ -246,7 +247,7 @@ pub board_bad_limit : transcript legal
       end = Err (Board BadLimit);
     }
 unfolding transcript transcript_of_rest lines legal line_of call_at enter_at register_at
-    optional_register_at board_of verdict board_text tree_at mid_at list_at more_at at_most
+    optional_register_at board_of verdict board_text tree_at member_at list_at more_at at_most
     spaced_at range_at hex_at number_at literal_at answer target_of values_of core_of node_of up
     node_status digits
 board_bad_limit = refl
@@ -258,7 +259,7 @@ pub board_zero_cores : transcript legal
       end = Err (Board TooWide);
     }
 unfolding transcript transcript_of_rest lines legal line_of call_at enter_at register_at
-    optional_register_at board_of verdict board_text tree_at mid_at list_at more_at at_most
+    optional_register_at board_of verdict board_text tree_at member_at list_at more_at at_most
     spaced_at range_at hex_at number_at literal_at answer target_of values_of core_of node_of up
     node_status digits
 board_zero_cores = refl

@@ -8,6 +8,7 @@ pub mod FaultRows
 pub mod Finding
 pub mod Finish
 pub mod Known
+pub mod LimitRows
 pub mod LineRows
 pub mod MachineSteps
 pub mod Moved

@@ -5,15 +5,15 @@ use Rattle.std.proofs.lemmas.Bool.{eqb-true}
 use Rattle.std.proofs.lemmas.Bool.Decides.{nat_tests}
 use Rattle.psci_abi.specs.declared.registers.Regs.{Regs}
 use Rattle.psci_board.specs.Board.{BoardValue, IsBoard, cores}
-use Rattle.psci_fw.specs.declared.outcome.Act.{Act}
-use Rattle.psci_fw.specs.declared.outcome.Act.TheVariants as acts
-use Rattle.psci_fw.specs.declared.outcome.Outcome.{Outcome}
-use Rattle.psci_fw.specs.declared.reply.FwReply.{FwReply}
-use Rattle.psci_fw.specs.declared.reply.FwReply.TheVariants.{Out}
-use Rattle.psci_fw.specs.Values.{Values, start_of_life}
-use Rattle.psci_fw.specs.Entry.{Entry}
-use Rattle.psci_fw.specs.After.{after}
-use Rattle.psci_fw.specs.History.{values_of}
+use Rattle.psci_model.specs.declared.outcome.Act.{Act}
+use Rattle.psci_model.specs.declared.outcome.Act.TheVariants as acts
+use Rattle.psci_model.specs.declared.outcome.Outcome.{Outcome}
+use Rattle.psci_model.specs.declared.reply.FwReply.{FwReply}
+use Rattle.psci_model.specs.declared.reply.FwReply.TheVariants.{Out}
+use Rattle.psci_model.specs.Lives.{start_of_life}
+use Rattle.psci_model.specs.Values.{Values}
+use Rattle.psci_model.specs.Changes.{after}
+use Rattle.psci_model.specs.History.{values_of}
 use Rattle.psci_bench.specs.declared.event.Event.{Event}
 use Rattle.psci_bench.specs.declared.event.Event.TheVariants.{Call, Enter}
 use Rattle.psci_bench.specs.declared.said.Said.{Said}
@@ -26,22 +26,14 @@ use Rattle.psci_bench.specs.Legal.{IsLegalPast, IsAnswered, history, place, plac
 use Rattle.psci_bench.specs.Legal.{call_in, said_by, sent_count, answered, legal}
 use Rattle.psci_bench.proofs.MachineSteps.{record_of, legal_absent, legal_here, outcome_kept}
 use Rattle.psci_bench.proofs.MachineSteps.{kept_place}
-use Rattle.psci_bench.proofs.BootCore.{IsUp, Answered, answers_call, enters_first}
-
--- what the values of a history are, entry by entry
-abbrev pub First : Type 0
-First = (b : BoardValue) → values_of b [] ≡ start_of_life b 0
-
-abbrev pub More : Type 0
-More = (b : BoardValue) (e : Entry) (h : List Entry)
-    → values_of b (e ∷ h) ≡ after b e.core e.call e.reply (values_of b h)
+use Rattle.psci_bench.proofs.BootCore.{Laws, IsUp, Answered, answers_call, enters_first}
 
 -- Only the boot core is ever started. It has not entered, or the firmware says that it runs, if it
 -- does.
 pub record Settled (b : BoardValue) (past : List Record) : Type 0 where
   pub others : (c : ℕ) → (c == 0) ≡ false → place past c ≡ Stopped
   pub starts : place past 0 ≡ Started → history past ≡ []
-  pub runs : place past 0 ≡ Running → IsUp (values_of b (history past))
+  pub runs : place past 0 ≡ Running → IsUp b (values_of b (history past))
 
 -- Nothing was answered ------------------------------------------------------------------------
 
@@ -88,34 +80,38 @@ enter_starts Started c h = refl
 enter_starts Running c h = absurd (cc)
 enter_starts Stopped c h = absurd (cc)
 
-called_at : (b : BoardValue) (past : List Record) (c : ℕ) (regs : Regs) → Settled b past
+-- the boot core is on the board
+first_is_on : (b : BoardValue) (c : ℕ) → nat_lt c (cores b) ≡ true → 0 ≡ c → 0 < cores b
+first_is_on b c on e = let on_board : c < cores b = grind (arith, nat_tests) in omega (arith, e)
+
+called_at : Laws → (b : BoardValue) (past : List Record) (c : ℕ) (regs : Regs) → Settled b past
     → nat_lt c (cores b) ≡ true → happens (place past c) (Call c regs) ≡ true → 0 ≡ c
     → Answered b c (Call c regs) (values_of b (history past))
-called_at b past c regs s on h e =
+called_at laws b past c regs s on h e =
     subst (λ (k : ℕ). Answered b k (Call k regs) (values_of b (history past))) e
-    (answers_call b (values_of b (history past)) regs (ap (λ (k : ℕ). nat_lt k (cores b)) e ∙ on)
+    (answers_call laws b (values_of b (history past)) regs (first_is_on b c on e)
     (s.runs (ap (place past) e ∙ call_runs (place past c) c regs h)))
 
-entered_at : First → (b : BoardValue) (past : List Record) (c : ℕ) → Settled b past
+entered_at : Laws → (b : BoardValue) (past : List Record) (c : ℕ) → Settled b past
     → 0 < b.starts → 0 < b.lives → nat_lt c (cores b) ≡ true
     → happens (place past c) (Enter c) ≡ true → 0 ≡ c
     → Answered b c (Enter c) (values_of b (history past))
-entered_at first b past c s some lives on h e =
+entered_at laws b past c s some lives on h e =
     let none : history past ≡ [] = s.starts (ap (place past) e ∙ enter_starts (place past c) c h) in
     let values : start_of_life b 0 ≡ values_of b (history past) =
-    sym (ap (values_of b) none ∙ first b) in
+    sym (ap (values_of b) none ∙ laws.first b) in
     subst (λ (k : ℕ). Answered b k (Enter k) (values_of b (history past))) e
     (subst (λ (v : Values). Answered b 0 (Enter 0) v) values
-    (enters_first b (ap (λ (k : ℕ). nat_lt k (cores b)) e ∙ on) some lives))
+    (enters_first laws b (first_is_on b c on e) some lives))
 
-at_place : First → (b : BoardValue) (past : List Record) (event : Event) → Settled b past
+at_place : Laws → (b : BoardValue) (past : List Record) (event : Event) → Settled b past
     → 0 < b.starts → 0 < b.lives → nat_lt (core_in event) (cores b) ≡ true
     → happens (place past (core_in event)) event ≡ true
     → Answered b (core_in event) event (values_of b (history past))
-at_place first b past (Call c regs) s some lives on h =
-    called_at b past c regs s on h (boot_only b past (Call c regs) c (c == 0) refl s h)
-at_place first b past (Enter c) s some lives on h =
-    entered_at first b past c s some lives on h (boot_only b past (Enter c) c (c == 0) refl s h)
+at_place laws b past (Call c regs) s some lives on h =
+    called_at laws b past c regs s on h (boot_only b past (Call c regs) c (c == 0) refl s h)
+at_place laws b past (Enter c) s some lives on h =
+    entered_at laws b past c s some lives on h (boot_only b past (Enter c) c (c == 0) refl s h)
 
 -- One more record -----------------------------------------------------------------------------
 
@@ -131,13 +127,13 @@ place_same t p q e = ap (λ (x : Bool). cond x p q) e
 place_other : (t : Bool) (p q : Place) → t ≡ false → cond t p q ≡ q
 place_other t p q e = ap (λ (x : Bool). cond x p q) e
 
-settled_answered : More → (b : BoardValue) (past : List Record) (event : Event) (n : ℕ)
+settled_answered : Laws → (b : BoardValue) (past : List Record) (event : Event) (n : ℕ)
     (o : Outcome)
     → Settled b past → 0 ≡ core_in event
     → (place_after o.act ≡ Running
-    → IsUp (after b (core_in event) (call_in event) (Out o) (values_of b (history past))))
+    → IsUp b (after b (core_in event) (call_in event) (Out o) (values_of b (history past))))
     → Settled b (record_of event (said_by n (Out o)) ∷ past)
-settled_answered more b past event n o s e up =
+settled_answered laws b past event n o s e up =
     let at : (0 == core_in event) ≡ true = ap (λ (k : ℕ). 0 == k) (sym e) in
     let left : Values = after b (core_in event) (call_in event) (Out o)
     (values_of b (history past)) in
@@ -147,58 +143,58 @@ settled_answered more b past event n o s e up =
           ∙ s.others c f;
       starts = λ f. absurd (not_started o.act (sym (place_same (0 == core_in event)
           (place_after o.act) (place past 0) at) ∙ f));
-      runs = λ f. subst IsUp (sym (more b _ (history past)
+      runs = λ f. subst (IsUp b) (sym (laws.more b _ (history past)
           ∙ ap (λ (x : Outcome). after b (core_in event) (call_in event) (Out x)
           (values_of b (history past))) (outcome_kept n o)))
           (up (sym (place_same (0 == core_in event) (place_after o.act) (place past 0) at) ∙ f));
     }
 
-settled_reply : More → (b : BoardValue) (past : List Record) (event : Event) → Settled b past
+settled_reply : Laws → (b : BoardValue) (past : List Record) (event : Event) → Settled b past
     → 0 ≡ core_in event → Answered b (core_in event) event (values_of b (history past))
     → Settled b (record_of event (answered b past event) ∷ past)
-settled_reply more b past event s e a =
+settled_reply laws b past event s e a =
     subst (λ (r : FwReply). Settled b (record_of event (said_by (sent_count past) r) ∷ past))
-    (sym a.1) (settled_answered more b past event (sent_count past) a.0 s e a.2)
+    (sym a.1) (settled_answered laws b past event (sent_count past) a.0 s e a.2)
 
-settled_here : First → More → (b : BoardValue) (past : List Record) (event : Event) (t : Bool)
+settled_here : Laws → (b : BoardValue) (past : List Record) (event : Event) (t : Bool)
     → Settled b past → 0 < b.starts → 0 < b.lives → nat_lt (core_in event) (cores b) ≡ true
     → happens (place past (core_in event)) event ≡ t
     → Settled b (record_of event (legal b past event) ∷ past)
-settled_here first more b past event true s some lives on h =
+settled_here laws b past event true s some lives on h =
     subst (λ (x : Said). Settled b (record_of event x ∷ past))
     (sym (legal_here b past event true on h))
-    (settled_reply more b past event s
+    (settled_reply laws b past event s
     (boot_only b past event (core_in event) (core_in event == 0) refl s h)
-    (at_place first b past event s some lives on h))
-settled_here first more b past event false s some lives on h =
+    (at_place laws b past event s some lives on h))
+settled_here laws b past event false s some lives on h =
     subst (λ (x : Said). Settled b (record_of event x ∷ past))
     (sym (legal_here b past event false on h)) (settled_ignored b past event s)
 
-settled_more : First → More → (b : BoardValue) (past : List Record) (event : Event) (t : Bool)
+settled_more : Laws → (b : BoardValue) (past : List Record) (event : Event) (t : Bool)
     → Settled b past → 0 < b.starts → 0 < b.lives → nat_lt (core_in event) (cores b) ≡ t
     → Settled b (record_of event (legal b past event) ∷ past)
-settled_more first more b past event true s some lives on = settled_here first more b past event
+settled_more laws b past event true s some lives on = settled_here laws b past event
     (happens (place past (core_in event)) event) s some lives on refl
-settled_more first more b past event false s some lives off =
+settled_more laws b past event false s some lives off =
     subst (λ (x : Said). Settled b (record_of event x ∷ past))
     (sym (legal_absent b past event off)) (settled_absent b past event s)
 
-settled : First → More → (b : BoardValue) (past : List Record) → 0 < b.starts → 0 < b.lives
+settled : Laws → (b : BoardValue) (past : List Record) → 0 < b.starts → 0 < b.lives
     → IsLegalPast b past → Settled b past
-settled first more b [] some lives l = settled_first b
-settled first more b (r ∷ past) some lives l =
+settled laws b [] some lives l = settled_first b
+settled laws b (r ∷ past) some lives l =
     subst (λ (x : Said). Settled b (record_of r.event x ∷ past)) (sym l.0)
-    (settled_more first more b past r.event (nat_lt (core_in r.event) (cores b))
-    (settled first more b past some lives l.1) some lives refl)
+    (settled_more laws b past r.event (nat_lt (core_in r.event) (cores b))
+    (settled laws b past some lives l.1) some lives refl)
 
 -- a core at its place is answered
-pub not_refused : First → More → (b : BoardValue) (past : List Record) (event : Event)
+pub not_refused : Laws → (b : BoardValue) (past : List Record) (event : Event)
     → IsBoard b → IsLegalPast b past → core_in event < cores b
     → happens (place past (core_in event)) event ≡ true → IsAnswered (legal b past event)
-not_refused first more b past event board l on h =
+not_refused laws b past event board l on h =
     let here : nat_lt (core_in event) (cores b) ≡ true = grind (arith, nat_tests) in
-    let a = at_place first b past event
-    (settled first more b past board.some_starts board.some_lives l)
+    let a = at_place laws b past event
+    (settled laws b past board.some_starts board.some_lives l)
     board.some_starts board.some_lives here h in
     subst IsAnswered (sym (legal_here b past event true here h
     ∙ ap (said_by (sent_count past)) a.1)) tt

@@ -4,11 +4,12 @@ use Rattle.std.specs.Prelude.{codes, Ok, Err}
 use Rattle.std.specs.Fmt.{digits}
 use Rattle.psci_board.specs.Board.{core_of, node_of, up}
 use Rattle.psci_board.specs.Reading.{literal_at, number_at, hex_at, range_at, spaced_at, at_most}
-use Rattle.psci_board.specs.Reading.{more_at, list_at, mid_at, tree_at, board_text}
+use Rattle.psci_board.specs.Reading.{more_at, list_at, member_at, tree_at, board_text}
 use Rattle.psci_board.specs.Verdict.{board_of, verdict}
-use Rattle.psci_fw.specs.Answers.{answer, target_of}
-use Rattle.psci_fw.specs.History.{values_of}
-use Rattle.psci_fw.specs.Status.{node_status}
+use Rattle.psci_model.specs.Answer.{answer}
+use Rattle.psci_model.specs.CpuOn.{target_of}
+use Rattle.psci_model.specs.History.{values_of}
+use Rattle.psci_model.specs.AffinityInfo.{node_status}
 use Rattle.psci_bench.specs.declared.fault.ScriptFault.TheVariants.{Line}
 use Rattle.psci_bench.specs.declared.fault.ReplayFault.TheVariants.{Script}
 use Rattle.psci_bench.specs.Legal.{legal}
@@ -33,7 +34,7 @@ pub boot_and_version : transcript legal (text
       end = Ok (record { lines = 3; events = 2 });
     }
 unfolding transcript transcript_of_rest lines legal line_of call_at enter_at register_at
-    optional_register_at board_of verdict board_text tree_at mid_at list_at more_at at_most
+    optional_register_at board_of verdict board_text tree_at member_at list_at more_at at_most
     spaced_at range_at hex_at number_at literal_at answer target_of values_of core_of node_of up
     node_status digits
 boot_and_version = refl
@@ -49,7 +50,7 @@ pub start_second_core : transcript legal (text
       end = Ok (record { lines = 5; events = 4 });
     }
 unfolding transcript transcript_of_rest lines legal line_of call_at enter_at register_at
-    optional_register_at board_of verdict board_text tree_at mid_at list_at more_at at_most
+    optional_register_at board_of verdict board_text tree_at member_at list_at more_at at_most
     spaced_at range_at hex_at number_at literal_at answer target_of values_of core_of node_of up
     node_status digits
 start_second_core = refl
@@ -64,7 +65,7 @@ pub not_supported_ignored_absent : transcript legal
       end = Ok (record { lines = 6; events = 5 });
     }
 unfolding transcript transcript_of_rest lines legal line_of call_at enter_at register_at
-    optional_register_at board_of verdict board_text tree_at mid_at list_at more_at at_most
+    optional_register_at board_of verdict board_text tree_at member_at list_at more_at at_most
     spaced_at range_at hex_at number_at literal_at answer target_of values_of core_of node_of up
     node_status digits
 not_supported_ignored_absent = refl
@@ -81,7 +82,7 @@ pub affinity_of_clusters : transcript legal
       end = Ok (record { lines = 7; events = 6 });
     }
 unfolding transcript transcript_of_rest lines legal line_of call_at enter_at register_at
-    optional_register_at board_of verdict board_text tree_at mid_at list_at more_at at_most
+    optional_register_at board_of verdict board_text tree_at member_at list_at more_at at_most
     spaced_at range_at hex_at number_at literal_at answer target_of values_of core_of node_of up
     node_status digits
 affinity_of_clusters = refl
@@ -94,7 +95,7 @@ pub no_last_newline : transcript legal (text (board ∷ codes "enter 0" ∷ [])
       end = Ok (record { lines = 3; events = 2 });
     }
 unfolding transcript transcript_of_rest lines legal line_of call_at enter_at register_at
-    optional_register_at board_of verdict board_text tree_at mid_at list_at more_at at_most
+    optional_register_at board_of verdict board_text tree_at member_at list_at more_at at_most
     spaced_at range_at hex_at number_at literal_at answer target_of values_of core_of node_of up
     node_status digits
 no_last_newline = refl
@@ -107,7 +108,7 @@ pub absent_cores_comments_blank_lines : transcript legal
       end = Ok (record { lines = 4; events = 1 });
     }
 unfolding transcript transcript_of_rest lines legal line_of call_at enter_at register_at
-    optional_register_at board_of verdict board_text tree_at mid_at list_at more_at at_most
+    optional_register_at board_of verdict board_text tree_at member_at list_at more_at at_most
     spaced_at range_at hex_at number_at literal_at answer target_of values_of core_of node_of up
     node_status digits
 absent_cores_comments_blank_lines = refl
@@ -120,7 +121,7 @@ pub deliver_before_its_time : transcript legal
       end = Err (Script 3 Line);
     }
 unfolding transcript transcript_of_rest lines legal line_of call_at enter_at register_at
-    optional_register_at board_of verdict board_text tree_at mid_at list_at more_at at_most
+    optional_register_at board_of verdict board_text tree_at member_at list_at more_at at_most
     spaced_at range_at hex_at number_at literal_at answer target_of values_of core_of node_of up
     node_status digits
 deliver_before_its_time = refl

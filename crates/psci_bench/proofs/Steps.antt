@@ -135,8 +135,8 @@ line_said_goes (Some Blank) says is_after b past n first before block left taken
           (ap (λ (a : Answered). a.waiting) x.1 ∙ sym (append-nil old.waiting))
           (ap (λ (a : Answered). a.events) x.1 ∙ k.events),
     )
-line_said_goes (Some (Says event)) says is_after b past n first before block left taken old new e o h
-    m i k x = (
+line_said_goes (Some (Says event)) says is_after b past n first before block left taken old new e o
+    h m i k x = (
       b,
       record { event = event; said = says b past event } ∷ past,
       x.0,

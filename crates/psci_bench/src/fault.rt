@@ -18,12 +18,16 @@ pub struct Replayed {
 /// What is wrong with a line of a script.
 #[derive(Clone, Copy, Debug, PartialEq, Eq, Error)]
 pub enum ScriptFault {
+    /// There is no first line, or it does not begin with `board `.
     #[error("there is no board line first")]
     NoBoard,
+    /// A later line is of no form of the grammar.
     #[error("the line is outside the grammar")]
     Line,
+    /// A line has more than 256 bytes before its line feed.
     #[error("the line has more than 256 bytes")]
     Long,
+    /// A line comes after the 1,000,000th.
     #[error("there are more than 1,000,000 lines")]
     TooMany,
 }
@@ -37,10 +41,13 @@ pub enum ReplayFault {
     /// A faulty board text in the first line.
     #[error("the board text is at fault")]
     Board(BoardFault),
+    /// A read failed, or was interrupted once too often.
     #[error("the script could not be read")]
     Read,
+    /// A write failed, or was interrupted once too often.
     #[error("the answers could not be written")]
     Write,
+    /// Memory ran out.
     #[error("out of memory")]
     Memory,
 }

@@ -2,9 +2,9 @@
 
 ghost use Rattle.std.specs.Prelude.{◌≡◌, ℕ, ◌+◌, ◌-◌, ◌^◌, ◌<◌, min, length, slice_set, slice_get};
 ghost use Rattle.std.specs.Prelude.{IfOk, OnErr, Some};
-ghost use Rattle.psci_fw.specs.declared.reply.FwReply.TheVariants.{Out};
-ghost use Rattle.psci_fw.specs.After.{after};
-ghost use Rattle.psci_fw.specs.Answers.{answer, reply_of};
+ghost use Rattle.psci_model.specs.declared.reply.FwReply.TheVariants.{Out};
+ghost use Rattle.psci_model.specs.Changes.{after};
+ghost use Rattle.psci_model.specs.Answer.{answer, reply_of};
 ghost use Rattle.psci_fw.specs.Seen.{seen};
 ghost use Rattle.psci_bench.specs.Legal.{call_in, count_of, first_place, happens, place_after};
 ghost use Rattle.psci_bench.specs.Legal.{said_by};
@@ -14,7 +14,8 @@ use crate::event::Event;
 use crate::machine::Machine;
 use crate::said::{Said, Sent};
 use psci_board::{Board, Core, Memory};
-use psci_fw::{Act, Cause, Firmware, FwFault, Outcome, Start, law_values};
+use psci_fw::Firmware;
+use psci_model::{Act, Cause, FwFault, Outcome, Start, law_values};
 use std::alloc::Global;
 
 /// Where a core is.

@@ -3,7 +3,7 @@
 ghost use Rattle.psci_bench.specs.EventText.{ReadsAsSpelled, SpellsWhatItSays};
 ghost use Rattle.psci_bench.specs.Legal.{AnswersAtPlace};
 
-use psci_fw::law_values;
+use psci_model::{law_caller, law_enters, law_first_start, law_invariant, law_values};
 
 /// A core at its place is never refused by the firmware: the `Ignored` that is said of an event
 /// says that its core does not run, or was not started.
@@ -11,6 +11,10 @@ pub fn law_places()
     ensures { AnswersAtPlace }
 {
     law_values();
+    law_caller();
+    law_first_start();
+    law_enters();
+    law_invariant();
 }
 
 /// An event line is read as it is spelled, and in no other way.

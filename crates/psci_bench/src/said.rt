@@ -1,10 +1,10 @@
 //! What is said of an event.
 
 use crate::event::Event;
-use psci_fw::{Act, Message};
+use psci_model::{Act, Message};
 
 /// A message, and how many messages were sent before it.
-#[derive(Debug, PartialEq, Eq, Drop)]
+#[derive(Drop, Debug, PartialEq)]
 pub struct Sent {
     /// Its number among all messages sent, counted from 0.
     pub index: u64,
@@ -13,7 +13,7 @@ pub struct Sent {
 }
 
 /// What is said of an event.
-#[derive(Debug, PartialEq, Eq, Drop)]
+#[derive(Drop, Debug, PartialEq)]
 pub enum Said {
     /// The firmware's outcome.
     Fw {
@@ -29,7 +29,7 @@ pub enum Said {
 }
 
 /// An event, and what was said of it.
-#[derive(Debug, PartialEq, Eq, Drop)]
+#[derive(Drop, Debug, PartialEq)]
 pub struct Record {
     /// The event.
     pub event: Event,

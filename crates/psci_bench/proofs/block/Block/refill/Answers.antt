@@ -12,7 +12,8 @@ returns-clause-bytes g c =
     let v = c.deref_mut.ensures in
     let m = c.copy_within.ensures in
     let now = ap (λ (r : ReadAhead). r.unread) c.self.view_is in
-    let w = waiting_length i.bytes.items c.args.self.now.unread i.from i.to c.self.invariant.0 c.self.invariant.1 now in
+    let w = waiting_length i.bytes.items c.args.self.now.unread i.from i.to c.self.invariant.0
+    c.self.invariant.1 now in
     let n = c.in_ok-count.count in
     let buffer = c.read_some.new.buffer in
     let room : 0 < length buffer = omega
@@ -40,7 +41,8 @@ returns-in_err-count-clause-waiting g c =
     let v = c.deref_mut.ensures in
     let m = c.copy_within.ensures in
     let now = ap (λ (r : ReadAhead). r.unread) c.self.view_is in
-    let w = waiting_length i.bytes.items c.args.self.now.unread i.from i.to c.self.invariant.0 c.self.invariant.1 now in
+    let w = waiting_length i.bytes.items c.args.self.now.unread i.from i.to c.self.invariant.0
+    c.self.invariant.1 now in
     on_err c.from_residual.result _ (ap (λ
     (u : List ℕ). let r : ReadAhead = record { unread = u; ended = i.ended } in r)
     (unfilled (i.to - i.from) _ _ _ c.read_some.new.buffer _ _ (omega

@@ -8,7 +8,8 @@ pub returns-in_err-write_to-clause-ahead : goal.returns-in_err-write_to-clause-a
 returns-in_err-write_to-clause-ahead g c =
     let w = c.in_err-write_to.ensures {u = tt} in
     write_failed_ahead c.from_residual.result c.in_err-write_to.field-0.0
-    (progress_of g.S.Source.left g.K.Sink.taken c.args.self.now) _ c.from_residual.ensures w.fault w.front refl
+    (progress_of g.S.Source.left g.K.Sink.taken c.args.self.now) _ c.from_residual.ensures w.fault
+    w.front refl
 
 pub returns-clause-ahead : goal.returns-clause-ahead
 returns-clause-ahead g c =
