@@ -1,36 +1,7 @@
 -- Kind bytes: each says what it was written for, and counts go with parts.
-use Rattle.std.proofs.Common.{
-  ◌≡◌,
-  ◌∙◌,
-  ℕ,
-  zero,
-  suc,
-  ◌+◌,
-  ◌*◌,
-  ◌/◌,
-  ◌%◌,
-  ◌<◌,
-  ◌≤◌,
-  Bool,
-  true,
-  false,
-}
-use Rattle.std.proofs.Common.{
-  List,
-  [],
-  ◌∷◌,
-  length,
-  Option,
-  Some,
-  None,
-  refl,
-  sym,
-  ap,
-  arith,
-  subst,
-  inl,
-  inr,
-}
+use Rattle.std.proofs.Common.{◌≡◌, ◌∙◌, ℕ, zero, suc, ◌+◌, ◌*◌, ◌/◌, ◌%◌, ◌<◌, ◌≤◌, Bool, true}
+use Rattle.std.proofs.Common.{false, List, [], ◌∷◌, length, Option, Some, None, refl, sym, ap}
+use Rattle.std.proofs.Common.{arith, subst, inl, inr}
 use Rattle.std.specs.Prelude.{if◌then◌else◌, nat_le, ◌==◌, ◌⊎◌}
 use Rattle.std.proofs.lemmas.Option.{same_Some, none-some, option_and_then_some}
 use Rattle.std.proofs.lemmas.Bool.{and_parts, and_from, eqb-true, leb-true, le-leb}
@@ -41,14 +12,8 @@ use Rattle.psci_link.specs.declared.kind.Kind.TheVariants.{Down, Start, Off, Res
 use Rattle.psci_link.specs.declared.heading.Heading.{Heading}
 use Rattle.psci_link.specs.declared.heading.Heading.TheVariants.{Message, Ack}
 use Rattle.psci_link.specs.Message.{is_climbing, is_falling, IsClaim, ArePartsOf, most_applied}
-use Rattle.psci_link.specs.Heading.{
-  kind_of,
-  heading_of,
-  heading_with,
-  allows_count,
-  parts_of,
-  IsHeld,
-}
+use Rattle.psci_link.specs.Heading.{kind_of, heading_of, heading_with, allows_count, parts_of}
+use Rattle.psci_link.specs.Heading.{IsHeld}
 use Rattle.psci_link.specs.Frame.{kind_code}
 
 -- the kind byte that says this

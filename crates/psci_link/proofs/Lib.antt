@@ -2,8 +2,12 @@ pub mod Claims
 pub mod FaultRows
 mod FrameRows
 pub mod Frames
+pub mod Faults
 pub mod Headings
 pub mod History
+mod KindRows
+pub mod LookUps
 pub mod Parts
 pub mod Places
 mod SlotRows
+pub mod Written

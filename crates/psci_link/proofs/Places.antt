@@ -1,46 +1,14 @@
 -- The parts in their places: reading one more, and that reading and writing undo each other.
-use Rattle.std.proofs.Common.{
-  ◌≡◌,
-  ◌∙◌,
-  ℕ,
-  zero,
-  suc,
-  ◌+◌,
-  ◌-◌,
-  ◌*◌,
-  ◌^◌,
-  ◌<◌,
-  ◌≤◌,
-  Bool,
-  true,
-  List,
-  [],
-}
-use Rattle.std.proofs.Common.{
-  ◌∷◌,
-  ◌++◌,
-  length,
-  get_or,
-  take,
-  drop,
-  replicate,
-  refl,
-  sym,
-  ap,
-  arith,
-}
-use Rattle.std.proofs.Common.{append_assoc, drop-drop, take-add, length-drop, length-append}
+use Rattle.std.proofs.Common.{◌≡◌, ◌∙◌, ℕ, zero, suc, ◌+◌, ◌-◌, ◌*◌, ◌^◌, ◌<◌, ◌≤◌, Bool, true}
+use Rattle.std.proofs.Common.{List, [], ◌∷◌, ◌++◌, length, get_or, take, drop, replicate, refl, sym}
+use Rattle.std.proofs.Common.{ap, arith, append_assoc, drop-drop, take-add, length-drop}
+use Rattle.std.proofs.Common.{length-append}
 use Rattle.std.specs.Prelude.{◌==◌}
 use Rattle.std.specs.List.{flat_map, list_all, AllByRecursion}
 use Rattle.std.specs.Int.{w32, w64, from_be_bytes}
 use Rattle.std.proofs.lemmas.Nat.{be_bytes_8, from_be_bytes-to_be_bytes_8}
-use Rattle.std.proofs.lemmas.List.{
-  get_or-drop,
-  length-take-le,
-  take-append-drop,
-  length-replicate,
-  drop_at,
-}
+use Rattle.std.proofs.lemmas.List.{get_or-drop, length-take-le, take-append-drop, length-replicate}
+use Rattle.std.proofs.lemmas.List.{drop_at}
 use Rattle.std.proofs.lemmas.Bool.{and_parts, eqb-true}
 use Rattle.psci_coord.specs.declared.part.Part.{Part}
 use Rattle.psci_link.specs.Frame.{AreBytes, part_in, parts_in, part_bytes, places}

@@ -1,14 +1,15 @@
 -- Frames: how each is spelled in bytes, and the first fault of bytes that spell none.
 use Rattle.std.specs.Prelude.{◌≡◌, ℕ, zero, suc, ◌+◌, ◌-◌, ◌*◌, ◌^◌, ◌<◌, Bool, true, false, not}
 use Rattle.std.specs.Prelude.{List, [], ◌∷◌, ◌++◌, length, flat_map, replicate, drop, slice_index}
-use Rattle.std.specs.Prelude.{slice_range, if◌then◌else◌, Option, Some, None, ◌&&◌, ◌==◌}
-use Rattle.std.specs.Prelude.{nat_lt, nat_le}
+use Rattle.std.specs.Prelude.{slice_range, if◌then◌else◌, Option, Some, None, ◌&&◌, ◌==◌, nat_lt}
+use Rattle.std.specs.Prelude.{nat_le}
 use Rattle.std.specs.List.{list_all, AllByRecursion}
 use Rattle.std.specs.Int.{w32, w64, to_be_bytes, from_be_bytes}
 use Rattle.psci_board.specs.declared.node.Core.{Core}
 use Rattle.psci_board.specs.Board.{BoardValue, cores, height}
 use Rattle.psci_coord.specs.declared.part.Part.{Part}
-use Rattle.psci_link.specs.declared.frame.TheConstants.{FRAME_LEN, HEADER_LEN, PART_LEN, PART_PLACES}
+use Rattle.psci_link.specs.declared.frame.TheConstants.{FRAME_LEN, HEADER_LEN, PART_LEN}
+use Rattle.psci_link.specs.declared.frame.TheConstants.{PART_PLACES}
 use Rattle.psci_link.specs.declared.kind.Kind.{Kind}
 use Rattle.psci_link.specs.declared.kind.Kind.TheVariants.{Down, Start, Off, Reset}
 use Rattle.psci_link.specs.declared.fault.FrameFault.{FrameFault}
@@ -17,8 +18,8 @@ use Rattle.psci_link.specs.declared.frame.Frame.{Frame}
 use Rattle.psci_link.specs.declared.frame.Frame.TheVariants.{Message, Ack}
 use Rattle.psci_link.specs.declared.heading.Heading.{Heading}
 use Rattle.psci_link.specs.declared.heading.Heading.TheVariants as headings
-use Rattle.psci_link.specs.Message.{MessageValue, AckValue, IsMessage, IsAck}
-use Rattle.psci_link.specs.Message.{is_climbing, is_falling}
+use Rattle.psci_link.specs.Message.{MessageValue, AckValue, IsMessage, IsAck, is_climbing}
+use Rattle.psci_link.specs.Message.{is_falling}
 use Rattle.psci_link.specs.Heading.{is_magic, heading_of, allows_count, parts_of}
 
 -- Spelling ------------------------------------------------------------------------------------

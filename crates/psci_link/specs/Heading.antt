@@ -1,21 +1,7 @@
 -- What the kind byte of a frame says, and which counts go with it.
-use Rattle.std.specs.Prelude.{
-  ◌≡◌,
-  length,
-  slice_index,
-  ℕ,
-  ◌/◌,
-  ◌%◌,
-  ◌≤◌,
-  List,
-  Bool,
-  true,
-  false,
-  ◌&&◌,
-  ◌==◌,
-  nat_le,
-}
-use Rattle.std.specs.Prelude.{if◌then◌else◌, Option, Some, None, option_and_then}
+use Rattle.std.specs.Prelude.{◌≡◌, length, slice_index, ℕ, ◌/◌, ◌%◌, ◌≤◌, List, Bool, true, false}
+use Rattle.std.specs.Prelude.{◌&&◌, ◌==◌, nat_le, if◌then◌else◌, Option, Some, None}
+use Rattle.std.specs.Prelude.{option_and_then}
 use Rattle.psci_coord.specs.declared.part.Part.{Part}
 use Rattle.psci_link.specs.declared.frame.TheConstants.{FRAME_LEN, PART_PLACES}
 use Rattle.psci_link.specs.declared.kind.Kind.{Kind}

@@ -1,7 +1,7 @@
 -- Which message is outstanding after a history of changes, the last change first: the last message
 -- that was sent, unless something since then has ended it.
-use Rattle.std.specs.Prelude.{◌≡◌, ℕ, ◌<◌, Bool, true, false, ◌&&◌, List, [], ◌∷◌}
-use Rattle.std.specs.Prelude.{if◌then◌else◌, Option, Some, None, option_and_then, is_none}
+use Rattle.std.specs.Prelude.{◌≡◌, ℕ, ◌<◌, Bool, true, false, ◌&&◌, List, [], ◌∷◌, if◌then◌else◌}
+use Rattle.std.specs.Prelude.{Option, Some, None, option_and_then, is_none}
 use Rattle.std.specs.List.{list_any, AllByRecursion}
 use Rattle.psci_link.specs.Message.{MessageValue, AckValue}
 use Rattle.psci_link.specs.Slots.{Slot, slot_of, is_slot, answers, is_done, Change, IsOfCores}

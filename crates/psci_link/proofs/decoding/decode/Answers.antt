@@ -4,7 +4,8 @@ use Rattle.std.specs.Prelude.{Ok}
 use Rattle.std.proofs.lemmas.Result.{err_from_is_err_and}
 use Rattle.psci_link.specs.Frame.{count_in, parts_in, places_in}
 use Rattle.psci_link.specs.Heading.{parts_of}
-use Rattle.psci_link.proofs.Frames.{has-no-fault, first_fault-heading, frame-written, frame-is-of}
+use Rattle.psci_link.proofs.Faults.{has-no-fault, first_fault-heading}
+use Rattle.psci_link.proofs.Written.{frame-written, frame-is-of}
 use Rattle.psci_link.proofs.Frames.{not-refused, is-read}
 use Rattle.psci_link.proofs.Headings.{is-held}
 use Rattle.psci_link.proofs.Places.{length-parts_in}

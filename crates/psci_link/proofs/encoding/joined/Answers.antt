@@ -1,20 +1,6 @@
 -- A level is below 256, and after the loop all parts are in their places.
-use Rattle.std.proofs.Common.{
-  rules,
-  arith,
-  ◌≡◌,
-  ◌+◌,
-  ◌-◌,
-  ◌*◌,
-  ◌++◌,
-  length,
-  take,
-  append_assoc,
-  ◌∙◌,
-  ◌^◌,
-  ◌<◌,
-  sym,
-}
+use Rattle.std.proofs.Common.{rules, arith, ◌≡◌, ◌+◌, ◌-◌, ◌*◌, ◌++◌, length, take, append_assoc}
+use Rattle.std.proofs.Common.{◌∙◌, ◌^◌, ◌<◌, sym}
 use Rattle.std.proofs.lemmas.Grind.{common_steps}
 use Rattle.std.proofs.lemmas.List.Elements.{All-more, All-same, recursion_from_All}
 use Rattle.std.proofs.lemmas.List.{take_all}

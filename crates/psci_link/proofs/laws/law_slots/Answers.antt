@@ -1,5 +1,6 @@
 -- Each clause is a law of slots.
-use Rattle.psci_link.proofs.History.{look-after, look-after_all, outstanding-own}
+use Rattle.psci_link.proofs.History.{look-after_all, outstanding-own}
+use Rattle.psci_link.proofs.LookUps.{look-after}
 use Rattle.psci_link.proofs.laws.law_slots.Goals as goal
 
 pub returns-clause-changed : goal.returns-clause-changed

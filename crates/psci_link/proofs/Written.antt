@@ -1,0 +1,96 @@
+-- Bytes without a fault are the spelling of the frame that they hold, which is the board's.
+use Rattle.std.proofs.Common.{◌≡◌, ◌∙◌, ℕ, ◌+◌, ◌-◌, ◌≤◌, true, List, [], ◌∷◌, ◌++◌, length, drop}
+use Rattle.std.proofs.Common.{refl, sym, arith}
+use Rattle.std.specs.Prelude.{◌==◌, slice_index, slice_range}
+use Rattle.std.specs.Int.{w32, to_be_bytes}
+use Rattle.std.proofs.lemmas.Nat.{be_bytes_4}
+use Rattle.std.proofs.lemmas.List.{length-drop, length-take-le}
+use Rattle.std.proofs.lemmas.Bool.{and_parts, eqb-true}
+use Rattle.psci_board.specs.Board.{BoardValue}
+use Rattle.psci_link.specs.declared.heading.Heading.{Heading}
+use Rattle.psci_link.specs.declared.heading.Heading.TheVariants as headings
+use Rattle.psci_link.specs.Heading.{is_magic, HasHeading}
+use Rattle.psci_link.specs.Frame.{kind_code, places, spelling, IsOf, parts_in, number_at, places_in}
+use Rattle.psci_link.specs.Frame.{count_in, AreBytes, frame_in}
+use Rattle.psci_link.proofs.Headings.{heading_byte, heading_of-some, parts_of-few}
+use Rattle.psci_link.proofs.Places.{AreBytes-drop, AreBytes-take, length-parts_in, places-written}
+use Rattle.psci_link.proofs.Faults.{HasNoFault}
+
+-- the bytes of a frame from their fields
+same-fields : (kind k core count n : ℕ) (lives ls numbers ns parts ps : List ℕ) → kind ≡ k
+    → lives ≡ ls
+    → numbers ≡ ns → count ≡ n → parts ≡ ps
+    → (0x50 ∷ 0x44 ∷ kind ∷ core ∷ lives ++ (numbers ++ count ∷ [])) ++ parts
+    ≡ (0x50 ∷ 0x44 ∷ k ∷ core ∷ ls ++ (ns ++ n ∷ [])) ++ ps
+same-fields kind k core count n lives ls numbers ns parts ps a b c d e = cc
+
+-- four bytes of a list, as a number and back
+number-written : (bytes : List ℕ) (start : ℕ) → AreBytes bytes → start + 4 ≤ length bytes
+    → to_be_bytes w32 (number_at bytes start) ≡ slice_range bytes start (start + 4)
+number-written bytes start fits long =
+    let four : (start + 4) - start ≡ 4 = omega arith in
+    let room : (start + 4) - start ≤ length (drop start bytes)
+    = omega (arith, length-drop start bytes) in
+    be_bytes_4 (slice_range bytes start (start + 4)) (number_at bytes start)
+    (length-take-le ((start + 4) - start) (drop start bytes) room ∙ four)
+    (AreBytes-take ((start + 4) - start) (drop start bytes) (AreBytes-drop start bytes fits)) refl
+
+frame-fields : (bytes : List ℕ) → is_magic bytes ≡ true → length bytes ≡ 53
+    → (0x50 ∷ 0x44 ∷ slice_index bytes 2 ∷ slice_index bytes 3 ∷ slice_range bytes 4 8
+    ++ (slice_range bytes 8 12 ++ count_in bytes ∷ [])) ++ places_in bytes ≡ bytes
+frame-fields [] magic whole = absurd (omega (arith, whole))
+frame-fields (a ∷ []) magic whole = absurd (omega (arith, whole))
+frame-fields (a ∷ b ∷ []) magic whole = absurd (omega (arith, whole))
+frame-fields (a ∷ b ∷ c ∷ []) magic whole = absurd (omega (arith, whole))
+frame-fields (a ∷ b ∷ c ∷ d ∷ []) magic whole = absurd (omega (arith, whole))
+frame-fields (a ∷ b ∷ c ∷ d ∷ e ∷ []) magic whole = absurd (omega (arith, whole))
+frame-fields (a ∷ b ∷ c ∷ d ∷ e ∷ f ∷ []) magic whole = absurd (omega (arith, whole))
+frame-fields (a ∷ b ∷ c ∷ d ∷ e ∷ f ∷ g ∷ []) magic whole = absurd (omega (arith, whole))
+frame-fields (a ∷ b ∷ c ∷ d ∷ e ∷ f ∷ g ∷ h ∷ []) magic whole = absurd (omega (arith, whole))
+frame-fields (a ∷ b ∷ c ∷ d ∷ e ∷ f ∷ g ∷ h ∷ i ∷ []) magic whole = absurd (omega (arith, whole))
+frame-fields (a ∷ b ∷ c ∷ d ∷ e ∷ f ∷ g ∷ h ∷ i ∷ j ∷ []) magic whole
+    = absurd (omega (arith, whole))
+frame-fields (a ∷ b ∷ c ∷ d ∷ e ∷ f ∷ g ∷ h ∷ i ∷ j ∷ k ∷ []) magic whole
+    = absurd (omega (arith, whole))
+frame-fields (a ∷ b ∷ c ∷ d ∷ e ∷ f ∷ g ∷ h ∷ i ∷ j ∷ k ∷ l ∷ []) magic whole
+    = absurd (omega (arith, whole))
+frame-fields (a ∷ b ∷ c ∷ d ∷ e ∷ f ∷ g ∷ h ∷ i ∷ j ∷ k ∷ l ∷ m ∷ rest) magic whole =
+    let both = and_parts (a == 0x50) (b == 0x44) magic in
+    let first : a ≡ 0x50 = eqb-true a 0x50 both.0 in
+    let second : b ≡ 0x44 = eqb-true b 0x44 both.1 in
+    rw (first, second) refl
+
+pub frame-written : (b : BoardValue) (bytes : List ℕ) (h : Heading) → AreBytes bytes
+    → HasHeading bytes h → HasNoFault b bytes h → spelling (frame_in h bytes) ≡ bytes
+unfolding frame_in
+frame-written b bytes (headings.Message kind) fits has sound =
+    let n = count_in bytes in
+    let parts = parts_in n (places_in bytes) in
+    let forty : length (places_in bytes) ≡ 40 = omega (arith, length-drop 13 bytes, has.whole) in
+    same-fields (kind_code kind) (slice_index bytes 2) (slice_index bytes 3) (length parts) n
+    (to_be_bytes w32 (number_at bytes 4)) (slice_range bytes 4 8)
+    (to_be_bytes w32 (number_at bytes 8)) (slice_range bytes 8 12) (places parts) (places_in bytes)
+    (sym (heading_of-some (slice_index bytes 2) (headings.Message kind) has.kind))
+    (number-written bytes 4 fits (omega (arith, has.whole)))
+    (number-written bytes 8 fits (omega (arith, has.whole))) (length-parts_in n (places_in bytes))
+    (places-written n (places_in bytes) (AreBytes-drop 13 bytes fits) forty
+    (parts_of-few (headings.Message kind) n sound.allowed) sound.unused)
+    ∙ frame-fields bytes has.magic has.whole
+frame-written b bytes (headings.Ack kind stale) fits has sound =
+    let forty : length (places_in bytes) ≡ 40 = omega (arith, length-drop 13 bytes, has.whole) in
+    same-fields (heading_byte (headings.Ack kind stale)) (slice_index bytes 2) (slice_index bytes 3)
+    (count_in bytes) (count_in bytes)
+    (to_be_bytes w32 (number_at bytes 4)) (slice_range bytes 4 8)
+    (to_be_bytes w32 (number_at bytes 8)) (slice_range bytes 8 12) (places []) (places_in bytes)
+    (sym (heading_of-some (slice_index bytes 2) (headings.Ack kind stale) has.kind))
+    (number-written bytes 4 fits (omega (arith, has.whole)))
+    (number-written bytes 8 fits (omega (arith, has.whole))) refl
+    (places-written 0 (places_in bytes) (AreBytes-drop 13 bytes fits) forty
+    (omega arith) sound.unused)
+    ∙ frame-fields bytes has.magic has.whole
+
+pub frame-is-of : (b : BoardValue) (bytes : List ℕ) (h : Heading) → HasNoFault b bytes h
+    → IsOf b (frame_in h bytes)
+unfolding frame_in
+frame-is-of b bytes (headings.Message kind) sound = (sound.core, sound.within)
+frame-is-of b bytes (headings.Ack kind stale) sound = sound.core
