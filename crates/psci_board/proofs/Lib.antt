@@ -1,4 +1,5 @@
 pub mod AffinityRows
+pub mod BoardRows
 pub mod Children
 pub mod Decided
 pub mod Digits

@@ -130,3 +130,6 @@ pub first_ordered : (front : List (List ℕ)) (p first end : ℕ)
     → first ≤ end
 first_ordered front p first end f g =
     omega (arith, f, g, first_grows front (length front) p (p + 1) (omega arith))
+
+-- the two ends of a span, and the span between them
+pub ruleset walk = (first_ordered, span_some, on_board)

@@ -11,6 +11,7 @@ use Rattle.psci_board.specs.declared.node.Node.{Node}
 use Rattle.psci_board.specs.declared.node.Core.{Core}
 use Rattle.psci_board.specs.declared.span.CoreSpan.{CoreSpan}
 
+-- A board as contracts see it.
 pub record BoardValue : Type 0 where
   -- from level 1 up, how many children each node of the level has, from left to right
   pub levels : List (List ℕ)
@@ -40,6 +41,7 @@ abbrev pub IsTree : List (List ℕ) → Type 0
 IsTree [] = Unit {0}
 IsTree (w ∷ ws) = (length w ≡ size_below ws) × (sum w ≤ MOST_CORES) × AllPass is_width w × IsTree ws
 
+-- the level of the system
 abbrev pub height : BoardValue → ℕ
 height b = length b.levels
 
@@ -47,6 +49,7 @@ height b = length b.levels
 abbrev pub nodes : BoardValue → ℕ → ℕ
 nodes b level = size_below (drop level b.levels)
 
+-- how many cores there are: the nodes of level 0
 abbrev pub cores : BoardValue → ℕ
 cores b = nodes b 0
 
@@ -59,6 +62,7 @@ abbrev pub group_of : List ℕ → ℕ → ℕ
 group_of [] i = 0
 group_of (n ∷ ns) i = if nat_lt i n then 0 else group_of ns (i - n) + 1
 
+-- the place within its group
 abbrev pub place_in : List ℕ → ℕ → ℕ
 place_in [] i = i
 place_in (n ∷ ns) i = if nat_lt i n then i else place_in ns (i - n)
@@ -109,6 +113,7 @@ abbrev pub first_child : BoardValue → ℕ → ℕ → ℕ
 first_child b zero place = 0
 first_child b (suc level) place = sum (take place (slice_index_or b.levels level []))
 
+-- how many children a node has
 abbrev pub children : BoardValue → Node → ℕ
 children b n = children_at b n.level n.place
 
@@ -188,6 +193,7 @@ core_of b word =
 
 -- Addresses -----------------------------------------------------------------------------------
 
+-- the address lies in one of the ranges: at its start or after it, and before its end
 abbrev pub is_in_some : List AddressRange → ℕ → Bool
 is_in_some ranges a = list_any (λ r. nat_le r.start a && nat_lt a r.end) ranges
 

@@ -10,6 +10,7 @@ use Rattle.psci_board.specs.Grammar.Member.{Cluster, Group}
 use Rattle.psci_board.specs.Grammar.TreeText.{One, Members}
 
 infixl 10 ◌>>=◌
+-- what is read next, where something was read
 abbrev pub ◌>>=◌ : {A B : Type 0} → Option A → (A → Option B) → Option B
 o >>= f = option_and_then f o
 
@@ -25,6 +26,7 @@ is_number digits = nat_lt 0 (length digits)
     && ((length digits == 1 || not (slice_index digits 0 == 48))
     && nat_lt (digits_value 10 digits) (2 ^ 64))
 
+-- a number: all digits that stand there, if they are one
 unfoldable pub number_at : List ℕ → Option (ℕ × List ℕ)
 number_at bytes = let n = prefix_len is_ascii_digit bytes in
     if is_number (take n bytes) then Some (digits_value 10 (take n bytes), drop n bytes) else None
@@ -40,6 +42,7 @@ hex_at bytes = do
 abbrev pub hex_value : List ℕ × List ℕ → ℕ × List ℕ
 hex_value x = (digits_value 16 x.0, x.1)
 
+-- a range: two addresses with a hyphen between them
 unfoldable pub range_at : List ℕ → Option ((List ℕ × List ℕ) × List ℕ)
 range_at bytes = do
   from ← hex_at bytes
@@ -86,9 +89,11 @@ count_and_rest x = (length x.0, x.1)
 abbrev pub rest_of : {A : Type 0} → A × List ℕ → List ℕ
 rest_of x = x.1
 
+-- a bracket is opened
 abbrev pub starts_list : List ℕ → Bool
 starts_list bytes = slice_index bytes 0 == 40
 
+-- a member: a group where a bracket is opened, else a number
 unfoldable pub member_at : List ℕ → Option (Member × List ℕ)
 member_at bytes = if starts_list bytes
     then (do
@@ -98,6 +103,7 @@ member_at bytes = if starts_list bytes
       n ← number_at bytes
       Some (Cluster n.0, n.1))
 
+-- a tree: members where a bracket is opened, else a number
 unfoldable pub tree_at : List ℕ → Option (TreeText × List ℕ)
 tree_at bytes = if starts_list bytes
     then (do

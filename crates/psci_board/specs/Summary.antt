@@ -11,14 +11,17 @@ use Rattle.psci_board.specs.Verdict.{is_out_of_width, range_of}
 
 -- Numbers ------------------------------------------------------------------------------------
 
+-- What is kept of the numbers of a tree.
 pub record NumbersSummaryValue : Type 0 where
   pub first : List ℕ  -- the first 64, each above 16 as 17
   pub total : ℕ  -- their sum, or 65
   pub bad_width : Bool  -- some number is no width of a node
 
+-- of no number
 abbrev pub no_numbers : NumbersSummaryValue
 no_numbers = record { first = []; total = 0; bad_width = false }
 
+-- after one more number
 abbrev pub with_number : NumbersSummaryValue → ℕ → NumbersSummaryValue
 with_number s n = record {
   first = take MOST_CORES (s.first ++ min n (MOST_CHILDREN + 1) ∷ []);
@@ -26,12 +29,14 @@ with_number s n = record {
   bad_width = s.bad_width || is_out_of_width n;
 }
 
+-- after these numbers
 unfoldable pub with_numbers : NumbersSummaryValue → List ℕ → NumbersSummaryValue
 with_numbers s [] = s
 with_numbers s (n ∷ ns) = with_numbers (with_number s n) ns
 
 -- The tree -----------------------------------------------------------------------------------
 
+-- What is kept of a tree.
 pub record TreeSummaryValue : Type 0 where
   pub numbers : NumbersSummaryValue
   pub sizes : List ℕ  -- how many numbers each of the first 16 members has, above 16 as 17
@@ -41,28 +46,29 @@ pub record TreeSummaryValue : Type 0 where
 
 -- nothing of a list yet, as of a tree that is a single number
 abbrev pub no_members : TreeSummaryValue
-no_members =
-    record {
-      numbers = no_numbers;
-      sizes = [];
-      bad_width = false;
-      has_cluster =
-          false;
-      has_group = false;
-    }
+no_members = record {
+  numbers = no_numbers;
+  sizes = [];
+  bad_width = false;
+  has_cluster = false;
+  has_group = false;
+}
 
+-- after one more member, of this number of clusters
 abbrev pub with_size : TreeSummaryValue → ℕ → TreeSummaryValue
 with_size s size = record s {
   sizes = take MOST_CHILDREN (s.sizes ++ min size (MOST_CHILDREN + 1) ∷ []);
   bad_width = s.bad_width || nat_le MOST_CHILDREN (length s.sizes) || is_out_of_width size;
 }
 
+-- after one more member
 abbrev pub with_member : TreeSummaryValue → Member → TreeSummaryValue
 with_member s (Cluster n) =
     record (with_size s 1) { numbers = with_number s.numbers n; has_cluster = true }
 with_member s (Group ns) =
     record (with_size s (length ns)) { numbers = with_numbers s.numbers ns; has_group = true }
 
+-- after these members
 unfoldable pub with_members : TreeSummaryValue → List Member → TreeSummaryValue
 with_members s [] = s
 with_members s (m ∷ ms) = with_members (with_member s m) ms
@@ -78,13 +84,16 @@ value_and_rest f x = (f x.0, x.1)
 
 -- Ranges -------------------------------------------------------------------------------------
 
+-- What is kept of the ranges.
 pub record RangesSummaryValue : Type 0 where
   pub first : List AddressRange  -- the first four
   pub faulty : Bool  -- there are more than four, or one of them holds no address
 
+-- of no range
 abbrev pub no_ranges : RangesSummaryValue
 no_ranges = record { first = []; faulty = false }
 
+-- after one more range
 abbrev pub with_range : RangesSummaryValue → AddressRange → RangesSummaryValue
 with_range s r = record {
   first = take MOST_RANGES (s.first ++ r ∷ []);

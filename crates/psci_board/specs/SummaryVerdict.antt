@@ -12,6 +12,7 @@ use Rattle.psci_board.specs.Board.{BoardValue, is_in_some}
 use Rattle.psci_board.specs.Summary.{TreeSummaryValue, tree_summary, with_ranges, no_ranges}
 use Rattle.psci_board.specs.Verdict.{is_limit}
 
+-- what is kept of a board text
 abbrev pub text_summary : BoardText → TextSummary
 text_summary t = record {
   tree = tree_summary t.tree;

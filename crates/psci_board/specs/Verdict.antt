@@ -17,10 +17,12 @@ use Rattle.psci_board.specs.Grammar.TreeText.{One, Members}
 use Rattle.psci_board.specs.Reading.{board_text}
 use Rattle.psci_board.specs.Board.{BoardValue, may_enter}
 
+-- a member is a list
 abbrev pub is_group : Member → Bool
 is_group (Cluster n) = false
 is_group (Group ns) = true
 
+-- the numbers of a member
 abbrev pub numbers_in : Member → List ℕ
 numbers_in (Cluster n) = n ∷ []
 numbers_in (Group ns) = ns
@@ -38,6 +40,7 @@ levels_of (Members ms) =
     then flat_map numbers_in ms ∷ map (λ m. length (numbers_in m)) ms ∷ (length ms ∷ []) ∷ []
     else flat_map numbers_in ms ∷ (length ms ∷ []) ∷ []
 
+-- the outer list has numbers and lists as members
 abbrev pub is_uneven : TreeText → Bool
 is_uneven (One n) = false
 is_uneven (Members ms) = list_any is_group ms && list_any (λ m. not (is_group m)) ms
@@ -46,12 +49,15 @@ is_uneven (Members ms) = list_any is_group ms && list_any (λ m. not (is_group m
 abbrev pub is_out_of_width : ℕ → Bool
 is_out_of_width n = n == 0 || nat_lt MOST_CHILDREN n
 
+-- a node has no child, or more than it may have
 abbrev pub is_too_wide : TreeText → Bool
 is_too_wide t = list_any (λ w. list_any is_out_of_width w) (levels_of t)
 
+-- the range of two addresses, given by their digits
 abbrev pub range_of : List ℕ × List ℕ → AddressRange
 range_of r = record { start = digits_value 16 r.0; end = digits_value 16 r.1 }
 
+-- there are more ranges than there may be, or one holds no address
 abbrev pub has_bad_range : List AddressRange → Bool
 has_bad_range rs = nat_lt MOST_RANGES (length rs) || list_any (λ r. nat_le r.end r.start) rs
 
@@ -65,6 +71,7 @@ board_in t = record {
   lives = t.lives;
 }
 
+-- a limit of 1 up to this one
 abbrev pub is_limit : ℕ → ℕ → Bool
 is_limit most n = nat_lt 0 n && nat_le n most
 
@@ -79,6 +86,7 @@ verdict t = let b = board_in t in
     else (if not (is_limit (2 ^ 32 - 1) b.starts && is_limit MOST_LIVES b.lives) then Err BadLimit
     else Ok b)))))
 
+-- the verdict, where the text is of the grammar
 abbrev pub verdict_or : Option BoardText → Result BoardValue BoardFault
 verdict_or None = Err Grammar
 verdict_or (Some t) = verdict t

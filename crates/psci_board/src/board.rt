@@ -175,6 +175,7 @@ impl Board {
 
     /// The cores below a node, which stand side by side, if the board has the node. It takes one
     /// step for each level, however many cores there are.
+    #[tactic(auto, using(crate::proofs::Spans::walk))]
     pub fn cores_below(&self, node: Node) -> Option<CoreSpan>
         ensures { result ≡ cores_below self.now node }
     {

@@ -1,0 +1,180 @@
+-- How frames are spelled, and what bytes hold: known frames, and which bytes each field has.
+use Rattle.std.proofs.Common.{◌≡◌, List, [], ◌∷◌, ◌++◌, refl}
+use Rattle.std.specs.Prelude.{Some, None, true, false, replicate}
+use Rattle.psci_link.specs.declared.kind.Kind.TheVariants.{Down, Start, Off, Reset}
+use Rattle.psci_link.specs.declared.frame.Frame.{Frame}
+use Rattle.psci_link.specs.declared.frame.Frame.TheVariants.{Message, Ack}
+use Rattle.psci_link.specs.declared.heading.Heading.TheVariants as headings
+use Rattle.psci_link.specs.Message.{is_climbing, is_falling}
+use Rattle.psci_link.specs.Frame.{places, spelling, kind_byte, part_bytes, frame_in}
+use Rattle.psci_link.proofs.FaultRows.{down, acknowledged}
+
+abbrev down_frame : Frame
+down_frame = Message (record {
+  kind = Down;
+  core = record { number = 3 };
+  life = 1;
+  number = 1;
+  parts = record { level = 0; depth = 3; generation = 1 }
+      ∷ record { level = 1; depth = 3; generation = 1 } ∷ [];
+})
+
+abbrev acknowledged_frame : Frame
+acknowledged_frame = Ack (record {
+  kind = Down;
+  core = record { number = 3 };
+  life = 1;
+  number = 1;
+  applied = 2;
+  stale = false;
+})
+
+down_spelled : spelling down_frame ≡ down
+unfolding places
+down_spelled = refl
+
+down_held : frame_in (headings.Message Down) down ≡ down_frame
+unfolding frame_in
+down_held = refl
+
+acknowledged_spelled : spelling acknowledged_frame ≡ acknowledged
+unfolding places
+acknowledged_spelled = refl
+
+acknowledged_held : frame_in (headings.Ack Down false) acknowledged ≡ acknowledged_frame
+unfolding frame_in
+acknowledged_held = refl
+
+-- life before number, the highest byte first; a stale start
+start_spelled : spelling (Ack (record {
+  kind = Start;
+  core = record { number = 63 };
+  life = 0x0102;
+  number = 0x03040506;
+  applied = 0;
+  stale = true;
+})) ≡ 0x50 ∷ 0x44 ∷ 0x22 ∷ 63 ∷ 0 ∷ 0 ∷ 1 ∷ 2 ∷ 3 ∷ 4 ∷ 5 ∷ 6 ∷ 0 ∷ replicate 40 0
+unfolding places
+start_spelled = refl
+
+-- level, depth and generation, the highest byte first
+part_spelled : part_bytes (record { level = 2; depth = 1; generation = 0x0102030405060708 })
+    ≡ 2 ∷ 1 ∷ 1 ∷ 2 ∷ 3 ∷ 4 ∷ 5 ∷ 6 ∷ 7 ∷ 8 ∷ []
+part_spelled = refl
+
+-- the kind bytes
+down_message : kind_byte (Message (record {
+  kind = Down;
+  core = record { number = 0 };
+  life = 0;
+  number = 0;
+  parts = [];
+})) ≡ 0x01
+down_message = refl
+
+start_message : kind_byte (Message (record {
+  kind = Start;
+  core = record { number = 0 };
+  life = 0;
+  number = 0;
+  parts = [];
+})) ≡ 0x02
+start_message = refl
+
+off_message : kind_byte (Message (record {
+  kind = Off;
+  core = record { number = 0 };
+  life = 0;
+  number = 0;
+  parts = [];
+})) ≡ 0x03
+off_message = refl
+
+reset_message : kind_byte (Message (record {
+  kind = Reset;
+  core = record { number = 0 };
+  life = 0;
+  number = 0;
+  parts = [];
+})) ≡ 0x04
+reset_message = refl
+
+down_answer : kind_byte (Ack (record {
+  kind = Down;
+  core = record { number = 0 };
+  life = 0;
+  number = 0;
+  applied = 0;
+  stale = false;
+})) ≡ 0x11
+down_answer = refl
+
+stale_down_answer : kind_byte (Ack (record {
+  kind = Down;
+  core = record { number = 0 };
+  life = 0;
+  number = 0;
+  applied = 0;
+  stale = true;
+})) ≡ 0x21
+stale_down_answer = refl
+
+start_answer : kind_byte (Ack (record {
+  kind = Start;
+  core = record { number = 0 };
+  life = 0;
+  number = 0;
+  applied = 0;
+  stale = false;
+})) ≡ 0x12
+start_answer = refl
+
+stale_start_answer : kind_byte (Ack (record {
+  kind = Start;
+  core = record { number = 0 };
+  life = 0;
+  number = 0;
+  applied = 0;
+  stale = true;
+})) ≡ 0x22
+stale_start_answer = refl
+
+off_answer : kind_byte (Ack (record {
+  kind = Off;
+  core = record { number = 0 };
+  life = 0;
+  number = 0;
+  applied = 0;
+  stale = false;
+})) ≡ 0x13
+off_answer = refl
+
+stale_off_answer : kind_byte (Ack (record {
+  kind = Off;
+  core = record { number = 0 };
+  life = 0;
+  number = 0;
+  applied = 0;
+  stale = true;
+})) ≡ 0x23
+stale_off_answer = refl
+
+reset_answer : kind_byte (Ack (record {
+  kind = Reset;
+  core = record { number = 0 };
+  life = 0;
+  number = 0;
+  applied = 0;
+  stale = false;
+})) ≡ 0x14
+reset_answer = refl
+
+stale_reset_answer : kind_byte (Ack (record {
+  kind = Reset;
+  core = record { number = 0 };
+  life = 0;
+  number = 0;
+  applied = 0;
+  stale = true;
+})) ≡ 0x24
+stale_reset_answer = refl

@@ -1,0 +1,179 @@
+-- Kind bytes: each says what it was written for, and counts go with parts.
+use Rattle.std.proofs.Common.{
+  ◌≡◌,
+  ◌∙◌,
+  ℕ,
+  zero,
+  suc,
+  ◌+◌,
+  ◌*◌,
+  ◌/◌,
+  ◌%◌,
+  ◌<◌,
+  ◌≤◌,
+  Bool,
+  true,
+  false,
+}
+use Rattle.std.proofs.Common.{
+  List,
+  [],
+  ◌∷◌,
+  length,
+  Option,
+  Some,
+  None,
+  refl,
+  sym,
+  ap,
+  arith,
+  subst,
+  inl,
+  inr,
+}
+use Rattle.std.specs.Prelude.{if◌then◌else◌, nat_le, ◌==◌, ◌⊎◌}
+use Rattle.std.proofs.lemmas.Option.{same_Some, none-some, option_and_then_some}
+use Rattle.std.proofs.lemmas.Bool.{and_parts, and_from, eqb-true, leb-true, le-leb}
+use Rattle.std.proofs.lemmas.List.{nil_from_length}
+use Rattle.psci_coord.specs.declared.part.Part.{Part}
+use Rattle.psci_link.specs.declared.kind.Kind.{Kind}
+use Rattle.psci_link.specs.declared.kind.Kind.TheVariants.{Down, Start, Off, Reset}
+use Rattle.psci_link.specs.declared.heading.Heading.{Heading}
+use Rattle.psci_link.specs.declared.heading.Heading.TheVariants.{Message, Ack}
+use Rattle.psci_link.specs.Message.{is_climbing, is_falling, IsClaim, ArePartsOf, most_applied}
+use Rattle.psci_link.specs.Heading.{
+  kind_of,
+  heading_of,
+  heading_with,
+  allows_count,
+  parts_of,
+  IsHeld,
+}
+use Rattle.psci_link.specs.Frame.{kind_code}
+
+-- the kind byte that says this
+abbrev pub heading_byte : Heading → ℕ
+heading_byte (Message kind) = kind_code kind
+heading_byte (Ack kind stale) = (if stale then 32 else 16) + kind_code kind
+
+chosen : {A : Type 0} (t : Bool) (x : A) (rest : Option A) (y : A)
+    → (if t then Some x else rest) ≡ Some y
+    → ((t ≡ true) × (x ≡ y)) ⊎ (rest ≡ Some y)
+chosen true x rest y e = inl (refl, same_Some x y e)
+chosen false x rest y e = inr e
+
+kind_of-some : (code : ℕ) (kind : Kind) → kind_of code ≡ Some kind → code ≡ kind_code kind
+kind_of-some code kind e =
+    elim (chosen (code == 1) Down _ kind e) [
+      | inl p ↦ eqb-true code 1 p.0 ∙ ap kind_code p.1
+      | inr later ↦ elim (chosen (code == 2) Start _ kind later) [
+        | inl p ↦ eqb-true code 2 p.0 ∙ ap kind_code p.1
+        | inr later ↦ elim (chosen (code == 3) Off _ kind later) [
+          | inl p ↦ eqb-true code 3 p.0 ∙ ap kind_code p.1
+          | inr later ↦ elim (chosen (code == 4) Reset _ kind later) [
+            | inl p ↦ eqb-true code 4 p.0 ∙ ap kind_code p.1
+            | inr none ↦ absurd (none-some kind none)
+          ]
+        ]
+      ]
+    ]
+
+heading_with-some : (high : ℕ) (kind : Kind) (h : Heading) → heading_with high kind ≡ Some h
+    → 16 * high + kind_code kind ≡ heading_byte h
+heading_with-some high kind h e =
+    elim (chosen (high == 0) (Message kind) _ h e) [
+      | inl p ↦ omega (arith, eqb-true high 0 p.0, ap heading_byte p.1)
+      | inr later ↦ elim (chosen (high == 1) (Ack kind false) _ h later) [
+        | inl p ↦ omega (arith, eqb-true high 1 p.0, ap heading_byte p.1)
+        | inr later ↦ elim (chosen (high == 2) (Ack kind true) _ h later) [
+          | inl p ↦ omega (arith, eqb-true high 2 p.0, ap heading_byte p.1)
+          | inr none ↦ absurd (none-some h none)
+        ]
+      ]
+    ]
+
+-- a byte that says this is the one that is written for it
+pub heading_of-some : (byte : ℕ) (h : Heading) → heading_of byte ≡ Some h → byte ≡ heading_byte h
+heading_of-some byte h e =
+    option_and_then_some {P = byte ≡ heading_byte h} (heading_with (byte / 16))
+    (kind_of (byte % 16)) h e (λ kind named says.
+    let low = kind_of-some (byte % 16) kind named in
+    let whole = heading_with-some (byte / 16) kind h says in
+    omega (arith, low, whole))
+
+-- the byte that is written for this says it
+pub heading_of-byte : (h : Heading) → heading_of (heading_byte h) ≡ Some h
+heading_of-byte (Message Down) = refl
+heading_of-byte (Message Start) = refl
+heading_of-byte (Message Off) = refl
+heading_of-byte (Message Reset) = refl
+heading_of-byte (Ack Down false) = refl
+heading_of-byte (Ack Start false) = refl
+heading_of-byte (Ack Off false) = refl
+heading_of-byte (Ack Reset false) = refl
+heading_of-byte (Ack Down true) = refl
+heading_of-byte (Ack Start true) = refl
+heading_of-byte (Ack Off true) = refl
+heading_of-byte (Ack Reset true) = refl
+
+-- no frame has more than four parts
+pub parts_of-few : (h : Heading) (n : ℕ) → allows_count h n ≡ true → parts_of h n ≤ 4
+parts_of-few (Message Down) n e = leb-true n 4 (and_parts (nat_le 1 n) (nat_le n 4) e).1
+parts_of-few (Message Start) n e = omega (
+  arith,
+  leb-true n 0 (and_parts (nat_le 0 n) (nat_le n 0) e).1,
+)
+parts_of-few (Message Off) n e = omega (
+  arith,
+  leb-true n 0 (and_parts (nat_le 0 n) (nat_le n 0) e).1,
+)
+parts_of-few (Message Reset) n e = omega (
+  arith,
+  leb-true n 0 (and_parts (nat_le 0 n) (nat_le n 0) e).1,
+)
+parts_of-few (Ack kind stale) n e = omega arith
+
+-- what was looked at is what every message and every acknowledgement keeps
+none-left : (n : ℕ) (ps : List Part) → length ps ≡ n → n ≤ 0 → ps ≡ []
+none-left n ps same few = nil_from_length ps (omega arith)
+
+pub is-held : (h : Heading) (n : ℕ) (ps : List Part) → length ps ≡ parts_of h n
+    → allows_count h n ≡ true
+    → is_falling 3 ps ≡ true → is_climbing 0 ps ≡ true → IsHeld h n ps
+is-held (Message Down) n ps same allowed falling climbing =
+    let both = and_parts (nat_le 1 n) (nat_le n 4) allowed in
+    let some = leb-true 1 n both.0 in
+    let most = leb-true n 4 both.1 in
+    record { some = omega arith; most = omega arith; levels = climbing; depths = falling }
+is-held (Message Start) n ps same allowed falling climbing =
+    none-left n ps same (leb-true n 0 (and_parts (nat_le 0 n) (nat_le n 0) allowed).1)
+is-held (Message Off) n ps same allowed falling climbing =
+    none-left n ps same (leb-true n 0 (and_parts (nat_le 0 n) (nat_le n 0) allowed).1)
+is-held (Message Reset) n ps same allowed falling climbing =
+    none-left n ps same (leb-true n 0 (and_parts (nat_le 0 n) (nat_le n 0) allowed).1)
+is-held (Ack kind stale) n ps same allowed falling climbing = leb-true n (most_applied kind) allowed
+
+-- the parts of a message go with its count, and hold what is looked at
+pub record Counted (kind : Kind) (ps : List Part) : Type 0 where
+  pub few : length ps ≤ 4
+  pub allowed : allows_count (Message kind) (length ps) ≡ true
+  pub falling : is_falling 3 ps ≡ true
+  pub climbing : is_climbing 0 ps ≡ true
+
+nothing-counted : (kind : Kind) (ps : List Part) → ps ≡ [] → allows_count (Message kind) 0 ≡ true
+    → Counted kind ps
+nothing-counted kind ps none allowed =
+    subst (λ (xs : List Part). Counted kind xs) (sym none)
+    (record { few = omega arith; allowed = allowed; falling = refl; climbing = refl })
+
+pub counted : (kind : Kind) (ps : List Part) → ArePartsOf kind ps → Counted kind ps
+counted Down ps held = record {
+  few = held.most;
+  allowed = and_from (nat_le 1 (length ps)) (nat_le (length ps) 4) (le-leb 1 (length ps) held.some)
+      (le-leb (length ps) 4 held.most);
+  falling = held.depths;
+  climbing = held.levels;
+}
+counted Start ps held = nothing-counted Start ps held refl
+counted Off ps held = nothing-counted Off ps held refl
+counted Reset ps held = nothing-counted Reset ps held refl

@@ -1,0 +1,187 @@
+-- The parts in their places: reading one more, and that reading and writing undo each other.
+use Rattle.std.proofs.Common.{
+  ◌≡◌,
+  ◌∙◌,
+  ℕ,
+  zero,
+  suc,
+  ◌+◌,
+  ◌-◌,
+  ◌*◌,
+  ◌^◌,
+  ◌<◌,
+  ◌≤◌,
+  Bool,
+  true,
+  List,
+  [],
+}
+use Rattle.std.proofs.Common.{
+  ◌∷◌,
+  ◌++◌,
+  length,
+  get_or,
+  take,
+  drop,
+  replicate,
+  refl,
+  sym,
+  ap,
+  arith,
+}
+use Rattle.std.proofs.Common.{append_assoc, drop-drop, take-add, length-drop, length-append}
+use Rattle.std.specs.Prelude.{◌==◌}
+use Rattle.std.specs.List.{flat_map, list_all, AllByRecursion}
+use Rattle.std.specs.Int.{w32, w64, from_be_bytes}
+use Rattle.std.proofs.lemmas.Nat.{be_bytes_8, from_be_bytes-to_be_bytes_8}
+use Rattle.std.proofs.lemmas.List.{
+  get_or-drop,
+  length-take-le,
+  take-append-drop,
+  length-replicate,
+  drop_at,
+}
+use Rattle.std.proofs.lemmas.Bool.{and_parts, eqb-true}
+use Rattle.psci_coord.specs.declared.part.Part.{Part}
+use Rattle.psci_link.specs.Frame.{AreBytes, part_in, parts_in, part_bytes, places}
+
+pub length-parts_in : (n : ℕ) (bytes : List ℕ) → length (parts_in n bytes) ≡ n
+length-parts_in zero bytes = refl
+length-parts_in (suc n) bytes = ap suc (length-parts_in n (drop 10 bytes))
+
+-- one part more
+pub parts_in-more : (n : ℕ) (bytes : List ℕ)
+    → parts_in (suc n) bytes ≡ parts_in n bytes ++ part_in (drop (10 * n) bytes) ∷ []
+parts_in-more zero bytes = refl
+parts_in-more (suc n) bytes =
+    let further : drop (10 * n) (drop 10 bytes) ≡ drop (10 * suc n) bytes
+    = drop-drop (10 * n) 10 bytes ∙ ap (λ (k : ℕ). drop k bytes) {x = 10 + 10 * n} {y = 10 * suc n}
+    (omega arith) in
+    ap (λ (ps : List Part). part_in bytes ∷ ps) (parts_in-more n (drop 10 bytes)
+    ∙ ap (λ (rest : List ℕ). parts_in n (drop 10 bytes) ++ part_in rest ∷ []) further)
+
+pub AreBytes-drop : (n : ℕ) (bytes : List ℕ) → AreBytes bytes → AreBytes (drop n bytes)
+AreBytes-drop n bytes fits = λ i. rw get_or-drop (fits (n + i))
+
+first-or-later : (b : ℕ) (bytes : List ℕ) → b < 256 → AreBytes bytes → AreBytes (b ∷ bytes)
+first-or-later b bytes first later zero = first
+first-or-later b bytes first later (suc i) = later i
+
+pub AreBytes-take : (n : ℕ) (bytes : List ℕ) → AreBytes bytes → AreBytes (take n bytes)
+AreBytes-take zero bytes fits = λ i. omega arith
+AreBytes-take (suc n) [] fits = λ i. omega arith
+AreBytes-take (suc n) (b ∷ bytes) fits = first-or-later b (take n bytes) (fits 0)
+    (AreBytes-take n bytes (AreBytes-drop 1 (b ∷ bytes) fits))
+
+-- Numbers of four and of eight bytes.
+pub four_bytes-fit : (bytes : List ℕ) → AreBytes bytes → from_be_bytes w32 bytes < 2 ^ 32
+four_bytes-fit bytes fits = omega (arith, fits 0, fits 1, fits 2, fits 3)
+
+eight_bytes-fit : (bytes : List ℕ) → AreBytes bytes → from_be_bytes w64 bytes < 2 ^ 64
+eight_bytes-fit bytes fits =
+    omega (arith, fits 0, fits 1, fits 2, fits 3, fits 4, fits 5, fits 6, fits 7)
+
+pub generations-fit : (n : ℕ) (bytes : List ℕ) → AreBytes bytes
+    → AllByRecursion (λ p. p.generation < 2 ^ 64) (parts_in n bytes)
+generations-fit zero bytes fits = tt
+generations-fit (suc n) bytes fits = (
+  eight_bytes-fit (take 8 (drop 2 bytes)) (AreBytes-take 8 (drop 2 bytes)
+      (AreBytes-drop 2 bytes fits)),
+  generations-fit n (drop 10 bytes) (AreBytes-drop 10 bytes fits),
+)
+
+-- Reading, then writing: the bytes again.
+part-written : (bytes : List ℕ) → AreBytes bytes → 10 ≤ length bytes
+    → part_bytes (part_in bytes) ≡ take 10 bytes
+part-written [] fits long = absurd (omega arith)
+part-written (a ∷ []) fits long = absurd (omega arith)
+part-written (a ∷ b ∷ rest) fits long =
+    let inside : AreBytes (take 8 rest) = AreBytes-take 8 rest
+    (AreBytes-drop 2 (a ∷ b ∷ rest) fits) in
+    let eight : length (take 8 rest) ≡ 8 = length-take-le 8 rest (omega arith) in
+    ap (λ (bytes : List ℕ). a ∷ b ∷ bytes) (be_bytes_8 (take 8 rest)
+    (from_be_bytes w64 (take 8 rest)) eight inside refl)
+
+pub parts-written : (n : ℕ) (bytes : List ℕ) → AreBytes bytes → 10 * n ≤ length bytes
+    → flat_map part_bytes (parts_in n bytes) ≡ take (10 * n) bytes
+parts-written zero bytes fits long = refl
+parts-written (suc n) bytes fits long =
+    let further : 10 * n ≤ length (drop 10 bytes) = omega (arith, length-drop 10 bytes) in
+    let rest = parts-written n (drop 10 bytes) (AreBytes-drop 10 bytes fits) further in
+    let first = part-written bytes fits (omega arith) in
+    let together : take (10 + 10 * n) bytes ≡ take 10 bytes ++ take (10 * n) (drop 10 bytes)
+    = take-add 10 (10 * n) bytes in
+    ap (λ (xs : List ℕ). xs ++ flat_map part_bytes (parts_in n (drop 10 bytes))) first
+    ∙ ap (λ (xs : List ℕ). take 10 bytes ++ xs) rest
+    ∙ (sym together ∙ ap (λ (k : ℕ). take k bytes) {x = 10 + 10 * n} {y = 10 * suc n} (omega arith))
+
+zeros : (bytes : List ℕ) → list_all (λ byte. byte == 0) bytes ≡ true
+    → bytes ≡ replicate (length bytes) 0
+zeros [] zero_ = refl
+zeros (b ∷ bytes) zero_ =
+    let both = and_parts (b == 0) (list_all (λ byte. byte == 0) bytes) zero_ in
+    let first : b ≡ 0 = eqb-true b 0 both.0 in
+    rw first (ap (λ (xs : List ℕ). 0 ∷ xs) (zeros bytes both.1))
+
+pub places-written : (n : ℕ) (bytes : List ℕ) → AreBytes bytes → length bytes ≡ 40 → n ≤ 4
+    → list_all (λ byte. byte == 0) (drop (10 * n) bytes) ≡ true → places (parts_in n bytes) ≡ bytes
+unfolding places
+places-written n bytes fits long few unused =
+    let used = parts-written n bytes fits (omega arith) in
+    let rest = zeros (drop (10 * n) bytes) unused in
+    let left : length (drop (10 * n) bytes) ≡ 10 * (4 - n)
+    = omega (arith, length-drop (10 * n) bytes) in
+    let count = length-parts_in n bytes in
+    rw (used, count, ← left, ← rest) (take-append-drop (10 * n) bytes)
+
+-- Writing, then reading: the parts again.
+part-read : (p : Part) (rest : List ℕ) → p.generation < 2 ^ 64 → part_in (part_bytes p ++ rest) ≡ p
+part-read p rest fits =
+    ap (λ (g : ℕ). record { level = p.level; depth = p.depth; generation = g })
+    (from_be_bytes-to_be_bytes_8 p.generation fits)
+
+pub parts-read : (ps : List Part) (rest : List ℕ) → AllByRecursion (λ p. p.generation < 2 ^ 64) ps
+    → parts_in (length ps) (flat_map part_bytes ps ++ rest) ≡ ps
+parts-read [] rest fits = refl
+parts-read (p ∷ ps) rest fits =
+    let regrouped : flat_map part_bytes (p ∷ ps) ++ rest
+    ≡ part_bytes p ++ (flat_map part_bytes ps ++ rest)
+    = append_assoc (part_bytes p) (flat_map part_bytes ps) rest in
+    ap (parts_in (suc (length ps))) regrouped
+    ∙ rw (part-read p (flat_map part_bytes ps ++ rest) fits.0, parts-read ps rest fits.1) refl
+
+pub parts-in-places : (ps : List Part) → AllByRecursion (λ p. p.generation < 2 ^ 64) ps
+    → parts_in (length ps) (places ps) ≡ ps
+unfolding places
+parts-in-places ps fits = parts-read ps (replicate (10 * (4 - length ps)) 0) fits
+
+pub length-parts : (ps : List Part) → length (flat_map part_bytes ps) ≡ 10 * length ps
+length-parts [] = refl
+length-parts (p ∷ ps) = omega (arith, length-parts ps)
+
+pub length-places : (ps : List Part) → length ps ≤ 4 → length (places ps) ≡ 40
+unfolding places
+length-places ps few =
+    let used = length-parts ps in
+    let unused : length {A = ℕ} (replicate (10 * (4 - length ps)) 0) ≡ 10 * (4 - length ps)
+    = length-replicate (10 * (4 - length ps)) 0 in
+    omega (
+      arith,
+      used,
+      unused,
+      length-append (flat_map part_bytes ps)
+          (replicate (10 * (4 - length ps)) 0),
+    )
+
+unused-zero : (n : ℕ) → list_all (λ byte. byte == 0) (replicate n 0) ≡ true
+unused-zero zero = refl
+unused-zero (suc n) = unused-zero n
+
+pub unused-places : (ps : List Part) → list_all (λ byte. byte == 0)
+    (drop (10 * length ps) (places ps)) ≡ true
+unfolding places
+unused-places ps =
+    let rest : List ℕ = replicate (10 * (4 - length ps)) 0 in
+    ap (list_all (λ byte. byte == 0)) (drop_at (flat_map part_bytes ps) rest (10 * length ps)
+    (length-parts ps))
+    ∙ unused-zero (10 * (4 - length ps))

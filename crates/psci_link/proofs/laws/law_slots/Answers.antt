@@ -1,0 +1,12 @@
+-- Each clause is a law of slots.
+use Rattle.psci_link.proofs.History.{look-after, look-after_all, outstanding-own}
+use Rattle.psci_link.proofs.laws.law_slots.Goals as goal
+
+pub returns-clause-changed : goal.returns-clause-changed
+returns-clause-changed c = look-after
+
+pub returns-clause-outstanding : goal.returns-clause-outstanding
+returns-clause-outstanding c = look-after_all
+
+pub returns-clause-own : goal.returns-clause-own
+returns-clause-own c = outstanding-own

@@ -1,0 +1,164 @@
+-- Frames: how each is spelled in bytes, and the first fault of bytes that spell none.
+use Rattle.std.specs.Prelude.{◌≡◌, ℕ, zero, suc, ◌+◌, ◌-◌, ◌*◌, ◌^◌, ◌<◌, Bool, true, false, not}
+use Rattle.std.specs.Prelude.{List, [], ◌∷◌, ◌++◌, length, flat_map, replicate, drop, slice_index}
+use Rattle.std.specs.Prelude.{slice_range, if◌then◌else◌, Option, Some, None, ◌&&◌, ◌==◌}
+use Rattle.std.specs.Prelude.{nat_lt, nat_le}
+use Rattle.std.specs.List.{list_all, AllByRecursion}
+use Rattle.std.specs.Int.{w32, w64, to_be_bytes, from_be_bytes}
+use Rattle.psci_board.specs.declared.node.Core.{Core}
+use Rattle.psci_board.specs.Board.{BoardValue, cores, height}
+use Rattle.psci_coord.specs.declared.part.Part.{Part}
+use Rattle.psci_link.specs.declared.frame.TheConstants.{FRAME_LEN, HEADER_LEN, PART_LEN, PART_PLACES}
+use Rattle.psci_link.specs.declared.kind.Kind.{Kind}
+use Rattle.psci_link.specs.declared.kind.Kind.TheVariants.{Down, Start, Off, Reset}
+use Rattle.psci_link.specs.declared.fault.FrameFault.{FrameFault}
+use Rattle.psci_link.specs.declared.fault.FrameFault.TheVariants as faults
+use Rattle.psci_link.specs.declared.frame.Frame.{Frame}
+use Rattle.psci_link.specs.declared.frame.Frame.TheVariants.{Message, Ack}
+use Rattle.psci_link.specs.declared.heading.Heading.{Heading}
+use Rattle.psci_link.specs.declared.heading.Heading.TheVariants as headings
+use Rattle.psci_link.specs.Message.{MessageValue, AckValue, IsMessage, IsAck}
+use Rattle.psci_link.specs.Message.{is_climbing, is_falling}
+use Rattle.psci_link.specs.Heading.{is_magic, heading_of, allows_count, parts_of}
+
+-- Spelling ------------------------------------------------------------------------------------
+
+-- the low half of a kind byte
+abbrev pub kind_code : Kind → ℕ
+kind_code Down = 1
+kind_code Start = 2
+kind_code Off = 3
+kind_code Reset = 4
+
+-- the kind byte: an acknowledgement has 1 in its high half, or 2 where it is stale
+abbrev pub kind_byte : Frame → ℕ
+kind_byte (Message m) = kind_code m.kind
+kind_byte (Ack a) = (if a.stale then 32 else 16) + kind_code a.kind
+
+-- the bytes before the parts
+abbrev pub header : ℕ → Core → ℕ → ℕ → ℕ → List ℕ
+header kind core life number count =
+    0x50 ∷ 0x44 ∷ kind ∷ core.number ∷ to_be_bytes w32 life ++
+    (to_be_bytes w32 number ++ count ∷ [])
+
+-- a part in its place of ten bytes
+abbrev pub part_bytes : Part → List ℕ
+part_bytes p = p.level ∷ p.depth ∷ to_be_bytes w64 p.generation
+
+-- the parts in the first of four places, and zeros in the others
+unfoldable pub places : List Part → List ℕ
+places ps = flat_map part_bytes ps ++ replicate (PART_LEN * (PART_PLACES - length ps)) 0
+
+-- the 53 bytes of a frame
+abbrev pub spelling : Frame → List ℕ
+spelling (Message m) =
+    header (kind_byte (Message m)) m.core m.life m.number (length m.parts) ++ places m.parts
+spelling (Ack a) = header (kind_byte (Ack a)) a.core a.life a.number a.applied ++ places []
+
+-- What has a spelling -------------------------------------------------------------------------
+
+-- numbers that their bytes can hold
+pub record MessageFits (m : MessageValue) : Type 0 where
+  pub message : IsMessage m
+  pub life : m.life < 2 ^ 32
+  pub number : m.number < 2 ^ 32
+  pub generations : AllByRecursion (λ p. p.generation < 2 ^ 64) m.parts
+
+-- the same of an acknowledgement
+pub record AckFits (a : AckValue) : Type 0 where
+  pub ack : IsAck a
+  pub life : a.life < 2 ^ 32
+  pub number : a.number < 2 ^ 32
+
+-- a frame that can be spelled
+abbrev pub IsFrame : Frame → Type 0
+IsFrame (Message m) = MessageFits m
+IsFrame (Ack a) = AckFits a
+
+-- no part is for a level above the height
+abbrev pub is_within : ℕ → List Part → Bool
+is_within height ps = list_all (λ p. nat_le p.level height) ps
+
+-- the board has the core and the levels of the frame
+abbrev pub IsOf : BoardValue → Frame → Type 0
+IsOf b (Message m) = (m.core.number < cores b) × (is_within (height b) m.parts ≡ true)
+IsOf b (Ack a) = a.core.number < cores b
+
+-- Reading -------------------------------------------------------------------------------------
+
+-- each is a byte; past the end stand zeros
+abbrev pub AreBytes : List ℕ → Type 0
+AreBytes bytes = (i : ℕ) → slice_index bytes i < 256
+
+-- the part whose place these bytes begin with
+abbrev pub part_in : List ℕ → Part
+part_in bytes = record {
+  level = slice_index bytes 0;
+  depth = slice_index bytes 1;
+  generation = from_be_bytes w64 (slice_range bytes 2 10);
+}
+
+-- the parts of so many places
+abbrev pub parts_in : ℕ → List ℕ → List Part
+parts_in zero bytes = []
+parts_in (suc n) bytes = part_in bytes ∷ parts_in n (drop PART_LEN bytes)
+
+-- the number of four bytes that begins at this one
+abbrev pub number_at : List ℕ → ℕ → ℕ
+number_at bytes start = from_be_bytes w32 (slice_range bytes start (start + 4))
+
+-- the four part places
+abbrev pub places_in : List ℕ → List ℕ
+places_in bytes = drop HEADER_LEN bytes
+
+-- the count
+abbrev pub count_in : List ℕ → ℕ
+count_in bytes = slice_index bytes 12
+
+-- the frame of this kind that these bytes hold
+unfoldable pub frame_in : Heading → List ℕ → Frame
+frame_in (headings.Message kind) bytes = Message (record {
+  kind = kind;
+  core = record { number = slice_index bytes 3 };
+  life = number_at bytes 4;
+  number = number_at bytes 8;
+  parts = parts_in (count_in bytes) (places_in bytes);
+})
+frame_in (headings.Ack kind stale) bytes = Ack (record {
+  kind = kind;
+  core = record { number = slice_index bytes 3 };
+  life = number_at bytes 4;
+  number = number_at bytes 8;
+  applied = count_in bytes;
+  stale = stale;
+})
+
+-- Faults --------------------------------------------------------------------------------------
+
+-- each byte of the part places after so many is zero
+abbrev pub is_unused_after : ℕ → List ℕ → Bool
+is_unused_after n bytes = list_all (λ byte. byte == 0) (drop (PART_LEN * n) (places_in bytes))
+
+-- the first fault of bytes of this kind
+unfoldable pub fault_of_kind : BoardValue → List ℕ → Heading → Option FrameFault
+fault_of_kind b bytes heading =
+    let n = parts_of heading (count_in bytes) in
+    let parts = parts_in n (places_in bytes) in
+    if not (allows_count heading (count_in bytes)) then Some faults.Count
+    else (if not (is_unused_after n bytes) then Some faults.Unused
+    else (if not (nat_lt (slice_index bytes 3) (cores b)) then Some faults.Core
+    else (if not (is_falling 3 parts) then Some faults.Depth
+    else (if not (is_climbing 0 parts && is_within (height b) parts) then Some faults.Level
+    else None))))
+
+-- the first fault, where the kind byte says this
+abbrev pub fault_at : BoardValue → List ℕ → Option Heading → Option FrameFault
+fault_at b bytes None = Some faults.Kind
+fault_at b bytes (Some heading) = fault_of_kind b bytes heading
+
+-- the first fault of bytes, where they are no frame of the board
+unfoldable pub first_fault : BoardValue → List ℕ → Option FrameFault
+first_fault b bytes =
+    if not (length bytes == FRAME_LEN) then Some faults.Length
+    else (if not (is_magic bytes) then Some faults.Magic
+    else fault_at b bytes (heading_of (slice_index bytes 2)))

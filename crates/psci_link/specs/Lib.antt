@@ -1,0 +1,5 @@
+pub mod Frame
+pub mod Heading
+pub mod Message
+pub mod Outstanding
+pub mod Slots

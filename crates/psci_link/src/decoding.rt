@@ -1,0 +1,206 @@
+//! Reading frames.
+
+ghost use Rattle.std.specs.Prelude.{◌≡◌, ◌≤◌, ◌<◌, ◌^◌, ◌+◌, ◌*◌, Ok, Some, None};
+ghost use Rattle.std.specs.Prelude.{MatchResult, IfOk, IfErr};
+ghost use Rattle.std.specs.Prelude.{length, drop, slice_index};
+ghost use Rattle.psci_link.specs.Message.{is_climbing, is_falling};
+ghost use Rattle.psci_link.specs.Heading.{parts_of, IsHeld, HasHeading};
+ghost use Rattle.psci_board.specs.Board.{BoardValue};
+ghost use Rattle.std.specs.List.{list_all};
+ghost use Rattle.std.specs.Prelude.{◌==◌, ◌&&◌};
+ghost use Rattle.psci_link.specs.Frame.{spelling, IsFrame, IsOf, is_within, part_in, parts_in};
+ghost use Rattle.psci_link.specs.Frame.{number_at};
+ghost use Rattle.psci_link.specs.Frame.{places_in, count_in, fault_of_kind};
+ghost use Rattle.psci_link.specs.Frame.{first_fault, frame_in};
+
+use crate::ack::Ack;
+use crate::encoding::MAGIC;
+use crate::fault::FrameFault;
+use crate::frame::{FRAME_LEN, Frame, HEADER_LEN, PART_LEN};
+use crate::heading::Heading;
+use crate::message::Message;
+use psci_board::{Board, Core};
+use psci_coord::{Part, Parts};
+
+/// The frame that the bytes are on this board, or their first fault.
+pub fn decode(bytes: &[u8], board: &Board) -> Result<Frame, FrameFault>
+    // What is read is spelled so, and the board's.
+    ensures read { IfOk result (λ frame. (spelling frame ≡ bytes.now) × IsOf board.now frame) }
+    // A frame of the board that is spelled so is read.
+    ensures spelled { (frame : Frame) → IsFrame frame → IsOf board.now frame
+        → spelling frame ≡ bytes.now → result ≡ Ok frame }
+    ensures fault { MatchResult result (λ _. first_fault board.now bytes.now ≡ None)
+        (λ fault. first_fault board.now bytes.now ≡ Some fault) }
+{
+    let heading = heading_in(bytes)?;
+    let parts = parts_on(board, heading, bytes)?;
+    Ok(frame_with(heading, bytes, parts))
+}
+
+/// What kind of frame bytes are, if they have the length and the beginning of one.
+#[tactic(auto, unfolding(crate::specs::Frame::first_fault))]
+fn heading_in(bytes: &[u8]) -> Result<Heading, FrameFault>
+    ensures kind { IfOk result (HasHeading bytes.now) }
+    ensures fault { IfErr result (λ fault. (b : BoardValue)
+        → first_fault b bytes.now ≡ Some fault) }
+{
+    if bytes.len() != FRAME_LEN {
+        return Err(FrameFault::Length);
+    }
+    if bytes[0] != MAGIC[0] || bytes[1] != MAGIC[1] {
+        return Err(FrameFault::Magic);
+    }
+    Heading::of(bytes[2]).ok_or(FrameFault::Kind)
+}
+
+/// The parts of a frame of this kind on this board, if nothing else is wrong with it.
+#[tactic(auto, unfolding(crate::specs::Frame::fault_of_kind))]
+fn parts_on(board: &Board, heading: Heading, bytes: &[u8]) -> Result<Parts, FrameFault>
+    requires { length bytes.now ≡ 53 }
+    ensures parts { IfOk result (λ parts. parts
+        ≡ parts_in (parts_of heading (count_in bytes.now)) (places_in bytes.now)) }
+    ensures fault { MatchResult result (λ _. fault_of_kind board.now bytes.now heading ≡ None)
+        (λ fault. fault_of_kind board.now bytes.now heading ≡ Some fault) }
+{
+    let count = bytes[12];
+    if !heading.allows_count(count) {
+        return Err(FrameFault::Count);
+    }
+    let used = heading.parts(count);
+    let (_, places) = bytes.split_at(HEADER_LEN);
+    let (_, unused) = places.split_at(PART_LEN * usize::from(used));
+    if !is_zero(unused) {
+        return Err(FrameFault::Unused);
+    }
+    if u16::from(bytes[3]) >= board.cores() {
+        return Err(FrameFault::Core);
+    }
+    let parts = parts_in(used, places);
+    let levels = parts.as_slice();
+    if !is_falling(3, levels) {
+        return Err(FrameFault::Depth);
+    }
+    if !has_levels(board.height(), levels) {
+        return Err(FrameFault::Level);
+    }
+    Ok(parts)
+}
+
+/// The frame of this kind that the bytes hold, with its parts.
+#[tactic(auto, unfolding(crate::specs::Frame::frame_in))]
+fn frame_with(heading: Heading, bytes: &[u8], parts: Parts) -> Frame
+    requires whole { length bytes.now ≡ 53 }
+    requires parts { parts
+        ≡ parts_in (parts_of heading (count_in bytes.now)) (places_in bytes.now) }
+    requires held { IsHeld heading (count_in bytes.now) parts }
+    ensures { result ≡ frame_in heading bytes.now }
+{
+    let core = Core {
+        number: u16::from(bytes[3]),
+    };
+    let life = number_at(bytes, 4);
+    let number = number_at(bytes, 8);
+    match heading {
+        Heading::Message(kind) => Frame::Message(Message {
+            kind,
+            core,
+            life,
+            number,
+            parts,
+        }),
+        Heading::Ack(kind, stale) => Frame::Ack(Ack {
+            kind,
+            core,
+            life,
+            number,
+            applied: bytes[12],
+            stale,
+        }),
+    }
+}
+
+/// Whether each byte is zero.
+fn is_zero(bytes: &[u8]) -> bool
+    ensures { result ≡ list_all (λ byte. byte == 0) bytes.now }
+{
+    bytes.iter().all(|&byte| byte == 0)
+}
+
+/// The part whose place these bytes begin with.
+fn part_in(bytes: &[u8]) -> Part
+    requires { 10 ≤ length bytes.now }
+    ensures { result ≡ part_in bytes.now }
+{
+    Part {
+        level: u32::from(bytes[0]),
+        depth: bytes[1],
+        generation: u64::from_be_bytes([
+            bytes[2], bytes[3], bytes[4], bytes[5], bytes[6], bytes[7], bytes[8], bytes[9],
+        ]),
+    }
+}
+
+/// The parts of so many places.
+fn parts_in(count: u8, places: &[u8]) -> Parts
+    requires few { count ≤ 4 }
+    requires room { 10 * count ≤ length places.now }
+    ensures { result ≡ parts_in count places.now }
+{
+    let mut parts = Parts::new();
+    for place in 0..usize::from(count) {
+        parts.push(part_in(&places[PART_LEN * place..]));
+    }
+    parts
+}
+
+/// The number of four bytes that begins at this one.
+fn number_at(bytes: &[u8], start: usize) -> u32
+    requires { start + 4 ≤ length bytes.now }
+    ensures { result ≡ number_at bytes.now start }
+{
+    u32::from_be_bytes([
+        bytes[start],
+        bytes[start + 1],
+        bytes[start + 2],
+        bytes[start + 3],
+    ])
+}
+
+/// Whether each depth is at least 1, and none is above the one before it, the first not above the
+/// given one.
+fn is_falling(most: u8, parts: &[Part]) -> bool
+    ensures { result ≡ is_falling most parts.now }
+{
+    match parts {
+        [] => true,
+        [part, above @ ..] => {
+            0 < part.depth && part.depth <= most && is_falling(part.depth, above)
+        }
+    }
+}
+
+/// Whether the levels count up from this one.
+fn is_climbing(level: u32, parts: &[Part]) -> bool
+    requires { level + length parts.now < 2 ^ 32 }
+    ensures { result ≡ is_climbing level parts.now }
+{
+    match parts {
+        [] => true,
+        [part, above @ ..] => part.level == level && is_climbing(level + 1, above),
+    }
+}
+
+/// Whether the levels count up from 0, none above the height.
+fn has_levels(height: u32, parts: &[Part]) -> bool
+    requires { length parts.now ≤ 4 }
+    ensures { result ≡ (is_climbing 0 parts.now && is_within height parts.now) }
+{
+    is_climbing(0, parts) && is_within(height, parts)
+}
+
+/// Whether no part is for a level above the height.
+fn is_within(height: u32, parts: &[Part]) -> bool
+    ensures { result ≡ is_within height parts.now }
+{
+    parts.iter().all(|part| part.level <= height)
+}

@@ -1,0 +1,91 @@
+//! Writing frames.
+
+ghost use Rattle.std.specs.Prelude.{◌≡◌, ◌++◌, ◌≤◌, ◌<◌, ◌^◌, length};
+ghost use Rattle.std.specs.Prelude.{true};
+ghost use Rattle.std.specs.List.{AllByRecursion};
+ghost use Rattle.psci_link.specs.Frame.{kind_code, header, part_bytes, places, spelling, IsFrame};
+ghost use Rattle.psci_link.specs.Message.{is_climbing};
+
+use crate::frame::{FRAME_LEN, Frame, HEADER_LEN, PART_LEN, PART_PLACES};
+use crate::kind::Kind;
+use psci_board::Core;
+use psci_coord::Part;
+
+/// The first two bytes of a frame.
+pub(crate) const MAGIC: [u8; 2] = [0x50, 0x44];
+
+/// The bytes of a frame.
+pub fn encode(frame: &Frame) -> [u8; FRAME_LEN]
+    ensures spelled { result ≡ spelling frame.now }
+    ensures frame { IsFrame frame.now }
+{
+    match frame {
+        Frame::Message(message) => {
+            let parts = message.parts.as_slice();
+            let kind = kind_code(message.kind);
+            let count = parts.len() as u8;
+            let header = header(kind, message.core, message.life, message.number, count);
+            joined(header, parts)
+        }
+        Frame::Ack(ack) => {
+            let kind = kind_code(ack.kind) + if ack.stale { 0x20 } else { 0x10 };
+            joined(
+                header(kind, ack.core, ack.life, ack.number, ack.applied),
+                &[],
+            )
+        }
+    }
+}
+
+/// The low half of a kind byte.
+fn kind_code(kind: Kind) -> u8
+    ensures { result ≡ kind_code kind }
+{
+    match kind {
+        Kind::Down => 0x01,
+        Kind::Start => 0x02,
+        Kind::Off => 0x03,
+        Kind::Reset => 0x04,
+    }
+}
+
+/// The bytes before the parts.
+fn header(kind: u8, core: Core, life: u32, number: u32, count: u8) -> [u8; HEADER_LEN]
+    requires { core.number < 256 }
+    ensures bytes { result ≡ header kind core life number count }
+    ensures fits { (life < 2 ^ 32) × (number < 2 ^ 32) }
+{
+    let core = core.number as u8;
+    let [a, b, c, d] = life.to_be_bytes();
+    let [e, f, g, h] = number.to_be_bytes();
+    [
+        MAGIC[0], MAGIC[1], kind, core, a, b, c, d, e, f, g, h, count,
+    ]
+}
+
+/// The header and the parts, and zeros in the places that are not used.
+fn joined(header: [u8; HEADER_LEN], parts: &[Part]) -> [u8; FRAME_LEN]
+    requires few { length parts.now ≤ PART_PLACES }
+    requires levels { is_climbing 0 parts.now ≡ true }
+    ensures bytes { result ≡ header ++ places parts.now }
+    ensures fits { AllByRecursion (λ part. part.generation < 2 ^ 64) parts.now }
+{
+    let mut bytes = [0; FRAME_LEN];
+    bytes[..HEADER_LEN].copy_from_slice(&header);
+    let mut end = HEADER_LEN;
+    for part in parts {
+        bytes[end..end + PART_LEN].copy_from_slice(&part_bytes(part));
+        end += PART_LEN;
+    }
+    bytes
+}
+
+/// A part in its place.
+fn part_bytes(part: &Part) -> [u8; PART_LEN]
+    requires { part.now.level < 256 }
+    ensures bytes { result ≡ part_bytes part.now }
+    ensures fits { part.now.generation < 2 ^ 64 }
+{
+    let [a, b, c, d, e, f, g, h] = part.generation.to_be_bytes();
+    [part.level as u8, part.depth, a, b, c, d, e, f, g, h]
+}

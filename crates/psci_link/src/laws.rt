@@ -1,0 +1,40 @@
+//! What holds of frames, and of outstanding messages over every history.
+
+ghost use Rattle.std.specs.Prelude.{◌≡◌, ℕ, List, None, Some, true, length};
+ghost use Rattle.psci_board.specs.Board.{BoardValue};
+ghost use Rattle.psci_link.specs.declared.frame.Frame.{Frame};
+ghost use Rattle.psci_link.specs.Frame.{AreBytes, IsFrame, IsOf, spelling, first_fault};
+ghost use Rattle.psci_link.specs.Message.{MessageValue, IsClaim, PartByPart};
+ghost use Rattle.psci_coord.specs.declared.part.Part.{Part};
+ghost use Rattle.psci_link.specs.Slots.{SlotsValue, Slot, slot_of, is_slot, message_in, Change};
+ghost use Rattle.psci_link.specs.Slots.{after, after_all, changed};
+ghost use Rattle.psci_link.specs.Outstanding.{outstanding, IsChange, AreChanges};
+
+/// Bytes are a frame of the board exactly where they have no fault, and no other frame.
+pub fn law_frames()
+    ensures length { (f : Frame) → IsFrame f → length (spelling f) ≡ 53 }
+    ensures one { (f g : Frame) → IsFrame f → IsFrame g → spelling f ≡ spelling g → f ≡ g }
+    ensures spelled { (b : BoardValue) (f : Frame) → IsFrame f → IsOf b f
+        → first_fault b (spelling f) ≡ None }
+    ensures read { (b : BoardValue) (bytes : List ℕ) → AreBytes bytes → first_fault b bytes ≡ None
+        → (f : Frame) × IsFrame f × IsOf b f × (spelling f ≡ bytes) }
+{}
+
+/// A list of parts is a claim exactly where each of its parts is as it should be.
+pub fn law_parts()
+    ensures claim { (ps : List Part) → PartByPart ps → IsClaim ps }
+    ensures parts { (ps : List Part) → IsClaim ps → PartByPart ps }
+{}
+
+/// The slots hold what the history of changes says.
+pub fn law_slots()
+    // What each change leaves in each slot.
+    ensures changed { (slots : SlotsValue) (change : Change) → IsChange (length slots.cores) change
+        → (slot : Slot) → message_in (after slots change) slot
+        ≡ changed slot change (message_in slots slot) }
+    ensures outstanding { (cores : ℕ) (changes : List Change) → AreChanges cores changes
+        → (slot : Slot) → message_in (after_all cores changes) slot ≡ outstanding slot changes }
+    // A slot holds only messages of its own core, or of the system.
+    ensures own { (slot : Slot) (changes : List Change) (m : MessageValue)
+        → outstanding slot changes ≡ Some m → is_slot (slot_of m.kind m.core) slot ≡ true }
+{}

@@ -1,0 +1,36 @@
+//! What crosses between the firmware and the power controller: messages and their
+//! acknowledgements, the frames that carry them, and the messages that wait for an acknowledgement.
+//!
+//! - A *message* asks the power controller to power down, start, switch off or reset. It is named
+//!   by its kind, core, life and number.
+//! - An *acknowledgement* names the message that it answers, and says what was carried out.
+//! - A *frame* is a message or an acknowledgement as 53 bytes.
+//! - A message is *outstanding* from when it is sent until it is acknowledged or given up. One of
+//!   each core and one of the system may be outstanding.
+#![tactic(auto)]
+
+mod ack;
+mod decoding;
+mod encoding;
+mod fault;
+mod frame;
+mod heading;
+mod kind;
+mod laws;
+mod message;
+mod slots;
+mod taken;
+
+pub use ack::Ack;
+pub use decoding::decode;
+pub use encoding::encode;
+pub use fault::FrameFault;
+pub use frame::{FRAME_LEN, Frame, PART_PLACES};
+pub use kind::Kind;
+pub use laws::{law_frames, law_parts, law_slots};
+pub use message::Message;
+pub use slots::Slots;
+pub use taken::Taken;
+
+#[cfg(test)]
+mod tests;
