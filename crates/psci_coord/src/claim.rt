@@ -1,8 +1,7 @@
 //! The parts that a core sends when it stops.
 
 ghost use Rattle.std.specs.Prelude.{◌≡◌, ◌<◌};
-ghost use Rattle.psci_board.specs.Board.{cores};
-ghost use Rattle.psci_tree.specs.Recount.{HasDomain};
+ghost use Rattle.psci_board.specs.Board.{HasNodeIn, cores};
 ghost use Rattle.psci_coord.specs.Claim.{claim_of, platform_claim, own_claim};
 ghost use Rattle.psci_coord.specs.Wish.{depth_of, wanted};
 ghost use Rattle.psci_coord.specs.Looked.{view_of};
@@ -25,7 +24,7 @@ enum Wish {
 impl Wish {
     /// The depth that is wanted of a domain.
     fn depth(&self, tree: &Tree, node: Node) -> u8
-        requires { HasDomain tree.now.levels node }
+        requires { HasNodeIn tree.now.levels node }
         ensures { result ≡ depth_of tree.now node self.now }
     {
         match self {

@@ -1,8 +1,8 @@
 //! The last-core check.
 
 ghost use Rattle.std.specs.Prelude.{◌≡◌, ◌≢◌, ◌<◌, ◌≤◌};
-ghost use Rattle.psci_board.specs.Board.{IsBoard, cores};
-ghost use Rattle.psci_tree.specs.Recount.{HasDomain, active, granted_at};
+ghost use Rattle.psci_board.specs.Board.{HasNodeIn, IsBoard, cores};
+ghost use Rattle.psci_tree.specs.Recount.{active, granted_at};
 ghost use Rattle.psci_coord.specs.LastCore.{beside, children_of, granted_less, last_core_check};
 ghost use Rattle.psci_coord.specs.LastCore.{refusal, shallow};
 ghost use Rattle.psci_coord.specs.Looked.{view_of};
@@ -66,7 +66,7 @@ fn level_refusal(tree: &Tree, board: &Board, above: Node, own: u16, depth: u8) -
 /// Why a request for this depth of a domain is refused by this child: it is neither on the path nor
 /// was it granted as much.
 fn child_refusal(tree: &Tree, child: Node, own: u16, depth: u8) -> Option<Osi>
-    requires { HasDomain tree.now.levels child }
+    requires { HasNodeIn tree.now.levels child }
     ensures own { child.place ≡ own → result ≡ None }
     ensures deep { child.place ≢ own → depth ≤ granted_at tree.now child.level child.place
         → result ≡ None }
