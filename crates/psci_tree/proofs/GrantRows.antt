@@ -123,11 +123,29 @@ core_runs_on v = absurd (omega (arith, (v.asks 1).least))
 ask_grows : IsDomainTree (asking (2 ∷ 3 ∷ 0 ∷ 0 ∷ [])) → ⊥
 ask_grows v = absurd (omega (arith, (v.asks 1).falls 0))
 
--- four levels, a core too many, a row too few
-too_high : IsDomainTree (record tree { levels = (1 ∷ []) ∷ (1 ∷ []) ∷ (1 ∷ []) ∷ (1 ∷ []) ∷ [] })
-    → ⊥
+-- four levels, of one domain each
+abbrev four_levels : TreeValue
+four_levels = record {
+  levels = (1 ∷ []) ∷ (1 ∷ []) ∷ (1 ∷ []) ∷ (1 ∷ []) ∷ [];
+  cores = never_started ∷ [];
+  granted = (0 ∷ []) ∷ (0 ∷ []) ∷ (0 ∷ []) ∷ (0 ∷ []) ∷ (0 ∷ []) ∷ [];
+}
+
+too_high : IsDomainTree four_levels → ⊥
 too_high v = absurd (omega (arith, v.high))
 
+-- two domains at the top
+abbrev two_systems : TreeValue
+two_systems = record {
+  levels = (1 ∷ 1 ∷ []) ∷ [];
+  cores = never_started ∷ never_started ∷ [];
+  granted = (0 ∷ 0 ∷ []) ∷ (0 ∷ []) ∷ [];
+}
+
+no_tree : IsDomainTree two_systems → ⊥
+no_tree v = absurd (omega (arith, v.tree.0))
+
+-- three cores too few, and no row
 core_missing : IsDomainTree (record tree { cores = never_started ∷ [] }) → ⊥
 core_missing v = absurd (omega (arith, v.cores))
 
