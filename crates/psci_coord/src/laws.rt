@@ -38,7 +38,8 @@ pub fn law_off()
 {}
 
 /// An OS-initiated request that is accepted asks no more of a domain than each other core below it
-/// asks of itself, provided that no granted depth is more than was asked.
+/// asks of itself, provided that no domain is granted more than the one below it on a path, nor
+/// than a core below asks of itself.
 pub fn law_last_core()
     ensures { (b : BoardValue) (v : PowerView) (core : ℕ) (ask : List ℕ) → IsBoard b
         → core < cores b → LastCoreLaws b v core ask }

@@ -14,7 +14,7 @@ use Rattle.psci_model.specs.declared.status.Status.TheVariants.{On, Off, Pending
 use Rattle.psci_model.specs.Outcomes.{returns}
 use Rattle.psci_model.specs.Values.{Values}
 
--- a core that is off may be started, unless it has used up its starts of this life
+-- a core that is off may be started, unless its known start is the start limit
 abbrev pub off_target : BoardValue → Values → Core → Status → Result Core Code
 off_target b v target On = Err already_on
 off_target b v target Pending = Err on_pending
@@ -30,7 +30,7 @@ target_among b v entry_point (Some target) =
     else Err invalid_address
 
 -- The core that a CPU_ON starts, or why it starts none: the target is looked at first, then the
--- entry point, then what the target does, and last how often it was started.
+-- entry point, then what the target does, and last its known start.
 unfoldable pub target_of : BoardValue → Values → ℕ → ℕ → Result Core Code
 target_of b v target entry_point = target_among b v entry_point (core_of b target)
 
