@@ -1,1 +1,4 @@
-mod Rows
+mod CodeRows
+mod FeatureRows
+mod RequestRows
+mod ResultRows

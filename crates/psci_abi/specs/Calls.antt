@@ -1,32 +1,40 @@
 -- The function words, the arguments and the results of a call.
-use Rattle.std.specs.Prelude.{ℕ, ◌%◌, ◌/◌, ◌^◌, Bool, true, false}
-use Rattle.std.specs.Prelude.{◌==◌, if◌then◌else◌, ℤ, pos, negsuc}
+use Rattle.std.specs.Prelude.{ℕ, ◌%◌, ◌/◌, ◌^◌, Bool, true, false, ◌||◌}
+use Rattle.std.specs.Prelude.{◌==◌, if◌then◌else◌, ℤ, pos}
 use Rattle.std.specs.Int.{cast_unsigned, w32, w64}
+use Rattle.psci_abi.specs.Codes.{not_supported}
 use Rattle.psci_abi.specs.declared.code.Code.{Code}
 use Rattle.psci_abi.specs.declared.registers.Regs.{Regs}
 use Rattle.psci_abi.specs.declared.request.Request.{Request}
 use Rattle.psci_abi.specs.declared.request.Request.TheVariants.{Version, CpuOn, AffinityInfo}
 use Rattle.psci_abi.specs.declared.request.Request.TheVariants.{MigrateInfoType, Features, Unknown}
 
--- An argument of 32 bits is the low half of its register.
+-- the low half of a register, or of an argument: the function word, and what has 32 bits
 abbrev pub low : ℕ → ℕ
 low x = x % 2 ^ 32
-
--- The table of function words (DEN0022D). CPU_ON and AFFINITY_INFO have a word in each convention.
-abbrev pub request_of : Regs → Request
-request_of r =
-    (if low r.x0 == 0x84000000 then Version
-    else (if low r.x0 == 0x84000003 then CpuOn (low r.x1) (low r.x2) (low r.x3)
-    else (if low r.x0 == 0xC4000003 then CpuOn r.x1 r.x2 r.x3
-    else (if low r.x0 == 0x84000004 then AffinityInfo (low r.x1) (low r.x2)
-    else (if low r.x0 == 0xC4000004 then AffinityInfo r.x1 (low r.x2)
-    else (if low r.x0 == 0x84000006 then MigrateInfoType
-    else (if low r.x0 == 0x8400000A then Features (low r.x1)
-    else Unknown)))))))
 
 -- the SMC64 convention: bit 30 of the function word
 abbrev pub is_wide : Regs → Bool
 is_wide r = r.x0 / 2 ^ 30 % 2 == 1
+
+-- an argument as the convention passes it: all of its register (SMC64), or the low half (SMC32)
+abbrev pub argument : Regs → ℕ → ℕ
+argument r register = if is_wide r then register else low register
+
+-- The table of functions (DEN0022D), by the function word and the arguments. A function without a
+-- word in the SMC64 convention is unknown there; a level and a feature word have 32 bits in both.
+abbrev pub function_of : ℕ → ℕ → ℕ → ℕ → Request
+function_of word x1 x2 x3 =
+    (if word == 0x84000000 then Version
+    else (if word == 0x84000003 || word == 0xC4000003 then CpuOn x1 x2 x3
+    else (if word == 0x84000004 || word == 0xC4000004 then AffinityInfo x1 (low x2)
+    else (if word == 0x84000006 then MigrateInfoType
+    else (if word == 0x8400000A then Features (low x1)
+    else Unknown)))))
+
+-- the function that registers call, and its arguments
+abbrev pub request_of : Regs → Request
+request_of r = function_of (low r.x0) (argument r r.x1) (argument r r.x2) (argument r r.x3)
 
 -- whether the table has the function
 abbrev pub is_known : Request → Bool
@@ -39,11 +47,11 @@ is_known Unknown = false
 
 -- which function words are supported: those of the table
 abbrev pub is_supported : ℕ → Bool
-is_supported word = is_known (request_of (record { x0 = word; x1 = 0; x2 = 0; x3 = 0 }))
+is_supported word = is_known (function_of word 0 0 0)
 
 -- what PSCI_FEATURES answers: no function has a feature flag yet
 abbrev pub features_of : ℕ → ℤ
-features_of word = if is_supported word then pos 0 else negsuc 0
+features_of word = if is_supported word then pos 0 else not_supported.0
 
 -- a result register: the code over 64 bits, or over the low 32 with the upper half zero
 abbrev pub register_of : ℤ → Bool → ℕ

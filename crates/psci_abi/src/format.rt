@@ -3,8 +3,8 @@
 ghost use Rattle.std.specs.Prelude.{◌≡◌};
 ghost use Rattle.psci_abi.specs.Calls.{features_of};
 
-use crate::registers::Regs;
-use crate::request::{Request, read};
+use crate::code::Code;
+use crate::request::{Request, function};
 
 /// How power state words are written (DEN0022D, CPU_SUSPEND, the parameter power_state).
 #[derive(Clone, Copy, Debug, PartialEq, Eq)]
@@ -23,14 +23,8 @@ pub fn features(word: u32, format: Format) -> i32
     ensures { result ≡ features_of word }
 {
     let _ = format;
-    let call = Regs {
-        x0: u64::from(word),
-        x1: 0,
-        x2: 0,
-        x3: 0,
-    };
-    match read(call) {
-        Request::Unknown => -1,
+    match function(word, 0, 0, 0) {
+        Request::Unknown => Code::NOT_SUPPORTED.0,
         _ => 0,
     }
 }

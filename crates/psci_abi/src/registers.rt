@@ -1,7 +1,7 @@
 //! The registers of a call.
 
-ghost use Rattle.std.specs.Prelude.{◌≡◌};
-ghost use Rattle.psci_abi.specs.Calls.{is_wide, result_of};
+ghost use Rattle.std.specs.Prelude.{◌≡◌, map, [], ◌∷◌};
+ghost use Rattle.psci_abi.specs.Calls.{argument, is_wide, result_of};
 
 use crate::code::Code;
 
@@ -38,6 +38,18 @@ impl Regs {
         ensures { result ≡ is_wide self.now }
     {
         (self.x0 >> 30) % 2 == 1
+    }
+
+    /// The arguments as the convention passes them: all of x1 to x3, or the low half of each.
+    pub(crate) fn arguments(&self) -> [u64; 3]
+        ensures { result ≡ map (argument self.now) (self.now.x1 ∷ self.now.x2 ∷ self.now.x3 ∷ []) }
+    {
+        let registers = [self.x1, self.x2, self.x3];
+        if self.is_wide() {
+            registers
+        } else {
+            registers.map(|register| u64::from(low(register)))
+        }
     }
 
     /// The register x0 in which the caller of these registers finds a return code.

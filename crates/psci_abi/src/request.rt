@@ -1,7 +1,7 @@
 //! A function and its arguments.
 
 ghost use Rattle.std.specs.Prelude.{◌≡◌};
-ghost use Rattle.psci_abi.specs.Calls.{request_of};
+ghost use Rattle.psci_abi.specs.Calls.{function_of, request_of};
 
 use crate::registers::{Regs, low};
 use crate::words::{
@@ -44,32 +44,44 @@ pub enum Request {
     Unknown,
 }
 
+impl Request {
+    /// CPU_ON with these arguments.
+    fn cpu_on(target: u64, entry: u64, context: u64) -> Request
+        ensures { result ≡ Request.CpuOn target entry context }
+    {
+        Request::CpuOn {
+            target,
+            entry,
+            context,
+        }
+    }
+
+    /// AFFINITY_INFO with these arguments.
+    fn affinity_info(target: u64, level: u32) -> Request
+        ensures { result ≡ Request.AffinityInfo target level }
+    {
+        Request::AffinityInfo { target, level }
+    }
+}
+
 /// The function that the registers call. Every value of every register has one answer.
 pub fn read(regs: Regs) -> Request
     ensures { result ≡ request_of regs }
 {
-    match low(regs.x0) {
+    let [x1, x2, x3] = regs.arguments();
+    function(low(regs.x0), x1, x2, x3)
+}
+
+/// The function of a word, with its arguments as the word's convention passes them.
+pub(crate) fn function(word: u32, x1: u64, x2: u64, x3: u64) -> Request
+    ensures { result ≡ function_of word x1 x2 x3 }
+{
+    match word {
         PSCI_VERSION => Request::Version,
-        CPU_ON_32 => Request::CpuOn {
-            target: u64::from(low(regs.x1)),
-            entry: u64::from(low(regs.x2)),
-            context: u64::from(low(regs.x3)),
-        },
-        CPU_ON_64 => Request::CpuOn {
-            target: regs.x1,
-            entry: regs.x2,
-            context: regs.x3,
-        },
-        AFFINITY_INFO_32 => Request::AffinityInfo {
-            target: u64::from(low(regs.x1)),
-            level: low(regs.x2),
-        },
-        AFFINITY_INFO_64 => Request::AffinityInfo {
-            target: regs.x1,
-            level: low(regs.x2),
-        },
+        CPU_ON_32 | CPU_ON_64 => Request::cpu_on(x1, x2, x3),
+        AFFINITY_INFO_32 | AFFINITY_INFO_64 => Request::affinity_info(x1, low(x2)),
         MIGRATE_INFO_TYPE => Request::MigrateInfoType,
-        PSCI_FEATURES => Request::Features { word: low(regs.x1) },
+        PSCI_FEATURES => Request::Features { word: low(x1) },
         _ => Request::Unknown,
     }
 }

@@ -59,17 +59,3 @@ fn arguments_are_cut(rt: HostRuntime) {
         }
     );
 }
-
-#[test]
-fn return_codes(rt: HostRuntime) {
-    assert_eq!(rt; Code::SUCCESS, Code(0));
-    assert_eq!(rt; Code::NOT_SUPPORTED, Code(-1));
-    assert_eq!(rt; Code::INVALID_PARAMETERS, Code(-2));
-    assert_eq!(rt; Code::DENIED, Code(-3));
-    assert_eq!(rt; Code::ALREADY_ON, Code(-4));
-    assert_eq!(rt; Code::ON_PENDING, Code(-5));
-    assert_eq!(rt; Code::INTERNAL_FAILURE, Code(-6));
-    assert_eq!(rt; Code::NOT_PRESENT, Code(-7));
-    assert_eq!(rt; Code::DISABLED, Code(-8));
-    assert_eq!(rt; Code::INVALID_ADDRESS, Code(-9));
-}

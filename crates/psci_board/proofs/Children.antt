@@ -16,7 +16,7 @@ use Rattle.psci_board.proofs.Parts.{among, same_kept, place_by_place}
 use Rattle.psci_board.proofs.Paths.{place_above-suc, inside, ordered}
 
 -- the numbers of children of the level above this one
-abbrev counts : BoardValue → ℕ → List ℕ
+abbrev pub counts : BoardValue → ℕ → List ℕ
 counts b l = get_or b.levels l []
 
 -- q is the place of a child of the node at p

@@ -10,12 +10,14 @@ use Rattle.psci_board.specs.declared.range.AddressRange.{AddressRange}
 use Rattle.psci_board.specs.declared.fault.BoardFault.{BoardFault}
 use Rattle.psci_board.specs.declared.fault.BoardFault.TheVariants.{Uneven, TooWide, TooManyCores}
 use Rattle.psci_board.specs.declared.fault.BoardFault.TheVariants.{BadRange, BadBoot, BadLimit}
-use Rattle.psci_board.specs.declared.text_seen.TextSeen.{TextSeen}
+use Rattle.psci_board.specs.declared.text.TextSummary.{TextSummary}
 use Rattle.psci_board.specs.Grammar.{BoardText}
 use Rattle.psci_board.specs.Board.{BoardValue, is_in_some, IsBoard}
-use Rattle.psci_board.specs.Seen.{SeenTree, SeenRanges}
-use Rattle.psci_board.specs.Summary.{text_seen, board_seen, fault_in}
-use Rattle.psci_board.specs.Verdict.{clusters, range_of, has_bad_range, board_in, is_limit, verdict}
+use Rattle.psci_board.specs.Summary.{TreeSummaryValue, RangesSummaryValue}
+use Rattle.psci_board.specs.SummaryVerdict.{text_summary, summary_board, fault_in}
+use Rattle.psci_board.specs.Reading.{board_text}
+use Rattle.psci_board.specs.Verdict.{board_of, verdict_or, clusters, range_of, has_bad_range}
+use Rattle.psci_board.specs.Verdict.{board_in, is_limit, verdict}
 use Rattle.psci_board.proofs.Kept.{kept_ranges, kept_all_ranges}
 use Rattle.psci_board.proofs.KeptTree.{IsFull, kept_tree, tree_is_kept, uneven_kept, wide_kept}
 use Rattle.psci_board.proofs.KeptTree.{total_kept, levels_kept, is_tree, heights, within}
@@ -81,7 +83,7 @@ next true false f y o v e h = cc
 next false true f y o v e h = cc
 next false false f y o v e h = h refl
 
-abbrev pub kept_text : BoardText → TextSeen
+abbrev pub kept_text : BoardText → TextSummary
 kept_text t = record {
   tree = kept_tree t.tree;
   ranges = kept_ranges (map range_of t.ranges);
@@ -100,7 +102,7 @@ same_board : {a b : List (List ℕ)} {c d : List AddressRange} (boot starts live
 same_board boot starts lives p q = cc
 
 decided_by : (t : BoardText) → IsFull t.tree
-    → verdict t ≡ said (fault_in (kept_text t)) (board_seen (kept_text t))
+    → verdict t ≡ said (fault_in (kept_text t)) (summary_board (kept_text t))
 unfolding verdict fault_in
 decided_by t full =
     let rs = map range_of t.ranges in
@@ -115,17 +117,27 @@ decided_by t full =
     ap Ok (same_board boot t.starts t.lives (sym (levels_kept t.tree full w (within 64 _ f)))
     (sym (all_ranges rs r)))))))))
 
-same_kept : {a b : SeenTree} {c d : SeenRanges} (boot starts lives : ℕ) → a ≡ b → c ≡ d
-    → ◌≡◌ {A = TextSeen}
+same_kept : {a b : TreeSummaryValue} {c d : RangesSummaryValue} (boot starts lives : ℕ) → a ≡ b
+    → c ≡ d
+    → ◌≡◌ {A = TextSummary}
     (record { tree = a; ranges = c; boot = boot; starts = starts; lives = lives })
     (record { tree = b; ranges = d; boot = boot; starts = starts; lives = lives })
 same_kept boot starts lives p q = cc
 
-text_is_kept : (t : BoardText) → text_seen t ≡ kept_text t
+text_is_kept : (t : BoardText) → text_summary t ≡ kept_text t
 text_is_kept t = same_kept (digits_value 16 t.boot) t.starts t.lives (tree_is_kept t.tree)
     (kept_all_ranges [] t.ranges)
 
 pub decided : (t : BoardText) → IsFull t.tree
-    → verdict t ≡ said (fault_in (text_seen t)) (board_seen (text_seen t))
-decided t full = subst (λ (s : TextSeen). verdict t ≡ said (fault_in s) (board_seen s))
+    → verdict t ≡ said (fault_in (text_summary t)) (summary_board (text_summary t))
+decided t full = subst (λ (s : TextSummary). verdict t ≡ said (fault_in s) (summary_board s))
     (sym (text_is_kept t)) (decided_by t full)
+
+-- the board of the bytes of a text is a board
+pub board_of_text : (bytes : List ℕ) (b : BoardValue) → board_of bytes ≡ Ok b → IsBoard b
+unfolding board_of
+board_of_text bytes b e = of_text (board_text bytes) e
+  where
+    of_text : (o : Option BoardText) → verdict_or o ≡ Ok b → IsBoard b
+    of_text None h = cc
+    of_text (Some t) h = is_board t b h

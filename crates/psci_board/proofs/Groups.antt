@@ -6,10 +6,12 @@ use Rattle.std.specs.List.{AllPass}
 use Rattle.std.proofs.lemmas.Bool.{cases_lt}
 use Rattle.std.proofs.lemmas.Bool.Decides.{nat_tests}
 use Rattle.std.proofs.lemmas.List.{get_or_append_left, get_or_push, get_or_past, length_push}
+use Rattle.std.proofs.lemmas.List.{get_or_default}
 use Rattle.std.proofs.lemmas.List.Sums.{sum_by-cons}
 use Rattle.psci_board.specs.Board.{group_of, place_in, is_width}
+use Rattle.psci_board.specs.Level.{IsIndexed}
 
-sum-cons : (n : ℕ) (ns : List ℕ) → sum (n ∷ ns) ≡ n + sum ns
+pub sum-cons : (n : ℕ) (ns : List ℕ) → sum (n ∷ ns) ≡ n + sum ns
 sum-cons n ns = sum_by-cons (λ x. x) n ns
 
 -- i is the p-th of the g-th group
@@ -130,3 +132,25 @@ one_more_child w ps qs g k h l n each e i j = elim (cases_lt i (length ps)) [
       let last : length ps ≡ i = omega (arith, length_push ps g) in
       rw (e, get_or_push ps g 0 i last) (sym (stands_at w g k i h l (omega arith)).group)
 ]
+
+-- Numbers among siblings --------------------------------------------------------------------------
+
+-- the i-th child, whose parent is the p-th node, begins at q among its siblings
+pub record Numbered (w first : List ℕ) (i p : ℕ) : Type 0 where
+  pub inside : p < length first
+  pub starts : (q : ℕ) → q ≡ get_or first p q → q ≤ i
+  pub number : (q : ℕ) → q ≡ get_or first p q → i - q ≡ place_in w i
+
+pub numbered : (w counts first parent : List ℕ) (i p : ℕ) → counts ≡ w
+    → IsIndexed counts first parent → i < sum w → p ≡ group_of w i → Numbered w first i p
+numbered w counts first parent i p same indexed h e =
+    let c = counted w i h in
+    let here : p < length counts = rw same (omega (arith, c.group)) in
+    let inside : p < length first = omega (arith, indexed.nodes) in
+    let from : get_or first p 0 ≡ sum (take p w) = rw (← same) (indexed.firsts p here) in
+    let whole : sum (take p w) + place_in w i ≡ i = rw e c.whole in
+    record {
+      inside = inside;
+      starts = λ q d. omega (arith, get_or_default first p 0 q inside);
+      number = λ q d. omega (arith, get_or_default first p 0 q inside);
+    }

@@ -10,10 +10,11 @@ use Rattle.std.proofs.lemmas.List.Folds.{list_any-append}
 use Rattle.std.proofs.lemmas.List.Sums.{sum_by-append}
 use Rattle.std.proofs.lemmas.Grind.{flat_map-append}
 use Rattle.psci_board.specs.declared.range.AddressRange.{AddressRange}
-use Rattle.psci_board.specs.Grammar.{Mid}
-use Rattle.psci_board.specs.Grammar.Mid.{Number, Group}
-use Rattle.psci_board.specs.Seen.{SeenNumbers, with_number, with_numbers, SeenTree, with_member}
-use Rattle.psci_board.specs.Seen.{with_members, SeenRanges, with_range, with_ranges}
+use Rattle.psci_board.specs.Grammar.{Member}
+use Rattle.psci_board.specs.Grammar.Member.{Cluster, Group}
+use Rattle.psci_board.specs.Summary.{NumbersSummaryValue, with_number, with_numbers}
+use Rattle.psci_board.specs.Summary.{TreeSummaryValue, with_member}
+use Rattle.psci_board.specs.Summary.{with_members, RangesSummaryValue, with_range, with_ranges}
 use Rattle.psci_board.specs.Verdict.{is_out_of_width, is_group, numbers_in, range_of, has_bad_range}
 
 -- the first of the first, and more, are the first of all
@@ -27,16 +28,16 @@ take_more (suc n) (x ∷ xs) ys = ap (λ l. x ∷ l) (take_more n xs ys)
 abbrev pub capped : ℕ → ℕ
 capped n = min n 17
 
-abbrev pub kept_numbers : List ℕ → SeenNumbers
+abbrev pub kept_numbers : List ℕ → NumbersSummaryValue
 kept_numbers ns = record {
   first = take 64 (map capped ns);
   total = min (sum ns) 65;
-  wide = list_any is_out_of_width ns;
+  bad_width = list_any is_out_of_width ns;
 }
 
 same_numbers : {a b : List ℕ} {c d : ℕ} {e f : Bool} → a ≡ b → c ≡ d → e ≡ f
-    → ◌≡◌ {A = SeenNumbers} (record { first = a; total = c; wide = e })
-    (record { first = b; total = d; wide = f })
+    → ◌≡◌ {A = NumbersSummaryValue} (record { first = a; total = c; bad_width = e })
+    (record { first = b; total = d; bad_width = f })
 same_numbers p q r = cc
 
 or_false : (b : Bool) → (b || false) ≡ b
@@ -62,25 +63,33 @@ kept_more ms (n ∷ ns) =
 
 -- Members ------------------------------------------------------------------------------------
 
-abbrev pub size : Mid → ℕ
+abbrev pub size : Member → ℕ
 size m = length (numbers_in m)
 
-abbrev pub is_number_alone : Mid → Bool
+abbrev pub is_number_alone : Member → Bool
 is_number_alone m = not (is_group m)
 
-abbrev pub kept_members : List Mid → SeenTree
+abbrev pub kept_members : List Member → TreeSummaryValue
 kept_members ms = record {
   numbers = kept_numbers (flat_map numbers_in ms);
   sizes = take 16 (map (λ m. capped (size m)) ms);
-  wide = nat_lt 16 (length ms) || list_any (λ m. is_out_of_width (size m)) ms;
-  loose = list_any is_number_alone ms;
-  grouped = list_any is_group ms;
+  bad_width = nat_lt 16 (length ms) || list_any (λ m. is_out_of_width (size m)) ms;
+  has_cluster = list_any is_number_alone ms;
+  has_group = list_any is_group ms;
 }
 
-same_tree : {a b : SeenNumbers} {c d : List ℕ} {e f g h i j : Bool} → a ≡ b → c ≡ d → e ≡ f → g ≡ h
+same_tree : {a b : NumbersSummaryValue} {c d : List ℕ} {e f g h i j : Bool} → a ≡ b → c ≡ d
+    → e ≡ f → g ≡ h
     → i ≡ j
-    → ◌≡◌ {A = SeenTree} (record { numbers = a; sizes = c; wide = e; loose = g; grouped = i })
-    (record { numbers = b; sizes = d; wide = f; loose = h; grouped = j })
+    → ◌≡◌ {A = TreeSummaryValue} (record {
+      numbers = a;
+      sizes = c;
+      bad_width = e;
+      has_cluster =
+          g;
+      has_group = i;
+    })
+    (record { numbers = b; sizes = d; bad_width = f; has_cluster = h; has_group = j })
 same_tree p q r s t = cc
 
 -- too many before, or now, or one that is bad
@@ -127,7 +136,7 @@ true_last : (b : Bool) → (b || true) ≡ true
 true_last true = refl
 true_last false = refl
 
-kept_sizes : (ms : List Mid) (m : Mid)
+kept_sizes : (ms : List Member) (m : Member)
     → take 16 (take 16 (map (λ m. capped (size m)) ms) ++ capped (size m) ∷ [])
     ≡ take 16 (map (λ m. capped (size m)) (ms ++ m ∷ []))
 kept_sizes ms m = take_more 16 (map (λ m. capped (size m)) ms) (capped (size m) ∷ [])
@@ -137,7 +146,7 @@ pub how_many : {A B : Type 0} (n : ℕ) (f : A → B) (xs : List A)
     → length (take n (map f xs)) ≡ min n (length xs)
 how_many n f xs = length-take n (map f xs) ∙ ap (min n) (length-map xs f)
 
-kept_flat : (ms : List Mid) (m : Mid)
+kept_flat : (ms : List Member) (m : Member)
     → with_numbers (kept_numbers (flat_map numbers_in ms)) (numbers_in m)
     ≡ kept_numbers (flat_map numbers_in (ms ++ m ∷ []))
 kept_flat ms m =
@@ -146,16 +155,16 @@ kept_flat ms m =
     (sym (flat_map-append numbers_in ms (m ∷ [])
     ∙ ap (λ l. flat_map numbers_in ms ++ l) (append-nil (numbers_in m))))
 
-kept_member : (ms : List Mid) (m : Mid)
+kept_member : (ms : List Member) (m : Member)
     → with_member (kept_members ms) m ≡ kept_members (ms ++ m ∷ [])
 unfolding with_numbers
-kept_member ms (Number n) =
-    same_tree (kept_flat ms (Number n)) (kept_sizes ms (Number n))
+kept_member ms (Cluster n) =
+    same_tree (kept_flat ms (Cluster n)) (kept_sizes ms (Cluster n))
     (one_more 16 (λ m. is_out_of_width (size m)) ms
-    (length (take 16 (map (λ m. capped (size m)) ms))) (Number n)
+    (length (take 16 (map (λ m. capped (size m)) ms))) (Cluster n)
     (how_many 16 (λ m. capped (size m)) ms))
-    (sym (any_more is_number_alone ms (Number n) ∙ true_last (list_any is_number_alone ms)))
-    (sym (any_more is_group ms (Number n) ∙ or_false (list_any is_group ms)))
+    (sym (any_more is_number_alone ms (Cluster n) ∙ true_last (list_any is_number_alone ms)))
+    (sym (any_more is_group ms (Cluster n) ∙ or_false (list_any is_group ms)))
 kept_member ms (Group ns) =
     same_tree (kept_flat ms (Group ns)) (kept_sizes ms (Group ns))
     (one_more 16 (λ m. is_out_of_width (size m)) ms
@@ -164,7 +173,7 @@ kept_member ms (Group ns) =
     (sym (any_more is_number_alone ms (Group ns) ∙ or_false (list_any is_number_alone ms)))
     (sym (any_more is_group ms (Group ns) ∙ true_last (list_any is_group ms)))
 
-pub kept_all_members : (ms ns : List Mid)
+pub kept_all_members : (ms ns : List Member)
     → with_members (kept_members ms) ns ≡ kept_members (ms ++ ns)
 unfolding with_members
 kept_all_members ms [] = ap kept_members (sym (append-nil ms))
@@ -177,11 +186,15 @@ kept_all_members ms (n ∷ ns) =
 abbrev pub is_empty_range : AddressRange → Bool
 is_empty_range r = nat_le r.end r.start
 
-abbrev pub kept_ranges : List AddressRange → SeenRanges
+abbrev pub kept_ranges : List AddressRange → RangesSummaryValue
 kept_ranges rs = record { first = take 4 rs; faulty = has_bad_range rs }
 
 same_ranges : {a b : List AddressRange} {c d : Bool} → a ≡ b → c ≡ d
-    → ◌≡◌ {A = SeenRanges} (record { first = a; faulty = c }) (record { first = b; faulty = d })
+    → ◌≡◌ {A = RangesSummaryValue} (record { first = a; faulty = c }) (record {
+      first =
+          b;
+      faulty = d;
+    })
 same_ranges p q = cc
 
 kept_range : (rs : List AddressRange) (r : AddressRange)

@@ -7,12 +7,12 @@ use Rattle.std.proofs.lemmas.Bool.Decides.{nat_tests}
 use Rattle.std.proofs.lemmas.List.{take_all, length-map}
 use Rattle.std.proofs.lemmas.List.Sums.{sum_by-cons, sum-map, AllPass-from_list_all}
 use Rattle.std.proofs.lemmas.List.Concat.{length-flat_map}
-use Rattle.psci_board.specs.Grammar.{Mid, TreeText}
-use Rattle.psci_board.specs.Grammar.Mid.{Number, Group}
+use Rattle.psci_board.specs.Grammar.{Member, TreeText}
+use Rattle.psci_board.specs.Grammar.Member.{Cluster, Group}
 use Rattle.psci_board.specs.Grammar.TreeText.{One, Members}
 use Rattle.psci_board.specs.Board.{is_width, IsTree}
-use Rattle.psci_board.specs.Seen.{SeenTree, no_members, tree_seen}
-use Rattle.psci_board.specs.Summary.{levels_seen}
+use Rattle.psci_board.specs.Summary.{TreeSummaryValue, no_members, tree_summary}
+use Rattle.psci_board.specs.SummaryVerdict.{summary_levels}
 use Rattle.psci_board.specs.Verdict.{is_out_of_width, is_group, numbers_in, clusters, levels_of}
 use Rattle.psci_board.specs.Verdict.{is_uneven, is_too_wide}
 use Rattle.psci_board.proofs.Kept.{capped, kept_numbers, kept_number, size, is_number_alone}
@@ -74,12 +74,12 @@ pub kept_whole : (ns : List ℕ) → list_any is_out_of_width ns ≡ false → s
     → take 64 (map capped ns) ≡ ns
 kept_whole ns h few = rw (all_capped ns h) (take_all 64 ns (omega (arith, fewer_than_sum ns h)))
 
-any_size : (ms : List Mid)
+any_size : (ms : List Member)
     → list_any is_out_of_width (map size ms) ≡ list_any (λ m. is_out_of_width (size m)) ms
 any_size [] = refl
 any_size (m ∷ ms) = ap (λ b. is_out_of_width (size m) || b) (any_size ms)
 
-cap_sizes : (ms : List Mid) → list_any (λ m. is_out_of_width (size m)) ms ≡ false
+cap_sizes : (ms : List Member) → list_any (λ m. is_out_of_width (size m)) ms ≡ false
     → map (λ m. capped (size m)) ms ≡ map size ms
 cap_sizes [] h = refl
 cap_sizes (m ∷ ms) h =
@@ -88,19 +88,19 @@ cap_sizes (m ∷ ms) h =
     let rest : map (λ m. capped (size m)) ms ≡ map size ms = cap_sizes ms p.1 in
     cc
 
-alone : (ms : List Mid) → list_any is_group ms ≡ false
+alone : (ms : List Member) → list_any is_group ms ≡ false
     → list_any (λ m. is_out_of_width (size m)) ms ≡ false
 alone [] h = refl
-alone (Number n ∷ ms) h = alone ms h
+alone (Cluster n ∷ ms) h = alone ms h
 alone (Group ns ∷ ms) h = cc
 
-loose : (ms : List Mid) → 0 < length ms → list_any is_group ms ≡ false
+has_cluster : (ms : List Member) → 0 < length ms → list_any is_group ms ≡ false
     → list_any is_number_alone ms ≡ true
-loose [] some h = absurd (omega arith)
-loose (Number n ∷ ms) some h = refl
-loose (Group ns ∷ ms) some h = cc
+has_cluster [] some h = absurd (omega arith)
+has_cluster (Cluster n ∷ ms) some h = refl
+has_cluster (Group ns ∷ ms) some h = cc
 
-abbrev pub levels_by : Bool → List Mid → List (List ℕ)
+abbrev pub levels_by : Bool → List Member → List (List ℕ)
 levels_by g ms =
     cond g (flat_map numbers_in ms ∷ map size ms ∷ (length ms ∷ []) ∷ [])
     (flat_map numbers_in ms ∷ (length ms ∷ []) ∷ [])
@@ -112,15 +112,16 @@ abbrev pub IsFull : TreeText → Type 0
 IsFull (One n) = Unit {0}
 IsFull (Members ms) = 0 < length ms
 
-abbrev pub kept_tree : TreeText → SeenTree
+abbrev pub kept_tree : TreeText → TreeSummaryValue
 kept_tree (One n) = record no_members { numbers = kept_numbers (n ∷ []) }
 kept_tree (Members ms) = kept_members ms
 
-pub tree_is_kept : (t : TreeText) → tree_seen t ≡ kept_tree t
+pub tree_is_kept : (t : TreeText) → tree_summary t ≡ kept_tree t
 tree_is_kept (One n) = ap (λ s. record no_members { numbers = s }) (kept_number [] n)
 tree_is_kept (Members ms) = kept_all_members [] ms
 
-pub uneven_kept : (t : TreeText) → is_uneven t ≡ ((kept_tree t).grouped && (kept_tree t).loose)
+pub uneven_kept : (t : TreeText)
+    → is_uneven t ≡ ((kept_tree t).has_group && (kept_tree t).has_cluster)
 uneven_kept (One n) = refl
 uneven_kept (Members ms) = refl
 
@@ -135,7 +136,7 @@ long_list n h = let some : (n == 0) ≡ false = grind (arith, nat_tests) in
     ap (λ b. b || nat_lt 16 n) some
 
 -- what the levels above the lowest one add
-wide_by : (ms : List Mid) → 0 < length ms → (g : Bool) → list_any is_group ms ≡ g
+wide_by : (ms : List Member) → 0 < length ms → (g : Bool) → list_any is_group ms ≡ g
     → list_any (λ w. list_any is_out_of_width w) (levels_by g ms)
     ≡ (list_any is_out_of_width (flat_map numbers_in ms)
     || (nat_lt 16 (length ms) || list_any (λ m. is_out_of_width (size m)) ms))
@@ -147,7 +148,7 @@ wide_by ms some false e =
     (rw (alone ms e, long_list (length ms) some) (swapped false _))
 
 pub wide_kept : (t : TreeText) → IsFull t
-    → is_too_wide t ≡ ((kept_tree t).numbers.wide || (kept_tree t).wide)
+    → is_too_wide t ≡ ((kept_tree t).numbers.bad_width || (kept_tree t).bad_width)
 wide_kept (One n) full = refl
 wide_kept (Members ms) full = wide_by ms full (list_any is_group ms) refl
 
@@ -161,12 +162,12 @@ total_kept (One n) = few_kept (sum (n ∷ []))
 total_kept (Members ms) = few_kept (sum (flat_map numbers_in ms))
 
 -- the parts of what is said of widths
-pub record Narrow (ms : List Mid) : Type 0 where
+pub record Narrow (ms : List Member) : Type 0 where
   pub flat : list_any is_out_of_width (flat_map numbers_in ms) ≡ false
   pub sizes : list_any (λ m. is_out_of_width (size m)) ms ≡ false
   pub outer : list_any is_out_of_width (length ms ∷ []) ≡ false
 
-narrow : (ms : List Mid) (g : Bool) → list_any is_group ms ≡ g
+narrow : (ms : List Member) (g : Bool) → list_any is_group ms ≡ g
     → list_any (λ w. list_any is_out_of_width w) (levels_by g ms) ≡ false → Narrow ms
 narrow ms true e h =
     let p = both_false _ _ h in
@@ -176,13 +177,14 @@ narrow ms false e h =
     let p = both_false _ _ h in
     record { flat = p.0; sizes = alone ms e; outer = left_false _ _ p.1 }
 
-outer_size : (ms : List Mid) → Narrow ms → length ms ≤ 16
+outer_size : (ms : List Member) → Narrow ms → length ms ≤ 16
 outer_size ms h = (is_out (length ms) (left_false _ _ h.outer)).1
 
-counted : (ms : List Mid) → Narrow ms → length (take 16 (map (λ m. capped (size m)) ms)) ≡ length ms
-counted ms h = how_many 16 (λ m. capped (size m)) ms ∙ omega (arith, outer_size ms h)
+member_count : (ms : List Member) → Narrow ms
+    → length (take 16 (map (λ m. capped (size m)) ms)) ≡ length ms
+member_count ms h = how_many 16 (λ m. capped (size m)) ms ∙ omega (arith, outer_size ms h)
 
-whole_sizes : (ms : List Mid) → Narrow ms → take 16 (map (λ m. capped (size m)) ms) ≡ map size ms
+whole_sizes : (ms : List Member) → Narrow ms → take 16 (map (λ m. capped (size m)) ms) ≡ map size ms
 whole_sizes ms h =
     rw (cap_sizes ms h.sizes)
     (take_all 16 (map size ms) (omega (arith, length-map ms size, outer_size ms h)))
@@ -195,17 +197,18 @@ two_levels : {a b : List ℕ} {n m : ℕ} → a ≡ b → n ≡ m
     → ◌≡◌ {A = List (List ℕ)} (a ∷ (n ∷ []) ∷ []) (b ∷ (m ∷ []) ∷ [])
 two_levels p q = cc
 
-levels_kept_by : (ms : List Mid) → 0 < length ms → (g : Bool) → list_any is_group ms ≡ g → Narrow ms
+levels_kept_by : (ms : List Member) → 0 < length ms → (g : Bool) → list_any is_group ms ≡ g
+    → Narrow ms
     → sum (flat_map numbers_in ms) ≤ 64
-    → levels_seen (record (kept_members ms) { grouped = g }) ≡ levels_by g ms
+    → summary_levels (record (kept_members ms) { has_group = g }) ≡ levels_by g ms
 levels_kept_by ms some true e h few = three_levels (kept_whole (flat_map numbers_in ms) h.flat few)
-    (whole_sizes ms h) (counted ms h)
+    (whole_sizes ms h) (member_count ms h)
 levels_kept_by ms some false e h few =
-    rw (loose ms some e)
-    (two_levels (kept_whole (flat_map numbers_in ms) h.flat few) (counted ms h))
+    rw (has_cluster ms some e)
+    (two_levels (kept_whole (flat_map numbers_in ms) h.flat few) (member_count ms h))
 
 pub levels_kept : (t : TreeText) → IsFull t → is_too_wide t ≡ false → sum (clusters t) ≤ 64
-    → levels_seen (kept_tree t) ≡ levels_of t
+    → summary_levels (kept_tree t) ≡ levels_of t
 levels_kept (One n) full wide few =
     ap (λ m. (m ∷ []) ∷ []) (cap_same n (left_false _ _ (left_false _ _ wide)))
 levels_kept (Members ms) full wide few =
@@ -214,10 +217,10 @@ levels_kept (Members ms) full wide few =
 
 -- The tree of a text is a tree of nodes ---------------------------------------------------------
 
-flat_alone : (ms : List Mid) → list_any is_group ms ≡ false
+flat_alone : (ms : List Member) → list_any is_group ms ≡ false
     → length (flat_map numbers_in ms) ≡ length ms
 flat_alone [] e = refl
-flat_alone (Number n ∷ ms) e = omega (arith, flat_alone ms e)
+flat_alone (Cluster n ∷ ms) e = omega (arith, flat_alone ms e)
 flat_alone (Group ns ∷ ms) e = cc
 
 one_level : (n : ℕ) → list_any is_out_of_width (n ∷ []) ≡ false → IsTree ((n ∷ []) ∷ [])
@@ -225,7 +228,7 @@ one_level n h =
     let w = is_out n (left_false _ _ h) in
     (refl, omega (arith, sum_by-cons (λ x. x) n []), pass_width (n ∷ []) h, tt)
 
-tree_by : (ms : List Mid) (g : Bool) → list_any is_group ms ≡ g → Narrow ms
+tree_by : (ms : List Member) (g : Bool) → list_any is_group ms ≡ g → Narrow ms
     → sum (flat_map numbers_in ms) ≤ 64 → IsTree (levels_by g ms)
 tree_by ms true e h few =
     let flat = flat_map numbers_in ms in

@@ -3,15 +3,13 @@ use Rattle.std.proofs.Common.{◌≡◌, ℕ, zero, suc, ◌<◌, ◌≤◌, Boo
 use Rattle.std.proofs.Common.{◌∷◌, length, Option, Some, None, refl, ap, sym, ◌∙◌, subst, arith}
 use Rattle.std.proofs.Common.{length-drop}
 use Rattle.std.specs.List.{prefix_len}
-use Rattle.std.specs.Char.{is_ascii_digit, is_ascii_hexdigit}
+use Rattle.std.specs.Char.{is_ascii_digit}
 use Rattle.std.proofs.lemmas.Bool.Decides.{nat_tests}
-use Rattle.std.proofs.lemmas.Option.{cond_some, option_and_then_some, same_Some}
-use Rattle.std.specs.Prelude.{option_and_then, option_map, IfSome, codes}
-use Rattle.psci_board.specs.Seen.{ranges_at, noted, SeenTree, SeenRanges}
-use Rattle.psci_board.specs.declared.text_seen.TextSeen.{TextSeen}
+use Rattle.std.proofs.lemmas.Option.{cond_some, option_and_then_some}
+use Rattle.std.specs.Prelude.{option_and_then, option_map, IfSome}
 use Rattle.psci_board.specs.Reading.{literal_at, spaced_at, number_at, at_most, more_at, then_more}
-use Rattle.psci_board.specs.Reading.{list_at, mid_at, starts_list, rest_of, hex_at, range_at}
-use Rattle.psci_board.specs.Grammar.Mid.{Number, Group}
+use Rattle.psci_board.specs.Reading.{list_at, member_at, starts_list, rest_of}
+use Rattle.psci_board.specs.Grammar.Member.{Cluster, Group}
 
 -- what is left is no longer than the text
 abbrev pub Shortens : {A : Type 0} → (List ℕ → Option (A × List ℕ)) → Type 0
@@ -80,7 +78,7 @@ number_shortens bytes x e =
     let r = (cond_some _ _ _ e).1 in
     omega (arith, length-drop n bytes, ap (λ y. length y.1) r)
 
--- a list whose bracket is closed, or not, behind its last item
+-- a list whose bracket is closed, or not, after its last item
 pub list_closed : {A : Type 0} (item : List ℕ → Option (A × List ℕ)) (s : Shortens item)
     (bytes open_ rest0 rest close : List ℕ) (first : A)
     → literal_at (40 ∷ []) bytes ≡ Some open_ → item open_ ≡ Some (first, rest0)
@@ -152,13 +150,13 @@ list_shortens item s bytes x e =
       literal_shortens _ _ _ a,
     ))))
 
-pub mid_shortens : Shortens mid_at
-unfolding mid_at
-mid_shortens bytes x e = by_test (starts_list bytes) e
+pub member_shortens : Shortens member_at
+unfolding member_at
+member_shortens bytes x e = by_test (starts_list bytes) e
   where
     by_test : (t : Bool)
         → cond t (option_and_then (λ ns. Some (Group ns.0, ns.1)) (list_at number_at bytes))
-        (option_and_then (λ n. Some (Number n.0, n.1)) (number_at bytes)) ≡ Some x
+        (option_and_then (λ n. Some (Cluster n.0, n.1)) (number_at bytes)) ≡ Some x
         → length x.1 ≤ length bytes
     by_test true h = option_and_then_some _ (list_at number_at bytes) x h
         (λ ns a e1. let r : ns.1 ≡ x.1 = cc in
@@ -250,62 +248,3 @@ pub if_kept : {A : Type 0} (P : A → Type 0) (x : A) (o : Option (List ℕ)) �
     → IfSome {T = A × List ℕ} (option_map (λ close. (x, close)) o) (λ y. P y.0)
 if_kept P x None h = tt
 if_kept P x (Some close) h = h
-
--- what was read, where a value of it and its rest are known
-pub noted_some : {A B : Type 0} (f : A → B) (o : Option (A × List ℕ)) (v : B) (rest : List ℕ)
-    → Some (v, rest) ≡ option_map (noted f) o → (x : A) × (o ≡ Some (x, rest)) × (v ≡ f x)
-noted_some f None v rest e = cc
-noted_some f (Some x) v rest e =
-    let p = same_Some _ (noted f x) e in
-    let r : x.1 ≡ rest = sym (ap (λ y. y.1) p) in
-    (x.0, ap (λ y. Some (x.0, y)) r, ap (λ y. y.0) p)
-
-pub noted_none : {A B : Type 0} (f : A → B) (o : Option (A × List ℕ))
-    → None ≡ option_map (noted f) o → o ≡ None
-noted_none f None e = refl
-noted_none f (Some x) e = cc
-
--- ranges, one or more, from the first
-pub ranges_parts : (bytes : List ℕ) (rs : List (List ℕ × List ℕ)) (rest : List ℕ)
-    → ranges_at bytes ≡ Some (rs, rest)
-    → (x : (List ℕ × List ℕ) × List ℕ) × (spaced_at range_at bytes ≡ Some x)
-    × (rs ≡ x.0 ∷ (more_at range_at x.1).0) × ((more_at range_at x.1).1 ≡ rest)
-unfolding ranges_at
-ranges_parts bytes rs rest e =
-    option_and_then_some _ (spaced_at range_at bytes) _ e (λ x a e1.
-    let p = same_Some _ _ e1 in (x, a, sym (ap (λ y. y.0) p), ap (λ y. y.1) p))
-
-pub ranges_none : (bytes : List ℕ) → ranges_at bytes ≡ None → spaced_at range_at bytes ≡ None
-unfolding ranges_at
-ranges_none bytes e = by_first (spaced_at range_at bytes) e
-  where
-    from_first : (List ℕ × List ℕ) × List ℕ → List (List ℕ × List ℕ) × List ℕ
-    from_first x = (x.0 ∷ (more_at range_at x.1).0, (more_at range_at x.1).1)
-
-    by_first : (o : Option ((List ℕ × List ℕ) × List ℕ))
-        → option_and_then (λ x. Some (from_first x)) o ≡ None → o ≡ None
-    by_first None h = refl
-    by_first (Some x) h = cc
-
-pub hex_shortens : Shortens hex_at
-unfolding hex_at
-hex_shortens bytes x e =
-    option_and_then_some _ (literal_at (codes "0x") bytes) x e (λ rest a e1.
-    let n = prefix_len is_ascii_hexdigit rest in
-    let r = (cond_some _ _ _ e1).1 in
-    omega (arith, length-drop n rest, ap (λ y. length y.1) r, literal_shortens _ _ _ a))
-
-pub range_shortens : Shortens range_at
-unfolding range_at
-range_shortens bytes x e =
-    option_and_then_some _ (hex_at bytes) x e (λ from a e1.
-    option_and_then_some _ (literal_at (codes "-") from.1) x e1 (λ dash b e2.
-    option_and_then_some _ (hex_at dash) x e2 (λ to d e3.
-    let r : to.1 ≡ x.1 = cc in
-    omega (arith, ap length r, hex_shortens _ _ a, literal_shortens _ _ _ b, hex_shortens _ _ d))))
-
-pub same_text : {a b : SeenTree} {c d : SeenRanges} {e f : ℕ} (n m : ℕ) → a ≡ b → c ≡ d → e ≡ f
-    → ◌≡◌ {A = Option TextSeen}
-    (Some (record { tree = a; ranges = c; boot = e; starts = n; lives = m }))
-    (Some (record { tree = b; ranges = d; boot = f; starts = n; lives = m }))
-same_text n m p q r = cc

@@ -22,7 +22,7 @@ none_kept p zero a e = refl
 none_kept p (suc n) a e =
     rw (e a (omega arith)) (none_kept p n (a + 1) (λ j l. e j (omega arith)))
 
--- r passes where p or q does, and nothing that passes p stands behind what passes q
+-- r passes where p or q does, and nothing that passes p stands after what passes q
 record Parts (r p q : ℕ → Bool) : Type 0 where
   left : (j : ℕ) → p j ≡ true → r j ≡ true
   right : (j : ℕ) → q j ≡ true → r j ≡ true
@@ -36,8 +36,8 @@ parts_by r p q h n a true true e d later =
     let apart : p a ≡ false = h.before a a d (omega arith) in cc
 parts_by r p q h n a true false e d later = rw (e, d, h.left a e, later) refl
 parts_by r p q h n a false true e d later =
-    let behind = none_kept p n (a + 1) (λ j l. h.before a j d (omega arith)) in
-    rw (e, d, h.right a d, later, behind) refl
+    let after = none_kept p n (a + 1) (λ j l. h.before a j d (omega arith)) in
+    rw (e, d, h.right a d, later, after) refl
 parts_by r p q h n a false false e d later = rw (e, d, h.neither a e d) later
 
 parts : (r p q : ℕ → Bool) → Parts r p q → (n a : ℕ) → kept r n a ≡ kept p n a ++ kept q n a

@@ -2,7 +2,7 @@
 use Rattle.std.proofs.Common.{◌≡◌, ◌∷◌, [], refl}
 use Rattle.std.specs.Prelude.{codes, Ok}
 use Rattle.psci_board.specs.Reading.{literal_at, number_at, hex_at, range_at, spaced_at, at_most}
-use Rattle.psci_board.specs.Reading.{more_at, list_at, mid_at, tree_at, board_text}
+use Rattle.psci_board.specs.Reading.{more_at, list_at, member_at, tree_at, board_text}
 use Rattle.psci_board.specs.Verdict.{board_of, verdict}
 
 pub one_cluster : board_of
@@ -14,7 +14,7 @@ pub one_cluster : board_of
       starts = 4294967295;
       lives = 65535;
     })
-unfolding board_of verdict board_text tree_at mid_at list_at more_at at_most spaced_at
+unfolding board_of verdict board_text tree_at member_at list_at more_at at_most spaced_at
     range_at hex_at number_at literal_at
 one_cluster = refl
 
@@ -27,7 +27,7 @@ pub two_clusters : board_of
       starts = 1000;
       lives = 3;
     })
-unfolding board_of verdict board_text tree_at mid_at list_at more_at at_most spaced_at
+unfolding board_of verdict board_text tree_at member_at list_at more_at at_most spaced_at
     range_at hex_at number_at literal_at
 two_clusters = refl
 
@@ -39,6 +39,6 @@ pub two_groups : board_of (codes "((1 2) (3)) exec 0xA-0xfF boot 0xFc starts 1 l
       starts = 1;
       lives = 1;
     })
-unfolding board_of verdict board_text tree_at mid_at list_at more_at at_most spaced_at
+unfolding board_of verdict board_text tree_at member_at list_at more_at at_most spaced_at
     range_at hex_at number_at literal_at
 two_groups = refl

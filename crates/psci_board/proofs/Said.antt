@@ -8,13 +8,13 @@ use Rattle.psci_board.specs.declared.fault.BoardFault.{BoardFault}
 use Rattle.psci_board.specs.declared.fault.BoardFault.TheVariants.{Grammar, Uneven, TooWide}
 use Rattle.psci_board.specs.declared.fault.BoardFault.TheVariants.{TooManyCores, BadRange, BadBoot}
 use Rattle.psci_board.specs.declared.fault.BoardFault.TheVariants.{BadLimit, Memory}
-use Rattle.psci_board.specs.declared.text_seen.TextSeen.{TextSeen}
+use Rattle.psci_board.specs.declared.text.TextSummary.{TextSummary}
 use Rattle.psci_board.specs.Grammar.{TreeText, BoardText}
 use Rattle.psci_board.specs.Grammar.TreeText.{One, Members}
 use Rattle.psci_board.specs.Reading.{literal_at, number_at, hex_at, range_at, spaced_at, more_at}
-use Rattle.psci_board.specs.Reading.{list_at, mid_at, starts_list, tree_at, board_text}
+use Rattle.psci_board.specs.Reading.{list_at, member_at, starts_list, tree_at, board_text}
 use Rattle.psci_board.specs.Board.{BoardValue, is_in_some, IsBoard}
-use Rattle.psci_board.specs.Summary.{text_seen, board_seen, fault_in}
+use Rattle.psci_board.specs.SummaryVerdict.{text_summary, summary_board, fault_in}
 use Rattle.psci_board.specs.Verdict.{is_limit, verdict, verdict_or, board_of, Answers}
 use Rattle.psci_board.proofs.KeptTree.{IsFull}
 use Rattle.psci_board.proofs.Decided.{said, decided, is_board}
@@ -36,11 +36,11 @@ unfolding tree_at
 full_tree bytes x e = by_test (starts_list bytes) e
   where
     by_test : (b : Bool)
-        → cond b (option_and_then (λ ms. Some (Members ms.0, ms.1)) (list_at mid_at bytes))
+        → cond b (option_and_then (λ ms. Some (Members ms.0, ms.1)) (list_at member_at bytes))
         (option_and_then (λ n. Some (One n.0, n.1)) (number_at bytes)) ≡ Some x → IsFull x.0
-    by_test true h = option_and_then_some _ (list_at mid_at bytes) x h
+    by_test true h = option_and_then_some _ (list_at member_at bytes) x h
         (λ ms a e1. subst (λ (y : TreeText × List ℕ). IsFull y.0) (same_Some _ x e1)
-        (some_item mid_at bytes ms a))
+        (some_item member_at bytes ms a))
     by_test false h = option_and_then_some _ (number_at bytes) x h
         (λ n a e1. subst (λ (y : TreeText × List ℕ). IsFull y.0) (same_Some _ x e1) tt)
 
@@ -62,45 +62,48 @@ full_text bytes t e =
 
 -- What is said of the text ----------------------------------------------------------------------
 
-pub not_of_grammar : (bytes : List ℕ) → None ≡ option_map text_seen (board_text bytes)
+pub not_of_grammar : (bytes : List ℕ) → None ≡ option_map text_summary (board_text bytes)
     → board_of bytes ≡ Err Grammar
 unfolding board_of
 not_of_grammar bytes e = by_text (board_text bytes) e
   where
-    by_text : (o : Option BoardText) → None ≡ option_map text_seen o → verdict_or o ≡ Err Grammar
+    by_text : (o : Option BoardText) → None ≡ option_map text_summary o → verdict_or o ≡ Err Grammar
     by_text None h = refl
     by_text (Some t) h = cc
 
-of_grammar : (bytes : List ℕ) (s : TextSeen) → Some s ≡ option_map text_seen (board_text bytes)
-    → (t : BoardText) × (board_text bytes ≡ Some t) × (s ≡ text_seen t)
+of_grammar : (bytes : List ℕ) (s : TextSummary)
+    → Some s ≡ option_map text_summary (board_text bytes)
+    → (t : BoardText) × (board_text bytes ≡ Some t) × (s ≡ text_summary t)
 of_grammar bytes s e = by_text (board_text bytes) refl e
   where
-    by_text : (o : Option BoardText) → board_text bytes ≡ o → Some s ≡ option_map text_seen o
-        → (t : BoardText) × (board_text bytes ≡ Some t) × (s ≡ text_seen t)
+    by_text : (o : Option BoardText) → board_text bytes ≡ o → Some s ≡ option_map text_summary o
+        → (t : BoardText) × (board_text bytes ≡ Some t) × (s ≡ text_summary t)
     by_text None a h = cc
     by_text (Some t) a h = (t, a, same_Some _ _ h)
 
-pub record Said (bytes : List ℕ) (s : TextSeen) : Type 0 where
+pub record Said (bytes : List ℕ) (s : TextSummary) : Type 0 where
   pub text : BoardText
-  pub verdict : verdict text ≡ said (fault_in s) (board_seen s)
-  pub all : board_of bytes ≡ said (fault_in s) (board_seen s)
+  pub verdict : verdict text ≡ said (fault_in s) (summary_board s)
+  pub all : board_of bytes ≡ said (fault_in s) (summary_board s)
 
-pub said_of : (bytes : List ℕ) (s : TextSeen) → Some s ≡ option_map text_seen (board_text bytes)
+pub said_of : (bytes : List ℕ) (s : TextSummary)
+    → Some s ≡ option_map text_summary (board_text bytes)
     → Said bytes s
 unfolding board_of
 said_of bytes s e =
     let t = of_grammar bytes s e in
-    let d = subst (λ (x : TextSeen). verdict t.0 ≡ said (fault_in x) (board_seen x)) (sym t.2)
+    let d = subst (λ (x : TextSummary). verdict t.0 ≡ said (fault_in x) (summary_board x)) (sym t.2)
     (decided t.0 (full_text bytes t.0 t.1)) in
     record { text = t.0; verdict = d; all = ap verdict_or t.1 ∙ d }
 
-pub good_text : (bytes : List ℕ) (s : TextSeen) → Some s ≡ option_map text_seen (board_text bytes)
+pub good_text : (bytes : List ℕ) (s : TextSummary)
+    → Some s ≡ option_map text_summary (board_text bytes)
     → None ≡ fault_in s
-    → (board_of bytes ≡ Ok (board_seen s)) × IsBoard (board_seen s)
+    → (board_of bytes ≡ Ok (summary_board s)) × IsBoard (summary_board s)
 good_text bytes s e none =
     let d = said_of bytes s e in
-    let f = ap (λ o. said o (board_seen s)) (sym none) in
-    (d.all ∙ f, is_board d.text (board_seen s) (d.verdict ∙ f))
+    let f = ap (λ o. said o (summary_board s)) (sym none) in
+    (d.all ∙ f, is_board d.text (summary_board s) (d.verdict ∙ f))
 
 -- memory is no fault of a text
 abbrev is_memory : Option BoardFault → Bool
@@ -139,10 +142,11 @@ no_memory a b c d e f h =
     (later c TooManyCores rest_d refl
     (later b TooWide rest_c refl (later a Uneven rest_b refl h)))))))
 
-never_memory : (s : TextSeen) → fault_in s ≡ Some Memory → ⊥
+never_memory : (s : TextSummary) → fault_in s ≡ Some Memory → ⊥
 unfolding fault_in
 never_memory s h =
-    no_memory (s.tree.grouped && s.tree.loose) (s.tree.numbers.wide || s.tree.wide)
+    no_memory (s.tree.has_group && s.tree.has_cluster) (s.tree.numbers.bad_width
+    || s.tree.bad_width)
     (nat_lt 64 s.tree.numbers.total) s.ranges.faulty
     (not (s.boot % 4 == 0 && is_in_some s.ranges.first s.boot))
     (not (is_limit (2 ^ 32 - 1) s.starts && is_limit 65535 s.lives)) h
@@ -158,13 +162,13 @@ faulty BadBoot r n e = e
 faulty BadLimit r n e = e
 faulty Memory r n e = absurd (n refl)
 
-pub bad_text : (bytes : List ℕ) (s : TextSeen) (f : BoardFault)
-    → Some s ≡ option_map text_seen (board_text bytes) → Some f ≡ fault_in s
+pub bad_text : (bytes : List ℕ) (s : TextSummary) (f : BoardFault)
+    → Some s ≡ option_map text_summary (board_text bytes) → Some f ≡ fault_in s
     → Answers (Err f) (board_of bytes)
 bad_text bytes s f e some =
     let d = said_of bytes s e in
     faulty f (board_of bytes) (λ m. never_memory s (sym some ∙ ap Some m))
-    (d.all ∙ ap (λ o. said o (board_seen s)) (sym some))
+    (d.all ∙ ap (λ o. said o (summary_board s)) (sym some))
 
 -- memory is answered where the text has a board
 pub no_fault : (v : BoardValue) (r said : Result BoardValue BoardFault) → said ≡ Ok v

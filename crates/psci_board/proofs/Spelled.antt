@@ -46,7 +46,7 @@ literal_takes (w ∷ ws) (b ∷ bs) rest e =
     let others : bs ≡ ws ++ rest = literal_takes ws bs rest c.1 in
     cc
 
--- Items behind a space each ---------------------------------------------------------------------
+-- Items after a space each ---------------------------------------------------------------------
 
 spaced_again : {A : Type 0} (item : List ℕ → Option (A × List ℕ)) (bytes : List ℕ) (x : A × List ℕ)
     → item bytes ≡ Some x → spaced_at item (32 ∷ bytes) ≡ Some x
@@ -59,9 +59,9 @@ pub spaced_takes : {A : Type 0} (item : List ℕ → Option (A × List ℕ)) (sp
     → P x.0 × (bytes ≡ 32 ∷ spell x.0 ++ x.1)
 unfolding spaced_at
 spaced_takes item spell P kind r bytes x e =
-    option_and_then_some _ (literal_at (32 ∷ []) bytes) x e (λ behind l i.
-    let t = r.takes behind x i in
-    (t.0, literal_takes (32 ∷ []) bytes behind l ∙ ap (λ bs. 32 ∷ bs) t.1))
+    option_and_then_some _ (literal_at (32 ∷ []) bytes) x e (λ after l i.
+    let t = r.takes after x i in
+    (t.0, literal_takes (32 ∷ []) bytes after l ∙ ap (λ bs. 32 ∷ bs) t.1))
 
 ends_there : {A : Type 0} (spell : A → List ℕ) (kind : ℕ → Bool) → kind 32 ≡ false → (xs : List A)
     (rest : List ℕ) → Ends kind rest → Ends kind (spaced spell xs ++ rest)
@@ -91,7 +91,7 @@ more_again item spell P kind r space (x ∷ xs) rest a e stop =
     (first_again item spell P kind r space x xs rest a.0 e)
     ∙ ap (λ q. (x ∷ q.0, q.1)) (more_again item spell P kind r space xs rest a.1 e stop)
 
--- the items are spelled so, and this stands behind them
+-- the items are spelled so, and this stands after them
 abbrev pub Taken : {A : Type 0} → (A → List ℕ) → (A → Type 0) → List ℕ → List A × List ℕ → Type 0
 Taken spell P bytes xs = AllByRecursion P xs.0 × (bytes ≡ spaced spell xs.0 ++ xs.1)
 
@@ -155,10 +155,10 @@ list_again item spell P kind r space close (x ∷ xs) rest h =
     rw (append_assoc, append_assoc)
     (listed_again item (spell x ++ tail) rest x tail (41 ∷ rest) xs first others refl)
 
-list_joined : (bytes within item behind items after close : List ℕ) → bytes ≡ 40 ∷ within
-    → within ≡ item ++ behind → behind ≡ items ++ after → after ≡ 41 ∷ close
+list_joined : (bytes within item after items rest close : List ℕ) → bytes ≡ 40 ∷ within
+    → within ≡ item ++ after → after ≡ items ++ rest → rest ≡ 41 ∷ close
     → bytes ≡ (40 ∷ item ++ (items ++ 41 ∷ [])) ++ close
-list_joined bytes within item behind items after close a b c d =
+list_joined bytes within item after items rest close a b c d =
     rw (append_assoc, append_assoc) (cc)
 
 pub list_takes : {A : Type 0} (item : List ℕ → Option (A × List ℕ)) (spell : A → List ℕ)

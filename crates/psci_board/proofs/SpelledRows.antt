@@ -3,10 +3,10 @@ use Rattle.std.proofs.Common.{◌≡◌, ◌∷◌, [], refl}
 use Rattle.std.specs.Prelude.{codes, None}
 use Rattle.std.specs.Fmt.{digits}
 use Rattle.psci_board.specs.Grammar.{spelling}
-use Rattle.psci_board.specs.Grammar.Mid.{Number, Group}
+use Rattle.psci_board.specs.Grammar.Member.{Cluster, Group}
 use Rattle.psci_board.specs.Grammar.TreeText.{One, Members}
 use Rattle.psci_board.specs.Reading.{literal_at, number_at, hex_at, range_at, spaced_at, at_most}
-use Rattle.psci_board.specs.Reading.{more_at, list_at, mid_at, tree_at, board_text}
+use Rattle.psci_board.specs.Reading.{more_at, list_at, member_at, tree_at, board_text}
 
 -- one cluster of four cores
 pub height_1 : spelling (record {
@@ -21,7 +21,7 @@ height_1 = refl
 
 -- two clusters of two cores each
 pub height_2 : spelling (record {
-  tree = Members (Number 2 ∷ Number 2 ∷ []);
+  tree = Members (Cluster 2 ∷ Cluster 2 ∷ []);
   ranges = (codes "40000000", codes "40100000") ∷ [];
   boot = codes "40000000";
   starts = 1000;
@@ -64,12 +64,12 @@ pub space_before : board_text (codes " 4 exec 0x0-0x10 boot 0x0 starts 1 lives 1
 unfolding board_text tree_at list_at more_at at_most spaced_at range_at hex_at number_at literal_at
 space_before = refl
 
-pub space_behind : board_text (codes "4 exec 0x0-0x10 boot 0x0 starts 1 lives 1 ") ≡ None
+pub space_after : board_text (codes "4 exec 0x0-0x10 boot 0x0 starts 1 lives 1 ") ≡ None
 unfolding board_text tree_at list_at more_at at_most spaced_at range_at hex_at number_at literal_at
-space_behind = refl
+space_after = refl
 
 pub space_in_list : board_text (codes "(2 2 ) exec 0x0-0x10 boot 0x0 starts 1 lives 1") ≡ None
-unfolding board_text tree_at mid_at list_at more_at at_most spaced_at number_at literal_at
+unfolding board_text tree_at member_at list_at more_at at_most spaced_at number_at literal_at
 space_in_list = refl
 
 pub no_range : board_text (codes "4 exec boot 0x0 starts 1 lives 1") ≡ None
@@ -99,9 +99,9 @@ unfolding board_text tree_at list_at more_at at_most spaced_at range_at hex_at n
 too_large_number = refl
 
 pub three_brackets : board_text (codes "(((1))) exec 0x0-0x10 boot 0x0 starts 1 lives 1") ≡ None
-unfolding board_text tree_at mid_at list_at more_at at_most spaced_at number_at literal_at
+unfolding board_text tree_at member_at list_at more_at at_most spaced_at number_at literal_at
 three_brackets = refl
 
 pub empty_group : board_text (codes "(1 ()) exec 0x0-0x10 boot 0x0 starts 1 lives 1") ≡ None
-unfolding board_text tree_at mid_at list_at more_at at_most spaced_at number_at literal_at
+unfolding board_text tree_at member_at list_at more_at at_most spaced_at number_at literal_at
 empty_group = refl

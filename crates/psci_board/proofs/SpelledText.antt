@@ -45,19 +45,19 @@ parts_again : (t : TreeText) (r : List ℕ × List ℕ) (rs : List (List ℕ × 
     → IsNumber starts → IsNumber lives → IsRead (board t (r ∷ rs) boot starts lives)
 unfolding board_text literal_at
 parts_again t r rs boot starts lives ht hr hrs hb hs hl =
-    let behind_starts = codes " lives " ++ decimal lives in
-    let behind_boot = codes " starts " ++ (decimal starts ++ behind_starts) in
-    let behind_ranges = codes " boot " ++ (hex boot ++ behind_boot) in
-    let behind_tree = codes " exec" ++ (spaced range (r ∷ rs) ++ behind_ranges) in
-    let tree_again : tree_at (tree t ++ behind_tree) ≡ Some (t, behind_tree) =
-    tree_reads.again t behind_tree ht refl in
+    let after_starts = codes " lives " ++ decimal lives in
+    let after_boot = codes " starts " ++ (decimal starts ++ after_starts) in
+    let after_ranges = codes " boot " ++ (hex boot ++ after_boot) in
+    let after_tree = codes " exec" ++ (spaced range (r ∷ rs) ++ after_ranges) in
+    let tree_again : tree_at (tree t ++ after_tree) ≡ Some (t, after_tree) =
+    tree_reads.again t after_tree ht refl in
     let range_again =
-    first_again range_at range IsRange _ range_reads refl r rs behind_ranges hr refl in
-    let ranges_again = others_again rs (hex boot ++ behind_boot) hrs in
-    let boot_again : hex_at (hex boot ++ behind_boot) ≡ Some (boot, behind_boot) =
-    hex_reads.again boot behind_boot hb refl in
-    let starts_again : number_at (decimal starts ++ behind_starts) ≡ Some (starts, behind_starts) =
-    number_reads.again starts behind_starts hs refl in
+    first_again range_at range IsRange _ range_reads refl r rs after_ranges hr refl in
+    let ranges_again = others_again rs (hex boot ++ after_boot) hrs in
+    let boot_again : hex_at (hex boot ++ after_boot) ≡ Some (boot, after_boot) =
+    hex_reads.again boot after_boot hb refl in
+    let starts_again : number_at (decimal starts ++ after_starts) ≡ Some (starts, after_starts) =
+    number_reads.again starts after_starts hs refl in
     rw (tree_again, range_again, ranges_again, boot_again, starts_again, last_again lives hl) refl
 
 text_by : (t : TreeText) (rs : List (List ℕ × List ℕ)) (boot : List ℕ) (starts lives : ℕ)
@@ -72,16 +72,16 @@ text_again t h = text_by t.tree t.ranges t.boot t.starts t.lives h
 
 -- What is read ----------------------------------------------------------------------------------
 
--- the parts stand one behind the other
-parts_joined : (bytes t behind_t w1 rest1 r behind_r rs behind_rs w2 rest2 b behind_b w3 rest3 s
-    behind_s w4 rest4 l behind_l : List ℕ)
-    → bytes ≡ t ++ behind_t → behind_t ≡ w1 ++ rest1 → rest1 ≡ r ++ behind_r
-    → behind_r ≡ rs ++ behind_rs → behind_rs ≡ w2 ++ rest2 → rest2 ≡ b ++ behind_b
-    → behind_b ≡ w3 ++ rest3 → rest3 ≡ s ++ behind_s → behind_s ≡ w4 ++ rest4
-    → rest4 ≡ l ++ behind_l → behind_l ≡ []
+-- the parts stand one after the other
+parts_joined : (bytes t after_t w1 rest1 r after_r rs after_rs w2 rest2 b after_b w3 rest3 s
+    after_s w4 rest4 l after_l : List ℕ)
+    → bytes ≡ t ++ after_t → after_t ≡ w1 ++ rest1 → rest1 ≡ r ++ after_r
+    → after_r ≡ rs ++ after_rs → after_rs ≡ w2 ++ rest2 → rest2 ≡ b ++ after_b
+    → after_b ≡ w3 ++ rest3 → rest3 ≡ s ++ after_s → after_s ≡ w4 ++ rest4
+    → rest4 ≡ l ++ after_l → after_l ≡ []
     → bytes ≡ t ++ (w1 ++ ((r ++ rs) ++ (w2 ++ (b ++ (w3 ++ (s ++ (w4 ++ l)))))))
-parts_joined bytes t behind_t w1 rest1 r behind_r rs behind_rs w2 rest2 b behind_b w3 rest3 s
-    behind_s w4 rest4 l behind_l e1 e2 e3 e4 e5 e6 e7 e8 e9 e10 e11 =
+parts_joined bytes t after_t w1 rest1 r after_r rs after_rs w2 rest2 b after_b w3 rest3 s
+    after_s w4 rest4 l after_l e1 e2 e3 e4 e5 e6 e7 e8 e9 e10 e11 =
     let last : l ++ [] ≡ l = append-nil l in
     rw (append_assoc r rs) (cc)
 

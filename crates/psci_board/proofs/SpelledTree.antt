@@ -8,11 +8,12 @@ use Rattle.std.specs.Str.Parse.{AllDigits}
 use Rattle.std.proofs.lemmas.Bool.Decides.{nat_tests}
 use Rattle.std.proofs.lemmas.Fmt.{decimal_is_IsNumeral, decimal_nonempty}
 use Rattle.std.proofs.lemmas.Option.{option_and_then_some, same_Some}
-use Rattle.psci_board.specs.Grammar.{Mid, TreeText, IsNumber, IsListOf, IsMid, IsTreeText, listed}
-use Rattle.psci_board.specs.Grammar.{mid, tree}
-use Rattle.psci_board.specs.Grammar.Mid.{Number, Group}
+use Rattle.psci_board.specs.Grammar.{Member, TreeText, IsNumber, IsListOf, IsMember, IsTreeText}
+use Rattle.psci_board.specs.Grammar.{listed}
+use Rattle.psci_board.specs.Grammar.{member, tree}
+use Rattle.psci_board.specs.Grammar.Member.{Cluster, Group}
 use Rattle.psci_board.specs.Grammar.TreeText.{One, Members}
-use Rattle.psci_board.specs.Reading.{number_at, list_at, starts_list, mid_at, tree_at}
+use Rattle.psci_board.specs.Reading.{number_at, list_at, starts_list, member_at, tree_at}
 use Rattle.psci_board.proofs.Spelled.{Ends, Reads, list_again, list_takes}
 use Rattle.psci_board.proofs.SpelledWords.{number_reads}
 
@@ -75,25 +76,25 @@ either_takes one many item spell P r bytes false x e C of_one of_many =
 
 -- Members of the outer list ---------------------------------------------------------------------
 
-mid_again : (m : Mid) (rest : List ℕ) → IsMid m → Ends is_ascii_digit rest
-    → mid_at (mid m ++ rest) ≡ Some (m, rest)
-unfolding mid_at number_or
-mid_again (Number n) rest h e =
-    rw (number_starts n rest h) (one_again Number Group number_at n rest h e)
-mid_again (Group ns) rest h e =
+member_again : (m : Member) (rest : List ℕ) → IsMember m → Ends is_ascii_digit rest
+    → member_at (member m ++ rest) ≡ Some (m, rest)
+unfolding member_at number_or
+member_again (Cluster n) rest h e =
+    rw (number_starts n rest h) (one_again Cluster Group number_at n rest h e)
+member_again (Group ns) rest h e =
     rw (list_starts IsNumber decimal ns rest h)
-    (many_again Number Group number_at decimal IsNumber number_reads ns rest h)
+    (many_again Cluster Group number_at decimal IsNumber number_reads ns rest h)
 
-mid_takes : (bytes : List ℕ) (x : Mid × List ℕ) → mid_at bytes ≡ Some x
-    → IsMid x.0 × (bytes ≡ mid x.0 ++ x.1)
-unfolding mid_at number_or
-mid_takes bytes x e =
-    either_takes Number Group number_at decimal IsNumber number_reads bytes (starts_list bytes) x e
-    (λ (y : Mid × List ℕ). IsMid y.0 × (bytes ≡ mid y.0 ++ y.1))
+member_takes : (bytes : List ℕ) (x : Member × List ℕ) → member_at bytes ≡ Some x
+    → IsMember x.0 × (bytes ≡ member x.0 ++ x.1)
+unfolding member_at number_or
+member_takes bytes x e =
+    either_takes Cluster Group number_at decimal IsNumber number_reads bytes (starts_list bytes) x e
+    (λ (y : Member × List ℕ). IsMember y.0 × (bytes ≡ member y.0 ++ y.1))
     (λ n rest h s. (h, s)) (λ ns rest h s. (h, s))
 
-pub mid_reads : Reads mid_at mid IsMid is_ascii_digit
-mid_reads = record { again = mid_again; takes = mid_takes }
+pub member_reads : Reads member_at member IsMember is_ascii_digit
+member_reads = record { again = member_again; takes = member_takes }
 
 -- Trees -----------------------------------------------------------------------------------------
 
@@ -101,16 +102,16 @@ tree_again : (t : TreeText) (rest : List ℕ) → IsTreeText t → Ends is_ascii
     → tree_at (tree t ++ rest) ≡ Some (t, rest)
 unfolding tree_at number_or
 tree_again (One n) rest h e =
-    rw (number_starts n rest h) (one_again One Members mid_at n rest h e)
+    rw (number_starts n rest h) (one_again One Members member_at n rest h e)
 tree_again (Members ms) rest h e =
-    rw (list_starts IsMid mid ms rest h)
-    (many_again One Members mid_at mid IsMid mid_reads ms rest h)
+    rw (list_starts IsMember member ms rest h)
+    (many_again One Members member_at member IsMember member_reads ms rest h)
 
 tree_takes : (bytes : List ℕ) (x : TreeText × List ℕ) → tree_at bytes ≡ Some x
     → IsTreeText x.0 × (bytes ≡ tree x.0 ++ x.1)
 unfolding tree_at number_or
 tree_takes bytes x e =
-    either_takes One Members mid_at mid IsMid mid_reads bytes (starts_list bytes) x e
+    either_takes One Members member_at member IsMember member_reads bytes (starts_list bytes) x e
     (λ (y : TreeText × List ℕ). IsTreeText y.0 × (bytes ≡ tree y.0 ++ y.1))
     (λ n rest h s. (h, s)) (λ ms rest h s. (h, s))
 

@@ -128,19 +128,19 @@ hex_takes : (bytes : List ℕ) (x : List ℕ × List ℕ) → hex_at bytes ≡ S
     → IsHex x.0 × (bytes ≡ hex x.0 ++ x.1)
 unfolding hex_at
 hex_takes bytes x e =
-    option_and_then_some _ (literal_at (48 ∷ 120 ∷ []) bytes) x e (λ behind a e1.
-    let k = prefix_len is_ascii_hexdigit behind in
+    option_and_then_some _ (literal_at (48 ∷ 120 ∷ []) bytes) x e (λ after a e1.
+    let k = prefix_len is_ascii_hexdigit after in
     let c = cond_some (nat_lt 0 k && nat_le k 16) _ _ e1 in
     let few = hex_by_length k c.0 in
-    let long : length (take k behind) ≡ k = length-prefix_len is_ascii_hexdigit behind in
-    let digits : IsHex (take k behind) = record {
+    let long : length (take k after) ≡ k = length-prefix_len is_ascii_hexdigit after in
+    let digits : IsHex (take k after) = record {
       some = omega (arith, few.0, long);
       most = omega (arith, few.1, long);
-      each = All-from_recursion _ (take k behind) (kind_front is_ascii_hexdigit behind);
+      each = All-from_recursion _ (take k after) (kind_front is_ascii_hexdigit after);
     } in
-    let whole : bytes ≡ hex (take k behind) ++ drop k behind =
-    literal_takes (48 ∷ 120 ∷ []) bytes behind a
-    ∙ ap (λ bs. 48 ∷ 120 ∷ bs) (sym (take-append-drop k behind)) in
+    let whole : bytes ≡ hex (take k after) ++ drop k after =
+    literal_takes (48 ∷ 120 ∷ []) bytes after a
+    ∙ ap (λ bs. 48 ∷ 120 ∷ bs) (sym (take-append-drop k after)) in
     subst (λ (y : List ℕ × List ℕ). IsHex y.0 × (bytes ≡ hex y.0 ++ y.1)) c.1 (digits, whole))
 
 pub hex_reads : Reads hex_at hex IsHex is_ascii_hexdigit
@@ -157,22 +157,22 @@ range_again r rest h e =
     hex_again r.0 (45 ∷ hex r.1 ++ rest) h.start refl in
     rw (append_assoc, from, to) refl
 
-range_joined : (bytes from dash behind to rest : List ℕ) → bytes ≡ from ++ dash → dash ≡ 45 ∷ behind
-    → behind ≡ to ++ rest → bytes ≡ (from ++ 45 ∷ to) ++ rest
-range_joined bytes from dash behind to rest a b c = rw append_assoc (cc)
+range_joined : (bytes from dash after to rest : List ℕ) → bytes ≡ from ++ dash → dash ≡ 45 ∷ after
+    → after ≡ to ++ rest → bytes ≡ (from ++ 45 ∷ to) ++ rest
+range_joined bytes from dash after to rest a b c = rw append_assoc (cc)
 
 range_takes : (bytes : List ℕ) (x : (List ℕ × List ℕ) × List ℕ) → range_at bytes ≡ Some x
     → IsRange x.0 × (bytes ≡ range x.0 ++ x.1)
 unfolding range_at
 range_takes bytes x e =
     option_and_then_some _ (hex_at bytes) x e (λ from a e1.
-    option_and_then_some _ (literal_at (45 ∷ []) from.1) x e1 (λ behind b e2.
-    option_and_then_some _ (hex_at behind) x e2 (λ to d e3.
+    option_and_then_some _ (literal_at (45 ∷ []) from.1) x e1 (λ after b e2.
+    option_and_then_some _ (hex_at after) x e2 (λ to d e3.
     let f = hex_takes bytes from a in
-    let t = hex_takes behind to d in
+    let t = hex_takes after to d in
     let whole : bytes ≡ range (from.0, to.0) ++ to.1 =
-    range_joined bytes (hex from.0) from.1 behind (hex to.0) to.1 f.1
-    (literal_takes (45 ∷ []) from.1 behind b) t.1 in
+    range_joined bytes (hex from.0) from.1 after (hex to.0) to.1 f.1
+    (literal_takes (45 ∷ []) from.1 after b) t.1 in
     let same : ((from.0, to.0), to.1) ≡ x = same_Some _ _ e3 in
     subst (λ (y : (List ℕ × List ℕ) × List ℕ). IsRange y.0 × (bytes ≡ range y.0 ++ y.1)) same
     (record { start = f.0; end = t.0 }, whole))))

@@ -7,7 +7,7 @@ use Rattle.psci_board.specs.declared.fault.BoardFault.TheVariants.{TooManyCores,
 use Rattle.psci_board.specs.declared.fault.BoardFault.TheVariants.{BadLimit}
 use Rattle.psci_board.specs.Board.{BoardValue}
 use Rattle.psci_board.specs.Reading.{literal_at, number_at, hex_at, range_at, spaced_at, at_most}
-use Rattle.psci_board.specs.Reading.{more_at, list_at, mid_at, tree_at, board_text}
+use Rattle.psci_board.specs.Reading.{more_at, list_at, member_at, tree_at, board_text}
 use Rattle.psci_board.specs.Verdict.{board_of, verdict}
 
 abbrev pub fault_in : Result BoardValue BoardFault → List BoardFault
@@ -36,7 +36,7 @@ pub good_trees : with_tree (
     codes "((16 16) (16 16))" ∷
     codes "((1))" ∷
     []) ≡ replicate 6 []
-unfolding board_of verdict board_text tree_at mid_at list_at more_at at_most spaced_at
+unfolding board_of verdict board_text tree_at member_at list_at more_at at_most spaced_at
     range_at hex_at number_at literal_at
 good_trees = refl
 
@@ -55,7 +55,7 @@ pub not_trees : with_tree (
     codes "+2" ∷
     codes "18446744073709551616" ∷
     []) ≡ replicate 13 (Grammar ∷ [])
-unfolding board_of verdict board_text tree_at mid_at list_at more_at at_most spaced_at
+unfolding board_of verdict board_text tree_at member_at list_at more_at at_most spaced_at
     range_at hex_at number_at literal_at
 not_trees = refl
 
@@ -66,7 +66,7 @@ pub uneven : with_tree (
     codes "(0 (17))" ∷
     codes "(16 16 16 16 (16))" ∷
     []) ≡ replicate 4 (Uneven ∷ [])
-unfolding board_of verdict board_text tree_at mid_at list_at more_at at_most spaced_at
+unfolding board_of verdict board_text tree_at member_at list_at more_at at_most spaced_at
     range_at hex_at number_at literal_at
 uneven = refl
 
@@ -83,7 +83,7 @@ pub wide : with_tree (
     codes "(1 1 1 1 1 1 1 1 1 1 1 1 1 1 1 1 1)" ∷
     codes "((1) (1) (1) (1) (1) (1) (1) (1) (1) (1) (1) (1) (1) (1) (1) (1) (1))" ∷
     []) ≡ replicate 10 (TooWide ∷ [])
-unfolding board_of verdict board_text tree_at mid_at list_at more_at at_most spaced_at
+unfolding board_of verdict board_text tree_at member_at list_at more_at at_most spaced_at
     range_at hex_at number_at literal_at
 wide = refl
 
@@ -91,7 +91,7 @@ pub many : with_tree (
     codes "(16 16 16 16 1)" ∷
     codes "((16 16 16 16) (1))" ∷
     []) ≡ replicate 2 (TooManyCores ∷ [])
-unfolding board_of verdict board_text tree_at mid_at list_at more_at at_most spaced_at
+unfolding board_of verdict board_text tree_at member_at list_at more_at at_most spaced_at
     range_at hex_at number_at literal_at
 many = refl
 
@@ -101,7 +101,7 @@ pub good_ranges : with_ranges (
     codes "0x0-0x1 boot 0x0000000000000000" ∷
     codes "0xfffffffffffffff0-0xFFFFFFFFFFFFFFFF boot 0xfFfFfFfFfFfFfFfC" ∷
     []) ≡ replicate 4 []
-unfolding board_of verdict board_text tree_at mid_at list_at more_at at_most spaced_at
+unfolding board_of verdict board_text tree_at member_at list_at more_at at_most spaced_at
     range_at hex_at number_at literal_at
 good_ranges = refl
 
@@ -113,7 +113,7 @@ pub bad_ranges : with_ranges (
     codes "0x0-0x10 0x0-0x10 0x0-0x10 0x0-0x10 0x0-0x10 boot 0x0" ∷
     codes "0x10-0x0 boot 0x1" ∷
     []) ≡ replicate 5 (BadRange ∷ [])
-unfolding board_of verdict board_text tree_at mid_at list_at more_at at_most spaced_at
+unfolding board_of verdict board_text tree_at member_at list_at more_at at_most spaced_at
     range_at hex_at number_at literal_at
 bad_ranges = refl
 
@@ -123,7 +123,7 @@ pub bad_boot : with_ranges (
     codes "0x4-0x10 boot 0x0" ∷
     codes "0x0-0x10 0x20-0x30 boot 0x14" ∷
     []) ≡ replicate 4 (BadBoot ∷ [])
-unfolding board_of verdict board_text tree_at mid_at list_at more_at at_most spaced_at
+unfolding board_of verdict board_text tree_at member_at list_at more_at at_most spaced_at
     range_at hex_at number_at literal_at
 bad_boot = refl
 
@@ -131,7 +131,7 @@ pub good_limits : with_limits (
     codes "starts 1 lives 1" ∷
     codes "starts 4294967295 lives 65535" ∷
     []) ≡ replicate 2 []
-unfolding board_of verdict board_text tree_at mid_at list_at more_at at_most spaced_at
+unfolding board_of verdict board_text tree_at member_at list_at more_at at_most spaced_at
     range_at hex_at number_at literal_at
 good_limits = refl
 
@@ -142,7 +142,7 @@ pub bad_limits : with_limits (
     codes "starts 1 lives 65536" ∷
     codes "starts 18446744073709551615 lives 1" ∷
     []) ≡ replicate 5 (BadLimit ∷ [])
-unfolding board_of verdict board_text tree_at mid_at list_at more_at at_most spaced_at
+unfolding board_of verdict board_text tree_at member_at list_at more_at at_most spaced_at
     range_at hex_at number_at literal_at
 bad_limits = refl
 
@@ -157,6 +157,6 @@ pub not_limits : with_limits (
     codes "Starts 1 lives 1" ∷
     codes "starts 1 lives 1\t" ∷
     []) ≡ replicate 9 (Grammar ∷ [])
-unfolding board_of verdict board_text tree_at mid_at list_at more_at at_most spaced_at
+unfolding board_of verdict board_text tree_at member_at list_at more_at at_most spaced_at
     range_at hex_at number_at literal_at
 not_limits = refl

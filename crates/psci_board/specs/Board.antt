@@ -5,9 +5,13 @@ use Rattle.std.specs.Prelude.{if◌then◌else◌, Option, None, Some, option_ma
 use Rattle.std.specs.Prelude.{slice_index, slice_index_or, slice_get}
 use Rattle.std.specs.List.{list_any, AllPass, range_with_len}
 use Rattle.psci_board.specs.declared.range.AddressRange.{AddressRange}
+use Rattle.psci_board.specs.declared.limits.TheConstants.{MOST_LEVELS, MOST_CHILDREN, MOST_CORES}
+use Rattle.psci_board.specs.declared.limits.TheConstants.{MOST_LIVES}
 use Rattle.psci_board.specs.declared.node.Node.{Node}
 use Rattle.psci_board.specs.declared.node.Core.{Core}
+use Rattle.psci_board.specs.declared.span.CoreSpan.{CoreSpan}
 
+-- A board as contracts see it.
 pub record BoardValue : Type 0 where
   -- from level 1 up, how many children each node of the level has, from left to right
   pub levels : List (List ℕ)
@@ -22,20 +26,22 @@ pub record BoardValue : Type 0 where
 
 -- The tree ------------------------------------------------------------------------------------
 
--- a node has 1 to 16 children
+-- a node has one child or more, and no more than it may have
 abbrev pub is_width : ℕ → Bool
-is_width n = nat_lt 0 n && nat_le n 16
+is_width n = nat_lt 0 n && nat_le n MOST_CHILDREN
 
 -- how many nodes stand below these levels: the system alone, where there is none
 abbrev pub size_below : List (List ℕ) → ℕ
 size_below [] = 1
 size_below (w ∷ ws) = sum w
 
--- each level has one group of children for each node of the next one, and 64 nodes at most
+-- each level has one group of children for each node of the next one, and no more nodes than a
+-- board may have cores
 abbrev pub IsTree : List (List ℕ) → Type 0
 IsTree [] = Unit {0}
-IsTree (w ∷ ws) = (length w ≡ size_below ws) × (sum w ≤ 64) × AllPass is_width w × IsTree ws
+IsTree (w ∷ ws) = (length w ≡ size_below ws) × (sum w ≤ MOST_CORES) × AllPass is_width w × IsTree ws
 
+-- the level of the system
 abbrev pub height : BoardValue → ℕ
 height b = length b.levels
 
@@ -43,6 +49,7 @@ height b = length b.levels
 abbrev pub nodes : BoardValue → ℕ → ℕ
 nodes b level = size_below (drop level b.levels)
 
+-- how many cores there are: the nodes of level 0
 abbrev pub cores : BoardValue → ℕ
 cores b = nodes b 0
 
@@ -55,6 +62,7 @@ abbrev pub group_of : List ℕ → ℕ → ℕ
 group_of [] i = 0
 group_of (n ∷ ns) i = if nat_lt i n then 0 else group_of ns (i - n) + 1
 
+-- the place within its group
 abbrev pub place_in : List ℕ → ℕ → ℕ
 place_in [] i = i
 place_in (n ∷ ns) i = if nat_lt i n then i else place_in ns (i - n)
@@ -81,9 +89,14 @@ place_above (w ∷ ws) (suc l) i = place_above ws l (group_of w i)
 unfoldable pub up : BoardValue → ℕ → ℕ → ℕ
 up b level core = place_above b.levels level core
 
+-- the cores below a node of these levels, from left to right: those whose node of its level it is
+abbrev pub below_in : List (List ℕ) → Node → List ℕ
+below_in levels n =
+    filter (λ c. place_above levels n.level c == n.place) (range_with_len 0 (size_below levels))
+
 -- the cores below a node, from left to right
 abbrev pub below : BoardValue → Node → List ℕ
-below b n = filter (λ c. up b n.level c == n.place) (range_with_len 0 (cores b))
+below b n = below_in b.levels n
 
 -- the nodes of a level above the cores, each by its number of children
 abbrev pub level_at : BoardValue → ℕ → Option (List ℕ)
@@ -100,6 +113,7 @@ abbrev pub first_child : BoardValue → ℕ → ℕ → ℕ
 first_child b zero place = 0
 first_child b (suc level) place = sum (take place (slice_index_or b.levels level []))
 
+-- how many children a node has
 abbrev pub children : BoardValue → Node → ℕ
 children b n = children_at b n.level n.place
 
@@ -109,6 +123,47 @@ child b n k =
     if nat_lt k (children b n)
     then Some (record { level = n.level - 1; place = first_child b n.level n.place + k })
     else None
+
+-- one level up, the node whose child a node is: none above the system
+abbrev pub parent : BoardValue → Node → Option Node
+parent b n =
+    if nat_lt n.level (height b) && nat_lt n.place (nodes b n.level)
+    then Some (record {
+      level = n.level + 1;
+      place = group_of (slice_index_or b.levels n.level []) n.place;
+    })
+    else None
+
+-- the number of a node among the children of its parent, from left to right and from 0
+abbrev pub child_number : BoardValue → Node → Option ℕ
+child_number b n =
+    if nat_lt n.level (height b) && nat_lt n.place (nodes b n.level)
+    then Some (place_in (slice_index_or b.levels n.level []) n.place)
+    else None
+
+-- Spans ---------------------------------------------------------------------------------------
+
+-- the number of the first core below the node of this level and place: that of the first core
+-- below its first child
+abbrev pub first_core : List (List ℕ) → ℕ → ℕ → ℕ
+first_core levels zero place = place
+first_core levels (suc level) place =
+    first_core levels level (sum (take place (slice_index_or levels level [])))
+
+-- the cores from the first one below a node on, before the first one below the node after it
+abbrev pub span : List (List ℕ) → Node → CoreSpan
+span levels n = record {
+  first = first_core levels n.level n.place;
+  count = first_core levels n.level (n.place + 1) - first_core levels n.level n.place;
+}
+
+-- the board has this node
+abbrev pub has_node : BoardValue → Node → Bool
+has_node b n = nat_le n.level (height b) && nat_lt n.place (nodes b n.level)
+
+-- the span of a node of the board
+abbrev pub cores_below : BoardValue → Node → Option CoreSpan
+cores_below b n = if has_node b n then Some (span b.levels n) else None
 
 -- Affinity words ------------------------------------------------------------------------------
 
@@ -138,6 +193,7 @@ core_of b word =
 
 -- Addresses -----------------------------------------------------------------------------------
 
+-- the address lies in one of the ranges: at its start or after it, and before its end
 abbrev pub is_in_some : List AddressRange → ℕ → Bool
 is_in_some ranges a = list_any (λ r. nat_le r.start a && nat_lt a r.end) ranges
 
@@ -147,18 +203,22 @@ may_enter b a = a % 4 == 0 && is_in_some b.ranges a
 
 -- Facts ---------------------------------------------------------------------------------------
 
+-- a node of these levels
+pub record HasNodeIn (levels : List (List ℕ)) (n : Node) : Type 0 where
+  pub level : n.level ≤ length levels
+  pub place : n.place < size_below (drop n.level levels)
+
 -- a node of the board
-pub record HasNode (b : BoardValue) (n : Node) : Type 0 where
-  pub level : n.level ≤ height b
-  pub place : n.place < nodes b n.level
+abbrev pub HasNode : BoardValue → Node → Type 0
+HasNode b n = HasNodeIn b.levels n
 
 -- what holds of every board that was read
 pub record IsBoard (b : BoardValue) : Type 0 where
   pub tree : IsTree b.levels
   pub low : 0 < height b
-  pub high : height b ≤ 3
+  pub high : height b ≤ MOST_LEVELS
   pub boot : may_enter b b.boot ≡ true
   pub some_starts : 0 < b.starts
   pub starts : b.starts < 2 ^ 32
   pub some_lives : 0 < b.lives
-  pub lives : b.lives ≤ 65535
+  pub lives : b.lives ≤ MOST_LIVES

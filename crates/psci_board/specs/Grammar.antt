@@ -5,13 +5,14 @@ use Rattle.std.specs.Char.{is_ascii_hexdigit}
 use Rattle.std.specs.Fmt.{decimal}
 
 -- a member of the outer list: a number, or a list of numbers
-pub data Mid : Type 0 where
-  Number : ℕ → Mid
-  Group : List ℕ → Mid
+pub data Member : Type 0 where
+  Cluster : ℕ → Member
+  Group : List ℕ → Member
 
+-- the tree: a number, which is one cluster, or a list of members
 pub data TreeText : Type 0 where
   One : ℕ → TreeText
-  Members : List Mid → TreeText
+  Members : List Member → TreeText
 
 -- A board text. An address is given by its digits, since it can be written in several ways.
 pub record BoardText : Type 0 where
@@ -30,19 +31,23 @@ abbrev pub listed : {A : Type 0} → (A → List ℕ) → List A → List ℕ
 listed item [] = []
 listed item (x ∷ xs) = 40 ∷ item x ++ (spaced item xs ++ 41 ∷ [])
 
+-- an address: 0x and its digits
 abbrev pub hex : List ℕ → List ℕ
 hex digits = 48 ∷ 120 ∷ digits
 
+-- a range: two addresses with a hyphen between them
 abbrev pub range : List ℕ × List ℕ → List ℕ
 range r = hex r.0 ++ 45 ∷ hex r.1
 
-abbrev pub mid : Mid → List ℕ
-mid (Number n) = decimal n
-mid (Group ns) = listed decimal ns
+-- a member: a number, or the numbers of a group in brackets
+abbrev pub member : Member → List ℕ
+member (Cluster n) = decimal n
+member (Group ns) = listed decimal ns
 
+-- a tree: a number, or its members in brackets
 abbrev pub tree : TreeText → List ℕ
 tree (One n) = decimal n
-tree (Members ms) = listed mid ms
+tree (Members ms) = listed member ms
 
 -- the spelling of a board text
 abbrev pub spelling : BoardText → List ℕ
@@ -60,6 +65,7 @@ pub record IsHex (digits : List ℕ) : Type 0 where
   pub most : length digits ≤ 16
   pub each : AllPass is_ascii_hexdigit digits
 
+-- a range of two addresses
 pub record IsRange (r : List ℕ × List ℕ) : Type 0 where
   pub start : IsHex r.0
   pub end : IsHex r.1
@@ -69,13 +75,15 @@ pub record IsListOf {A : Type 0} (P : A → Type 0) (xs : List A) : Type 0 where
   pub some : 0 < length xs
   pub each : All P xs
 
-abbrev pub IsMid : Mid → Type 0
-IsMid (Number n) = IsNumber n
-IsMid (Group ns) = IsListOf IsNumber ns
+-- a member whose numbers have a spelling, of one cluster or more
+abbrev pub IsMember : Member → Type 0
+IsMember (Cluster n) = IsNumber n
+IsMember (Group ns) = IsListOf IsNumber ns
 
+-- a tree of one member or more, whose numbers have a spelling
 abbrev pub IsTreeText : TreeText → Type 0
 IsTreeText (One n) = IsNumber n
-IsTreeText (Members ms) = IsListOf IsMid ms
+IsTreeText (Members ms) = IsListOf IsMember ms
 
 -- a text of the grammar
 pub record IsBoardText (t : BoardText) : Type 0 where

@@ -3,6 +3,6 @@ pub mod Grammar
 pub mod Laws
 pub mod Level
 pub mod Reading
-pub mod Seen
 pub mod Summary
+pub mod SummaryVerdict
 pub mod Verdict

@@ -5,11 +5,12 @@ use Rattle.std.specs.Prelude.{if◌then◌else◌, codes, slice_index}
 use Rattle.std.specs.List.{prefix_len}
 use Rattle.std.specs.Char.{is_ascii_digit, is_ascii_hexdigit}
 use Rattle.std.specs.Str.Parse.{digits_value}
-use Rattle.psci_board.specs.Grammar.{Mid, TreeText, BoardText}
-use Rattle.psci_board.specs.Grammar.Mid.{Number, Group}
+use Rattle.psci_board.specs.Grammar.{Member, TreeText, BoardText}
+use Rattle.psci_board.specs.Grammar.Member.{Cluster, Group}
 use Rattle.psci_board.specs.Grammar.TreeText.{One, Members}
 
 infixl 10 ◌>>=◌
+-- what is read next, where something was read
 abbrev pub ◌>>=◌ : {A B : Type 0} → Option A → (A → Option B) → Option B
 o >>= f = option_and_then f o
 
@@ -25,6 +26,7 @@ is_number digits = nat_lt 0 (length digits)
     && ((length digits == 1 || not (slice_index digits 0 == 48))
     && nat_lt (digits_value 10 digits) (2 ^ 64))
 
+-- a number: all digits that stand there, if they are one
 unfoldable pub number_at : List ℕ → Option (ℕ × List ℕ)
 number_at bytes = let n = prefix_len is_ascii_digit bytes in
     if is_number (take n bytes) then Some (digits_value 10 (take n bytes), drop n bytes) else None
@@ -40,6 +42,7 @@ hex_at bytes = do
 abbrev pub hex_value : List ℕ × List ℕ → ℕ × List ℕ
 hex_value x = (digits_value 16 x.0, x.1)
 
+-- a range: two addresses with a hyphen between them
 unfoldable pub range_at : List ℕ → Option ((List ℕ × List ℕ) × List ℕ)
 range_at bytes = do
   from ← hex_at bytes
@@ -58,13 +61,13 @@ abbrev pub then_more : {A : Type 0} → List ℕ → (List ℕ → List A × Lis
 then_more bytes go None = ([], bytes)
 then_more bytes go (Some x) = (x.0 ∷ (go x.1).0, (go x.1).1)
 
--- Items behind a space each, as many as there are, but n at most.
+-- Items after a space each, as many as there are, but n at most.
 unfoldable pub at_most : {A : Type 0} → (List ℕ → Option (A × List ℕ)) → ℕ → List ℕ
     → List A × List ℕ
 at_most item zero bytes = ([], bytes)
 at_most item (suc n) bytes = then_more bytes (at_most item n) (spaced_at item bytes)
 
--- Items behind a space each, as many as there are. Each takes a byte or more.
+-- Items after a space each, as many as there are. Each takes a byte or more.
 unfoldable pub more_at : {A : Type 0} → (List ℕ → Option (A × List ℕ)) → List ℕ → List A × List ℕ
 more_at item bytes = at_most item (length bytes) bytes
 
@@ -79,29 +82,32 @@ list_at item bytes = do
   Some (first.0 ∷ others.0, close)
 
 -- how many, and the bytes after them
-abbrev pub counted : {A : Type 0} → List A × List ℕ → ℕ × List ℕ
-counted x = (length x.0, x.1)
+abbrev pub count_and_rest : {A : Type 0} → List A × List ℕ → ℕ × List ℕ
+count_and_rest x = (length x.0, x.1)
 
 -- the bytes after it
 abbrev pub rest_of : {A : Type 0} → A × List ℕ → List ℕ
 rest_of x = x.1
 
+-- a bracket is opened
 abbrev pub starts_list : List ℕ → Bool
 starts_list bytes = slice_index bytes 0 == 40
 
-unfoldable pub mid_at : List ℕ → Option (Mid × List ℕ)
-mid_at bytes = if starts_list bytes
+-- a member: a group where a bracket is opened, else a number
+unfoldable pub member_at : List ℕ → Option (Member × List ℕ)
+member_at bytes = if starts_list bytes
     then (do
       ns ← list_at number_at bytes
       Some (Group ns.0, ns.1))
     else (do
       n ← number_at bytes
-      Some (Number n.0, n.1))
+      Some (Cluster n.0, n.1))
 
+-- a tree: members where a bracket is opened, else a number
 unfoldable pub tree_at : List ℕ → Option (TreeText × List ℕ)
 tree_at bytes = if starts_list bytes
     then (do
-      ms ← list_at mid_at bytes
+      ms ← list_at member_at bytes
       Some (Members ms.0, ms.1))
     else (do
       n ← number_at bytes

@@ -6,6 +6,7 @@ use crate::level::{Level, copies};
 use crate::node::{Core, Node};
 use crate::path::path_of;
 use crate::range::AddressRange;
+use crate::span::{CoreSpan, first_core};
 use arrayvec::ArrayVec;
 use std::alloc::Global;
 use std::marker::Model;
@@ -42,9 +43,10 @@ impl Model for Board {
     }) };
 }
 
-ghost use Rattle.std.specs.Prelude.{◌≡◌, ◌<◌, true, option_map, IfOk, IfSome};
+ghost use Rattle.std.specs.Prelude.{◌≡◌, ◌<◌, ◌≤◌, true, option_map, IfOk, IfSome};
 ghost use Rattle.psci_board.specs.Board.{IsBoard, HasNode, height, cores, core_at, path, children};
 ghost use Rattle.psci_board.specs.Board.{child, may_enter, node_of, core_of, is_in_some, level_at};
+ghost use Rattle.psci_board.specs.Board.{parent, child_number, nodes, cores_below};
 
 impl Board {
     /// The level of the system, 1 to 3.
@@ -130,6 +132,62 @@ impl Board {
         Some(Node {
             level: node.level - 1,
             place,
+        })
+    }
+
+    /// The node whose child a node is, one level up. The system has none, nor has a node that is
+    /// not of this board.
+    pub fn parent(&self, node: Node) -> Option<Node>
+        ensures { result ≡ parent self.now node }
+    {
+        let level = self.levels.get(node.level as usize)?;
+        if node.place >= level.all_children() {
+            return None;
+        }
+        Some(Node {
+            level: node.level + 1,
+            place: level.parent(node.place),
+        })
+    }
+
+    /// The number of a node among the children of its parent, from left to right and from 0. The
+    /// system has none, nor has a node that is not of this board.
+    pub fn child_number(&self, node: Node) -> Option<u32>
+        ensures { result ≡ child_number self.now node }
+    {
+        let level = self.levels.get(node.level as usize)?;
+        if node.place >= level.all_children() {
+            return None;
+        }
+        Some(u32::from(level.number(node.place)))
+    }
+
+    /// How many nodes a level has: none above the height.
+    pub fn nodes(&self, level: u32) -> u16
+        ensures there { level ≤ height self.now → result ≡ nodes self.now level }
+        ensures above { height self.now < level → result ≡ 0 }
+    {
+        match self.levels.get(level as usize) {
+            Some(above) => above.all_children(),
+            None => u16::from(level == self.height()),
+        }
+    }
+
+    /// The cores below a node, which stand side by side, if the board has the node. It takes one
+    /// step for each level, however many cores there are.
+    #[tactic(auto, using(crate::proofs::Spans::walk))]
+    pub fn cores_below(&self, node: Node) -> Option<CoreSpan>
+        ensures { result ≡ cores_below self.now node }
+    {
+        if node.place >= self.nodes(node.level) {
+            return None;
+        }
+        let (lower, _) = self.levels.split_at(node.level as usize);
+        let first = first_core(lower, node.place);
+        let end = first_core(lower, node.place + 1);
+        Some(CoreSpan {
+            first,
+            count: end - first,
         })
     }
 

@@ -2,19 +2,20 @@
 
 ghost use Rattle.std.specs.Prelude.{◌≡◌, IfOk};
 ghost use Rattle.psci_board.specs.Board.{IsBoard, IsTree};
-ghost use Rattle.psci_board.specs.Summary.{board_seen, levels_seen};
+ghost use Rattle.psci_board.specs.SummaryVerdict.{summary_board, summary_levels};
 
 use crate::board::Board;
 use crate::fault::Memory;
 use crate::level::Level;
-use crate::seen::TreeSeen;
-use crate::text_seen::TextSeen;
+use crate::limits::MOST_LEVELS;
+use crate::summary::TreeSummary;
+use crate::text::TextSummary;
 use std::alloc::Global;
 
 /// The board of what was read, which has no fault.
-pub fn build(alloc: Global, text: &TextSeen) -> Result<Board, Memory>
-    requires { IsBoard (board_seen text.now) }
-    ensures { IfOk result (λ b. b ≡ board_seen text.now) }
+pub fn build(alloc: Global, text: &TextSummary) -> Result<Board, Memory>
+    requires { IsBoard (summary_board text.now) }
+    ensures { IfOk result (λ b. b ≡ summary_board text.now) }
 {
     Ok(Board {
         levels: levels(alloc, &text.tree)?,
@@ -26,13 +27,13 @@ pub fn build(alloc: Global, text: &TextSeen) -> Result<Board, Memory>
 }
 
 /// The levels of a tree, from 1 up.
-fn levels(alloc: Global, tree: &TreeSeen) -> Result<Vec<Level>, Memory>
-    requires { IsTree (levels_seen tree.now) }
-    ensures { IfOk result (λ levels. levels.items ≡ levels_seen tree.now) }
+fn levels(alloc: Global, tree: &TreeSummary) -> Result<Vec<Level>, Memory>
+    requires { IsTree (summary_levels tree.now) }
+    ensures { IfOk result (λ levels. levels.items ≡ summary_levels tree.now) }
 {
-    let mut levels = Vec::with_capacity(alloc, 3)?;
+    let mut levels = Vec::with_capacity(alloc, MOST_LEVELS)?;
     levels.push(Level::new(alloc, tree.clusters())?)?;
-    if tree.is_grouped() {
+    if tree.has_group() {
         levels.push(Level::new(alloc, tree.sizes())?)?;
     }
     if tree.is_list() {

@@ -28,7 +28,7 @@ impl Model for Level {
 }
 
 ghost use Rattle.std.specs.Prelude.{◌≡◌, ℕ, ◌<◌, ◌^◌, length, sum, take, slice_index, IfOk};
-ghost use Rattle.psci_board.specs.Board.{group_of};
+ghost use Rattle.psci_board.specs.Board.{group_of, place_in};
 ghost use Rattle.psci_board.specs.Level.{child_in};
 
 impl Level {
@@ -70,6 +70,17 @@ impl Level {
         self.parents.len() as u16
     }
 
+    /// Where the children of the node at `place` begin, on the level below: after all children,
+    /// where the level has no such node.
+    pub fn first_child(&self, place: u16) -> u16
+        ensures { result ≡ sum (take place self.now) }
+    {
+        match self.firsts.get(place as usize) {
+            Some(first) => *first,
+            None => self.all_children(),
+        }
+    }
+
     /// The place, on the level below, of the child of this number of the node at `place`, from
     /// left to right and from 0, if there is one.
     pub fn child(&self, place: u16, number: u32) -> Option<u16>
@@ -85,6 +96,14 @@ impl Level {
         ensures { result ≡ group_of self.now place }
     {
         self.parents[place as usize]
+    }
+
+    /// The number, among its siblings, of the child at `place` on the level below.
+    pub fn number(&self, place: u16) -> u16
+        requires { place < sum self.now }
+        ensures { result ≡ place_in self.now place }
+    {
+        place - self.firsts[self.parent(place) as usize]
     }
 }
 

@@ -15,23 +15,27 @@ mod build;
 mod fault;
 mod laws;
 mod level;
+mod limits;
 mod node;
 mod path;
 mod range;
 mod range_text;
 mod read;
-mod seen;
-mod text_seen;
+mod span;
+mod summary;
+mod text;
 mod tree_laws;
 mod tree_text;
 mod words;
 
 pub use board::Board;
 pub use fault::{BoardFault, Memory};
-pub use laws::law_board_text;
+pub use laws::{law_board_text, law_boards};
+pub use limits::{MOST_CHILDREN, MOST_CORES, MOST_LEVELS, MOST_LIVES, MOST_RANGES};
 pub use node::{Core, Node};
 pub use range::AddressRange;
-pub use tree_laws::{law_children, law_paths, law_sizes, law_words};
+pub use span::CoreSpan;
+pub use tree_laws::{law_children, law_parents, law_paths, law_sizes, law_spans, law_words};
 pub use words::{hex, literal, number};
 
 #[cfg(test)]

@@ -4,13 +4,14 @@ ghost use Rattle.std.specs.Prelude.{◌≡◌, ◌<◌, ◌≤◌, length};
 ghost use Rattle.psci_board.specs.Board.{IsTree, size_below, nodes_up};
 
 use crate::level::Level;
+use crate::limits::MOST_LEVELS;
 use crate::node::Node;
 use arrayvec::ArrayVec;
 
 /// A place on the level below these, and the nodes above it.
 pub fn path_of(levels: &[Level], place: u16) -> ArrayVec<Node, 4>
     requires tree { IsTree levels.now }
-    requires high { length levels.now ≤ 3 }
+    requires high { length levels.now ≤ MOST_LEVELS }
     requires inside { place < size_below levels.now }
     ensures { result.items ≡ nodes_up 0 levels.now place }
 {

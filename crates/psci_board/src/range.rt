@@ -7,6 +7,6 @@ ghost use Rattle.std.specs.Prelude.{◌≡◌};
 pub struct AddressRange {
     /// The first address of the range.
     pub start: u64,
-    /// The first address behind it.
+    /// The first address after it.
     pub end: u64,
 }

@@ -1,43 +1,43 @@
 //! Address ranges at the front of a text.
 
 ghost use Rattle.std.specs.Prelude.{◌≡◌, option_map};
-ghost use Rattle.psci_board.specs.Seen.{noted, no_ranges, ranges_at, with_ranges};
+ghost use Rattle.psci_board.specs.Summary.{value_and_rest, no_ranges, ranges_at, with_ranges};
 ghost use Rattle.psci_board.specs.Verdict.{range_of};
 ghost use Rattle.psci_board.specs.Reading.{range_at, spaced_at};
 
 use crate::range::AddressRange;
-use crate::seen::RangesSeen;
+use crate::summary::RangesSummary;
 use crate::words::{hex, literal};
 
-/// What is kept of the ranges, each behind a space, and the text behind them.
-pub fn ranges(text: &[u8]) -> Option<(RangesSeen, &[u8])>
+/// What is kept of the ranges, each after a space, and the text after them.
+pub fn ranges(text: &[u8]) -> Option<(RangesSummary, &[u8])>
     ensures { option_map (λ x. (x.0, x.1.now)) result
-        ≡ option_map (noted (with_ranges no_ranges)) (ranges_at text.now) }
+        ≡ option_map (value_and_rest (with_ranges no_ranges)) (ranges_at text.now) }
 {
     let (first, mut rest) = spaced_range(text)?;
-    let mut seen = RangesSeen::new();
-    seen.note(first);
+    let mut summary = RangesSummary::new();
+    summary.add(first);
     while let Some((range, after)) = spaced_range(rest) {
-        seen.note(range);
+        summary.add(range);
         rest = after;
     }
-    Some((seen, rest))
+    Some((summary, rest))
 }
 
-/// The range behind a space, and the text behind it.
+/// The range after a space, and the text after it.
 #[tactic(auto, unfolding(crate::specs::Reading::spaced_at))]
 fn spaced_range(text: &[u8]) -> Option<(AddressRange, &[u8])>
     ensures { option_map (λ x. (x.0, x.1.now)) result
-        ≡ option_map (noted range_of) (spaced_at range_at text.now) }
+        ≡ option_map (value_and_rest range_of) (spaced_at range_at text.now) }
 {
     range(literal(text, b" ")?)
 }
 
-/// The range at the front, and the text behind it.
+/// The range at the front, and the text after it.
 #[tactic(auto, unfolding(crate::specs::Reading::range_at))]
 fn range(text: &[u8]) -> Option<(AddressRange, &[u8])>
     ensures { option_map (λ x. (x.0, x.1.now)) result
-        ≡ option_map (noted range_of) (range_at text.now) }
+        ≡ option_map (value_and_rest range_of) (range_at text.now) }
 {
     let (start, rest) = hex(text)?;
     let (end, rest) = hex(literal(rest, b"-")?)?;

@@ -5,7 +5,7 @@ ghost use Rattle.psci_board.specs.Verdict.{Answers, board_of};
 use crate::board::Board;
 use crate::build::build;
 use crate::fault::BoardFault;
-use crate::text_seen::{fault, whole_text};
+use crate::text::{fault, whole_text};
 use std::alloc::Global;
 
 impl Board {

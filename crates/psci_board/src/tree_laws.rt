@@ -1,8 +1,10 @@
 //! What holds of the tree of every board. Each law is a function that does nothing, whose contract
 //! is the law.
 
-ghost use Rattle.psci_board.specs.Board.{BoardValue, IsBoard};
-ghost use Rattle.psci_board.specs.Laws.{SizeLaws, PathLaws, ChildLaws, WordLaws};
+ghost use Rattle.std.specs.Prelude.{ℕ, List};
+ghost use Rattle.psci_board.specs.Board.{BoardValue, IsBoard, IsTree};
+ghost use Rattle.psci_board.specs.Laws.{SizeLaws, PathLaws, ChildLaws, ParentLaws, SpanLaws};
+ghost use Rattle.psci_board.specs.Laws.{WordLaws};
 
 /// Each level has 1 to 64 nodes, and that of the system has one.
 pub fn law_sizes()
@@ -19,6 +21,19 @@ pub fn law_paths()
 /// below a node are those below its first child, then those below the second, and so on.
 pub fn law_children()
     ensures { (b : BoardValue) → IsBoard b → ChildLaws b }
+{}
+
+/// One step up and one step down are each other's inverse: a node is the parent of its children,
+/// and each node below the system is the child of its parent that has its number.
+pub fn law_parents()
+    ensures { (b : BoardValue) → IsBoard b → ParentLaws b }
+{}
+
+/// The cores below a node stand side by side: they are the cores of its span, and so a list by
+/// core, cut to the span, is a list of the cores below. The spans of the children of a node follow
+/// each other, from the first core of its own span to the last.
+pub fn law_spans()
+    ensures { (levels : List (List ℕ)) → IsTree levels → SpanLaws levels }
 {}
 
 /// Each node and core is named by the words that have its affinity fields, and by no others. A

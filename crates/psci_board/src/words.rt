@@ -6,7 +6,7 @@ ghost use Rattle.std.specs.Char.{is_ascii_digit, is_ascii_hexdigit};
 ghost use Rattle.std.specs.Str.Parse.{digits_value, AllDigits};
 ghost use Rattle.psci_board.specs.Reading.{literal_at, number_at, hex_at, hex_value};
 
-/// The text behind `word`, where it begins with `word`. Upper and lower case differ.
+/// The text after `word`, where it begins with `word`. Upper and lower case differ.
 #[tactic(auto, unfolding(crate::specs::Reading::literal_at))]
 pub fn literal<'a>(text: &'a [u8], word: &[u8]) -> Option<&'a [u8]>
     ensures { option_map (λ rest. rest.now) result ≡ literal_at word.now text.now }
@@ -45,7 +45,7 @@ fn value_of(digits: &[u8], radix: u32) -> Option<u64>
     Some(value)
 }
 
-/// The decimal number at the front, and the text behind it. The number takes all digits that
+/// The decimal number at the front, and the text after it. The number takes all digits that
 /// stand there: it has no leading zero, unless it is 0 itself, and is below 2 to the 64.
 #[tactic(auto, using(crate::proofs::Digits::steps), unfolding(crate::specs::Reading::number_at))]
 pub fn number(text: &[u8]) -> Option<(u64, &[u8])>
@@ -58,7 +58,7 @@ pub fn number(text: &[u8]) -> Option<(u64, &[u8])>
     }
 }
 
-/// The hexadecimal number at the front, and the text behind it. It begins with `0x`, and takes all
+/// The hexadecimal number at the front, and the text after it. It begins with `0x`, and takes all
 /// digits that stand there: 1 to 16, in upper or lower case.
 #[tactic(auto, using(crate::proofs::Digits::steps), unfolding(crate::specs::Reading::hex_at))]
 pub fn hex(text: &[u8]) -> Option<(u64, &[u8])>

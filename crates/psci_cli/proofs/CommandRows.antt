@@ -3,7 +3,9 @@ use Rattle.std.proofs.Common.{◌≡◌, [], ◌∷◌, refl}
 use Rattle.std.specs.Prelude.{codes}
 use Rattle.clap.specs.Faults.{fault_of, flags_fault, walk_fault, defaults_fault}
 use Rattle.clap.specs.Walk.{walked}
-use Rattle.clap.specs.declared.error.kind.ErrorKind.TheVariants.{DisplayHelp, InvalidSubcommand, MissingSubcommand, UnknownArgument}
+use Rattle.clap.specs.declared.error.kind.ErrorKind.TheVariants.{DisplayHelp, DisplayVersion}
+use Rattle.clap.specs.declared.error.kind.ErrorKind.TheVariants.{InvalidSubcommand}
+use Rattle.clap.specs.declared.error.kind.ErrorKind.TheVariants.{MissingSubcommand, UnknownArgument}
 use Rattle.psci_cli.specs.Commands.{program}
 
 pub replay_asked : fault_of program (codes "psci_cli" ∷ codes "replay" ∷ []) ≡ []
@@ -34,3 +36,14 @@ pub help_of_replay_asked : fault_of program
     (codes "psci_cli" ∷ codes "replay" ∷ codes "--help" ∷ []) ≡ DisplayHelp ∷ []
 unfolding flags_fault walk_fault walked defaults_fault
 help_of_replay_asked = refl
+
+-- the version is the program's: its command has none of its own
+pub version_asked : fault_of program (codes "psci_cli" ∷ codes "--version" ∷ [])
+    ≡ DisplayVersion ∷ []
+unfolding flags_fault walk_fault walked defaults_fault
+version_asked = refl
+
+pub version_of_replay_asked : fault_of program
+    (codes "psci_cli" ∷ codes "replay" ∷ codes "--version" ∷ []) ≡ UnknownArgument ∷ []
+unfolding flags_fault walk_fault walked defaults_fault
+version_of_replay_asked = refl

@@ -5,17 +5,20 @@ use Rattle.psci_board.specs.declared.fault.BoardFault.{BoardFault}
 use Rattle.psci_board.specs.declared.fault.BoardFault.TheVariants as boards
 use Rattle.psci_cli.specs.declared.exit.Failure.{Failure}
 use Rattle.psci_cli.specs.declared.exit.Failure.TheVariants.{CommandLine, Replay}
-use Rattle.psci_cli.specs.declared.fault.ScriptFault.{ScriptFault}
-use Rattle.psci_cli.specs.declared.fault.ScriptFault.TheVariants as scripts
-use Rattle.psci_cli.specs.declared.fault.ReplayFault.{ReplayFault}
-use Rattle.psci_cli.specs.declared.fault.ReplayFault.TheVariants.{Script, Board, Read, Write, Memory}
+use Rattle.psci_bench.specs.declared.fault.ScriptFault.{ScriptFault}
+use Rattle.psci_bench.specs.declared.fault.ScriptFault.TheVariants as scripts
+use Rattle.psci_bench.specs.declared.fault.ReplayFault.{ReplayFault}
+use Rattle.psci_bench.specs.declared.fault.ReplayFault.TheVariants.{Script, Board, Read, Write}
+use Rattle.psci_bench.specs.declared.fault.ReplayFault.TheVariants.{Memory}
 
+-- the number of a script fault
 abbrev pub script_number : ScriptFault → ℕ
 script_number scripts.NoBoard = 1
 script_number scripts.Line = 2
 script_number scripts.Long = 3
 script_number scripts.TooMany = 4
 
+-- the number of a board fault
 abbrev pub board_number : BoardFault → ℕ
 board_number boards.Grammar = 1
 board_number boards.Uneven = 2
@@ -31,6 +34,7 @@ abbrev pub board_status : BoardFault → ℕ
 board_status boards.Memory = 5
 board_status _ = 3
 
+-- the exit status at a fault of a replay
 abbrev pub replay_status : ReplayFault → ℕ
 replay_status (Script line fault) = 3
 replay_status (Board fault) = board_status fault
@@ -48,6 +52,7 @@ abbrev pub IsOfReplay : Failure → Type 0
 IsOfReplay CommandLine = ⊥
 IsOfReplay (Replay fault) = ⊤
 
+-- what standard error says of a board fault
 abbrev pub board_report : BoardFault → List ℕ
 board_report boards.Memory = codes "out of memory"
 board_report fault = codes "line 1: board fault " ++ decimal (board_number fault)

@@ -1,13 +1,3 @@
-pub mod Answered
-pub mod Block
 pub mod Commands
-pub mod Device
 pub mod Exit
-pub mod Legal
-pub mod Line
-pub mod Lines
-pub mod Progress
-pub mod Script
-pub mod Standing
-pub mod Text
-pub mod Run
+pub mod Plain

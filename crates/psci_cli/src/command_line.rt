@@ -3,27 +3,31 @@
 ghost use Rattle.std.specs.Prelude.{◌≡◌, ◌⊎◌, IfOk, IfErr, map, string_bytes, Ok, Err};
 ghost use Rattle.clap.specs.Words.{FailsBy, app_of, fault_of, kind_of};
 ghost use Rattle.clap.specs.declared.error.kind.ErrorKind.TheVariants.{OutOfMemory};
-ghost use Rattle.psci_cli.specs.declared.fault.ReplayFault.TheVariants.{Memory, Write};
+ghost use Rattle.psci_bench.specs.declared.fault.ReplayFault.TheVariants.{Memory, Write};
 ghost use Rattle.psci_cli.specs.declared.command_line.Request.TheVariants.{Replay, Nothing};
 ghost use Rattle.psci_cli.specs.declared.exit.Failure.TheVariants.{CommandLine};
 ghost use Rattle.psci_cli.specs.Commands.{AsksHelp, IsUnheard, IsWordless, program};
 
 use crate::exit::Failure;
-use crate::fault::ReplayFault;
+use crate::plain::plain;
 use clap::Command;
 use clap::error::{Error, ErrorKind};
+use psci_bench::ReplayFault;
 use std::alloc::{AllocError, Global};
 use std::rt::Env;
-use std::{env, io};
+use std::{env, io, str};
 
 /// What the command line asks for.
 #[derive(Clone, Copy, Debug, PartialEq, Eq)]
 pub enum Request {
     /// Replay a script.
     Replay,
-    /// Nothing more: help was shown.
+    /// Nothing more: help, or the version, was shown.
     Nothing,
 }
+
+/// The version of the program, as `--version` names it.
+const VERSION: &str = "0.1.0";
 
 const ABOUT: &str = "Replays scripts of PSCI calls against the power firmware.";
 
@@ -52,6 +56,7 @@ fn commands<'a>(alloc: Global) -> Result<Command<'a>, AllocError>
         .long_about(ABOUT_REPLAY)
         .after_help(EXAMPLE);
     Command::new(alloc, "psci_cli")
+        .version(VERSION)
         .about(ABOUT)
         .after_help(EXAMPLE)
         .subcommand_required(true)
@@ -85,8 +90,22 @@ fn words<R: Env + AllocGlobal + Eprint>(rt: &R) -> Result<Vec<String>, Failure>
     }
 }
 
-/// Shows the parser's text: help on standard output, a fault on standard error.
-fn shown<R: Print + Eprint>(rt: &R, error: &Error) -> Result<Request, Failure>
+/// Says on standard error what the parser says, which has words of the command line in it, as plain
+/// text. Where memory is too little for that, or it cannot be written, the status must do.
+fn complain<R: AllocGlobal + Eprint>(rt: &R, error: &Error) {
+    let Ok(text) = format!(in rt.alloc(); "{error}") else {
+        return;
+    };
+    let Ok(bytes) = plain(rt.alloc(), text.as_str()) else {
+        return;
+    };
+    if let Ok(text) = str::from_utf8(bytes.as_slice()) {
+        let _ = eprint!(rt; "{text}");
+    }
+}
+
+/// Shows the parser's text: help and the version on standard output, a fault on standard error.
+fn shown<R: AllocGlobal + Print + Eprint>(rt: &R, error: &Error) -> Result<Request, Failure>
     ensures memory { kind_of error.now ≡ OutOfMemory → result ≡ Err (Failure.Replay Memory) }
     ensures help { AsksHelp (kind_of error.now)
         → (result ≡ Ok Nothing) ⊎ (result ≡ Err (Failure.Replay Write)) }
@@ -96,14 +115,14 @@ fn shown<R: Print + Eprint>(rt: &R, error: &Error) -> Result<Request, Failure>
     if error.kind() == ErrorKind::OutOfMemory {
         return Err(Failure::Replay(ReplayFault::Memory));
     }
-    let printed = error.print(rt);
     if error.use_stderr() {
-        Err(Failure::CommandLine)
-    } else {
-        printed
-            .map(|_| Request::Nothing)
-            .map_err(|_| Failure::Replay(ReplayFault::Write))
+        complain(rt, error);
+        return Err(Failure::CommandLine);
     }
+    error
+        .print(rt)
+        .map(|_| Request::Nothing)
+        .map_err(|_| Failure::Replay(ReplayFault::Write))
 }
 
 /// Reads the command line. Where it asks for no command the parser's text is shown here.

@@ -1,11 +1,13 @@
 //! How the program ends: exit statuses, and what standard error says.
 
-ghost use Rattle.std.specs.Prelude.{◌≡◌};
-ghost use Rattle.psci_cli.specs.Exit.{status_of};
+ghost use Rattle.std.specs.Prelude.{◌≡◌, ◌++◌, ◌∷◌, [], OnOk};
+ghost use Rattle.std.specs.Io.KnownBytes.{Appends};
+ghost use Rattle.psci_cli.specs.Exit.{report, status_of};
 
-use crate::fault::{ReplayFault, ScriptFault};
+use psci_bench::{ReplayFault, ScriptFault};
 use psci_board::BoardFault;
 use std::fmt;
+use std::io::{self, Write};
 
 /// Why the program ended before it was done.
 #[derive(Clone, Copy, Debug, PartialEq, Eq)]
@@ -33,16 +35,24 @@ impl Failure {
     }
 
     /// Says on standard error what happened. Where that cannot be written the status must do.
-    pub fn tell(self, rt: &impl Eprint) {
+    pub fn tell(self, rt: &HostRuntime) {
         if let Failure::Replay(fault) = self {
-            let _ = eprintln!(rt; "{}", Report(fault));
+            let _ = write_report(&mut rt.stderr(), fault);
         }
     }
 }
 
+/// Writes the line that standard error has of a fault.
+fn write_report<W: Write>(to: &mut W, fault: ReplayFault) -> io::Result<()>
+    ensures { OnOk result (Appends (W.contents to.old) (W.contents to.new)
+        (report fault ++ 10 ∷ [])) }
+{
+    writeln!(to, "{}", Report(fault))
+}
+
 /// A fault as standard error names it, by its line and its number.
 #[derive(Clone, Copy)]
-pub struct Report(pub ReplayFault);
+struct Report(ReplayFault);
 
 /// The number of a script fault.
 fn script_number(fault: ScriptFault) -> u8

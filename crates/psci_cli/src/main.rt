@@ -1,31 +1,16 @@
 //! The program: scripts of PSCI calls, replayed from standard input to standard output.
 #![tactic(auto)]
 
-mod answers;
-mod block;
 mod command_line;
-mod device;
-mod event;
 mod exit;
-mod fault;
-mod firmware_machine;
-mod grammar;
-mod laws;
-mod lines;
-mod machine;
-mod replay;
-mod said;
-mod standard;
-#[cfg(test)]
-mod tests;
-mod transfer;
+mod plain;
 
 ghost use Rattle.std.specs.Prelude.{IfErr};
 ghost use Rattle.psci_cli.specs.Exit.{IsOfReplay};
 
 use command_line::{Request, asked};
 use exit::Failure;
-use standard::Std;
+use psci_bench::{Std, replay};
 use std::process::ExitCode;
 
 /// Replays the script on standard input against the firmware.
@@ -34,7 +19,7 @@ fn replay_standard(rt: &HostRuntime) -> Result<(), Failure>
 {
     let mut source = Std::new(rt.reader());
     let mut sink = Std::new(rt.stdout());
-    match replay::replay(rt.alloc(), &mut source, &mut sink) {
+    match replay(rt.alloc(), &mut source, &mut sink) {
         Ok(_) => Ok(()),
         Err(fault) => Err(Failure::Replay(fault)),
     }

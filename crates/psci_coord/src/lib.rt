@@ -7,9 +7,15 @@
 //! - A *claim* is the list of the parts of one stop: one part for each level, from the core up.
 #![tactic(auto)]
 
+mod claim;
+mod laws;
+mod osi;
 mod part;
 mod parts;
 
+pub use claim::{claims, own_parts};
+pub use laws::{law_claims, law_last_core, law_off, law_own, law_platform};
+pub use osi::Osi;
 pub use part::Part;
 pub use parts::{MOST_PARTS, Parts};
 

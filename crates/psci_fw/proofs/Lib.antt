@@ -1,7 +1,3 @@
-mod Calls
-mod Cores
-mod OneMore
-mod Ranges
-mod Rows
-mod States
-mod Walk
+mod Begun
+mod Rowed
+mod Spanned

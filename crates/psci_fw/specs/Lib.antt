@@ -1,10 +1,2 @@
-pub mod After
-pub mod Answers
-pub mod Below
-pub mod Entry
-pub mod History
-pub mod Kept
-pub mod Phase
+pub mod Rows
 pub mod Seen
-pub mod Status
-pub mod Values

@@ -1,65 +1,70 @@
 //! The firmware of one board.
 
-ghost use Rattle.std.specs.Prelude.{◌≡◌, IfOk, OnErr};
-ghost use Rattle.psci_fw.specs.declared.call.FwCall.TheVariants.{Smc, Enter};
-ghost use Rattle.psci_fw.specs.After.{after};
-ghost use Rattle.psci_fw.specs.Answers.{answer, reply_of};
-ghost use Rattle.psci_fw.specs.Phase.{is_running, phase_of};
-ghost use Rattle.psci_fw.specs.Seen.{life_shown, seen, status_shown};
-ghost use Rattle.psci_fw.specs.Values.{start_of_life, phase};
-
-use crate::fault::FwFault;
-use crate::outcome::Outcome;
-use crate::start::Start;
-use crate::status::Status;
-use crate::table::Table;
+use crate::entering::outcome_at;
+use crate::row::{CoreRow, first_rows};
 use psci_abi::{Regs, read};
 use psci_board::{Board, Core, Memory, Node};
+use psci_model::{FwFault, Outcome, Phase, Start, Status};
 use std::alloc::Global;
 use std::marker::Model;
 
 /// The power firmware of one board. Contracts see the board, and what is kept of each core.
 #[derive(Drop)]
 pub struct Firmware {
-    board: Board,
-    table: Table,
+    pub(crate) board: Board,
+    /// 0 before any core has entered.
+    pub(crate) life: u32,
+    /// In the order of the numbers of the cores.
+    pub(crate) rows: Vec<CoreRow>,
 }
 
 impl Model for Firmware {
-    ghost use Rattle.std.specs.Prelude.{◌≡◌, length};
-    ghost use Rattle.psci_board.specs.Board.{cores};
-    ghost use Rattle.psci_fw.specs.Seen.{FirmwareValue};
+    ghost use Rattle.psci_fw.specs.Seen.{FirmwareValue, IsFirmware};
 
     ghost Value = { FirmwareValue };
 
-    ghost view = { λ f. record {
-      board = f.board;
-      life = f.table.life;
-      cores = f.table.cores.items;
-    } };
+    ghost view = { λ f. record { board = f.board; life = f.life; rows = f.rows.items } };
 
-    ghost invariant = { λ f. length f.table.cores.items ≡ cores f.board };
+    ghost invariant = { λ f. IsFirmware (record {
+      board = f.board;
+      life = f.life;
+      rows = f.rows.items;
+    }) };
 }
 
+ghost use Rattle.std.specs.Prelude.{◌≡◌, ◌<◌, ◌≤◌, length, slice_set, true, IfOk, OnErr};
+ghost use Rattle.psci_board.specs.Board.{cores};
+ghost use Rattle.psci_model.specs.declared.call.FwCall.TheVariants.{Smc, Enter};
+ghost use Rattle.psci_model.specs.Answer.{answer, reply_of};
+ghost use Rattle.psci_model.specs.Changes.{after};
+ghost use Rattle.psci_model.specs.Invariant.{agrees};
+ghost use Rattle.psci_model.specs.Lives.{start_of_life};
+ghost use Rattle.psci_model.specs.Phases.{is_running};
+ghost use Rattle.psci_fw.specs.Rows.{row_at};
+ghost use Rattle.psci_fw.specs.Seen.{IsFirmware, life_shown, seen, status_shown};
+
 impl Firmware {
-    /// The firmware of this board, before the first entry. It takes the memory of all its calls
-    /// here: a copy of the board, and a row for each core.
+    /// The firmware of this board, before any core has entered. It takes the memory of all its
+    /// calls here: a copy of the board, and a row for each core.
     pub fn new(alloc: Global, board: &Board) -> Result<Firmware, Memory>
         ensures board { IfOk result (λ f. f.board ≡ board.now) }
         ensures values { IfOk result (λ f. seen f ≡ start_of_life board.now 0) }
     {
         let board = board.copy(alloc)?;
-        let table = Table::new(alloc, &board)?;
-        Ok(Firmware { board, table })
+        Ok(Firmware {
+            rows: first_rows(alloc, &board)?,
+            life: 0,
+            board,
+        })
     }
 
     /// A secure monitor call of a core with these registers. All 64 bits of each count as the
     /// called function reads them. The steps of a call don't grow with the number of cores, but for
     /// AFFINITY_INFO of a power domain above the cores, which looks at each core below it.
     ///
-    /// Refused with NoCore where the board has no such core, NoLife before the first entry, and
-    /// NotRunning where the core is not running.
-    #[tactic(auto, using(crate::proofs::Calls::calls), unfolding(crate::specs::Answers::answer))]
+    /// Refused with NoCore where the board has no such core, NoLife before any core has entered,
+    /// and NotRunning where the core is not running.
+    #[tactic(auto, unfolding(psci_model::specs::Answer::answer, psci_model::specs::Changes::after))]
     pub fn smc(&mut self, core: Core, regs: Regs) -> Result<Outcome, FwFault>
         ensures answer { reply_of result
             ≡ answer self.old.board (seen self.old) core.number (Smc regs) }
@@ -68,19 +73,19 @@ impl Firmware {
         ensures board { self.new.board ≡ self.old.board }
         ensures refused { OnErr result (self.new ≡ self.old) }
     {
-        self.table.check_caller(&self.board, core)?;
-        Ok(self.table.carry_out(&self.board, read(regs)))
+        self.check_caller(core)?;
+        Ok(self.dispatch(core, read(regs)))
     }
 
-    /// The entry of a core by this start: it goes on at its opening, or parks where it has none. A
-    /// start of a later life than the firmware's begins that life first, which writes each core's
-    /// row anew; else the steps don't grow with the number of cores.
+    /// A core enters by this start: it goes on at its opening, or parks where it has none. A start
+    /// of a later life than the firmware's begins that life first, which writes each core's row
+    /// anew; else the steps don't grow with the number of cores.
     ///
     /// Refused with NoCore where the board has no such core, NoLife where it has no such life, and
     /// OldStart where the start is over or can't be: its life is an earlier one than the
-    /// firmware's, its number is none that the board allows, or it is
-    /// no later one than the core's known start in the firmware's life.
-    #[tactic(auto, unfolding(crate::specs::Answers::answer, crate::specs::After::after))]
+    /// firmware's, its number is none that the board allows, or it is no later one than the core's
+    /// known start in the firmware's life.
+    #[tactic(auto, unfolding(psci_model::specs::Answer::answer, psci_model::specs::Changes::after))]
     pub fn enter(&mut self, core: Core, start: Start) -> Result<Outcome, FwFault>
         ensures answer { reply_of result
             ≡ answer self.old.board (seen self.old) core.number (Enter start) }
@@ -89,29 +94,65 @@ impl Firmware {
         ensures board { self.new.board ≡ self.old.board }
         ensures refused { OnErr result (self.new ≡ self.old) }
     {
-        self.table.check_entry(&self.board, core, start)?;
-        Ok(self.table.enter(&self.board, core, start))
+        self.check_start(core, start)?;
+        let opening = self.arrive(core, start);
+        if opening.is_some() {
+            self.set_running(core);
+        } else {
+            self.set_away(core);
+        }
+        Ok(outcome_at(core, start, opening))
     }
 
-    /// The status of a core or power domain by the rule of AFFINITY_INFO; None before the first
-    /// entry. A node that the board does not have is OFF.
+    /// The status of a core or power domain by the rule of AFFINITY_INFO; None before any core has
+    /// entered. A node that the board does not have is OFF.
     pub fn status(&self, node: Node) -> Option<Status>
         ensures { result ≡ status_shown self.now node }
     {
-        (self.table.life != 0).then(|| self.table.node_status(&self.board, node))
+        (self.life != 0).then(|| self.node_status(node))
     }
 
     /// Whether a core may call a function: it is not pending, and its last outcome was no stop.
     pub fn running(&self, core: Core) -> bool
-        ensures { result ≡ is_running (phase (seen self.now) core.number) }
+        ensures { result ≡ is_running ((seen self.now).phase core.number) }
     {
-        self.table.is_running(core)
+        self.row(core).phase == Phase::Running
     }
 
-    /// The life of the last start that entered; None before the first entry.
+    /// The life of the last start that entered; None before any.
     pub fn life(&self) -> Option<u32>
         ensures { result ≡ life_shown self.now.life }
     {
-        (self.table.life != 0).then_some(self.table.life)
+        (self.life != 0).then_some(self.life)
+    }
+
+    /// What holds of every firmware, for proofs: it does nothing.
+    pub(crate) fn law(&self)
+        ensures { IsFirmware self.now }
+    {
+        let _life = self.life;
+    }
+
+    /// What is kept of a core; of one that the board does not have, that it is off.
+    pub(crate) fn row(&self, core: Core) -> CoreRow
+        ensures row { result ≡ row_at self.now.rows core.number }
+        ensures known { result.known ≤ self.now.board.starts }
+        ensures agree { agrees result.status result.phase ≡ true }
+        ensures count { length self.now.rows ≡ cores self.now.board }
+    {
+        self.rows
+            .get(core.number as usize)
+            .copied()
+            .unwrap_or(CoreRow::OFF)
+    }
+
+    /// Keeps this of a core.
+    pub(crate) fn set_row(&mut self, core: Core, row: CoreRow)
+        requires inside { core.number < cores self.old.board }
+        requires known { row.known ≤ self.old.board.starts }
+        requires agree { agrees row.status row.phase ≡ true }
+        ensures { self.new ≡ record self.old { rows = slice_set self.old.rows core.number row } }
+    {
+        self.rows[core.number as usize] = row;
     }
 }

@@ -1,93 +1,97 @@
 //! CPU_ON.
 
-ghost use Rattle.std.specs.Prelude.{◌≡◌, ◌<◌, length, Some, IfOk};
+ghost use Rattle.std.specs.Prelude.{◌≡◌, ◌<◌, Some, IfOk};
 ghost use Rattle.psci_abi.specs.declared.request.Request.TheVariants.{CpuOn};
 ghost use Rattle.psci_board.specs.Board.{cores};
-ghost use Rattle.psci_fw.specs.After.{summoned, summons};
-ghost use Rattle.psci_fw.specs.Answers.{cpu_on, start_message, started, target_of};
-ghost use Rattle.psci_fw.specs.Entry.{on_by};
-ghost use Rattle.psci_fw.specs.Kept.{kept};
+ghost use Rattle.psci_model.specs.declared.phase.Phase.TheVariants.{Running};
+ghost use Rattle.psci_model.specs.Changes.{change, with_pending};
+ghost use Rattle.psci_model.specs.CpuOn.{cpu_on, start_message, target_of};
+ghost use Rattle.psci_model.specs.Effects.{function_effect};
+ghost use Rattle.psci_fw.specs.Seen.{seen};
 
-use crate::core_state::Opening;
-use crate::message::{Kind, Message};
-use crate::outcome::{Act, Outcome};
-use crate::status::Status;
-use crate::table::Table;
+use crate::firmware::Firmware;
+use crate::row::CoreRow;
 use psci_abi::Code;
-use psci_board::{Board, Core};
+use psci_board::Core;
+use psci_model::{Act, Kind, Message, Opening, Outcome, Phase, Status, law_caller};
 
-impl Table {
+impl Firmware {
     /// CPU_ON (DEN0022D): the core that `target` names is to be started, and will enter at `entry`
     /// with `context`. A refused call changes nothing.
-    pub fn cpu_on(&mut self, board: &Board, target: u64, entry: u64, context: u64) -> Outcome
-        requires { length self.old.cores.items ≡ cores board.now }
-        ensures answer { result ≡ cpu_on board.now (kept self.old) target entry }
-        ensures after { kept self.new ≡ summoned
-            (on_by result.act result.message (CpuOn target entry context)) (kept self.old) }
-        ensures cores { length self.new.cores.items ≡ cores board.now }
+    pub(crate) fn cpu_on(&mut self, caller: Core, target: u64, entry: u64, context: u64) -> Outcome
+        requires running { (seen self.old).phase caller.number ≡ Running }
+        ensures answer { result ≡ cpu_on self.old.board (seen self.old) target entry }
+        ensures after { seen self.new ≡ change self.old.board
+            (function_effect caller.number (CpuOn target entry context) result)
+            (seen self.old) }
+        ensures board { self.new.board ≡ self.old.board }
     {
-        match self.target(board, target, entry) {
-            Err(code) => Outcome::returns(code),
-            Ok(target) => {
-                let message = self.start_message(target);
-                self.summon(
-                    target,
-                    Opening {
-                        address: entry,
-                        context,
-                    },
-                );
-                Outcome {
-                    act: Act::Return(Code::SUCCESS),
-                    message: Some(message),
-                }
-            }
+        law_caller();
+        self.law();
+        let target = match self.check_target(target, entry) {
+            Ok(target) => target,
+            Err(code) => return Outcome::returns(code),
+        };
+        let message = self.start_message(target);
+        self.set_pending(
+            target,
+            Opening {
+                address: entry,
+                context,
+            },
+        );
+        Outcome {
+            act: Act::Return(Code::SUCCESS),
+            message: Some(message),
         }
     }
 
     /// The core that a CPU_ON starts, or the code of the first check that fails.
-    #[tactic(auto, unfolding(crate::specs::Answers::target_of))]
-    fn target(&self, board: &Board, target: u64, entry: u64) -> Result<Core, Code>
-        requires { length self.now.cores.items ≡ cores board.now }
-        ensures target { result ≡ target_of board.now (kept self.now) target entry }
-        ensures inside { IfOk result (λ core. core.number < length self.now.cores.items) }
+    #[tactic(auto, unfolding(psci_model::specs::CpuOn::target_of))]
+    fn check_target(&self, target: u64, entry: u64) -> Result<Core, Code>
+        ensures target { result ≡ target_of self.now.board (seen self.now) target entry }
+        ensures inside { IfOk result (λ core. core.number < cores self.now.board) }
     {
-        let Some(core) = board.core_of(target) else {
+        let Some(core) = self.board.core_of(target) else {
             return Err(Code::INVALID_PARAMETERS);
         };
-        if !board.may_enter(entry) {
+        if !self.board.may_enter(entry) {
             return Err(Code::INVALID_ADDRESS);
         }
-        let state = self.state(core);
-        match state.status {
+        let row = self.row(core);
+        match row.status {
             Status::On => Err(Code::ALREADY_ON),
             Status::Pending => Err(Code::ON_PENDING),
-            Status::Off if state.known == board.start_limit() => Err(Code::INTERNAL_FAILURE),
+            Status::Off if row.known == self.board.start_limit() => Err(Code::INTERNAL_FAILURE),
             Status::Off => Ok(core),
         }
     }
 
     /// What is sent for a core that is to be started.
     fn start_message(&self, target: Core) -> Message
-        ensures { result ≡ start_message (kept self.now) target }
+        ensures { result ≡ start_message (seen self.now) target }
     {
         Message {
             kind: Kind::Start,
             core: target,
             life: self.life,
-            number: self.state(target).known,
+            number: self.row(target).known,
         }
     }
 
     /// The core is on its way to this opening.
-    fn summon(&mut self, core: Core, opening: Opening)
-        requires { core.number < length self.old.cores.items }
-        ensures after { kept self.new
-            ≡ summons (record { target = core.number; opening = opening }) (kept self.old) }
-        ensures cores { length self.new.cores.items ≡ length self.old.cores.items }
+    fn set_pending(&mut self, core: Core, opening: Opening)
+        requires { core.number < cores self.old.board }
+        ensures after { seen self.new
+            ≡ with_pending (record { target = core.number; opening = opening }) (seen self.old) }
+        ensures board { self.new.board ≡ self.old.board }
     {
-        let state = &mut self.cores[core.number as usize];
-        state.status = Status::Pending;
-        state.opening = Some(opening);
+        let row = CoreRow {
+            status: Status::Pending,
+            phase: Phase::Pending,
+            opening: Some(opening),
+            ..self.row(core)
+        };
+        self.set_row(core, row);
     }
 }

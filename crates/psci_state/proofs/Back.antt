@@ -9,7 +9,7 @@ use Rattle.psci_abi.specs.declared.format.Format.TheVariants.{Original, Extended
 use Rattle.psci_state.specs.declared.fault.BadState.{BadState}
 use Rattle.psci_state.specs.Ask.{IsAsk, is_ask, highest_of}
 use Rattle.psci_state.specs.PowerState.{bits, state_id, state_type, has_level}
-use Rattle.psci_state.specs.PowerState.{is_clear, asked, is_state_id, is_power_state}
+use Rattle.psci_state.specs.PowerState.{reserved_is_zero, asked, is_state_id, is_power_state}
 use Rattle.psci_state.specs.PowerState.{type_of, ask_of, id_of, word_of}
 
 two : (r s : Bool) → (r && s) ≡ true → (r ≡ true) × (s ≡ true)
@@ -32,7 +32,7 @@ six r s t u v w test =
     (rest.0, rest.1, rest.2, rest.3, rest.4, last.1)
 
 -- four depths that do not grow upwards
-pub falling : (ask : List ℕ) → length ask ≡ 4 → slice_index ask 1 ≤ slice_index ask 0
+falling : (ask : List ℕ) → length ask ≡ 4 → slice_index ask 1 ≤ slice_index ask 0
     → slice_index ask 2 ≤ slice_index ask 1 → slice_index ask 3 ≤ slice_index ask 2
     → (level : ℕ) → slice_index ask (level + 1) ≤ slice_index ask level
 falling ask four first second third zero = first
@@ -71,15 +71,15 @@ extended_back : (word : ℕ) → word < 2 ^ 32 → bits word 31 31 ≡ 0 → bit
 extended_back word below high low = omega arith
 
 fields_back : (format : Format) (word : ℕ) (ask : List ℕ) → word < 2 ^ 32
-    → is_clear format word ≡ true → has_level format word (highest_of ask) ≡ true
+    → reserved_is_zero format word ≡ true → has_level format word (highest_of ask) ≡ true
     → state_type format word ≡ type_of ask → id_of ask ≡ state_id format word
     → word_of format ask ≡ word
-fields_back Original word ask below clear level type id =
-    let zeros = two (bits word 31 26 == 0) (bits word 23 17 == 0) clear in
+fields_back Original word ask below reserved level type id =
+    let zeros = two (bits word 31 26 == 0) (bits word 23 17 == 0) reserved in
     let whole = original_back word below (eqb-true _ _ zeros.0) (eqb-true _ _ zeros.1) in
     omega (arith, whole, id, type, eqb-true (bits word 25 24) (highest_of ask) level)
-fields_back Extended word ask below clear level type id =
-    let zeros = two (bits word 31 31 == 0) (bits word 29 28 == 0) clear in
+fields_back Extended word ask below reserved level type id =
+    let zeros = two (bits word 31 31 == 0) (bits word 29 28 == 0) reserved in
     omega (arith, extended_back word below (eqb-true _ _ zeros.0) (eqb-true _ _ zeros.1), id, type)
 
 taken : (b : Bool) (xs ys : List ℕ) (e : BadState)
@@ -99,7 +99,7 @@ word_back format height word ask is =
     let id = state_id format word in
     let level = highest_of (asked id) in
     let found = taken (is_power_state format height word) (asked id) ask (record {}) is in
-    let parts = five (is_clear format word) (is_state_id id) (nat_le level height)
+    let parts = five (reserved_is_zero format word) (is_state_id id) (nat_le level height)
     (has_level format word level) (state_type format word == type_of (asked id)) found.0 in
     let of_id = two (nat_lt id (2 ^ 16)) (is_ask (asked id)) parts.1 in
     let back : IsBack format height word (asked id) = record {

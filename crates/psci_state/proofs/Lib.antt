@@ -1,3 +1,5 @@
+mod AskRows
 pub mod Back
-mod Rows
+mod ExtendedRows
+mod OriginalRows
 pub mod Words

@@ -8,7 +8,7 @@ use Rattle.psci_abi.specs.declared.format.Format.{Format}
 use Rattle.psci_abi.specs.declared.format.Format.TheVariants.{Original, Extended}
 use Rattle.psci_state.specs.declared.fault.BadState.{BadState}
 use Rattle.psci_state.specs.Ask.{IsAsk, is_ask, highest_of}
-use Rattle.psci_state.specs.PowerState.{bits, state_id, state_type, has_level, is_clear}
+use Rattle.psci_state.specs.PowerState.{bits, state_id, state_type, has_level, reserved_is_zero}
 use Rattle.psci_state.specs.PowerState.{asked, is_state_id, type_of, ask_of, id_of, word_of}
 
 one_bit : (b : Bool) → cond b 1 0 < 2
@@ -26,7 +26,7 @@ record HasFields (format : Format) (word id : ℕ) (ask : List ℕ) : Type 0 whe
   id_is : state_id format word ≡ id
   type_is : state_type format word ≡ type_of ask
   level_is : has_level format word (highest_of ask) ≡ true
-  clear : is_clear format word ≡ true
+  reserved : reserved_is_zero format word ≡ true
 
 original : (word id type level : ℕ) → id < 2 ^ 16 → type < 2 → level < 4
     → word ≡ id + 2 ^ 16 * type + 2 ^ 24 * level
@@ -49,7 +49,7 @@ fields Original ask small =
       id_is = parts.0;
       type_is = parts.1;
       level_is = eq-eqb _ _ parts.2;
-      clear = both_true (eq-eqb _ _ parts.3) (eq-eqb _ _ parts.4);
+      reserved = both_true (eq-eqb _ _ parts.3) (eq-eqb _ _ parts.4);
     }
 fields Extended ask small =
     let parts = extended (word_of Extended ask) (id_of ask) (type_of ask) small (one_bit _) refl in
@@ -57,7 +57,7 @@ fields Extended ask small =
       id_is = parts.0;
       type_is = parts.1;
       level_is = eq-eqb _ _ refl;
-      clear = both_true (eq-eqb _ _ parts.2) (eq-eqb _ _ parts.3);
+      reserved = both_true (eq-eqb _ _ parts.2) (eq-eqb _ _ parts.3);
     }
 
 chosen : (p : List ℕ → Bool) (xs ys : List ℕ) (e : Result (List ℕ) BadState) → xs ≡ ys
@@ -69,14 +69,14 @@ passes : (format : Format) (height word id : ℕ) (ask : List ℕ) → HasFields
     → asked id ≡ ask → id < 2 ^ 16 → is_ask ask ≡ true → highest_of ask ≤ height
     → ask_of format height word ≡ Ok ask
 passes format height word id ask has ask_is small shape high =
-    ap (λ i. if is_clear format word && is_state_id i && nat_le (highest_of (asked i)) height
-    && has_level format word (highest_of (asked i)) && state_type format word == type_of (asked i)
-    then Ok (asked i) else Err (record {})) has.id_is
-    ∙ chosen (λ xs. is_clear format word && (nat_lt id (2 ^ 16) && is_ask xs)
+    ap (λ i. if reserved_is_zero format word && is_state_id i
+    && nat_le (highest_of (asked i)) height && has_level format word (highest_of (asked i))
+    && state_type format word == type_of (asked i) then Ok (asked i) else Err (record {})) has.id_is
+    ∙ chosen (λ xs. reserved_is_zero format word && (nat_lt id (2 ^ 16) && is_ask xs)
     && nat_le (highest_of xs) height && has_level format word (highest_of xs)
     && state_type format word == type_of xs)
     (asked id) ask (Err (record {})) ask_is
-    (both_true (both_true (both_true (both_true has.clear (both_true (lt-ltb _ _ small) shape))
+    (both_true (both_true (both_true (both_true has.reserved (both_true (lt-ltb _ _ small) shape))
     (le-leb _ _ high)) has.level_is) (eq-eqb _ _ has.type_is))
 
 -- The four depths of a state id.

@@ -27,9 +27,9 @@ power_level Original word = Some (bits word 25 24)
 power_level Extended word = None
 
 -- The reserved bits are zero.
-abbrev pub is_clear : Format → ℕ → Bool
-is_clear Original word = bits word 31 26 == 0 && bits word 23 17 == 0
-is_clear Extended word = bits word 31 31 == 0 && bits word 29 28 == 0
+abbrev pub reserved_is_zero : Format → ℕ → Bool
+reserved_is_zero Original word = bits word 31 26 == 0 && bits word 23 17 == 0
+reserved_is_zero Extended word = bits word 31 31 == 0 && bits word 29 28 == 0
 
 -- the depths that a state id asks, four bits for each level
 abbrev pub asked : ℕ → List ℕ
@@ -54,8 +54,8 @@ abbrev pub is_power_state : Format → ℕ → ℕ → Bool
 is_power_state format height word =
     let id = state_id format word in
     let level = highest_of (asked id) in
-    is_clear format word && is_state_id id && nat_le level height && has_level format word level
-    && state_type format word == type_of (asked id)
+    reserved_is_zero format word && is_state_id id && nat_le level height
+    && has_level format word level && state_type format word == type_of (asked id)
 
 -- the ask of a power state word
 abbrev pub ask_of : Format → ℕ → ℕ → Result (List ℕ) BadState

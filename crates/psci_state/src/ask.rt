@@ -1,7 +1,7 @@
 //! What a core asks of its power domains.
 
 ghost use Rattle.std.specs.Prelude.{◌≡◌, ℕ, ◌≤◌, ◌<◌, ◌^◌, ◌↔◌, slice_index, if◌then◌else◌, IfOk};
-ghost use Rattle.psci_state.specs.Ask.{IsAsk, deepest_of, highest_of, is_deep};
+ghost use Rattle.psci_state.specs.Ask.{IsAsk, deepest_of, highest_of, is_ask, is_deep};
 ghost use Rattle.psci_state.specs.PowerState.{ask_of, asked, id_of, is_state_id, word_of};
 
 use crate::fault::BadState;
@@ -9,12 +9,18 @@ use crate::fields::{Fields, bits};
 use psci_abi::Format;
 use std::marker::Model;
 
+/// The levels of an ask: the core's, 0, and three above it.
+const LEVELS: usize = 4;
+
+/// The deepest depth, power-down.
+const POWER_DOWN: u8 = 3;
+
 /// The depths that a suspending core asks for, one for each level from 0 to 3.
 ///
 /// The core itself is asked to stop (1 to 3), and no level to go deeper than the one below it.
 #[derive(Clone, Copy, Debug, PartialEq, Eq)]
 pub struct Ask {
-    depths: [u8; 4],
+    depths: [u8; LEVELS],
 }
 
 impl Model for Ask {
@@ -45,7 +51,7 @@ impl Ask {
         let fields = Fields::of(word, format);
         let ask = Ask::of_state_id(fields.state_id).ok_or(BadState)?;
         let highest = ask.highest();
-        if fields.clear
+        if fields.reserved_is_zero
             && highest <= height
             && fields.power_level.unwrap_or(highest) == highest
             && fields.state_type == u32::from(ask.deep())
@@ -60,19 +66,9 @@ impl Ask {
     fn of_state_id(id: u32) -> Option<Ask>
         ensures { result ≡ (if is_state_id id then Some (asked id) else None) }
     {
-        let core = bits(id, 3, 0) as u8;
-        let first = bits(id, 7, 4) as u8;
-        let second = bits(id, 11, 8) as u8;
-        let third = bits(id, 15, 12) as u8;
-        if id < 1 << 16
-            && (1..=3).contains(&core)
-            && first <= core
-            && second <= first
-            && third <= second
-        {
-            Some(Ask {
-                depths: [core, first, second, third],
-            })
+        let depths = asked(id);
+        if id < 1 << 16 && is_ask(depths) {
+            Some(Ask { depths })
         } else {
             None
         }
@@ -84,10 +80,10 @@ impl Ask {
         ensures shape { IsAsk result }
     {
         let depths = match height {
-            0 => [3, 0, 0, 0],
-            1 => [3, 3, 0, 0],
-            2 => [3, 3, 3, 0],
-            _ => [3, 3, 3, 3],
+            0 => [POWER_DOWN, 0, 0, 0],
+            1 => [POWER_DOWN, POWER_DOWN, 0, 0],
+            2 => [POWER_DOWN, POWER_DOWN, POWER_DOWN, 0],
+            _ => [POWER_DOWN; LEVELS],
         };
         Ask { depths }
     }
@@ -119,7 +115,7 @@ impl Ask {
     pub fn deep(self) -> bool
         ensures { result ≡ is_deep self }
     {
-        self.depths[0] == 3
+        self.depths[0] == POWER_DOWN
     }
 
     /// The power state word of this ask in a format. There is one in each.
@@ -149,4 +145,24 @@ impl Ask {
             + (u32::from(second) << 8)
             + (u32::from(third) << 12)
     }
+}
+
+/// The depths that a state id asks, four bits for each level.
+fn asked(id: u32) -> [u8; LEVELS]
+    ensures { result ≡ asked id }
+{
+    [
+        bits(id, 3, 0) as u8,
+        bits(id, 7, 4) as u8,
+        bits(id, 11, 8) as u8,
+        bits(id, 15, 12) as u8,
+    ]
+}
+
+/// Whether these depths are an ask: the core stops, and none grows upwards.
+fn is_ask(depths: [u8; LEVELS]) -> bool
+    ensures { result ≡ is_ask depths }
+{
+    let [core, first, second, third] = depths;
+    (1..=POWER_DOWN).contains(&core) && first <= core && second <= first && third <= second
 }

@@ -1,7 +1,8 @@
 //! The fields of a power state word.
 
 ghost use Rattle.std.specs.Prelude.{◌≡◌, ◌+◌, ◌≤◌, ◌<◌};
-ghost use Rattle.psci_state.specs.PowerState.{bits, is_clear, power_level, state_id, state_type};
+ghost use Rattle.psci_state.specs.PowerState.{bits, power_level, reserved_is_zero};
+ghost use Rattle.psci_state.specs.PowerState.{state_id, state_type};
 
 use psci_abi::Format;
 
@@ -15,7 +16,7 @@ pub(crate) struct Fields {
     /// PowerLevel, which only the original format has.
     pub(crate) power_level: Option<u32>,
     /// Whether the reserved bits are zero.
-    pub(crate) clear: bool,
+    pub(crate) reserved_is_zero: bool,
 }
 
 impl Fields {
@@ -24,20 +25,20 @@ impl Fields {
         ensures state_id { result.state_id ≡ state_id format word }
         ensures state_type { result.state_type ≡ state_type format word }
         ensures power_level { result.power_level ≡ power_level format word }
-        ensures clear { result.clear ≡ is_clear format word }
+        ensures reserved { result.reserved_is_zero ≡ reserved_is_zero format word }
     {
         match format {
             Format::Original => Fields {
                 state_id: bits(word, 15, 0),
                 state_type: bits(word, 16, 16),
                 power_level: Some(bits(word, 25, 24)),
-                clear: bits(word, 31, 26) == 0 && bits(word, 23, 17) == 0,
+                reserved_is_zero: bits(word, 31, 26) == 0 && bits(word, 23, 17) == 0,
             },
             Format::Extended => Fields {
                 state_id: bits(word, 27, 0),
                 state_type: bits(word, 30, 30),
                 power_level: None,
-                clear: bits(word, 31, 31) == 0 && bits(word, 29, 28) == 0,
+                reserved_is_zero: bits(word, 31, 31) == 0 && bits(word, 29, 28) == 0,
             },
         }
     }

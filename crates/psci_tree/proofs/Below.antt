@@ -10,7 +10,7 @@ use Rattle.std.proofs.lemmas.List.Concat.{flat_map-append}
 use Rattle.std.proofs.lemmas.List.Folds.{flat_map-map}
 use Rattle.std.proofs.lemmas.List.Sums.{sum_by-append, sum_by-cons}
 use Rattle.psci_tree.specs.Recount.{least, asks}
-use Rattle.psci_tree.specs.Domains.{cores, cores_from, cores_step, cores_in, children, widths}
+use Rattle.psci_tree.specs.Domains.{cores, cores_from, cores_step, cores_in, children, child_counts}
 use Rattle.psci_tree.specs.declared.state.CoreState.{CoreState}
 use Rattle.psci_tree.specs.declared.domain.Domain.{Domain}
 use Rattle.psci_tree.specs.declared.domain.Domain.TheOpen.{Domain-F}
@@ -185,28 +185,30 @@ flat_map_set f (n ∷ ns) (suc i) d m e = ap (λ (x : List ℕ). f n ++ x) (flat
 pub children_roll : (x : Domain-F Domain) → children (roll-Domain x) ≡ x.children.items
 children_roll x = ap (λ (y : Domain-F Domain). y.children.items) (out-roll-Domain x)
 
-widths_zero : (x : Domain-F Domain) → widths zero (roll-Domain x) ≡ length x.children.items ∷ []
+widths_zero : (x : Domain-F Domain)
+    → child_counts zero (roll-Domain x) ≡ length x.children.items ∷ []
 widths_zero x = ap (λ (ns : List Domain). length ns ∷ []) (children_roll x)
 
 widths_suc : (k : ℕ) (x : Domain-F Domain)
-    → widths (suc k) (roll-Domain x) ≡ flat_map (widths k) x.children.items
-widths_suc k x = ap (flat_map (widths k)) (children_roll x)
+    → child_counts (suc k) (roll-Domain x) ≡ flat_map (child_counts k) x.children.items
+widths_suc k x = ap (flat_map (child_counts k)) (children_roll x)
 
 -- a domain with another child of the same shape has the same shape
 pub widths_with_child : (n : Domain) (i : ℕ) (m : Domain)
-    → ((k : ℕ) → widths k m ≡ widths k (get_or (children n) i n)) → (k : ℕ) →
-    widths k (roll-Domain (record {
+    → ((k : ℕ) → child_counts k m ≡ child_counts k (get_or (children n) i n)) → (k : ℕ) →
+    child_counts k (roll-Domain (record {
       children = with_item (out-Domain n).children i m;
       core = (out-Domain n).core;
-    })) ≡ widths k n
+    })) ≡ child_counts k n
 widths_with_child n i m each zero =
     widths_zero _ ∙ ap (λ (x : ℕ). x ∷ []) (length-set (children n) i m)
 widths_with_child n i m each (suc k) =
-    widths_suc k _ ∙ flat_map_set (widths k) (children n) i n m (each k)
+    widths_suc k _ ∙ flat_map_set (child_counts k) (children n) i n m (each k)
 
 -- a core's state is no part of its shape
 pub widths_with_core : (n : Domain) (s : CoreState) (k : ℕ)
-    → widths k (roll-Domain (record { children = (out-Domain n).children; core = s })) ≡ widths k n
+    → child_counts k (roll-Domain (record { children = (out-Domain n).children; core = s }))
+    ≡ child_counts k n
 widths_with_core n s zero = widths_zero _
 widths_with_core n s (suc k) = widths_suc k _
 

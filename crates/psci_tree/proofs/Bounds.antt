@@ -6,8 +6,8 @@ use Rattle.std.specs.List.{count_by, range_with_len}
 use Rattle.std.proofs.lemmas.Bool.{cases_eq, eq-eqb, eqb-true}
 use Rattle.std.proofs.lemmas.List.Sums.{sum_by-cons, count_by-le-length}
 use Rattle.psci_board.specs.declared.node.Node.{Node}
-use Rattle.psci_board.specs.Board.{size_below, place_above}
-use Rattle.psci_tree.specs.Recount.{TreeValue, active, ask_at, below}
+use Rattle.psci_board.specs.Board.{size_below, place_above, below_in}
+use Rattle.psci_tree.specs.Recount.{TreeValue, active, ask_at}
 use Rattle.psci_tree.specs.Recount.{is_active_at, is_off_at, least, low, off}
 
 -- Each number that a filter keeps of a range -------------------------------------------------
@@ -120,13 +120,13 @@ all_from p (x ∷ xs) each =
 -- Below a domain -----------------------------------------------------------------------------
 
 below_kept : (levels : List (List ℕ)) (n : Node) (c : ℕ) → c < size_below levels
-    → place_above levels n.level c ≡ n.place → Kept (below levels n) c
+    → place_above levels n.level c ≡ n.place → Kept (below_in levels n) c
 below_kept levels n c h e =
     kept (λ x. place_above levels n.level x == n.place) 0 (size_below levels) c (omega arith)
     (omega arith) (eq-eqb _ _ e)
 
 below_passes : (levels : List (List ℕ)) (n : Node)
-    → Passes (λ x. place_above levels n.level x == n.place) (size_below levels) (below levels n)
+    → Passes (λ x. place_above levels n.level x == n.place) (size_below levels) (below_in levels n)
 below_passes levels n =
     passes (λ x. place_above levels n.level x == n.place) (size_below levels) 0
     (size_below levels) (omega arith)
@@ -138,7 +138,7 @@ low_each t n level c h e =
     let k = below_kept t.levels n c h e in
     omega (
       arith,
-      least_at (λ x. ask_at t x level) (below t.levels n) k.0 k.1,
+      least_at (λ x. ask_at t x level) (below_in t.levels n) k.0 k.1,
       ap (λ x. ask_at t x level) k.2,
     )
 
@@ -147,9 +147,9 @@ pub low_greatest : (t : TreeValue) (n : Node) (level m : ℕ) → m ≤ 3 → ((
     → m ≤ low t n level
 unfolding low
 low_greatest t n level m h each =
-    least_from (λ x. ask_at t x level) (below t.levels n) m h
+    least_from (λ x. ask_at t x level) (below_in t.levels n) m h
     (λ k l. let p = below_passes t.levels n k l in
-    each (get_or (below t.levels n) k 0) p.1 (eqb-true _ _ p.0))
+    each (get_or (below_in t.levels n) k 0) p.1 (eqb-true _ _ p.0))
 
 pub active_none : (t : TreeValue) (n : Node) (c : ℕ) → active t n ≡ 0 → c < size_below t.levels
     → place_above t.levels n.level c ≡ n.place → is_active_at t c ≡ false
@@ -157,28 +157,28 @@ unfolding active
 active_none t n c z h e =
     let k = below_kept t.levels n c h e in
     sym (ap (λ x. is_active_at t x) k.2)
-    ∙ none_at (λ x. is_active_at t x) (below t.levels n) k.0 z k.1
+    ∙ none_at (λ x. is_active_at t x) (below_in t.levels n) k.0 z k.1
 
 pub none_active : (t : TreeValue) (n : Node) → ((c : ℕ) → c < size_below t.levels
     → place_above t.levels n.level c ≡ n.place → is_active_at t c ≡ false) → active t n ≡ 0
 unfolding active
 none_active t n each =
-    none_from (λ x. is_active_at t x) (below t.levels n)
+    none_from (λ x. is_active_at t x) (below_in t.levels n)
     (λ k l. let p = below_passes t.levels n k l in
-    each (get_or (below t.levels n) k 0) p.1 (eqb-true _ _ p.0))
+    each (get_or (below_in t.levels n) k 0) p.1 (eqb-true _ _ p.0))
 
-pub off_all : (t : TreeValue) (n : Node) (c : ℕ) → off t n ≡ length (below t.levels n)
+pub off_all : (t : TreeValue) (n : Node) (c : ℕ) → off t n ≡ length (below_in t.levels n)
     → c < size_below t.levels → place_above t.levels n.level c ≡ n.place → is_off_at t c ≡ true
 unfolding off
 off_all t n c z h e =
     let k = below_kept t.levels n c h e in
-    sym (ap (λ x. is_off_at t x) k.2) ∙ all_at (λ x. is_off_at t x) (below t.levels n) k.0 z k.1
+    sym (ap (λ x. is_off_at t x) k.2) ∙ all_at (λ x. is_off_at t x) (below_in t.levels n) k.0 z k.1
 
 pub all_off : (t : TreeValue) (n : Node) → ((c : ℕ) → c < size_below t.levels
     → place_above t.levels n.level c ≡ n.place → is_off_at t c ≡ true)
-    → off t n ≡ length (below t.levels n)
+    → off t n ≡ length (below_in t.levels n)
 unfolding off
 all_off t n each =
-    all_from (λ x. is_off_at t x) (below t.levels n)
+    all_from (λ x. is_off_at t x) (below_in t.levels n)
     (λ k l. let p = below_passes t.levels n k l in
-    each (get_or (below t.levels n) k 0) p.1 (eqb-true _ _ p.0))
+    each (get_or (below_in t.levels n) k 0) p.1 (eqb-true _ _ p.0))

@@ -6,57 +6,59 @@ use Rattle.std.proofs.lemmas.List.{length_push, map-append}
 use Rattle.std.proofs.lemmas.List.Concat.{flat_map-append, flat_map_single}
 use Rattle.std.proofs.lemmas.List.Sums.{sum_by_push}
 use Rattle.psci_board.specs.Board.{IsTree, size_below}
-use Rattle.psci_tree.specs.Domains.{children, fan, widths, HasShape, IsWhole}
+use Rattle.psci_tree.specs.Domains.{children, child_count, child_counts, HasShape, IsWhole}
 use Rattle.psci_tree.specs.declared.domain.Domain.{Domain}
 use Rattle.psci_tree.specs.declared.domain.Domain.TheOpen.{Domain-F}
 use Rattle.psci_tree.specs.declared.domain.Domain.TheViews.{roll-Domain}
 use Rattle.psci_tree.proofs.Below.{children_roll}
 
-pub fan_roll : (x : Domain-F Domain) → fan (roll-Domain x) ≡ length x.children.items
-fan_roll x = ap length (children_roll x)
+pub child_count_roll : (x : Domain-F Domain) → child_count (roll-Domain x) ≡ length x.children.items
+child_count_roll x = ap length (children_roll x)
 
-pub ends_push : (ns : List Domain) (d : Domain) → sum (map fan ns) ≡ 0 → fan d ≡ 0
-    → sum (map fan (ns ++ d ∷ [])) ≡ 0
+pub ends_push : (ns : List Domain) (d : Domain) → sum (map child_count ns) ≡ 0 → child_count d ≡ 0
+    → sum (map child_count (ns ++ d ∷ [])) ≡ 0
 ends_push ns d h e =
-    ap sum (map-append fan ns (d ∷ [])) ∙ sum_by_push (λ x. x) (map fan ns) (fan d) ∙ omega arith
+    ap sum (map-append child_count ns (d ∷ []))
+    ∙ sum_by_push (λ x. x) (map child_count ns) (child_count d) ∙ omega arith
 
 -- these domains have the numbers of children of these levels below them
 abbrev pub AreShaped : List Domain → List (List ℕ) → Type 0
 AreShaped ns [] = Unit {0}
-AreShaped ns (w ∷ ws) = (flat_map (widths (length ws)) ns ≡ w) × AreShaped ns ws
+AreShaped ns (w ∷ ws) = (flat_map (child_counts (length ws)) ns ≡ w) × AreShaped ns ws
 
 widths_down : (k : ℕ) (ns : List Domain)
-    → flat_map (widths (suc k)) ns ≡ flat_map (widths k) (flat_map children ns)
+    → flat_map (child_counts (suc k)) ns ≡ flat_map (child_counts k) (flat_map children ns)
 widths_down k [] = refl
-widths_down k (n ∷ ns) = ap (λ x. flat_map (widths k) (children n) ++ x) (widths_down k ns)
-    ∙ sym (flat_map-append (widths k) (children n) (flat_map children ns))
+widths_down k (n ∷ ns) = ap (λ x. flat_map (child_counts k) (children n) ++ x) (widths_down k ns)
+    ∙ sym (flat_map-append (child_counts k) (children n) (flat_map children ns))
 
 pub shaped_more : (parents ns : List Domain) (done : List (List ℕ)) (w : List ℕ)
-    → flat_map children parents ≡ ns → map fan parents ≡ w → AreShaped ns done
+    → flat_map children parents ≡ ns → map child_count parents ≡ w → AreShaped ns done
     → AreShaped parents (done ++ w ∷ [])
-shaped_more parents ns [] w e f h = (flat_map_single fan parents ∙ f, tt)
+shaped_more parents ns [] w e f h = (flat_map_single child_count parents ∙ f, tt)
 shaped_more parents ns (v ∷ vs) w e f h =
     let up : length (vs ++ w ∷ []) ≡ suc (length vs) = omega (arith, length_push vs w) in (
-      ap (λ k. flat_map (widths k) parents) up ∙ widths_down (length vs) parents
-          ∙ ap (flat_map (widths (length vs))) e ∙ h.0,
+      ap (λ k. flat_map (child_counts k) parents) up ∙ widths_down (length vs) parents
+          ∙ ap (flat_map (child_counts (length vs))) e ∙ h.0,
       shaped_more parents ns vs w e f h.1,
     )
 
 pub ends_more : (parents ns : List Domain) (k j : ℕ) → j ≡ suc k → flat_map children parents ≡ ns
-    → sum (flat_map (widths k) ns) ≡ 0 → sum (flat_map (widths j) parents) ≡ 0
-ends_more parents ns k j s e h = ap (λ i. sum (flat_map (widths i) parents)) s
-    ∙ ap sum (widths_down k parents ∙ ap (flat_map (widths k)) e) ∙ h
+    → sum (flat_map (child_counts k) ns) ≡ 0 → sum (flat_map (child_counts j) parents) ≡ 0
+ends_more parents ns k j s e h = ap (λ i. sum (flat_map (child_counts i) parents)) s
+    ∙ ap sum (widths_down k parents ∙ ap (flat_map (child_counts k)) e) ∙ h
 
 pub shape_of_one : (n : Domain) (levels : List (List ℕ)) → AreShaped (n ∷ []) levels
     → HasShape n levels
 shape_of_one n [] h = tt
-shape_of_one n (w ∷ ws) h = (sym (append-nil (widths (length ws) n)) ∙ h.0, shape_of_one n ws h.1)
+shape_of_one n (w ∷ ws) h =
+    (sym (append-nil (child_counts (length ws) n)) ∙ h.0, shape_of_one n ws h.1)
 
 pub whole_of_one : (n : Domain) (levels : List (List ℕ)) → AreShaped (n ∷ []) levels
-    → sum (flat_map (widths (length levels)) (n ∷ [])) ≡ 0 → IsWhole n levels
+    → sum (flat_map (child_counts (length levels)) (n ∷ [])) ≡ 0 → IsWhole n levels
 whole_of_one n levels h e = record {
   shape = shape_of_one n levels h;
-  ends = ap sum (sym (append-nil (widths (length levels) n))) ∙ e;
+  ends = ap sum (sym (append-nil (child_counts (length levels) n))) ∙ e;
 }
 
 pub one_item : (xs ys : List Domain) (n : Domain) → xs ≡ ys ++ n ∷ [] → length xs ≡ 1 → xs ≡ n ∷ []
@@ -68,3 +70,18 @@ pub tree_at : (levels : List (List ℕ)) (l : ℕ) → IsTree levels → l < len
 tree_at [] l t h = absurd (omega arith)
 tree_at (w ∷ ws) zero t h = t.0
 tree_at (w ∷ ws) (suc l) t h = tree_at ws l t.3 (omega arith)
+
+-- one more parent
+pub children_push : (ps : List Domain) (x : Domain-F Domain)
+    → flat_map children (ps ++ roll-Domain x ∷ []) ≡ flat_map children ps ++ x.children.items
+children_push ps x =
+    flat_map-append children ps (roll-Domain x ∷ [])
+    ∙ ap (λ ys. flat_map children ps ++ ys)
+    (append-nil (children (roll-Domain x)) ∙ children_roll x)
+
+pub counts_push : (ps : List Domain) (x : Domain-F Domain)
+    → map child_count (ps ++ roll-Domain x ∷ [])
+    ≡ map child_count ps ++ length x.children.items ∷ []
+counts_push ps x =
+    map-append child_count ps (roll-Domain x ∷ [])
+    ∙ ap (λ k. map child_count ps ++ k ∷ []) (child_count_roll x)

@@ -1,19 +1,15 @@
 -- Granted depths after a change, by level and place.
-use Rattle.std.proofs.Common.{◌≡◌, ℕ, zero, suc, ◌+◌, ◌-◌, ◌<◌, ◌≤◌, Bool, true, false}
+use Rattle.std.proofs.Common.{◌≡◌, ℕ, zero, suc, ◌<◌, ◌≤◌, Bool, true, false}
 use Rattle.std.proofs.Common.{cond, ◌&&◌, ◌==◌, List, [], ◌∷◌, ◌++◌, length, take, drop}
-use Rattle.std.proofs.Common.{get_or, map, replicate, refl, ap, sym, ◌∙◌, arith, inl, inr}
+use Rattle.std.proofs.Common.{get_or, map, refl, ap, sym, ◌∙◌, arith, inl, inr}
 use Rattle.std.proofs.Math.ListN.{set, length-set}
-use Rattle.std.proofs.lemmas.Bool.{cases_eq, eq-eqb, ne_eqb, eqb-true}
+use Rattle.std.proofs.lemmas.Bool.{cases_eq, eq-eqb, ne_eqb}
 use Rattle.std.proofs.lemmas.List.{get_or-set_same, get_or-set_other, get_or-replicate}
-use Rattle.std.proofs.lemmas.List.{length-replicate, get_or-map, length-map, drop_all}
+use Rattle.std.proofs.lemmas.List.{get_or-map, length-map, drop_all}
 use Rattle.psci_board.specs.declared.node.Node.{Node}
-use Rattle.psci_board.specs.Board.{group_of, IsTree, size_below, place_above}
-use Rattle.psci_tree.specs.Recount.{TreeValue, never_started, granted_at}
-use Rattle.psci_tree.specs.Recount.{sizes, HasDomain, IsDomainTree}
-use Rattle.psci_tree.specs.Changes.{with_core, with_path_on, zero_up}
-use Rattle.psci_tree.specs.Changes.{with_grant, rows_of, all_off, MayGrant}
-use Rattle.psci_tree.specs.declared.state.CoreState.{CoreState}
-use Rattle.psci_tree.specs.declared.state.Activity.{Activity}
+use Rattle.psci_board.specs.Board.{group_of, IsTree, HasNodeIn, size_below, place_above}
+use Rattle.psci_tree.specs.Recount.{TreeValue, granted_at, level_sizes, IsDomainTree}
+use Rattle.psci_tree.specs.Changes.{path_cleared, with_grant, rows_with_depth}
 use Rattle.psci_tree.proofs.Places.{group_below}
 
 -- One written place --------------------------------------------------------------------------
@@ -51,7 +47,7 @@ above_top (suc l) i = refl
 
 -- what is granted after nothing is granted on a path any more
 pub zero_at : (levels gs : List (List ℕ)) (i l p : ℕ)
-    → get_or (get_or (zero_up levels i gs) l []) p 0
+    → get_or (get_or (path_cleared levels i gs) l []) p 0
     ≡ cond (place_above levels l i == p) 0 (get_or (get_or gs l []) p 0)
 zero_at levels [] i l p = zero_either (place_above levels l i == p)
 zero_at [] (g ∷ gs) i zero p = at_set_zero g i p
@@ -61,15 +57,15 @@ zero_at (w ∷ ws) (g ∷ gs) i zero p = at_set_zero g i p
 zero_at (w ∷ ws) (g ∷ gs) i (suc l) p = zero_at ws gs (group_of w i) l p
 
 pub zero_lengths : (levels gs : List (List ℕ)) (i : ℕ)
-    → map length (zero_up levels i gs) ≡ map length gs
+    → map length (path_cleared levels i gs) ≡ map length gs
 zero_lengths levels [] i = refl
 zero_lengths [] (g ∷ gs) i = rw (length-set g i 0) (ap (λ xs. length g ∷ xs) (zero_lengths [] gs i))
 zero_lengths (w ∷ ws) (g ∷ gs) i =
     rw (length-set g i 0) (ap (λ xs. length g ∷ xs) (zero_lengths ws gs (group_of w i)))
 
 zero_top : (gs : List (List ℕ)) (l i : ℕ) → l < length gs
-    → take (suc l) (set gs l (set (get_or gs l []) i 0)) ++ zero_up [] i (drop (suc l)
-    (set gs l (set (get_or gs l []) i 0))) ≡ take l gs ++ zero_up [] i (drop l gs)
+    → take (suc l) (set gs l (set (get_or gs l []) i 0)) ++ path_cleared [] i (drop (suc l)
+    (set gs l (set (get_or gs l []) i 0))) ≡ take l gs ++ path_cleared [] i (drop l gs)
 zero_top [] l i h = absurd (omega arith)
 zero_top (g ∷ gs) zero i h = refl
 zero_top (g ∷ gs) (suc l) i h = ap (λ xs. g ∷ xs) (zero_top gs l i (omega arith))
@@ -77,9 +73,9 @@ zero_top (g ∷ gs) (suc l) i h = ap (λ xs. g ∷ xs) (zero_top gs l i (omega a
 -- one more level, as a loop upwards takes it
 pub zero_more : (levels gs : List (List ℕ)) (l i : ℕ) → l < length gs
     → take (suc l) (set gs l (set (get_or gs l []) i 0))
-    ++ zero_up (drop (suc l) levels) (place_above (drop l levels) 1 i)
+    ++ path_cleared (drop (suc l) levels) (place_above (drop l levels) 1 i)
     (drop (suc l) (set gs l (set (get_or gs l []) i 0)))
-    ≡ take l gs ++ zero_up (drop l levels) i (drop l gs)
+    ≡ take l gs ++ path_cleared (drop l levels) i (drop l gs)
 zero_more levels [] l i h = absurd (omega arith)
 zero_more [] (g ∷ gs) zero i h = refl
 zero_more (w ∷ ws) (g ∷ gs) zero i h = refl
@@ -130,73 +126,35 @@ place_lt (w ∷ ws) (suc l) c t h i =
     place_lt ws l (group_of w c) t.3 (omega arith) (group_below w ws c t i)
 
 pub size_of_level : (levels : List (List ℕ)) (l : ℕ) → l ≤ length levels
-    → get_or (sizes levels) l 0 ≡ size_below (drop l levels)
+    → get_or (level_sizes levels) l 0 ≡ size_below (drop l levels)
 size_of_level [] zero h = refl
 size_of_level [] (suc l) h = absurd (omega arith)
 size_of_level (w ∷ ws) zero h = refl
 size_of_level (w ∷ ws) (suc l) h = size_of_level ws l (omega arith)
 
-pub length_sizes : (levels : List (List ℕ)) → length (sizes levels) ≡ suc (length levels)
-length_sizes [] = refl
-length_sizes (w ∷ ws) = ap suc (length_sizes ws)
+pub length_level_sizes : (levels : List (List ℕ)) → length (level_sizes levels) ≡ suc (length levels)
+length_level_sizes [] = refl
+length_level_sizes (w ∷ ws) = ap suc (length_level_sizes ws)
 
 -- how long the row of a level is
-pub row_length : (levels gs : List (List ℕ)) (l : ℕ) → map length gs ≡ sizes levels
+pub row_length : (levels gs : List (List ℕ)) (l : ℕ) → map length gs ≡ level_sizes levels
     → l ≤ length levels → length (get_or gs l []) ≡ size_below (drop l levels)
 row_length levels gs l e h =
     let long : length gs ≡ suc (length levels) =
-    sym (length-map gs length) ∙ ap length e ∙ length_sizes levels in
+    sym (length-map gs length) ∙ ap length e ∙ length_level_sizes levels in
     sym (get_or-map length gs l [] 0 (omega arith)) ∙ ap (λ xs. get_or xs l 0) e
     ∙ size_of_level levels l h
 
--- What holds of every tree -------------------------------------------------------------------
-
-pub core_valid : (t : TreeValue) (core : ℕ) (activity : Activity) (known : ℕ) → IsDomainTree t
-    → IsDomainTree (with_core t core activity known)
-core_valid t core activity known v = record {
-  tree = v.tree;
-  high = v.high;
-  cores = length-set t.cores core _ ∙ v.cores;
-  granted = v.granted;
-  deepest = v.deepest;
-  nested = v.nested;
-}
-
-zero_le : (b : Bool) (x m : ℕ) → x ≤ m → cond b 0 x ≤ m
-zero_le true x m h = omega arith
-zero_le false x m h = h
-
-zero_both : (b c : Bool) (x y : ℕ) → (c ≡ true → b ≡ true) → x ≤ y → cond b 0 x ≤ cond c 0 y
-zero_both true c x y h e = omega arith
-zero_both false false x y h e = e
-zero_both false true x y h e = absurd (let no : false ≡ true = h refl in cc)
-
-pub path_valid : (t : TreeValue) (core : ℕ) → IsDomainTree t → IsDomainTree (with_path_on t core)
-path_valid t core v = record {
-  tree = v.tree;
-  high = v.high;
-  cores = v.cores;
-  granted = zero_lengths t.levels t.granted core ∙ v.granted;
-  deepest = λ l p. rw (zero_at t.levels t.granted core l p) (zero_le _ _ 3 (v.deepest l p));
-  nested = λ c l i h.
-      rw (
-        zero_at t.levels t.granted core (l + 1) (place_above t.levels (l + 1) c),
-        zero_at t.levels t.granted core l (place_above t.levels l c),
-      )
-      (zero_both _ _ _ _
-      (λ e. let up : l + 1 ≡ suc l = omega arith in
-      eq-eqb _ _ (rw up (same_up t.levels l core c (eqb-true _ _ e))))
-      (v.nested c l i h));
-}
+-- One domain ---------------------------------------------------------------------------------
 
 -- a granted depth of one domain
-pub grant_at : (t : TreeValue) (n : Node) (depth l p : ℕ) → IsDomainTree t → HasDomain t.levels n
+pub grant_at : (t : TreeValue) (n : Node) (depth l p : ℕ) → IsDomainTree t → HasNodeIn t.levels n
     → granted_at (with_grant t n depth) l p
     ≡ cond (n.level == l && n.place == p) depth (granted_at t l p)
 unfolding with_grant
 grant_at t n depth l p v h =
     let long : length t.granted ≡ suc (length t.levels) =
-    sym (length-map t.granted length) ∙ ap length v.granted ∙ length_sizes t.levels in
+    sym (length-map t.granted length) ∙ ap length v.granted ∙ length_level_sizes t.levels in
     let row : length (get_or t.granted n.level []) ≡ size_below (drop n.level t.levels) =
     row_length t.levels t.granted n.level v.granted h.level in
     elim (cases_eq n.level l) [
@@ -214,112 +172,22 @@ grant_at t n depth l p v h =
       ) refl
     ]
 
-grant_le : (b : Bool) (depth x m : ℕ) → depth ≤ m → x ≤ m → cond b depth x ≤ m
-grant_le true depth x m h e = h
-grant_le false depth x m h e = e
-
-grant_both : (b c : Bool) (depth x y : ℕ) → (b ≡ true → c ≡ true → ⊥) → (b ≡ true → depth ≤ y)
-    → (c ≡ true → x ≤ depth) → x ≤ y → cond b depth x ≤ cond c depth y
-grant_both true true depth x y n f g h = absurd (n refl refl)
-grant_both true false depth x y n f g h = f refl
-grant_both false true depth x y n f g h = g refl
-grant_both false false depth x y n f g h = h
-
-both_tests : (a b : Bool) → (a && b) ≡ true → (a ≡ true) × (b ≡ true)
-both_tests true b h = (refl, h)
-both_tests false b h = absurd (cc)
-
-is_domain : (n : Node) (l p : ℕ) → (n.level == l && n.place == p) ≡ true
-    → (n.level ≡ l) × (n.place ≡ p)
-is_domain n l p h = let e = both_tests (n.level == l) (n.place == p) h in
-    (eqb-true _ _ e.0, eqb-true _ _ e.1)
-
-pub grant_valid : (t : TreeValue) (n : Node) (depth : ℕ) → IsDomainTree t → HasDomain t.levels n
-    → MayGrant t n depth → IsDomainTree (with_grant t n depth)
-unfolding with_grant
-grant_valid t n depth v h may = record {
-  tree = v.tree;
-  high = v.high;
-  cores = v.cores;
-  granted = row_lengths t.granted n.level n.place depth ∙ v.granted;
-  deepest =
-      λ l p. rw (grant_at t n depth l p v h) (grant_le _ depth _ 3 may.deepest (v.deepest l p));
-  nested = λ c l i b.
-      rw (
-        grant_at t n depth (l + 1) (place_above t.levels (l + 1) c) v h,
-        grant_at t n depth l (place_above t.levels l c) v h,
-      )
-      (grant_both _ _ depth _ _
-      (λ e f. omega (arith, (is_domain n _ _ e).0, (is_domain n _ _ f).0))
-      (λ e. let d = is_domain n _ _ e in child c l i d.0 d.1)
-      (λ e. let d = is_domain n _ _ e in parent c l i b d.0 d.1)
-      (v.nested c l i b));
-}
-  where
-    child : (c l : ℕ) → c < size_below t.levels → n.level ≡ l + 1 → n.place
-        ≡ place_above t.levels (l + 1) c → depth ≤ granted_at t l (place_above t.levels l c)
-    child c l i d e =
-        let same : n.level - 1 ≡ l = omega arith in
-        let here = may.children c i (omega arith) (rw d (sym e)) in
-        rw same at here
-
-    parent : (c l : ℕ) → c < size_below t.levels → l < length t.levels → n.level ≡ l → n.place
-        ≡ place_above t.levels l c → granted_at t (l + 1) (place_above t.levels (l + 1) c) ≤ depth
-    parent c l i b d e =
-        let here = may.parent c i (omega arith) (rw d (sym e)) in
-        rw d at here
-
 -- The start of a life ------------------------------------------------------------------------
 
-pub rows_at : (sizes : List ℕ) (l p : ℕ) → p < get_or sizes l 0
-    → ◌≡◌ {A = ℕ} (get_or (get_or (rows_of sizes 3) l []) p 0) 3
+pub rows_at : (counts : List ℕ) (l p : ℕ) → p < get_or counts l 0
+    → ◌≡◌ {A = ℕ} (get_or (get_or (rows_with_depth counts 3) l []) p 0) 3
 rows_at [] l p h = absurd (omega arith)
 rows_at (n ∷ ns) zero p h = get_or-replicate n p 3 0 h
 rows_at (n ∷ ns) (suc l) p h = rows_at ns l p h
-
-row_le : (n p : ℕ) → get_or (replicate n 3) p 0 ≤ 3
-row_le zero p = omega arith
-row_le (suc n) zero = omega arith
-row_le (suc n) (suc p) = row_le n p
-
-rows_le : (sizes : List ℕ) (l p : ℕ) → get_or (get_or (rows_of sizes 3) l []) p 0 ≤ 3
-rows_le [] l p = omega arith
-rows_le (n ∷ ns) zero p = row_le n p
-rows_le (n ∷ ns) (suc l) p = rows_le ns l p
-
-rows_lengths : (sizes : List ℕ) → map length (rows_of sizes 3) ≡ sizes
-rows_lengths [] = refl
-rows_lengths (n ∷ ns) = rw (length-replicate {A = ℕ} n 3) (ap (λ xs. n ∷ xs) (rows_lengths ns))
-
-pub full_valid : (levels : List (List ℕ)) (cores : List CoreState) → IsTree levels
-    → length levels ≤ 3 → length cores ≡ size_below levels
-    → IsDomainTree (record { levels = levels; cores = cores; granted = rows_of (sizes levels) 3 })
-full_valid levels cores t h e = record {
-  tree = t;
-  high = h;
-  cores = e;
-  granted = rows_lengths (sizes levels);
-  deepest = λ l p. rows_le (sizes levels) l p;
-  nested = λ c l i b.
-      let inside = place_lt levels l c t (omega arith) i in
-      rw (rows_at (sizes levels) l (place_above levels l c)
-      (omega (arith, inside, size_of_level levels l (omega arith))))
-      (rows_le (sizes levels) (l + 1) (place_above levels (l + 1) c));
-}
-
-pub all_off_valid : (levels : List (List ℕ)) → IsTree levels → length levels ≤ 3
-    → IsDomainTree (all_off levels)
-all_off_valid levels t h =
-    full_valid levels _ t h (length-replicate (size_below levels) never_started)
 
 -- the row of a domain's level
 pub record RowOf (gs : List (List ℕ)) (n : Node) : Type 0 where
   pub level : n.level < length gs
   pub place : n.place < length (get_or gs n.level [])
 
-pub row_of : (levels gs : List (List ℕ)) (n : Node) → map length gs ≡ sizes levels
-    → HasDomain levels n → RowOf gs n
+pub row_of : (levels gs : List (List ℕ)) (n : Node) → map length gs ≡ level_sizes levels
+    → HasNodeIn levels n → RowOf gs n
 row_of levels gs n e h = record {
-  level = omega (arith, h.level, length-map gs length, ap length e, length_sizes levels);
+  level = omega (arith, h.level, length-map gs length, ap length e, length_level_sizes levels);
   place = omega (arith, h.place, row_length levels gs n.level e h.level);
 }

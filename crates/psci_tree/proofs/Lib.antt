@@ -1,6 +1,8 @@
+pub mod Asks
 pub mod Below
 pub mod Bounds
 pub mod Built
+pub mod GrantRows
 pub mod Granted
 pub mod Looked
 pub mod Places
@@ -8,4 +10,7 @@ pub mod Recounted
 pub mod Rows
 pub mod Shapes
 pub mod Slices
+pub mod Sums
+pub mod UnevenRows
 pub mod Upward
+pub mod Valid

@@ -5,13 +5,13 @@ use Rattle.std.proofs.lemmas.Bool.{cases_eq, eq-eqb, ne_eqb}
 use Rattle.std.proofs.lemmas.List.{get_or-set_same, get_or-set_other, length-replicate}
 use Rattle.psci_board.specs.Board.{size_below, place_above}
 use Rattle.psci_tree.specs.declared.state.Activity.{Activity}
-use Rattle.psci_tree.specs.Recount.{TreeValue, core_at, granted_at, never_started, sizes}
-use Rattle.psci_tree.specs.Changes.{with_core, with_path_on, all_off}
+use Rattle.psci_tree.specs.Recount.{TreeValue, core_at, granted_at, never_started, level_sizes}
+use Rattle.psci_tree.specs.Changes.{with_core_state, with_path_cleared, all_off}
 use Rattle.psci_tree.proofs.Granted.{zero_at, size_of_level, rows_at}
 
 -- another state of one core
 pub core_with : (t : TreeValue) (core : ℕ) (activity : Activity) (known c : ℕ)
-    → core < length t.cores → core_at (with_core t core activity known) c
+    → core < length t.cores → core_at (with_core_state t core activity known) c
     ≡ cond (core == c) (record { activity = activity; known = known }) (core_at t c)
 core_with t core activity known c h = elim (cases_eq core c) [
   | inl e ↦ rw (eq-eqb core c e, ← e)
@@ -22,7 +22,7 @@ core_with t core activity known c h = elim (cases_eq core c) [
   }) never_started (λ q. e (sym q)))
 ]
 
-pub granted_with : (t : TreeValue) (core l p : ℕ) → granted_at (with_path_on t core) l p
+pub granted_with : (t : TreeValue) (core l p : ℕ) → granted_at (with_path_cleared t core) l p
     ≡ cond (place_above t.levels l core == p) 0 (granted_at t l p)
 granted_with t core l p = zero_at t.levels t.granted core l p
 
@@ -36,7 +36,8 @@ core_off levels c = filled (size_below levels) c
 
 pub granted_off : (levels : List (List ℕ)) (l p : ℕ) → l ≤ length levels
     → p < size_below (drop l levels) → granted_at (all_off levels) l p ≡ 3
-granted_off levels l p h i = rows_at (sizes levels) l p (omega (arith, size_of_level levels l h))
+granted_off levels l p h i =
+    rows_at (level_sizes levels) l p (omega (arith, size_of_level levels l h))
 
 pub cores_off : (levels : List (List ℕ)) → length (all_off levels).cores ≡ size_below levels
 cores_off levels = length-replicate (size_below levels) never_started

@@ -1,27 +1,47 @@
 -- Recounts over the states of the cores below a domain.
-use Rattle.std.proofs.Common.{◌≡◌, ℕ, ◌+◌, List, map, cond, ap, ◌∙◌}
+use Rattle.std.proofs.Common.{◌≡◌, ℕ, ◌+◌, ◌<◌, ◌≤◌, List, [], ◌∷◌, map, cond, ap, sym, ◌∙◌}
+use Rattle.std.proofs.Common.{length, arith, true, false, leb}
+use Rattle.std.proofs.lemmas.Bool.Decides.{nat_tests}
 use Rattle.std.specs.List.{sum_by, count_by}
 use Rattle.std.proofs.lemmas.Simd.{map-map}
 use Rattle.std.proofs.lemmas.List.Folds.{fold-map}
 use Rattle.psci_board.specs.declared.node.Node.{Node}
+use Rattle.psci_board.specs.Board.{below_in}
 use Rattle.psci_tree.specs.declared.state.CoreState.{CoreState}
-use Rattle.psci_tree.specs.Recount.{TreeValue, core_at, asks, runs, rests}
-use Rattle.psci_tree.specs.Recount.{below, least, low, known, active, off}
+use Rattle.psci_tree.specs.Recount.{TreeValue, core_at, asks, is_active, is_off}
+use Rattle.psci_tree.specs.Recount.{least, low, known, active, off}
 
 abbrev pub states : TreeValue → Node → List CoreState
-states t n = map (λ c. core_at t c) (below t.levels n)
+states t n = map (λ c. core_at t c) (below_in t.levels n)
 
 pub low_is : (t : TreeValue) (n : Node) (level : ℕ) (cs : List CoreState) → cs ≡ states t n
-    → least (map (λ s. asks s.activity level) cs) ≡ low t n level
+    → level ≤ length t.levels → least (map (λ s. asks s.activity level) cs) ≡ low t n level
 unfolding low
-low_is t n level cs e =
+low_is t n level cs e h =
+    let within : true ≡ leb level (length t.levels) = grind (arith, nat_tests) in
     ap (λ xs. least (map (λ s. asks s.activity level) xs)) e
-    ∙ ap least (map-map (λ s. asks s.activity level) (λ c. core_at t c) (below t.levels n))
+    ∙ ap least (map-map (λ s. asks s.activity level) (λ c. core_at t c) (below_in t.levels n))
+    ∙ ap (λ b. least (map (λ c. cond b (asks (core_at t c).activity level) 0)
+    (below_in t.levels n))) within
+
+none_asked : (xs : List ℕ) → 0 < length xs → least (map (λ c. 0) xs) ≡ 0
+none_asked [] h = absurd (omega arith)
+none_asked (x ∷ xs) h = omega arith
+
+-- no core asks anything above the height
+pub low_above : (t : TreeValue) (n : Node) (level : ℕ) → 0 < length (below_in t.levels n)
+    → length t.levels < level → 0 ≡ low t n level
+unfolding low
+low_above t n level some h =
+    let above : false ≡ leb level (length t.levels) = grind (arith, nat_tests) in
+    sym (none_asked (below_in t.levels n) some)
+    ∙ ap (λ b. least (map (λ c. cond b (asks (core_at t c).activity level) 0)
+    (below_in t.levels n))) above
 
 sum_is : (f : CoreState → ℕ) (t : TreeValue) (n : Node) (cs : List CoreState) → cs ≡ states t n
-    → sum_by f cs ≡ sum_by (λ c. f (core_at t c)) (below t.levels n)
+    → sum_by f cs ≡ sum_by (λ c. f (core_at t c)) (below_in t.levels n)
 sum_is f t n cs e =
-    ap (sum_by f) e ∙ fold-map (λ a x. a + f x) (λ c. core_at t c) 0 (below t.levels n)
+    ap (sum_by f) e ∙ fold-map (λ a x. a + f x) (λ c. core_at t c) 0 (below_in t.levels n)
 
 pub known_is : (t : TreeValue) (n : Node) (cs : List CoreState) → cs ≡ states t n
     → sum_by (λ s. s.known) cs ≡ known t n
@@ -29,11 +49,11 @@ unfolding known
 known_is t n cs e = sum_is (λ s. s.known) t n cs e
 
 pub active_is : (t : TreeValue) (n : Node) (cs : List CoreState) → cs ≡ states t n
-    → count_by (λ s. runs s.activity) cs ≡ active t n
+    → count_by (λ s. is_active s.activity) cs ≡ active t n
 unfolding active
-active_is t n cs e = sum_is (λ s. cond (runs s.activity) 1 0) t n cs e
+active_is t n cs e = sum_is (λ s. cond (is_active s.activity) 1 0) t n cs e
 
 pub off_is : (t : TreeValue) (n : Node) (cs : List CoreState) → cs ≡ states t n
-    → count_by (λ s. rests s.activity) cs ≡ off t n
+    → count_by (λ s. is_off s.activity) cs ≡ off t n
 unfolding off
-off_is t n cs e = sum_is (λ s. cond (rests s.activity) 1 0) t n cs e
+off_is t n cs e = sum_is (λ s. cond (is_off s.activity) 1 0) t n cs e

@@ -5,24 +5,23 @@ use Rattle.std.proofs.Common.{sym, ◌∙◌, arith, ◌==◌, length-append, ap
 use Rattle.std.specs.List.{flat_map, AllPass, range_with_len}
 use Rattle.std.proofs.lemmas.Bool.Decides.{nat_tests}
 use Rattle.std.proofs.lemmas.List.{length-take-le, map-append, map-id, take-map, take-append-drop}
-use Rattle.std.proofs.lemmas.List.{drop_at, take_at, length-map, get_or-map, drop_all}
+use Rattle.std.proofs.lemmas.List.{drop_at, take_at, drop_more, length-map, get_or-map, drop_all}
 use Rattle.std.proofs.lemmas.List.Concat.{flat_map-append, flat_map_single, length-flat_map}
 use Rattle.std.proofs.lemmas.List.Sums.{sum-map, get_or-le-sum_by}
 use Rattle.std.proofs.lemmas.List.Sums.{length-filter, count_by-le-length}
 use Rattle.std.proofs.lemmas.List.FromFn.{length-range_with_len}
 use Rattle.std.proofs.lemmas.List.Elements.{All-take}
 use Rattle.psci_board.specs.declared.node.Node.{Node}
-use Rattle.psci_board.specs.Board.{IsTree, size_below, is_width, place_above}
+use Rattle.psci_board.specs.Board.{IsTree, HasNodeIn, size_below, is_width, place_above}
+use Rattle.psci_board.specs.Board.{below_in, first_core, span}
+use Rattle.psci_board.specs.Laws.{SpanLaws}
 use Rattle.psci_tree.specs.Recount.{TreeValue, core_at, never_started}
-use Rattle.psci_tree.specs.Recount.{below, HasDomain, IsDomainTree}
-use Rattle.psci_tree.specs.Domains.{cores, cores_in, children, fan}
-use Rattle.psci_tree.specs.Domains.{domains_down, widths, HasShape, IsWhole}
+use Rattle.psci_tree.specs.Domains.{cores, cores_in, children, child_count}
+use Rattle.psci_tree.specs.Domains.{domains_down, child_counts, HasShape, IsWhole}
 use Rattle.psci_tree.specs.declared.state.CoreState.{CoreState}
 use Rattle.psci_tree.specs.declared.domain.Domain.{Domain, out-Domain}
 use Rattle.psci_tree.proofs.Below.{cores_of_domain, cores_of_core, cores_drop, length_take}
-use Rattle.psci_tree.specs.Recount.{first_core, width}
 use Rattle.psci_tree.proofs.Places.{sum-cons, sum_take_le}
-use Rattle.psci_tree.proofs.Places.{below_is, pick_run, first_grows, first_end}
 
 -- One level down -----------------------------------------------------------------------------
 
@@ -37,15 +36,17 @@ down_step zero n =
     flat_map_single (λ m. m) (children n) ∙ map-id (children n) ∙ sym (append-nil (children n))
 down_step (suc k) n = down_in (domains_down (suc k)) (domains_down k) (down_step k) (children n)
 
-widths_in : (f : Domain → List ℕ) (g : Domain → List Domain) → ((n : Domain) → f n ≡ map fan (g n))
-    → (ns : List Domain) → flat_map f ns ≡ map fan (flat_map g ns)
+widths_in : (f : Domain → List ℕ) (g : Domain → List Domain)
+    → ((n : Domain) → f n ≡ map child_count (g n))
+    → (ns : List Domain) → flat_map f ns ≡ map child_count (flat_map g ns)
 widths_in f g h [] = refl
 widths_in f g h (n ∷ ns) = ap (λ x. x ++ flat_map f ns) (h n)
-    ∙ ap (λ x. map fan (g n) ++ x) (widths_in f g h ns) ∙ sym (map-append fan (g n) (flat_map g ns))
+    ∙ ap (λ x. map child_count (g n) ++ x) (widths_in f g h ns)
+    ∙ sym (map-append child_count (g n) (flat_map g ns))
 
-pub widths_are : (k : ℕ) (n : Domain) → widths k n ≡ map fan (domains_down k n)
+pub widths_are : (k : ℕ) (n : Domain) → child_counts k n ≡ map child_count (domains_down k n)
 widths_are zero n = refl
-widths_are (suc k) n = widths_in (widths k) (domains_down k) (widths_are k) (children n)
+widths_are (suc k) n = widths_in (child_counts k) (domains_down k) (widths_are k) (children n)
 
 take_past : {X : Type 0} (xs ys : List X) (k : ℕ)
     → take (length xs + k) (xs ++ ys) ≡ xs ++ take k ys
@@ -54,21 +55,22 @@ take_past (x ∷ xs) ys k = let e : suc (length xs) + k ≡ suc (length xs + k) 
     rw e (ap (λ zs. x ∷ zs) (take_past xs ys k))
 
 take_down : (p : ℕ) (ns : List Domain)
-    → flat_map children (take p ns) ≡ take (sum (take p (map fan ns))) (flat_map children ns)
+    → flat_map children (take p ns)
+    ≡ take (sum (take p (map child_count ns))) (flat_map children ns)
 take_down zero ns = refl
 take_down (suc p) [] = refl
 take_down (suc p) (n ∷ ns) =
     ap (λ x. children n ++ x) (take_down p ns)
-    ∙ sym (take_past (children n) (flat_map children ns) (sum (take p (map fan ns))))
+    ∙ sym (take_past (children n) (flat_map children ns) (sum (take p (map child_count ns))))
     ∙ ap (λ k. take k (children n ++ flat_map children ns))
-    (sym (sum-cons (fan n) (take p (map fan ns))))
+    (sym (sum-cons (child_count n) (take p (map child_count ns))))
 
 -- domains that have children have the cores of their children
-cores_down : (ns : List Domain) → AllPass is_width (map fan ns)
+pub cores_down : (ns : List Domain) → AllPass is_width (map child_count ns)
     → cores_in ns ≡ cores_in (flat_map children ns)
 cores_down [] h = refl
 cores_down (n ∷ ns) h =
-    let some : 0 < length (children n) = wide (fan n) (h 0 0 (omega arith)) in
+    let some : 0 < length (children n) = wide (child_count n) (h 0 0 (omega arith)) in
     ap (λ x. x ++ cores_in ns) (cores_of_domain n some)
     ∙ ap (λ x. cores_in (children n) ++ x) (cores_down ns (λ k d l. h (suc k) d (omega arith)))
     ∙ sym (flat_map-append cores (children n) (flat_map children ns))
@@ -77,10 +79,10 @@ cores_down (n ∷ ns) h =
     wide m e = grind (arith, nat_tests)
 
 -- domains without children are one core each
-cores_ends : (ns : List Domain) → sum (map fan ns) ≡ 0 → length (cores_in ns) ≡ length ns
+cores_ends : (ns : List Domain) → sum (map child_count ns) ≡ 0 → length (cores_in ns) ≡ length ns
 cores_ends [] h = refl
 cores_ends (n ∷ ns) h =
-    let parts = sum-cons (fan n) (map fan ns) in
+    let parts = sum-cons (child_count n) (map child_count ns) in
     omega (
       arith,
       length-append (cores n) (cores_in ns),
@@ -91,7 +93,7 @@ cores_ends (n ∷ ns) h =
 -- The shape ----------------------------------------------------------------------------------
 
 shape_at : (n : Domain) (levels : List (List ℕ)) (l k : ℕ) → HasShape n levels
-    → k + suc l ≡ length levels → widths k n ≡ get_or levels l []
+    → k + suc l ≡ length levels → child_counts k n ≡ get_or levels l []
 shape_at n [] l k h e = absurd (omega arith)
 shape_at n (w ∷ ws) zero k h e = let same : k ≡ length ws = omega arith in rw same h.0
 shape_at n (w ∷ ws) (suc l) k h e = shape_at n ws l k h.1 (omega arith)
@@ -103,11 +105,11 @@ widths_at (w ∷ ws) zero t h = t.2
 widths_at (w ∷ ws) (suc l) t h = widths_at ws l t.3 (omega arith)
 
 fans_at : (n : Domain) (levels : List (List ℕ)) (l k : ℕ) → IsWhole n levels
-    → k + suc l ≡ length levels → map fan (domains_down k n) ≡ get_or levels l []
+    → k + suc l ≡ length levels → map child_count (domains_down k n) ≡ get_or levels l []
 fans_at n levels l k h e = sym (widths_are k n) ∙ shape_at n levels l k h.shape e
 
 wide_at : (n : Domain) (levels : List (List ℕ)) (l k : ℕ) → IsTree levels → IsWhole n levels
-    → k + suc l ≡ length levels → AllPass is_width (map fan (domains_down k n))
+    → k + suc l ≡ length levels → AllPass is_width (map child_count (domains_down k n))
 wide_at n levels l k t h e = let P : List ℕ → Type 0 = AllPass is_width in
     subst P (sym (fans_at n levels l k h e)) (widths_at levels l t (omega arith))
 
@@ -122,7 +124,7 @@ pub size_at : (n : Domain) (levels : List (List ℕ)) (l k : ℕ) → IsWhole n 
 size_at n levels l zero h e = ap size_below (sym (drop_all l levels (omega arith)))
 size_at n levels l (suc k) h e =
     ap length (down_step k n) ∙ length-flat_map children (domains_down k n)
-    ∙ sym (sum-map fan (domains_down k n))
+    ∙ sym (sum-map child_count (domains_down k n))
     ∙ ap sum (fans_at n levels l k h (omega arith)) ∙ sym (size_drop levels l (omega arith))
 
 pub cores_all : (n : Domain) (levels : List (List ℕ)) (l k : ℕ) → IsTree levels → IsWhole n levels
@@ -141,12 +143,14 @@ length_cores n levels t h =
     ∙ h.ends)
     ∙ size_at n levels 0 (length levels) h (omega arith)
 
-shape_kept : (n m : Domain) (levels : List (List ℕ)) → ((k : ℕ) → widths k m ≡ widths k n)
+shape_kept : (n m : Domain) (levels : List (List ℕ))
+    → ((k : ℕ) → child_counts k m ≡ child_counts k n)
     → HasShape n levels → HasShape m levels
 shape_kept n m [] same h = tt
 shape_kept n m (w ∷ ws) same h = (same (length ws) ∙ h.0, shape_kept n m ws same h.1)
 
-pub whole_kept : (n m : Domain) (levels : List (List ℕ)) → ((k : ℕ) → widths k m ≡ widths k n)
+pub whole_kept : (n m : Domain) (levels : List (List ℕ))
+    → ((k : ℕ) → child_counts k m ≡ child_counts k n)
     → IsWhole n levels → IsWhole m levels
 whole_kept n m levels same h = record {
   shape = shape_kept n m levels same h.shape;
@@ -162,30 +166,31 @@ first_len : (n : Domain) (levels : List (List ℕ)) (l k p : ℕ) → IsTree lev
 first_len n levels zero k p t h e b =
     let row : List Domain = domains_down k n in
     let same : k ≡ length levels = omega arith in
-    let none : sum (map fan row) ≡ 0 =
-    ap sum (sym (widths_are k n)) ∙ ap (λ j. sum (widths j n)) same ∙ h.ends in
-    let few : sum (map fan (take p row)) ≡ 0 =
-    ap sum (sym (take-map fan p row)) ∙ omega (arith, sum_take_le (map fan row) p) in
+    let none : sum (map child_count row) ≡ 0 =
+    ap sum (sym (widths_are k n)) ∙ ap (λ j. sum (child_counts j n)) same ∙ h.ends in
+    let few : sum (map child_count (take p row)) ≡ 0 =
+    ap sum (sym (take-map child_count p row))
+    ∙ omega (arith, sum_take_le (map child_count row) p) in
     cores_ends (take p row) few ∙ length-take-le p row b
 first_len n levels (suc l) k p t h e b =
     let row : List Domain = domains_down k n in
-    let at : map fan row ≡ get_or levels l [] = fans_at n levels l k h e in
-    let wide : AllPass is_width (map fan (take p row)) =
-    (let P : List ℕ → Type 0 = AllPass is_width in subst P (take-map fan p row)
-    (All-take (λ x. is_width x ≡ true) p (map fan row) (wide_at n levels l k t h e))) in
+    let at : map child_count row ≡ get_or levels l [] = fans_at n levels l k h e in
+    let wide : AllPass is_width (map child_count (take p row)) =
+    (let P : List ℕ → Type 0 = AllPass is_width in subst P (take-map child_count p row)
+    (All-take (λ x. is_width x ≡ true) p (map child_count row) (wide_at n levels l k t h e))) in
     let down : flat_map children (take p row)
-    ≡ take (sum (take p (map fan row))) (domains_down (suc k) n) =
-    take_down p row ∙ ap (take (sum (take p (map fan row)))) (sym (down_step k n)) in
-    let more : sum (take p (map fan row)) ≤ length (domains_down (suc k) n) =
+    ≡ take (sum (take p (map child_count row))) (domains_down (suc k) n) =
+    take_down p row ∙ ap (take (sum (take p (map child_count row)))) (sym (down_step k n)) in
+    let more : sum (take p (map child_count row)) ≤ length (domains_down (suc k) n) =
     omega (
       arith,
-      sum_take_le (map fan row) p,
+      sum_take_le (map child_count row) p,
       ap length (down_step k n),
       length-flat_map children row,
-      sum-map fan row,
+      sum-map child_count row,
     ) in
     ap length (cores_down (take p row) wide ∙ ap cores_in down)
-    ∙ first_len n levels l (suc k) (sum (take p (map fan row))) t h (omega arith) more
+    ∙ first_len n levels l (suc k) (sum (take p (map child_count row))) t h (omega arith) more
     ∙ ap (λ x. first_core levels l (sum (take p x))) at
 
 slice_of : (a b c : List CoreState) (i k : ℕ) → length a ≡ i → length b ≡ k
@@ -193,16 +198,16 @@ slice_of : (a b c : List CoreState) (i k : ℕ) → length a ≡ i → length b 
 slice_of a b c i k e f = ap (take k) (drop_at a (b ++ c) i e) ∙ take_at b c k f
 
 pub slice_at : (n : Domain) (levels : List (List ℕ)) (at : Node) (k : ℕ) (d : Domain)
-    → IsTree levels → IsWhole n levels → HasDomain levels at → k + at.level ≡ length levels
+    → IsTree levels → IsWhole n levels → HasNodeIn levels at → k + at.level ≡ length levels
     → d ≡ get_or (domains_down k n) at.place d
-    → cores d ≡ take (width levels at) (drop (first_core levels at.level at.place) (cores n))
+    → cores d ≡ take (span levels at).count (drop (span levels at).first (cores n))
 slice_at n levels at k d t h in' e is =
     let row : List Domain = domains_down k n in
     let p : ℕ = at.place in
     let fits : p < length row = omega (arith, in'.place, size_at n levels at.level k h e) in
     let here = first_len n levels at.level k p t h e (omega arith) in
     let next = first_len n levels at.level k (p + 1) t h e (omega arith) in
-    let wide : length (cores (get_or row p d)) ≡ width levels at =
+    let wide : length (cores (get_or row p d)) ≡ (span levels at).count =
     omega (arith, here, next, length_take row p d fits) in
     let parts : cores_in row ≡ cores_in (take p row)
     ++ (cores (get_or row p d) ++ cores_in (drop (p + 1) row)) =
@@ -210,40 +215,40 @@ slice_at n levels at k d t h in' e is =
     ∙ ap (λ x. cores_in (take p row) ++ x) (cores_drop row p d fits) in
     ap cores is
     ∙ sym (slice_of (cores_in (take p row)) (cores (get_or row p d)) (cores_in (drop (p + 1) row))
-    (first_core levels at.level p) (width levels at) here wide)
-    ∙ ap (λ x. take (width levels at) (drop (first_core levels at.level p) x))
+    (span levels at).first (span levels at).count here wide)
+    ∙ ap (λ x. take (span levels at).count (drop (span levels at).first x))
     (sym (cores_all n levels at.level k t h e ∙ parts))
 
--- the states of the cores below a domain
-pub states_at : (n : Domain) (t : TreeValue) (at : Node) (k : ℕ) (d : Domain) → IsTree t.levels
-    → IsWhole n t.levels → t.cores ≡ cores n → HasDomain t.levels at
+-- a run of numbers as places of a list
+pick_run : {X : Type 0} (xs : List X) (d : X) (a k : ℕ) → a + k ≤ length xs
+    → map (λ c. get_or xs c d) (range_with_len a k) ≡ take k (drop a xs)
+pick_run xs d a zero h = refl
+pick_run xs d a (suc k) h =
+    rw (drop_more xs a d (omega arith))
+    (ap (λ ys. get_or xs a d ∷ ys) (pick_run xs d (a + 1) k (omega arith)))
+
+-- the states of the cores below a domain are a slice of those of all cores
+pub states_slice : (t : TreeValue) (n : Node) → SpanLaws t.levels
+    → length t.cores ≡ size_below t.levels → HasNodeIn t.levels n
+    → map (λ c. core_at t c) (below_in t.levels n)
+    ≡ take (span t.levels n).count (drop (span t.levels n).first t.cores)
+states_slice t n laws same h =
+    ap (map (λ c. core_at t c)) (laws.cores n h)
+    ∙ pick_run t.cores never_started (span t.levels n).first (span t.levels n).count
+    (omega (arith, laws.inside n h))
+
+-- and they are those of the domain in memory
+pub states_at : (n : Domain) (t : TreeValue) (at : Node) (k : ℕ) (d : Domain) → SpanLaws t.levels
+    → IsTree t.levels → IsWhole n t.levels → t.cores ≡ cores n → HasNodeIn t.levels at
     → k + at.level ≡ length t.levels → d ≡ get_or (domains_down k n) at.place d
-    → cores d ≡ map (λ c. core_at t c) (below t.levels at)
-states_at n t at k d i h same in' e is =
-    let up = first_grows t.levels at.level at.place (at.place + 1) (omega arith) in
-    let last = first_grows t.levels at.level (at.place + 1) (size_below (drop at.level t.levels))
-    (omega (arith, in'.place)) in
-    let end = first_end t.levels at.level i in'.level in
+    → cores d ≡ map (λ c. core_at t c) (below_in t.levels at)
+states_at n t at k d laws i h same in' e is =
     slice_at n t.levels at k d i h in' e is
-    ∙ ap (λ x. take (width t.levels at) (drop (first_core t.levels at.level at.place) x)) (sym same)
-    ∙ sym (pick_run t.cores _ (first_core t.levels at.level at.place) (width t.levels at)
-    (omega (arith, up, last, end, ap length same, length_cores n t.levels i h)))
-    ∙ ap (map (λ c. core_at t c)) (sym (below_is t.levels at i in'))
+    ∙ ap (λ x. take (span t.levels at).count (drop (span t.levels at).first x)) (sym same)
+    ∙ sym (states_slice t at laws (ap length same ∙ length_cores n t.levels i h) in')
 
--- and as a slice of those of all cores
-pub states_slice : (t : TreeValue) (n : Node) → IsDomainTree t → HasDomain t.levels n
-    → map (λ c. core_at t c) (below t.levels n)
-    ≡ take (width t.levels n) (drop (first_core t.levels n.level n.place) t.cores)
-states_slice t n v h =
-    let up = first_grows t.levels n.level n.place (n.place + 1) (omega arith) in
-    let last = first_grows t.levels n.level (n.place + 1) (size_below (drop n.level t.levels))
-    (omega (arith, h.place)) in
-    let end = first_end t.levels n.level v.tree h.level in
-    ap (map (λ c. core_at t c)) (below_is t.levels n v.tree h)
-    ∙ pick_run t.cores never_started (first_core t.levels n.level n.place) (width t.levels n)
-    (omega (arith, up, last, end, v.cores))
-
-pub few_below : (levels : List (List ℕ)) (n : Node) → IsTree levels → length (below levels n) ≤ 64
+pub few_below : (levels : List (List ℕ)) (n : Node) → IsTree levels
+    → length (below_in levels n) ≤ 64
 few_below levels n t =
     omega (
       arith,
@@ -261,31 +266,35 @@ few_below levels n t =
     most (w ∷ ws) i = i.1
 
 -- a domain of level 0 is the core itself
-pub core_of_leaf : (n : Domain) (t : TreeValue) (at : Node) (k : ℕ) (d : Domain) → IsTree t.levels
-    → IsWhole n t.levels → t.cores ≡ cores n → HasDomain t.levels at
-    → k + at.level ≡ length t.levels → d ≡ get_or (domains_down k n) at.place d → at.level ≡ 0
+pub core_of_leaf : (n : Domain) (t : TreeValue) (at : Node) (k : ℕ) (d : Domain)
+    → SpanLaws t.levels → IsTree t.levels → IsWhole n t.levels → t.cores ≡ cores n
+    → HasNodeIn t.levels at → k + at.level ≡ length t.levels
+    → d ≡ get_or (domains_down k n) at.place d → at.level ≡ 0
     → (out-Domain d).core ≡ core_at t at.place
-core_of_leaf n t at k d i h same in' e is low =
+core_of_leaf n t at k d laws i h same in' e is low =
     let row : List Domain = domains_down k n in
     let here : k ≡ length t.levels = omega arith in
-    let none : sum (map fan row) ≡ 0 =
-    ap sum (sym (widths_are k n)) ∙ ap (λ j. sum (widths j n)) here ∙ h.ends in
+    let none : sum (map child_count row) ≡ 0 =
+    ap sum (sym (widths_are k n)) ∙ ap (λ j. sum (child_counts j n)) here ∙ h.ends in
     let fits : at.place < length row =
     omega (arith, in'.place, size_at n t.levels at.level k h e) in
-    let fans : fan d ≡ 0 = omega (
+    let fans : child_count d ≡ 0 = omega (
       arith,
-      ap fan is,
-      get_or-map fan row at.place d 0 fits,
-      get_or-le-sum_by (λ x. x) (map fan row) at.place 0 (omega (arith, length-map row fan)),
+      ap child_count is,
+      get_or-map child_count row at.place d 0 fits,
+      get_or-le-sum_by (λ x. x) (map child_count row) at.place 0
+          (omega (arith, length-map row child_count)),
     ) in
     let own : cores d ≡ (out-Domain d).core ∷ [] = cores_of_core d fans in
-    let first : first_core t.levels at.level at.place ≡ at.place =
+    let first : (span t.levels at).first ≡ at.place =
     ap (λ l. first_core t.levels l at.place) low in
     let last : first_core t.levels at.level (at.place + 1) ≡ at.place + 1 =
     ap (λ l. first_core t.levels l (at.place + 1)) low in
-    let one : width t.levels at ≡ 1 = omega arith in
-    let alone : below t.levels at ≡ at.place ∷ [] = below_is t.levels at i in'
-    ∙ ap (λ x. range_with_len x (width t.levels at)) first ∙ ap (range_with_len at.place) one in
+    let one : (span t.levels at).count ≡ 1 = omega arith in
+    let alone : below_in t.levels at ≡ at.place ∷ [] = laws.cores at in'
+    ∙ ap (λ x. range_with_len x (span t.levels at).count) first
+    ∙ ap (range_with_len at.place) one in
     let all : (out-Domain d).core ∷ [] ≡ core_at t at.place ∷ [] =
-    sym own ∙ states_at n t at k d i h same in' e is ∙ ap (map (λ c. core_at t c)) alone in
+    sym own ∙ states_at n t at k d laws i h same in' e is
+    ∙ ap (map (λ c. core_at t c)) alone in
     cc

@@ -1,14 +1,22 @@
 -- A domain as a child of the one above it.
-use Rattle.std.proofs.Common.{◌≡◌, ℕ, suc, ◌<◌, List, ◌∷◌, length, take}
-use Rattle.std.proofs.Common.{get_or, map, sum, ap, sym, ◌∙◌, arith}
+use Rattle.std.proofs.Common.{◌≡◌, ℕ, zero, suc, ◌+◌, ◌-◌, ◌<◌, List, [], ◌∷◌, length, take, drop}
+use Rattle.std.proofs.Common.{get_or, map, sum, ap, sym, refl, subst, ◌∙◌, arith, add-one}
+use Rattle.std.proofs.Common.{drop-cons}
+use Rattle.std.proofs.Common.{Bool, true, false, cond, ◌&&◌, ltb}
+use Rattle.std.specs.Prelude.{Some, None, unwrap_or}
 use Rattle.std.specs.List.{flat_map}
-use Rattle.std.proofs.lemmas.List.{take-map, length-map, get_or-map}
+use Rattle.std.proofs.lemmas.Bool.{ltb-true, ltb-false, lt-ltb}
+use Rattle.std.proofs.lemmas.List.{take-map, length-map, get_or-map, drop_all, length-drop}
 use Rattle.std.proofs.lemmas.List.Concat.{get_or-flat_map, length-flat_map}
 use Rattle.std.proofs.lemmas.List.Sums.{sum-map}
-use Rattle.psci_board.specs.Board.{IsTree, size_below, group_of, place_in}
-use Rattle.psci_tree.specs.Domains.{children, fan, domains_down, HasShape}
+use Rattle.psci_board.specs.declared.node.Node.{Node}
+use Rattle.psci_board.specs.Board.{BoardValue, IsTree, HasNodeIn, size_below, group_of, place_in}
+use Rattle.psci_board.specs.Board.{height, nodes, parent, child_number, place_above}
+use Rattle.psci_tree.specs.Domains.{children, child_count, domains_down, HasShape}
 use Rattle.psci_tree.specs.declared.domain.Domain.{Domain}
 use Rattle.psci_tree.proofs.Places.{Counted, counted}
+use Rattle.psci_tree.proofs.Granted.{tree_drop, parent_is, above_lt}
+use Rattle.psci_tree.proofs.Valid.{both_tests}
 use Rattle.psci_tree.proofs.Slices.{down_step, widths_are}
 
 -- the domain at a place, as a child
@@ -39,19 +47,135 @@ child_at root w ws place t h i = record {
     row : List Domain
     row = domains_down (length ws) root
 
-    same : map fan row ≡ w
+    same : map child_count row ≡ w
     same = sym (widths_are (length ws) root) ∙ h.0
 
     within : group_of w place < length row
-    within = omega (arith, c.group, ap length same, length-map row fan)
+    within = omega (arith, c.group, ap length same, length-map row child_count)
 
-    fans : (e : Domain) → fan (get_or row (group_of w place) e) ≡ get_or w (group_of w place) 0
-    fans e = sym (get_or-map fan row (group_of w place) e 0 within)
+    fans : (e : Domain)
+        → child_count (get_or row (group_of w place) e) ≡ get_or w (group_of w place) 0
+    fans e = sym (get_or-map child_count row (group_of w place) e 0 within)
         ∙ ap (λ x. get_or x (group_of w place) 0) same
 
     before : length (flat_map children (take (group_of w place) row))
         ≡ sum (take (group_of w place) w)
     before = length-flat_map children (take (group_of w place) row)
-        ∙ sym (sum-map fan (take (group_of w place) row))
-        ∙ ap sum (sym (take-map fan (group_of w place) row))
+        ∙ sym (sum-map child_count (take (group_of w place) row))
+        ∙ ap sum (sym (take-map child_count (group_of w place) row))
         ∙ ap (λ x. sum (take (group_of w place) x)) same
+
+-- A step of the board, by its nodes ----------------------------------------------------------
+
+pub some_of : {X : Type 0} (t : Bool) (x y : X) → cond t (Some x) None ≡ Some y
+    → (t ≡ true) × (x ≡ y)
+some_of true x y e = (refl, ap (λ o. unwrap_or o x) e)
+some_of false x y e = absurd (cc)
+
+pub none_of : {X : Type 0} (t : Bool) (x : X) → cond t (Some x) None ≡ None → t ≡ false
+none_of true x e = absurd (cc)
+none_of false x e = refl
+
+below_node : (b : BoardValue) (n : Node)
+    → (ltb n.level (height b) && ltb n.place (nodes b n.level)) ≡ true
+    → (n.level < length b.levels) × (n.place < size_below (drop n.level b.levels))
+below_node b n e =
+    let tests = both_tests (ltb n.level (height b)) (ltb n.place (nodes b n.level)) e in
+    (ltb-true _ _ tests.0, ltb-true _ _ tests.1)
+
+-- the parent of a node
+pub record IsParent (levels : List (List ℕ)) (n m : Node) : Type 0 where
+  pub level : m.level ≡ n.level + 1
+  pub place : m.place ≡ place_above (drop n.level levels) 1 n.place
+  pub fits : n.level < length levels
+  pub node : HasNodeIn levels m
+
+pub is_parent : (b : BoardValue) (n m : Node) → IsTree b.levels → parent b n ≡ Some m
+    → IsParent b.levels n m
+is_parent b n m t e =
+    let levels : List (List ℕ) = b.levels in
+    let up : Node = record {
+      level = n.level + 1;
+      place = group_of (get_or levels n.level []) n.place;
+    } in
+    let p = some_of (ltb n.level (height b) && ltb n.place (nodes b n.level)) up m e in
+    let in' = below_node b n p.0 in
+    let within : n.level < length levels = in'.0 in
+    let above : place_above (drop n.level levels) 1 n.place
+    ≡ group_of (get_or levels n.level []) n.place = parent_is levels n.level n.place within in
+    let step : IsParent levels n up = record {
+      level = refl;
+      place = sym above;
+      fits = within;
+      node = record {
+        level = omega arith;
+        place = rw add-one (rw above at (above_lt levels n.level n.place t in'.1));
+      };
+    } in
+    subst (λ x. IsParent levels n x) p.1 step
+
+shape_drop : (n : Domain) (levels : List (List ℕ)) (l : ℕ) → HasShape n levels
+    → HasShape n (drop l levels)
+shape_drop n levels zero h = h
+shape_drop n [] (suc l) h = h
+shape_drop n (w ∷ ws) (suc l) h = shape_drop n ws l h.1
+
+-- the domain of a node is the child of that of its parent, of the node's number
+pub record StepsDown (root : Domain) (levels : List (List ℕ)) (n m : Node) (k : ℕ) : Type 0 where
+  pub level : m.level ≡ n.level + 1
+  pub fits : n.level < length levels
+  pub node : HasNodeIn levels m
+  pub inside : (e : Domain)
+      → k < length (children (get_or (domains_down (length levels - m.level) root) m.place e))
+  pub is : (d e : Domain)
+      → get_or (children (get_or (domains_down (length levels - m.level) root) m.place e)) k d
+      ≡ get_or (domains_down (length levels - n.level) root) n.place d
+
+pub steps_down : (root : Domain) (b : BoardValue) (n m : Node) (k : ℕ) → IsTree b.levels
+    → HasShape root b.levels → parent b n ≡ Some m → child_number b n ≡ Some k
+    → StepsDown root b.levels n m k
+steps_down root b n m k t h e f =
+    let levels : List (List ℕ) = b.levels in
+    let w : List ℕ = get_or levels n.level [] in
+    let ws : List (List ℕ) = drop (suc n.level) levels in
+    let up : Node = record { level = n.level + 1; place = group_of w n.place } in
+    let p = some_of (ltb n.level (height b) && ltb n.place (nodes b n.level)) up m e in
+    let q = some_of (ltb n.level (height b) && ltb n.place (nodes b n.level))
+    (place_in w n.place) k f in
+    let in' = below_node b n p.0 in
+    let within : n.level < length levels = in'.0 in
+    let cut : drop n.level levels ≡ w ∷ ws = drop-cons levels n.level [] within in
+    let c : ChildAt root w ws n.place = child_at root w ws n.place
+    (subst IsTree cut (tree_drop levels n.level t))
+    (subst (HasShape root) cut (shape_drop root levels n.level h))
+    (omega (arith, in'.1, ap size_below cut)) in
+    let rest : length levels - (n.level + 1) ≡ length ws =
+    omega (arith, length-drop (suc n.level) levels) in
+    let here : length levels - n.level ≡ suc (length ws) = omega (arith, rest) in
+    let step : StepsDown root levels n up (place_in w n.place) = record {
+      level = refl;
+      fits = within;
+      node = record { level = omega arith; place = rw add-one c.group };
+      inside = λ d. rw rest (c.inside d);
+      is = λ d d'. rw (rest, here) (c.is d d');
+    } in
+    subst (λ x. StepsDown root levels n m x) q.1
+    (subst (λ x. StepsDown root levels n x (place_in w n.place)) p.1 step)
+
+-- a node without a parent is the system
+pub top_node : (b : BoardValue) (n : Node) → HasNodeIn b.levels n → parent b n ≡ None
+    → (n.level ≡ length b.levels) × (n.place ≡ 0)
+top_node b n h e =
+    let here : ltb n.place (nodes b n.level) ≡ true = lt-ltb _ _ h.place in
+    let off = none_of (ltb n.level (height b) && ltb n.place (nodes b n.level))
+    (record { level = n.level + 1; place = group_of (get_or b.levels n.level []) n.place }) e in
+    let over : ltb n.level (height b) ≡ false = first_fails _ _ here off in
+    let top : n.level ≡ length b.levels =
+    omega (arith, ltb-false n.level (height b) over, h.level) in
+    let one : size_below (drop n.level b.levels) ≡ 1 =
+    ap size_below (drop_all n.level b.levels (omega arith)) in
+    (top, omega (arith, h.place, one))
+  where
+    first_fails : (a c : Bool) → c ≡ true → (a && c) ≡ false → a ≡ false
+    first_fails true c p q = absurd (let no : true ≡ false = sym p ∙ q in cc)
+    first_fails false c p q = refl

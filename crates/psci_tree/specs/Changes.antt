@@ -5,40 +5,40 @@ use Rattle.psci_board.specs.declared.node.Node.{Node}
 use Rattle.psci_board.specs.Board.{size_below, group_of, place_above}
 use Rattle.psci_tree.specs.declared.state.Activity.{Activity}
 use Rattle.psci_tree.specs.declared.state.Activity.TheVariants.{Active, Suspended, Off}
-use Rattle.psci_tree.specs.Recount.{TreeValue, never_started, known_at, granted_at, sizes}
+use Rattle.psci_tree.specs.Recount.{TreeValue, never_started, known_at, granted_at, level_sizes}
 
 -- another state of one core
-abbrev pub with_core : TreeValue → ℕ → Activity → ℕ → TreeValue
-with_core t core activity known = record t {
+abbrev pub with_core_state : TreeValue → ℕ → Activity → ℕ → TreeValue
+with_core_state t core activity known = record t {
   cores = slice_set t.cores core (record { activity = activity; known = known });
 }
 
 -- 0 at this place, and at those above it
-abbrev pub zero_up : List (List ℕ) → ℕ → List (List ℕ) → List (List ℕ)
-zero_up levels place [] = []
-zero_up [] place (g ∷ gs) = slice_set g place 0 ∷ zero_up [] place gs
-zero_up (w ∷ ws) place (g ∷ gs) = slice_set g place 0 ∷ zero_up ws (group_of w place) gs
+abbrev pub path_cleared : List (List ℕ) → ℕ → List (List ℕ) → List (List ℕ)
+path_cleared levels place [] = []
+path_cleared [] place (g ∷ gs) = slice_set g place 0 ∷ path_cleared [] place gs
+path_cleared (w ∷ ws) place (g ∷ gs) = slice_set g place 0 ∷ path_cleared ws (group_of w place) gs
 
 -- nothing is granted on the path of a core
-abbrev pub with_path_on : TreeValue → ℕ → TreeValue
-with_path_on t core = record t { granted = zero_up t.levels core t.granted }
+abbrev pub with_path_cleared : TreeValue → ℕ → TreeValue
+with_path_cleared t core = record t { granted = path_cleared t.levels core t.granted }
 
 -- a core is suspended, and asks these depths; what was granted stays
 unfoldable pub suspended : TreeValue → ℕ → List ℕ → TreeValue
-suspended t core depths = with_core t core (Suspended depths) (known_at t core)
+suspended t core depths = with_core_state t core (Suspended depths) (known_at t core)
 
 -- a core is off, or going off; what was granted stays
 unfoldable pub turned_off : TreeValue → ℕ → TreeValue
-turned_off t core = with_core t core Off (known_at t core)
+turned_off t core = with_core_state t core Off (known_at t core)
 
 -- a core is pending: it asks for nothing, and nothing is granted on its path
 unfoldable pub made_pending : TreeValue → ℕ → TreeValue
-made_pending t core = with_path_on (with_core t core Active (known_at t core)) core
+made_pending t core = with_path_cleared (with_core_state t core Active (known_at t core)) core
 
 -- a core runs in its start of this number: it asks for nothing, and nothing is granted on its
 -- path
 unfoldable pub started : TreeValue → ℕ → ℕ → TreeValue
-started t core known = with_path_on (with_core t core Active known) core
+started t core known = with_path_cleared (with_core_state t core Active known) core
 
 -- another granted depth of one domain
 unfoldable pub with_grant : TreeValue → Node → ℕ → TreeValue
@@ -48,20 +48,20 @@ with_grant t n depth = record t {
 }
 
 -- rows of these lengths, with one depth throughout
-abbrev pub rows_of : List ℕ → ℕ → List (List ℕ)
-rows_of counts depth = map (λ count. replicate count depth) counts
+abbrev pub rows_with_depth : List ℕ → ℕ → List (List ℕ)
+rows_with_depth counts depth = map (λ count. replicate count depth) counts
 
 -- every core off and never started, every domain granted depth 3
 abbrev pub all_off : List (List ℕ) → TreeValue
 all_off levels = record {
   levels = levels;
   cores = replicate (size_below levels) never_started;
-  granted = rows_of (sizes levels) 3;
+  granted = rows_with_depth (level_sizes levels) 3;
 }
 
 -- the start of a life: the boot core, core 0, is pending, and all else is off
-unfoldable pub life_start : List (List ℕ) → TreeValue
-life_start levels = made_pending (all_off levels) 0
+unfoldable pub start_of_life : List (List ℕ) → TreeValue
+start_of_life levels = made_pending (all_off levels) 0
 
 -- Conditions -----------------------------------------------------------------------------------
 

@@ -24,8 +24,8 @@ abbrev pub children : Domain → List Domain
 children n = (out-Domain n).children.items
 
 -- how many children a domain has
-abbrev pub fan : Domain → ℕ
-fan n = length (children n)
+abbrev pub child_count : Domain → ℕ
+child_count n = length (children n)
 
 -- the cores below several domains
 abbrev pub cores_in : List Domain → List CoreState
@@ -37,16 +37,16 @@ domains_down zero n = n ∷ []
 domains_down (suc k) n = flat_map (domains_down k) (children n)
 
 -- how many children each of them has
-abbrev pub widths : ℕ → Domain → List ℕ
-widths zero n = fan n ∷ []
-widths (suc k) n = flat_map (widths k) (children n)
+abbrev pub child_counts : ℕ → Domain → List ℕ
+child_counts zero n = child_count n ∷ []
+child_counts (suc k) n = flat_map (child_counts k) (children n)
 
 -- the domains below this one have these numbers of children, level by level
 abbrev pub HasShape : Domain → List (List ℕ) → Type 0
 HasShape n [] = Unit {0}
-HasShape n (w ∷ ws) = (widths (length ws) n ≡ w) × HasShape n ws
+HasShape n (w ∷ ws) = (child_counts (length ws) n ≡ w) × HasShape n ws
 
 -- a whole board: the domains at the end have no children, they are the cores
 pub record IsWhole (n : Domain) (levels : List (List ℕ)) : Type 0 where
   pub shape : HasShape n levels
-  pub ends : sum (widths (length levels) n) ≡ 0
+  pub ends : sum (child_counts (length levels) n) ≡ 0

@@ -1,26 +1,28 @@
 //! A tree of power domains in the shape of a board.
 
-ghost use Rattle.std.specs.Prelude.{◌≡◌, ℕ, ◌<◌, ◌≤◌, ◌^◌, map, length, sum, IfOk};
+ghost use Rattle.std.specs.Prelude.{◌≡◌, ℕ, ◌+◌, ◌<◌, ◌≤◌, ◌^◌, map, length, sum, replicate};
+ghost use Rattle.std.specs.Prelude.{slice_index_or, [], IfOk};
 ghost use Rattle.std.specs.List.{flat_map};
-ghost use Rattle.psci_board.specs.Board.{IsTree, size_below};
+ghost use Rattle.psci_board.specs.Board.{IsBoard, size_below, height};
 ghost use Rattle.psci_tree.specs.declared.domain.Domain.{Domain};
-ghost use Rattle.psci_tree.specs.Domains.{IsWhole, children, fan};
+ghost use Rattle.psci_tree.specs.Recount.{never_started};
+ghost use Rattle.psci_tree.specs.Domains.{IsWhole, children, child_count, cores, cores_in};
 
 use crate::domain::Domain;
-use crate::state::OFF;
-use psci_board::Memory;
+use crate::state::NEVER_STARTED;
+use psci_board::{Board, Memory, Node};
 use std::alloc::Global;
 use std::mem::replace;
 
-/// The tree of a board with these levels.
-pub fn build(alloc: Global, levels: &[Vec<u16>], cores: usize) -> Result<Domain, Memory>
-    requires tree { IsTree (map (λ v. v.items) levels.now) }
-    requires cores { cores ≡ size_below (map (λ v. v.items) levels.now) }
-    ensures { IfOk result (λ root. IsWhole root (map (λ v. v.items) levels.now)) }
+/// The domains of a board, every core off and never started.
+pub fn build(alloc: Global, board: &Board) -> Result<Domain, Memory>
+    ensures whole { IfOk result (λ root. IsWhole root board.now.levels) }
+    ensures off { IfOk result (λ root.
+        cores root ≡ replicate (size_below board.now.levels) never_started) }
 {
-    let mut row = leaves(alloc, cores)?;
-    for counts in levels {
-        row = grouped(alloc, row, counts)?;
+    let mut row = row_of_cores(alloc, board.cores())?;
+    for below in 0..board.height() {
+        row = parents_of(alloc, board, below, row)?;
     }
     match row.pop() {
         Some(root) => Ok(root),
@@ -28,34 +30,45 @@ pub fn build(alloc: Global, levels: &[Vec<u16>], cores: usize) -> Result<Domain,
     }
 }
 
-/// So many cores.
-fn leaves(alloc: Global, count: usize) -> Result<Vec<Domain>, Memory>
+/// So many cores, off and never started.
+fn row_of_cores(alloc: Global, count: u16) -> Result<Vec<Domain>, Memory>
     ensures count { IfOk result (λ row. length row.items ≡ count) }
-    ensures leaves { IfOk result (λ row. sum (map fan row.items) ≡ 0) }
+    ensures leaves { IfOk result (λ row. sum (map child_count row.items) ≡ 0) }
+    ensures off { IfOk result (λ row. cores_in row.items ≡ replicate count never_started) }
 {
     let mut row = Vec::new(alloc);
     for _ in 0..count {
         row.push(Domain {
             children: Vec::new(alloc),
-            core: OFF,
+            core: NEVER_STARTED,
         })?;
     }
     Ok(row)
 }
 
-/// The parents of these domains, which have so many of them from left to right.
-fn grouped(alloc: Global, row: Vec<Domain>, counts: &[u16]) -> Result<Vec<Domain>, Memory>
-    requires { sum counts.now ≡ length row.items }
+/// The parents of the domains of this level, which the board says how many children each have.
+fn parents_of(
+    alloc: Global,
+    board: &Board,
+    below: u32,
+    row: Vec<Domain>,
+) -> Result<Vec<Domain>, Memory>
+    requires board { IsBoard board.now }
+    requires level { below < height board.now }
+    requires children { sum (slice_index_or board.now.levels below []) ≡ length row.items }
     ensures children { IfOk result (λ parents. flat_map children parents.items ≡ row.items) }
-    ensures counts { IfOk result (λ parents. map fan parents.items ≡ counts.now) }
+    ensures counts { IfOk result (λ parents.
+        map child_count parents.items ≡ slice_index_or board.now.levels below []) }
 {
+    let level = below + 1;
     let mut rest = row;
     let mut parents = Vec::new(alloc);
-    for count in counts {
-        let others = rest.split_off(*count as usize)?;
+    for place in 0..board.nodes(level) {
+        let count = board.children(Node { level, place });
+        let others = rest.split_off(count as usize)?;
         parents.push(Domain {
             children: replace(&mut rest, others),
-            core: OFF,
+            core: NEVER_STARTED,
         })?;
     }
     Ok(parents)

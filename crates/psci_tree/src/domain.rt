@@ -4,15 +4,17 @@ ghost use Rattle.std.specs.Prelude.{◌≡◌, ℕ, ◌+◌, ◌*◌, ◌^◌, �
 ghost use Rattle.std.specs.Prelude.{map, replicate, slice_set, take, get_or};
 ghost use Rattle.std.specs.List.{sum_by, count_by};
 ghost use Rattle.psci_tree.specs.declared.domain.Domain.{Domain};
-ghost use Rattle.psci_tree.specs.Recount.{asks, runs, rests, least, never_started};
-ghost use Rattle.psci_tree.specs.Domains.{cores, cores_in, widths};
+ghost use Rattle.psci_tree.specs.Recount.{asks, is_active, is_off, least, never_started};
+ghost use Rattle.psci_tree.specs.Domains.{cores, cores_in, child_counts};
 
-use crate::state::{CoreState, OFF};
+use crate::state::{CoreState, NEVER_STARTED};
 
 /// A power domain. One without children is a core.
 #[derive(Drop)]
 pub struct Domain {
+    /// The domains one level below, from left to right.
     pub children: Vec<Domain>,
+    /// What is kept of the core. It is in use where there are no children.
     pub core: CoreState,
 }
 
@@ -65,11 +67,11 @@ impl Domain {
     /// How many cores below are running or pending.
     pub fn active(&self) -> u32
         requires { length (cores self.now) < 2 ^ 16 }
-        ensures value { result ≡ count_by (λ c. runs c.activity) (cores self.now) }
+        ensures value { result ≡ count_by (λ c. is_active c.activity) (cores self.now) }
         ensures small { result ≤ length (cores self.now) }
     {
         if self.children.is_empty() {
-            return u32::from(self.core.runs());
+            return u32::from(self.core.is_active());
         }
         let mut active = 0;
         for child in &self.children {
@@ -81,11 +83,11 @@ impl Domain {
     /// How many cores below are off or going off.
     pub fn off(&self) -> u32
         requires { length (cores self.now) < 2 ^ 16 }
-        ensures value { result ≡ count_by (λ c. rests c.activity) (cores self.now) }
+        ensures value { result ≡ count_by (λ c. is_off c.activity) (cores self.now) }
         ensures small { result ≤ length (cores self.now) }
     {
         if self.children.is_empty() {
-            return u32::from(self.core.rests());
+            return u32::from(self.core.is_off());
         }
         let mut off = 0;
         for child in &self.children {
@@ -99,7 +101,7 @@ impl Domain {
         requires inside { place < length (cores self.old) }
         requires few { length (cores self.old) < 2 ^ 16 }
         ensures cores { cores self.new ≡ slice_set (cores self.old) place state }
-        ensures shape { (k : ℕ) → widths k self.new ≡ widths k self.old }
+        ensures shape { (k : ℕ) → child_counts k self.new ≡ child_counts k self.old }
     {
         if self.children.is_empty() {
             self.core = state;
@@ -113,10 +115,10 @@ impl Domain {
     pub fn turn_off(&mut self)
         requires { length (cores self.old) < 2 ^ 16 }
         ensures cores { cores self.new ≡ replicate (length (cores self.old)) never_started }
-        ensures shape { (k : ℕ) → widths k self.new ≡ widths k self.old }
+        ensures shape { (k : ℕ) → child_counts k self.new ≡ child_counts k self.old }
     {
         for place in 0..self.count() {
-            self.set(place, OFF);
+            self.set(place, NEVER_STARTED);
         }
     }
 }

@@ -1,33 +1,28 @@
 //! What holds of the definitions alone: each law is the contract of a function that does nothing.
 
-ghost use Rattle.std.specs.Prelude.{◌≡◌, ℕ, ◌<◌, ◌≤◌, ◌==◌, ◌&&◌, true, false};
+ghost use Rattle.std.specs.Prelude.{◌≡◌, ℕ, ◌+◌, ◌<◌, ◌≤◌, ◌==◌, ◌&&◌, true, false};
 ghost use Rattle.std.specs.Prelude.{if◌then◌else◌, List, length, map, take, drop};
-ghost use Rattle.std.specs.List.{range_with_len};
+ghost use Rattle.std.specs.List.{sum_by};
 ghost use Rattle.psci_board.specs.declared.node.Node.{Node};
-ghost use Rattle.psci_board.specs.Board.{BoardValue, IsTree, size_below, place_above};
-ghost use Rattle.psci_board.specs.Board as board;
+ghost use Rattle.psci_board.specs.Board.{HasNodeIn, size_below, place_above, below_in, span};
 ghost use Rattle.psci_tree.specs.declared.state.Activity.TheVariants.{Active, Suspended, Off};
-ghost use Rattle.psci_tree.specs.Recount.{TreeValue, HasDomain, IsDomainTree, active};
-ghost use Rattle.psci_tree.specs.Recount.{ask_at, below, core_at, granted_at, is_active_at};
-ghost use Rattle.psci_tree.specs.Recount.{first_core, width, is_off_at, known_at, low};
-ghost use Rattle.psci_tree.specs.Recount.{never_started, off};
-ghost use Rattle.psci_tree.specs.Changes.{life_start, made_pending, started};
+ghost use Rattle.psci_tree.specs.Recount.{TreeValue, IsDomainTree, active, ask_at, core_at};
+ghost use Rattle.psci_tree.specs.Recount.{granted_at, is_active_at, is_off_at, known, known_at};
+ghost use Rattle.psci_tree.specs.Recount.{low, never_started, off};
+ghost use Rattle.psci_tree.specs.Changes.{start_of_life, made_pending, started};
 ghost use Rattle.psci_tree.specs.Changes.{suspended, turned_off, with_grant};
 
-/// The cores below a domain are those of the board's own words. They stand side by side: they are
-/// a slice of all cores, `width` of them from the `first_core` on, and so are their states.
-pub fn law_below()
-    ensures board { (b : BoardValue) (n : Node) → board.below b n ≡ below b.levels n }
-    ensures slice { (levels : List (List ℕ)) (n : Node) → IsTree levels → HasDomain levels n
-        → below levels n ≡ take (width levels n) (drop (first_core levels n.level n.place)
-        (range_with_len 0 (size_below levels))) }
-    ensures beside { (levels : List (List ℕ)) (n : Node) → IsTree levels → HasDomain levels n
-        → below levels n
-        ≡ range_with_len (first_core levels n.level n.place) (width levels n) }
-    ensures states { (t : TreeValue) (n : Node) → IsDomainTree t → HasDomain t.levels n
-        → map (λ c. core_at t c) (below t.levels n)
-        ≡ take (width t.levels n) (drop (first_core t.levels n.level n.place) t.cores) }
-{}
+use psci_board::law_spans;
+
+/// The states of the cores below a domain stand side by side among those of all cores, as the cores
+/// do on the board.
+pub fn law_states()
+    ensures { (t : TreeValue) (n : Node) → IsDomainTree t → HasNodeIn t.levels n
+        → map (λ c. core_at t c) (below_in t.levels n)
+        ≡ take (span t.levels n).count (drop (span t.levels n).first t.cores) }
+{
+    law_spans();
+}
 
 /// The state of each core after each change: that of the named core alone is another one.
 pub fn law_cores()
@@ -45,9 +40,6 @@ pub fn law_cores()
         then record { activity = Active; known = known } else core_at t c) }
     ensures grant { (t : TreeValue) (n : Node) (depth c : ℕ)
         → core_at (with_grant t n depth) c ≡ core_at t c }
-    ensures life { (levels : List (List ℕ)) (c : ℕ) → 0 < size_below levels
-        → core_at (life_start levels) c ≡ (if 0 == c
-        then record { activity = Active; known = 0 } else never_started) }
 {}
 
 /// The granted depth of each domain after each change.
@@ -61,15 +53,37 @@ pub fn law_granted()
     ensures started { (t : TreeValue) (core known l p : ℕ) → granted_at (started t core known) l p
         ≡ (if place_above t.levels l core == p then 0 else granted_at t l p) }
     ensures grant { (t : TreeValue) (n : Node) (depth l p : ℕ) → IsDomainTree t
-        → HasDomain t.levels n → granted_at (with_grant t n depth) l p
+        → HasNodeIn t.levels n → granted_at (with_grant t n depth) l p
         ≡ (if n.level == l && n.place == p then depth else granted_at t l p) }
-    ensures life { (levels : List (List ℕ)) (l p : ℕ) → l ≤ length levels
-        → p < size_below (drop l levels) → granted_at (life_start levels) l p
+{}
+
+/// The start of a life: core 0 is pending and every other core off, none was started, and depth 3
+/// is granted to each domain off the path of core 0.
+pub fn law_start_of_life()
+    ensures cores { (levels : List (List ℕ)) (c : ℕ) → 0 < size_below levels
+        → core_at (start_of_life levels) c ≡ (if 0 == c
+        then record { activity = Active; known = 0 } else never_started) }
+    ensures granted { (levels : List (List ℕ)) (l p : ℕ) → l ≤ length levels
+        → p < size_below (drop l levels) → granted_at (start_of_life levels) l p
         ≡ (if place_above levels l 0 == p then 0 else 3) }
 {}
 
+/// What a core of any tree asks: at no level more than at the one below it, and of its own level
+/// something, unless it is active; nothing where it is active, and nothing above the height.
+pub fn law_asks()
+    ensures active { (t : TreeValue) (c level : ℕ) → is_active_at t c ≡ true
+        → ask_at t c level ≡ 0 }
+    ensures some { (t : TreeValue) (c : ℕ) → IsDomainTree t → is_active_at t c ≡ false
+        → 1 ≤ ask_at t c 0 }
+    ensures most { (t : TreeValue) (c level : ℕ) → IsDomainTree t → ask_at t c level ≤ 3 }
+    ensures falls { (t : TreeValue) (c level : ℕ) → IsDomainTree t
+        → ask_at t c (level + 1) ≤ ask_at t c level }
+    ensures above { (t : TreeValue) (c level : ℕ) → length t.levels < level
+        → ask_at t c level ≡ 0 }
+{}
+
 /// The least ask below a domain is at most each ask below it, and no other depth that is so is
-/// greater.
+/// greater. It is at most 3, and at no level more than at the one below it.
 pub fn law_low()
     ensures each { (t : TreeValue) (n : Node) (level c : ℕ) → c < size_below t.levels
         → place_above t.levels n.level c ≡ n.place → low t n level ≤ ask_at t c level }
@@ -77,7 +91,32 @@ pub fn law_low()
         → ((c : ℕ) → c < size_below t.levels → place_above t.levels n.level c ≡ n.place
         → least ≤ ask_at t c level)
         → least ≤ low t n level }
+    ensures most { (t : TreeValue) (n : Node) (level : ℕ) → low t n level ≤ 3 }
+    ensures falls { (t : TreeValue) (n : Node) (level : ℕ) → IsDomainTree t
+        → low t n (level + 1) ≤ low t n level }
 {}
+
+/// The known starts below a domain are summed, each core's own once: the sum of a core is its own,
+/// trees whose cores below have the same known starts have the same sum, and one start changes the
+/// sums on the core's path by what it changes of the core, and no others.
+pub fn law_known()
+    ensures sum { (t : TreeValue) (n : Node)
+        → known t n ≡ sum_by (λ c. known_at t c) (below_in t.levels n) }
+    ensures core { (t : TreeValue) (c : ℕ) → IsDomainTree t → c < size_below t.levels
+        → known t (record { level = 0; place = c }) ≡ known_at t c }
+    ensures same { (t u : TreeValue) (n : Node) → u.levels ≡ t.levels
+        → ((c : ℕ) → c < size_below t.levels → place_above t.levels n.level c ≡ n.place
+        → known_at u c ≡ known_at t c)
+        → known u n ≡ known t n }
+    ensures started { (t : TreeValue) (core number : ℕ) (n : Node) → IsDomainTree t
+        → core < size_below t.levels → place_above t.levels n.level core ≡ n.place
+        → known (started t core number) n + known_at t core ≡ known t n + number }
+    ensures elsewhere { (t : TreeValue) (core number : ℕ) (n : Node) → IsDomainTree t
+        → core < size_below t.levels → (place_above t.levels n.level core ≡ n.place → ⊥)
+        → known (started t core number) n ≡ known t n }
+{
+    law_spans();
+}
 
 /// No core below a domain is active exactly where the count is 0; every core below is off exactly
 /// where the count is that of the cores below.
@@ -88,11 +127,11 @@ pub fn law_counts()
         → ((c : ℕ) → c < size_below t.levels → place_above t.levels n.level c ≡ n.place
         → is_active_at t c ≡ false)
         → active t n ≡ 0 }
-    ensures off { (t : TreeValue) (n : Node) (c : ℕ) → off t n ≡ length (below t.levels n)
+    ensures off { (t : TreeValue) (n : Node) (c : ℕ) → off t n ≡ length (below_in t.levels n)
         → c < size_below t.levels → place_above t.levels n.level c ≡ n.place
         → is_off_at t c ≡ true }
     ensures all_off { (t : TreeValue) (n : Node)
         → ((c : ℕ) → c < size_below t.levels → place_above t.levels n.level c ≡ n.place
         → is_off_at t c ≡ true)
-        → off t n ≡ length (below t.levels n) }
+        → off t n ≡ length (below_in t.levels n) }
 {}

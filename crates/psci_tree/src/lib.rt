@@ -2,8 +2,9 @@
 //!
 //! - A core is *active* while it is running or pending, *suspended* with a power state that it
 //!   asked for, or *off*, which includes going off.
-//! - The *ask* of a core is a depth for each level: 0 while it is active, 3 while it is off, and
-//!   that of its power state while it is suspended.
+//! - The *ask* of a core is a depth for each level of the board: 0 while it is active, 3 while it
+//!   is off, and that of its power state while it is suspended. Levels end at the board's height:
+//!   above it no core asks anything.
 //! - The *known start* of a core is the number of its last start that was seen to enter in this
 //!   life.
 //! - The *granted depth* of a domain is the depth that it was granted last, 0 once a core below it
@@ -12,12 +13,14 @@
 #![tactic(auto)]
 
 mod build;
+mod descent;
 mod domain;
+mod grants;
 mod laws;
-mod levels;
-mod shape;
 mod state;
 mod tree;
 
-pub use laws::{law_below, law_cores, law_counts, law_granted, law_low};
+pub use laws::{
+    law_asks, law_cores, law_counts, law_granted, law_known, law_low, law_start_of_life, law_states,
+};
 pub use tree::Tree;

@@ -1,7 +1,7 @@
 //! What is kept of a core.
 
 ghost use Rattle.std.specs.Prelude.{◌≡◌, ◌≤◌, ◌<◌, ◌^◌};
-ghost use Rattle.psci_tree.specs.Recount.{asks, runs, rests};
+ghost use Rattle.psci_tree.specs.Recount.{asks, is_active, is_off};
 
 use psci_state::Ask;
 
@@ -19,13 +19,14 @@ pub enum Activity {
 /// What is kept of a core.
 #[derive(Clone, Copy)]
 pub struct CoreState {
+    /// Whether it is active, suspended or off.
     pub activity: Activity,
     /// The number of its last start that was seen to enter in this life, or 0.
     pub known: u32,
 }
 
 /// A core that is off and was never started. A domain above the cores holds it without use.
-pub const OFF: CoreState = CoreState {
+pub const NEVER_STARTED: CoreState = CoreState {
     activity: Activity::Off,
     known: 0,
 };
@@ -44,15 +45,15 @@ impl CoreState {
     }
 
     /// Whether the core is running or pending.
-    pub fn runs(self) -> bool
-        ensures { result ≡ runs self.activity }
+    pub fn is_active(self) -> bool
+        ensures { result ≡ is_active self.activity }
     {
         matches!(self.activity, Activity::Active)
     }
 
     /// Whether the core is off or going off.
-    pub fn rests(self) -> bool
-        ensures { result ≡ rests self.activity }
+    pub fn is_off(self) -> bool
+        ensures { result ≡ is_off self.activity }
     {
         matches!(self.activity, Activity::Off)
     }

@@ -1,22 +1,26 @@
 //! The tree of power domains.
 
 use crate::build::build;
+use crate::descent::domain_at;
 use crate::domain::Domain;
-use crate::levels::{clear_up, domain_at};
-use crate::shape::{fill_rows, levels_of, rows_of};
+use crate::grants::{clear_up, deepest_rows, fill_rows, write};
 use crate::state::{Activity, CoreState};
-use psci_board::{Board, Core, Memory, Node};
+use psci_board::{Board, Core, Memory, Node, law_sizes, law_spans};
 use psci_state::Ask;
 use std::alloc::Global;
 use std::marker::Model;
 
+/// The core that a life begins with.
+const BOOT_CORE: Core = Core { number: 0 };
+
 /// What each core asks of its power domains, how often it was started, and what was granted.
 #[derive(Drop)]
 pub struct Tree {
-    /// From level 1 up, how many children each domain has.
-    levels: Vec<Vec<u16>>,
+    /// The board whose power domains they are.
+    board: Board,
     /// From level 0 up, the granted depth of each domain.
     granted: Vec<Vec<u8>>,
+    /// The domain of the whole system, with all others below it.
     root: Domain,
 }
 
@@ -29,70 +33,73 @@ impl Model for Tree {
     ghost Value = { TreeValue };
 
     ghost view = { λ t. record {
-      levels = map (λ v. v.items) t.levels.items;
+      levels = t.board.levels;
       cores = cores t.root;
       granted = map (λ v. v.items) t.granted.items;
     } };
 
     ghost invariant = { λ t. IsTied t.root (record {
-      levels = map (λ v. v.items) t.levels.items;
+      levels = t.board.levels;
       cores = cores t.root;
       granted = map (λ v. v.items) t.granted.items;
     }) };
 }
 
 ghost use Rattle.std.specs.Prelude.{◌≡◌, ℕ, ◌+◌, ◌^◌, ◌<◌, ◌≤◌, map, length, IfOk};
-ghost use Rattle.psci_board.specs.Board.{size_below};
+ghost use Rattle.psci_board.specs.Board.{size_below, HasNodeIn, below_in};
 ghost use Rattle.psci_tree.specs.declared.domain.Domain.{Domain, out-Domain};
 ghost use Rattle.psci_tree.specs.declared.state.Activity.TheVariants.{Active, Suspended, Off};
-ghost use Rattle.psci_tree.specs.Recount.{HasDomain, IsDomainTree, core_at, below};
+ghost use Rattle.psci_tree.specs.Recount.{IsActivity, IsDomainTree, core_at};
 ghost use Rattle.psci_tree.specs.Recount.{known_at, low, known, active, off, granted_at};
 ghost use Rattle.psci_tree.specs.Changes.{MayGrant, suspended, turned_off, made_pending, started};
-ghost use Rattle.psci_tree.specs.Changes.{with_grant, with_core, with_path_on, all_off, life_start};
+ghost use Rattle.psci_tree.specs.Changes.{with_grant, with_core_state, with_path_cleared};
+ghost use Rattle.psci_tree.specs.Changes.{all_off, start_of_life};
 ghost use Rattle.psci_tree.specs.Domains.{cores};
 
 impl Tree {
     /// The tree of a board at the start of a life: the boot core, core 0, is pending, every other
     /// core is off, and every domain off the boot core's path is granted depth 3.
     pub fn new(alloc: Global, board: &Board) -> Result<Tree, Memory>
-        ensures value { IfOk result (λ tree. tree ≡ life_start board.now.levels) }
+        ensures value { IfOk result (λ tree. tree ≡ start_of_life board.now.levels) }
         ensures levels { IfOk result (λ tree. tree.levels ≡ board.now.levels) }
         ensures tree { IfOk result (λ tree. IsDomainTree tree) }
     {
-        let cores = board.cores() as usize;
-        let levels = levels_of(alloc, board)?;
-        let granted = rows_of(alloc, &levels, cores, 3)?;
-        let root = build(alloc, &levels, cores)?;
         let mut tree = Tree {
-            levels,
-            granted,
-            root,
+            board: board.copy(alloc)?,
+            granted: deepest_rows(alloc, board)?,
+            root: build(alloc, board)?,
         };
-        tree.reset_life();
+        law_sizes();
+        tree.set_pending(BOOT_CORE);
         Ok(tree)
     }
 
     /// Puts the tree to the start of a life, in place.
     pub fn reset_life(&mut self)
-        ensures value { self.new ≡ life_start self.old.levels }
+        ensures value { self.new ≡ start_of_life self.old.levels }
         ensures levels { self.new.levels ≡ self.old.levels }
         ensures tree { IsDomainTree self.new }
     {
         self.turn_off();
-        self.set_pending(Core { number: 0 });
+        self.set_pending(BOOT_CORE);
     }
 
-    /// The least ask at a level of the cores below a domain.
+    /// The least ask at a level of the cores below a domain: 0 above the board's height, where no
+    /// core asks anything.
     pub fn low(&self, node: Node, level: u32) -> u8
-        requires { HasDomain self.now.levels node }
+        requires { HasNodeIn self.now.levels node }
         ensures { result ≡ low self.now node level }
     {
+        law_spans();
+        if level > self.board.height() {
+            return 0;
+        }
         self.domain(node).low(level)
     }
 
     /// The sum of the known starts of the cores below a domain.
     pub fn known(&self, node: Node) -> u64
-        requires { HasDomain self.now.levels node }
+        requires { HasNodeIn self.now.levels node }
         ensures { result ≡ known self.now node }
     {
         self.domain(node).known()
@@ -100,7 +107,7 @@ impl Tree {
 
     /// How many cores below a domain are running or pending.
     pub fn active(&self, node: Node) -> u32
-        requires { HasDomain self.now.levels node }
+        requires { HasNodeIn self.now.levels node }
         ensures { result ≡ active self.now node }
     {
         self.domain(node).active()
@@ -108,7 +115,7 @@ impl Tree {
 
     /// How many cores below a domain are off or going off.
     pub fn off(&self, node: Node) -> u32
-        requires { HasDomain self.now.levels node }
+        requires { HasNodeIn self.now.levels node }
         ensures { result ≡ off self.now node }
     {
         self.domain(node).off()
@@ -116,7 +123,7 @@ impl Tree {
 
     /// The granted depth of a domain.
     pub fn granted(&self, node: Node) -> u8
-        requires { HasDomain self.now.levels node }
+        requires { HasNodeIn self.now.levels node }
         ensures value { result ≡ granted_at self.now node.level node.place }
         ensures tree { IsDomainTree self.now }
     {
@@ -126,14 +133,13 @@ impl Tree {
 
     /// Grants a depth to a domain.
     pub fn grant(&mut self, node: Node, depth: u8)
-        requires domain { HasDomain self.old.levels node }
+        requires domain { HasNodeIn self.old.levels node }
         requires depth { MayGrant self.old node depth }
         ensures value { self.new ≡ with_grant self.old node depth }
         ensures levels { self.new.levels ≡ self.old.levels }
         ensures tree { IsDomainTree self.new }
     {
-        let row = &mut self.granted[node.level as usize];
-        row[node.place as usize] = depth;
+        write(&mut self.granted, node, depth);
     }
 
     /// A core is suspended, with this ask.
@@ -191,8 +197,9 @@ impl Tree {
 
     /// Sets the state of a core.
     fn set_core(&mut self, core: Core, activity: Activity, known: u32)
-        requires { core.number < size_below self.old.levels }
-        ensures value { self.new ≡ with_core self.old core.number activity known }
+        requires core { core.number < size_below self.old.levels }
+        requires activity { IsActivity activity }
+        ensures value { self.new ≡ with_core_state self.old core.number activity known }
         ensures levels { self.new.levels ≡ self.old.levels }
         ensures tree { IsDomainTree self.new }
     {
@@ -203,11 +210,11 @@ impl Tree {
     /// Takes away what is granted on the path of a core.
     fn clear_path(&mut self, core: Core)
         requires { core.number < size_below self.old.levels }
-        ensures value { self.new ≡ with_path_on self.old core.number }
+        ensures value { self.new ≡ with_path_cleared self.old core.number }
         ensures levels { self.new.levels ≡ self.old.levels }
         ensures tree { IsDomainTree self.new }
     {
-        clear_up(&self.levels, &mut self.granted, core.number as usize);
+        clear_up(&mut self.granted, &self.board, core.node());
     }
 
     /// Turns off every core, and grants depth 3 to every domain.
@@ -222,14 +229,14 @@ impl Tree {
 
     /// The domain of a node.
     fn domain(&self, node: Node) -> &Domain
-        requires { HasDomain self.now.levels node }
+        requires { HasNodeIn self.now.levels node }
         ensures cores { cores result.now
-            ≡ map (λ c. core_at self.now c) (below self.now.levels node) }
+            ≡ map (λ c. core_at self.now c) (below_in self.now.levels node) }
         ensures few { length (cores result.now) < 2 ^ 16 }
         ensures core { node.level ≡ 0 → (out-Domain result.now).core ≡ core_at self.now node.place }
     {
-        let (_, above) = self.levels.split_at(node.level as usize);
-        domain_at(&self.root, above, node.place as usize)
+        law_spans();
+        domain_at(&self.root, &self.board, node)
     }
 }
 

@@ -1,12 +1,12 @@
 use Rattle.std.proofs.Common.{◌≡◌, length}
-use Rattle.psci_board.specs.Seen.{with_ranges}
+use Rattle.psci_board.specs.Summary.{with_ranges}
 use Rattle.psci_board.specs.Reading.{range_at, more_at}
 use Rattle.psci_board.proofs.range_text.ranges.Given as goal
 
 abbrev pub invariant-loop-range : goal.invariant-loop-range
 invariant-loop-range l = record {
-  seen : with_ranges l.seen (more_at range_at l.rest).0
-      ≡ with_ranges l.initial.seen (more_at range_at l.initial.rest).0;
+  summary : with_ranges l.summary (more_at range_at l.rest).0
+      ≡ with_ranges l.initial.summary (more_at range_at l.initial.rest).0;
   rest : (more_at range_at l.rest).1 ≡ (more_at range_at l.initial.rest).1;
 }
 

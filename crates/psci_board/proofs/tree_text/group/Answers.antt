@@ -1,5 +1,5 @@
 use Rattle.std.proofs.Common.{◌≡◌, ◌∷◌, length, Some, sym, ap, ◌∙◌, arith, refl}
-use Rattle.psci_board.specs.Seen.{with_numbers}
+use Rattle.psci_board.specs.Summary.{with_numbers}
 use Rattle.psci_board.specs.Reading.{number_at, more_at}
 use Rattle.psci_board.proofs.More.{number_shortens, literal_shortens, spaced_shortens, more_some}
 use Rattle.psci_board.proofs.More.{more_none, list_closed, list_unclosed}
@@ -7,7 +7,7 @@ use Rattle.psci_board.proofs.tree_text.group.Goals as goal
 
 pub loop-number-init : goal.loop-number-init
 loop-number-init c = record {
-  seen = refl;
+  summary = refl;
   rest = refl;
   count = refl;
   bound = omega arith;
@@ -30,7 +30,7 @@ loop-number-preserved c =
     c.in-Some.after.now (sym c.in-Some.ensures) in
     let i = c.loop-number.invariant in
     record {
-      seen = rw c.note-in-Some.ensures (rw m at i.seen);
+      summary = rw c.add-in-Some.ensures (rw m at i.summary);
       rest = ap (λ r. r.1) (sym m) ∙ i.rest;
       count = omega (arith, rw m at i.count);
       bound = omega (arith, spaced_shortens number_at number_shortens _ _ (sym c.in-Some.ensures));
@@ -44,8 +44,8 @@ returns-in_err-literal-2-clause-read c =
     (sym c.in_default.ensures) (sym c.in_err-literal-2.ensures) in
     rw (e, c.from_residual-in_err-literal-2.ensures) refl
 
-pub returns-in_err-literal-2-clause-noted : goal.returns-in_err-literal-2-clause-noted
-returns-in_err-literal-2-clause-noted c =
+pub returns-in_err-literal-2-clause-summary : goal.returns-in_err-literal-2-clause-summary
+returns-in_err-literal-2-clause-summary c =
     let e = list_unclosed number_at number_shortens c.args.text.now _ _ _ _
     (sym c.in_ok-literal.ensures) (sym c.in_ok-first.ensures) c.loop-number.invariant.rest
     (sym c.in_default.ensures) (sym c.in_err-literal-2.ensures) in
@@ -62,11 +62,11 @@ returns-clause-read c =
     omega (arith, rw none at c.loop-number.invariant.count) in
     rw e (ap (λ k. Some (k, c.in_ok-literal-2.field-0.now)) n)
 
-pub returns-clause-noted : goal.returns-clause-noted
+pub returns-clause-summary : goal.returns-clause-summary
 unfolding with_numbers
-returns-clause-noted c =
+returns-clause-summary c =
     let e = list_closed number_at number_shortens c.args.text.now _ _ _ _ _
     (sym c.in_ok-literal.ensures) (sym c.in_ok-first.ensures) c.loop-number.invariant.rest
     (sym c.in_default.ensures) (sym c.in_ok-literal-2.ensures) in
     let none = more_none number_at number_shortens _ (sym c.in_default.ensures) in
-    rw e (rw c.note.ensures at (rw none at c.loop-number.invariant.seen))
+    rw e (rw c.add.ensures at (rw none at c.loop-number.invariant.summary))

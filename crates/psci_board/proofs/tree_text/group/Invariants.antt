@@ -1,12 +1,12 @@
 use Rattle.std.proofs.Common.{◌≡◌, ◌+◌, ◌≤◌, length}
-use Rattle.psci_board.specs.Seen.{with_numbers}
+use Rattle.psci_board.specs.Summary.{with_numbers}
 use Rattle.psci_board.specs.Reading.{number_at, more_at}
 use Rattle.psci_board.proofs.tree_text.group.Given as goal
 
 abbrev pub invariant-loop-number : goal.invariant-loop-number
 invariant-loop-number l = record {
-  seen : with_numbers l.seen (more_at number_at l.rest).0
-      ≡ with_numbers l.initial.seen (more_at number_at l.initial.rest).0;
+  summary : with_numbers l.summary (more_at number_at l.rest).0
+      ≡ with_numbers l.initial.summary (more_at number_at l.initial.rest).0;
   rest : (more_at number_at l.rest).1 ≡ (more_at number_at l.initial.rest).1;
   count : l.count + length (more_at number_at l.rest).0
       ≡ 1 + length (more_at number_at l.initial.rest).0;

@@ -1,5 +1,5 @@
 use Rattle.std.proofs.Common.{arith, ◌∙◌, cond}
-use Rattle.psci_tree.specs.Recount.{runs}
+use Rattle.psci_tree.specs.Recount.{is_active}
 use Rattle.psci_tree.proofs.Below.{length_of_domain, sum_done}
 use Rattle.psci_tree.proofs.domain.Domain.+active.Goals as goal
 
@@ -13,5 +13,5 @@ loop-child-init t c = record {
 pub returns-clause-value : goal.returns-clause-value
 returns-clause-value t c =
     c.loop-child.invariant.value
-    ∙ sum_done (λ c. cond (runs c.activity) 1 0) c.args.self.now c.deref-child-items.result.now
+    ∙ sum_done (λ c. cond (is_active c.activity) 1 0) c.args.self.now c.deref-child-items.result.now
     c.loop-child.child-index c.deref-child-items.ensures.value (grind arith) c.loop-child-test.false

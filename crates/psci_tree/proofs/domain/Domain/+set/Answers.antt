@@ -1,7 +1,7 @@
 use Rattle.std.proofs.Common.{arith, rules, length, ◌≡◌, ◌<◌, ap, get_or, List, ◌∙◌}
 use Rattle.std.proofs.lemmas.List.{get_or_default}
 use Rattle.std.proofs.Math.ListN.{set}
-use Rattle.psci_tree.specs.Domains.{cores, children, widths}
+use Rattle.psci_tree.specs.Domains.{cores, children, child_counts}
 use Rattle.psci_tree.specs.declared.domain.Domain.{Domain}
 use Rattle.psci_tree.specs.declared.domain.Domain.TheViews.{the_lemmas}
 use Rattle.psci_tree.proofs.Below.{cores_with_child, widths_with_child}
@@ -57,4 +57,4 @@ returns-clause-shape t c =
     c.index_mut.ensures.value
     ∙ get_or_default items c.find-child.result.0 c.index_mut.result.now own fits in
     widths_with_child own c.find-child.result.0 c.set.new.self (λ k. c.set.ensures.shape k
-    ∙ ap (widths k) at_own)
+    ∙ ap (child_counts k) at_own)

@@ -1,29 +1,29 @@
-use Rattle.std.proofs.Common.{◌≡◌, ◌+◌, ℕ, arith, ap, sym, subst, map, length}
-use Rattle.std.proofs.lemmas.List.{length-map, length-drop}
-use Rattle.psci_tree.specs.Recount.{TreeValue, below, core_at}
+use Rattle.std.proofs.Common.{◌≡◌, ◌+◌, ◌-◌, ℕ, arith, ap, sym, subst, length}
+use Rattle.std.proofs.lemmas.List.{length-map}
+use Rattle.psci_board.specs.Board.{below_in, HasNodeIn}
+use Rattle.psci_tree.specs.Recount.{TreeValue, core_at}
 use Rattle.psci_tree.specs.Inside.{IsTied}
 use Rattle.psci_tree.proofs.Slices.{states_at, core_of_leaf, few_below}
 use Rattle.psci_tree.proofs.tree.Tree.domain.Goals as goal
 
+pub domain_at-requires : goal.domain_at-requires
+domain_at-requires c = record {
+  tree = c.self.invariant.valid.tree;
+  shape = c.self.invariant.whole.shape;
+  node = subst (λ (t : TreeValue). HasNodeIn t.levels c.args.node) (sym c.self.view_is) c.requires;
+}
+
 pub returns-clause-cores : goal.returns-clause-cores
 returns-clause-cores c =
-    let k : ℕ = length (map (λ v. v.items) c.split_at.result.1.now) in
+    let k : ℕ = length c.self.inside.board.levels - c.args.node.level in
     let is = c.self.view_is in
     let tied : IsTied c.self.inside.root c.args.self.now =
     subst (IsTied c.self.inside.root) is c.self.invariant in
     let e : k + c.args.node.level ≡ length c.args.self.now.levels =
-    omega (
-      arith,
-      ap (λ (v : TreeValue). length v.levels) is,
-      c.requires.level,
-      length-map c.split_at.result.1.now (λ v. v.items),
-      ap length c.split_at.ensures.back,
-      length-drop c.args.node.level c.deref.result.now,
-      ap length c.deref.ensures.value,
-      length-map c.self.inside.levels.items (λ v. v.items),
-    ) in
+    omega (arith, ap (λ (v : TreeValue). length v.levels) is, c.requires.level) in
     states_at c.self.inside.root c.args.self.now c.args.node k c.domain_at.result.now
-    tied.valid.tree tied.whole (ap (λ (v : TreeValue). v.cores) (sym is)) c.requires e
+    (c.law_spans.ensures c.args.self.now.levels tied.valid.tree) tied.valid.tree tied.whole
+    (ap (λ (v : TreeValue). v.cores) (sym is)) c.requires e
     (c.domain_at.ensures c.domain_at.result.now)
 
 pub returns-clause-few : goal.returns-clause-few
@@ -33,27 +33,19 @@ returns-clause-few c =
     omega (
       arith,
       ap length (returns-clause-cores c),
-      length-map (below c.args.self.now.levels c.args.node) (λ x. core_at c.args.self.now x),
+      length-map (below_in c.args.self.now.levels c.args.node) (λ x. core_at c.args.self.now x),
       few_below c.args.self.now.levels c.args.node tied.valid.tree,
     )
 
 pub returns-clause-core : goal.returns-clause-core
 returns-clause-core c =
-    let k : ℕ = length (map (λ v. v.items) c.split_at.result.1.now) in
+    let k : ℕ = length c.self.inside.board.levels - c.args.node.level in
     let is = c.self.view_is in
     let tied : IsTied c.self.inside.root c.args.self.now =
     subst (IsTied c.self.inside.root) is c.self.invariant in
     let e : k + c.args.node.level ≡ length c.args.self.now.levels =
-    omega (
-      arith,
-      ap (λ (v : TreeValue). length v.levels) is,
-      c.requires.level,
-      length-map c.split_at.result.1.now (λ v. v.items),
-      ap length c.split_at.ensures.back,
-      length-drop c.args.node.level c.deref.result.now,
-      ap length c.deref.ensures.value,
-      length-map c.self.inside.levels.items (λ v. v.items),
-    ) in
+    omega (arith, ap (λ (v : TreeValue). length v.levels) is, c.requires.level) in
     core_of_leaf c.self.inside.root c.args.self.now c.args.node k c.domain_at.result.now
-    tied.valid.tree tied.whole (ap (λ (v : TreeValue). v.cores) (sym is)) c.requires e
+    (c.law_spans.ensures c.args.self.now.levels tied.valid.tree) tied.valid.tree tied.whole
+    (ap (λ (v : TreeValue). v.cores) (sym is)) c.requires e
     (c.domain_at.ensures c.domain_at.result.now)

@@ -1,49 +1,52 @@
 use Rattle.std.proofs.Common.{◌≡◌, ◌∙◌, arith, ap, sym, subst, map, length, get_or, ℕ, List, []}
 use Rattle.std.proofs.Math.ListN.{set}
-use Rattle.std.specs.Vec.{with_item}
-use Rattle.std.proofs.lemmas.List.{get_or-map, length-map, map-set}
-use Rattle.psci_tree.specs.Recount.{TreeValue, HasDomain, IsDomainTree}
+use Rattle.std.proofs.lemmas.List.{length-map, with_items_is}
+use Rattle.psci_board.specs.Board.{HasNodeIn}
+use Rattle.psci_tree.specs.Recount.{TreeValue, IsDomainTree}
 use Rattle.psci_tree.specs.Changes.{with_grant}
 use Rattle.psci_tree.specs.Domains.{cores}
 use Rattle.psci_tree.specs.Inside.{IsTied}
-use Rattle.psci_tree.proofs.Granted.{RowOf, row_of, grant_valid}
+use Rattle.psci_tree.proofs.Granted.{RowOf, row_of}
+use Rattle.psci_tree.proofs.Valid.{grant_valid}
 use Rattle.psci_tree.proofs.tree.Tree.grant.Goals as goal
 
-pub index_mut-requires : goal.index_mut-requires
-index_mut-requires c =
-    let row = c.index_mut-row.result.now in
-    let at : RowOf (map (λ v. v.items) c.self.inside.granted.items) c.args.node =
-    row_of _ _ c.args.node c.self.invariant.valid.granted (subst (λ (t : TreeValue). HasDomain
+pub write-requires : goal.write-requires
+write-requires c =
+    let rows : List (List ℕ) = map (λ v. v.items) c.self.inside.granted.items in
+    let at : RowOf rows c.args.node =
+    row_of _ _ c.args.node c.self.invariant.valid.granted (subst (λ (t : TreeValue). HasNodeIn
     t.levels c.args.node) (sym c.self.view_is) c.requires.domain) in
-    let same : row.items
-    ≡ get_or (map (λ v. v.items) c.self.inside.granted.items) c.args.node.level [] =
-    ap (λ v. v.items) c.index_mut-row.ensures.value
-    ∙ sym (get_or-map (λ v. v.items) c.self.inside.granted.items c.args.node.level row []
-    (omega (arith, at.level, length-map c.self.inside.granted.items (λ v. v.items)))) in
-    omega (arith, at.place, ap length same, row.ok.0)
+    let same : map (λ v. v.items) c.deref_mut.result.now ≡ rows =
+    ap (map (λ v. v.items)) c.deref_mut.ensures.value in
+    record {
+      level = omega (
+        arith,
+        at.level,
+        ap length same,
+        length-map c.deref_mut.result.now (λ v. v.items),
+      );
+      place = omega (arith, at.place, ap (λ xs. length (get_or xs c.args.node.level [])) same);
+    }
 
 pub returns-clause-value : goal.returns-clause-value
 unfolding with_grant
 returns-clause-value c =
-    let row = c.index_mut-row.result.now in
     let rows : List (List ℕ) = map (λ v. v.items) c.self.inside.granted.items in
-    let at : RowOf rows c.args.node =
-    row_of _ _ c.args.node c.self.invariant.valid.granted (subst (λ (t : TreeValue). HasDomain
-    t.levels c.args.node) (sym c.self.view_is) c.requires.domain) in
-    let same : row.items ≡ get_or rows c.args.node.level [] =
-    ap (λ v. v.items) c.index_mut-row.ensures.value
-    ∙ sym (get_or-map (λ v. v.items) c.self.inside.granted.items c.args.node.level row []
-    (omega (arith, at.level, length-map c.self.inside.granted.items (λ v. v.items)))) in
-    let written = map-set (λ v. v.items) c.self.inside.granted.items c.args.node.level (with_item
-    row c.args.node.place c.args.depth)
-    ∙ ap (λ xs. set rows c.args.node.level (set xs c.args.node.place c.args.depth)) same in
+    let long : length c.write.new.rows ≡ c.self.inside.granted.len =
+    omega (arith, c.write.auto.rows, c.deref_mut.ensures.len) in
+    let kept = with_items_is c.self.inside.granted c.write.new.rows long in
+    let level : ℕ = c.args.node.level in
+    let written = λ (gs : List (List ℕ)).
+    set gs level (set (get_or gs level []) c.args.node.place c.args.depth) in
     let change : List (List ℕ) → TreeValue =
     λ gs. record {
-      levels = map (λ v. v.items) c.self.inside.levels.items;
+      levels = c.self.inside.board.levels;
       cores = cores c.self.inside.root;
       granted = gs;
     } in
-    ap change written ∙ ap (λ (t : TreeValue). with_grant t c.args.node c.args.depth) c.self.view_is
+    ap change (ap (map (λ v. v.items)) kept ∙ c.write.ensures
+    ∙ ap (λ xs. written (map (λ v. v.items) xs)) c.deref_mut.ensures.value)
+    ∙ ap (λ (t : TreeValue). with_grant t c.args.node c.args.depth) c.self.view_is
 
 pub returns-clause-tree : goal.returns-clause-tree
 returns-clause-tree c =

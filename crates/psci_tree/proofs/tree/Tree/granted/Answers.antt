@@ -1,6 +1,7 @@
 use Rattle.std.proofs.Common.{◌≡◌, ◌∙◌, arith, ap, sym, subst, map, length, get_or, []}
 use Rattle.std.proofs.lemmas.List.{get_or-map, get_or_default, length-map}
-use Rattle.psci_tree.specs.Recount.{TreeValue, HasDomain, granted_at}
+use Rattle.psci_board.specs.Board.{HasNodeIn}
+use Rattle.psci_tree.specs.Recount.{TreeValue, granted_at}
 use Rattle.psci_tree.proofs.Granted.{RowOf, row_of}
 use Rattle.psci_tree.proofs.tree.Tree.granted.Goals as goal
 
@@ -9,7 +10,7 @@ index-requires c =
     let row = c.index-row.result.now in
     let at : RowOf (map (λ v. v.items) c.self.inside.granted.items) c.args.node =
     row_of _ _ c.args.node c.self.invariant.valid.granted (subst
-    (λ (t : TreeValue). HasDomain t.levels c.args.node) (sym c.self.view_is) c.requires) in
+    (λ (t : TreeValue). HasNodeIn t.levels c.args.node) (sym c.self.view_is) c.requires) in
     let same : row.items
     ≡ get_or (map (λ v. v.items) c.self.inside.granted.items) c.args.node.level [] =
     ap (λ v. v.items) c.index-row.ensures
@@ -22,7 +23,7 @@ returns-clause-value c =
     let row = c.index-row.result.now in
     let at : RowOf (map (λ v. v.items) c.self.inside.granted.items) c.args.node =
     row_of _ _ c.args.node c.self.invariant.valid.granted (subst
-    (λ (t : TreeValue). HasDomain t.levels c.args.node) (sym c.self.view_is) c.requires) in
+    (λ (t : TreeValue). HasNodeIn t.levels c.args.node) (sym c.self.view_is) c.requires) in
     let same : row.items
     ≡ get_or (map (λ v. v.items) c.self.inside.granted.items) c.args.node.level [] =
     ap (λ v. v.items) c.index-row.ensures

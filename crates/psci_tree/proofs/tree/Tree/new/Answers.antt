@@ -1,30 +1,57 @@
-use Rattle.std.proofs.Common.{◌≡◌, ◌≤◌, ◌∙◌, arith, ap, sym, subst, map, length, ℕ, List}
-use Rattle.psci_board.specs.Board.{IsTree}
+use Rattle.std.proofs.Common.{◌≡◌, ◌∙◌, ap, sym, subst, map, get_or, ℕ, List}
+use Rattle.psci_board.specs.Board.{BoardValue, IsBoard}
+use Rattle.psci_tree.specs.declared.state.CoreState.{CoreState}
 use Rattle.psci_tree.specs.declared.domain.Domain.{Domain}
-use Rattle.psci_tree.specs.Recount.{TreeValue, IsDomainTree, sizes}
-use Rattle.psci_tree.specs.Changes.{rows_of}
+use Rattle.psci_tree.specs.Recount.{TreeValue, IsActivity, IsDomainTree, level_sizes, never_started}
+use Rattle.psci_tree.specs.Changes.{rows_with_depth, made_pending, start_of_life, all_off}
 use Rattle.psci_tree.specs.Domains.{cores, IsWhole}
-use Rattle.psci_tree.proofs.Granted.{full_valid}
+use Rattle.psci_tree.proofs.Valid.{full_valid, all_idle}
 use Rattle.psci_tree.proofs.Slices.{length_cores}
 use Rattle.psci_tree.proofs.tree.Tree.new.Goals as goal
 
 pub invariant_of-tree : goal.invariant_of-tree
 invariant_of-tree c =
-    let root : Domain = c.in_ok-root.root in
-    let levels : List (List ℕ) = map (λ v. v.items) c.in_ok-levels.levels.items in
-    let board = c.cores-cores.ensures.board in
-    let same : levels ≡ c.args.board.now.levels = c.in_ok-levels.ensures {u = tt} in
-    let tree : IsTree levels = subst IsTree (sym same) board.tree in
-    let high : length levels ≤ 3 = omega (arith, ap length same, board.high) in
-    let whole : IsWhole root levels = subst (λ xs. IsWhole root (map (λ v. v.items) xs))
-    c.deref-2.ensures.value (c.in_ok-root.ensures {u = tt}) in
-    let granted : map (λ v. v.items) c.in_ok-granted.granted.items ≡ rows_of (sizes levels) 3 =
-    c.in_ok-granted.ensures {u = tt}
-    ∙ ap (λ xs. rows_of (sizes (map (λ v. v.items) xs)) 3) c.deref.ensures.value in
+    let root : Domain = c.in_ok-build.field-0 in
+    let own : BoardValue = c.in_ok-copy.field-0 in
+    let levels : List (List ℕ) = c.args.board.now.levels in
+    let same : levels ≡ own.levels =
+    ap (λ (b : BoardValue). b.levels) (sym c.in_ok-copy.ensures) in
+    let board : IsBoard own = subst IsBoard c.drop.view_is c.drop.invariant in
+    let whole : IsWhole root own.levels =
+    subst (IsWhole root) same (c.in_ok-build.ensures.whole) in
+    let granted : map (λ v. v.items) c.in_ok-deepest_rows.field-0.items
+    ≡ rows_with_depth (level_sizes own.levels) 3 =
+    c.in_ok-deepest_rows.ensures {u = tt} ∙ ap (λ ls. rows_with_depth (level_sizes ls) 3) same in
+    let idle : (d : ℕ) → IsActivity (get_or (cores root) d never_started).activity =
+    subst (λ (cs : List CoreState). (d : ℕ) → IsActivity (get_or cs d never_started).activity)
+    (sym (c.in_ok-build.ensures.off)) (all_idle _) in
     let at : List (List ℕ) → TreeValue =
-    λ gs. record { levels = levels; cores = cores root; granted = gs } in
+    λ gs. record { levels = own.levels; cores = cores root; granted = gs } in
     record {
       whole = whole;
-      valid = subst (λ gs. IsDomainTree (at gs)) (sym granted)
-          (full_valid levels (cores root) tree high (length_cores root levels tree whole));
+      valid = subst (λ gs. IsDomainTree (at gs)) (sym granted) (full_valid own.levels
+          (cores root) board.tree board.high (length_cores root own.levels board.tree whole) idle);
     }
+
+pub set_pending-requires : goal.set_pending-requires
+set_pending-requires c =
+    let board : IsBoard c.in_ok-copy.field-0 = subst IsBoard c.drop.view_is c.drop.invariant in
+    (c.law_sizes.ensures c.in_ok-copy.field-0 board).some 0
+
+pub returns-clause-value : goal.returns-clause-value
+unfolding start_of_life
+returns-clause-value c =
+    let root : Domain = c.in_ok-build.field-0 in
+    let levels : List (List ℕ) = c.args.board.now.levels in
+    let same : c.in_ok-copy.field-0.levels ≡ levels =
+    ap (λ (b : BoardValue). b.levels) c.in_ok-copy.ensures in
+    let rows : List (List ℕ) = map (λ v. v.items) c.in_ok-deepest_rows.field-0.items in
+    c.set_pending.ensures.value
+    ∙ ap (λ ls. made_pending (record { levels = ls; cores = cores root; granted = rows }) 0) same
+    ∙ ap (λ cs. made_pending (record { levels = levels; cores = cs; granted = rows }) 0)
+    (c.in_ok-build.ensures.off)
+    ∙ ap (λ gs. made_pending (record {
+      levels = levels;
+      cores = (all_off levels).cores;
+      granted = gs;
+    }) 0) (c.in_ok-deepest_rows.ensures {u = tt})

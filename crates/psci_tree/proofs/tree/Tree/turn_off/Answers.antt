@@ -3,17 +3,17 @@ use Rattle.std.proofs.lemmas.List.{with_items_is}
 use Rattle.psci_board.specs.Board.{size_below}
 use Rattle.psci_tree.specs.declared.state.CoreState.{CoreState}
 use Rattle.psci_tree.specs.declared.domain.Domain.{Domain}
-use Rattle.psci_tree.specs.Recount.{TreeValue, IsDomainTree, never_started, sizes}
-use Rattle.psci_tree.specs.Changes.{all_off, rows_of}
+use Rattle.psci_tree.specs.Recount.{TreeValue, IsDomainTree, never_started, level_sizes}
+use Rattle.psci_tree.specs.Changes.{all_off, rows_with_depth}
 use Rattle.psci_tree.specs.Domains.{cores}
 use Rattle.psci_tree.specs.Inside.{IsTied}
-use Rattle.psci_tree.proofs.Granted.{all_off_valid}
+use Rattle.psci_tree.proofs.Valid.{all_off_valid}
 use Rattle.psci_tree.proofs.Slices.{whole_kept}
 use Rattle.psci_tree.proofs.tree.Tree.turn_off.Goals as goal
 
 pub returns-clause-value : goal.returns-clause-value
 returns-clause-value c =
-    let levels : List (List ℕ) = map (λ v. v.items) c.self.inside.levels.items in
+    let levels : List (List ℕ) = c.self.inside.board.levels in
     let long : length c.fill_rows.new.rows ≡ c.self.inside.granted.len =
     omega (arith, c.fill_rows.auto.rows, c.deref_mut.ensures.len) in
     let kept = with_items_is c.self.inside.granted c.fill_rows.new.rows long in
@@ -22,12 +22,12 @@ returns-clause-value c =
     let states : cores c.turn_off.new.self ≡ replicate (size_below levels) never_started =
     c.turn_off.ensures.cores
     ∙ ap (λ n. replicate n never_started) c.self.invariant.valid.cores in
-    let rows : map (λ v. v.items) c.fill_rows.new.rows ≡ rows_of (sizes levels) 3 =
+    let rows : map (λ v. v.items) c.fill_rows.new.rows ≡ rows_with_depth (level_sizes levels) 3 =
     c.fill_rows.ensures
-    ∙ ap (λ xs. rows_of (map length (map (λ v. v.items) xs)) 3) c.deref_mut.ensures.value
-    ∙ ap (λ ns. rows_of ns 3) c.self.invariant.valid.granted in
+    ∙ ap (λ xs. rows_with_depth (map length (map (λ v. v.items) xs)) 3) c.deref_mut.ensures.value
+    ∙ ap (λ ns. rows_with_depth ns 3) c.self.invariant.valid.granted in
     ap (change (cores c.turn_off.new.self)) (ap (map (λ v. v.items)) kept ∙ rows)
-    ∙ ap (λ cs. change cs (rows_of (sizes levels) 3)) states
+    ∙ ap (λ cs. change cs (rows_with_depth (level_sizes levels) 3)) states
     ∙ ap (λ (t : TreeValue). all_off t.levels) c.self.view_is
 
 pub returns-clause-tree : goal.returns-clause-tree

@@ -1,0 +1,13 @@
+pub mod Answered
+pub mod Block
+pub mod Device
+pub mod EventText
+pub mod Legal
+pub mod Limits
+pub mod Line
+pub mod Lines
+pub mod MachineAfter
+pub mod Progress
+pub mod Run
+pub mod Script
+pub mod Text

@@ -1,0 +1,51 @@
+-- The answer line of an event.
+use Rattle.std.specs.Prelude.{ℕ, false, List, ◌++◌, ◌∷◌, [], Option, Some, None, codes}
+use Rattle.std.specs.Fmt.{decimal, signed_decimal, digits}
+use Rattle.psci_model.specs.declared.outcome.Act.{Act}
+use Rattle.psci_model.specs.declared.outcome.Act.TheVariants.{Return, Stop, Enter, Resume}
+use Rattle.psci_model.specs.declared.message.Kind.{Kind}
+use Rattle.psci_model.specs.declared.message.Kind.TheVariants.{Down, Start, Off, Reset}
+use Rattle.psci_bench.specs.declared.said.Sent.{Sent}
+use Rattle.psci_bench.specs.declared.said.Said.{Said}
+use Rattle.psci_bench.specs.declared.said.Said.TheVariants.{Fw, Ignored, Absent}
+
+-- an address or a context id: lower-case hexadecimal digits without leading zeros
+abbrev pub hexadecimal : ℕ → List ℕ
+hexadecimal n = codes "0x" ++ digits 16 false n
+
+-- what the core does next
+abbrev pub act_text : Act → List ℕ
+act_text (Return code) = codes "return " ++ signed_decimal code.0
+act_text Stop = codes "stop"
+act_text (Enter address context) =
+    codes "enter " ++ (hexadecimal address ++ (codes " " ++ hexadecimal context))
+act_text Resume = codes "resume 0"
+
+-- the word of a kind of message
+abbrev pub kind_text : Kind → List ℕ
+kind_text Down = codes "down"
+kind_text Start = codes "start"
+kind_text Off = codes "off"
+kind_text Reset = codes "reset"
+
+-- a message, with how many were sent before it
+abbrev pub sent_text : Sent → List ℕ
+sent_text s =
+    codes "#" ++ (decimal s.index ++ (codes " " ++ (kind_text s.message.kind ++ (codes " "
+    ++ (decimal s.message.core.number ++ (codes " life " ++ (decimal s.message.life
+    ++ (codes " number " ++ decimal s.message.number))))))))
+
+-- the message after the act, where one was sent
+abbrev pub message_text : Option Sent → List ℕ
+message_text None = []
+message_text (Some sent) = codes " " ++ sent_text sent
+
+-- what is said of an event
+abbrev pub said_text : Said → List ℕ
+said_text (Fw act sent) = act_text act ++ message_text sent
+said_text Ignored = codes "ignored"
+said_text Absent = codes "absent"
+
+-- the line of the event of this number
+abbrev pub answer_line : ℕ → Said → List ℕ
+answer_line number said = decimal number ++ (codes " " ++ (said_text said ++ 10 ∷ []))

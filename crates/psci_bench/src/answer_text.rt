@@ -1,0 +1,106 @@
+//! Answer lines.
+
+ghost use Rattle.std.specs.Prelude.{Some};
+
+use crate::said::{Said, Sent};
+use psci_model::{Act, Kind};
+use std::fmt;
+
+/// What was said of the event of this number, counted from 1.
+#[derive(Clone, Copy)]
+pub struct Answer<'a> {
+    /// The number of the event.
+    pub number: u64,
+    /// What was said of it.
+    pub said: &'a Said,
+}
+
+/// What a core does next, as an answer line has it.
+#[derive(Clone, Copy)]
+struct ActText<'a>(&'a Act);
+
+/// The word of a kind of message.
+#[derive(Clone, Copy)]
+struct KindText(Kind);
+
+impl fmt::Display for ActText<'_> {
+    ghost use Rattle.std.specs.Prelude.{Some};
+    ghost use Rattle.psci_bench.specs.Text.{act_text};
+
+    ghost output = { λ text. Some (act_text text.0.now) };
+
+    fn fmt<W: fmt::Write>(&self, f: &mut fmt::Formatter<W>) -> fmt::Result {
+        match self.0 {
+            Act::Return(code) => write!(f, "return {}", code.0),
+            Act::Stop => write!(f, "stop"),
+            Act::Enter { address, context } => write!(f, "enter 0x{address:x} 0x{context:x}"),
+            Act::Resume => write!(f, "resume 0"),
+        }
+    }
+}
+
+impl fmt::Display for KindText {
+    ghost use Rattle.std.specs.Prelude.{Some};
+    ghost use Rattle.psci_bench.specs.Text.{kind_text};
+
+    ghost output = { λ text. Some (kind_text text.0) };
+
+    fn fmt<W: fmt::Write>(&self, f: &mut fmt::Formatter<W>) -> fmt::Result {
+        match self.0 {
+            Kind::Down => write!(f, "down"),
+            Kind::Start => write!(f, "start"),
+            Kind::Off => write!(f, "off"),
+            Kind::Reset => write!(f, "reset"),
+        }
+    }
+}
+
+impl fmt::Display for Sent {
+    ghost use Rattle.std.specs.Prelude.{Some};
+    ghost use Rattle.psci_bench.specs.Text.{sent_text};
+
+    ghost output = { λ sent. Some (sent_text sent) };
+
+    fn fmt<W: fmt::Write>(&self, f: &mut fmt::Formatter<W>) -> fmt::Result {
+        let message = &self.message;
+        let kind = KindText(message.kind);
+        let core = message.core.number;
+        let life = message.life;
+        let number = message.number;
+        write!(
+            f,
+            "#{} {kind} {core} life {life} number {number}",
+            self.index
+        )
+    }
+}
+
+impl fmt::Display for Said {
+    ghost use Rattle.std.specs.Prelude.{Some};
+    ghost use Rattle.psci_bench.specs.Text.{said_text};
+
+    ghost output = { λ said. Some (said_text said) };
+
+    fn fmt<W: fmt::Write>(&self, f: &mut fmt::Formatter<W>) -> fmt::Result {
+        match self {
+            Said::Fw { act, sent: None } => write!(f, "{}", ActText(act)),
+            Said::Fw {
+                act,
+                sent: Some(sent),
+            } => write!(f, "{} {sent}", ActText(act)),
+            Said::Ignored => write!(f, "ignored"),
+            Said::Absent => write!(f, "absent"),
+        }
+    }
+}
+
+impl fmt::Display for Answer<'_> {
+    ghost use Rattle.std.specs.Prelude.{Some};
+    ghost use Rattle.psci_bench.specs.Text.{answer_line};
+
+    ghost output = { λ answer. Some (answer_line answer.number answer.said.now) };
+
+    fn fmt<W: fmt::Write>(&self, f: &mut fmt::Formatter<W>) -> fmt::Result {
+        writeln!(f, "{} {}", self.number, self.said)
+    }
+}

@@ -1,0 +1,84 @@
+//! The grammar of a line after the first.
+
+ghost use Rattle.std.specs.Prelude.{◌≡◌, option_map};
+ghost use Rattle.psci_board.specs.Reading.{spaced_at};
+ghost use Rattle.psci_bench.specs.Line.{register_at, optional_register_at, call_at, enter_at};
+ghost use Rattle.psci_bench.specs.Line.{line_of};
+
+use crate::event::Event;
+use psci_abi::Regs;
+use psci_board::{hex, literal, number};
+
+/// What a line says.
+#[derive(Clone, Copy, Debug, PartialEq, Eq)]
+pub enum Line {
+    /// Nothing: it is empty, or a comment.
+    Blank,
+    /// An event.
+    Event(Event),
+}
+
+/// The value of a register at the front, decimal or hexadecimal, and the text after it.
+#[tactic(auto, unfolding(crate::specs::Line::register_at))]
+fn register(text: &[u8]) -> Option<(u64, &[u8])>
+    ensures { option_map (λ x. (x.0, x.1.now)) result ≡ register_at text.now }
+{
+    hex(text).or_else(|| number(text))
+}
+
+/// The register after a space, and the text after it.
+#[tactic(auto, unfolding(psci_board::specs::Reading::spaced_at))]
+fn spaced_register(text: &[u8]) -> Option<(u64, &[u8])>
+    ensures { option_map (λ x. (x.0, x.1.now)) result ≡ spaced_at register_at text.now }
+{
+    register(literal(text, b" ")?)
+}
+
+/// The register after a space and the text after it, or 0 where there is none.
+#[tactic(auto, unfolding(crate::specs::Line::optional_register_at))]
+fn optional_register(text: &[u8]) -> (u64, &[u8])
+    ensures { (result.0, result.1.now) ≡ optional_register_at text.now }
+{
+    match spaced_register(text) {
+        Some(found) => found,
+        None => (0, text),
+    }
+}
+
+/// The call after its first word.
+#[tactic(auto, unfolding(crate::specs::Line::call_at))]
+fn call(text: &[u8]) -> Option<Event>
+    ensures { result ≡ call_at text.now }
+{
+    let (core, rest) = number(text)?;
+    let (x0, rest) = spaced_register(rest)?;
+    let (x1, rest) = optional_register(rest);
+    let (x2, rest) = optional_register(rest);
+    let (x3, rest) = optional_register(rest);
+    rest.is_empty()
+        .then_some(Event::Call(core, Regs { x0, x1, x2, x3 }))
+}
+
+/// The entry after its first word.
+#[tactic(auto, unfolding(crate::specs::Line::enter_at))]
+fn enter(text: &[u8]) -> Option<Event>
+    ensures { result ≡ enter_at text.now }
+{
+    let (core, rest) = number(text)?;
+    rest.is_empty().then_some(Event::Enter(core))
+}
+
+/// What the line says, or none where it is outside the grammar.
+#[tactic(auto, unfolding(crate::specs::Line::line_of))]
+pub fn read_line(text: &[u8]) -> Option<Line>
+    ensures { result ≡ line_of text.now }
+{
+    if let [] | [b'#', ..] = text {
+        return Some(Line::Blank);
+    }
+    let event = match literal(text, b"call ") {
+        Some(rest) => call(rest)?,
+        None => enter(literal(text, b"enter ")?)?,
+    };
+    Some(Line::Event(event))
+}

@@ -1,0 +1,233 @@
+//! Scripts, answered event by event.
+
+ghost use Rattle.std.specs.Prelude.{◌≡◌, ◌+◌, ◌-◌, ◌^◌, ◌<◌, ◌≤◌, ℕ, List, length, false, Option};
+ghost use Rattle.std.specs.Prelude.{IfOk, IfErr, OnOk};
+ghost use Rattle.psci_board.specs.Board.{BoardValue};
+ghost use Rattle.psci_bench.specs.declared.fault.ReplayFault.TheVariants.{Read, Write};
+ghost use Rattle.psci_bench.specs.declared.said.Record.{Record};
+ghost use Rattle.psci_bench.specs.Device.{GaveUp};
+ghost use Rattle.psci_bench.specs.Legal.{legal, AnswersAtPlace};
+ghost use Rattle.psci_bench.specs.Limits.{longest_line, most_lines};
+ghost use Rattle.psci_bench.specs.Progress.{IsLine, SameDevices, StaySound, first_progress};
+ghost use Rattle.psci_bench.specs.Progress.{progress_of};
+ghost use Rattle.psci_bench.specs.Run.{LinesAnswered, BoardRead, HasBegun, IsUnderWay, EndsBy};
+ghost use Rattle.psci_bench.specs.Run.{Runs, Replays, LineLeaves, LineRefused, IsNoDevice};
+ghost use Rattle.psci_bench.specs.Run.{is_write_fault};
+
+use crate::answers::Answers;
+use crate::block::Block;
+use crate::device::{Sink, Source};
+use crate::fault::{ReplayFault, Replayed, ScriptFault};
+use crate::firmware_machine::FirmwareMachine;
+use crate::grammar::{Line, read_line};
+use crate::laws::law_places;
+use crate::lines::Extent;
+use crate::machine::Machine;
+use crate::progress::Progress;
+use psci_board::{Board, BoardFault, literal};
+use std::alloc::Global;
+
+/// The board of a first line.
+fn read_board(alloc: Global, line: &[u8]) -> Result<Board, ReplayFault>
+    requires { length line.now ≤ longest_line }
+    ensures { BoardRead result line.now }
+{
+    let Some(text) = literal(line, b"board ") else {
+        return Err(ScriptFault::NoBoard.at(1));
+    };
+    match Board::read_bytes(alloc, text) {
+        Ok(board) => Ok(board),
+        Err(BoardFault::Memory) => Err(ReplayFault::Memory),
+        Err(fault) => Err(ReplayFault::Board(fault)),
+    }
+}
+
+/// Makes the event happen that a line says, if it says one, and adds the answer.
+fn answer<M: Machine>(
+    machine: &mut M,
+    answers: &mut Answers,
+    line: Option<Line>,
+    number: u64,
+) -> Result<(), ReplayFault>
+    requires { answers.old.events < 2 ^ 64 - 1 }
+    ensures ok { OnOk result ((b : BoardValue) (past : List Record) → M.is_after machine.old b past
+        → length past < 2 ^ 64 - 1 → answers.old.events ≡ length past
+        → LineLeaves M.legal (M.is_after machine.new) b past line answers.old answers.new) }
+    ensures err { IfErr result (λ fault. LineRefused fault number line
+        × (answers.new ≡ answers.old)) }
+{
+    match line {
+        None => Err(ScriptFault::Line.at(number)),
+        Some(Line::Blank) => Ok(()),
+        Some(Line::Event(event)) => {
+            let said = machine.step(event)?;
+            answers.add(&said)?;
+            Ok(())
+        }
+    }
+}
+
+impl<S: Source, K: Sink> Progress<'_, '_, S, K> {
+    /// The machine of the board that the first line has.
+    fn begin<M: Machine>(&mut self, alloc: Global) -> Result<M, ReplayFault>
+        requires { progress_of S.left K.taken self.old
+            ≡ first_progress (S.left self.old.source.now) (K.taken self.old.sink.now) }
+        ensures devices { SameDevices self.old self.new }
+        ensures sound { OnOk result (StaySound S.failed K.failed self.old self.new) }
+        ensures ok { IfOk result (λ m. HasBegun M.legal (M.is_after m)
+            (S.left self.old.source.now) (K.taken self.old.sink.now)
+            (progress_of S.left K.taken self.new)) }
+        ensures err { IfErr result (λ fault. EndsBy M.legal fault
+            (S.left self.old.source.now) (K.taken self.old.sink.now)
+            (progress_of S.left K.taken self.new)) }
+        ensures read { IfErr result (λ fault. fault ≡ Read
+            → GaveUp (S.failed self.new.source.now) (S.interruptions self.new.source.now)) }
+        ensures write { IfErr result (λ fault. fault ≡ Write
+            → GaveUp (K.failed self.new.sink.now) (K.interruptions self.new.sink.now)) }
+    {
+        let Some(extent) = self.next_line(1)? else {
+            return Err(ScriptFault::NoBoard.at(1));
+        };
+        let board = read_board(alloc, &self.block.unread()[..extent.line])?;
+        let machine = M::new(alloc, board)?;
+        self.block.skip(extent.taken);
+        Ok(machine)
+    }
+
+    /// Takes and answers a line, after so many others.
+    fn take_line<M: Machine>(
+        &mut self,
+        machine: &mut M,
+        extent: Extent,
+        count: u64,
+    ) -> Result<(), ReplayFault>
+        requires line { IsLine extent self.old.block.now }
+        requires count { count < most_lines }
+        requires events { self.old.answers.now.events < 2 ^ 64 - 1 }
+        ensures devices { SameDevices self.old self.new }
+        ensures sound { StaySound S.failed K.failed self.old self.new }
+        ensures ok { OnOk result ((first before : Option (List ℕ)) (b : BoardValue)
+            (past : List Record) → M.is_after machine.old b past → length past ≤ count
+            → LinesAnswered M.legal b past count first before
+            (progress_of S.left K.taken self.old)
+            → IsUnderWay M.legal (M.is_after machine.new) (count + 1) first before
+            (progress_of S.left K.taken self.new)) }
+        ensures err { IfErr result (λ fault. (first before : Option (List ℕ)) (b : BoardValue)
+            (past : List Record)
+            → LinesAnswered M.legal b past count first before
+            (progress_of S.left K.taken self.old)
+            → EndsBy M.legal fault first before (progress_of S.left K.taken self.new)) }
+        ensures fault { IfErr result (λ fault. IsNoDevice fault) }
+    {
+        let line = read_line(&self.block.unread()[..extent.line]);
+        answer(machine, self.answers, line, count + 1)?;
+        self.block.skip(extent.taken);
+        Ok(())
+    }
+
+    /// Answers each line of the script; the last answers may still wait to be written.
+    fn run<M: Machine>(&mut self, alloc: Global) -> Result<Replayed, ReplayFault>
+        requires { progress_of S.left K.taken self.old
+            ≡ first_progress (S.left self.old.source.now) (K.taken self.old.sink.now) }
+        ensures devices { SameDevices self.old self.new }
+        ensures sound { OnOk result (StaySound S.failed K.failed self.old self.new) }
+        ensures runs { Runs M.legal result
+            (S.left self.old.source.now) (K.taken self.old.sink.now)
+            (progress_of S.left K.taken self.new) }
+        ensures read { IfErr result (λ fault. fault ≡ Read
+            → GaveUp (S.failed self.new.source.now) (S.interruptions self.new.source.now)) }
+        ensures write { IfErr result (λ fault. fault ≡ Write
+            → GaveUp (K.failed self.new.sink.now) (K.interruptions self.new.sink.now)) }
+    {
+        let mut machine: M = self.begin(alloc)?;
+        let mut lines: u64 = 1;
+        'lines: while let Some(extent) = self.next_line(lines + 1)? {
+            self.take_line(&mut machine, extent, lines)?;
+            lines += 1;
+        }
+        Ok(Replayed {
+            lines,
+            events: self.answers.events(),
+        })
+    }
+
+    /// Answers the script, and writes the last answers.
+    fn complete<M: Machine>(&mut self, alloc: Global) -> Result<Replayed, ReplayFault>
+        requires { progress_of S.left K.taken self.old
+            ≡ first_progress (S.left self.old.source.now) (K.taken self.old.sink.now) }
+        ensures devices { SameDevices self.old self.new }
+        ensures sound { OnOk result (StaySound S.failed K.failed self.old self.new) }
+        ensures replays { Replays M.legal result
+            (S.left self.old.source.now) (S.left self.new.source.now)
+            (K.taken self.old.sink.now) (K.taken self.new.sink.now) }
+        ensures read { IfErr result (λ fault. fault ≡ Read
+            → GaveUp (S.failed self.new.source.now) (S.interruptions self.new.source.now)) }
+        ensures write { IfErr result (λ fault. fault ≡ Write
+            → GaveUp (K.failed self.new.sink.now) (K.interruptions self.new.sink.now)) }
+    {
+        let ended = self.run::<M>(alloc);
+        if is_write_fault(&ended) {
+            return ended;
+        }
+        self.answers.write_to(self.sink)?;
+        ended
+    }
+}
+
+/// Answers the script that comes from the source into the sink, on a machine, as `replay` does.
+fn replay_on<S: Source, K: Sink, M: Machine>(
+    alloc: Global,
+    source: &mut S,
+    sink: &mut K,
+) -> Result<Replayed, ReplayFault>
+    requires source { S.failed source.old ≡ false }
+    requires sink { K.failed sink.old ≡ false }
+    ensures sound { OnOk result ((S.failed source.new ≡ false) × (K.failed sink.new ≡ false)) }
+    ensures replays { Replays M.legal result (S.left source.old) (S.left source.new)
+        (K.taken sink.old) (K.taken sink.new) }
+    ensures read { IfErr result (λ fault. fault ≡ Read
+        → GaveUp (S.failed source.new) (S.interruptions source.new)) }
+    ensures write { IfErr result (λ fault. fault ≡ Write
+        → GaveUp (K.failed sink.new) (K.interruptions sink.new)) }
+{
+    let mut block = Block::new(alloc)?;
+    let mut answers = Answers::new(alloc)?;
+    Progress::new(source, sink, &mut block, &mut answers).complete::<M>(alloc)
+}
+
+/// Answers the script that comes from the source into the sink, on the firmware and a place per
+/// core.
+///
+/// Where it ends well, or at a script or board fault, exactly the answer text of the script was
+/// written. At a read fault it is the answer text of all whole lines that were read, after which
+/// stands at most the front of a line. At a memory fault it is that of some whole lines at the
+/// front, after which no more was read than one block has room for. None of these lines is at
+/// fault. At a write fault it is a front part of the answer text. A read or write fault is answered
+/// only where that device failed, took none of some bytes, or was interrupted 1,000 times in a row;
+/// where the replay ends well neither device has failed.
+pub fn replay<S: Source, K: Sink>(
+    alloc: Global,
+    source: &mut S,
+    sink: &mut K,
+) -> Result<Replayed, ReplayFault>
+    requires source { S.failed source.old ≡ false }
+    requires sink { K.failed sink.old ≡ false }
+    ensures sound { OnOk result ((S.failed source.new ≡ false) × (K.failed sink.new ≡ false)) }
+    ensures replays { Replays legal result (S.left source.old) (S.left source.new)
+        (K.taken sink.old) (K.taken sink.new) }
+    ensures read { IfErr result (λ fault. fault ≡ Read
+        → GaveUp (S.failed source.new) (S.interruptions source.new)) }
+    ensures write { IfErr result (λ fault. fault ≡ Write
+        → GaveUp (K.failed sink.new) (K.interruptions sink.new)) }
+    ensures places { AnswersAtPlace }
+{
+    law_places();
+    replay_on::<S, K, FirmwareMachine>(alloc, source, sink)
+}
+
+/// Whether a write failed.
+fn is_write_fault(ended: &Result<Replayed, ReplayFault>) -> bool
+    ensures { result ≡ is_write_fault ended.now }
+{
+    matches!(ended, Err(ReplayFault::Write))
+}

@@ -1,0 +1,85 @@
+-- What is no board and no node, and what may not be answered for a text.
+use Rattle.std.proofs.Common.{◌≡◌, ℕ, ◌∷◌, [], refl, ap, arith}
+use Rattle.std.specs.Prelude.{Result, Ok, Err, Some, None, map}
+use Rattle.psci_board.specs.declared.fault.BoardFault.{BoardFault}
+use Rattle.psci_board.specs.declared.fault.BoardFault.TheVariants.{Grammar, Uneven, Memory}
+use Rattle.psci_board.specs.Board.{BoardValue, IsBoard, HasNode, core_at, nodes}
+use Rattle.psci_board.specs.Verdict.{Answers}
+use Rattle.psci_board.proofs.AffinityRows.{board, at}
+use Rattle.psci_board.proofs.SpanRows.{uneven}
+
+-- Boards ----------------------------------------------------------------------------------------
+
+pub no_level : IsBoard (board []) → ⊥
+no_level h = let low = h.low in absurd (omega arith)
+
+pub four_levels :
+    IsBoard (board ((1 ∷ []) ∷ (1 ∷ []) ∷ (1 ∷ []) ∷ (1 ∷ []) ∷ [])) → ⊥
+four_levels h = let high = h.high in absurd (omega arith)
+
+-- two clusters, and a system of three children
+pub levels_apart : IsBoard (board ((2 ∷ 2 ∷ []) ∷ (3 ∷ []) ∷ [])) → ⊥
+levels_apart h = let nodes = h.tree.0 in absurd (omega arith)
+
+pub too_many_cores : IsBoard (board ((16 ∷ 16 ∷ 16 ∷ 16 ∷ 1 ∷ []) ∷ (5 ∷ []) ∷ [])) → ⊥
+too_many_cores h = let few = h.tree.1 in absurd (omega arith)
+
+pub no_life : IsBoard (record uneven { lives = 0 }) → ⊥
+no_life h = let some = h.some_lives in absurd (omega arith)
+
+pub too_many_lives : IsBoard (record uneven { lives = 65536 }) → ⊥
+too_many_lives h = let lives = h.lives in absurd (omega arith)
+
+pub no_start : IsBoard (record uneven { starts = 0 }) → ⊥
+no_start h = let some = h.some_starts in absurd (omega arith)
+
+pub too_many_starts : IsBoard (record uneven { starts = 4294967296 }) → ⊥
+too_many_starts h = let starts = h.starts in absurd (omega arith)
+
+pub boot_outside : IsBoard (record uneven { boot = 0x40100000 }) → ⊥
+boot_outside h = let boot = h.boot in cc
+
+-- Nodes -----------------------------------------------------------------------------------------
+
+pub last_cluster : HasNode uneven (at 1 4)
+last_cluster = record { level = omega arith; place = omega arith }
+
+pub after_the_last_cluster : HasNode uneven (at 1 5) → ⊥
+after_the_last_cluster h = let place = h.place in absurd (omega arith)
+
+pub above_the_system : HasNode uneven (at 4 0) → ⊥
+above_the_system h = let level = h.level in absurd (omega arith)
+
+pub cores_by_number : core_at uneven 0 ∷ core_at uneven 10 ∷ core_at uneven 11 ∷ []
+    ≡ Some (record { number = 0 }) ∷ Some (record { number = 10 }) ∷ None ∷ []
+cores_by_number = refl
+
+pub sizes : map (nodes uneven) (0 ∷ 1 ∷ 2 ∷ 3 ∷ []) ≡ 11 ∷ 5 ∷ 2 ∷ 1 ∷ []
+sizes = refl
+
+-- Answers ---------------------------------------------------------------------------------------
+
+-- out of memory only for a text without a fault, and each fault as it is
+pub memory_for_a_board : Answers (Err Memory) (Ok uneven)
+memory_for_a_board = refl
+
+pub memory_for_a_fault : Answers (Err Memory) (Err Uneven) → ⊥
+memory_for_a_fault h = cc
+
+pub board_for_a_fault : Answers (Ok uneven) (Err Uneven) → ⊥
+board_for_a_fault h = cc
+
+pub another_fault : Answers (Err Grammar) (Err Uneven) → ⊥
+another_fault h = cc
+
+pub another_board : Answers (Ok uneven) (Ok (record uneven { lives = 1 })) → ⊥
+another_board h =
+    let lives : ◌≡◌ {A = ℕ} 1 3 = ap lives_in h in
+    absurd (omega (arith, lives))
+  where
+    lives_in : Result BoardValue BoardFault → ℕ
+    lives_in (Ok b) = b.lives
+    lives_in (Err f) = 0
+
+pub fault_for_a_board : Answers (Err Grammar) (Ok uneven) → ⊥
+fault_for_a_board h = cc

@@ -1,0 +1,132 @@
+-- The parent of a node, and its number among the children of that parent.
+use Rattle.std.proofs.Common.{◌≡◌, ℕ, zero, suc, ◌+◌, ◌-◌, ◌<◌, Bool, true, ltb}
+use Rattle.std.proofs.Common.{length, take, get_or, sum, refl, ap, arith, sub-one, add-one}
+use Rattle.std.proofs.Common.{Some, inl, inr}
+use Rattle.std.specs.Prelude.{◌&&◌}
+use Rattle.std.proofs.lemmas.Bool.{cases_lt}
+use Rattle.std.proofs.lemmas.Bool.Decides.{nat_tests}
+use Rattle.std.proofs.lemmas.List.{get_or_past}
+use Rattle.std.proofs.lemmas.Option.{cond_some}
+use Rattle.psci_board.specs.declared.node.Node.{Node}
+use Rattle.psci_board.specs.Board.{BoardValue, HasNode, IsBoard, group_of, place_in, place_above}
+use Rattle.psci_board.specs.Board.{height, nodes, up, children, children_at, first_child}
+use Rattle.psci_board.specs.Board.{child, parent, child_number}
+use Rattle.psci_board.specs.Laws.{ParentLaws}
+use Rattle.psci_board.proofs.Groups.{Stands, stands_at, counted}
+use Rattle.psci_board.proofs.Levels.{level}
+use Rattle.psci_board.proofs.Paths.{place_above-suc, inside}
+use Rattle.psci_board.proofs.Children.{counts, child_inside}
+
+-- a node of the board that is not the system
+abbrev has_parent : BoardValue → Node → Bool
+has_parent b n = ltb n.level (height b) && ltb n.place (nodes b n.level)
+
+record Below (b : BoardValue) (n : Node) : Type 0 where
+  level : n.level < height b
+  place : n.place < nodes b n.level
+
+yes : (b : BoardValue) (n : Node) → Below b n → has_parent b n ≡ true
+yes b n h = let l = h.level in let p = h.place in grind (arith, nat_tests)
+
+below : (b : BoardValue) (n : Node) → has_parent b n ≡ true → Below b n
+below b n h = record { level = grind (arith, nat_tests); place = grind (arith, nat_tests) }
+
+-- From a node to a child ----------------------------------------------------------------------
+
+-- m is the k-th child of n
+record Step (b : BoardValue) (n m : Node) (k : ℕ) : Type 0 where
+  level : m.level + 1 ≡ n.level
+  below : Below b m
+  stands : Stands (counts b m.level) m.place n.place k
+
+step_at : (b : BoardValue) → IsBoard b → (n m : Node) (k level : ℕ) → n.level ≡ level
+    → k < children_at b level n.place
+    → record { level = level - 1; place = first_child b level n.place + k } ≡ m → Step b n m k
+step_at b h n m k zero e i d = absurd (omega arith)
+step_at b h n m k (suc l) e i d =
+    let here = child_inside b h l n.place k i in
+    let short : n.place < length (counts b l) = elim (cases_lt n.place (length (counts b l))) [
+      | inl x ↦ x
+      | inr x ↦ absurd (let none : get_or (counts b l) n.place 0 ≡ 0 =
+          get_or_past (counts b l) n.place 0 x in omega arith)
+    ] in
+    rw (← d) (record {
+      level = omega arith;
+      below = record { level = omega (arith, here.0); place = rw sub-one here.1 };
+      stands = rw sub-one (stands_at (counts b l) n.place k (first_child b (suc l) n.place + k)
+          short i refl);
+    })
+
+step : (b : BoardValue) → IsBoard b → (n m : Node) (k : ℕ) → child b n k ≡ Some m → Step b n m k
+step b h n m k e =
+    let c = cond_some (ltb k (children b n)) _ m e in
+    step_at b h n m k n.level refl (grind (arith, nat_tests)) c.1
+
+parent_of_child : (b : BoardValue) → IsBoard b → (n m : Node) (k : ℕ) → child b n k ≡ Some m
+    → parent b m ≡ Some n
+parent_of_child b h n m k e =
+    let s = step b h n m k e in
+    rw (yes b m s.below, s.level, s.stands.group) refl
+
+number_of_child : (b : BoardValue) → IsBoard b → (n m : Node) (k : ℕ) → child b n k ≡ Some m
+    → child_number b m ≡ Some k
+number_of_child b h n m k e =
+    let s = step b h n m k e in
+    rw (yes b m s.below, s.stands.place) refl
+
+-- From a node to its parent -------------------------------------------------------------------
+
+child_at_parent : (b : BoardValue) → IsBoard b → (l q p k level : ℕ) → suc l ≡ level
+    → group_of (counts b l) q ≡ p → place_in (counts b l) q ≡ k → l < height b → q < nodes b l
+    → child b (record { level = level; place = p }) k ≡ Some (record { level = l; place = q })
+child_at_parent b h l q p k high e f g i j =
+    let size = (level b.levels l h.tree i).size in
+    let c = counted (counts b l) q (omega (arith, size)) in
+    let some : ltb k (get_or (counts b l) p 0) ≡ true =
+    let x : k < get_or (counts b l) p 0 = rw (← f, ← g) c.place in grind (arith, nat_tests) in
+    let whole : sum (take p (counts b l)) + k ≡ q = rw (← f, ← g) c.whole in
+    rw (← e, some, sub-one, whole) refl
+
+child_of_parent : (b : BoardValue) → IsBoard b → (n m : Node) (k : ℕ) → parent b m ≡ Some n
+    → child_number b m ≡ Some k → child b n k ≡ Some m
+child_of_parent b h n m k e d =
+    let c = cond_some (has_parent b m) _ n e in
+    let g = cond_some (has_parent b m) _ k d in
+    let here = below b m c.0 in
+    let level : m.level + 1 ≡ n.level = ap (λ x. x.level) c.1 in
+    let place : group_of (counts b m.level) m.place ≡ n.place = ap (λ x. x.place) c.1 in
+    child_at_parent b h m.level m.place n.place k n.level (omega arith) place g.1 here.level
+    here.place
+
+parent_node : (b : BoardValue) → IsBoard b → (n m : Node) → parent b m ≡ Some n → HasNode b n
+parent_node b h n m e =
+    let c = cond_some (has_parent b m) _ n e in
+    let here = below b m c.0 in
+    let at = level b.levels m.level h.tree here.level in
+    let group = (counted (counts b m.level) m.place (omega (arith, at.size, here.place))).group in
+    rw (← c.1) (record {
+      level = omega (arith, here.level);
+      place =
+          rw add-one (omega (arith, at.above, group));
+    })
+
+pub parent_laws : (b : BoardValue) → IsBoard b → ParentLaws b
+unfolding up
+parent_laws b h = record {
+  of_child = parent_of_child b h;
+  number = number_of_child b h;
+  child = child_of_parent b h;
+  numbered = λ n m e.
+      let c = cond_some (has_parent b m) _ n e in
+      (place_in (counts b m.level) m.place, rw c.0 refl);
+  node = parent_node b h;
+  some_parent = λ m i l. (
+    record { level = m.level + 1; place = group_of (counts b m.level) m.place },
+    rw (yes b m (record { level = l; place = i.place })) refl,
+  );
+  path = λ c l k m.
+      let at = inside b.levels l c h.tree k (omega arith) in
+      let node : Node = record { level = l; place = place_above b.levels l c } in
+      rw (yes b node (record { level = m; place = at }), add-one, place_above-suc b.levels l c m)
+      refl;
+}

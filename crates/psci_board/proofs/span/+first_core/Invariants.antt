@@ -1,0 +1,5 @@
+use Rattle.std.proofs.Common.{length}
+use Rattle.psci_board.proofs.span.+first_core.Given as goal
+
+abbrev pub decreases-first_core : goal.decreases-first_core
+decreases-first_core l = length l.levels.now

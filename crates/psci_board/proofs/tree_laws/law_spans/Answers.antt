@@ -1,0 +1,5 @@
+use Rattle.psci_board.proofs.Spans.{span_laws}
+use Rattle.psci_board.proofs.tree_laws.law_spans.Goals as goal
+
+pub returns : goal.returns
+returns c = span_laws

@@ -1,0 +1,16 @@
+//! How large a board may be.
+
+/// How many levels stand above the cores, at most.
+pub const MOST_LEVELS: usize = 3;
+
+/// How many children a node has, at most.
+pub const MOST_CHILDREN: usize = 16;
+
+/// How many cores a board has, at most.
+pub const MOST_CORES: usize = 64;
+
+/// How many ranges of executable memory a board has, at most.
+pub const MOST_RANGES: usize = 4;
+
+/// How many lives a board has, at most.
+pub const MOST_LIVES: u32 = 65_535;

@@ -1,0 +1,147 @@
+-- A claim is made going up, one level after another.
+use Rattle.std.proofs.Common.{◌≡◌, ℕ, zero, suc, ◌+◌, ◌-◌, ◌<◌, ◌≤◌, List, [], ◌∷◌, ◌++◌, length}
+use Rattle.std.proofs.Common.{◌≢◌, refl, sym, ap, arith, ◌∙◌, append_assoc, append-nil}
+use Rattle.std.proofs.Common.{length-append}
+use Rattle.std.proofs.Common.{map, Some, inl, inr}
+use Rattle.std.specs.Prelude.{slice_get}
+use Rattle.std.specs.List.{range_with_len}
+use Rattle.std.proofs.Math.Nat.{eq-zero-or-pos}
+use Rattle.std.proofs.lemmas.Bool.{lt-ltb}
+use Rattle.psci_board.specs.Board.{BoardValue, height}
+use Rattle.psci_coord.specs.declared.part.Part.{Part}
+use Rattle.psci_coord.specs.View.{PowerView, domain_of, generation}
+use Rattle.psci_coord.specs.Claim.{climb, claim_of}
+
+-- a part that is wanted comes first
+pub climb-more : (wanted generation_at : ℕ → ℕ) (level count : ℕ) → 0 < wanted level
+    → climb wanted generation_at level (suc count)
+    ≡ record { level = level; depth = wanted level; generation = generation_at level }
+    ∷ climb wanted generation_at (level + 1) count
+climb-more wanted generation_at level count h = rw (lt-ltb 0 (wanted level) h) refl
+
+-- where none is wanted the claim ends
+pub climb-ends : (wanted generation_at : ℕ → ℕ) (level count : ℕ) → wanted level ≡ 0
+    → climb wanted generation_at level count ≡ []
+climb-ends wanted generation_at level zero e = refl
+climb-ends wanted generation_at level (suc count) e = rw e refl
+
+-- the parts of the levels below this one, of a claim that goes on there
+pub record IsClimbedTo (b : BoardValue) (v : PowerView) (core : ℕ) (wanted : ℕ → ℕ) (level : ℕ)
+    (parts : List Part) : Type 0 where
+  pub count : length parts ≡ level
+  pub rest : parts ++ climb wanted (λ l. generation b v (domain_of b core l)) level
+      (height b + 1 - level)
+      ≡ claim_of b v core wanted
+
+pub climbed-none : (b : BoardValue) (v : PowerView) (core : ℕ) (wanted : ℕ → ℕ)
+    → IsClimbedTo b v core wanted 0 []
+unfolding claim_of
+climbed-none b v core wanted =
+    let all : height b + 1 - 0 ≡ height b + 1 = omega arith in
+    record { count = refl; rest = rw all refl }
+
+pub climbed-more : (b : BoardValue) (v : PowerView) (core : ℕ) (wanted : ℕ → ℕ) (level : ℕ)
+    (parts : List Part) (part : Part) → IsClimbedTo b v core wanted level parts
+    → level < height b + 1 → part.level ≡ level → part.depth ≡ wanted level
+    → part.generation ≡ generation b v (domain_of b core level) → part.depth ≢ 0
+    → IsClimbedTo b v core wanted (level + 1) (parts ++ part ∷ [])
+climbed-more b v core wanted level parts part c h l d g some =
+    let left : ℕ = height b + 1 - (level + 1) in
+    let one : height b + 1 - level ≡ suc left = omega arith in
+    let gs : ℕ → ℕ = λ m. generation b v (domain_of b core m) in
+    let wished : 0 < wanted level = omega (arith, d, some) in
+    let same : record { level = level; depth = wanted level; generation = gs level } ≡ part =
+    rw (l, d, g) refl in
+    let next : climb wanted gs level (height b + 1 - level)
+    ≡ part ∷ climb wanted gs (level + 1) left =
+    ap (climb wanted gs level) one ∙ climb-more wanted gs level left wished
+    ∙ ap (λ p. p ∷ climb wanted gs (level + 1) left) same in
+    record {
+      count = omega (arith, length-append parts (part ∷ []), c.count);
+      rest = append_assoc parts (part ∷ []) (climb wanted gs (level + 1) left)
+          ∙ sym (ap (λ xs. parts ++ xs) next) ∙ c.rest;
+    }
+
+-- all is claimed where nothing more is wanted, and above the system
+pub climbed-ends : (b : BoardValue) (v : PowerView) (core : ℕ) (wanted : ℕ → ℕ) (level : ℕ)
+    (parts : List Part) → IsClimbedTo b v core wanted level parts → wanted level ≡ 0
+    → parts ≡ claim_of b v core wanted
+climbed-ends b v core wanted level parts c none =
+    let gs : ℕ → ℕ = λ m. generation b v (domain_of b core m) in
+    sym (ap (λ xs. parts ++ xs) (climb-ends wanted gs level (height b + 1 - level) none)
+    ∙ append-nil parts) ∙ c.rest
+
+pub climbed-all : (b : BoardValue) (v : PowerView) (core : ℕ) (wanted : ℕ → ℕ) (level : ℕ)
+    (parts : List Part) → IsClimbedTo b v core wanted level parts → height b + 1 ≤ level
+    → parts ≡ claim_of b v core wanted
+climbed-all b v core wanted level parts c h =
+    let gs : ℕ → ℕ = λ m. generation b v (domain_of b core m) in
+    let none : height b + 1 - level ≡ 0 = omega arith in
+    sym (ap (λ xs. parts ++ xs) (ap (climb wanted gs level) none) ∙ append-nil parts) ∙ c.rest
+
+-- Laws of a climb -----------------------------------------------------------------------------
+
+pub climb-levels : (wanted gs : ℕ → ℕ) (level count : ℕ)
+    → map (λ p. p.level) (climb wanted gs level count)
+    ≡ range_with_len level (length (climb wanted gs level count))
+climb-levels wanted gs level zero = refl
+climb-levels wanted gs level (suc count) = elim (eq-zero-or-pos (wanted level)) [
+  | inl none ↦ rw none refl
+  | inr some ↦ rw (lt-ltb 0 (wanted level) some, climb-levels wanted gs (level + 1) count) refl
+]
+
+pub climb-few : (wanted gs : ℕ → ℕ) (level count : ℕ)
+    → length (climb wanted gs level count) ≤ count
+climb-few wanted gs level zero = omega arith
+climb-few wanted gs level (suc count) = elim (eq-zero-or-pos (wanted level)) [
+  | inl none ↦ rw none (omega arith)
+  | inr some ↦ rw (lt-ltb 0 (wanted level) some)
+      (omega (arith, climb-few wanted gs (level + 1) count))
+]
+
+-- what is said of the part of a level
+pub record IsPartAt (wanted gs : ℕ → ℕ) (m : ℕ) (p : Part) : Type 0 where
+  pub level : p.level ≡ m
+  pub depth : p.depth ≡ wanted m
+  pub generation : p.generation ≡ gs m
+  pub some : 0 < p.depth
+
+climb-first : (wanted gs : ℕ → ℕ) (m : ℕ) (p q : Part) → 0 < wanted m
+    → q ≡ record { level = m; depth = wanted m; generation = gs m } → Some q ≡ Some p
+    → IsPartAt wanted gs m p
+climb-first wanted gs m p q h e same =
+    let is : p ≡ record { level = m; depth = wanted m; generation = gs m } = cc (e, same) in
+    rw is (record { level = refl; depth = refl; generation = refl; some = h })
+
+-- the part at a place of a climb
+pub climb-part : (wanted gs : ℕ → ℕ) (level count k m : ℕ) (p : Part) → m ≡ level + k
+    → slice_get (climb wanted gs level count) k ≡ Some p → IsPartAt wanted gs m p
+climb-part wanted gs level zero k m p at e = cc e
+climb-part wanted gs level (suc count) zero m p at e = elim (eq-zero-or-pos (wanted level)) [
+  | inl none ↦ let nothing = rw none at e in cc nothing
+  | inr some ↦
+      let first = rw (lt-ltb 0 (wanted level) some) at e in
+      let same : m ≡ level = omega arith in
+      rw same (climb-first wanted gs level p _ some refl first)
+]
+climb-part wanted gs level (suc count) (suc k) m p at e = elim (eq-zero-or-pos (wanted level)) [
+  | inl none ↦ let nothing = rw none at e in cc nothing
+  | inr some ↦
+      let rest = rw (lt-ltb 0 (wanted level) some) at e in
+      climb-part wanted gs (level + 1) count k m p (omega arith) rest
+]
+
+-- a climb that ends early ends where none is wanted
+pub climb-ends-at : (wanted gs : ℕ → ℕ) (level count m : ℕ)
+    → m ≡ level + length (climb wanted gs level count)
+    → length (climb wanted gs level count) < count → wanted m ≡ 0
+climb-ends-at wanted gs level zero m at h = absurd (omega arith)
+climb-ends-at wanted gs level (suc count) m at h = elim (eq-zero-or-pos (wanted level)) [
+  | inl none ↦
+      let same : m ≡ level = omega (arith, rw none at at) in
+      rw same none
+  | inr some ↦
+      let more = rw (lt-ltb 0 (wanted level) some) at at in
+      let left = rw (lt-ltb 0 (wanted level) some) at h in
+      climb-ends-at wanted gs (level + 1) count m (omega arith) (omega arith)
+]

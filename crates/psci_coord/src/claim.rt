@@ -1,0 +1,82 @@
+//! The parts that a core sends when it stops.
+
+ghost use Rattle.std.specs.Prelude.{◌≡◌, ◌<◌};
+ghost use Rattle.psci_board.specs.Board.{cores};
+ghost use Rattle.psci_tree.specs.Recount.{HasDomain};
+ghost use Rattle.psci_coord.specs.Claim.{claim_of, platform_claim, own_claim};
+ghost use Rattle.psci_coord.specs.Wish.{depth_of, wanted};
+ghost use Rattle.psci_coord.specs.Looked.{view_of};
+
+use crate::part::Part;
+use crate::parts::Parts;
+use psci_board::{Board, Core, Node, law_paths};
+use psci_state::Ask;
+use psci_tree::Tree;
+
+/// The depth that a core that stops wants of the domains on its path.
+#[derive(Drop)]
+enum Wish {
+    /// The least ask of all cores below the domain.
+    Least,
+    /// What the core itself asks.
+    Own(Ask),
+}
+
+impl Wish {
+    /// The depth that is wanted of a domain.
+    fn depth(&self, tree: &Tree, node: Node) -> u8
+        requires { HasDomain tree.now.levels node }
+        ensures { result ≡ depth_of tree.now node self.now }
+    {
+        match self {
+            Wish::Least => tree.low(node, node.level),
+            Wish::Own(ask) => ask.depth(node.level),
+        }
+    }
+}
+
+/// The parts that a core sends when it stops in platform-coordinated mode, once the tree has it
+/// suspended or off: a part for each domain on its path, with the least ask of the cores below, as
+/// long as this is 1 at least.
+pub fn claims(tree: &Tree, board: &Board, core: Core) -> Parts
+    requires board { tree.now.levels ≡ board.now.levels }
+    requires core { core.number < cores board.now }
+    ensures { result ≡ platform_claim board.now (view_of tree.now) core.number }
+{
+    climb(tree, board, core, &Wish::Least)
+}
+
+/// The parts that a core sends when it goes to the state that it asks for: a part for each domain
+/// on its path, with its own ask, as long as this is 1 at least.
+pub fn own_parts(tree: &Tree, board: &Board, core: Core, ask: Ask) -> Parts
+    requires board { tree.now.levels ≡ board.now.levels }
+    requires core { core.number < cores board.now }
+    ensures { result ≡ own_claim board.now (view_of tree.now) core.number ask }
+{
+    climb(tree, board, core, &Wish::Own(ask))
+}
+
+/// Up the path of a core, a part for each domain, as long as a depth of at least 1 is wanted.
+fn climb(tree: &Tree, board: &Board, core: Core, wish: &Wish) -> Parts
+    requires board { tree.now.levels ≡ board.now.levels }
+    requires core { core.number < cores board.now }
+    ensures { result ≡ claim_of board.now (view_of tree.now) core.number
+        (wanted board.now (view_of tree.now) core.number wish.now) }
+{
+    law_paths();
+    let path = board.path(core);
+    let mut parts = Parts::new();
+    for level in 0..board.height() + 1 {
+        let node = path[level as usize];
+        let depth = wish.depth(tree, node);
+        if depth == 0 {
+            break;
+        }
+        parts.push(Part {
+            level,
+            depth,
+            generation: tree.known(node),
+        });
+    }
+    parts
+}

@@ -1,0 +1,26 @@
+use Rattle.std.proofs.Common.{◌≡◌, ◌+◌, ◌-◌, ◌≤◌, Some, None, sym, ◌∙◌, arith}
+use Rattle.psci_board.specs.Board.{cores, cores_below}
+use Rattle.psci_fw.proofs.Spanned.{ends_inside, status_none, status_some}
+use Rattle.psci_fw.proofs.firmware.Firmware.node_status.Goals as goal
+
+pub slice_bounds-status_of_all-end : goal.slice_bounds-status_of_all-end
+slice_bounds-status_of_all-end c =
+    let laws = c.law_spans.ensures c.self.inside.board.levels c.cores-cores.ensures.board.tree in
+    let inside : c.in-Some.span.first + c.in-Some.span.count ≤ cores c.self.inside.board =
+    ends_inside c.self.inside.board c.args.node c.in-Some.span laws
+    (sym c.cores_below.ensures ∙ c.in-Some.is) in
+    omega (arith, c.deref.ensures.len, c.self.invariant.rows)
+
+pub returns-in-Some : goal.returns-in-Some
+returns-in-Some c =
+    let laws = c.law_spans.ensures c.self.inside.board.levels c.cores-cores.ensures.board.tree in
+    let count : c.in-Some.span.first + c.in-Some.span.count - c.in-Some.span.first
+    ≡ c.in-Some.span.count = omega arith in
+    c.status_of_all.ensures ∙ rw (count, c.deref.ensures.value, ← c.self.view_is)
+    (status_some c.self.inside.board c.self.inside.rows.items c.self.inside.life c.args.node
+    c.in-Some.span laws c.self.invariant.rows (sym c.cores_below.ensures ∙ c.in-Some.is))
+
+pub returns-in-None : goal.returns-in-None
+returns-in-None c =
+    rw (← c.self.view_is)
+    (status_none c.self.inside.board _ c.args.node (sym c.cores_below.ensures ∙ c.in-None.is))

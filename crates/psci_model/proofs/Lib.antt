@@ -1,0 +1,15 @@
+mod CallSays
+mod Callers
+mod CpuOnRows
+mod EffectRows
+mod EnterSays
+mod Follows
+mod LegalRows
+mod OneMore
+mod ParkRows
+mod RefusalRows
+mod SameReplies
+mod StatusRows
+mod Steps
+mod Targets
+mod ValueRows

@@ -1,0 +1,41 @@
+-- What a core is answered that calls a function, and why it may not call.
+use Rattle.std.specs.Prelude.{ℕ, pos, not, ◌==◌, nat_lt, if◌then◌else◌, Option, None, Some}
+use Rattle.psci_abi.specs.Calls.{features_of}
+use Rattle.psci_abi.specs.Codes.{not_supported}
+use Rattle.psci_abi.specs.declared.code.Code.{Code}
+use Rattle.psci_abi.specs.declared.request.Request.{Request}
+use Rattle.psci_abi.specs.declared.request.Request.TheVariants as requests
+use Rattle.psci_board.specs.Board.{BoardValue, cores}
+use Rattle.psci_model.specs.declared.fault.FwFault.{FwFault}
+use Rattle.psci_model.specs.declared.fault.FwFault.TheVariants.{NoCore, NoLife, NotRunning}
+use Rattle.psci_model.specs.declared.outcome.Outcome.{Outcome}
+use Rattle.psci_model.specs.AffinityInfo.{affinity_info}
+use Rattle.psci_model.specs.CpuOn.{cpu_on}
+use Rattle.psci_model.specs.Outcomes.{returns}
+use Rattle.psci_model.specs.Phases.{is_running}
+use Rattle.psci_model.specs.Values.{Values}
+
+-- PSCI 1.1: the major version in bits 31:16, the minor one in bits 15:0 (DEN0022D, PSCI_VERSION)
+abbrev pub version : Code
+version = record { 0 = pos 0x10001 }
+
+-- the Trusted OS needs no migration, or there is none (DEN0022D, MIGRATE_INFO_TYPE)
+abbrev pub no_migration : Code
+no_migration = record { 0 = pos 2 }
+
+-- why a core may not call: it is not there, no core has entered yet, or it is not running
+abbrev pub call_fault : BoardValue → Values → ℕ → Option FwFault
+call_fault b v caller =
+    if not (nat_lt caller (cores b)) then Some NoCore
+    else (if v.life == 0 then Some NoLife
+    else (if is_running (v.phase caller) then None else Some NotRunning))
+
+-- what a running core is answered to its request
+abbrev pub outcome_of : BoardValue → Values → ℕ → Request → Outcome
+outcome_of b v caller requests.Version = returns version
+outcome_of b v caller (requests.CpuOn target entry_point context) = cpu_on b v target entry_point
+outcome_of b v caller (requests.AffinityInfo target level) =
+    returns (affinity_info b v target level)
+outcome_of b v caller requests.MigrateInfoType = returns no_migration
+outcome_of b v caller (requests.Features word) = returns (record { 0 = features_of word })
+outcome_of b v caller requests.Unknown = returns not_supported

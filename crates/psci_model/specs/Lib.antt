@@ -1,0 +1,17 @@
+pub mod AffinityInfo
+pub mod Answer
+pub mod Calls
+pub mod Changes
+pub mod CpuOn
+pub mod Effects
+pub mod Entering
+pub mod Entry
+pub mod History
+pub mod Invariant
+pub mod Legal
+pub mod Lives
+pub mod Outcomes
+pub mod Phases
+pub mod Said
+pub mod Same
+pub mod Values

@@ -1,0 +1,35 @@
+-- The start of a life.
+use Rattle.std.specs.Prelude.{ℕ, ◌==◌, if◌then◌else◌, Option, None, Some}
+use Rattle.psci_board.specs.Board.{BoardValue}
+use Rattle.psci_model.specs.declared.opening.Opening.{Opening}
+use Rattle.psci_model.specs.declared.phase.Phase.{Phase}
+use Rattle.psci_model.specs.declared.phase.Phase.TheVariants as phases
+use Rattle.psci_model.specs.declared.status.Status.{Status}
+use Rattle.psci_model.specs.declared.status.Status.TheVariants as statuses
+use Rattle.psci_model.specs.Values.{Values}
+
+-- the boot core is ON_PENDING, every other core is OFF (DEN0022D, the primary core of a cold boot)
+abbrev pub first_status : ℕ → Status
+first_status c = if c == 0 then statuses.Pending else statuses.Off
+
+-- the boot core is on its way, every other core is away
+abbrev pub first_phase : ℕ → Phase
+first_phase c = if c == 0 then phases.Pending else phases.Away
+
+-- the boot core enters at the board's boot address, with context id 0
+abbrev pub first_opening : BoardValue → ℕ → Option Opening
+first_opening b c = if c == 0 then Some (record { address = b.boot; context = 0 }) else None
+
+-- the values at the start of a life; before any core has entered the same, of life 0
+abbrev pub start_of_life : BoardValue → ℕ → Values
+start_of_life b life = record {
+  life = life;
+  known = λ c. 0;
+  status = first_status;
+  phase = first_phase;
+  opening = first_opening b;
+}
+
+-- what a core finds that enters in this life: a life that is not the firmware's begins
+abbrev pub in_life : BoardValue → ℕ → Values → Values
+in_life b life v = if life == v.life then v else start_of_life b life

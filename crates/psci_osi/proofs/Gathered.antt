@@ -1,0 +1,116 @@
+-- Shallow domains are gathered child by child, and level by level.
+use Rattle.std.proofs.Common.{◌≡◌, ℕ, ◌+◌, ◌-◌, ◌<◌, ◌≤◌, List, [], ◌∷◌, ◌++◌, refl, ap, sym, ◌∙◌}
+use Rattle.std.proofs.Common.{arith, map, Some, zero, suc, append-nil}
+use Rattle.std.specs.Prelude.{Option, flat_map, slice_index, slice_index_or}
+use Rattle.std.proofs.lemmas.Option.{get_or_from_slice_get}
+use Rattle.std.specs.List.{range_with_len}
+use Rattle.std.proofs.lemmas.Bool.{lt-ltb}
+use Rattle.std.proofs.lemmas.List.FromFn.{map-range_with_len_more}
+use Rattle.std.proofs.lemmas.List.Elements.{filter-append}
+use Rattle.std.proofs.lemmas.Grind.{flat_map-append}
+use Rattle.std.proofs.lemmas.List.Concat.{flat_map-cons}
+use Rattle.psci_board.specs.declared.node.Node.{Node}
+use Rattle.psci_board.specs.Board.{BoardValue, up, child, children, first_child, height, path}
+use Rattle.psci_board.specs.Laws.{PathLaws}
+use Rattle.psci_coord.specs.declared.osi.Osi.{Osi}
+use Rattle.psci_coord.specs.View.{PowerView, domain_of}
+use Rattle.psci_coord.specs.Claim.{own_wish}
+use Rattle.psci_coord.specs.LastCore.{refusal, granted_less, beside, children_of, shallow_at}
+use Rattle.psci_osi.specs.Worse.{worse}
+use Rattle.psci_osi.proofs.Refusals.{refusal-append}
+
+-- Child by child ---------------------------------------------------------------------------------
+
+-- so many children of a domain, from left to right
+abbrev pub first_children : BoardValue → Node → ℕ → List Node
+first_children b n count =
+    map (λ place. record { level = n.level - 1; place = place })
+    (range_with_len (first_child b n.level n.place) count)
+
+pub first_children-more : (b : BoardValue) (n m : Node) (count : ℕ) → count < children b n
+    → child b n count ≡ Some m
+    → first_children b n (count + 1) ≡ first_children b n count ++ m ∷ []
+first_children-more b n m count h e =
+    let first : ℕ = first_child b n.level n.place in
+    let here : child b n count ≡ Some (record { level = n.level - 1; place = first + count }) =
+    rw (lt-ltb count (children b n) h) refl in
+    let same : record { level = n.level - 1; place = first + count } ≡ m = cc (sym here ∙ e) in
+    map-range_with_len_more (λ place. record { level = n.level - 1; place = place }) first count
+    (first + count) refl
+    ∙ ap (λ x. first_children b n count ++ x ∷ []) same
+
+pub child-refusal-more : (b : BoardValue) (v : PowerView) (depth own : ℕ) (n m : Node) (count : ℕ)
+    (fault : Option Osi) → count < children b n → child b n count ≡ Some m
+    → fault ≡ refusal b v (granted_less v depth (beside own (first_children b n count)))
+    → worse fault (refusal b v (granted_less v depth (beside own (m ∷ []))))
+    ≡ refusal b v (granted_less v depth (beside own (first_children b n (count + 1))))
+child-refusal-more b v depth own n m count fault h e so =
+    let before : List Node = first_children b n count in
+    let all : granted_less v depth (beside own (first_children b n (count + 1)))
+    ≡ granted_less v depth (beside own before) ++ granted_less v depth (beside own (m ∷ [])) =
+    ap (λ ns. granted_less v depth (beside own ns)) (first_children-more b n m count h e)
+    ∙ ap (granted_less v depth) (filter-append _ before (m ∷ []))
+    ∙ filter-append _ (beside own before) (beside own (m ∷ [])) in
+    ap (λ f. worse f (refusal b v (granted_less v depth (beside own (m ∷ []))))) so
+    ∙ sym (refusal-append b v (granted_less v depth (beside own before))
+    (granted_less v depth (beside own (m ∷ []))))
+    ∙ ap (refusal b v) (sym all)
+
+-- Level by level ---------------------------------------------------------------------------------
+
+-- one number more
+range-next : (a n : ℕ) → range_with_len a (suc n) ≡ range_with_len a n ++ (a + n) ∷ []
+range-next a zero = let same : a + 0 ≡ a = omega arith in rw same refl
+range-next a (suc n) =
+    let at : a + suc n ≡ a + 1 + n = omega arith in
+    rw at (ap (λ xs. a ∷ xs) (range-next (a + 1) n))
+
+range-more : (a n next : ℕ) → next ≡ a + n
+    → range_with_len a (n + 1) ≡ range_with_len a n ++ next ∷ []
+range-more a n next e =
+    let more : n + 1 ≡ suc n = omega arith in
+    rw (more, e) (range-next a n)
+
+-- the shallow domains of an ask at so many levels from 1 up
+abbrev pub shallow_to : BoardValue → PowerView → ℕ → List ℕ → ℕ → List Node
+shallow_to b v core ask count = flat_map (shallow_at b v core ask) (range_with_len 1 count)
+
+pub level-refusal-more : (b : BoardValue) (v : PowerView) (core : ℕ) (ask : List ℕ) (level : ℕ)
+    (fault : Option Osi) → fault ≡ refusal b v (shallow_to b v core ask level)
+    → worse fault (refusal b v (granted_less v (own_wish ask (level + 1))
+    (beside (up b level core) (children_of b (domain_of b core (level + 1))))))
+    ≡ refusal b v (shallow_to b v core ask (level + 1))
+unfolding shallow_at
+level-refusal-more b v core ask level fault so =
+    let here : List Node = granted_less v (own_wish ask (level + 1))
+    (beside (up b level core) (children_of b (domain_of b core (level + 1)))) in
+    let below : level + 1 - 1 ≡ level = omega arith in
+    let is : shallow_at b v core ask (level + 1) ≡ here = rw below refl in
+    let numbers : range_with_len 1 (level + 1) ≡ range_with_len 1 level ++ (level + 1) ∷ [] =
+    range-more 1 level (level + 1) (omega arith) in
+    let all : shallow_to b v core ask (level + 1) ≡ shallow_to b v core ask level ++ here =
+    ap (flat_map (shallow_at b v core ask)) numbers
+    ∙ flat_map-append (shallow_at b v core ask) (range_with_len 1 level) ((level + 1) ∷ [])
+    ∙ ap (λ ns. shallow_to b v core ask level ++ ns)
+    (flat_map-cons (shallow_at b v core ask) (level + 1) [] ∙ append-nil _ ∙ is) in
+    ap (λ f. worse f (refusal b v here)) so
+    ∙ sym (refusal-append b v (shallow_to b v core ask level) here)
+    ∙ ap (refusal b v) (sym all)
+
+-- the node of a level on a core's path
+pub path-at : (b : BoardValue) (core level : ℕ) (nodes : List Node) (n : Node) → PathLaws b
+    → nodes ≡ path b core → level ≤ height b → slice_index_or nodes level n ≡ domain_of b core level
+path-at b core level nodes n laws e h =
+    ap (λ ns. slice_index_or ns level n) e
+    ∙ get_or_from_slice_get (path b core) level (domain_of b core level) n (laws.node core level h)
+
+-- one level more, by the nodes of a path
+pub path-refusal-more : (b : BoardValue) (v : PowerView) (core : ℕ) (ask : List ℕ) (level : ℕ)
+    (fault here : Option Osi) (own above : Node) (depth : ℕ)
+    → own ≡ domain_of b core level → above ≡ domain_of b core (level + 1)
+    → depth ≡ slice_index ask (level + 1)
+    → here ≡ refusal b v (granted_less v depth (beside own.place (children_of b above)))
+    → fault ≡ refusal b v (shallow_to b v core ask level)
+    → worse fault here ≡ refusal b v (shallow_to b v core ask (level + 1))
+path-refusal-more b v core ask level fault here own above depth o a d e so =
+    ap (worse fault) (e ∙ rw (o, a, d) refl) ∙ level-refusal-more b v core ask level fault so

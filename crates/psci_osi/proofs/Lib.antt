@@ -1,0 +1,4 @@
+mod Climbs
+mod Counts
+mod Gathered
+mod Refusals

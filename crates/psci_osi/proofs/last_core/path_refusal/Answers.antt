@@ -1,0 +1,41 @@
+-- Each level adds the reason of its shallow domains.
+use Rattle.std.proofs.Common.{◌≡◌, ◌∙◌, ◌+◌, ℕ, ap, refl, arith}
+use Rattle.psci_board.specs.Board.{height}
+use Rattle.psci_coord.specs.Looked.{view_of}
+use Rattle.psci_coord.specs.LastCore.{refusal, shallow}
+use Rattle.psci_osi.proofs.Gathered.{shallow_to, path-at, path-refusal-more}
+use Rattle.psci_osi.proofs.last_core.path_refusal.Goals as goal
+
+pub loop-level-init : goal.loop-level-init
+unfolding refusal
+loop-level-init c = refl
+
+pub loop-level-preserved : goal.loop-level-preserved
+loop-level-preserved c =
+    let core : ℕ = c.args.core.number in
+    let level : ℕ = c.loop-level.level in
+    let laws = c.law_paths.ensures c.args.board.now c.height-level-end.ensures.board in
+    c.worse-fault.ensures
+    ∙ path-refusal-more c.args.board.now (view_of c.args.tree.now) core c.args.ask level
+    c.loop-level.fault c.level_refusal-here.result _ _ c.depth.result
+    (path-at c.args.board.now core level c.deref.result.now (record { level = 0; place = 0 }) laws
+    (c.deref.ensures.0 ∙ c.path-path.ensures)
+    (omega (arith, c.loop-level-test.true, c.height-level-end.ensures.height)))
+    (path-at c.args.board.now core (level + 1) c.deref-in-loop-level.result.now
+    (record { level = 0; place = 0 }) laws (c.deref-in-loop-level.ensures.0 ∙ c.path-path.ensures)
+    (omega (arith, c.loop-level-test.true, c.height-level-end.ensures.height)))
+    c.depth.ensures.value c.level_refusal-here.ensures c.loop-level.invariant
+
+pub returns : goal.returns
+unfolding shallow
+returns c =
+    let all : c.loop-level.level ≡ height c.args.board.now =
+    omega (
+      arith,
+      c.loop-level-test.false,
+      c.height-level-end.ensures.height,
+      c.loop-level.auto.level-end,
+    ) in
+    c.loop-level.invariant
+    ∙ ap (λ n. refusal c.args.board.now (view_of c.args.tree.now)
+    (shallow_to c.args.board.now (view_of c.args.tree.now) c.args.core.number c.args.ask n)) all

@@ -1,0 +1,142 @@
+-- What may be granted on an uneven board of height 3, and what holds of every tree: for each clause
+-- one case that keeps it, and one that breaks it and no other.
+use Rattle.std.proofs.Common.{◌≡◌, ℕ, zero, suc, ◌+◌, ◌-◌, ◌<◌, ◌≤◌, List, [], ◌∷◌, length, arith}
+use Rattle.std.proofs.Common.{refl, ap}
+use Rattle.psci_board.specs.declared.node.Node.{Node}
+use Rattle.psci_board.specs.Board.{place_above}
+use Rattle.psci_tree.specs.declared.state.Activity.TheVariants.{Suspended}
+use Rattle.psci_tree.specs.Recount.{TreeValue, IsDomainTree, granted_at, never_started}
+use Rattle.psci_tree.specs.Changes.{MayGrant}
+use Rattle.psci_tree.proofs.UnevenRows.{uneven, node}
+
+-- this much granted, and every core off
+abbrev granting : List ℕ → List ℕ → List ℕ → ℕ → TreeValue
+granting cores clusters groups system = record {
+  levels = uneven;
+  cores = never_started ∷ never_started ∷ never_started ∷ never_started ∷ [];
+  granted = cores ∷ clusters ∷ groups ∷ (system ∷ []) ∷ [];
+}
+
+abbrev tree : TreeValue
+tree = granting (3 ∷ 2 ∷ 3 ∷ 0 ∷ []) (3 ∷ 2 ∷ 0 ∷ []) (1 ∷ 0 ∷ []) 0
+
+-- what a fact about a core says at each of the four cores
+four : (P : ℕ → Type 0) → P 0 → P 1 → P 2 → P 3 → (c : ℕ) → c < 4 → P c
+four P a b c d zero h = a
+four P a b c d (suc zero) h = b
+four P a b c d (suc (suc zero)) h = c
+four P a b c d (suc (suc (suc zero))) h = d
+four P a b c d (suc (suc (suc (suc k)))) h = absurd (omega arith)
+
+-- A depth that may be granted ----------------------------------------------------------------
+
+-- no child of the core's domain below this core is granted less
+abbrev ChildOk : TreeValue → Node → ℕ → ℕ → Type 0
+ChildOk t n depth c = place_above uneven n.level c ≡ n.place
+    → depth ≤ granted_at t (n.level - 1) (place_above uneven (n.level - 1) c)
+
+abbrev ParentOk : TreeValue → Node → ℕ → ℕ → Type 0
+ParentOk t n depth c = place_above uneven n.level c ≡ n.place
+    → granted_at t (n.level + 1) (place_above uneven (n.level + 1) c) ≤ depth
+
+-- depth 3 at a core, which has no children
+core_deepest : MayGrant tree (node 0 3) 3
+core_deepest = record {
+  deepest = omega arith;
+  children = λ c h l e. absurd (omega arith);
+  parent = λ c h l e. four (ParentOk tree (node 0 3) 3) (λ x. omega arith) (λ x. omega arith)
+      (λ x. omega arith) (λ x. omega arith) c h e;
+}
+
+-- a core is granted less than before, as much as its cluster
+core_lowered : MayGrant tree (node 0 2) 2
+core_lowered = record {
+  deepest = omega arith;
+  children = λ c h l e. absurd (omega arith);
+  parent = λ c h l e. four (ParentOk tree (node 0 2) 2) (λ x. omega arith) (λ x. omega arith)
+      (λ x. omega arith) (λ x. omega arith) c h e;
+}
+
+-- a cluster is granted less than before
+cluster_lowered : MayGrant tree (node 1 1) 1
+cluster_lowered = record {
+  deepest = omega arith;
+  children = λ c h l e. four (ChildOk tree (node 1 1) 1) (λ x. omega arith) (λ x. omega arith)
+      (λ x. omega arith) (λ x. omega arith) c h e;
+  parent = λ c h l e. four (ParentOk tree (node 1 1) 1) (λ x. omega arith) (λ x. omega arith)
+      (λ x. omega arith) (λ x. omega arith) c h e;
+}
+
+-- a domain of level 2 is granted as much as the least of its children
+group_raised : MayGrant tree (node 2 0) 2
+group_raised = record {
+  deepest = omega arith;
+  children = λ c h l e. four (ChildOk tree (node 2 0) 2) (λ x. omega arith) (λ x. omega arith)
+      (λ x. omega arith) (λ x. omega arith) c h e;
+  parent = λ c h l e. four (ParentOk tree (node 2 0) 2) (λ x. omega arith) (λ x. omega arith)
+      (λ x. omega arith) (λ x. omega arith) c h e;
+}
+
+-- the system, power-down
+abbrev all_down : TreeValue
+all_down = granting (3 ∷ 3 ∷ 3 ∷ 3 ∷ []) (3 ∷ 3 ∷ 3 ∷ []) (3 ∷ 3 ∷ []) 0
+
+system_deepest : MayGrant all_down (node 3 0) 3
+system_deepest = record {
+  deepest = omega arith;
+  children = λ c h l e. four (ChildOk all_down (node 3 0) 3) (λ x. omega arith) (λ x. omega arith)
+      (λ x. omega arith) (λ x. omega arith) c h e;
+  parent = λ c h l e. absurd (omega arith);
+}
+
+-- no depth above 3, not even of a core
+too_deep : MayGrant tree (node 0 3) 4 → ⊥
+too_deep m = absurd (omega (arith, m.deepest))
+
+-- a core of the cluster is granted 2
+deeper_than_child : MayGrant tree (node 1 1) 3 → ⊥
+deeper_than_child m = absurd (omega (arith, m.children 1 (omega arith) (omega arith) refl))
+
+-- the last child counts as the first does
+deeper_than_last : MayGrant tree (node 3 0) 1 → ⊥
+deeper_than_last m = absurd (omega (arith, m.children 3 (omega arith) (omega arith) refl))
+
+-- the cluster is granted 2, and its last core may have no less
+shallower_than_parent : MayGrant tree (node 0 2) 1 → ⊥
+shallower_than_parent m = absurd (omega (arith, m.parent 2 (omega arith) (omega arith) refl))
+
+cluster_too_low : MayGrant tree (node 1 0) 0 → ⊥
+cluster_too_low m = absurd (omega (arith, m.parent 0 (omega arith) (omega arith) refl))
+
+-- What breaks what holds of every tree --------------------------------------------------------
+
+-- a suspended core that asks nothing of itself, and one that asks more of its cluster
+abbrev asking : List ℕ → TreeValue
+asking depths = record tree {
+  cores = never_started ∷ record { activity = Suspended depths; known = 1 } ∷ never_started
+      ∷ never_started ∷ [];
+}
+
+core_runs_on : IsDomainTree (asking (0 ∷ 0 ∷ 0 ∷ 0 ∷ [])) → ⊥
+core_runs_on v = absurd (omega (arith, (v.asks 1).least))
+
+ask_grows : IsDomainTree (asking (2 ∷ 3 ∷ 0 ∷ 0 ∷ [])) → ⊥
+ask_grows v = absurd (omega (arith, (v.asks 1).falls 0))
+
+-- four levels, a core too many, a row too few
+too_high : IsDomainTree (record tree { levels = (1 ∷ []) ∷ (1 ∷ []) ∷ (1 ∷ []) ∷ (1 ∷ []) ∷ [] })
+    → ⊥
+too_high v = absurd (omega (arith, v.high))
+
+core_missing : IsDomainTree (record tree { cores = never_started ∷ [] }) → ⊥
+core_missing v = absurd (omega (arith, v.cores))
+
+row_missing : IsDomainTree (record tree { granted = [] }) → ⊥
+row_missing v = absurd (omega (arith, ap length v.granted))
+
+-- a depth above 3, and a domain granted more than one below it
+granted_four : IsDomainTree (granting (4 ∷ 2 ∷ 3 ∷ 0 ∷ []) (3 ∷ 2 ∷ 0 ∷ []) (1 ∷ 0 ∷ []) 0) → ⊥
+granted_four v = absurd (omega (arith, v.deepest 0 0))
+
+granted_more : IsDomainTree (granting (3 ∷ 2 ∷ 3 ∷ 0 ∷ []) (3 ∷ 2 ∷ 1 ∷ []) (1 ∷ 0 ∷ []) 0) → ⊥
+granted_more v = absurd (omega (arith, v.nested 3 0 (omega arith) (omega arith)))

@@ -1,0 +1,151 @@
+-- What holds of every tree holds after each change, and at the start of a life.
+use Rattle.std.proofs.Common.{◌≡◌, ℕ, zero, suc, ◌+◌, ◌-◌, ◌<◌, ◌≤◌, Bool, true, false}
+use Rattle.std.proofs.Common.{cond, ◌&&◌, ◌==◌, List, [], ◌∷◌, length, get_or, map, replicate}
+use Rattle.std.proofs.Common.{refl, ap, sym, ◌∙◌, arith}
+use Rattle.std.proofs.lemmas.Bool.{eq-eqb, eqb-true}
+use Rattle.std.proofs.lemmas.List.{length-replicate}
+use Rattle.psci_board.specs.declared.node.Node.{Node}
+use Rattle.psci_board.specs.Board.{IsTree, HasNodeIn, size_below, place_above}
+use Rattle.psci_tree.specs.Recount.{TreeValue, IsActivity, IsDomainTree, never_started}
+use Rattle.psci_tree.specs.Recount.{granted_at, level_sizes}
+use Rattle.psci_tree.specs.Changes.{with_path_cleared, with_grant, rows_with_depth, all_off, MayGrant}
+use Rattle.psci_tree.specs.declared.state.CoreState.{CoreState}
+use Rattle.psci_tree.proofs.Granted.{zero_at, zero_lengths, same_up, place_lt, size_of_level}
+use Rattle.psci_tree.proofs.Granted.{row_lengths, grant_at, rows_at}
+
+-- The path of a core -------------------------------------------------------------------------
+
+zero_le : (b : Bool) (x m : ℕ) → x ≤ m → cond b 0 x ≤ m
+zero_le true x m h = omega arith
+zero_le false x m h = h
+
+zero_both : (b c : Bool) (x y : ℕ) → (c ≡ true → b ≡ true) → x ≤ y → cond b 0 x ≤ cond c 0 y
+zero_both true c x y h e = omega arith
+zero_both false false x y h e = e
+zero_both false true x y h e = absurd (let no : false ≡ true = h refl in cc)
+
+pub path_valid : (t : TreeValue) (core : ℕ) → IsDomainTree t → IsDomainTree (with_path_cleared t core)
+path_valid t core v = record {
+  tree = v.tree;
+  high = v.high;
+  cores = v.cores;
+  asks = v.asks;
+  granted = zero_lengths t.levels t.granted core ∙ v.granted;
+  deepest = λ l p. rw (zero_at t.levels t.granted core l p) (zero_le _ _ 3 (v.deepest l p));
+  nested = λ c l i h.
+      rw (
+        zero_at t.levels t.granted core (l + 1) (place_above t.levels (l + 1) c),
+        zero_at t.levels t.granted core l (place_above t.levels l c),
+      )
+      (zero_both _ _ _ _
+      (λ e. let up : l + 1 ≡ suc l = omega arith in
+      eq-eqb _ _ (rw up (same_up t.levels l core c (eqb-true _ _ e))))
+      (v.nested c l i h));
+}
+
+-- A granted depth ----------------------------------------------------------------------------
+
+grant_le : (b : Bool) (depth x m : ℕ) → depth ≤ m → x ≤ m → cond b depth x ≤ m
+grant_le true depth x m h e = h
+grant_le false depth x m h e = e
+
+grant_both : (b c : Bool) (depth x y : ℕ) → (b ≡ true → c ≡ true → ⊥) → (b ≡ true → depth ≤ y)
+    → (c ≡ true → x ≤ depth) → x ≤ y → cond b depth x ≤ cond c depth y
+grant_both true true depth x y n f g h = absurd (n refl refl)
+grant_both true false depth x y n f g h = f refl
+grant_both false true depth x y n f g h = g refl
+grant_both false false depth x y n f g h = h
+
+pub both_tests : (a b : Bool) → (a && b) ≡ true → (a ≡ true) × (b ≡ true)
+both_tests true b h = (refl, h)
+both_tests false b h = absurd (cc)
+
+is_domain : (n : Node) (l p : ℕ) → (n.level == l && n.place == p) ≡ true
+    → (n.level ≡ l) × (n.place ≡ p)
+is_domain n l p h = let e = both_tests (n.level == l) (n.place == p) h in
+    (eqb-true _ _ e.0, eqb-true _ _ e.1)
+
+pub grant_valid : (t : TreeValue) (n : Node) (depth : ℕ) → IsDomainTree t → HasNodeIn t.levels n
+    → MayGrant t n depth → IsDomainTree (with_grant t n depth)
+unfolding with_grant
+grant_valid t n depth v h may = record {
+  tree = v.tree;
+  high = v.high;
+  cores = v.cores;
+  asks = v.asks;
+  granted = row_lengths t.granted n.level n.place depth ∙ v.granted;
+  deepest =
+      λ l p. rw (grant_at t n depth l p v h) (grant_le _ depth _ 3 may.deepest (v.deepest l p));
+  nested = λ c l i b.
+      rw (
+        grant_at t n depth (l + 1) (place_above t.levels (l + 1) c) v h,
+        grant_at t n depth l (place_above t.levels l c) v h,
+      )
+      (grant_both _ _ depth _ _
+      (λ e f. omega (arith, (is_domain n _ _ e).0, (is_domain n _ _ f).0))
+      (λ e. let d = is_domain n _ _ e in child c l i d.0 d.1)
+      (λ e. let d = is_domain n _ _ e in parent c l i b d.0 d.1)
+      (v.nested c l i b));
+}
+  where
+    child : (c l : ℕ) → c < size_below t.levels → n.level ≡ l + 1 → n.place
+        ≡ place_above t.levels (l + 1) c → depth ≤ granted_at t l (place_above t.levels l c)
+    child c l i d e =
+        let same : n.level - 1 ≡ l = omega arith in
+        let here = may.children c i (omega arith) (rw d (sym e)) in
+        rw same at here
+
+    parent : (c l : ℕ) → c < size_below t.levels → l < length t.levels → n.level ≡ l → n.place
+        ≡ place_above t.levels l c → granted_at t (l + 1) (place_above t.levels (l + 1) c) ≤ depth
+    parent c l i b d e =
+        let here = may.parent c i (omega arith) (rw d (sym e)) in
+        rw d at here
+
+-- The start of a life ------------------------------------------------------------------------
+
+row_le : (n p : ℕ) → get_or (replicate n 3) p 0 ≤ 3
+row_le zero p = omega arith
+row_le (suc n) zero = omega arith
+row_le (suc n) (suc p) = row_le n p
+
+rows_le : (counts : List ℕ) (l p : ℕ) → get_or (get_or (rows_with_depth counts 3) l []) p 0 ≤ 3
+rows_le [] l p = omega arith
+rows_le (n ∷ ns) zero p = row_le n p
+rows_le (n ∷ ns) (suc l) p = rows_le ns l p
+
+rows_lengths : (counts : List ℕ) → map length (rows_with_depth counts 3) ≡ counts
+rows_lengths [] = refl
+rows_lengths (n ∷ ns) = rw (length-replicate {A = ℕ} n 3) (ap (λ xs. n ∷ xs) (rows_lengths ns))
+
+pub full_valid : (levels : List (List ℕ)) (cores : List CoreState) → IsTree levels
+    → length levels ≤ 3 → length cores ≡ size_below levels
+    → ((c : ℕ) → IsActivity (get_or cores c never_started).activity) → IsDomainTree (record {
+      levels = levels;
+      cores = cores;
+      granted = rows_with_depth (level_sizes levels) 3;
+    })
+full_valid levels cores t h e a = record {
+  tree = t;
+  high = h;
+  cores = e;
+  asks = a;
+  granted = rows_lengths (level_sizes levels);
+  deepest = λ l p. rows_le (level_sizes levels) l p;
+  nested = λ c l i b.
+      let inside = place_lt levels l c t (omega arith) i in
+      rw (rows_at (level_sizes levels) l (place_above levels l c)
+      (omega (arith, inside, size_of_level levels l (omega arith))))
+      (rows_le (level_sizes levels) (l + 1) (place_above levels (l + 1) c));
+}
+
+pub all_idle : (n c : ℕ)
+    → IsActivity (get_or (replicate n never_started) c never_started).activity
+all_idle zero c = tt
+all_idle (suc n) zero = tt
+all_idle (suc n) (suc c) = all_idle n c
+
+pub all_off_valid : (levels : List (List ℕ)) → IsTree levels → length levels ≤ 3
+    → IsDomainTree (all_off levels)
+all_off_valid levels t h =
+    full_valid levels _ t h (length-replicate (size_below levels) never_started)
+    (all_idle (size_below levels))

@@ -1,0 +1,5 @@
+use Rattle.std.proofs.Common.{◌-◌, length}
+use Rattle.psci_tree.proofs.descent.+domain_at.Given as goal
+
+abbrev pub decreases-domain_at : goal.decreases-domain_at
+decreases-domain_at l = length l.board.now.levels - l.node.level

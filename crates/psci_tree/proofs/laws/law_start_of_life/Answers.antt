@@ -1,0 +1,27 @@
+use Rattle.std.proofs.Common.{◌≡◌, ℕ, ◌∙◌, arith, ap, cond, ◌==◌}
+use Rattle.psci_board.specs.Board.{place_above}
+use Rattle.psci_tree.specs.Recount.{known_at, never_started}
+use Rattle.psci_tree.specs.Changes.{made_pending, with_core_state, start_of_life, all_off}
+use Rattle.psci_tree.specs.declared.state.Activity.TheVariants.{Active}
+use Rattle.psci_tree.specs.declared.state.CoreState.{CoreState}
+use Rattle.psci_tree.proofs.Looked.{core_with, core_off, cores_off, granted_with, granted_off}
+use Rattle.psci_tree.proofs.laws.law_start_of_life.Goals as goal
+
+pub returns-clause-cores : goal.returns-clause-cores
+unfolding start_of_life made_pending
+returns-clause-cores c = λ levels d h.
+    let was : known_at (all_off levels) 0 ≡ 0 =
+    ap (λ (s : CoreState). s.known) (core_off levels 0) in
+    core_with (all_off levels) 0 Active (known_at (all_off levels) 0) d
+    (omega (arith, cores_off levels))
+    ∙ ap (λ (s : CoreState). cond (0 == d) (record {
+      activity = Active;
+      known = known_at (all_off levels) 0;
+    }) s) (core_off levels d)
+    ∙ ap (λ (k : ℕ). cond (0 == d) (record { activity = Active; known = k }) never_started) was
+
+pub returns-clause-granted : goal.returns-clause-granted
+unfolding start_of_life made_pending
+returns-clause-granted c = λ levels l p h i.
+    granted_with (with_core_state (all_off levels) 0 Active (known_at (all_off levels) 0)) 0 l p
+    ∙ ap (λ (d : ℕ). cond (place_above levels l 0 == p) 0 d) (granted_off levels l p h i)

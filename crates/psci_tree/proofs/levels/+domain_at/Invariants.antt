@@ -1,5 +1,0 @@
-use Rattle.std.proofs.Common.{length}
-use Rattle.psci_tree.proofs.levels.+domain_at.Given as goal
-
-abbrev pub decreases-domain_at : goal.decreases-domain_at
-decreases-domain_at l = length l.levels.now
