@@ -1,4 +1,4 @@
--- The first fault of bytes by the tests that it is made of: where there is none, each test holds.
+-- The first fault of bytes by the tests that it is made of: where there is none, each test holds
 use Rattle.std.proofs.Common.{◌≡◌, ◌∙◌, ℕ, ◌<◌, Bool, true, false, not, List, length, Option, Some}
 use Rattle.std.proofs.Common.{None, refl, sym}
 use Rattle.std.specs.Prelude.{if◌then◌else◌, ◌==◌, ◌&&◌, nat_lt, slice_index}
