@@ -63,6 +63,16 @@ fn granted(rt: &impl Abort, tree: &Tree, level: u32, place: u16) -> u8 {
     tree.granted(node)
 }
 
+/// Grants depth 3 to a core, and returns what it was granted before.
+fn grant_deepest(tree: &mut Tree, core: Core) -> u8
+    requires { core.number < size_below tree.old.levels }
+    ensures { tree.new.levels ≡ tree.old.levels }
+{
+    let before = tree.granted(core.node());
+    tree.grant(core.node(), 3);
+    before
+}
+
 /// The granted depths of the uneven board: its cores, its clusters, level 2 and the system.
 fn all_granted(rt: &impl Abort, tree: &Tree) -> ([u8; 4], [u8; 3], [u8; 2], u8) {
     (
@@ -194,7 +204,7 @@ fn clears_a_path_and_nothing_else(rt: HostRuntime) -> Result<(), Fail> {
         all_granted(&rt, &tree),
         ([0, 3, 0, 0], [0, 0, 0], [0, 0], 0)
     );
-    tree.grant(last.node(), 3);
+    assert_eq!(rt; grant_deepest(&mut tree, last), 0);
     assert_eq!(rt;
         all_granted(&rt, &tree),
         ([0, 3, 0, 3], [0, 0, 0], [0, 0], 0)
