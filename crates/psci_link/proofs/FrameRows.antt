@@ -1,11 +1,10 @@
 -- How frames are spelled, and what bytes hold: known frames, and which bytes each field has.
-use Rattle.std.proofs.Common.{◌≡◌, List, [], ◌∷◌, ◌++◌, refl}
-use Rattle.std.specs.Prelude.{Some, None, true, false, replicate}
+use Rattle.std.proofs.Common.{◌≡◌, [], ◌∷◌, refl}
+use Rattle.std.specs.Prelude.{true, false, replicate}
 use Rattle.psci_link.specs.declared.kind.Kind.TheVariants.{Down, Start, Off, Reset}
 use Rattle.psci_link.specs.declared.frame.Frame.{Frame}
 use Rattle.psci_link.specs.declared.frame.Frame.TheVariants.{Message, Ack}
 use Rattle.psci_link.specs.declared.heading.Heading.TheVariants as headings
-use Rattle.psci_link.specs.Message.{is_climbing, is_falling}
 use Rattle.psci_link.specs.Frame.{places, spelling, kind_byte, part_bytes, frame_in}
 use Rattle.psci_link.proofs.FaultRows.{down, acknowledged}
 

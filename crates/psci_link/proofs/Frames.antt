@@ -1,7 +1,7 @@
 -- The laws of frames: the spelling of a frame of the board has no fault and holds the frame, and
 -- bytes without a fault are such a spelling.
-use Rattle.std.proofs.Common.{◌≡◌, ◌∙◌, ℕ, ◌+◌, ◌-◌, ◌^◌, ◌<◌, Bool, not, List, [], length, drop}
-use Rattle.std.proofs.Common.{Some, None, refl, sym, ap, arith, subst}
+use Rattle.std.proofs.Common.{◌≡◌, ◌∙◌, ℕ, ◌+◌, ◌-◌, ◌^◌, ◌<◌, Bool, List, [], length, drop, Some}
+use Rattle.std.proofs.Common.{None, refl, sym, ap, arith, subst}
 use Rattle.std.specs.Prelude.{◌==◌, slice_index, slice_range}
 use Rattle.std.specs.Int.{w32, to_be_bytes, from_be_bytes}
 use Rattle.std.proofs.lemmas.Nat.{from_be_bytes-to_be_bytes_4}

@@ -1,7 +1,6 @@
 -- Kind bytes: each says what it was written for, and counts go with parts.
-use Rattle.std.proofs.Common.{◌≡◌, ◌∙◌, ℕ, zero, suc, ◌+◌, ◌*◌, ◌/◌, ◌%◌, ◌<◌, ◌≤◌, Bool, true}
-use Rattle.std.proofs.Common.{false, List, [], ◌∷◌, length, Option, Some, None, refl, sym, ap}
-use Rattle.std.proofs.Common.{arith, subst, inl, inr}
+use Rattle.std.proofs.Common.{◌≡◌, ◌∙◌, ℕ, ◌+◌, ◌*◌, ◌/◌, ◌%◌, ◌≤◌, Bool, true, false, List, []}
+use Rattle.std.proofs.Common.{length, Option, Some, refl, sym, ap, arith, subst, inl, inr}
 use Rattle.std.specs.Prelude.{if◌then◌else◌, nat_le, ◌==◌, ◌⊎◌}
 use Rattle.std.proofs.lemmas.Option.{same_Some, none-some, option_and_then_some}
 use Rattle.std.proofs.lemmas.Bool.{and_parts, and_from, eqb-true, leb-true, le-leb}
@@ -11,7 +10,7 @@ use Rattle.psci_link.specs.declared.kind.Kind.{Kind}
 use Rattle.psci_link.specs.declared.kind.Kind.TheVariants.{Down, Start, Off, Reset}
 use Rattle.psci_link.specs.declared.heading.Heading.{Heading}
 use Rattle.psci_link.specs.declared.heading.Heading.TheVariants.{Message, Ack}
-use Rattle.psci_link.specs.Message.{is_climbing, is_falling, IsClaim, ArePartsOf, most_applied}
+use Rattle.psci_link.specs.Message.{is_climbing, is_falling, ArePartsOf, most_applied}
 use Rattle.psci_link.specs.Heading.{kind_of, heading_of, heading_with, allows_count, parts_of}
 use Rattle.psci_link.specs.Heading.{IsHeld}
 use Rattle.psci_link.specs.Frame.{kind_code}

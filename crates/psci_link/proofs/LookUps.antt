@@ -1,7 +1,7 @@
 -- Slots by look-up: what each change leaves in each slot.
-use Rattle.std.proofs.Common.{◌≡◌, ◌∙◌, ℕ, zero, suc, ◌≤◌, true, false, List, [], ◌∷◌, length}
-use Rattle.std.proofs.Common.{get_or, replicate, Option, Some, None, refl, sym, ap, arith}
-use Rattle.std.proofs.Common.{length-set, inl, inr}
+use Rattle.std.proofs.Common.{◌≡◌, ◌∙◌, ℕ, zero, suc, ◌≤◌, true, List, [], ◌∷◌, length, get_or}
+use Rattle.std.proofs.Common.{replicate, Option, Some, None, refl, sym, ap, arith, length-set, inl}
+use Rattle.std.proofs.Common.{inr}
 use Rattle.std.specs.Prelude.{if◌then◌else◌, slice_set}
 use Rattle.std.proofs.lemmas.Bool.{eqb-true, eq-eqb, ne_eqb, cases_eq, cases_Bool, true≢false}
 use Rattle.std.proofs.lemmas.List.{get_or-set_other, get_or_past, length-replicate}

@@ -1,13 +1,13 @@
 -- Which message is outstanding after known changes, the last first, and when an acknowledgement is
 -- used: each way to end a message and the way beside it that does not, and each field of its name.
 use Rattle.std.proofs.Common.{◌≡◌, ℕ, Bool, true, false, List, [], ◌∷◌, refl}
-use Rattle.std.specs.Prelude.{Option, Some, None}
+use Rattle.std.specs.Prelude.{Some, None}
 use Rattle.psci_coord.specs.declared.part.Part.{Part}
 use Rattle.psci_link.specs.declared.kind.Kind.{Kind}
 use Rattle.psci_link.specs.declared.kind.Kind.TheVariants.{Down, Start, Off, Reset}
 use Rattle.psci_link.specs.declared.taken.Taken.TheVariants.{Used, Old}
 use Rattle.psci_link.specs.Message.{MessageValue, AckValue}
-use Rattle.psci_link.specs.Slots.{taken, message_at, Slot, Change}
+use Rattle.psci_link.specs.Slots.{taken, message_at, Change}
 use Rattle.psci_link.specs.Slots.Slot.{OfCore, OfSystem}
 use Rattle.psci_link.specs.Slots.Change.{Put, Clear, ClearAll, Acknowledge}
 use Rattle.psci_link.specs.Outstanding.{last_message, changes_since, outstanding}

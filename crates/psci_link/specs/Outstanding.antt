@@ -1,11 +1,11 @@
 -- Which message is outstanding after a history of changes, the last change first: the last message
 -- that was sent, unless something since then has ended it.
-use Rattle.std.specs.Prelude.{◌≡◌, ℕ, ◌<◌, Bool, true, false, ◌&&◌, List, [], ◌∷◌, if◌then◌else◌}
-use Rattle.std.specs.Prelude.{Option, Some, None, option_and_then, is_none}
+use Rattle.std.specs.Prelude.{ℕ, Bool, true, false, ◌&&◌, List, [], ◌∷◌, if◌then◌else◌, Option}
+use Rattle.std.specs.Prelude.{Some, None, option_and_then, is_none}
 use Rattle.std.specs.List.{list_any, AllByRecursion}
-use Rattle.psci_link.specs.Message.{MessageValue, AckValue}
+use Rattle.psci_link.specs.Message.{MessageValue}
 use Rattle.psci_link.specs.Slots.{Slot, slot_of, is_slot, answers, is_done, Change, IsOfCores}
-use Rattle.psci_link.specs.Slots.Slot.{OfCore, OfSystem}
+use Rattle.psci_link.specs.Slots.Slot.{OfCore}
 use Rattle.psci_link.specs.Slots.Change.{Put, Clear, ClearAll, Acknowledge}
 
 -- the message that a change sends to a slot

@@ -1,10 +1,9 @@
 -- A level is below 256, and after the loop all parts are in their places.
-use Rattle.std.proofs.Common.{rules, arith, ◌≡◌, ◌+◌, ◌-◌, ◌*◌, ◌++◌, length, take, append_assoc}
-use Rattle.std.proofs.Common.{◌∙◌, ◌^◌, ◌<◌, sym}
+use Rattle.std.proofs.Common.{arith, ◌≡◌, length, take, append_assoc, ◌∙◌, ◌^◌, ◌<◌, sym}
 use Rattle.std.proofs.lemmas.Grind.{common_steps}
 use Rattle.std.proofs.lemmas.List.Elements.{All-more, All-same, recursion_from_All}
 use Rattle.std.proofs.lemmas.List.{take_all}
-use Rattle.psci_link.specs.Frame.{part_bytes, places}
+use Rattle.psci_link.specs.Frame.{places}
 use Rattle.psci_link.proofs.Parts.{level-of}
 use Rattle.psci_link.proofs.encoding.joined.Goals as goal
 

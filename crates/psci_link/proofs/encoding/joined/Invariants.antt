@@ -1,5 +1,5 @@
 -- The bytes hold the header and the parts so far, and zeros after them.
-use Rattle.std.proofs.Common.{◌≡◌, ◌++◌, ℕ, ◌+◌, ◌-◌, ◌*◌, ◌^◌, ◌<◌, All, take, replicate}
+use Rattle.std.proofs.Common.{◌≡◌, ◌++◌, ◌+◌, ◌-◌, ◌*◌, ◌^◌, ◌<◌, All, take, replicate}
 use Rattle.std.specs.List.{flat_map}
 use Rattle.psci_link.specs.Frame.{part_bytes}
 use Rattle.psci_link.proofs.encoding.joined.Given as goal

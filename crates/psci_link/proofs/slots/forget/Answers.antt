@@ -1,5 +1,5 @@
 -- After the loop each slot is empty.
-use Rattle.std.proofs.Common.{◌∙◌, ◌<◌, arith, sym, length, None, replicate}
+use Rattle.std.proofs.Common.{◌∙◌, arith, sym, length, None, replicate}
 use Rattle.std.proofs.lemmas.List.{same_lists, get_or_default, get_or-replicate, length-replicate}
 use Rattle.psci_link.proofs.slots.forget.Goals as goal
 
