@@ -41,45 +41,51 @@ fn copies_boards(rt: HostRuntime) -> Result<(), Fail> {
     Ok(())
 }
 
-/// Trees of each shape and of 1 to 16 members, each with its height and its number of cores.
-const TREES: [(&str, u32, u16); 13] = [
-    ("1 exec 0x0-0x1 boot 0x0 starts 1 lives 1", 1, 1),
-    ("2 exec 0x0-0x1 boot 0x0 starts 1 lives 1", 1, 2),
-    ("3 exec 0x0-0x1 boot 0x0 starts 1 lives 1", 1, 3),
-    ("(3) exec 0x0-0x1 boot 0x0 starts 1 lives 1", 2, 3),
-    ("(1 2 3) exec 0x0-0x1 boot 0x0 starts 1 lives 1", 2, 6),
-    ("(4 3 2 1) exec 0x0-0x1 boot 0x0 starts 1 lives 1", 2, 10),
-    ("(1 1 1 1 1) exec 0x0-0x1 boot 0x0 starts 1 lives 1", 2, 5),
-    (
-        "(5 1 1 1 1 1 1 1 1 1 1 1 1 1 1 16) exec 0x0-0x1 boot 0x0 starts 1 lives 1",
-        2,
-        35,
-    ),
-    ("((1)) exec 0x0-0x1 boot 0x0 starts 1 lives 1", 3, 1),
-    ("((1) (2) (3)) exec 0x0-0x1 boot 0x0 starts 1 lives 1", 3, 6),
-    ("((1 2 3)) exec 0x0-0x1 boot 0x0 starts 1 lives 1", 3, 6),
-    (
-        "((1 2 3) (4) (5 6)) exec 0x0-0x1 boot 0x0 starts 1 lives 1",
-        3,
-        21,
-    ),
-    (
-        "((1) (1) (1) (1) (1) (1) (1) (1) (1) (1) (1) (1) (1) (1) (1) (1 2)) \
-        exec 0x0-0x1 0x0-0x1 0x0-0x1 boot 0x0 starts 1 lives 1",
-        3,
-        18,
-    ),
-];
+/// Reads a board, and compares its height and its number of cores, and those of a copy.
+fn reads_and_copies(
+    rt: &impl Abort,
+    alloc: Global,
+    text: &str,
+    height: u32,
+    cores: u16,
+) -> Result<(), Fail> {
+    let board = Board::read(alloc, text)?;
+    assert_eq!(rt; (board.height(), board.cores()), (height, cores));
+    let copy = board.copy(alloc)?;
+    assert_eq!(rt; (copy.height(), copy.cores()), (height, cores));
+    Ok(())
+}
 
 #[test]
-fn reads_and_copies_trees_of_each_shape(rt: HostRuntime) -> Result<(), Fail> {
-    for (text, height, cores) in TREES {
-        let board = Board::read(rt.alloc(), text)?;
-        assert_eq!(rt; (board.height(), board.cores()), (height, cores));
-        let copy = board.copy(rt.alloc());
-        assert!(rt; matches!(copy, Ok(copy) if (copy.height(), copy.cores()) == (height, cores)));
-    }
-    Ok(())
+fn trees_of_height_1(rt: HostRuntime) -> Result<(), Fail> {
+    let alloc = rt.alloc();
+    reads_and_copies(&rt, alloc, "1 exec 0x0-0x1 boot 0x0 starts 1 lives 1", 1, 1)?;
+    reads_and_copies(&rt, alloc, "2 exec 0x0-0x1 boot 0x0 starts 1 lives 1", 1, 2)?;
+    reads_and_copies(&rt, alloc, "3 exec 0x0-0x1 boot 0x0 starts 1 lives 1", 1, 3)
+}
+
+#[test]
+fn trees_of_height_2(rt: HostRuntime) -> Result<(), Fail> {
+    let alloc = rt.alloc();
+    reads_and_copies(&rt, alloc, "(3) exec 0x0-0x1 boot 0x0 starts 1 lives 1", 2, 3)?;
+    reads_and_copies(&rt, alloc, "(1 2 3) exec 0x0-0x1 boot 0x0 starts 1 lives 1", 2, 6)?;
+    reads_and_copies(&rt, alloc, "(4 3 2 1) exec 0x0-0x1 boot 0x0 starts 1 lives 1", 2, 10)?;
+    reads_and_copies(&rt, alloc, "(1 1 1 1 1) exec 0x0-0x1 boot 0x0 starts 1 lives 1", 2, 5)?;
+    let widest = "(5 1 1 1 1 1 1 1 1 1 1 1 1 1 1 16) exec 0x0-0x1 boot 0x0 starts 1 lives 1";
+    reads_and_copies(&rt, alloc, widest, 2, 35)
+}
+
+#[test]
+fn trees_of_height_3(rt: HostRuntime) -> Result<(), Fail> {
+    let alloc = rt.alloc();
+    reads_and_copies(&rt, alloc, "((1)) exec 0x0-0x1 boot 0x0 starts 1 lives 1", 3, 1)?;
+    reads_and_copies(&rt, alloc, "((1) (2) (3)) exec 0x0-0x1 boot 0x0 starts 1 lives 1", 3, 6)?;
+    reads_and_copies(&rt, alloc, "((1 2 3)) exec 0x0-0x1 boot 0x0 starts 1 lives 1", 3, 6)?;
+    let uneven = "((1 2 3) (4) (5 6)) exec 0x0-0x1 boot 0x0 starts 1 lives 1";
+    reads_and_copies(&rt, alloc, uneven, 3, 21)?;
+    let widest = "((1) (1) (1) (1) (1) (1) (1) (1) (1) (1) (1) (1) (1) (1) (1) (1 2)) \
+        exec 0x0-0x1 0x0-0x1 0x0-0x1 boot 0x0 starts 1 lives 1";
+    reads_and_copies(&rt, alloc, widest, 3, 18)
 }
 
 #[test]
