@@ -9,7 +9,8 @@ use Rattle.psci_coord.specs.declared.osi.Osi.TheVariants.{Invalid, Denied}
 use Rattle.psci_coord.specs.View.{generation, is_idle, is_all_off}
 use Rattle.psci_coord.specs.Claim.{claim_of, off_claim}
 use Rattle.psci_coord.specs.LastCore.{shallow_at, shallow, refusal, last_core_check}
-use Rattle.psci_coord.proofs.Boards.{two_clusters, uneven, high, active, asleep, off, seen, part}
+use Rattle.psci_coord.proofs.Boards.{board_of, two_clusters, uneven, high, active, asleep, off}
+use Rattle.psci_coord.proofs.Boards.{seen, part}
 
 -- the answer to a core that asks for this, where cores do that, and domains were granted those
 abbrev check : BoardValue → ℕ → List ℕ → List CoreState → List (List ℕ)
@@ -97,6 +98,25 @@ granted_counts : check two_clusters 0 (3 ∷ 3 ∷ 3 ∷ 0 ∷ [])
     ≡ Err Invalid
 unfolding last_core_check refusal shallow shallow_at claim_of generation is_idle up
 granted_counts = refl
+
+-- Of two cores beside in one cluster the one runs, and the other sleeps too shallow: whichever of
+-- them comes first, the one that sleeps decides.
+abbrev one_cluster : BoardValue
+one_cluster = board_of ((3 ∷ []) ∷ [])
+
+later_sleeps : check one_cluster 0 (3 ∷ 3 ∷ 0 ∷ 0 ∷ [])
+    (active 1 ∷ active 1 ∷ asleep (1 ∷ 0 ∷ 0 ∷ 0 ∷ []) 1 ∷ [])
+    ((0 ∷ 0 ∷ 1 ∷ []) ∷ (0 ∷ []) ∷ [])
+    ≡ Err Invalid
+unfolding last_core_check refusal shallow shallow_at claim_of generation is_idle up
+later_sleeps = refl
+
+earlier_sleeps : check one_cluster 0 (3 ∷ 3 ∷ 0 ∷ 0 ∷ [])
+    (active 1 ∷ asleep (1 ∷ 0 ∷ 0 ∷ 0 ∷ []) 1 ∷ active 1 ∷ [])
+    ((0 ∷ 1 ∷ 0 ∷ []) ∷ (0 ∷ []) ∷ [])
+    ≡ Err Invalid
+unfolding last_core_check refusal shallow shallow_at claim_of generation is_idle up
+earlier_sleeps = refl
 
 -- Higher boards ----------------------------------------------------------------------------------
 

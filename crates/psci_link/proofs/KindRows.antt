@@ -179,6 +179,13 @@ stale_reset_applied_more : first_fault board (slice_set (slice_set acknowledged 
 unfolding first_fault fault_of_kind
 stale_reset_applied_more = refl
 
-count_before_unused : first_fault board (slice_set (slice_set down 12 5) 52 1) ≡ Some faults.Count
+-- an acknowledgement uses no part place, and a Start of one part all but the first
+count_before_unused : first_fault board (slice_set (slice_set acknowledged 12 5) 52 1)
+    ≡ Some faults.Count
 unfolding first_fault fault_of_kind
 count_before_unused = refl
+
+count_before_unused_of_a_start : first_fault board (slice_set (slice_set start 12 1) 52 1)
+    ≡ Some faults.Count
+unfolding first_fault fault_of_kind
+count_before_unused_of_a_start = refl
