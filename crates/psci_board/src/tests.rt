@@ -3,6 +3,8 @@
 use crate::board::Board;
 use crate::node::{Core, Node};
 use crate::span::CoreSpan;
+use std::alloc::Global;
+use std::process::Abort;
 use std::test::Fail;
 
 /// The longest trees and the most ranges that a board may have.
@@ -67,10 +69,34 @@ fn trees_of_height_1(rt: HostRuntime) -> Result<(), Fail> {
 #[test]
 fn trees_of_height_2(rt: HostRuntime) -> Result<(), Fail> {
     let alloc = rt.alloc();
-    reads_and_copies(&rt, alloc, "(3) exec 0x0-0x1 boot 0x0 starts 1 lives 1", 2, 3)?;
-    reads_and_copies(&rt, alloc, "(1 2 3) exec 0x0-0x1 boot 0x0 starts 1 lives 1", 2, 6)?;
-    reads_and_copies(&rt, alloc, "(4 3 2 1) exec 0x0-0x1 boot 0x0 starts 1 lives 1", 2, 10)?;
-    reads_and_copies(&rt, alloc, "(1 1 1 1 1) exec 0x0-0x1 boot 0x0 starts 1 lives 1", 2, 5)?;
+    reads_and_copies(
+        &rt,
+        alloc,
+        "(3) exec 0x0-0x1 boot 0x0 starts 1 lives 1",
+        2,
+        3,
+    )?;
+    reads_and_copies(
+        &rt,
+        alloc,
+        "(1 2 3) exec 0x0-0x1 boot 0x0 starts 1 lives 1",
+        2,
+        6,
+    )?;
+    reads_and_copies(
+        &rt,
+        alloc,
+        "(4 3 2 1) exec 0x0-0x1 boot 0x0 starts 1 lives 1",
+        2,
+        10,
+    )?;
+    reads_and_copies(
+        &rt,
+        alloc,
+        "(1 1 1 1 1) exec 0x0-0x1 boot 0x0 starts 1 lives 1",
+        2,
+        5,
+    )?;
     let widest = "(5 1 1 1 1 1 1 1 1 1 1 1 1 1 1 16) exec 0x0-0x1 boot 0x0 starts 1 lives 1";
     reads_and_copies(&rt, alloc, widest, 2, 35)
 }
@@ -78,9 +104,27 @@ fn trees_of_height_2(rt: HostRuntime) -> Result<(), Fail> {
 #[test]
 fn trees_of_height_3(rt: HostRuntime) -> Result<(), Fail> {
     let alloc = rt.alloc();
-    reads_and_copies(&rt, alloc, "((1)) exec 0x0-0x1 boot 0x0 starts 1 lives 1", 3, 1)?;
-    reads_and_copies(&rt, alloc, "((1) (2) (3)) exec 0x0-0x1 boot 0x0 starts 1 lives 1", 3, 6)?;
-    reads_and_copies(&rt, alloc, "((1 2 3)) exec 0x0-0x1 boot 0x0 starts 1 lives 1", 3, 6)?;
+    reads_and_copies(
+        &rt,
+        alloc,
+        "((1)) exec 0x0-0x1 boot 0x0 starts 1 lives 1",
+        3,
+        1,
+    )?;
+    reads_and_copies(
+        &rt,
+        alloc,
+        "((1) (2) (3)) exec 0x0-0x1 boot 0x0 starts 1 lives 1",
+        3,
+        6,
+    )?;
+    reads_and_copies(
+        &rt,
+        alloc,
+        "((1 2 3)) exec 0x0-0x1 boot 0x0 starts 1 lives 1",
+        3,
+        6,
+    )?;
     let uneven = "((1 2 3) (4) (5 6)) exec 0x0-0x1 boot 0x0 starts 1 lives 1";
     reads_and_copies(&rt, alloc, uneven, 3, 21)?;
     let widest = "((1) (1) (1) (1) (1) (1) (1) (1) (1) (1) (1) (1) (1) (1) (1) (1 2)) \
