@@ -1,4 +1,2 @@
 mod CodeRows
-mod FeatureRows
-mod RequestRows
 mod ResultRows

@@ -4,24 +4,24 @@ use Rattle.std.proofs.Common.{arith, subst, None}
 use Rattle.psci_abi.specs.Calls.{request_of}
 use Rattle.psci_abi.specs.declared.registers.Regs.{Regs}
 use Rattle.psci_board.specs.Board.{BoardValue, cores}
-use Rattle.psci_model.specs.declared.call.FwCall.{FwCall}
-use Rattle.psci_model.specs.declared.call.FwCall.TheVariants as calls
-use Rattle.psci_model.specs.declared.outcome.Act.{Act}
-use Rattle.psci_model.specs.declared.outcome.Act.TheVariants as acts
-use Rattle.psci_model.specs.declared.outcome.Outcome.{Outcome}
-use Rattle.psci_model.specs.declared.phase.Phase.TheVariants as phases
-use Rattle.psci_model.specs.declared.reply.FwReply.{FwReply}
-use Rattle.psci_model.specs.declared.reply.FwReply.TheVariants.{Out}
-use Rattle.psci_model.specs.declared.start.Start.{Start}
-use Rattle.psci_model.specs.Answer.{answer}
-use Rattle.psci_model.specs.Calls.{outcome_of}
-use Rattle.psci_model.specs.Changes.{after}
-use Rattle.psci_model.specs.Entry.{Entry}
-use Rattle.psci_model.specs.History.{values_of}
-use Rattle.psci_model.specs.Invariant.{AreValues}
-use Rattle.psci_model.specs.Lives.{start_of_life}
-use Rattle.psci_model.specs.Outcomes.{goes_on}
-use Rattle.psci_model.specs.Values.{Values}
+use Rattle.psci_fw_model.specs.declared.call.FwCall.{FwCall}
+use Rattle.psci_fw_model.specs.declared.call.FwCall.TheVariants as calls
+use Rattle.psci_fw_model.specs.declared.outcome.Act.{Act}
+use Rattle.psci_fw_model.specs.declared.outcome.Act.TheVariants as acts
+use Rattle.psci_fw_model.specs.declared.outcome.Outcome.{Outcome}
+use Rattle.psci_fw_model.specs.declared.phase.Phase.TheVariants as phases
+use Rattle.psci_fw_model.specs.declared.reply.FwReply.{FwReply}
+use Rattle.psci_fw_model.specs.declared.reply.FwReply.TheVariants.{Out}
+use Rattle.psci_fw_model.specs.declared.start.Start.{Start}
+use Rattle.psci_fw_model.specs.Answer.{answer}
+use Rattle.psci_fw_model.specs.Calls.{outcome_of}
+use Rattle.psci_fw_model.specs.Changes.{after}
+use Rattle.psci_fw_model.specs.Entry.{Entry}
+use Rattle.psci_fw_model.specs.History.{values_of}
+use Rattle.psci_fw_model.specs.Invariant.{AreValues}
+use Rattle.psci_fw_model.specs.Lives.{start_of_life}
+use Rattle.psci_fw_model.specs.Outcomes.{goes_on}
+use Rattle.psci_fw_model.specs.Values.{Values}
 use Rattle.psci_bench.specs.declared.event.Event.{Event}
 use Rattle.psci_bench.specs.declared.event.Event.TheVariants.{Call, Enter}
 use Rattle.psci_bench.specs.declared.firmware_machine.Place.TheVariants.{Running}

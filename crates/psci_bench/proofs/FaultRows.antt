@@ -8,10 +8,10 @@ use Rattle.psci_board.specs.Reading.{more_at, list_at, member_at, tree_at, board
 use Rattle.psci_board.specs.Verdict.{board_of, verdict}
 use Rattle.psci_board.specs.declared.fault.BoardFault.TheVariants.{Grammar, Uneven, TooWide}
 use Rattle.psci_board.specs.declared.fault.BoardFault.TheVariants.{BadRange, BadBoot, BadLimit}
-use Rattle.psci_model.specs.Answer.{answer}
-use Rattle.psci_model.specs.CpuOn.{target_of}
-use Rattle.psci_model.specs.History.{values_of}
-use Rattle.psci_model.specs.AffinityInfo.{node_status}
+use Rattle.psci_fw_model.specs.Answer.{answer}
+use Rattle.psci_fw_model.specs.CpuOn.{target_of}
+use Rattle.psci_fw_model.specs.History.{values_of}
+use Rattle.psci_fw_model.specs.AffinityInfo.{node_status}
 use Rattle.psci_bench.specs.declared.fault.ScriptFault.TheVariants.{NoBoard, Line, Long}
 use Rattle.psci_bench.specs.declared.fault.ReplayFault.TheVariants.{Script, Board}
 use Rattle.psci_bench.specs.Legal.{legal}

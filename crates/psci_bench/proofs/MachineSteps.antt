@@ -8,17 +8,17 @@ use Rattle.std.proofs.lemmas.Option.{none-some, cond_some, slice_get_within}
 use Rattle.std.proofs.Math.Nat.{min-eq_right}
 use Rattle.psci_board.specs.Board.{BoardValue, cores}
 use Rattle.psci_board.specs.declared.node.Core.{Core}
-use Rattle.psci_model.specs.declared.outcome.Outcome.{Outcome}
-use Rattle.psci_model.specs.declared.message.Message.{Message}
-use Rattle.psci_model.specs.declared.fault.FwFault.{FwFault}
-use Rattle.psci_model.specs.declared.reply.FwReply.{FwReply}
-use Rattle.psci_model.specs.declared.reply.FwReply.TheVariants.{Out, Fault}
-use Rattle.psci_model.specs.Entry.{Entry}
-use Rattle.psci_model.specs.Changes.{after}
-use Rattle.psci_model.specs.Answer.{answer}
-use Rattle.psci_model.specs.History.{values_of}
+use Rattle.psci_fw_model.specs.declared.outcome.Outcome.{Outcome}
+use Rattle.psci_fw_model.specs.declared.message.Message.{Message}
+use Rattle.psci_fw_model.specs.declared.fault.FwFault.{FwFault}
+use Rattle.psci_fw_model.specs.declared.reply.FwReply.{FwReply}
+use Rattle.psci_fw_model.specs.declared.reply.FwReply.TheVariants.{Out, Fault}
+use Rattle.psci_fw_model.specs.Entry.{Entry}
+use Rattle.psci_fw_model.specs.Changes.{after}
+use Rattle.psci_fw_model.specs.Answer.{answer}
+use Rattle.psci_fw_model.specs.History.{values_of}
 use Rattle.psci_fw.specs.Seen.{FirmwareValue, seen}
-use Rattle.psci_model.specs.Values.{Values}
+use Rattle.psci_fw_model.specs.Values.{Values}
 use Rattle.psci_bench.specs.declared.event.Event.{Event}
 use Rattle.psci_bench.specs.declared.said.Sent.{Sent}
 use Rattle.psci_bench.specs.declared.said.Said.{Said}

@@ -2,18 +2,18 @@
 use Rattle.std.proofs.Common.{◌≡◌, ℕ, pos, [], ◌∷◌, true, false, refl}
 use Rattle.std.specs.Prelude.{None, Some}
 use Rattle.psci_board.specs.Board.{BoardValue, core_of, node_of, up}
-use Rattle.psci_model.specs.declared.call.FwCall.TheVariants as calls
-use Rattle.psci_model.specs.declared.fault.FwFault.TheVariants.{NotRunning}
-use Rattle.psci_model.specs.declared.message.Kind.TheVariants.{Start}
-use Rattle.psci_model.specs.declared.message.Message.{Message}
-use Rattle.psci_model.specs.declared.outcome.Act.{Act}
-use Rattle.psci_model.specs.declared.outcome.Act.TheVariants as acts
-use Rattle.psci_model.specs.declared.reply.FwReply.TheVariants.{Out, Fault}
-use Rattle.psci_model.specs.declared.start.Cause.TheVariants.{Boot}
-use Rattle.psci_model.specs.Answer.{answer}
-use Rattle.psci_model.specs.CpuOn.{target_of}
-use Rattle.psci_model.specs.History.{values_of}
-use Rattle.psci_model.specs.AffinityInfo.{node_status}
+use Rattle.psci_fw_model.specs.declared.call.FwCall.TheVariants as calls
+use Rattle.psci_fw_model.specs.declared.fault.FwFault.TheVariants.{NotRunning}
+use Rattle.psci_fw_model.specs.declared.message.Kind.TheVariants.{Start}
+use Rattle.psci_fw_model.specs.declared.message.Message.{Message}
+use Rattle.psci_fw_model.specs.declared.outcome.Act.{Act}
+use Rattle.psci_fw_model.specs.declared.outcome.Act.TheVariants as acts
+use Rattle.psci_fw_model.specs.declared.reply.FwReply.TheVariants.{Out, Fault}
+use Rattle.psci_fw_model.specs.declared.start.Cause.TheVariants.{Boot}
+use Rattle.psci_fw_model.specs.Answer.{answer}
+use Rattle.psci_fw_model.specs.CpuOn.{target_of}
+use Rattle.psci_fw_model.specs.History.{values_of}
+use Rattle.psci_fw_model.specs.AffinityInfo.{node_status}
 use Rattle.psci_bench.specs.declared.event.Event.{Event}
 use Rattle.psci_bench.specs.declared.event.Event.TheVariants.{Call, Enter}
 use Rattle.psci_bench.specs.declared.firmware_machine.Place.TheVariants.{Started, Running, Stopped}

@@ -5,15 +5,15 @@ use Rattle.std.proofs.lemmas.Bool.{eqb-true}
 use Rattle.std.proofs.lemmas.Bool.Decides.{nat_tests}
 use Rattle.psci_abi.specs.declared.registers.Regs.{Regs}
 use Rattle.psci_board.specs.Board.{BoardValue, IsBoard, cores}
-use Rattle.psci_model.specs.declared.outcome.Act.{Act}
-use Rattle.psci_model.specs.declared.outcome.Act.TheVariants as acts
-use Rattle.psci_model.specs.declared.outcome.Outcome.{Outcome}
-use Rattle.psci_model.specs.declared.reply.FwReply.{FwReply}
-use Rattle.psci_model.specs.declared.reply.FwReply.TheVariants.{Out}
-use Rattle.psci_model.specs.Lives.{start_of_life}
-use Rattle.psci_model.specs.Values.{Values}
-use Rattle.psci_model.specs.Changes.{after}
-use Rattle.psci_model.specs.History.{values_of}
+use Rattle.psci_fw_model.specs.declared.outcome.Act.{Act}
+use Rattle.psci_fw_model.specs.declared.outcome.Act.TheVariants as acts
+use Rattle.psci_fw_model.specs.declared.outcome.Outcome.{Outcome}
+use Rattle.psci_fw_model.specs.declared.reply.FwReply.{FwReply}
+use Rattle.psci_fw_model.specs.declared.reply.FwReply.TheVariants.{Out}
+use Rattle.psci_fw_model.specs.Lives.{start_of_life}
+use Rattle.psci_fw_model.specs.Values.{Values}
+use Rattle.psci_fw_model.specs.Changes.{after}
+use Rattle.psci_fw_model.specs.History.{values_of}
 use Rattle.psci_bench.specs.declared.event.Event.{Event}
 use Rattle.psci_bench.specs.declared.event.Event.TheVariants.{Call, Enter}
 use Rattle.psci_bench.specs.declared.said.Said.{Said}

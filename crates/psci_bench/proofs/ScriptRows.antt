@@ -6,10 +6,10 @@ use Rattle.psci_board.specs.Board.{core_of, node_of, up}
 use Rattle.psci_board.specs.Reading.{literal_at, number_at, hex_at, range_at, spaced_at, at_most}
 use Rattle.psci_board.specs.Reading.{more_at, list_at, member_at, tree_at, board_text}
 use Rattle.psci_board.specs.Verdict.{board_of, verdict}
-use Rattle.psci_model.specs.Answer.{answer}
-use Rattle.psci_model.specs.CpuOn.{target_of}
-use Rattle.psci_model.specs.History.{values_of}
-use Rattle.psci_model.specs.AffinityInfo.{node_status}
+use Rattle.psci_fw_model.specs.Answer.{answer}
+use Rattle.psci_fw_model.specs.CpuOn.{target_of}
+use Rattle.psci_fw_model.specs.History.{values_of}
+use Rattle.psci_fw_model.specs.AffinityInfo.{node_status}
 use Rattle.psci_bench.specs.declared.fault.ScriptFault.TheVariants.{Line}
 use Rattle.psci_bench.specs.declared.fault.ReplayFault.TheVariants.{Script}
 use Rattle.psci_bench.specs.Legal.{legal}

@@ -3,19 +3,19 @@
 use Rattle.std.specs.Prelude.{◌≡◌, ℕ, ◌+◌, ◌<◌, ⊤, Bool, true, false, ◌==◌, nat_lt, if◌then◌else◌}
 use Rattle.std.specs.Prelude.{Option, None, Some, option_map, unwrap_or, List, [], ◌∷◌}
 use Rattle.psci_board.specs.Board.{BoardValue, IsBoard, cores}
-use Rattle.psci_model.specs.declared.start.Start.{Start}
-use Rattle.psci_model.specs.declared.start.Cause.TheVariants.{Boot}
-use Rattle.psci_model.specs.declared.message.Message.{Message}
-use Rattle.psci_model.specs.declared.outcome.Act.{Act}
-use Rattle.psci_model.specs.declared.outcome.Act.TheVariants as acts
-use Rattle.psci_model.specs.declared.outcome.Outcome.{Outcome}
-use Rattle.psci_model.specs.declared.call.FwCall.{FwCall}
-use Rattle.psci_model.specs.declared.call.FwCall.TheVariants as calls
-use Rattle.psci_model.specs.declared.reply.FwReply.{FwReply}
-use Rattle.psci_model.specs.declared.reply.FwReply.TheVariants.{Out, Fault}
-use Rattle.psci_model.specs.Entry.{Entry}
-use Rattle.psci_model.specs.Answer.{answer}
-use Rattle.psci_model.specs.History.{values_of}
+use Rattle.psci_fw_model.specs.declared.start.Start.{Start}
+use Rattle.psci_fw_model.specs.declared.start.Cause.TheVariants.{Boot}
+use Rattle.psci_fw_model.specs.declared.message.Message.{Message}
+use Rattle.psci_fw_model.specs.declared.outcome.Act.{Act}
+use Rattle.psci_fw_model.specs.declared.outcome.Act.TheVariants as acts
+use Rattle.psci_fw_model.specs.declared.outcome.Outcome.{Outcome}
+use Rattle.psci_fw_model.specs.declared.call.FwCall.{FwCall}
+use Rattle.psci_fw_model.specs.declared.call.FwCall.TheVariants as calls
+use Rattle.psci_fw_model.specs.declared.reply.FwReply.{FwReply}
+use Rattle.psci_fw_model.specs.declared.reply.FwReply.TheVariants.{Out, Fault}
+use Rattle.psci_fw_model.specs.Entry.{Entry}
+use Rattle.psci_fw_model.specs.Answer.{answer}
+use Rattle.psci_fw_model.specs.History.{values_of}
 use Rattle.psci_bench.specs.declared.event.Event.{Event}
 use Rattle.psci_bench.specs.declared.event.Event.TheVariants.{Call, Enter}
 use Rattle.psci_bench.specs.declared.said.Record.{Record}

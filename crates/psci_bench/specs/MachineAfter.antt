@@ -3,7 +3,7 @@ use Rattle.std.specs.Prelude.{◌≡◌, ℕ, ◌<◌, ◌^◌, nat_lt, if◌the
 use Rattle.std.specs.Prelude.{slice_get, option_map}
 use Rattle.psci_board.specs.Board.{BoardValue, cores}
 use Rattle.psci_board.specs.declared.node.Core.{Core}
-use Rattle.psci_model.specs.History.{values_of}
+use Rattle.psci_fw_model.specs.History.{values_of}
 use Rattle.psci_fw.specs.Seen.{FirmwareValue, seen}
 use Rattle.psci_bench.specs.declared.firmware_machine.Place.{Place}
 use Rattle.psci_bench.specs.declared.said.Record.{Record}

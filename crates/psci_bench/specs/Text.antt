@@ -1,10 +1,10 @@
 -- The answer line of an event.
 use Rattle.std.specs.Prelude.{ℕ, false, List, ◌++◌, ◌∷◌, [], Option, Some, None, codes}
 use Rattle.std.specs.Fmt.{decimal, signed_decimal, digits}
-use Rattle.psci_model.specs.declared.outcome.Act.{Act}
-use Rattle.psci_model.specs.declared.outcome.Act.TheVariants.{Return, Stop, Enter, Resume}
-use Rattle.psci_model.specs.declared.message.Kind.{Kind}
-use Rattle.psci_model.specs.declared.message.Kind.TheVariants.{Down, Start, Off, Reset}
+use Rattle.psci_fw_model.specs.declared.outcome.Act.{Act}
+use Rattle.psci_fw_model.specs.declared.outcome.Act.TheVariants.{Return, Stop, Enter, Resume}
+use Rattle.psci_fw_model.specs.declared.message.Kind.{Kind}
+use Rattle.psci_fw_model.specs.declared.message.Kind.TheVariants.{Down, Start, Off, Reset}
 use Rattle.psci_bench.specs.declared.said.Sent.{Sent}
 use Rattle.psci_bench.specs.declared.said.Said.{Said}
 use Rattle.psci_bench.specs.declared.said.Said.TheVariants.{Fw, Ignored, Absent}

@@ -3,7 +3,7 @@
 ghost use Rattle.std.specs.Prelude.{Some};
 
 use crate::said::{Said, Sent};
-use psci_model::{Act, Kind};
+use psci_fw_model::{Act, Kind};
 use std::fmt;
 
 /// What was said of the event of this number, counted from 1.

@@ -2,9 +2,9 @@
 
 ghost use Rattle.std.specs.Prelude.{◌≡◌, ℕ, ◌+◌, ◌-◌, ◌^◌, ◌<◌, min, length, slice_set, slice_get};
 ghost use Rattle.std.specs.Prelude.{IfOk, OnErr, Some};
-ghost use Rattle.psci_model.specs.declared.reply.FwReply.TheVariants.{Out};
-ghost use Rattle.psci_model.specs.Changes.{after};
-ghost use Rattle.psci_model.specs.Answer.{answer, reply_of};
+ghost use Rattle.psci_fw_model.specs.declared.reply.FwReply.TheVariants.{Out};
+ghost use Rattle.psci_fw_model.specs.Changes.{after};
+ghost use Rattle.psci_fw_model.specs.Answer.{answer, reply_of};
 ghost use Rattle.psci_fw.specs.Seen.{seen};
 ghost use Rattle.psci_bench.specs.Legal.{call_in, count_of, first_place, happens, place_after};
 ghost use Rattle.psci_bench.specs.Legal.{said_by};
@@ -15,7 +15,7 @@ use crate::machine::Machine;
 use crate::said::{Said, Sent};
 use psci_board::{Board, Core, Memory};
 use psci_fw::Firmware;
-use psci_model::{Act, Cause, FwFault, Outcome, Start, law_values};
+use psci_fw_model::{Act, Cause, FwFault, Outcome, Start, law_values};
 use std::alloc::Global;
 
 /// Where a core is.

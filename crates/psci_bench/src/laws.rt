@@ -3,7 +3,7 @@
 ghost use Rattle.psci_bench.specs.EventText.{ReadsAsSpelled, SpellsWhatItSays};
 ghost use Rattle.psci_bench.specs.Legal.{AnswersAtPlace};
 
-use psci_model::{law_caller, law_enters, law_first_start, law_invariant, law_values};
+use psci_fw_model::{law_caller, law_enters, law_first_start, law_invariant, law_values};
 
 /// A core at its place is never refused by the firmware: the `Ignored` that is said of an event
 /// says that its core does not run, or was not started.

@@ -1,7 +1,7 @@
 //! What is said of an event.
 
 use crate::event::Event;
-use psci_model::{Act, Message};
+use psci_fw_model::{Act, Message};
 
 /// A message, and how many messages were sent before it.
 #[derive(Drop, Debug, PartialEq)]

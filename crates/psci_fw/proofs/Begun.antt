@@ -6,7 +6,7 @@ use Rattle.std.proofs.lemmas.Bool.{and_parts, cases_lt, ltb-true}
 use Rattle.std.proofs.lemmas.List.{get_or_past}
 use Rattle.std.proofs.lemmas.List.Sums.{sum_by-cons}
 use Rattle.psci_board.specs.Board.{BoardValue, IsBoard, IsTree, is_width, size_below, cores}
-use Rattle.psci_model.specs.Lives.{in_life, start_of_life}
+use Rattle.psci_fw_model.specs.Lives.{in_life, start_of_life}
 use Rattle.psci_fw.specs.declared.row.CoreRow.{CoreRow}
 use Rattle.psci_fw.specs.Rows.{AreFirst, first_row, off_row, row_at}
 use Rattle.psci_fw.specs.Seen.{values_in}

@@ -5,11 +5,11 @@ use Rattle.std.proofs.Math.ListN.{set}
 use Rattle.std.proofs.lemmas.Bool.{eqb-true, eqb-false}
 use Rattle.std.proofs.lemmas.List.{get_or-set_same, get_or-set_other}
 use Rattle.psci_board.specs.Board.{BoardValue}
-use Rattle.psci_model.specs.declared.phase.Phase.{Phase}
-use Rattle.psci_model.specs.declared.status.Status.{Status}
-use Rattle.psci_model.specs.declared.opening.Opening.{Opening}
-use Rattle.psci_model.specs.Invariant.{AreValues, agrees}
-use Rattle.psci_model.specs.Values.{Values, updated}
+use Rattle.psci_fw_model.specs.declared.phase.Phase.{Phase}
+use Rattle.psci_fw_model.specs.declared.status.Status.{Status}
+use Rattle.psci_fw_model.specs.declared.opening.Opening.{Opening}
+use Rattle.psci_fw_model.specs.Invariant.{AreValues, agrees}
+use Rattle.psci_fw_model.specs.Values.{Values, updated}
 use Rattle.psci_fw.specs.declared.row.CoreRow.{CoreRow}
 use Rattle.psci_fw.specs.Rows.{off_row, row_at}
 use Rattle.psci_fw.specs.Seen.{values_in}

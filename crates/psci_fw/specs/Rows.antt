@@ -3,11 +3,11 @@ use Rattle.std.specs.Prelude.{◌≡◌, ℕ, ◌<◌, List, length, slice_index
 use Rattle.std.specs.List.{list_any}
 use Rattle.std.specs.Prelude.{if◌then◌else◌}
 use Rattle.psci_board.specs.Board.{BoardValue, cores}
-use Rattle.psci_model.specs.declared.phase.Phase.TheVariants as phases
-use Rattle.psci_model.specs.declared.status.Status.{Status}
-use Rattle.psci_model.specs.declared.status.Status.TheVariants.{On, Off, Pending}
-use Rattle.psci_model.specs.AffinityInfo.{is_on, is_pending}
-use Rattle.psci_model.specs.Lives.{first_status, first_phase, first_opening}
+use Rattle.psci_fw_model.specs.declared.phase.Phase.TheVariants as phases
+use Rattle.psci_fw_model.specs.declared.status.Status.{Status}
+use Rattle.psci_fw_model.specs.declared.status.Status.TheVariants.{On, Off, Pending}
+use Rattle.psci_fw_model.specs.AffinityInfo.{is_on, is_pending}
+use Rattle.psci_fw_model.specs.Lives.{first_status, first_phase, first_opening}
 use Rattle.psci_fw.specs.declared.row.CoreRow.{CoreRow}
 
 -- a core that is off and was never started

@@ -3,10 +3,10 @@ use Rattle.std.specs.Prelude.{◌≡◌, ℕ, List, length, Option, None, Some, 
 use Rattle.std.specs.Prelude.{if◌then◌else◌}
 use Rattle.psci_board.specs.Board.{BoardValue, cores}
 use Rattle.psci_board.specs.declared.node.Node.{Node}
-use Rattle.psci_model.specs.declared.status.Status.{Status}
-use Rattle.psci_model.specs.AffinityInfo.{node_status}
-use Rattle.psci_model.specs.Invariant.{AreValues}
-use Rattle.psci_model.specs.Values.{Values}
+use Rattle.psci_fw_model.specs.declared.status.Status.{Status}
+use Rattle.psci_fw_model.specs.AffinityInfo.{node_status}
+use Rattle.psci_fw_model.specs.Invariant.{AreValues}
+use Rattle.psci_fw_model.specs.Values.{Values}
 use Rattle.psci_fw.specs.declared.row.CoreRow.{CoreRow}
 use Rattle.psci_fw.specs.Rows.{row_at}
 

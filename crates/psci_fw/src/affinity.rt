@@ -2,7 +2,7 @@
 
 ghost use Rattle.std.specs.Prelude.{◌≡◌};
 ghost use Rattle.std.specs.List.{list_any};
-ghost use Rattle.psci_model.specs.AffinityInfo.{affinity_info, is_on, is_pending, node_status};
+ghost use Rattle.psci_fw_model.specs.AffinityInfo.{affinity_info, is_on, is_pending, node_status};
 ghost use Rattle.psci_fw.specs.Rows.{status_of_all};
 ghost use Rattle.psci_fw.specs.Seen.{seen};
 
@@ -10,7 +10,7 @@ use crate::firmware::Firmware;
 use crate::row::CoreRow;
 use psci_abi::Code;
 use psci_board::{Node, law_spans};
-use psci_model::Status;
+use psci_fw_model::Status;
 
 impl Firmware {
     /// AFFINITY_INFO (DEN0022D): the status of the core or power domain that `target` names at the

@@ -2,17 +2,17 @@
 
 ghost use Rattle.std.specs.Prelude.{◌≡◌, ◌<◌, ◌≤◌, MatchResult, None, Some};
 ghost use Rattle.psci_board.specs.Board.{cores};
-ghost use Rattle.psci_model.specs.Changes.{with_arrival, with_phase, with_running};
-ghost use Rattle.psci_model.specs.declared.phase.Phase.TheVariants.{Away};
-ghost use Rattle.psci_model.specs.Entering.{down_message, enter_fault, is_old, outcome_at};
-ghost use Rattle.psci_model.specs.Lives.{in_life};
-ghost use Rattle.psci_model.specs.Phases.{phase_under};
+ghost use Rattle.psci_fw_model.specs.Changes.{with_arrival, with_phase, with_running};
+ghost use Rattle.psci_fw_model.specs.declared.phase.Phase.TheVariants.{Away};
+ghost use Rattle.psci_fw_model.specs.Entering.{down_message, enter_fault, is_old, outcome_at};
+ghost use Rattle.psci_fw_model.specs.Lives.{in_life};
+ghost use Rattle.psci_fw_model.specs.Phases.{phase_under};
 ghost use Rattle.psci_fw.specs.Seen.{seen};
 
 use crate::firmware::Firmware;
 use crate::row::{CoreRow, reset_rows};
 use psci_board::Core;
-use psci_model::{Act, FwFault, Kind, Message, Opening, Outcome, Phase, Start, Status};
+use psci_fw_model::{Act, FwFault, Kind, Message, Opening, Outcome, Phase, Start, Status};
 
 impl Firmware {
     /// Whether a core may enter by this start, or the first reason why it may not.

@@ -4,7 +4,7 @@ use crate::entering::outcome_at;
 use crate::row::{CoreRow, first_rows};
 use psci_abi::{Regs, read};
 use psci_board::{Board, Core, Memory, Node};
-use psci_model::{FwFault, Outcome, Phase, Start, Status};
+use psci_fw_model::{FwFault, Outcome, Phase, Start, Status};
 use std::alloc::Global;
 use std::marker::Model;
 
@@ -34,12 +34,12 @@ impl Model for Firmware {
 
 ghost use Rattle.std.specs.Prelude.{◌≡◌, ◌<◌, ◌≤◌, length, slice_set, true, IfOk, OnErr};
 ghost use Rattle.psci_board.specs.Board.{cores};
-ghost use Rattle.psci_model.specs.declared.call.FwCall.TheVariants.{Smc, Enter};
-ghost use Rattle.psci_model.specs.Answer.{answer, reply_of};
-ghost use Rattle.psci_model.specs.Changes.{after};
-ghost use Rattle.psci_model.specs.Invariant.{agrees};
-ghost use Rattle.psci_model.specs.Lives.{start_of_life};
-ghost use Rattle.psci_model.specs.Phases.{is_running};
+ghost use Rattle.psci_fw_model.specs.declared.call.FwCall.TheVariants.{Smc, Enter};
+ghost use Rattle.psci_fw_model.specs.Answer.{answer, reply_of};
+ghost use Rattle.psci_fw_model.specs.Changes.{after};
+ghost use Rattle.psci_fw_model.specs.Invariant.{agrees};
+ghost use Rattle.psci_fw_model.specs.Lives.{start_of_life};
+ghost use Rattle.psci_fw_model.specs.Phases.{is_running};
 ghost use Rattle.psci_fw.specs.Rows.{row_at};
 ghost use Rattle.psci_fw.specs.Seen.{IsFirmware, life_shown, seen, status_shown};
 
@@ -64,7 +64,7 @@ impl Firmware {
     ///
     /// Refused with NoCore where the board has no such core, NoLife before any core has entered,
     /// and NotRunning where the core is not running.
-    #[tactic(auto, unfolding(psci_model::specs::Answer::answer, psci_model::specs::Changes::after))]
+    #[tactic(auto, unfolding(psci_fw_model::specs::Answer::answer, psci_fw_model::specs::Changes::after))]
     pub fn smc(&mut self, core: Core, regs: Regs) -> Result<Outcome, FwFault>
         ensures answer { reply_of result
             ≡ answer self.old.board (seen self.old) core.number (Smc regs) }
@@ -85,7 +85,7 @@ impl Firmware {
     /// OldStart where the start is over or can't be: its life is an earlier one than the
     /// firmware's, its number is none that the board allows, or it is no later one than the core's
     /// known start in the firmware's life.
-    #[tactic(auto, unfolding(psci_model::specs::Answer::answer, psci_model::specs::Changes::after))]
+    #[tactic(auto, unfolding(psci_fw_model::specs::Answer::answer, psci_fw_model::specs::Changes::after))]
     pub fn enter(&mut self, core: Core, start: Start) -> Result<Outcome, FwFault>
         ensures answer { reply_of result
             ≡ answer self.old.board (seen self.old) core.number (Enter start) }

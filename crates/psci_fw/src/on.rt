@@ -3,17 +3,17 @@
 ghost use Rattle.std.specs.Prelude.{◌≡◌, ◌<◌, Some, IfOk};
 ghost use Rattle.psci_abi.specs.declared.request.Request.TheVariants.{CpuOn};
 ghost use Rattle.psci_board.specs.Board.{cores};
-ghost use Rattle.psci_model.specs.declared.phase.Phase.TheVariants.{Running};
-ghost use Rattle.psci_model.specs.Changes.{change, with_pending};
-ghost use Rattle.psci_model.specs.CpuOn.{cpu_on, start_message, target_of};
-ghost use Rattle.psci_model.specs.Effects.{function_effect};
+ghost use Rattle.psci_fw_model.specs.declared.phase.Phase.TheVariants.{Running};
+ghost use Rattle.psci_fw_model.specs.Changes.{change, with_pending};
+ghost use Rattle.psci_fw_model.specs.CpuOn.{cpu_on, start_message, target_of};
+ghost use Rattle.psci_fw_model.specs.Effects.{function_effect};
 ghost use Rattle.psci_fw.specs.Seen.{seen};
 
 use crate::firmware::Firmware;
 use crate::row::CoreRow;
 use psci_abi::Code;
 use psci_board::Core;
-use psci_model::{Act, Kind, Message, Opening, Outcome, Phase, Status, law_caller};
+use psci_fw_model::{Act, Kind, Message, Opening, Outcome, Phase, Status, law_caller};
 
 impl Firmware {
     /// CPU_ON (DEN0022D): the core that `target` names is to be started, and will enter at `entry`
@@ -47,7 +47,7 @@ impl Firmware {
     }
 
     /// The core that a CPU_ON starts, or the code of the first check that fails.
-    #[tactic(auto, unfolding(psci_model::specs::CpuOn::target_of))]
+    #[tactic(auto, unfolding(psci_fw_model::specs::CpuOn::target_of))]
     fn check_target(&self, target: u64, entry: u64) -> Result<Core, Code>
         ensures target { result ≡ target_of self.now.board (seen self.now) target entry }
         ensures inside { IfOk result (λ core. core.number < cores self.now.board) }

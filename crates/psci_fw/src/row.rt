@@ -5,7 +5,7 @@ ghost use Rattle.psci_board.specs.Board.{cores};
 ghost use Rattle.psci_fw.specs.Rows.{AreFirst, first_row};
 
 use psci_board::{Board, Memory};
-use psci_model::{Opening, Phase, Status};
+use psci_fw_model::{Opening, Phase, Status};
 use std::alloc::Global;
 
 /// What the firmware keeps of one core.

@@ -2,16 +2,16 @@
 
 ghost use Rattle.std.specs.Prelude.{◌≡◌, ◌<◌, MatchResult, None, Some};
 ghost use Rattle.psci_board.specs.Board.{cores};
-ghost use Rattle.psci_model.specs.declared.phase.Phase.TheVariants.{Running};
-ghost use Rattle.psci_model.specs.Calls.{call_fault, outcome_of};
-ghost use Rattle.psci_model.specs.Changes.{change};
-ghost use Rattle.psci_model.specs.Effects.{function_effect};
+ghost use Rattle.psci_fw_model.specs.declared.phase.Phase.TheVariants.{Running};
+ghost use Rattle.psci_fw_model.specs.Calls.{call_fault, outcome_of};
+ghost use Rattle.psci_fw_model.specs.Changes.{change};
+ghost use Rattle.psci_fw_model.specs.Effects.{function_effect};
 ghost use Rattle.psci_fw.specs.Seen.{seen};
 
 use crate::firmware::Firmware;
 use psci_abi::{Code, Format, Request, features};
 use psci_board::Core;
-use psci_model::{FwFault, Outcome, law_caller};
+use psci_fw_model::{FwFault, Outcome, law_caller};
 
 /// PSCI 1.1: the major version in bits 31:16, the minor one in bits 15:0.
 const VERSION: Code = Code(0x0001_0001);

@@ -1,10 +1,10 @@
 use Rattle.std.proofs.Common.{◌≡◌, ℕ, ap, sym, ◌∙◌, subst, arith, length, slice_set, ◌∷◌, ◌+◌, ◌-◌}
 use Rattle.std.proofs.Common.{◌^◌, min}
 use Rattle.std.proofs.lemmas.Option.{slice_get_within}
-use Rattle.psci_model.specs.Changes.{after}
-use Rattle.psci_model.specs.Answer.{answer}
+use Rattle.psci_fw_model.specs.Changes.{after}
+use Rattle.psci_fw_model.specs.Answer.{answer}
 use Rattle.psci_fw.specs.Seen.{FirmwareValue, seen}
-use Rattle.psci_model.specs.declared.reply.FwReply.TheVariants.{Out}
+use Rattle.psci_fw_model.specs.declared.reply.FwReply.TheVariants.{Out}
 use Rattle.psci_bench.specs.declared.firmware_machine.FirmwareMachine.{FirmwareMachine}
 use Rattle.psci_bench.specs.declared.said.Said.{Said}
 use Rattle.psci_bench.specs.declared.said.Said.TheVariants.{Ignored}

@@ -1,6 +1,6 @@
 use Rattle.std.proofs.Common.{arith}
-use Rattle.psci_model.specs.declared.phase.Phase.TheVariants.{Away}
-use Rattle.psci_model.specs.Phases.{phase_under}
+use Rattle.psci_fw_model.specs.declared.phase.Phase.TheVariants.{Away}
+use Rattle.psci_fw_model.specs.Phases.{phase_under}
 use Rattle.psci_fw.specs.Rows.{row_at}
 use Rattle.psci_fw.proofs.Rowed.{phase_set}
 use Rattle.psci_fw.proofs.firmware.Firmware.set_away.Goals as goal

@@ -1,6 +1,6 @@
 use Rattle.std.proofs.Common.{Some, arith}
-use Rattle.psci_model.specs.declared.phase.Phase.TheVariants as phases
-use Rattle.psci_model.specs.declared.status.Status.TheVariants as statuses
+use Rattle.psci_fw_model.specs.declared.phase.Phase.TheVariants as phases
+use Rattle.psci_fw_model.specs.declared.status.Status.TheVariants as statuses
 use Rattle.psci_fw.proofs.Rowed.{pending_set}
 use Rattle.psci_fw.proofs.firmware.Firmware.set_pending.Goals as goal
 

@@ -1,0 +1,34 @@
+//! The firmware's answers, as definitions: the plain types of calls and replies, and in `specs/`
+//! what each call is answered, what it leaves, and the same said backwards along a history.
+//!
+//! - A *call* is a secure monitor call (SMC) of a running core, a started core that enters, or an
+//!   acknowledgement that arrives.
+//! - A *start* is one power-up of a core; the starts of a core are numbered from 1 in each life.
+//! - A *life* is the time from one power-up of the whole system to its next reset.
+//! - An *entry* is an item of a history: one call with its reply.
+//! - A *place* is the position of a core or power domain on its level, counted from 0.
+//! - An *opening* is where a core goes on when it next enters: entry point and context id.
+#![tactic(auto)]
+
+mod call;
+mod fault;
+mod laws;
+mod mode;
+mod opening;
+mod outcome;
+mod reply;
+mod start;
+mod status;
+
+pub use call::FwCall;
+pub use fault::FwFault;
+pub use laws::{
+    law_caller, law_enters, law_first_start, law_invariant, law_legal, law_pending, law_power_on,
+    law_stops, law_values,
+};
+pub use mode::SuspendMode;
+pub use opening::Opening;
+pub use outcome::{Act, Outcome};
+pub use reply::FwReply;
+pub use start::{Cause, Start};
+pub use status::Status;
