@@ -1,2 +1,6 @@
+mod EntryRows
+mod ModeRows
+mod OffRows
 mod Steps
-mod Rows
+mod SuspendRows
+mod SystemRows
