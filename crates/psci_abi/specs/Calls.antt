@@ -5,12 +5,9 @@ use Rattle.std.specs.Int.{cast_unsigned, w32, w64}
 use Rattle.psci_abi.specs.Codes.{not_supported}
 use Rattle.psci_abi.specs.declared.code.Code.{Code}
 use Rattle.psci_abi.specs.declared.registers.Regs.{Regs}
-use Rattle.psci_abi.specs.declared.format.Format.{Format}
 use Rattle.psci_abi.specs.declared.request.Request.{Request}
 use Rattle.psci_abi.specs.declared.request.Request.TheVariants.{Version, CpuOn, AffinityInfo}
 use Rattle.psci_abi.specs.declared.request.Request.TheVariants.{MigrateInfoType, Features, Unknown}
-use Rattle.psci_abi.specs.declared.request.Request.TheVariants.{CpuSuspend, CpuOff, SystemOff}
-use Rattle.psci_abi.specs.declared.request.Request.TheVariants.{SystemReset, SystemSuspend, SetSuspendMode}
 
 -- the low half of a register, or of an argument: the function word, and what has 32 bits
 abbrev pub low : ℕ → ℕ
@@ -29,17 +26,11 @@ argument r register = if is_wide r then register else low register
 abbrev pub function_of : ℕ → ℕ → ℕ → ℕ → Request
 function_of word x1 x2 x3 =
     (if word == 0x84000000 then Version
-    else (if word == 0x84000001 || word == 0xC4000001 then CpuSuspend (low x1) x2 x3
-    else (if word == 0x84000002 then CpuOff
     else (if word == 0x84000003 || word == 0xC4000003 then CpuOn x1 x2 x3
     else (if word == 0x84000004 || word == 0xC4000004 then AffinityInfo x1 (low x2)
     else (if word == 0x84000006 then MigrateInfoType
-    else (if word == 0x84000008 then SystemOff
-    else (if word == 0x84000009 then SystemReset
     else (if word == 0x8400000A then Features (low x1)
-    else (if word == 0x8400000E || word == 0xC400000E then SystemSuspend x1 x2
-    else (if word == 0x8400000F then SetSuspendMode (low x1)
-    else Unknown)))))))))))
+    else Unknown)))))
 
 -- the function that registers call, and its arguments
 abbrev pub request_of : Regs → Request
@@ -47,16 +38,20 @@ request_of r = function_of (low r.x0) (argument r r.x1) (argument r r.x2) (argum
 
 -- whether the table has the function
 abbrev pub is_known : Request → Bool
+is_known Version = true
+is_known (CpuOn target entry context) = true
+is_known (AffinityInfo target level) = true
+is_known MigrateInfoType = true
+is_known (Features word) = true
 is_known Unknown = false
-is_known r = true
 
 -- which function words are supported: those of the table
 abbrev pub is_supported : ℕ → Bool
 is_supported word = is_known (function_of word 0 0 0)
 
 -- what PSCI_FEATURES answers: no function has a feature flag yet
-abbrev pub features_of : Format → ℕ → ℤ
-features_of f word = if word == 0x84000001 || word == 0xC4000001 then pos 1 else (if is_supported word then pos 0 else not_supported.0)
+abbrev pub features_of : ℕ → ℤ
+features_of word = if is_supported word then pos 0 else not_supported.0
 
 -- a result register: the code over 64 bits, or over the low 32 with the upper half zero
 abbrev pub register_of : ℤ → Bool → ℕ

@@ -20,12 +20,11 @@ pub enum Format {
 /// No function of this firmware has a flag yet, so the answer is the same in both formats. The
 /// format is the board's; it will decide a flag of CPU_SUSPEND.
 pub fn features(word: u32, format: Format) -> i32
-    ensures { result ≡ features_of format word }
+    ensures { result ≡ features_of word }
 {
     let _ = format;
     match function(word, 0, 0, 0) {
         Request::Unknown => Code::NOT_SUPPORTED.0,
-        Request::CpuSuspend { .. } => 1,
         _ => 0,
     }
 }

@@ -17,13 +17,6 @@ use crate::words::{
 pub enum Request {
     /// PSCI_VERSION.
     Version,
-    /// CPU_SUSPEND
-    CpuSuspend {
-        state: u32,
-        entry: u64,
-        context: u64,
-    },
-    CpuOff,
     /// CPU_ON: start the core that `target` names at the entry point, with the context id.
     CpuOn {
         /// The affinity word of the core.
@@ -42,19 +35,10 @@ pub enum Request {
     },
     /// MIGRATE_INFO_TYPE.
     MigrateInfoType,
-    SystemOff,
-    SystemReset,
     /// PSCI_FEATURES: whether a function is there, and its feature flags.
     Features {
         /// The function word that is asked about.
         word: u32,
-    },
-    SystemSuspend {
-        entry: u64,
-        context: u64,
-    },
-    SetSuspendMode {
-        mode: u32,
     },
     /// Every other function word: NOT_SUPPORTED.
     Unknown,
@@ -94,12 +78,6 @@ pub(crate) fn function(word: u32, x1: u64, x2: u64, x3: u64) -> Request
 {
     match word {
         PSCI_VERSION => Request::Version,
-        0x8400_0001 | 0xC400_0001 => Request::CpuSuspend { state: low(x1), entry: x2, context: x3 },
-        0x8400_0002 => Request::CpuOff,
-        0x8400_0008 => Request::SystemOff,
-        0x8400_0009 => Request::SystemReset,
-        0x8400_000E | 0xC400_000E => Request::SystemSuspend { entry: x1, context: x2 },
-        0x8400_000F => Request::SetSuspendMode { mode: low(x1) },
         CPU_ON_32 | CPU_ON_64 => Request::cpu_on(x1, x2, x3),
         AFFINITY_INFO_32 | AFFINITY_INFO_64 => Request::affinity_info(x1, low(x2)),
         MIGRATE_INFO_TYPE => Request::MigrateInfoType,
