@@ -1,8 +1,8 @@
 use Rattle.std.proofs.Common.{arith}
 use Rattle.std.proofs.lemmas.Grind.{common_steps}
 use Rattle.std.proofs.lemmas.Bool.Decides.{nat_tests}
-use Rattle.psci_board.proofs.Digits.{steps}
-use Rattle.psci_board.proofs.words.value_of.Goals as goal
+use Rattle.psci_text.proofs.Digits.{steps}
+use Rattle.psci_text.proofs.words.value_of.Goals as goal
 
 pub returns-in_err-digit : goal.returns-in_err-digit
 returns-in_err-digit c = grind (arith, common_steps, steps)

@@ -1,7 +1,7 @@
 use Rattle.std.proofs.Common.{arith}
 use Rattle.std.specs.Str.Parse.{AllDigits}
-use Rattle.psci_board.proofs.Digits.{hexadecimal_front, sixteen_fit, has_value}
-use Rattle.psci_board.proofs.words.hex.Goals as goal
+use Rattle.psci_text.proofs.Digits.{hexadecimal_front, sixteen_fit, has_value}
+use Rattle.psci_text.proofs.words.hex.Goals as goal
 
 pub returns-in_err-value_of : goal.returns-in_err-value_of
 returns-in_err-value_of c =

@@ -4,7 +4,7 @@ ghost use Rattle.std.specs.Prelude.{◌≡◌, ◌^◌, ◌≤◌, nat_lt, if◌
 ghost use Rattle.std.specs.List.{prefix_len};
 ghost use Rattle.std.specs.Char.{is_ascii_digit, is_ascii_hexdigit};
 ghost use Rattle.std.specs.Str.Parse.{digits_value, AllDigits};
-ghost use Rattle.psci_board.specs.Reading.{literal_at, number_at, hex_at, hex_value};
+ghost use Rattle.psci_text.specs.Reading.{literal_at, number_at, hex_at, hex_value};
 
 /// The text after `word`, where it begins with `word`. Upper and lower case differ.
 #[tactic(auto, unfolding(crate::specs::Reading::literal_at))]

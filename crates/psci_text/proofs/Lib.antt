@@ -1,0 +1,4 @@
+pub mod Digits
+pub mod Rows
+pub mod SpelledLiterals
+pub mod SpelledNumbers
