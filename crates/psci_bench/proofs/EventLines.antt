@@ -6,8 +6,8 @@ use Rattle.std.specs.Prelude.{codes, option_map, unwrap_or}
 use Rattle.std.specs.Fmt.{decimal}
 use Rattle.std.proofs.lemmas.List.{append-nil, nil_from_length}
 use Rattle.std.proofs.lemmas.Option.{cond_some, none-some, option_and_then_some}
-use Rattle.psci_board.specs.Grammar.{IsNumber}
-use Rattle.psci_board.specs.Reading.{literal_at, number_at, spaced_at}
+use Rattle.psci_text.specs.Spelling.{IsNumber}
+use Rattle.psci_text.specs.Reading.{literal_at, number_at, spaced_at}
 use Rattle.psci_bench.specs.declared.event.Event.{Event}
 use Rattle.psci_bench.specs.declared.event.Event.TheVariants.{Call, Enter}
 use Rattle.psci_bench.specs.declared.grammar.Line.TheVariants.{Blank, Event as Says}

@@ -1,7 +1,7 @@
 //! The grammar of a line after the first.
 
 ghost use Rattle.std.specs.Prelude.{◌≡◌, option_map};
-ghost use Rattle.psci_board.specs.Reading.{spaced_at};
+ghost use Rattle.psci_text.specs.Reading.{spaced_at};
 ghost use Rattle.psci_bench.specs.Line.{register_at, optional_register_at, call_at, enter_at};
 ghost use Rattle.psci_bench.specs.Line.{line_of};
 

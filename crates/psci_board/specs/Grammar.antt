@@ -1,8 +1,8 @@
 -- The grammar of board texts: what a board text is, and how each is spelled.
-use Rattle.std.specs.Prelude.{ℕ, ◌^◌, ◌<◌, ◌≤◌, List, [], ◌∷◌, ◌++◌, length, flat_map, codes}
-use Rattle.std.specs.List.{All, AllPass}
-use Rattle.std.specs.Char.{is_ascii_hexdigit}
+use Rattle.std.specs.Prelude.{ℕ, ◌<◌, List, [], ◌∷◌, ◌++◌, length, flat_map, codes}
+use Rattle.std.specs.List.{All}
 use Rattle.std.specs.Fmt.{decimal}
+use Rattle.psci_text.specs.Spelling.{hex, IsNumber, IsHex}
 
 -- a member of the outer list: a number, or a list of numbers
 pub data Member : Type 0 where

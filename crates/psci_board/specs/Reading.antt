@@ -1,10 +1,7 @@
 -- Reading a board text from left to right. What is read is a value and the bytes after it.
-use Rattle.std.specs.Prelude.{ℕ, zero, suc, ◌^◌, ◌||◌, ◌&&◌, not, Bool, List, [], ◌∷◌, length, take}
-use Rattle.std.specs.Prelude.{drop, Option, Some, None, option_and_then, nat_lt, nat_le, ◌==◌}
-use Rattle.std.specs.Prelude.{if◌then◌else◌, codes, slice_index}
-use Rattle.std.specs.List.{prefix_len}
-use Rattle.std.specs.Char.{is_ascii_digit, is_ascii_hexdigit}
-use Rattle.std.specs.Str.Parse.{digits_value}
+use Rattle.std.specs.Prelude.{ℕ, zero, suc, Bool, List, [], ◌∷◌, length, Option, Some, None}
+use Rattle.std.specs.Prelude.{◌==◌, if◌then◌else◌, codes, slice_index}
+use Rattle.psci_text.specs.Reading.{◌>>=◌, literal_at, number_at, hex_at, spaced_at}
 use Rattle.psci_board.specs.Grammar.{Member, TreeText, BoardText}
 use Rattle.psci_board.specs.Grammar.Member.{Cluster, Group}
 use Rattle.psci_board.specs.Grammar.TreeText.{One, Members}
