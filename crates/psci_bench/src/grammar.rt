@@ -7,7 +7,7 @@ ghost use Rattle.psci_bench.specs.Line.{line_of};
 
 use crate::event::Event;
 use psci_abi::Regs;
-use psci_board::{hex, literal, number};
+use psci_text::{hex, literal, number};
 
 /// What a line says.
 #[derive(Clone, Copy, Debug, PartialEq, Eq)]
@@ -27,7 +27,7 @@ fn register(text: &[u8]) -> Option<(u64, &[u8])>
 }
 
 /// The register after a space, and the text after it.
-#[tactic(auto, unfolding(psci_board::specs::Reading::spaced_at))]
+#[tactic(auto, unfolding(psci_text::specs::Reading::spaced_at))]
 fn spaced_register(text: &[u8]) -> Option<(u64, &[u8])>
     ensures { option_map (λ x. (x.0, x.1.now)) result ≡ spaced_at register_at text.now }
 {

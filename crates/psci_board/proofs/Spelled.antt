@@ -9,15 +9,9 @@ use Rattle.psci_board.specs.Grammar.{spaced, listed, IsListOf}
 use Rattle.std.specs.Char.{is_ascii_digit, is_ascii_hexdigit}
 use Rattle.std.specs.Fmt.{decimal}
 use Rattle.psci_text.specs.Reading.{literal_at, number_at, hex_at, spaced_at}
-use Rattle.psci_text.specs.Spelling.{Ends, Reads, ReadsLiterals, IsNumber, IsHex, hex}
+use Rattle.psci_text.specs.Spelling.{TextLaws, Ends, Reads, IsNumber, IsHex, hex}
 use Rattle.psci_board.specs.Reading.{then_more, at_most, more_at, list_at}
 use Rattle.psci_board.proofs.More.{Shortens, more_some, more_none}
-
--- what the laws of words and numbers say
-pub record TextLaws : Type 0 where
-  pub literals : ReadsLiterals
-  pub numbers : Reads number_at decimal IsNumber is_ascii_digit
-  pub hexadecimals : Reads hex_at hex IsHex is_ascii_hexdigit
 
 -- what is left is no longer than the text
 pub shortens : {A : Type 0} (item : List ℕ → Option (A × List ℕ)) (spell : A → List ℕ)
@@ -40,7 +34,7 @@ unfolding spaced_at
 spaced_takes w item spell P kind r bytes x e =
     option_and_then_some _ (literal_at (32 ∷ []) bytes) x e (λ after l i.
     let t = r.takes after x i in
-    (t.0, w.literals.takes (32 ∷ []) bytes after l ∙ ap (λ bs. 32 ∷ bs) t.1))
+    (t.0, w.word_takes (32 ∷ []) bytes after l ∙ ap (λ bs. 32 ∷ bs) t.1))
 
 ends_there : {A : Type 0} (spell : A → List ℕ) (kind : ℕ → Bool) → kind 32 ≡ false → (xs : List A)
     (rest : List ℕ) → Ends kind rest → Ends kind (spaced spell xs ++ rest)
@@ -154,8 +148,8 @@ list_takes {A} w item spell P kind r bytes xs e =
     let m = more_takes w item spell P kind r first.1 in
     let whole : bytes ≡ listed spell (first.0 ∷ others.0) ++ close =
     list_joined bytes within (spell first.0) first.1 (spaced spell others.0) others.1 close
-    (w.literals.takes (40 ∷ []) bytes within a) f.1 m.1
-    (w.literals.takes (41 ∷ []) others.1 close d) in
+    (w.word_takes (40 ∷ []) bytes within a) f.1 m.1
+    (w.word_takes (41 ∷ []) others.1 close d) in
     let same : (first.0 ∷ others.0, close) ≡ xs = same_Some _ _ e3 in
     subst (λ (y : List A × List ℕ). IsListOf P y.0 × (bytes ≡ listed spell y.0 ++ y.1)) same
     (list_of P first.0 others.0 f.0 m.0, whole))))

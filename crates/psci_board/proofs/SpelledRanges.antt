@@ -3,10 +3,9 @@ use Rattle.std.proofs.Common.{◌≡◌, ℕ, List, ◌∷◌, ◌++◌, [], Som
 use Rattle.std.specs.Char.{is_ascii_hexdigit}
 use Rattle.std.proofs.lemmas.Option.{option_and_then_some, same_Some}
 use Rattle.psci_text.specs.Reading.{literal_at, hex_at}
-use Rattle.psci_text.specs.Spelling.{Ends, Reads, hex}
+use Rattle.psci_text.specs.Spelling.{TextLaws, Ends, Reads, hex}
 use Rattle.psci_board.specs.Grammar.{IsRange, range}
 use Rattle.psci_board.specs.Reading.{range_at}
-use Rattle.psci_board.proofs.Spelled.{TextLaws}
 
 range_again : (w : TextLaws) (r : List ℕ × List ℕ) (rest : List ℕ) → IsRange r → Ends is_ascii_hexdigit rest
     → range_at (range r ++ rest) ≡ Some (r, rest)
@@ -32,7 +31,7 @@ range_takes w bytes x e =
     let t = w.hexadecimals.takes after to d in
     let whole : bytes ≡ range (from.0, to.0) ++ to.1 =
     range_joined bytes (hex from.0) from.1 after (hex to.0) to.1 f.1
-    (w.literals.takes (45 ∷ []) from.1 after b) t.1 in
+    (w.word_takes (45 ∷ []) from.1 after b) t.1 in
     let same : ((from.0, to.0), to.1) ≡ x = same_Some _ _ e3 in
     subst (λ (y : (List ℕ × List ℕ) × List ℕ). IsRange y.0 × (bytes ≡ range y.0 ++ y.1)) same
     (record { start = f.0; end = t.0 }, whole))))

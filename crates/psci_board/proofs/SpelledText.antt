@@ -7,14 +7,14 @@ use Rattle.std.specs.List.{AllByRecursion}
 use Rattle.std.proofs.lemmas.List.{append-nil, nil_from_length}
 use Rattle.std.proofs.lemmas.List.Elements.{recursion_from_All}
 use Rattle.std.proofs.lemmas.Option.{cond_some, option_and_then_some}
-use Rattle.psci_text.specs.Spelling.{IsHex, IsNumber}
+use Rattle.psci_text.specs.Spelling.{TextLaws, IsHex, IsNumber}
 use Rattle.psci_board.specs.Grammar.{TreeText, BoardText, IsTreeText, IsRange}
 use Rattle.psci_text.specs.Spelling.{hex}
 use Rattle.psci_board.specs.Grammar.{IsBoardText, spaced, tree, range, spelling}
 use Rattle.psci_text.specs.Reading.{literal_at, spaced_at, number_at, hex_at}
 use Rattle.psci_board.specs.Reading.{more_at, range_at}
 use Rattle.psci_board.specs.Reading.{tree_at, board_text}
-use Rattle.psci_board.proofs.Spelled.{TextLaws, first_again, spaced_takes, more_again}
+use Rattle.psci_board.proofs.Spelled.{first_again, spaced_takes, more_again}
 use Rattle.psci_board.proofs.Spelled.{more_takes, list_of}
 use Rattle.psci_board.proofs.SpelledRanges.{range_reads}
 use Rattle.psci_board.proofs.SpelledTree.{tree_reads}
@@ -113,8 +113,8 @@ text_takes w bytes t e =
     (32 ∷ range first.0) first.1 (spaced range others.0) others.1 (codes " boot ") rest2
     (hex boot.0) boot.1 (codes " starts ") rest3 (decimal starts.0) starts.1
     (codes " lives ") rest4 (decimal lives.0) lives.1
-    t1.1 (w.literals.takes _ top.1 rest1 a2) t3.1 t4.1 (w.literals.takes _ others.1 rest2 a4) t5.1
-    (w.literals.takes _ boot.1 rest3 a6) t7.1 (w.literals.takes _ starts.1 rest4 a8) t9.1
+    t1.1 (w.word_takes _ top.1 rest1 a2) t3.1 t4.1 (w.word_takes _ others.1 rest2 a4) t5.1
+    (w.word_takes _ boot.1 rest3 a6) t7.1 (w.word_takes _ starts.1 rest4 a8) t9.1
     (nil_from_length lives.1 (eqb-true (length lives.1) 0 end.0)) in
     subst (λ (y : BoardText). IsBoardText y × (bytes ≡ spelling y)) end.1 (
       record {

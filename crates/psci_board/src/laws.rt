@@ -6,7 +6,7 @@ ghost use Rattle.psci_board.specs.Grammar.{BoardText, IsBoardText, spelling};
 ghost use Rattle.psci_board.specs.Reading.{board_text};
 ghost use Rattle.psci_board.specs.Verdict.{board_of};
 
-use psci_text::{law_hexadecimals, law_literals, law_numbers};
+use psci_text::law_text;
 
 /// What holds of every board holds of each board that a text describes: whoever has the board of a
 /// text may use all that is known of boards.
@@ -27,7 +27,5 @@ pub fn law_board_text()
     ensures spelled { (bytes : List ℕ) (t : BoardText) → board_text bytes ≡ Some t
         → IsBoardText t × (bytes ≡ spelling t) }
 {
-    law_literals();
-    law_numbers();
-    law_hexadecimals();
+    law_text();
 }

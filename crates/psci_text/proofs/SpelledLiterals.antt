@@ -3,7 +3,6 @@ use Rattle.std.proofs.Common.{◌≡◌, ℕ, Bool, true, false, cond, eqb, List
 use Rattle.std.proofs.Common.{Some, None, refl, eqb-true, arith}
 use Rattle.std.proofs.lemmas.Bool.Decides.{nat_tests}
 use Rattle.psci_text.specs.Reading.{literal_at}
-use Rattle.psci_text.specs.Spelling.{ReadsLiterals}
 
 cond_both : {A : Type 0} (t : Bool) (o : Option A) (x : A) → cond t o None ≡ Some x
     → (t ≡ true) × (o ≡ Some x)
@@ -24,10 +23,7 @@ literal_takes (w ∷ ws) (b ∷ bs) rest e =
 same : (b : ℕ) → eqb b b ≡ true
 same b = grind (arith, nat_tests)
 
-literal_again : (word rest : List ℕ) → literal_at word (word ++ rest) ≡ Some rest
+pub literal_again : (word rest : List ℕ) → literal_at word (word ++ rest) ≡ Some rest
 unfolding literal_at
 literal_again [] rest = refl
 literal_again (w ∷ ws) rest = rw (same w, literal_again ws rest) refl
-
-pub literals_read : ReadsLiterals
-literals_read = record { again = literal_again; takes = literal_takes }

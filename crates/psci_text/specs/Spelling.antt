@@ -2,8 +2,9 @@
 use Rattle.std.specs.Prelude.{◌≡◌, ℕ, ◌^◌, ◌<◌, ◌≤◌, Bool, false, List, [], ◌∷◌, ◌++◌, length}
 use Rattle.std.specs.Prelude.{Option, Some}
 use Rattle.std.specs.List.{AllPass}
-use Rattle.std.specs.Char.{is_ascii_hexdigit}
-use Rattle.psci_text.specs.Reading.{literal_at}
+use Rattle.std.specs.Char.{is_ascii_digit, is_ascii_hexdigit}
+use Rattle.std.specs.Fmt.{decimal}
+use Rattle.psci_text.specs.Reading.{literal_at, number_at, hex_at}
 
 -- a hexadecimal number: 0x and its digits, since these can differ in case and in leading zeros
 abbrev pub hex : List ℕ → List ℕ
@@ -32,8 +33,14 @@ pub record Reads {A : Type 0} (item : List ℕ → Option (A × List ℕ)) (spel
   pub takes : (bytes : List ℕ) (x : A × List ℕ) → item bytes ≡ Some x
       → P x.0 × (bytes ≡ spell x.0 ++ x.1)
 
--- A word is read where it stands, whatever follows it, and nowhere else.
-pub record ReadsLiterals : Type 0 where
-  pub again : (word rest : List ℕ) → literal_at word (word ++ rest) ≡ Some rest
-  pub takes : (word bytes rest : List ℕ) → literal_at word bytes ≡ Some rest
+-- what is spelled is read so, and what is read is spelled so
+pub record TextLaws : Type 0 where
+  -- a word is read where it stands, whatever follows it
+  pub word_again : (word rest : List ℕ) → literal_at word (word ++ rest) ≡ Some rest
+  -- and nowhere else
+  pub word_takes : (word bytes rest : List ℕ) → literal_at word bytes ≡ Some rest
       → bytes ≡ word ++ rest
+  -- a number, where no further digit follows
+  pub numbers : Reads number_at decimal IsNumber is_ascii_digit
+  -- a hexadecimal number, where no further digit follows
+  pub hexadecimals : Reads hex_at hex IsHex is_ascii_hexdigit

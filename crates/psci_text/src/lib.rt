@@ -9,7 +9,7 @@
 mod laws;
 mod words;
 
-pub use laws::{law_hexadecimals, law_literals, law_numbers};
+pub use laws::law_text;
 pub use words::{hex, literal, number};
 
 #[cfg(test)]
