@@ -1,4 +1,5 @@
-pub mod Digits
+pub mod Values
+pub mod Prefixes
 pub mod Rows
 pub mod SpelledLiterals
 pub mod SpelledNumbers

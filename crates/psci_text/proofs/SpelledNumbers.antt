@@ -17,7 +17,7 @@ use Rattle.std.proofs.lemmas.List.Folds.{length-prefix_len}
 use Rattle.std.proofs.lemmas.Option.{cond_some, option_and_then_some}
 use Rattle.psci_text.specs.Spelling.{IsNumber, IsHex, hex, Ends, Reads}
 use Rattle.psci_text.specs.Reading.{literal_at, number_at, is_number, hex_at}
-use Rattle.psci_text.proofs.Digits.{decimal_front}
+use Rattle.psci_text.proofs.Values.{decimal_front}
 use Rattle.psci_text.proofs.SpelledLiterals.{literal_takes}
 
 -- Digits at the front ---------------------------------------------------------------------------

@@ -6,6 +6,7 @@
 //!   and take all digits that stand there.
 #![tactic(auto)]
 
+mod digits;
 mod laws;
 mod words;
 
