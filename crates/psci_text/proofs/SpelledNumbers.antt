@@ -1,7 +1,7 @@
--- Numbers, addresses and ranges are read as they are spelled, and in no other way.
+-- Numbers are read as they are spelled, and in no other way.
 use Rattle.std.proofs.Common.{◌≡◌, ℕ, zero, suc, ◌+◌, ◌<◌, ◌≤◌, ◌^◌, Bool, true, false, cond, List}
 use Rattle.std.proofs.Common.{[], ◌∷◌, ◌++◌, length, take, drop, get_or, Some, refl, ap, sym, ◌∙◌}
-use Rattle.std.proofs.Common.{lit<, arith, append_assoc, one-add, subst}
+use Rattle.std.proofs.Common.{lit<, arith, one-add, subst}
 use Rattle.std.specs.Prelude.{◌&&◌, nat_lt, nat_le}
 use Rattle.std.specs.List.{AllByRecursion, prefix_len}
 use Rattle.std.specs.Char.{is_ascii_digit, is_ascii_hexdigit, digit_value}
@@ -14,11 +14,11 @@ use Rattle.std.proofs.lemmas.Str.Parse.{numerals_by_value, tells_digits, IsNumer
 use Rattle.std.proofs.lemmas.List.{take_at, drop_at, take-append-drop}
 use Rattle.std.proofs.lemmas.List.Elements.{All-from_recursion, recursion_from_All}
 use Rattle.std.proofs.lemmas.List.Folds.{length-prefix_len}
-use Rattle.std.proofs.lemmas.Option.{cond_some, option_and_then_some, same_Some}
-use Rattle.psci_board.specs.Grammar.{IsNumber, IsHex, IsRange, hex, range}
-use Rattle.psci_board.specs.Reading.{literal_at, number_at, is_number, hex_at, range_at}
-use Rattle.psci_board.proofs.Digits.{decimal_front}
-use Rattle.psci_board.proofs.Spelled.{Ends, Reads, literal_takes}
+use Rattle.std.proofs.lemmas.Option.{cond_some, option_and_then_some}
+use Rattle.psci_text.specs.Spelling.{IsNumber, IsHex, hex, Ends, Reads}
+use Rattle.psci_text.specs.Reading.{literal_at, number_at, is_number, hex_at}
+use Rattle.psci_text.proofs.Values.{decimal_front}
+use Rattle.psci_text.proofs.SpelledLiterals.{literal_takes}
 
 -- Digits at the front ---------------------------------------------------------------------------
 
@@ -106,7 +106,7 @@ number_takes bytes x e =
 pub number_reads : Reads number_at decimal IsNumber is_ascii_digit
 number_reads = record { again = number_again; takes = number_takes }
 
--- Addresses -------------------------------------------------------------------------------------
+-- Hexadecimal numbers ---------------------------------------------------------------------------
 
 hex_length : (n : ℕ) → 0 < n → n ≤ 16 → (nat_lt 0 n && nat_le n 16) ≡ true
 hex_length n a b = grind (arith, nat_tests)
@@ -145,37 +145,3 @@ hex_takes bytes x e =
 
 pub hex_reads : Reads hex_at hex IsHex is_ascii_hexdigit
 hex_reads = record { again = hex_again; takes = hex_takes }
-
--- Ranges ----------------------------------------------------------------------------------------
-
-range_again : (r : List ℕ × List ℕ) (rest : List ℕ) → IsRange r → Ends is_ascii_hexdigit rest
-    → range_at (range r ++ rest) ≡ Some (r, rest)
-unfolding range_at literal_at
-range_again r rest h e =
-    let to : hex_at (hex r.1 ++ rest) ≡ Some (r.1, rest) = hex_again r.1 rest h.end e in
-    let from : hex_at (hex r.0 ++ (45 ∷ hex r.1 ++ rest)) ≡ Some (r.0, 45 ∷ hex r.1 ++ rest) =
-    hex_again r.0 (45 ∷ hex r.1 ++ rest) h.start refl in
-    rw (append_assoc, from, to) refl
-
-range_joined : (bytes from dash after to rest : List ℕ) → bytes ≡ from ++ dash → dash ≡ 45 ∷ after
-    → after ≡ to ++ rest → bytes ≡ (from ++ 45 ∷ to) ++ rest
-range_joined bytes from dash after to rest a b c = rw append_assoc (cc)
-
-range_takes : (bytes : List ℕ) (x : (List ℕ × List ℕ) × List ℕ) → range_at bytes ≡ Some x
-    → IsRange x.0 × (bytes ≡ range x.0 ++ x.1)
-unfolding range_at
-range_takes bytes x e =
-    option_and_then_some _ (hex_at bytes) x e (λ from a e1.
-    option_and_then_some _ (literal_at (45 ∷ []) from.1) x e1 (λ after b e2.
-    option_and_then_some _ (hex_at after) x e2 (λ to d e3.
-    let f = hex_takes bytes from a in
-    let t = hex_takes after to d in
-    let whole : bytes ≡ range (from.0, to.0) ++ to.1 =
-    range_joined bytes (hex from.0) from.1 after (hex to.0) to.1 f.1
-    (literal_takes (45 ∷ []) from.1 after b) t.1 in
-    let same : ((from.0, to.0), to.1) ≡ x = same_Some _ _ e3 in
-    subst (λ (y : (List ℕ × List ℕ) × List ℕ). IsRange y.0 × (bytes ≡ range y.0 ++ y.1)) same
-    (record { start = f.0; end = t.0 }, whole))))
-
-pub range_reads : Reads range_at range IsRange is_ascii_hexdigit
-range_reads = record { again = range_again; takes = range_takes }
