@@ -4,8 +4,8 @@ use Rattle.std.specs.Prelude.{None, Some}
 use Rattle.psci_board.specs.Board.{BoardValue, core_of, node_of, up}
 use Rattle.psci_fw_model.specs.declared.call.FwCall.TheVariants as calls
 use Rattle.psci_fw_model.specs.declared.fault.FwFault.TheVariants.{NotRunning}
-use Rattle.psci_fw_model.specs.declared.message.Kind.TheVariants.{Start}
-use Rattle.psci_fw_model.specs.declared.message.Message.{Message}
+use Rattle.psci_link.specs.declared.kind.Kind.TheVariants.{Start}
+use Rattle.psci_link.specs.Message.{MessageValue}
 use Rattle.psci_fw_model.specs.declared.outcome.Act.{Act}
 use Rattle.psci_fw_model.specs.declared.outcome.Act.TheVariants as acts
 use Rattle.psci_fw_model.specs.declared.reply.FwReply.TheVariants.{Out, Fault}
@@ -16,7 +16,7 @@ use Rattle.psci_fw_model.specs.History.{values_of}
 use Rattle.psci_fw_model.specs.AffinityInfo.{node_status}
 use Rattle.psci_bench.specs.declared.event.Event.{Event}
 use Rattle.psci_bench.specs.declared.event.Event.TheVariants.{Call, Enter}
-use Rattle.psci_bench.specs.declared.firmware_machine.Place.TheVariants.{Started, Running, Stopped}
+use Rattle.psci_bench.specs.declared.place.Place.TheVariants.{Started, Running, Stopped}
 use Rattle.psci_bench.specs.declared.said.Record.{Record}
 use Rattle.psci_bench.specs.declared.said.Said.{Said}
 use Rattle.psci_bench.specs.declared.said.Said.TheVariants.{Fw, Ignored, Absent}

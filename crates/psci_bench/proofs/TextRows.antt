@@ -2,8 +2,8 @@
 use Rattle.std.proofs.Common.{◌≡◌, ℕ, pos, negsuc, List, [], ◌∷◌, ◌++◌, refl}
 use Rattle.std.specs.Prelude.{None, Some, codes}
 use Rattle.std.specs.Fmt.{digits}
-use Rattle.psci_fw_model.specs.declared.message.Kind.{Kind}
-use Rattle.psci_fw_model.specs.declared.message.Kind.TheVariants.{Down, Start, Off, Reset}
+use Rattle.psci_link.specs.declared.kind.Kind.{Kind}
+use Rattle.psci_link.specs.declared.kind.Kind.TheVariants.{Down, Start, Off, Reset}
 use Rattle.psci_fw_model.specs.declared.outcome.Act.{Act}
 use Rattle.psci_fw_model.specs.declared.outcome.Act.TheVariants.{Return, Stop, Enter, Resume}
 use Rattle.psci_bench.specs.declared.said.Said.TheVariants.{Fw, Ignored, Absent}

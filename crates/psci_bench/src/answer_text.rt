@@ -3,7 +3,9 @@
 ghost use Rattle.std.specs.Prelude.{Some};
 
 use crate::said::{Said, Sent};
-use psci_fw_model::{Act, Kind};
+use psci_coord::Part;
+use psci_fw_model::Act;
+use psci_link::Kind;
 use std::fmt;
 
 /// What was said of the event of this number, counted from 1.
@@ -22,6 +24,10 @@ struct ActText<'a>(&'a Act);
 /// The word of a kind of message.
 #[derive(Clone, Copy)]
 struct KindText(Kind);
+
+/// The parts of a message, as an answer line has them after it.
+#[derive(Clone, Copy)]
+struct PartsText<'a>(&'a [Part]);
 
 impl fmt::Display for ActText<'_> {
     ghost use Rattle.std.specs.Prelude.{Some};
@@ -55,6 +61,24 @@ impl fmt::Display for KindText {
     }
 }
 
+impl fmt::Display for PartsText<'_> {
+    ghost use Rattle.std.specs.Prelude.{Some};
+    ghost use Rattle.psci_bench.specs.Text.{parts_text};
+
+    ghost output = { λ text. Some (parts_text text.0.now) };
+
+    fn fmt<W: fmt::Write>(&self, f: &mut fmt::Formatter<W>) -> fmt::Result {
+        if self.0.is_empty() {
+            return Ok(());
+        }
+        write!(f, " parts")?;
+        for part in self.0 {
+            write!(f, " {}:{}:{}", part.level, part.depth, part.generation)?;
+        }
+        Ok(())
+    }
+}
+
 impl fmt::Display for Sent {
     ghost use Rattle.std.specs.Prelude.{Some};
     ghost use Rattle.psci_bench.specs.Text.{sent_text};
@@ -67,9 +91,10 @@ impl fmt::Display for Sent {
         let core = message.core.number;
         let life = message.life;
         let number = message.number;
+        let parts = PartsText(message.parts.as_slice());
         write!(
             f,
-            "#{} {kind} {core} life {life} number {number}",
+            "#{} {kind} {core} life {life} number {number}{parts}",
             self.index
         )
     }
