@@ -25,6 +25,10 @@ struct ActText<'a>(&'a Act);
 #[derive(Clone, Copy)]
 struct KindText(Kind);
 
+/// A part of a message, after a space: level, depth and generation.
+#[derive(Clone, Copy)]
+struct PartText<'a>(&'a Part);
+
 /// The parts of a message, as an answer line has them after it.
 #[derive(Clone, Copy)]
 struct PartsText<'a>(&'a [Part]);
@@ -61,6 +65,22 @@ impl fmt::Display for KindText {
     }
 }
 
+impl fmt::Display for PartText<'_> {
+    ghost use Rattle.std.specs.Prelude.{Some};
+    ghost use Rattle.psci_bench.specs.Text.{part_text};
+
+    ghost output = { λ text. Some (part_text text.0.now) };
+
+    fn fmt<W: fmt::Write>(&self, f: &mut fmt::Formatter<W>) -> fmt::Result {
+        let Part {
+            level,
+            depth,
+            generation,
+        } = self.0;
+        write!(f, " {level}:{depth}:{generation}")
+    }
+}
+
 impl fmt::Display for PartsText<'_> {
     ghost use Rattle.std.specs.Prelude.{Some};
     ghost use Rattle.psci_bench.specs.Text.{parts_text};
@@ -73,7 +93,7 @@ impl fmt::Display for PartsText<'_> {
         }
         write!(f, " parts")?;
         for part in self.0 {
-            write!(f, " {}:{}:{}", part.level, part.depth, part.generation)?;
+            write!(f, "{}", PartText(part))?;
         }
         Ok(())
     }
