@@ -12,11 +12,13 @@
 mod call;
 mod delivery;
 mod kick;
+mod laws;
 mod reply;
 mod start;
 
 pub use call::CtlCall;
 pub use delivery::Delivery;
 pub use kick::Kick;
+pub use laws::{law_generations, law_limits, law_replies, law_start, law_values};
 pub use reply::CtlReply;
 pub use start::{Cause, Start};
