@@ -1,2 +1,10 @@
-mod Steps
+mod DomainsSay
+mod LeftBy
+mod OneMore
+mod OpeningsSay
+mod PhasesSay
 mod Rows
+mod Says
+mod SlotsSay
+mod StatusesSay
+mod Steps

@@ -34,6 +34,8 @@ ghost use Rattle.psci_fw_model.specs.Outcomes.{goes_on};
 ghost use Rattle.psci_fw_model.specs.Phases.{Pending, Running, Away};
 ghost use Rattle.psci_fw_model.specs.Values.{Values};
 
+use psci_link::law_slots;
+
 /// The values that a history says are those of a life's start before any core has entered, and
 /// after one more entry those that the entry leaves. So kept values say what the history says,
 /// whichever entries it has.
@@ -41,7 +43,9 @@ pub fn law_values()
     ensures first { (b : BoardValue) → values_of b [] ≡ start_of_life b 0 }
     ensures more { (b : BoardValue) (e : Entry) (h : List Entry)
         → values_of b (e ∷ h) ≡ after b e.core e.call e.reply (values_of b h) }
-{}
+{
+    law_slots();
+}
 
 /// A core is pending exactly where its status is ON_PENDING, after every history.
 pub fn law_pending()
