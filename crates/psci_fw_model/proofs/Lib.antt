@@ -2,8 +2,10 @@ mod DomainsSay
 mod LeftBy
 mod OneMore
 mod OpeningsSay
+mod PendingCores
 mod PhasesSay
 mod Rows
+mod SameReplies
 mod Says
 mod SlotsSay
 mod StatusesSay
