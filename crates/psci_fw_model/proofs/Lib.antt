@@ -1,3 +1,5 @@
+mod Arrivals
+mod Callers
 mod DomainsSay
 mod LeftBy
 mod OneMore
@@ -10,3 +12,4 @@ mod Says
 mod SlotsSay
 mod StatusesSay
 mod Steps
+mod Targets
