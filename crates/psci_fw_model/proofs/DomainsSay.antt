@@ -7,8 +7,8 @@ use Rattle.psci_coord.specs.declared.part.Part.{Part}
 use Rattle.std.proofs.Common.{slice_get}
 use Rattle.psci_fw_model.specs.After.{change}
 use Rattle.psci_fw_model.specs.Changes.{target}
-use Rattle.psci_fw_model.specs.Effects.{Effect, Nothing, GoesOn, SetsMode, AsksOn, Rests, Halts}
-use Rattle.psci_fw_model.specs.Effects.{Leaves, Enters, Parks, Ceases, Acknowledges}
+use Rattle.psci_fw_model.specs.Effects.{Effect, AsksOn, Rests}
+use Rattle.psci_fw_model.specs.Effects.{Enters, Parks, Ceases}
 use Rattle.psci_fw_model.specs.Entry.{Entry}
 use Rattle.psci_fw_model.specs.History.{begins, granted, life, only_if, says_granted, values_of}
 use Rattle.psci_fw_model.specs.Lives.{first_granted}
@@ -57,16 +57,11 @@ module _ (b : BoardValue) (h : List Entry) where
       (cond (begins (life b h) (arrived f)) (first_granted b level place) (granted b h level place))
       ≡ (change b f (values_of b h)).granted level place
   unfolding values_of
-  granted_more Nothing level place = refl
-  granted_more (GoesOn c) level place = refl
-  granted_more (SetsMode c m) level place = refl
   granted_more (AsksOn c asked) level place =
       said (is_on_path b (target asked) level place) 0 (granted b h level place)
   granted_more (Rests c rest m) level place =
       claims (is_on_path b m.core.number level place) (slice_get m.parts level)
       (granted b h level place)
-  granted_more (Halts c m) level place = refl
-  granted_more (Leaves c) level place = refl
   granted_more (Enters c s) level place =
       enters s.life (s.life == life b h) (is_on_path b c level place) level place
   granted_more (Parks c s m) level place =
@@ -78,4 +73,4 @@ module _ (b : BoardValue) (h : List Entry) where
       (found_granted s.life (s.life == life b h) level place)
   granted_more (Ceases c s) level place =
       enters s.life (s.life == life b h) (is_on_path b c level place) level place
-  granted_more (Acknowledges a) level place = refl
+  granted_more f level place = refl

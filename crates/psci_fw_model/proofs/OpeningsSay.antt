@@ -7,8 +7,8 @@ use Rattle.psci_board.specs.Board.{BoardValue}
 use Rattle.psci_fw_model.specs.declared.opening.Opening.{Opening}
 use Rattle.psci_fw_model.specs.After.{change}
 use Rattle.psci_fw_model.specs.Changes.{target}
-use Rattle.psci_fw_model.specs.Effects.{Effect, Nothing, GoesOn, SetsMode, AsksOn, Rests, Halts}
-use Rattle.psci_fw_model.specs.Effects.{Leaves, Enters, Parks, Ceases, Acknowledges}
+use Rattle.psci_fw_model.specs.Effects.{Effect, AsksOn, Rests}
+use Rattle.psci_fw_model.specs.Effects.{Enters, Parks, Ceases}
 use Rattle.psci_fw_model.specs.Entry.{Entry}
 use Rattle.psci_fw_model.specs.History.{begins, life, only_if, opening, says_opening, values_of}
 use Rattle.psci_fw_model.specs.Lives.{first_opening}
@@ -43,15 +43,10 @@ module _ (b : BoardValue) (h : List Entry) where
       (cond (begins (life b h) (arrived f)) (first_opening b k) (opening b h k))
       ≡ (change b f (values_of b h)).opening k
   unfolding values_of
-  opening_more Nothing k = refl
-  opening_more (GoesOn c) k = refl
-  opening_more (SetsMode c m) k = refl
   opening_more (AsksOn c asked) k =
       said_or (k == target asked) (Some asked.opening) (opening b h k)
   opening_more (Rests c rest m) k = rests c k rest.opening (k == c) refl
-  opening_more (Halts c m) k = refl
-  opening_more (Leaves c) k = refl
   opening_more (Enters c s) k = enters s.life c (s.life == life b h) k
   opening_more (Parks c s m) k = enters s.life c (s.life == life b h) k
   opening_more (Ceases c s) k = enters s.life c (s.life == life b h) k
-  opening_more (Acknowledges a) k = refl
+  opening_more f k = refl

@@ -11,8 +11,8 @@ use Rattle.psci_fw_model.specs.declared.status.Status.{Status}
 use Rattle.psci_fw_model.specs.declared.status.Status.TheVariants as statuses
 use Rattle.psci_fw_model.specs.AffinityInfo as affinity
 use Rattle.psci_fw_model.specs.Changes.{target}
-use Rattle.psci_fw_model.specs.Effects.{Effect, Nothing, GoesOn, SetsMode, AsksOn, Rests, Halts}
-use Rattle.psci_fw_model.specs.Effects.{Leaves, Enters, Parks, Ceases, Acknowledges}
+use Rattle.psci_fw_model.specs.Effects.{Effect, AsksOn}
+use Rattle.psci_fw_model.specs.Effects.{Enters, Parks, Ceases, Acknowledges}
 use Rattle.psci_fw_model.specs.Entry.{Entry, effect}
 use Rattle.psci_fw_model.specs.History.{begins, is_gone, is_pending, life, only_if, phase}
 use Rattle.psci_fw_model.specs.History.{phase_left, says_pending, says_status, status}
@@ -75,13 +75,7 @@ module _ (b : BoardValue) where
       (cond (begins (life b h) (arrived f)) (first_status c) (status b h c)))
       (unwrap_or (says_pending c h f)
       (cond (begins (life b h) (arrived f)) (c == 0) (is_pending b h c)))
-  more_agree c h Nothing e = e
-  more_agree c h (GoesOn core) e = e
-  more_agree c h (SetsMode core mode) e = e
   more_agree c h (AsksOn core asked) e = asked_agree (c == target asked) _ _ e
-  more_agree c h (Rests core rest m) e = e
-  more_agree c h (Halts core m) e = e
-  more_agree c h (Leaves core) e = e
   more_agree c h (Enters core s) e =
       ran_agree (c == core) _ _
       (begun_agree (begins (life b h) (arrived (Enters core s))) (c == 0) _ _ e)
@@ -91,6 +85,7 @@ module _ (b : BoardValue) where
       begun_agree (begins (life b h) (arrived (Ceases core s))) (c == 0) _ _ e
   more_agree c h (Acknowledges a) e =
       gone_agree (is_gone b c h a) _ _ (gone_away c h a) e
+  more_agree c h f e = e
 
   agree : (h : List Entry) (c : ℕ) → Agree (status b h c) (is_pending b h c)
   agree [] c = first_agree (c == 0)

@@ -6,8 +6,8 @@ use Rattle.std.proofs.lemmas.Bool.{eqb-true}
 use Rattle.psci_board.specs.Board.{BoardValue}
 use Rattle.psci_fw_model.specs.After.{change}
 use Rattle.psci_fw_model.specs.Changes.{target}
-use Rattle.psci_fw_model.specs.Effects.{Effect, Nothing, GoesOn, SetsMode, AsksOn, Rests, Halts}
-use Rattle.psci_fw_model.specs.Effects.{Leaves, Enters, Parks, Ceases, Acknowledges}
+use Rattle.psci_fw_model.specs.Effects.{Effect, GoesOn, SetsMode, AsksOn, Rests, Halts}
+use Rattle.psci_fw_model.specs.Effects.{Leaves, Enters, Parks, Ceases}
 use Rattle.psci_fw_model.specs.Entry.{Entry}
 use Rattle.psci_fw_model.specs.History.{begins, is_pending, life, only_if, phase_left, says_left}
 use Rattle.psci_fw_model.specs.History.{says_pending, values_of}
@@ -106,7 +106,6 @@ module _ (b : BoardValue) (h : List Entry) where
       (cond (begins (life b h) (arrived f)) Away (phase_left b h k)))
       ≡ (change b f (values_of b h)).phase k
   unfolding values_of
-  phase_more Nothing k = refl
   phase_more (GoesOn c) k = left_so c k Running
   phase_more (SetsMode c m) k = left_so c k Running
   phase_more (AsksOn c asked) k =
@@ -118,4 +117,4 @@ module _ (b : BoardValue) (h : List Entry) where
   phase_more (Enters c s) k = enters s.life c k (s.life == life b h)
   phase_more (Parks c s m) k = stops s.life c k (s.life == life b h)
   phase_more (Ceases c s) k = stops s.life c k (s.life == life b h)
-  phase_more (Acknowledges a) k = refl
+  phase_more f k = refl

@@ -7,8 +7,8 @@ use Rattle.psci_board.specs.Board.{BoardValue}
 use Rattle.psci_fw_model.specs.declared.mode.SuspendMode.TheVariants.{Platform}
 use Rattle.psci_fw_model.specs.declared.start.Start.{Start}
 use Rattle.psci_fw_model.specs.After.{change}
-use Rattle.psci_fw_model.specs.Effects.{Effect, Nothing, GoesOn, SetsMode, AsksOn, Rests, Halts}
-use Rattle.psci_fw_model.specs.Effects.{Leaves, Enters, Parks, Ceases, Acknowledges}
+use Rattle.psci_fw_model.specs.Effects.{Effect}
+use Rattle.psci_fw_model.specs.Effects.{Enters, Parks, Ceases}
 use Rattle.psci_fw_model.specs.Entry.{Entry}
 use Rattle.psci_fw_model.specs.History.{begins, halting, known, life, life_after, mode, only_if}
 use Rattle.psci_fw_model.specs.History.{says_halting, says_known, says_mode, values_of}
@@ -46,14 +46,7 @@ module _ (b : BoardValue) (h : List Entry) where
   life_more (Enters c s) = found_life s.life (s.life == life b h) refl
   life_more (Parks c s m) = found_life s.life (s.life == life b h) refl
   life_more (Ceases c s) = found_life s.life (s.life == life b h) refl
-  life_more Nothing = refl
-  life_more (GoesOn c) = refl
-  life_more (SetsMode c m) = refl
-  life_more (AsksOn c asked) = refl
-  life_more (Rests c rest m) = refl
-  life_more (Halts c m) = refl
-  life_more (Leaves c) = refl
-  life_more (Acknowledges a) = refl
+  life_more f = refl
 
   found_halting : (now : ℕ) (t : Bool)
       → cond (not t) false (halting b h) ≡ (found b h now t).halting
@@ -68,14 +61,7 @@ module _ (b : BoardValue) (h : List Entry) where
   halting_more (Enters c s) = found_halting s.life (s.life == life b h)
   halting_more (Parks c s m) = found_halting s.life (s.life == life b h)
   halting_more (Ceases c s) = found_halting s.life (s.life == life b h)
-  halting_more Nothing = refl
-  halting_more (GoesOn c) = refl
-  halting_more (SetsMode c m) = refl
-  halting_more (AsksOn c asked) = refl
-  halting_more (Rests c rest m) = refl
-  halting_more (Halts c m) = refl
-  halting_more (Leaves c) = refl
-  halting_more (Acknowledges a) = refl
+  halting_more f = refl
 
   found_mode : (now : ℕ) (t : Bool) → cond (not t) Platform (mode b h) ≡ (found b h now t).mode
   unfolding values_of
@@ -89,14 +75,7 @@ module _ (b : BoardValue) (h : List Entry) where
   mode_more (Enters c s) = found_mode s.life (s.life == life b h)
   mode_more (Parks c s m) = found_mode s.life (s.life == life b h)
   mode_more (Ceases c s) = found_mode s.life (s.life == life b h)
-  mode_more Nothing = refl
-  mode_more (GoesOn c) = refl
-  mode_more (SetsMode c m) = refl
-  mode_more (AsksOn c asked) = refl
-  mode_more (Rests c rest m) = refl
-  mode_more (Halts c m) = refl
-  mode_more (Leaves c) = refl
-  mode_more (Acknowledges a) = refl
+  mode_more f = refl
 
   found_known : (now : ℕ) (t : Bool) (k : ℕ)
       → cond (not t) 0 (known b h k) ≡ (found b h now t).known k
@@ -117,11 +96,4 @@ module _ (b : BoardValue) (h : List Entry) where
   known_more (Enters c s) k = enters_known c s k (s.life == life b h)
   known_more (Parks c s m) k = enters_known c s k (s.life == life b h)
   known_more (Ceases c s) k = enters_known c s k (s.life == life b h)
-  known_more Nothing k = refl
-  known_more (GoesOn c) k = refl
-  known_more (SetsMode c m) k = refl
-  known_more (AsksOn c asked) k = refl
-  known_more (Rests c rest m) k = refl
-  known_more (Halts c m) k = refl
-  known_more (Leaves c) k = refl
-  known_more (Acknowledges a) k = refl
+  known_more f k = refl

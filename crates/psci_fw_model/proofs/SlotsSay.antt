@@ -6,8 +6,8 @@ use Rattle.psci_link.specs.Outstanding as slots
 use Rattle.psci_link.specs.Slots.{Change, Clear, ClearAll, Put, Slot, changed}
 use Rattle.psci_fw_model.specs.declared.start.Start.{Start}
 use Rattle.psci_fw_model.specs.After.{change}
-use Rattle.psci_fw_model.specs.Effects.{Effect, Nothing, GoesOn, SetsMode, AsksOn, Rests, Halts}
-use Rattle.psci_fw_model.specs.Effects.{Leaves, Enters, Parks, Ceases, Acknowledges}
+use Rattle.psci_fw_model.specs.Effects.{Effect, AsksOn, Rests, Halts}
+use Rattle.psci_fw_model.specs.Effects.{Enters, Parks, Ceases, Acknowledges}
 use Rattle.psci_fw_model.specs.Entry.{Entry}
 use Rattle.psci_fw_model.specs.History.{begins, changes, life, values_of}
 use Rattle.psci_fw_model.specs.Said.{arrival_changes, arrived, slot_changes}
@@ -39,15 +39,12 @@ module _ (one : IsOneMore) (b : BoardValue) (h : List Entry) where
       → slots.outstanding slot (slot_changes (begins (life b h) (arrived f)) f ++ before)
       ≡ (change b f (values_of b h)).outstanding slot
   unfolding values_of
-  outstanding_more Nothing slot = refl
-  outstanding_more (GoesOn c) slot = refl
-  outstanding_more (SetsMode c m) slot = refl
   outstanding_more (AsksOn c asked) slot = one slot (Put asked.message) before
   outstanding_more (Rests c rest m) slot = one slot (Put m) before
   outstanding_more (Halts c m) slot = one slot (Put m) before
-  outstanding_more (Leaves c) slot = refl
   outstanding_more (Enters c s) slot = arrives c s slot (s.life == life b h)
   outstanding_more (Parks c s m) slot =
       one slot (Put m) _ ∙ ap (changed slot (Put m)) (arrives c s slot (s.life == life b h))
   outstanding_more (Ceases c s) slot = arrives c s slot (s.life == life b h)
   outstanding_more (Acknowledges a) slot = one slot _ before
+  outstanding_more f slot = refl

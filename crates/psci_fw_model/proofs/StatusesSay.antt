@@ -9,8 +9,8 @@ use Rattle.psci_link.specs.Slots.{is_kind}
 use Rattle.psci_fw_model.specs.declared.status.Status.TheVariants as statuses
 use Rattle.psci_fw_model.specs.After.{change}
 use Rattle.psci_fw_model.specs.Changes.{target}
-use Rattle.psci_fw_model.specs.Effects.{Effect, Nothing, GoesOn, SetsMode, AsksOn, Rests, Halts}
-use Rattle.psci_fw_model.specs.Effects.{Leaves, Enters, Parks, Ceases, Acknowledges}
+use Rattle.psci_fw_model.specs.Effects.{Effect, AsksOn}
+use Rattle.psci_fw_model.specs.Effects.{Enters, Parks, Ceases, Acknowledges}
 use Rattle.psci_fw_model.specs.Entry.{Entry}
 use Rattle.psci_fw_model.specs.History.{begins, life, only_if, phase, says_status, status}
 use Rattle.psci_fw_model.specs.History.{values_of}
@@ -52,16 +52,11 @@ module _ (b : BoardValue) (h : List Entry) where
       (cond (begins (life b h) (arrived f)) (first_status k) (status b h k))
       ≡ (change b f (values_of b h)).status k
   unfolding values_of
-  status_more Nothing k = refl
-  status_more (GoesOn c) k = refl
-  status_more (SetsMode c m) k = refl
   status_more (AsksOn c asked) k =
       said_or (k == target asked) statuses.Pending (status b h k)
-  status_more (Rests c rest m) k = refl
-  status_more (Halts c m) k = refl
-  status_more (Leaves c) k = refl
   status_more (Enters c s) k = enters s.life c (s.life == life b h) k
   status_more (Parks c s m) k = found_status s.life (s.life == life b h) k
   status_more (Ceases c s) k = found_status s.life (s.life == life b h) k
   status_more (Acknowledges a) k =
       goes a.core.number k (is_kind a.kind Down && nat_lt 0 a.applied) (k == a.core.number) refl
+  status_more f k = refl

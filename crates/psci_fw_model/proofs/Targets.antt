@@ -24,8 +24,7 @@ use Rattle.psci_fw_model.specs.Calls.{call_fault, function_outcome, outcome_of}
 use Rattle.psci_fw_model.specs.Changes.{PowerOn, target}
 use Rattle.psci_fw_model.specs.CpuOn.{off_target, started, target_among, target_of}
 use Rattle.psci_fw_model.specs.Effects.{Effect, AsksOn, GoesOn, effect_of, function_effect}
-use Rattle.psci_fw_model.specs.Effects.{mode_effect}
-use Rattle.psci_fw_model.specs.Effects.{return_effect, sent_effect, stop_effect}
+use Rattle.psci_fw_model.specs.Effects.{mode_effect, return_effect, sent_effect, stop_effect}
 use Rattle.psci_fw_model.specs.Invariant.{AreValues, agrees}
 use Rattle.psci_fw_model.specs.Outcomes.{stops}
 use Rattle.psci_fw_model.specs.Phases.{Phase}
