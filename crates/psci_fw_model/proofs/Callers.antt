@@ -18,6 +18,7 @@ use Rattle.psci_fw_model.specs.declared.outcome.Act.{Act}
 use Rattle.psci_fw_model.specs.declared.outcome.Act.TheVariants as acts
 use Rattle.psci_fw_model.specs.declared.reply.FwReply.{FwReply}
 use Rattle.psci_fw_model.specs.declared.reply.FwReply.TheVariants.{Out, Taken, Fault}
+use Rattle.psci_fw_model.specs.declared.status.Status.TheVariants.{Off}
 use Rattle.psci_fw_model.specs.After.{after, change}
 use Rattle.psci_fw_model.specs.Answer.{answer}
 use Rattle.psci_fw_model.specs.Calls.{outcome_of}
@@ -30,7 +31,7 @@ use Rattle.psci_fw_model.specs.Phases.{Phase, Running, Away, unless_pending}
 use Rattle.psci_fw_model.specs.Phases as phases
 use Rattle.psci_fw_model.specs.SuspendMode.{mode_of}
 use Rattle.psci_fw_model.specs.Values.{Values}
-use Rattle.psci_fw_model.proofs.Targets.{WasOff, off_away, was_off}
+use Rattle.psci_fw_model.proofs.Targets.{Asks, asks_outcome, off_away}
 
 -- The answer ----------------------------------------------------------------------------------
 
@@ -97,7 +98,7 @@ module _ (b : BoardValue) (v : Values) (c : ℕ) (runs : v.phase c ≡ Running) 
   sets_mode_runs : (m : SuspendMode) → RunsOn (SetsMode c m)
   sets_mode_runs m = goes_on_runs
 
-  asks_on_runs : (asked : PowerOn) → AreValues b v → WasOff v (AsksOn c asked)
+  asks_on_runs : (asked : PowerOn) → AreValues b v → v.status (target asked) ≡ Off
       → RunsOn (AsksOn c asked)
   asks_on_runs asked are off =
       ap (λ (x : Values). x.phase c) (asks_on_same b v c asked runs)
@@ -114,21 +115,21 @@ module _ (b : BoardValue) (v : Values) (c : ℕ) (runs : v.phase c ≡ Running) 
       mode_runs (mode_of number) (int_eq code.0 success.0)
   return_runs r code = goes_on_runs
 
-  sent_runs : (r : Request) (m : MessageValue) → AreValues b v → WasOff v (sent_effect c r m)
+  sent_runs : (r : Request) (m : MessageValue) → AreValues b v → Asks b v r (sent_effect c r m)
       → RunsOn (sent_effect c r m)
-  sent_runs (requests.CpuOn word entry context) m are off =
+  sent_runs (requests.CpuOn word entry context) m are was =
       asks_on_runs
-      (record { message = m; opening = record { address = entry; context = context } }) are off
-  sent_runs r m are off = goes_on_runs
+      (record { message = m; opening = record { address = entry; context = context } }) are was.off
+  sent_runs r m are was = goes_on_runs
 
   function_runs : (r : Request) (act : Act) (m : Option MessageValue) → AreValues b v
-      → WasOff v (function_effect b c r act m) → goes_on act ≡ true
+      → Asks b v r (function_effect b c r act m) → goes_on act ≡ true
       → RunsOn (function_effect b c r act m)
-  function_runs r acts.Stop m are off goes = absurd (cc)
-  function_runs r (acts.Return code) (Some m) are off goes = sent_runs r m are off
-  function_runs r (acts.Return code) None are off goes = return_runs r code
-  function_runs r (acts.Enter a x) m are off goes = goes_on_runs
-  function_runs r acts.Resume m are off goes = goes_on_runs
+  function_runs r acts.Stop m are was goes = absurd (cc)
+  function_runs r (acts.Return code) (Some m) are was goes = sent_runs r m are was
+  function_runs r (acts.Return code) None are was goes = return_runs r code
+  function_runs r (acts.Enter a x) m are was goes = goes_on_runs
+  function_runs r acts.Resume m are was goes = goes_on_runs
 
 pub runs_on : (b : BoardValue) (v : Values) (c : ℕ) (regs : Regs) → AreValues b v
     → v.phase c ≡ Running → let o = outcome_of b v c (request_of regs) in
@@ -137,7 +138,7 @@ unfolding after
 runs_on b v c regs are runs goes =
     let r = request_of regs in
     let o = outcome_of b v c r in
-    function_runs b v c runs r o.act o.message are (was_off b v c r) goes
+    function_runs b v c runs r o.act o.message are (asks_outcome b v c r) goes
 
 -- Lives ---------------------------------------------------------------------------------------
 

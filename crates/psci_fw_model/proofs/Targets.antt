@@ -32,41 +32,53 @@ use Rattle.psci_fw_model.specs.Phases as phases
 use Rattle.psci_fw_model.specs.SuspendMode.{mode_of}
 use Rattle.psci_fw_model.specs.Values.{Values}
 
--- a core that an effect asks on was off
-abbrev pub WasOff : Values → Effect → Type 0
-WasOff v (AsksOn c asked) = v.status (target asked) ≡ Off
-WasOff v e = Unit {0}
+-- A CPU_ON that was accepted: what was asked, and that its target was off.
+pub record WasAsked (b : BoardValue) (v : Values) (r : Request) (asked : PowerOn) : Type 0 where
+  pub word : ℕ
+  pub request : r ≡ requests.CpuOn word asked.opening.address asked.opening.context
+  pub core : core_of b word ≡ Some asked.message.core
+  pub off : v.status (target asked) ≡ Off
+
+-- the same of an effect, if it is one
+abbrev pub Asks : BoardValue → Values → Request → Effect → Type 0
+Asks b v r (AsksOn c asked) = WasAsked b v r asked
+Asks b v r e = Unit {0}
 
 -- The core that a CPU_ON starts ---------------------------------------------------------------
 
-off_unless : (t : Bool) (v : Values) (code : Code) (k target : Core)
-    → v.status k.number ≡ Off → cond t (Err code) (Ok k) ≡ Ok target → v.status target.number ≡ Off
-off_unless true v code k target e f = absurd (cc)
-off_unless false v code k target e f =
+-- the core that the word names is the one that is started, and it was off
+abbrev IsStarted : Values → Option Core → Core → Type 0
+IsStarted v named target = (named ≡ Some target) × (v.status target.number ≡ Off)
+
+started_unless : (t : Bool) (v : Values) (code : Code) (k target : Core)
+    → v.status k.number ≡ Off → cond t (Err code) (Ok k) ≡ Ok target → IsStarted v (Some k) target
+started_unless true v code k target e f = absurd (cc)
+started_unless false v code k target e f =
     let same : k ≡ target = cc in
-    ap (λ (x : Core). v.status x.number) (sym same) ∙ e
+    (ap (λ (x : Core). Some x) same, ap (λ (x : Core). v.status x.number) (sym same) ∙ e)
 
-off_by : (b : BoardValue) (v : Values) (k target : Core) (s : Status)
-    → v.status k.number ≡ s → off_target b v k s ≡ Ok target → v.status target.number ≡ Off
-off_by b v k target On e f = absurd (cc)
-off_by b v k target Pending e f = absurd (cc)
-off_by b v k target Off e f = off_unless (v.known k.number == b.starts) v _ k target e f
+started_by : (b : BoardValue) (v : Values) (k target : Core) (s : Status)
+    → v.status k.number ≡ s → off_target b v k s ≡ Ok target → IsStarted v (Some k) target
+started_by b v k target On e f = absurd (cc)
+started_by b v k target Pending e f = absurd (cc)
+started_by b v k target Off e f =
+    started_unless (v.known k.number == b.starts) v _ k target e f
 
-off_may : (t : Bool) (b : BoardValue) (v : Values) (k target : Core) (code : Code)
+started_at : (t : Bool) (b : BoardValue) (v : Values) (k target : Core) (code : Code)
     → cond t (off_target b v k (v.status k.number)) (Err code) ≡ Ok target
-    → v.status target.number ≡ Off
-off_may true b v k target code f = off_by b v k target (v.status k.number) refl f
-off_may false b v k target code f = absurd (cc)
+    → IsStarted v (Some k) target
+started_at true b v k target code f = started_by b v k target (v.status k.number) refl f
+started_at false b v k target code f = absurd (cc)
 
-off_among : (b : BoardValue) (v : Values) (entry : ℕ) (k : Option Core) (target : Core)
-    → target_among b v entry k ≡ Ok target → v.status target.number ≡ Off
-off_among b v entry None target f = absurd (cc)
-off_among b v entry (Some k) target f = off_may (may_enter b entry) b v k target _ f
+started_among : (b : BoardValue) (v : Values) (entry : ℕ) (k : Option Core) (target : Core)
+    → target_among b v entry k ≡ Ok target → IsStarted v k target
+started_among b v entry None target f = absurd (cc)
+started_among b v entry (Some k) target f = started_at (may_enter b entry) b v k target _ f
 
-off_target_of : (b : BoardValue) (v : Values) (word entry : ℕ) (target : Core)
-    → target_of b v word entry ≡ Ok target → v.status target.number ≡ Off
+started_core : (b : BoardValue) (v : Values) (word entry : ℕ) (target : Core)
+    → target_of b v word entry ≡ Ok target → IsStarted v (core_of b word) target
 unfolding target_of
-off_target_of b v word entry target f = off_among b v entry (core_of b word) target f
+started_core b v word entry target f = started_among b v entry (core_of b word) target f
 
 -- Functions -----------------------------------------------------------------------------------
 
@@ -77,74 +89,95 @@ IsOther r = Unit {0}
 
 -- what a function comes down to
 module _ (b : BoardValue) (v : Values) (c : ℕ) where
-  off_stop : (r : Request) (m : MessageValue) → WasOff v (stop_effect b c r m)
-  off_stop requests.SystemOff m = tt
-  off_stop requests.SystemReset m = tt
-  off_stop r m = tt
+  asks_stop : (r q : Request) (m : MessageValue) → Asks b v r (stop_effect b c q m)
+  asks_stop r requests.SystemOff m = tt
+  asks_stop r requests.SystemReset m = tt
+  asks_stop r q m = tt
 
-  off_mode : (m : Option SuspendMode) (t : Bool)
-      → WasOff v (cond t (mode_effect c m) (GoesOn c))
-  off_mode None true = tt
-  off_mode (Some m) true = tt
-  off_mode m false = tt
+  asks_mode : (r : Request) (m : Option SuspendMode) (t : Bool)
+      → Asks b v r (cond t (mode_effect c m) (GoesOn c))
+  asks_mode r None true = tt
+  asks_mode r (Some m) true = tt
+  asks_mode r m false = tt
 
-  off_return : (r : Request) (code : Code) → WasOff v (return_effect c r code)
-  off_return (requests.SetSuspendMode number) code =
-      off_mode (mode_of number) (int_eq code.0 success.0)
-  off_return r code = tt
+  asks_return : (r q : Request) (code : Code) → Asks b v r (return_effect c q code)
+  asks_return r (requests.SetSuspendMode number) code =
+      asks_mode r (mode_of number) (int_eq code.0 success.0)
+  asks_return r q code = tt
 
-  off_sent : (r : Request) (m : MessageValue) → IsOther r → WasOff v (sent_effect c r m)
-  off_sent (requests.CpuOn word entry context) m other = absurd other
-  off_sent r m other = tt
+  asks_sent : (r q : Request) (m : MessageValue) → IsOther q → Asks b v r (sent_effect c q m)
+  asks_sent r (requests.CpuOn word entry context) m other = absurd other
+  asks_sent r q m other = tt
 
-  off_other : (r : Request) (act : Act) (m : Option MessageValue) → IsOther r
-      → WasOff v (function_effect b c r act m)
-  off_other r acts.Stop (Some m) other = off_stop r m
-  off_other r acts.Stop None other = tt
-  off_other r (acts.Return code) (Some m) other = off_sent r m other
-  off_other r (acts.Return code) None other = off_return r code
-  off_other r act m other = tt
-
-  off_started : (r : Result Core Code) (word entry context : ℕ)
-      → ((target : Core) → r ≡ Ok target → v.status target.number ≡ Off)
-      → WasOff v (function_effect b c (requests.CpuOn word entry context) (started v r).act
-      (started v r).message)
-  off_started (Err code) word entry context f = tt
-  off_started (Ok target) word entry context f = f target refl
+  asks_other : (r q : Request) (act : Act) (m : Option MessageValue) → IsOther q
+      → Asks b v r (function_effect b c q act m)
+  asks_other r q acts.Stop (Some m) other = asks_stop r q m
+  asks_other r q acts.Stop None other = tt
+  asks_other r q (acts.Return code) (Some m) other = asks_sent r q m other
+  asks_other r q (acts.Return code) None other = asks_return r q code
+  asks_other r q act m other = tt
 
   abbrev comes_to : Request → Outcome → Effect
   comes_to r o = function_effect b c r o.act o.message
 
-  off_function : (r : Request) → WasOff v (comes_to r (function_outcome b v c r))
-  off_function (requests.CpuOn word entry context) =
-      off_started (target_of b v word entry) word entry context (off_target_of b v word entry)
-  off_function r =
-      let o = function_outcome b v c r in off_other r o.act o.message tt
+  asks_started : (r : Result Core Code) (word entry context : ℕ)
+      → ((target : Core) → r ≡ Ok target → IsStarted v (core_of b word) target)
+      → let q = requests.CpuOn word entry context in
+      Asks b v q (comes_to q (started v r))
+  asks_started (Err code) word entry context f = tt
+  asks_started (Ok target) word entry context f = record {
+    word = word;
+    request = refl;
+    core = (f target refl).0;
+    off = (f target refl).1;
+  }
 
-  off_outcome : (r : Request) (t : Bool)
-      → WasOff v (comes_to r (cond t stops (function_outcome b v c r)))
-  off_outcome r true = tt
-  off_outcome r false = off_function r
+  asks_function : (r : Request) → Asks b v r (comes_to r (function_outcome b v c r))
+  asks_function (requests.CpuOn word entry context) =
+      asks_started (target_of b v word entry) word entry context (started_core b v word entry)
+  asks_function r =
+      let o = function_outcome b v c r in asks_other r r o.act o.message tt
 
-  pub was_off : (r : Request) → WasOff v (comes_to r (outcome_of b v c r))
+  asks_unless : (r : Request) (t : Bool)
+      → Asks b v r (comes_to r (cond t stops (function_outcome b v c r)))
+  asks_unless r true = tt
+  asks_unless r false = asks_function r
+
+  pub asks_outcome : (r : Request) → Asks b v r (comes_to r (outcome_of b v c r))
   unfolding outcome_of
-  was_off r = off_outcome r v.halting
+  asks_outcome r = asks_unless r v.halting
 
-  off_reply : (regs : Regs) (f : Option FwFault)
-      → WasOff v (effect_of b c (Smc regs) (reply_or f (outcome_of b v c (request_of regs))))
-  off_reply regs None = was_off (request_of regs)
-  off_reply regs (Some f) = tt
+  asks_reply : (regs : Regs) (f : Option FwFault)
+      → Asks b v (request_of regs)
+      (effect_of b c (Smc regs) (reply_or f (outcome_of b v c (request_of regs))))
+  asks_reply regs None = asks_outcome (request_of regs)
+  asks_reply regs (Some f) = tt
 
-  off_answer : (regs : Regs) → WasOff v (effect_of b c (Smc regs) (answer b v c (Smc regs)))
+  asks_answer : (regs : Regs)
+      → Asks b v (request_of regs) (effect_of b c (Smc regs) (answer b v c (Smc regs)))
   unfolding answer
-  off_answer regs = off_reply regs (call_fault b v c)
+  asks_answer regs = asks_reply regs (call_fault b v c)
 
 -- Targets -------------------------------------------------------------------------------------
+
+was_asked : (b : BoardValue) (v : Values) (c caller : ℕ) (regs : Regs) (asked : PowerOn)
+    → effect_of b c (Smc regs) (answer b v c (Smc regs)) ≡ AsksOn caller asked
+    → WasAsked b v (request_of regs) asked
+was_asked b v c caller regs asked e =
+    subst (Asks b v (request_of regs)) e (asks_answer b v c regs)
 
 pub target_off : (b : BoardValue) (v : Values) (c caller : ℕ) (regs : Regs) (asked : PowerOn)
     → effect_of b c (Smc regs) (answer b v c (Smc regs)) ≡ AsksOn caller asked
     → v.status (target asked) ≡ Off
-target_off b v c caller regs asked e = subst (WasOff v) e (off_answer b v c regs)
+target_off b v c caller regs asked e = (was_asked b v c caller regs asked e).off
+
+pub target_asked : (b : BoardValue) (v : Values) (c caller : ℕ) (regs : Regs) (asked : PowerOn)
+    → effect_of b c (Smc regs) (answer b v c (Smc regs)) ≡ AsksOn caller asked
+    → (word : ℕ) × (core_of b word ≡ Some asked.message.core)
+    × (request_of regs
+    ≡ requests.CpuOn word asked.opening.address asked.opening.context)
+target_asked b v c caller regs asked e =
+    let was = was_asked b v c caller regs asked e in (was.word, was.core, was.request)
 
 away_where_off : (s : Status) (p : Phase) → agrees s p ≡ true → s ≡ Off → p ≡ phases.Away
 away_where_off On p e f = absurd (cc)
