@@ -1,2 +1,5 @@
+mod Asked
+mod Granting
+mod Wishes
 mod Steps
 mod Rows
