@@ -3,13 +3,15 @@ use Rattle.std.proofs.Common.{◌≡◌, ◌≤◌, ◌<◌, ◌+◌, ℕ, zero,
 use Rattle.std.proofs.Common.{refl, sym, ap, subst, ◌∙◌, arith}
 use Rattle.std.specs.Prelude.{if◌then◌else◌, slice_index}
 use Rattle.std.proofs.lemmas.Bool.{le-leb}
-use Rattle.psci_board.specs.Board.{BoardValue, cores, height, up}
-use Rattle.psci_board.specs.Laws.{PathLaws}
+use Rattle.psci_board.specs.Board.{BoardValue, IsBoard, cores, height, up}
+use Rattle.psci_board.specs.Laws.{PathLaws, WordLaws}
+use Rattle.psci_coord.specs.declared.part.Part.{Part}
 use Rattle.psci_coord.specs.Laws.{BelowLaws, ClaimLaws, PlatformLaws, OwnLaws, OffLaws}
 use Rattle.psci_coord.specs.Laws.{LastCoreLaws}
 use Rattle.psci_coord.specs.View.{PowerView, domain_of, is_all_off, least_ask}
+use Rattle.psci_link.specs.Message.{IsClaim, PartByPart}
 use Rattle.psci_state.specs.Ask.{IsAsk}
-use Rattle.psci_tree.specs.Recount.{asks, is_off}
+use Rattle.psci_tree.specs.Recount.{IsActivity, asks, is_off}
 use Rattle.psci_fw_model.specs.Invariant.{IsPhase}
 use Rattle.psci_fw_model.specs.Phases.{Phase, Pending, Running, Suspended, Away, activity_of}
 use Rattle.psci_fw_model.specs.Values.{Values}
@@ -18,6 +20,7 @@ use Rattle.psci_fw_model.specs.Views.{view}
 -- what is known of a board and of the claims on its domains
 pub record Known (b : BoardValue) : Type 0 where
   pub paths : PathLaws b
+  pub words : WordLaws b
   pub below : (v : PowerView) (core level : ℕ) → BelowLaws b v core level
   pub claims : (v : PowerView) (core : ℕ) (wanted : ℕ → ℕ) → ClaimLaws b v core wanted
   pub platform : (v : PowerView) (core : ℕ) → core < cores b → PlatformLaws b v core
@@ -25,6 +28,32 @@ pub record Known (b : BoardValue) : Type 0 where
   pub off : (v : PowerView) (core : ℕ) → OffLaws b v core
   pub last_core : (v : PowerView) (core : ℕ) (ask : List ℕ) → core < cores b
       → LastCoreLaws b v core ask
+  pub parts : (ps : List Part) → PartByPart ps → IsClaim ps
+
+pub known_from : (b : BoardValue) → IsBoard b → ((b : BoardValue) → IsBoard b → PathLaws b)
+    → ((b : BoardValue) → IsBoard b → WordLaws b)
+    → ((b : BoardValue) (v : PowerView) (core level : ℕ) → BelowLaws b v core level)
+    → ((b : BoardValue) (v : PowerView) (core : ℕ) (wanted : ℕ → ℕ) → ClaimLaws b v core wanted)
+    → ((b : BoardValue) (v : PowerView) (core : ℕ) → IsBoard b → core < cores b
+    → PlatformLaws b v core)
+    → ((b : BoardValue) (v : PowerView) (core : ℕ) (ask : List ℕ) → IsAsk ask
+    → OwnLaws b v core ask)
+    → ((b : BoardValue) (v : PowerView) (core : ℕ) → OffLaws b v core)
+    → ((b : BoardValue) (v : PowerView) (core : ℕ) (ask : List ℕ) → IsBoard b → core < cores b
+    → LastCoreLaws b v core ask)
+    → ((ps : List Part) → PartByPart ps → IsClaim ps)
+    → Known b
+known_from b board paths words below claims platform own off last_core parts = record {
+  paths = paths b board;
+  words = words b board;
+  below = below b;
+  claims = claims b;
+  platform = λ v core on. platform b v core board on;
+  own = own b;
+  off = off b;
+  last_core = λ v core ask on. last_core b v core ask board on;
+  parts = parts;
+}
 
 -- Paths ---------------------------------------------------------------------------------------
 
@@ -69,42 +98,51 @@ asked_pending b level = asked_running b level
 pub asked_away : (b : BoardValue) (level : ℕ) → level ≤ height b → asks_at b Away level ≡ 3
 asked_away b level h = asked_within b Away level h
 
-asks-most : (b : BoardValue) (phase : Phase) (level : ℕ) → IsPhase b phase
-    → asks (activity_of phase) level ≤ 3
-asks-most b Pending level is = omega arith
-asks-most b Running level is = omega arith
-asks-most b Away level is = omega arith
-asks-most b (Suspended ask) level is = most level
+-- what a core of this phase asks of all levels
+abbrev pub IsAsking : Phase → Type 0
+IsAsking phase = IsActivity (activity_of phase)
+
+pub phase_asks : (b : BoardValue) (phase : Phase) → IsPhase b phase → IsAsking phase
+phase_asks b Pending is = tt
+phase_asks b Running is = tt
+phase_asks b (Suspended ask) is = is.0
+phase_asks b Away is = tt
+
+asks-most : (phase : Phase) (level : ℕ) → IsAsking phase → asks (activity_of phase) level ≤ 3
+asks-most Pending level is = omega arith
+asks-most Running level is = omega arith
+asks-most Away level is = omega arith
+asks-most (Suspended ask) level is = most level
   where
     most : (m : ℕ) → slice_index ask m ≤ 3
-    most zero = is.0.most
+    most zero = is.most
     most (suc m) =
         let next : m + 1 ≡ suc m = omega arith in
-        let step = is.0.falls m in
+        let step = is.falls m in
         let falls = rw next at step in
         omega (arith, falls, most m)
 
 -- no core asks for more than power-down
-pub asked-most : (b : BoardValue) (phase : Phase) (level : ℕ) → IsPhase b phase
+pub asked-most : (b : BoardValue) (phase : Phase) (level : ℕ) → IsAsking phase
     → level ≤ height b → asks_at b phase level ≤ 3
-asked-most b phase level is h = rw (asked_within b phase level h) (asks-most b phase level is)
+asked-most b phase level is h = rw (asked_within b phase level h) (asks-most phase level is)
 
-asks-fall : (b : BoardValue) (phase : Phase) (level : ℕ) → IsPhase b phase
+asks-fall : (phase : Phase) (level : ℕ) → IsAsking phase
     → asks (activity_of phase) (level + 1) ≤ asks (activity_of phase) level
-asks-fall b Pending level is = omega arith
-asks-fall b Running level is = omega arith
-asks-fall b Away level is = omega arith
-asks-fall b (Suspended ask) level is = is.0.falls level
+asks-fall Pending level is = omega arith
+asks-fall Running level is = omega arith
+asks-fall Away level is = omega arith
+asks-fall (Suspended ask) level is = is.falls level
 
 -- what a core asks never grows upwards
-pub asked-fall : (b : BoardValue) (phase : Phase) (level : ℕ) → IsPhase b phase
+pub asked-fall : (b : BoardValue) (phase : Phase) (level : ℕ) → IsAsking phase
     → level < height b → asks_at b phase (level + 1) ≤ asks_at b phase level
 asked-fall b phase level is h =
     let above : asks_at b phase (level + 1) ≡ asks (activity_of phase) (level + 1) =
     asked_within b phase (level + 1) (omega arith) in
     let below : asks_at b phase level ≡ asks (activity_of phase) level =
     asked_within b phase level (omega arith) in
-    omega (arith, above, below, asks-fall b phase level is)
+    omega (arith, above, below, asks-fall phase level is)
 
 -- Below a domain ------------------------------------------------------------------------------
 

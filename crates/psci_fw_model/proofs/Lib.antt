@@ -1,5 +1,9 @@
 mod Asked
+mod Claimed
 mod Granting
-mod Wishes
-mod Steps
+mod Holding
 mod Rows
+mod Starting
+mod Steps
+mod Updates
+mod Wishes

@@ -14,14 +14,14 @@ use Rattle.psci_state.specs.Ask.{IsAsk}
 use Rattle.psci_tree.specs.Recount.{is_off}
 use Rattle.psci_fw_model.specs.declared.mode.SuspendMode.{SuspendMode}
 use Rattle.psci_fw_model.specs.declared.mode.SuspendMode.TheVariants.{Platform, OsInitiated}
-use Rattle.psci_fw_model.specs.Invariant.{IsPhase}
 use Rattle.psci_fw_model.specs.Paths.{depth_by}
-use Rattle.psci_fw_model.specs.Phases.{Phase, Suspended, Away, activity_of}
+use Rattle.psci_fw_model.specs.Phases.{Phase, Pending, Running, Suspended, Away}
+use Rattle.psci_fw_model.specs.Phases.{activity_of}
 use Rattle.psci_fw_model.specs.Values.{Values}
 use Rattle.psci_fw_model.specs.Views.{view}
-use Rattle.psci_fw_model.proofs.Asked.{IsAllOff, IsLeast, Known, all_off, alone, apart, asks_at}
-use Rattle.psci_fw_model.proofs.Asked.{asked-fall, asked-most, asked_away, asked_within}
-use Rattle.psci_fw_model.proofs.Asked.{joined, least_is, off_all}
+use Rattle.psci_fw_model.proofs.Asked.{IsAllOff, IsAsking, IsLeast, Known, all_off, alone}
+use Rattle.psci_fw_model.proofs.Asked.{apart, asked-fall, asked-most, asked_away, asked_within}
+use Rattle.psci_fw_model.proofs.Asked.{asks_at, joined, least_is, off_all}
 use Rattle.psci_fw_model.proofs.Granting.{AreGranted, AreLaid, AreWanted, ChangedAt}
 
 -- Parts ---------------------------------------------------------------------------------------
@@ -66,7 +66,7 @@ claim_laid b w granted c want known falls none level i =
 
 -- the least asks of a path fall with the level, also from the path of another core that joins it
 least_falls : (b : BoardValue) (phase : ℕ → Phase) (x c level m n : ℕ) → Known b
-    → ((y : ℕ) → IsPhase b (phase y)) → level < height b
+    → ((y : ℕ) → IsAsking (phase y)) → level < height b
     → up b (level + 1) x ≡ up b (level + 1) c → IsLeast b phase c (level + 1) m
     → IsLeast b phase x level n → m ≤ n
 least_falls b phase x c level m n known are h meet above below =
@@ -77,9 +77,16 @@ least_falls b phase x c level m n known are h meet above below =
       asked-fall b (phase y) level (are y) h,
     ))
 
+off_asks : (b : BoardValue) (p : Phase) (level : ℕ) → level ≤ height b
+    → is_off (activity_of p) ≡ true → 3 ≤ asks_at b p level
+off_asks b Pending level h e = absurd (cc e)
+off_asks b Running level h e = absurd (cc e)
+off_asks b (Suspended ask) level h e = absurd (cc e)
+off_asks b Away level h e = omega (arith, asked_away b level h)
+
 pub least_wanted : (b : BoardValue) (mode : SuspendMode) (old : ℕ → Phase) (w : Values)
     (granted : ℕ → ℕ → ℕ) (c : ℕ) → Known b → c < cores b → mode ≡ Platform
-    → ChangedAt old w.phase c → ((y : ℕ) → IsPhase b (w.phase y)) → AreGranted b mode old granted
+    → ChangedAt old w.phase c → ((y : ℕ) → IsAsking (w.phase y)) → AreGranted b mode old granted
     → AreWanted b mode w.phase granted c (least_wish b (view b w) c)
 least_wanted b mode old w granted c known on platform changed are g =
     let want : ℕ → ℕ = least_wish b (view b w) c in
@@ -111,13 +118,6 @@ least_wanted b mode old w granted c known on platform changed are g =
           (λ x i at. off_asks b (w.phase x) level h (all x i at)));
       least = λ m level h. is level;
     }
-  where
-    off_asks : (b : BoardValue) (p : Phase) (level : ℕ) → level ≤ height b
-        → is_off (activity_of p) ≡ true → 3 ≤ asks_at b p level
-    off_asks b Rattle.psci_fw_model.specs.Phases.Pending level h e = absurd (cc e)
-    off_asks b Rattle.psci_fw_model.specs.Phases.Running level h e = absurd (cc e)
-    off_asks b (Suspended ask) level h e = absurd (cc e)
-    off_asks b Away level h e = omega (arith, asked_away b level h)
 
 -- OS-initiated mode ---------------------------------------------------------------------------
 
