@@ -1,9 +1,11 @@
 mod Asked
+mod Changing
 mod Claimed
 mod Granting
 mod Holding
 mod Rows
 mod Starting
 mod Steps
+mod Stopping
 mod Updates
 mod Wishes
