@@ -1,8 +1,11 @@
+mod Answered
 mod Asked
 mod Changing
 mod Claimed
+mod Entered
 mod Granting
 mod Holding
+mod Modes
 mod Rows
 mod Starting
 mod Steps

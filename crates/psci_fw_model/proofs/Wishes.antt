@@ -77,7 +77,8 @@ least_falls b phase x c level m n known are h meet above below =
       asked-fall b (phase y) level (are y) h,
     ))
 
-off_asks : (b : BoardValue) (p : Phase) (level : ℕ) → level ≤ height b
+-- a core that is off or going off asks for power-down
+pub off_asks : (b : BoardValue) (p : Phase) (level : ℕ) → level ≤ height b
     → is_off (activity_of p) ≡ true → 3 ≤ asks_at b p level
 off_asks b Pending level h e = absurd (cc e)
 off_asks b Running level h e = absurd (cc e)
