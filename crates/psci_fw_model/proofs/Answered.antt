@@ -1,12 +1,13 @@
 -- What a function answers a running caller leaves values such as the firmware keeps.
-use Rattle.std.proofs.Common.{◌≡◌, ◌≤◌, ◌<◌, ◌==◌, ◌&&◌, ◌⊎◌, not, ◌↔◌, ℕ, zero, suc, [], Bool, true, false, cond, List}
-use Rattle.std.proofs.Common.{Option, None, Some, Ok, inl, inr, refl, sym, ap, subst, ◌∙◌, arith}
+use Rattle.std.proofs.Common.{◌≡◌, ◌≤◌, ◌<◌, ◌==◌, ◌&&◌, ◌⊎◌, not, ◌↔◌, ℕ, zero, suc, [], Bool}
+use Rattle.std.proofs.Common.{true, false, cond, List, Option, None, Some, Ok, inl, inr, refl}
+use Rattle.std.proofs.Common.{sym, ap, subst, ◌∙◌, arith}
 use Rattle.std.specs.Prelude.{Result, Err, IsTrue, is_some}
 use Rattle.psci_abi.specs.Codes.{denied, internal_failure, invalid_address, success}
 use Rattle.psci_abi.specs.declared.code.Code.{Code}
 use Rattle.psci_abi.specs.declared.request.Request.{Request}
 use Rattle.psci_abi.specs.declared.request.Request.TheVariants as requests
-use Rattle.psci_board.specs.Board.{BoardValue, IsBoard, core_of, cores, height, may_enter}
+use Rattle.psci_board.specs.Board.{BoardValue, core_of, cores, height, may_enter}
 use Rattle.psci_board.specs.declared.node.Core.{Core}
 use Rattle.psci_coord.specs.declared.osi.Osi.{Osi}
 use Rattle.psci_coord.specs.declared.part.Part.{Part}
@@ -14,7 +15,6 @@ use Rattle.psci_link.specs.declared.kind.Kind.TheVariants as kinds
 use Rattle.psci_link.specs.Message.{MessageValue}
 use Rattle.psci_state.specs.Ask.{IsAsk, deepest_of, highest_of, is_ask, is_deep}
 use Rattle.psci_state.specs.declared.fault.BadState.{BadState}
-use Rattle.psci_fw_model.specs.declared.mode.SuspendMode.{SuspendMode}
 use Rattle.psci_fw_model.specs.declared.opening.Opening.{Opening}
 use Rattle.psci_fw_model.specs.declared.outcome.Act.{Act}
 use Rattle.psci_fw_model.specs.declared.outcome.Act.TheVariants as acts
@@ -23,7 +23,7 @@ use Rattle.psci_fw_model.specs.declared.status.Status.{Status}
 use Rattle.psci_fw_model.specs.declared.status.Status.TheVariants as statuses
 use Rattle.psci_fw_model.specs.After.{change}
 use Rattle.psci_fw_model.specs.Calls.{function_outcome, outcome_of}
-use Rattle.psci_fw_model.specs.Changes.{PowerOn, Rest, target, with_pending}
+use Rattle.psci_fw_model.specs.Changes.{PowerOn, Rest, with_pending}
 use Rattle.psci_fw_model.specs.Claims.{suspend_parts}
 use Rattle.psci_fw_model.specs.CpuOn.{off_target, started, target_among, target_of}
 use Rattle.psci_fw_model.specs.CpuOff.{off_message}
@@ -33,14 +33,14 @@ use Rattle.psci_fw_model.specs.Effects.{rest_named, rest_of, suspended}
 use Rattle.psci_fw_model.specs.Invariant.{AreValues, IsPhase}
 use Rattle.psci_fw_model.specs.Outcomes.{message_for, returns, stops}
 use Rattle.psci_fw_model.specs.Phases.{Phase, Pending, Running, Suspended, Away}
-use Rattle.psci_fw_model.specs.SuspendMode.{mode_asked, mode_of}
-use Rattle.psci_fw_model.specs.SystemCalls.{all_others, is_off_status, system_message, system_suspend}
+use Rattle.psci_fw_model.specs.SuspendMode.{mode_of}
+use Rattle.psci_fw_model.specs.SystemCalls.{all_others, is_off_status, system_suspend}
 use Rattle.psci_fw_model.specs.Values.{Values, updated}
 use Rattle.psci_fw_model.proofs.Asked.{Known, asked_running, asks_at}
 use Rattle.psci_fw_model.proofs.Changing.{kept_halting, kept_leaving, kept_on, kept_pending}
 use Rattle.psci_fw_model.proofs.Modes.{kept_by_mode}
 use Rattle.psci_fw_model.proofs.Stopping.{held_of, kept_resting, off_held, suspend_held}
-use Rattle.psci_fw_model.proofs.Updates.{ran_left, updated_each}
+use Rattle.psci_fw_model.proofs.Updates.{ran_left}
 
 -- a running caller, in a life that is not halting
 pub record IsCalling (b : BoardValue) (v : Values) (c : ℕ) : Type 0 where
@@ -100,7 +100,8 @@ sleeps_kept : (b : BoardValue) (v : Values) (c : ℕ) (o : Opening) (ask : List 
 unfolding ended
 sleeps_kept b v c o ask (Err reason) is asks e = goes_on b v c is
 sleeps_kept b v c o ask (Ok parts) is asks e =
-    kept_resting b v c (suspended o ask) (message_for v kinds.Down c parts) is.known is.runs is.awake is.are refl asks
+    kept_resting b v c (suspended o ask) (message_for v kinds.Down c parts) is.known is.runs
+    is.awake is.are refl asks
     (opens_where_deep o (is_deep ask))
     (suspend_held b v c ask parts is.known is.on is.runs asks.0 is.are.phase
     (held_of b v is.known is.are is.awake) e)

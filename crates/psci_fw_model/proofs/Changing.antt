@@ -1,9 +1,8 @@
 -- Changes that claim nothing leave values such as the firmware keeps.
-use Rattle.std.proofs.Common.{◌≡◌, ◌≤◌, ◌<◌, ◌+◌, ◌==◌, ◌⊎◌, ◌&&◌, nat_lt, ℕ, Bool, true, false, cond}
-use Rattle.std.proofs.Common.{Option, None, Some, inl, inr, refl, sym, ap, subst, ◌∙◌, arith}
-use Rattle.std.proofs.Common.{true≢false}
+use Rattle.std.proofs.Common.{◌≡◌, ◌≤◌, ◌<◌, ◌⊎◌, ◌&&◌, nat_lt, ℕ, Bool, true, false, cond, None}
+use Rattle.std.proofs.Common.{Some, inl, inr, refl, sym, ap, ◌∙◌, true≢false}
 use Rattle.std.specs.Prelude.{is_some}
-use Rattle.psci_board.specs.Board.{BoardValue, cores, height, up}
+use Rattle.psci_board.specs.Board.{BoardValue, cores}
 use Rattle.psci_link.specs.declared.kind.Kind.TheVariants.{Down}
 use Rattle.psci_link.specs.Message.{AckValue, MessageValue}
 use Rattle.psci_link.specs.Slots.{is_kind}
@@ -21,11 +20,11 @@ use Rattle.psci_fw_model.specs.Phases.{is_away, unless_pending}
 use Rattle.psci_fw_model.specs.Values.{Values, updated}
 use Rattle.psci_fw_model.specs.Views.{view}
 use Rattle.psci_fw_model.proofs.Asked.{Known, asked_pending, asked_running, asks_at}
-use Rattle.psci_fw_model.proofs.Granting.{AreBounded, AreGranted, ChangedAt, bounded_cleared}
-use Rattle.psci_fw_model.proofs.Granting.{bounded_left, granted_cleared}
+use Rattle.psci_fw_model.proofs.Granting.{AreBounded, ChangedAt, bounded_cleared, bounded_left}
+use Rattle.psci_fw_model.proofs.Granting.{granted_cleared}
 use Rattle.psci_fw_model.proofs.Holding.{awake_from, bounded_of, granted_of, same_phases}
-use Rattle.psci_fw_model.proofs.Updates.{both_updated, left_each, left_else, ran_left, updated_at}
-use Rattle.psci_fw_model.proofs.Updates.{updated_each, updated_else}
+use Rattle.psci_fw_model.proofs.Updates.{both_updated, left_else, updated_at, updated_each}
+use Rattle.psci_fw_model.proofs.Updates.{updated_else}
 
 -- Going on ------------------------------------------------------------------------------------
 

@@ -1,19 +1,19 @@
 -- What a core that stops sends is a claim.
-use Rattle.std.proofs.Common.{◌≡◌, ◌≤◌, ◌<◌, ◌+◌, ℕ, zero, suc, List, length, inl, inr, refl}
-use Rattle.std.proofs.Common.{sym, ap, subst, ◌∙◌, arith, Some, Ok}
-use Rattle.std.specs.Prelude.{slice_get, slice_index, None}
+use Rattle.std.proofs.Common.{◌≡◌, ◌≤◌, ◌<◌, ◌+◌, ℕ, List, length, inl, inr, sym, ap, subst}
+use Rattle.std.proofs.Common.{arith, Some, Ok}
+use Rattle.std.specs.Prelude.{slice_get}
 use Rattle.std.proofs.Math.Nat.{eq-zero-or-pos}
-use Rattle.psci_board.specs.Board.{BoardValue, IsBoard, cores, height}
+use Rattle.psci_board.specs.Board.{BoardValue, IsBoard, cores}
 use Rattle.psci_coord.specs.Claim.{claim_of, least_wish, off_wish, own_wish}
 use Rattle.psci_coord.specs.declared.part.Part.{Part}
 use Rattle.psci_coord.specs.View.{PowerView}
-use Rattle.psci_link.specs.Message.{IsClaim, PartByPart}
+use Rattle.psci_link.specs.Message.{IsClaim}
 use Rattle.psci_state.specs.Ask.{IsAsk}
 use Rattle.psci_fw_model.specs.declared.mode.SuspendMode.{SuspendMode}
 use Rattle.psci_fw_model.specs.declared.mode.SuspendMode.TheVariants.{Platform, OsInitiated}
 use Rattle.psci_fw_model.specs.Changes.{with_phase}
 use Rattle.psci_fw_model.specs.Claims.{leaving_claim, suspend_claim, off_parts, suspend_parts}
-use Rattle.psci_fw_model.specs.Phases.{Phase, Running, Suspended, Away}
+use Rattle.psci_fw_model.specs.Phases.{Phase, Suspended, Away}
 use Rattle.psci_fw_model.specs.Values.{Values}
 use Rattle.psci_fw_model.specs.Views.{view}
 use Rattle.psci_fw_model.proofs.Asked.{IsAsking, Known, alone, asked-fall, asked_away}
@@ -56,7 +56,9 @@ least_claim b w c board known on are some =
     wanted_claim b (view b w) c (least_wish b (view b w) c) board known
     ((least_is b w c 0 known).above 1 (omega arith) (λ x h at.
     subst (λ (y : ℕ). 0 < asks_at b (w.phase y) 0) (sym (alone b x c known.paths at)) some))
-    laws.most (laws.falls (record { falls = λ x level h i. asked-fall b (w.phase x) level (are x) i }))
+    laws.most (laws.falls (record {
+      falls = λ x level h i. asked-fall b (w.phase x) level (are x) i;
+    }))
 
 -- of a core that is off or going off
 leaving_claimed : (b : BoardValue) (w : Values) (c : ℕ) (mode : SuspendMode) → IsBoard b → Known b

@@ -1,15 +1,14 @@
 -- What a core is answered that enters leaves values such as the firmware keeps, and so does every
 -- answer.
-use Rattle.std.proofs.Common.{◌≡◌, ◌≤◌, ◌<◌, ◌==◌, ◌||◌, ◌&&◌, not, nat_lt, nat_le, ℕ, Bool, true, false}
-use Rattle.std.proofs.Common.{cond, List, [], ◌∷◌, Option, None, Some, refl, sym, ap, subst, ◌∙◌}
+use Rattle.std.proofs.Common.{◌≡◌, ◌≤◌, ◌<◌, ◌==◌, ◌||◌, ◌&&◌, not, nat_lt, nat_le, ℕ, Bool, true}
+use Rattle.std.proofs.Common.{false, cond, List, [], ◌∷◌, Option, None, Some, refl, sym, ap}
+use Rattle.std.proofs.Common.{subst, ◌∙◌}
 use Rattle.std.proofs.lemmas.Bool.{ltb-false, ltb-true}
 use Rattle.psci_abi.specs.Calls.{request_of}
-use Rattle.psci_board.specs.Board.{BoardValue, IsBoard, cores, height}
+use Rattle.psci_board.specs.Board.{BoardValue, cores, height}
 use Rattle.psci_link.specs.declared.taken.Taken.{Taken}
 use Rattle.psci_link.specs.declared.taken.Taken.TheVariants.{Used, Old}
-use Rattle.psci_link.specs.Message.{AckValue}
 use Rattle.psci_state.specs.Ask.{deepest_of}
-use Rattle.psci_tree.specs.Recount.{is_off}
 use Rattle.psci_fw_model.specs.declared.call.FwCall.{FwCall}
 use Rattle.psci_fw_model.specs.declared.call.FwCall.TheVariants.{Smc, Enter, Take}
 use Rattle.psci_fw_model.specs.declared.fault.FwFault.{FwFault}
@@ -76,7 +75,7 @@ may_enter_by b v c s e =
     record {
       on = ltb-true c (cores b) both.0;
       number = ltb-false b.starts s.number (within (nat_lt s.life v.life) (s.number == 0)
-      (nat_lt b.starts s.number) (s.life == v.life && nat_le s.number (v.known c)) both.1);
+          (nat_lt b.starts s.number) (s.life == v.life && nat_le s.number (v.known c)) both.1);
     }
 
 -- Entries -------------------------------------------------------------------------------------
@@ -106,8 +105,8 @@ opening_kept b v c s (Some o) known may awake e are =
 opening_kept b v c s None known may awake e are = by_test (resumes (in_life b s.life v) c s)
   where
     by_test : (again : Bool) → let p : Outcome = cond again
-            (record { act = acts.Resume; message = None })
-            (stops_with (off_message b (with_arrival b c s v) c)) in
+        (record { act = acts.Resume; message = None })
+        (stops_with (off_message b (with_arrival b c s v) c)) in
         AreValues b (change b (enter_effect c s p.act p.message) v)
     by_test true = kept_entering b v c s known may.on may.number are
     by_test false = parks_kept b v c s known may awake e are
@@ -126,7 +125,7 @@ kept_enter b v c s known are e = by_test (in_life b s.life v).halting refl
 
     by_test : (halting : Bool) → (in_life b s.life v).halting ≡ halting
         → let o : Outcome = cond halting stops (outcome_at b (in_life b s.life v)
-            (with_arrival b c s v) c s ((in_life b s.life v).opening c)) in
+        (with_arrival b c s v) c s ((in_life b s.life v).opening c)) in
         AreValues b (change b (enter_effect c s o.act o.message) v)
     by_test true halts = kept_ceasing b v c s known may.number halts found
     by_test false awake =

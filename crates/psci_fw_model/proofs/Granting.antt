@@ -11,8 +11,8 @@ use Rattle.psci_fw_model.specs.declared.mode.SuspendMode.{SuspendMode}
 use Rattle.psci_fw_model.specs.declared.mode.SuspendMode.TheVariants.{Platform}
 use Rattle.psci_fw_model.specs.Paths.{cleared, depth_by, laid}
 use Rattle.psci_fw_model.specs.Phases.{Phase, activity_of}
-use Rattle.psci_fw_model.proofs.Asked.{IsAllOff, IsLeast, apart, asks_at, joined}
-use Rattle.psci_fw_model.proofs.Asked.{least_at, least_beside}
+use Rattle.psci_fw_model.proofs.Asked.{IsAllOff, IsLeast, apart, asks_at, joined, least_at}
+use Rattle.psci_fw_model.proofs.Asked.{least_beside}
 
 -- a choice has what each of its values has
 pub chosen : {A : Type 0} (P : A → Type 0) (t : Bool) (x y : A) → (t ≡ true → P x)

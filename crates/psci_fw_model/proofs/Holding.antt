@@ -1,7 +1,7 @@
 -- What holds of values, by what it is read from: phases, openings and granted depths.
-use Rattle.std.proofs.Common.{◌≡◌, ℕ, false, refl, sym, subst, ◌∙◌}
+use Rattle.std.proofs.Common.{◌≡◌, ℕ, sym, subst}
 use Rattle.std.specs.Prelude.{is_some}
-use Rattle.psci_board.specs.Board.{BoardValue, up}
+use Rattle.psci_board.specs.Board.{BoardValue}
 use Rattle.psci_fw_model.specs.Invariant.{AreAwake, AreValues, is_expected}
 use Rattle.psci_fw_model.specs.Phases.{Phase}
 use Rattle.psci_fw_model.specs.Values.{Values}

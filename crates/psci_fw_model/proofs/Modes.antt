@@ -1,9 +1,9 @@
 -- That the suspend mode is set leaves values such as the firmware keeps.
-use Rattle.std.proofs.Common.{◌≡◌, ◌≤◌, ◌<◌, ◌+◌, ◌==◌, ◌&&◌, ◌||◌, ◌⊎◌, not, ℕ, zero, suc, Bool}
-use Rattle.std.proofs.Common.{true, false, cond, Option, None, Some, inl, inr, refl, sym, ap, subst}
-use Rattle.std.proofs.Common.{◌∙◌, arith, true≢false}
+use Rattle.std.proofs.Common.{◌≡◌, ◌≤◌, ◌<◌, ◌+◌, ◌==◌, ◌||◌, ℕ, zero, suc, Bool, true, false}
+use Rattle.std.proofs.Common.{cond, Option, None, Some, inl, inr, refl, sym, ap, subst, ◌∙◌}
+use Rattle.std.proofs.Common.{arith}
 use Rattle.std.specs.List.{list_all, range_with_len}
-use Rattle.std.proofs.lemmas.Bool.{and_parts, cases_Bool, cases_eq, ne_eqb}
+use Rattle.std.proofs.lemmas.Bool.{and_parts, cases_eq, ne_eqb}
 use Rattle.psci_board.specs.Board.{BoardValue, cores, height, up}
 use Rattle.psci_tree.specs.Recount.{is_off}
 use Rattle.psci_abi.specs.Codes.{denied, success}
@@ -20,8 +20,7 @@ use Rattle.psci_fw_model.specs.Phases.{is_away}
 use Rattle.psci_fw_model.specs.SuspendMode.{is_mode, may_set, mode_asked}
 use Rattle.psci_fw_model.specs.SystemCalls.{all_others}
 use Rattle.psci_fw_model.specs.Values.{Values}
-use Rattle.psci_fw_model.proofs.Asked.{IsAllOff, IsLeast, Known, apart, asked_away, asked_running}
-use Rattle.psci_fw_model.proofs.Asked.{asks_at}
+use Rattle.psci_fw_model.proofs.Asked.{IsAllOff, IsLeast, Known, apart, asked_running, asks_at}
 use Rattle.psci_fw_model.proofs.Changing.{kept_on}
 use Rattle.psci_fw_model.proofs.Granting.{AreBounded, AreGranted, none_granted}
 use Rattle.psci_fw_model.proofs.Holding.{awake_from, bounded_of, granted_of}
@@ -77,7 +76,8 @@ least_alone b v c known on runs others bounds equal x level i h =
       | inr beside ↦
           let off : IsAllOff b v.phase x level =
           λ y k at. away_off (v.phase y)
-          (other_passes b c y (λ k. is_away (v.phase k)) others k (apart b x y c level beside at)) in
+          (other_passes b c y (λ z. is_away (v.phase z)) others k
+          (apart b x y c level beside at)) in
           subst (IsLeast b v.phase x level) (sym (equal.away x level i h off)) (record {
             most = omega arith;
             below = λ y k at. off_asks b (v.phase y) level h (off y k at);

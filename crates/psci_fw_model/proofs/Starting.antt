@@ -1,21 +1,18 @@
 -- What holds of the values at the start of a life.
 use Rattle.std.proofs.Common.{◌≡◌, ◌≤◌, ◌<◌, ◌+◌, ◌==◌, ◌&&◌, not, ℕ, Bool, true, false, cond}
-use Rattle.std.proofs.Common.{Option, None, Some, inl, inr, refl, sym, ap, subst, ◌∙◌, arith}
-use Rattle.std.proofs.Common.{true≢false}
+use Rattle.std.proofs.Common.{None, Some, inl, inr, refl, sym, ap, subst, ◌∙◌, arith, true≢false}
 use Rattle.std.specs.Prelude.{is_some}
-use Rattle.std.proofs.lemmas.Bool.{and_from, cases_eq, eq-eqb, eqb-false, eqb-true, le-leb, lt-ltb}
-use Rattle.std.proofs.lemmas.Bool.{ne_eqb}
+use Rattle.std.proofs.lemmas.Bool.{and_from, cases_eq, eq-eqb, le-leb, lt-ltb, ne_eqb}
 use Rattle.psci_board.specs.Board.{BoardValue, cores, has_node, height, nodes, up}
 use Rattle.psci_fw_model.specs.declared.opening.Opening.{Opening}
 use Rattle.psci_fw_model.specs.declared.status.Status.TheVariants as statuses
-use Rattle.psci_fw_model.specs.Invariant.{AreAwake, AreValues, IsPhase, agrees, is_expected}
-use Rattle.psci_fw_model.specs.Lives.{first_granted, first_opening, first_phase, first_status}
-use Rattle.psci_fw_model.specs.Lives.{in_life, start_of_life}
+use Rattle.psci_fw_model.specs.Invariant.{AreValues, IsPhase, agrees, is_expected}
+use Rattle.psci_fw_model.specs.Lives.{first_granted, first_phase, in_life, start_of_life}
 use Rattle.psci_fw_model.specs.Phases.{Pending, Away}
 use Rattle.psci_fw_model.specs.Values.{Values}
-use Rattle.psci_fw_model.proofs.Asked.{IsAllOff, IsLeast, Known, all_off, alone, asked_away}
-use Rattle.psci_fw_model.proofs.Asked.{asked_pending, asks_at, joined}
-use Rattle.psci_fw_model.proofs.Granting.{AreBounded, AreGranted, chosen}
+use Rattle.psci_fw_model.proofs.Asked.{IsLeast, Known, alone, asked_away, asked_pending, asks_at}
+use Rattle.psci_fw_model.proofs.Asked.{joined}
+use Rattle.psci_fw_model.proofs.Granting.{AreGranted}
 use Rattle.psci_fw_model.proofs.Holding.{awake_from}
 
 -- Cores ---------------------------------------------------------------------------------------

@@ -1,6 +1,6 @@
 -- Functions of cores with one core's value updated.
 use Rattle.std.proofs.Common.{◌≡◌, ◌==◌, ℕ, Bool, true, false, cond, refl, sym, ap, subst, ◌∙◌}
-use Rattle.std.specs.Prelude.{Option, None, Some, is_some}
+use Rattle.std.specs.Prelude.{Option, None, is_some}
 use Rattle.std.proofs.lemmas.Bool.{eq-eqb, eqb-true, ne_eqb}
 use Rattle.psci_fw_model.specs.declared.opening.Opening.{Opening}
 use Rattle.psci_fw_model.specs.Invariant.{is_expected}
@@ -39,7 +39,8 @@ pub left_at : (v : Values) (c : ℕ) (left p : Phase) → unless_pending (v.phas
     → (with_phase c left v).phase c ≡ p
 left_at v c left p e = updated_at v.phase c (unless_pending (v.phase c) left) ∙ e
 
-pub left_else : (v : Values) (c : ℕ) (left : Phase) → ChangedAt v.phase (with_phase c left v).phase c
+pub left_else : (v : Values) (c : ℕ) (left : Phase)
+    → ChangedAt v.phase (with_phase c left v).phase c
 left_else v c left x other = updated_else v.phase c (unless_pending (v.phase c) left) x other
 
 -- what holds of what is left, and of each phase before, holds of each phase after
@@ -56,7 +57,9 @@ ran_left p left runs = ap (λ (q : Phase). unless_pending q left) runs
 -- a core that nothing waits for is away once it stops
 pub parked_left : (p : Phase) (o : Option Opening) → is_some o ≡ is_expected p → o ≡ None
     → unless_pending p Away ≡ Away
-parked_left Pending o e none = let clash : false ≡ true = ap is_some (sym none) ∙ e in absurd (cc clash)
+parked_left Pending o e none =
+    let clash : false ≡ true = ap is_some (sym none) ∙ e in
+    absurd (cc clash)
 parked_left Running o e none = refl
 parked_left (Suspended ask) o e none = refl
 parked_left Away o e none = refl

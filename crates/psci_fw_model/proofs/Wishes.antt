@@ -1,10 +1,9 @@
 -- Each way to stop wants what a stop may want of the domains on its core's path.
 use Rattle.std.proofs.Common.{◌≡◌, ◌≤◌, ◌<◌, ◌+◌, ℕ, zero, suc, Bool, true, false, cond, List}
-use Rattle.std.proofs.Common.{inl, inr, refl, sym, ap, subst, ◌∙◌, arith, true≢false, Ok}
-use Rattle.std.specs.Prelude.{slice_index, slice_get, length, None, Some}
+use Rattle.std.proofs.Common.{inl, inr, refl, sym, ap, subst, ◌∙◌, arith, true≢false, Ok, get_or}
+use Rattle.std.specs.Prelude.{slice_get, length, Some}
 use Rattle.std.proofs.lemmas.Bool.{cases_Bool, cases_lt}
 use Rattle.std.proofs.lemmas.Option.{slice_get-get_or, slice_get_past}
-use Rattle.std.proofs.Common.{get_or}
 use Rattle.psci_board.specs.Board.{BoardValue, cores, height, up}
 use Rattle.psci_coord.specs.Claim.{claim_of, least_wish, off_wish, own_wish}
 use Rattle.psci_coord.specs.LastCore.{last_core_check}
@@ -15,13 +14,12 @@ use Rattle.psci_tree.specs.Recount.{is_off}
 use Rattle.psci_fw_model.specs.declared.mode.SuspendMode.{SuspendMode}
 use Rattle.psci_fw_model.specs.declared.mode.SuspendMode.TheVariants.{Platform, OsInitiated}
 use Rattle.psci_fw_model.specs.Paths.{depth_by}
-use Rattle.psci_fw_model.specs.Phases.{Phase, Pending, Running, Suspended, Away}
-use Rattle.psci_fw_model.specs.Phases.{activity_of}
+use Rattle.psci_fw_model.specs.Phases.{Phase, Pending, Running, Suspended, Away, activity_of}
 use Rattle.psci_fw_model.specs.Values.{Values}
 use Rattle.psci_fw_model.specs.Views.{view}
-use Rattle.psci_fw_model.proofs.Asked.{IsAllOff, IsAsking, IsLeast, Known, all_off, alone}
-use Rattle.psci_fw_model.proofs.Asked.{apart, asked-fall, asked-most, asked_away, asked_within}
-use Rattle.psci_fw_model.proofs.Asked.{asks_at, joined, least_is, off_all}
+use Rattle.psci_fw_model.proofs.Asked.{IsAllOff, IsAsking, IsLeast, Known, all_off, alone, apart}
+use Rattle.psci_fw_model.proofs.Asked.{asked-fall, asked-most, asked_away, asked_within, asks_at}
+use Rattle.psci_fw_model.proofs.Asked.{joined, least_is, off_all}
 use Rattle.psci_fw_model.proofs.Granting.{AreGranted, AreLaid, AreWanted, ChangedAt}
 
 -- Parts ---------------------------------------------------------------------------------------
@@ -112,11 +110,19 @@ least_wanted b mode old w granted c known on platform changed are g =
       own =
           let most : asks_at b (w.phase c) 0 ≤ 3 =
           asked-most b (w.phase c) 0 (are c) (omega arith) in
-          omega (arith, (is 0).below c on refl, (is 0).above (asks_at b (w.phase c) 0) most
-          (λ x h at. let same : x ≡ c = alone b x c known.paths at in
-          omega (arith, ap (λ y. asks_at b (w.phase y) 0) same)));
-      away = λ level h all. omega (arith, (is level).most, (is level).above 3 (omega arith)
-          (λ x i at. off_asks b (w.phase x) level h (all x i at)));
+          omega (
+            arith,
+            (is 0).below c on refl,
+            (is 0).above (asks_at b (w.phase c) 0) most
+                (λ x h at. let same : x ≡ c = alone b x c known.paths at in
+                omega (arith, ap (λ y. asks_at b (w.phase y) 0) same)),
+          );
+      away = λ level h all. omega (
+        arith,
+        (is level).most,
+        (is level).above 3 (omega arith)
+            (λ x i at. off_asks b (w.phase x) level h (all x i at)),
+      );
       least = λ m level h. is level;
     }
 
@@ -134,7 +140,8 @@ own_wanted b mode v new c ask parts known on os left is e = record {
   falls = λ level h. is.falls level;
   beside = λ x level h i meet beside.
       (known.last_core (view b v) c ask on).granted parts e level x h i meet beside;
-  own = sym (ap (λ (p : Phase). asks_at b p 0) left ∙ asked_within b (Suspended ask) 0 (omega arith));
+  own = sym (ap (λ (p : Phase). asks_at b p 0) left
+      ∙ asked_within b (Suspended ask) 0 (omega arith));
   away = λ level h all.
       absurd (true≢false (sym (all c on refl) ∙ ap (λ (p : Phase). is_off (activity_of p)) left));
   least = λ platform. absurd (not_platform mode os platform);

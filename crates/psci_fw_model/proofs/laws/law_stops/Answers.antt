@@ -1,4 +1,3 @@
-use Rattle.psci_board.specs.Board.{BoardValue, IsBoard}
 use Rattle.psci_fw_model.specs.Changes.{with_arrival}
 use Rattle.psci_fw_model.specs.Lives.{in_life}
 use Rattle.psci_fw_model.specs.Phases.{Suspended, Away}
