@@ -9,7 +9,7 @@ use Rattle.psci_link.specs.Message.{MessageValue}
 use Rattle.psci_fw_model.specs.declared.outcome.Act.{Act}
 use Rattle.psci_fw_model.specs.declared.outcome.Act.TheVariants as acts
 use Rattle.psci_fw_model.specs.declared.reply.FwReply.TheVariants.{Out, Fault}
-use Rattle.psci_fw_model.specs.declared.start.Cause.TheVariants.{Boot}
+use Rattle.psci_ctl_model.specs.declared.start.Cause.TheVariants.{Boot}
 use Rattle.psci_fw_model.specs.Answer.{answer}
 use Rattle.psci_fw_model.specs.Calls.{outcome_of}
 use Rattle.psci_fw_model.specs.Entering.{enter_outcome}

@@ -3,8 +3,8 @@
 use Rattle.std.specs.Prelude.{◌≡◌, ℕ, ◌+◌, ◌<◌, ⊤, Bool, true, false, ◌==◌, nat_lt, if◌then◌else◌}
 use Rattle.std.specs.Prelude.{Option, None, Some, option_map, unwrap_or, List, [], ◌∷◌}
 use Rattle.psci_board.specs.Board.{BoardValue, IsBoard, cores}
-use Rattle.psci_fw_model.specs.declared.start.Start.{Start}
-use Rattle.psci_fw_model.specs.declared.start.Cause.TheVariants.{Boot}
+use Rattle.psci_ctl_model.specs.declared.start.Start.{Start}
+use Rattle.psci_ctl_model.specs.declared.start.Cause.TheVariants.{Boot}
 use Rattle.psci_link.specs.Message.{MessageValue}
 use Rattle.psci_fw_model.specs.declared.outcome.Act.{Act}
 use Rattle.psci_fw_model.specs.declared.outcome.Act.TheVariants as acts

@@ -19,7 +19,7 @@ use Rattle.psci_fw_model.specs.declared.outcome.Act.{Act}
 use Rattle.psci_fw_model.specs.declared.outcome.Act.TheVariants as acts
 use Rattle.psci_fw_model.specs.declared.reply.FwReply.{FwReply}
 use Rattle.psci_fw_model.specs.declared.reply.FwReply.TheVariants.{Out, Taken}
-use Rattle.psci_fw_model.specs.declared.start.Start.{Start}
+use Rattle.psci_ctl_model.specs.declared.start.Start.{Start}
 use Rattle.psci_fw_model.specs.CpuSuspend.{ask_named}
 use Rattle.psci_fw_model.specs.Effects.{GoesOn, effect_of, enter_effect, function_effect}
 use Rattle.psci_fw_model.specs.Effects.{mode_effect, rest_named, rest_of, return_effect}

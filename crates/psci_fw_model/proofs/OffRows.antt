@@ -6,7 +6,7 @@ use Rattle.psci_coord.specs.LastCore.{last_core_check, refusal, shallow, shallow
 use Rattle.psci_coord.specs.View.{generation, is_all_off, is_idle, least_ask}
 use Rattle.psci_link.specs.declared.kind.Kind.TheVariants.{Down, Start, Off, Reset}
 use Rattle.psci_link.specs.Outstanding.{changes_since, last_message, outstanding}
-use Rattle.psci_fw_model.specs.declared.start.Cause.TheVariants as causes
+use Rattle.psci_ctl_model.specs.declared.start.Cause.TheVariants as causes
 use Rattle.psci_fw_model.specs.AffinityInfo.{node_status}
 use Rattle.psci_fw_model.specs.After.{after}
 use Rattle.psci_fw_model.specs.Answer.{answer}

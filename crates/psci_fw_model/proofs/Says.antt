@@ -5,7 +5,7 @@ use Rattle.std.specs.Option.{option_or}
 use Rattle.std.proofs.lemmas.Bool.{eqb-true}
 use Rattle.psci_board.specs.Board.{BoardValue}
 use Rattle.psci_fw_model.specs.declared.mode.SuspendMode.TheVariants.{Platform}
-use Rattle.psci_fw_model.specs.declared.start.Start.{Start}
+use Rattle.psci_ctl_model.specs.declared.start.Start.{Start}
 use Rattle.psci_fw_model.specs.After.{change}
 use Rattle.psci_fw_model.specs.Effects.{Effect}
 use Rattle.psci_fw_model.specs.Effects.{Enters, Parks, Ceases}

@@ -13,7 +13,7 @@ use Rattle.psci_tree.specs.Recount.{is_off}
 use Rattle.psci_fw_model.specs.declared.mode.SuspendMode.{SuspendMode}
 use Rattle.psci_fw_model.specs.declared.mode.SuspendMode.TheVariants.{Platform, OsInitiated}
 use Rattle.psci_fw_model.specs.declared.opening.Opening.{Opening}
-use Rattle.psci_fw_model.specs.declared.start.Start.{Start}
+use Rattle.psci_ctl_model.specs.declared.start.Start.{Start}
 use Rattle.psci_fw_model.specs.declared.status.Status.TheVariants as statuses
 use Rattle.psci_fw_model.specs.Changes.{Rest, with_arrival, with_claim, with_phase, with_rest}
 use Rattle.psci_fw_model.specs.Claims.{leaving_claim, off_parts, suspend_claim, suspend_parts}

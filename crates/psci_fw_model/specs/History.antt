@@ -13,7 +13,7 @@ use Rattle.psci_link.specs.Slots.{Change, is_kind}
 use Rattle.psci_fw_model.specs.declared.mode.SuspendMode.{SuspendMode}
 use Rattle.psci_fw_model.specs.declared.mode.SuspendMode.TheVariants.{Platform}
 use Rattle.psci_fw_model.specs.declared.opening.Opening.{Opening}
-use Rattle.psci_fw_model.specs.declared.start.Start.{Start}
+use Rattle.psci_ctl_model.specs.declared.start.Start.{Start}
 use Rattle.psci_fw_model.specs.declared.status.Status.{Status}
 use Rattle.psci_fw_model.specs.declared.status.Status.TheVariants as statuses
 use Rattle.psci_fw_model.specs.Changes.{PowerOn, Rest, target}
