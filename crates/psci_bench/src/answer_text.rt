@@ -128,7 +128,7 @@ impl fmt::Display for Said {
 
     fn fmt<W: fmt::Write>(&self, f: &mut fmt::Formatter<W>) -> fmt::Result {
         match self {
-            Said::Fw { act, sent: None } => write!(f, "{}", ActText(act)),
+            Said::Fw { act, sent: None } => ActText(act).fmt(f),
             Said::Fw {
                 act,
                 sent: Some(sent),

@@ -27,6 +27,7 @@ fn register(text: &[u8]) -> Option<(u64, &[u8])>
 }
 
 /// The register after a space, and the text after it.
+#[inline(always)]
 #[tactic(auto, unfolding(psci_text::specs::Reading::spaced_at))]
 fn spaced_register(text: &[u8]) -> Option<(u64, &[u8])>
     ensures { option_map (λ x. (x.0, x.1.now)) result ≡ spaced_at register_at text.now }

@@ -1,7 +1,8 @@
 //! Digits at the front of a text, in one pass: their value, and how many they are.
 
-ghost use Rattle.std.specs.Prelude.{◌≡◌, ◌^◌, nat_lt, nat_le, if◌then◌else◌, Some, None};
-ghost use Rattle.std.specs.Char.{is_ascii_digit, is_ascii_hexdigit};
+ghost use Rattle.std.specs.Prelude.{◌≡◌, ◌^◌, ◌<◌, nat_lt, nat_le, if◌then◌else◌, Some, None};
+ghost use Rattle.std.specs.Option.{SomeIff};
+ghost use Rattle.std.specs.Char.{is_ascii_digit, is_ascii_hexdigit, digit_value};
 ghost use Rattle.psci_text.specs.Digits.{value_and_count};
 
 /// The value of the decimal digits and their number, where the value is below 2 to the 64.
@@ -29,7 +30,7 @@ pub fn hexadecimal(text: &[u8]) -> Option<(u64, usize)>
     let mut value: u64 = 0;
     let mut count: usize = 0;
     for byte in text {
-        let Some(digit) = char::from(*byte).to_digit(16) else {
+        let Some(digit) = hexadecimal_digit(*byte) else {
             break;
         };
         if count == 16 {
@@ -39,4 +40,16 @@ pub fn hexadecimal(text: &[u8]) -> Option<(u64, usize)>
         count += 1;
     }
     Some((value, count))
+}
+
+/// The value of a hexadecimal digit, in upper or lower case.
+fn hexadecimal_digit(byte: u8) -> Option<u8>
+    ensures { SomeIff result (digit_value byte < 16) (digit_value byte) }
+{
+    match byte {
+        b'0'..=b'9' => Some(byte - b'0'),
+        b'a'..=b'f' => Some(byte - b'a' + 10),
+        b'A'..=b'F' => Some(byte - b'A' + 10),
+        _ => None,
+    }
 }

@@ -40,7 +40,7 @@ overflow_add-value c =
     let l : i < length text = grind (arith, common_steps) in
     let less : i ≤ 15 = grind (arith, nat_tests) in
     let small = fifteen_fit text i v.2 l less in
-    let digit : c.from-in-loop-byte.result < 16 = grind (arith, nat_tests) in
+    let digit : c.from.result < 16 = grind (arith, nat_tests) in
     omega (arith, small, v.3, digit)
 
 pub loop-byte-preserved : goal.loop-byte-preserved
@@ -52,7 +52,7 @@ loop-byte-preserved c =
     let more : i + 1 ≤ prefix_len is_ascii_hexdigit text =
     one_more is_ascii_hexdigit text i (omega arith) l (hexadecimal_yes (get_or text i 0) small) in
     let value = digits_value_more 16 text i l in
-    let next : c.loop-byte.value * 16 + c.from-in-loop-byte.result
+    let next : c.loop-byte.value * 16 + c.from.result
     ≡ digits_value 16 (take i text) * 16 + digit_value (get_or text i 0) =
     grind (arith, nat_tests) in
     (omega arith, grind (arith, nat_tests), more, next ∙ sym value)
