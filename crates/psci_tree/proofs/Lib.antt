@@ -4,6 +4,7 @@ pub mod Bounds
 pub mod Built
 pub mod GrantRows
 pub mod Granted
+pub mod Keeping
 pub mod Looked
 pub mod Places
 pub mod Recounted

@@ -18,5 +18,6 @@ loop-place-preserved c =
           ∙ ap (λ n. replicate n never_started ++ drop n old) (sym up);
       same = ap length c.set.ensures.cores
           ∙ length-set (cores c.loop-place.self) place never_started ∙ c.loop-place.invariant.same;
+      kept = c.set.ensures.kept;
       shape = λ k. c.set.ensures.shape k ∙ c.loop-place.invariant.shape k;
     }

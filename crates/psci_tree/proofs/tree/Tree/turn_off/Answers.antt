@@ -45,5 +45,6 @@ invariant_of-self c =
     subst (IsTied root) (sym (returns-clause-value c)) (record {
       whole = whole_kept c.self.inside.root root c.args.self.now.levels
           c.turn_off.ensures.shape tied.whole;
+      kept = c.turn_off.ensures.kept;
       valid = all_off_valid c.args.self.now.levels tied.valid.tree tied.valid.high;
     })
