@@ -24,7 +24,6 @@ use Rattle.psci_tree.proofs.Below.{cores_take, length_take, length_drop}
 pub recount-append : (xs ys : List CoreState)
     → recount (xs ++ ys) ≡ beside (recount xs) (recount ys)
 recount-append xs ys =
-    let all : length (xs ++ ys) ≡ length xs + length ys = length-append xs ys in
     let known = sum_by-append (λ (c : CoreState). c.known) xs ys in
     let active = sum_by-append (λ (c : CoreState). cond (is_active c.activity) 1 0) xs ys in
     let off = sum_by-append (λ (c : CoreState). cond (is_off c.activity) 1 0) xs ys in
@@ -144,58 +143,37 @@ kept_roll_core x none h =
 
 -- The next child of several ------------------------------------------------------------------
 
--- what a child among several keeps says of those before it and of those after it
-pub record Child (ns : List Domain) (i : ℕ) (d : Domain) : Type 0 where
-  pub ahead : length (cores_in (drop i ns))
-      ≡ (out-Domain d).kept.cores + length (cores_in (drop (i + 1) ns))
-  pub behind : length (cores_in (take (i + 1) ns))
-      ≡ length (cores_in (take i ns)) + (out-Domain d).kept.cores
-  pub count : (out-Domain d).kept.cores ≡ length (cores d)
-  pub next : (k : Kept) → Keeps k (cores_in (take i ns))
-      → Keeps (beside k (out-Domain d).kept) (cores_in (take (i + 1) ns))
-
-pub child : (ns : List Domain) (i : ℕ) (d : Domain) → i < length ns → d ≡ get_or ns i d
-    → AreKept ns → Child ns i d
-child ns i d h is l =
+-- what is kept of the domains before a child, and what the child keeps, are kept of both
+pub kept_next : (ns : List Domain) (i : ℕ) (d : Domain) (k : Kept) → i < length ns
+    → d ≡ get_or ns i d → AreKept ns → Keeps k (cores_in (take i ns))
+    → Keeps (beside k (out-Domain d).kept) (cores_in (take (i + 1) ns))
+kept_next ns i d k h is l e =
     let own : Keeps (out-Domain d).kept (cores d) =
     subst IsRecount (sym is) (kept_own (get_or ns i d) (kept_at ns i d h l)) in
-    let count : (out-Domain d).kept.cores ≡ length (cores d) =
-    ap (λ (k : Kept). k.cores) own.counted in
-    let same : length (cores d) ≡ length (cores (get_or ns i d)) =
-    ap (λ x. length (cores x)) is in
-    record {
-      ahead = omega (arith, length_drop ns i d h, same, count);
-      behind = omega (arith, length_take ns i d h, same, count);
-      count = count;
-      next = λ k e. subst (Keeps (beside k (out-Domain d).kept))
-          (ap (λ x. cores_in (take i ns) ++ cores x) is ∙ sym (cores_take ns i d h))
-          (keeps_append k (out-Domain d).kept (cores_in (take i ns)) (cores d) e own);
-    }
+    subst (Keeps (beside k (out-Domain d).kept))
+    (ap (λ x. cores_in (take i ns) ++ cores x) is ∙ sym (cores_take ns i d h))
+    (keeps_append k (out-Domain d).kept (cores_in (take i ns)) (cores d) e own)
 
 -- what is kept of so few cores is so small
 pub record Small (k : Kept) : Type 0 where
-  pub cores : k.cores < 2 ^ 16
   pub known : k.known < 2 ^ 64
   pub active : k.active < 2 ^ 16
   pub off : k.off < 2 ^ 16
 
 pub keeps_small : (k : Kept) (cs : List CoreState) → Keeps k cs → length cs < 2 ^ 16 → Small k
-keeps_small k cs h few =
-    let all : k.cores ≡ length cs = ap (λ (j : Kept). j.cores) h.counted in
-    record {
-      cores = omega arith;
-      known = omega (arith, h.small);
-      active = omega (
-        arith,
-        ap (λ (j : Kept). j.active) h.counted,
-        count_by-le-length (λ (c : CoreState). is_active c.activity) cs,
-      );
-      off = omega (
-        arith,
-        ap (λ (j : Kept). j.off) h.counted,
-        count_by-le-length (λ (c : CoreState). is_off c.activity) cs,
-      );
-    }
+keeps_small k cs h few = record {
+  known = omega (arith, h.small);
+  active = omega (
+    arith,
+    ap (λ (j : Kept). j.active) h.counted,
+    count_by-le-length (λ (c : CoreState). is_active c.activity) cs,
+  );
+  off = omega (
+    arith,
+    ap (λ (j : Kept). j.off) h.counted,
+    count_by-le-length (λ (c : CoreState). is_off c.activity) cs,
+  );
+}
 
 -- the least ask at a level of the board
 pub keeps_low : (k : Kept) (cs : List CoreState) (level : ℕ) → Keeps k cs → level ≤ 3

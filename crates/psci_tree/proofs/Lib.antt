@@ -15,3 +15,4 @@ pub mod Sums
 pub mod UnevenRows
 pub mod Upward
 pub mod Valid
+pub mod Ways

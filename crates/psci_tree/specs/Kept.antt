@@ -15,7 +15,6 @@ low_in level cs = least (map (λ c. asks c.activity level) cs)
 -- all that is kept of these cores, counted anew
 abbrev pub recount : List CoreState → Kept
 recount cs = record {
-  cores = length cs;
   lows = map (λ level. low_in level cs) (0 ∷ 1 ∷ 2 ∷ 3 ∷ []);
   known = sum_by (λ c. c.known) cs;
   active = count_by (λ c. is_active c.activity) cs;
@@ -25,7 +24,6 @@ recount cs = record {
 -- what is kept of some cores and of others beside them
 abbrev pub beside : Kept → Kept → Kept
 beside j k = record {
-  cores = j.cores + k.cores;
   lows = map (λ level. min (slice_index j.lows level) (slice_index k.lows level))
       (0 ∷ 1 ∷ 2 ∷ 3 ∷ []);
   known = j.known + k.known;

@@ -8,11 +8,9 @@ use crate::state::CoreState;
 /// What is kept of several cores, so that they need not be counted again.
 #[derive(Clone, Copy)]
 pub struct Kept {
-    /// How many cores there are.
-    pub cores: u32,
-    /// Their least ask at each level, from 0 to 3.
+    /// The least ask at each level, from 0 to 3.
     pub lows: [u8; 4],
-    /// The sum of their known starts.
+    /// The sum of the known starts.
     pub known: u64,
     /// How many are running or pending.
     pub active: u32,
@@ -26,7 +24,6 @@ impl Kept {
         ensures { Keeps result [] }
     {
         Kept {
-            cores: 0,
             lows: [3; 4],
             known: 0,
             active: 0,
@@ -39,7 +36,6 @@ impl Kept {
         ensures { Keeps result (core.now ∷ []) }
     {
         Kept {
-            cores: 1,
             lows: [core.ask(0), core.ask(1), core.ask(2), core.ask(3)],
             known: u64::from(core.known),
             active: u32::from(core.is_active()),
@@ -49,7 +45,6 @@ impl Kept {
 
     /// What is kept of these cores and of others beside them.
     pub fn beside(&self, other: &Kept) -> Kept
-        requires cores { self.now.cores + other.now.cores < 2 ^ 32 }
         requires known { self.now.known + other.now.known < 2 ^ 64 }
         requires active { self.now.active + other.now.active < 2 ^ 32 }
         requires off { self.now.off + other.now.off < 2 ^ 32 }
@@ -58,7 +53,6 @@ impl Kept {
         let [core, first, second, third] = self.lows;
         let lows = other.lows;
         Kept {
-            cores: self.cores + other.cores,
             lows: [
                 core.min(lows[0]),
                 first.min(lows[1]),

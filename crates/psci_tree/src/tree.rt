@@ -1,7 +1,7 @@
 //! The tree of power domains.
 
 use crate::build::build;
-use crate::descent::domain_at;
+use crate::descent::{domain_at, set_core, turn_off};
 use crate::domain::Domain;
 use crate::grants::{clear_up, deepest_rows, fill_rows, write};
 use crate::state::{Activity, CoreState};
@@ -204,8 +204,12 @@ impl Tree {
         ensures levels { self.new.levels ≡ self.old.levels }
         ensures tree { IsDomainTree self.new }
     {
-        self.root
-            .set(core.number as usize, CoreState { activity, known });
+        set_core(
+            &mut self.root,
+            &self.board,
+            core,
+            CoreState { activity, known },
+        );
     }
 
     /// Takes away what is granted on the path of a core.
@@ -224,7 +228,7 @@ impl Tree {
         ensures levels { self.new.levels ≡ self.old.levels }
         ensures tree { IsDomainTree self.new }
     {
-        self.root.turn_off();
+        turn_off(&mut self.root, &self.board);
         fill_rows(&mut self.granted, 3);
     }
 
