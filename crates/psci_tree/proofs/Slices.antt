@@ -48,7 +48,7 @@ pub widths_are : (k : ℕ) (n : Domain) → child_counts k n ≡ map child_count
 widths_are zero n = refl
 widths_are (suc k) n = widths_in (child_counts k) (domains_down k) (widths_are k) (children n)
 
-take_past : {X : Type 0} (xs ys : List X) (k : ℕ)
+pub take_past : {X : Type 0} (xs ys : List X) (k : ℕ)
     → take (length xs + k) (xs ++ ys) ≡ xs ++ take k ys
 take_past [] ys k = let e : 0 + k ≡ k = omega arith in rw e refl
 take_past (x ∷ xs) ys k = let e : suc (length xs) + k ≡ suc (length xs + k) = omega arith in
@@ -104,11 +104,11 @@ widths_at [] l t h = absurd (omega arith)
 widths_at (w ∷ ws) zero t h = t.2
 widths_at (w ∷ ws) (suc l) t h = widths_at ws l t.3 (omega arith)
 
-fans_at : (n : Domain) (levels : List (List ℕ)) (l k : ℕ) → IsWhole n levels
+pub fans_at : (n : Domain) (levels : List (List ℕ)) (l k : ℕ) → IsWhole n levels
     → k + suc l ≡ length levels → map child_count (domains_down k n) ≡ get_or levels l []
 fans_at n levels l k h e = sym (widths_are k n) ∙ shape_at n levels l k h.shape e
 
-wide_at : (n : Domain) (levels : List (List ℕ)) (l k : ℕ) → IsTree levels → IsWhole n levels
+pub wide_at : (n : Domain) (levels : List (List ℕ)) (l k : ℕ) → IsTree levels → IsWhole n levels
     → k + suc l ≡ length levels → AllPass is_width (map child_count (domains_down k n))
 wide_at n levels l k t h e = let P : List ℕ → Type 0 = AllPass is_width in
     subst P (sym (fans_at n levels l k h e)) (widths_at levels l t (omega arith))
@@ -160,7 +160,7 @@ whole_kept n m levels same h = record {
 -- The slice ----------------------------------------------------------------------------------
 
 -- how many cores stand before the domain at a place of a level
-first_len : (n : Domain) (levels : List (List ℕ)) (l k p : ℕ) → IsTree levels → IsWhole n levels
+pub first_len : (n : Domain) (levels : List (List ℕ)) (l k p : ℕ) → IsTree levels → IsWhole n levels
     → k + l ≡ length levels → p ≤ length (domains_down k n)
     → length (cores_in (take p (domains_down k n))) ≡ first_core levels l p
 first_len n levels zero k p t h e b =
@@ -247,6 +247,10 @@ states_at n t at k d laws i h same in' e is =
     ∙ ap (λ x. take (span t.levels at).count (drop (span t.levels at).first x)) (sym same)
     ∙ sym (states_slice t at laws (ap length same ∙ length_cores n t.levels i h) in')
 
+pub size_few : (levels : List (List ℕ)) → IsTree levels → size_below levels ≤ 64
+size_few [] t = omega arith
+size_few (w ∷ ws) t = t.1
+
 pub few_below : (levels : List (List ℕ)) (n : Node) → IsTree levels
     → length (below_in levels n) ≤ 64
 few_below levels n t =
@@ -255,15 +259,11 @@ few_below levels n t =
       length-filter test (range_with_len 0 (size_below levels)),
       count_by-le-length test (range_with_len 0 (size_below levels)),
       length-range_with_len 0 (size_below levels),
-      most levels t,
+      size_few levels t,
     )
   where
     test : ℕ → Bool
     test c = place_above levels n.level c == n.place
-
-    most : (levels : List (List ℕ)) → IsTree levels → size_below levels ≤ 64
-    most [] i = omega arith
-    most (w ∷ ws) i = i.1
 
 -- a domain of level 0 is the core itself
 pub core_of_leaf : (n : Domain) (t : TreeValue) (at : Node) (k : ℕ) (d : Domain)

@@ -1,12 +1,16 @@
-//! The way down from the system to a domain.
+//! The way down from the system to a domain, and back up from a core that changes.
 
-ghost use Rattle.std.specs.Prelude.{◌≡◌, ℕ, ◌-◌, length, get_or};
-ghost use Rattle.psci_board.specs.Board.{HasNode, IsTree, height};
+ghost use Rattle.std.specs.Prelude.{◌≡◌, ℕ, ◌-◌, ◌<◌, length, get_or, replicate, slice_set};
+ghost use Rattle.psci_board.specs.Board.{HasNode, IsTree, height, size_below};
 ghost use Rattle.psci_tree.specs.declared.domain.Domain.{Domain};
-ghost use Rattle.psci_tree.specs.Domains.{HasShape, domains_down};
+ghost use Rattle.psci_tree.specs.Recount.{never_started};
+ghost use Rattle.psci_tree.specs.Domains.{HasShape, IsWayTo, IsWhole, child_counts, cores};
+ghost use Rattle.psci_tree.specs.Domains.{domains_down};
+ghost use Rattle.psci_tree.specs.Kept.{IsKept};
 
 use crate::domain::Domain;
-use psci_board::{Board, Node};
+use crate::state::{CoreState, NEVER_STARTED};
+use psci_board::{Board, Core, Node};
 
 /// The domain of a node of the board, one step down for each level.
 pub fn domain_at<'a>(root: &'a Domain, board: &Board, node: Node) -> &'a Domain
@@ -21,4 +25,47 @@ pub fn domain_at<'a>(root: &'a Domain, board: &Board, node: Node) -> &'a Domain
     };
     let parent = domain_at(root, board, parent);
     &parent.children[number as usize]
+}
+
+/// Sets the state of a core, and what each domain on its path keeps.
+pub fn set_core(root: &mut Domain, board: &Board, core: Core, state: CoreState)
+    requires tree { IsTree board.now.levels }
+    requires whole { IsWhole root.old board.now.levels }
+    requires core { core.number < size_below board.now.levels }
+    requires kept { IsKept root.old }
+    ensures cores { cores root.new ≡ slice_set (cores root.old) core.number state }
+    ensures shape { (k : ℕ) → child_counts k root.new ≡ child_counts k root.old }
+    ensures kept { IsKept root.new }
+{
+    root.set(board.height(), &way_to(board, core), &state);
+}
+
+/// Turns off every core, and forgets its starts.
+pub fn turn_off(root: &mut Domain, board: &Board)
+    requires tree { IsTree board.now.levels }
+    requires whole { IsWhole root.old board.now.levels }
+    requires kept { IsKept root.old }
+    ensures cores { cores root.new ≡ replicate (length (cores root.old)) never_started }
+    ensures shape { (k : ℕ) → child_counts k root.new ≡ child_counts k root.old }
+    ensures kept { IsKept root.new }
+{
+    for number in 0..board.cores() {
+        set_core(root, board, Core { number }, NEVER_STARTED);
+    }
+}
+
+/// The way from the system down to a core, one step for each level: the number, among its siblings,
+/// of the core, of the domain above it, and so on.
+fn way_to(board: &Board, core: Core) -> [u32; 3]
+    requires tree { IsTree board.now.levels }
+    requires core { core.number < size_below board.now.levels }
+    ensures { IsWayTo board.now.levels core.number result }
+{
+    let mut way = [0; 3];
+    let mut node = core.node();
+    for level in 0..board.height() {
+        way[level as usize] = board.child_number(node).unwrap_or(0);
+        node = board.parent(node).unwrap_or(node);
+    }
+    way
 }

@@ -1,7 +1,7 @@
 //! The tree of power domains.
 
 use crate::build::build;
-use crate::descent::domain_at;
+use crate::descent::{domain_at, set_core, turn_off};
 use crate::domain::Domain;
 use crate::grants::{clear_up, deepest_rows, fill_rows, write};
 use crate::state::{Activity, CoreState};
@@ -55,6 +55,7 @@ ghost use Rattle.psci_tree.specs.Changes.{MayGrant, suspended, turned_off, made_
 ghost use Rattle.psci_tree.specs.Changes.{with_grant, with_core_state, with_path_cleared};
 ghost use Rattle.psci_tree.specs.Changes.{all_off, start_of_life};
 ghost use Rattle.psci_tree.specs.Domains.{cores};
+ghost use Rattle.psci_tree.specs.Kept.{Keeps};
 
 impl Tree {
     /// The tree of a board at the start of a life: the boot core, core 0, is pending, every other
@@ -94,7 +95,7 @@ impl Tree {
         if level > self.board.height() {
             return 0;
         }
-        self.domain(node).low(level)
+        self.domain(node).kept.lows[level as usize]
     }
 
     /// The sum of the known starts of the cores below a domain.
@@ -102,7 +103,7 @@ impl Tree {
         requires { HasNodeIn self.now.levels node }
         ensures { result ≡ known self.now node }
     {
-        self.domain(node).known()
+        self.domain(node).kept.known
     }
 
     /// How many cores below a domain are running or pending.
@@ -110,7 +111,7 @@ impl Tree {
         requires { HasNodeIn self.now.levels node }
         ensures { result ≡ active self.now node }
     {
-        self.domain(node).active()
+        self.domain(node).kept.active
     }
 
     /// How many cores below a domain are off or going off.
@@ -118,7 +119,7 @@ impl Tree {
         requires { HasNodeIn self.now.levels node }
         ensures { result ≡ off self.now node }
     {
-        self.domain(node).off()
+        self.domain(node).kept.off
     }
 
     /// The granted depth of a domain.
@@ -203,8 +204,12 @@ impl Tree {
         ensures levels { self.new.levels ≡ self.old.levels }
         ensures tree { IsDomainTree self.new }
     {
-        self.root
-            .set(core.number as usize, CoreState { activity, known });
+        set_core(
+            &mut self.root,
+            &self.board,
+            core,
+            CoreState { activity, known },
+        );
     }
 
     /// Takes away what is granted on the path of a core.
@@ -223,7 +228,7 @@ impl Tree {
         ensures levels { self.new.levels ≡ self.old.levels }
         ensures tree { IsDomainTree self.new }
     {
-        self.root.turn_off();
+        turn_off(&mut self.root, &self.board);
         fill_rows(&mut self.granted, 3);
     }
 
@@ -232,6 +237,7 @@ impl Tree {
         requires { HasNodeIn self.now.levels node }
         ensures cores { cores result.now
             ≡ map (λ c. core_at self.now c) (below_in self.now.levels node) }
+        ensures kept { Keeps (out-Domain result.now).kept (cores result.now) }
         ensures few { length (cores result.now) < 2 ^ 16 }
         ensures core { node.level ≡ 0 → (out-Domain result.now).core ≡ core_at self.now node.place }
     {

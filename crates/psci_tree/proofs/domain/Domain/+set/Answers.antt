@@ -1,60 +1,165 @@
-use Rattle.std.proofs.Common.{arith, rules, length, ◌≡◌, ◌<◌, ap, get_or, List, ◌∙◌}
+use Rattle.std.proofs.Common.{◌≡◌, ◌<◌, ◌-◌, ◌+◌, ℕ, List, arith, rules, length, ap, get_or, ◌∙◌}
+use Rattle.std.proofs.Common.{suc, subst, sym, take, [], ◌∷◌}
 use Rattle.std.proofs.lemmas.List.{get_or_default}
-use Rattle.std.proofs.Math.ListN.{set}
-use Rattle.psci_tree.specs.Domains.{cores, children, child_counts}
+use Rattle.std.proofs.Math.ListN.{set, length-set}
+use Rattle.std.specs.Vec.{with_item}
+use Rattle.psci_tree.specs.Domains.{cores, cores_in, children, child_counts, IsWay, place_by}
+use Rattle.psci_tree.specs.Kept.{Keeps, AreKept, IsKept}
 use Rattle.psci_tree.specs.declared.domain.Domain.{Domain}
-use Rattle.psci_tree.specs.declared.domain.Domain.TheViews.{the_lemmas}
-use Rattle.psci_tree.proofs.Below.{cores_with_child, widths_with_child}
-use Rattle.psci_tree.proofs.Below.{cores_of_domain, length_of_domain, cores_le}
+use Rattle.psci_tree.specs.declared.domain.Domain.TheViews.{out-Domain, the_lemmas}
+use Rattle.psci_tree.proofs.Below.{cores_with_child, widths_with_child, widths_with_core, cores_set}
+use Rattle.psci_tree.proofs.Below.{length_of_domain, cores_le, cores_of_core, cores_roll_core}
+use Rattle.psci_tree.proofs.Keeping.{kept_children, kept_at, kept_set}
+use Rattle.psci_tree.proofs.Keeping.{kept_roll, kept_roll_core}
+use Rattle.psci_tree.proofs.Ways.{Step, step, place_inside}
 use Rattle.psci_tree.proofs.domain.Domain.+set.Goals as goal
 
-pub find-child-requires-clause-inside : goal.find-child-requires-clause-inside
-find-child-requires-clause-inside t c = grind (arith, length_of_domain c.args.self.now)
-
-pub find-child-requires-clause-few : goal.find-child-requires-clause-few
-find-child-requires-clause-few t c = grind (arith, length_of_domain c.args.self.now)
+pub index_mut-requires : goal.index_mut-requires
+index_mut-requires t c =
+    let l : ℕ = c.args.level in
+    let down : Step c.args.self.now l (l - 1) c.args.way.now =
+    step _ l (l - 1) _ (omega arith) c.requires.way in
+    omega (arith, down.inside, (out-Domain c.args.self.now).children.ok.0)
 
 pub set-requires : goal.set-requires
 set-requires t c =
+    let own : Domain = c.args.self.now in
+    let l : ℕ = c.args.level in
+    let i : ℕ = get_or c.args.way.now (l - 1) 0 in
+    let down : Step own l (l - 1) c.args.way.now =
+    step _ l (l - 1) _ (omega arith) c.requires.way in
     let n : Domain = c.index_mut.result.now in
-    let items : List Domain = children c.args.self.now in
-    let is : n ≡ get_or items c.find-child.result.0 n = c.index_mut.ensures.value in
-    let same : length (cores n) ≡ length (cores (get_or items c.find-child.result.0 n)) =
-    ap (λ x. length (cores x)) is in
-    let found : c.find-child.result.1
-    < length (cores (get_or c.deref.result.now c.find-child.result.0 n)) =
-    c.find-child.ensures.rest n in
-    let found_here = rw c.deref.ensures.value at found in
-    let fits = rw c.deref.ensures.value at c.find-child.ensures.domain in
-    let here = ap length (cores_of_domain c.args.self.now (omega arith)) in (
+    let items : List Domain = children own in
+    let is : get_or items i own ≡ n =
+    sym (c.index_mut.ensures.value ∙ get_or_default items i n own down.inside) in (
       search (rules, the_lemmas),
-      (omega arith, omega (arith, cores_le items c.find-child.result.0 n fits)),
+      (
+        omega (arith, c.requires.long),
+        (
+          subst (IsWay (l - 1) c.args.way.now) is down.rest,
+          (
+            omega (
+              arith,
+              ap (λ x. length (cores x)) is,
+              cores_le items i own down.inside,
+              length_of_domain own (omega (arith, down.inside)),
+            ),
+            subst IsKept is (kept_at items i own down.inside
+            (kept_children own c.requires.kept)),
+          ),
+        ),
+      ),
     )
+
+pub returns-then-level-eq0-clause-cores : goal.returns-then-level-eq0-clause-cores
+returns-then-level-eq0-clause-cores t c =
+    let own : Domain = c.args.self.now in
+    let none : length (children own) ≡ 0 =
+    subst (λ j. IsWay j c.args.way.now own) c.if-level-eq0.true c.requires.way in
+    let there : set (cores own) (place_by c.args.level c.args.way.now own) c.args.state.now
+    ≡ c.args.state.now ∷ [] =
+    ap (λ j. set (cores own) (place_by j c.args.way.now own) c.args.state.now) c.if-level-eq0.true
+    ∙ ap (λ cs. set cs 0 c.args.state.now) (cores_of_core own none) in
+    let here = cores_roll_core (record {
+      children = (out-Domain own).children;
+      core = c.args.state.now;
+      kept = c.of_core-self.result;
+    }) none ∙ sym there in
+    simp the_lemmas (simp the_lemmas at here)
+
+pub returns-then-level-eq0-clause-kept : goal.returns-then-level-eq0-clause-kept
+returns-then-level-eq0-clause-kept t c =
+    let none : length (children c.args.self.now) ≡ 0 =
+    subst (λ j. IsWay j c.args.way.now c.args.self.now) c.if-level-eq0.true c.requires.way in
+    let here = kept_roll_core (record {
+      children = (out-Domain c.args.self.now).children;
+      core = c.args.state.now;
+      kept = c.of_core-self.result;
+    }) none c.of_core-self.ensures in
+    simp the_lemmas (simp the_lemmas at here)
 
 pub returns-clause-cores : goal.returns-clause-cores
 returns-clause-cores t c =
-    let n : Domain = c.index_mut.result.now in
     let own : Domain = c.args.self.now in
+    let l : ℕ = c.args.level in
+    let i : ℕ = get_or c.args.way.now (l - 1) 0 in
+    let down : Step own l (l - 1) c.args.way.now =
+    step _ l (l - 1) _ (omega arith) c.requires.way in
+    let n : Domain = c.index_mut.result.now in
     let items : List Domain = children own in
-    let fits = rw c.deref.ensures.value at c.find-child.ensures.domain in
-    let before = rw c.deref.ensures.value at c.find-child.ensures.before in
-    let found : c.find-child.result.1
-    < length (cores (get_or c.deref.result.now c.find-child.result.0 own)) =
-    c.find-child.ensures.rest own in
-    let found_here = rw c.deref.ensures.value at found in
-    let at_own : n ≡ get_or items c.find-child.result.0 own =
-    c.index_mut.ensures.value ∙ get_or_default items c.find-child.result.0 n own fits in
-    cores_with_child own c.find-child.result.0 c.find-child.result.1 c.args.place c.set.new.self
-    c.args.state fits before found_here (c.set.ensures.cores
-    ∙ ap (λ (x : Domain). set (cores x) c.find-child.result.1 c.args.state) at_own)
+    let is : n ≡ get_or items i own =
+    c.index_mut.ensures.value ∙ get_or_default items i n own down.inside in
+    let here = cores_with_child own i (place_by (l - 1) c.args.way.now (get_or items i own))
+    (place_by l c.args.way.now own) c.set.new.self c.args.state.now c.kept_of-self.result
+    down.inside (sym down.place) (place_inside (l - 1) c.args.way.now (get_or items i own) down.rest)
+    (c.set.ensures.cores ∙ ap (λ (x : Domain). set (cores x) (place_by (l - 1) c.args.way.now x)
+    c.args.state.now) is) in
+    simp the_lemmas (simp the_lemmas at here)
 
 pub returns-clause-shape : goal.returns-clause-shape
-returns-clause-shape t c =
+returns-clause-shape t c = λ k.
+    let own : Domain = c.args.self.now in
+    let l : ℕ = c.args.level in
+    let i : ℕ = get_or c.args.way.now (l - 1) 0 in
+    let down : Step own l (l - 1) c.args.way.now =
+    step _ l (l - 1) _ (omega arith) c.requires.way in
+    let items : List Domain = children own in
+    let is : c.index_mut.result.now ≡ get_or items i own =
+    c.index_mut.ensures.value ∙ get_or_default items i c.index_mut.result.now own down.inside in
+    let here = widths_with_child own i c.set.new.self c.kept_of-self.result
+    (λ j. c.set.ensures.shape j ∙ ap (child_counts j) is) k in
+    simp the_lemmas (simp the_lemmas at here)
+
+pub kept_of-self-requires-clause-kept : goal.kept_of-self-requires-clause-kept
+kept_of-self-requires-clause-kept t c =
     let own : Domain = c.args.self.now in
     let items : List Domain = children own in
-    let fits = rw c.deref.ensures.value at c.find-child.ensures.domain in
-    let at_own : c.index_mut.result.now ≡ get_or items c.find-child.result.0 own =
-    c.index_mut.ensures.value
-    ∙ get_or_default items c.find-child.result.0 c.index_mut.result.now own fits in
-    widths_with_child own c.find-child.result.0 c.set.new.self (λ k. c.set.ensures.shape k
-    ∙ ap (child_counts k) at_own)
+    let i : ℕ = get_or c.args.way.now (c.args.level - 1) 0 in
+    let now : c.deref.result.now ≡ set items i c.set.new.self =
+    c.deref.ensures.value ∙ simp the_lemmas in
+    subst AreKept (sym now) (kept_set items i c.set.new.self (kept_children own c.requires.kept)
+    c.set.ensures.kept)
+
+pub kept_of-self-requires-clause-few : goal.kept_of-self-requires-clause-few
+kept_of-self-requires-clause-few t c =
+    let own : Domain = c.args.self.now in
+    let l : ℕ = c.args.level in
+    let i : ℕ = get_or c.args.way.now (l - 1) 0 in
+    let down : Step own l (l - 1) c.args.way.now =
+    step _ l (l - 1) _ (omega arith) c.requires.way in
+    let n : Domain = c.index_mut.result.now in
+    let items : List Domain = children own in
+    let now : c.deref.result.now ≡ set items i c.set.new.self =
+    c.deref.ensures.value ∙ simp the_lemmas in
+    let is : n ≡ get_or items i own =
+    c.index_mut.ensures.value ∙ get_or_default items i n own down.inside in
+    let below : cores_in (set items i c.set.new.self)
+    ≡ set (cores_in items) (place_by l c.args.way.now own) c.args.state.now =
+    cores_set items i (place_by (l - 1) c.args.way.now (get_or items i own))
+    (place_by l c.args.way.now own) own c.set.new.self c.args.state.now down.inside (sym down.place)
+    (place_inside (l - 1) c.args.way.now (get_or items i own) down.rest) (c.set.ensures.cores
+    ∙ ap (λ (x : Domain). set (cores x) (place_by (l - 1) c.args.way.now x) c.args.state.now) is) in
+    let lengths : length (cores_in c.deref.result.now) ≡ length (cores_in items) =
+    ap length (ap cores_in now ∙ below)
+    ∙ length-set (cores_in items) (place_by l c.args.way.now own) c.args.state.now in
+    omega (arith, length_of_domain own (omega (arith, down.inside)))
+
+pub returns-clause-kept : goal.returns-clause-kept
+returns-clause-kept t c =
+    let own : Domain = c.args.self.now in
+    let l : ℕ = c.args.level in
+    let i : ℕ = get_or c.args.way.now (l - 1) 0 in
+    let down : Step own l (l - 1) c.args.way.now =
+    step _ l (l - 1) _ (omega arith) c.requires.way in
+    let items : List Domain = children own in
+    let now : c.deref.result.now ≡ set items i c.set.new.self =
+    c.deref.ensures.value ∙ simp the_lemmas in
+    let more : 0 < length (set items i c.set.new.self) =
+    omega (arith, length-set items i c.set.new.self, down.inside) in
+    let here = kept_roll (record {
+      children = with_item (out-Domain own).children i c.set.new.self;
+      core = (out-Domain own).core;
+      kept = c.kept_of-self.result;
+    }) more (subst (λ ns. Keeps c.kept_of-self.result (cores_in ns)) now c.kept_of-self.ensures)
+    (kept_set items i c.set.new.self (kept_children own c.requires.kept) c.set.ensures.kept) in
+    simp the_lemmas (simp the_lemmas at here)

@@ -3,7 +3,10 @@ use Rattle.std.proofs.lemmas.List.{length-map}
 use Rattle.psci_board.specs.Board.{below_in, HasNodeIn}
 use Rattle.psci_tree.specs.Recount.{TreeValue, core_at}
 use Rattle.psci_tree.specs.Inside.{IsTied}
-use Rattle.psci_tree.proofs.Slices.{states_at, core_of_leaf, few_below}
+use Rattle.psci_tree.specs.Kept.{IsRecount}
+use Rattle.psci_tree.specs.declared.domain.Domain.{Domain}
+use Rattle.psci_board.specs.declared.node.Node.{Node}
+use Rattle.psci_tree.proofs.Slices.{states_at, core_of_leaf, few_below, size_at}
 use Rattle.psci_tree.proofs.tree.Tree.domain.Goals as goal
 
 pub domain_at-requires : goal.domain_at-requires
@@ -49,3 +52,18 @@ returns-clause-core c =
     (c.law_spans.ensures c.args.self.now.levels tied.valid.tree) tied.valid.tree tied.whole
     (ap (λ (v : TreeValue). v.cores) (sym is)) c.requires e
     (c.domain_at.ensures c.domain_at.result.now)
+
+pub returns-clause-kept : goal.returns-clause-kept
+returns-clause-kept c =
+    let k : ℕ = length c.self.inside.board.levels - c.args.node.level in
+    let d : Domain = c.domain_at.result.now in
+    let n : Node = c.args.node in
+    let in' : HasNodeIn c.self.inside.board.levels n =
+    subst (λ (t : TreeValue). HasNodeIn t.levels n) (sym c.self.view_is) c.requires in
+    subst IsRecount (sym (c.domain_at.ensures d)) (c.self.invariant.kept.each k n.place d
+    (omega (
+      arith,
+      in'.place,
+      size_at c.self.inside.root c.self.inside.board.levels n.level k c.self.invariant.whole
+          (omega (arith, in'.level)),
+    )))
