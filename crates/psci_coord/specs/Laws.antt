@@ -11,7 +11,7 @@ use Rattle.psci_coord.specs.LastCore.{last_core_check}
 
 -- What is counted over the cores below a core's domain of a level.
 pub record BelowLaws (b : BoardValue) (v : PowerView) (core level : ℕ) : Type 0 where
-  -- the least ask is the greatest depth, of 3 at most, that no core below asks less than
+  -- the least ask is the greatest depth, of 3 at most, that no core below undercuts
   pub most : least_ask b v (domain_of b core level) ≤ 3
   pub below : (c : ℕ) → c < cores b → up b level c ≡ up b level core
       → least_ask b v (domain_of b core level) ≤ v.ask c level

@@ -9,8 +9,8 @@ ghost use Rattle.psci_coord.specs.Laws.{LastCoreLaws};
 
 use psci_board::{law_children, law_paths};
 
-/// The least ask of a domain is the greatest depth, of 3 at most, that no core below asks less than.
-/// Every core below is off or going off exactly where each one is.
+/// The least ask of a domain is the greatest depth, of 3 at most, that no core below undercuts. All
+/// cores below are off or going off exactly where each one is.
 pub fn law_below()
     ensures { (b : BoardValue) (v : PowerView) (core level : ℕ) → BelowLaws b v core level }
 {}
