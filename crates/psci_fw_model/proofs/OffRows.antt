@@ -1,10 +1,10 @@
 -- Worked examples: cores that go off, and what the power controller said of it.
-use Rattle.std.proofs.Common.{[], ◌∷◌, pos, negsuc, true, false, refl}
+use Rattle.std.proofs.Common.{[], ◌∷◌, pos, true, false, refl}
 use Rattle.psci_board.specs.Board.{core_of, node_of, up}
 use Rattle.psci_coord.specs.Claim.{claim_of}
 use Rattle.psci_coord.specs.LastCore.{last_core_check, refusal, shallow, shallow_at}
 use Rattle.psci_coord.specs.View.{generation, is_all_off, is_idle, least_ask}
-use Rattle.psci_link.specs.declared.kind.Kind.TheVariants.{Down, Start, Off, Reset}
+use Rattle.psci_link.specs.declared.kind.Kind.TheVariants.{Down, Start}
 use Rattle.psci_link.specs.Outstanding.{changes_since, last_message, outstanding}
 use Rattle.psci_ctl_model.specs.declared.start.Cause.TheVariants as causes
 use Rattle.psci_fw_model.specs.AffinityInfo.{node_status}
@@ -16,8 +16,8 @@ use Rattle.psci_fw_model.specs.CpuOn.{target_of}
 use Rattle.psci_fw_model.specs.Entering.{enter_outcome}
 use Rattle.psci_fw_model.specs.History.{values_of}
 use Rattle.psci_fw_model.specs.Views.{view}
-use Rattle.psci_fw_model.proofs.Steps.{AreAnswered, board, code, enter_by, goes_to, old, part, resumes}
-use Rattle.psci_fw_model.proofs.Steps.{smc, starts, stops, stops_by, stops_still, take, used}
+use Rattle.psci_fw_model.proofs.Steps.{AreAnswered, board, code, enter_by, goes_to, old, part}
+use Rattle.psci_fw_model.proofs.Steps.{smc, starts, stops, take, used}
 
 -- core off acknowledged
 core_off_acknowledged : AreAnswered board

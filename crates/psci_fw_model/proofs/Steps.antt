@@ -12,7 +12,7 @@ use Rattle.psci_fw_model.specs.declared.outcome.Act.TheVariants as acts
 use Rattle.psci_fw_model.specs.declared.reply.FwReply.{FwReply}
 use Rattle.psci_fw_model.specs.declared.reply.FwReply.TheVariants.{Out, Taken}
 use Rattle.psci_ctl_model.specs.declared.start.Cause.{Cause}
-use Rattle.psci_ctl_model.specs.declared.start.Cause.TheVariants.{On, Wake, Reset}
+use Rattle.psci_ctl_model.specs.declared.start.Cause.TheVariants.{Wake}
 use Rattle.psci_fw_model.specs.Answer.{answer}
 use Rattle.psci_fw_model.specs.After.{after}
 use Rattle.psci_fw_model.specs.Entry.{Entry}

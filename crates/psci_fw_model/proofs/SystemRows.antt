@@ -1,10 +1,10 @@
 -- Worked examples: SYSTEM_SUSPEND, SYSTEM_OFF and SYSTEM_RESET, and the lives after them.
-use Rattle.std.proofs.Common.{[], ◌∷◌, pos, negsuc, true, false, refl}
+use Rattle.std.proofs.Common.{[], ◌∷◌, pos, negsuc, false, refl}
 use Rattle.psci_board.specs.Board.{core_of, node_of, up}
 use Rattle.psci_coord.specs.Claim.{claim_of}
 use Rattle.psci_coord.specs.LastCore.{last_core_check, refusal, shallow, shallow_at}
 use Rattle.psci_coord.specs.View.{generation, is_all_off, is_idle, least_ask}
-use Rattle.psci_link.specs.declared.kind.Kind.TheVariants.{Down, Start, Off, Reset}
+use Rattle.psci_link.specs.declared.kind.Kind.TheVariants.{Off, Reset}
 use Rattle.psci_link.specs.Outstanding.{changes_since, last_message, outstanding}
 use Rattle.psci_ctl_model.specs.declared.start.Cause.TheVariants as causes
 use Rattle.psci_fw_model.specs.AffinityInfo.{node_status}
