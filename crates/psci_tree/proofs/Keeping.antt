@@ -16,7 +16,7 @@ use Rattle.psci_tree.specs.declared.domain.Domain.{Domain, out-Domain}
 use Rattle.psci_tree.specs.declared.domain.Domain.TheOpen.{Domain-F}
 use Rattle.psci_tree.specs.declared.domain.Domain.TheViews.{roll-Domain, out-roll-Domain}
 use Rattle.psci_tree.proofs.Below.{low-append, cores_roll, cores_roll_core, children_roll}
-use Rattle.psci_tree.proofs.Below.{cores_take, length_take, length_drop}
+use Rattle.psci_tree.proofs.Below.{cores_take}
 
 -- Some cores and others ----------------------------------------------------------------------
 

@@ -2,6 +2,7 @@
 use Rattle.std.proofs.Common.{◌≡◌, ℕ, zero, suc, ◌+◌, ◌<◌, ◌≤◌, true, List, [], ◌∷◌, ◌++◌, length}
 use Rattle.std.proofs.Common.{take, drop, map, sum, get_or, arith, refl, ap, sym, ◌∙◌, subst}
 use Rattle.std.proofs.Common.{append_assoc, length-append}
+use Rattle.std.proofs.Math.ListN.{set}
 use Rattle.std.specs.List.{flat_map, AllPass}
 use Rattle.std.proofs.lemmas.List.{take-append-le, take-map, get_or-map, length-map, drop_all}
 use Rattle.std.proofs.lemmas.List.Concat.{flat_map-append, length-flat_map, get_or-flat_map}
@@ -11,8 +12,11 @@ use Rattle.psci_board.specs.Board.{IsTree, size_below, is_width, group_of, place
 use Rattle.psci_board.specs.Board.{first_core}
 use Rattle.psci_tree.specs.Domains.{cores, cores_in, children, child_count, child_counts, IsWay}
 use Rattle.psci_tree.specs.Domains.{place_by, domains_down, IsWayTo, IsWhole}
-use Rattle.psci_tree.specs.declared.domain.Domain.{Domain, out-Domain}
-use Rattle.psci_tree.proofs.Below.{cores_of_core, length_of_domain, length_drop, length_parts}
+use Rattle.psci_tree.specs.Recount.{never_started}
+use Rattle.psci_tree.specs.Changes.{changed, with_change}
+use Rattle.psci_tree.specs.declared.state.Change.{Change}
+use Rattle.psci_tree.specs.declared.domain.Domain.{Domain}
+use Rattle.psci_tree.proofs.Below.{cores_of_core, cores_of_domain, length_of_domain, length_drop, length_parts}
 use Rattle.psci_tree.proofs.Granted.{place_lt}
 use Rattle.psci_tree.proofs.Places.{Counted, counted, sum-cons}
 use Rattle.psci_tree.proofs.Slices.{first_len, fans_at, wide_at, size_at, size_drop, widths_are}
@@ -46,6 +50,32 @@ place_inside (suc l) way n h =
       length_drop (children n) i n h.0,
       place_inside l way (get_or (children n) i n) h.1,
     )
+
+-- the core at a place below a domain, as one below its child
+pub same_core : (n : Domain) (i rest place : ℕ) → i < length (children n)
+    → length (cores_in (take i (children n))) + rest ≡ place
+    → rest < length (cores (get_or (children n) i n))
+    → get_or (cores n) place never_started
+    ≡ get_or (cores (get_or (children n) i n)) rest never_started
+same_core n i rest place h e r =
+    ap (λ cs. get_or cs place never_started) (cores_of_domain n (omega arith))
+    ∙ ap (λ p. get_or (cores_in (children n)) p never_started) (sym e)
+    ∙ get_or-flat_map cores (children n) i rest n never_started h r
+
+-- a change of a child's core, as one of the domain's
+pub child_changed : (n m : Domain) (l k : ℕ) (way : List ℕ) (change : Change) → Step n l k way
+    → cores m ≡ with_change (cores (get_or (children n) (get_or way k 0) n))
+    (place_by k way (get_or (children n) (get_or way k 0) n)) change
+    → cores m ≡ set (cores (get_or (children n) (get_or way k 0) n))
+    (place_by k way (get_or (children n) (get_or way k 0) n))
+    (changed change (get_or (cores n) (place_by l way n) never_started))
+child_changed n m l k way change h e =
+    let i : ℕ = get_or way k 0 in
+    let d : Domain = get_or (children n) i n in
+    let rest : ℕ = place_by k way d in
+    e ∙ ap (λ core. set (cores d) rest (changed change core))
+    (sym (same_core n i rest (place_by l way n) h.inside (sym h.place)
+    (place_inside k way d h.rest)))
 
 -- The way to a core of the board -------------------------------------------------------------
 

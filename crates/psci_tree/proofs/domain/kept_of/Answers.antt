@@ -1,4 +1,4 @@
-use Rattle.std.proofs.Common.{◌≡◌, ◌+◌, ◌≤◌, arith, length, take, subst, sym}
+use Rattle.std.proofs.Common.{◌+◌, arith, take, subst, sym}
 use Rattle.psci_tree.specs.Domains.{cores_in}
 use Rattle.psci_tree.specs.Kept.{Keeps, beside}
 use Rattle.psci_tree.specs.declared.kept.Kept.{Kept}
