@@ -16,7 +16,8 @@ use Rattle.psci_tree.specs.Recount.{never_started}
 use Rattle.psci_tree.specs.Changes.{changed, with_change}
 use Rattle.psci_tree.specs.declared.state.Change.{Change}
 use Rattle.psci_tree.specs.declared.domain.Domain.{Domain}
-use Rattle.psci_tree.proofs.Below.{cores_of_core, cores_of_domain, length_of_domain, length_drop, length_parts}
+use Rattle.psci_tree.proofs.Below.{cores_of_core, cores_of_domain, length_of_domain, length_drop}
+use Rattle.psci_tree.proofs.Below.{length_parts}
 use Rattle.psci_tree.proofs.Granted.{place_lt}
 use Rattle.psci_tree.proofs.Places.{Counted, counted, sum-cons}
 use Rattle.psci_tree.proofs.Slices.{first_len, fans_at, wide_at, size_at, size_drop, widths_are}
@@ -106,7 +107,8 @@ take_in (n ∷ ns) (suc p) k d h i =
     (take k (children (get_or ns p d))))
 
 -- from a domain of this level on a core's path, the way leads to that core
-pub record Leads (levels : List (List ℕ)) (core : ℕ) (ks : List ℕ) (l : ℕ) (n : Domain) : Type 0 where
+pub record Leads (levels : List (List ℕ)) (core : ℕ) (ks : List ℕ) (l : ℕ)
+    (n : Domain) : Type 0 where
   pub way : IsWay l ks n
   pub place : first_core levels l (place_above levels l core) + place_by l ks n ≡ core
 
@@ -132,8 +134,8 @@ leads_core root levels core ks k d w h e =
     }
 
 -- and a domain above it does where its child on the path does
-leads_up : (root : Domain) (levels : List (List ℕ)) (core : ℕ) (ks : List ℕ) (l k : ℕ) (d n : Domain)
-    → IsTree levels → IsWhole root levels → core < size_below levels → IsWayTo levels core ks
+leads_up : (root : Domain) (levels : List (List ℕ)) (core : ℕ) (ks : List ℕ) (l k : ℕ)
+    (d n : Domain) → IsTree levels → IsWhole root levels → core < size_below levels → IsWayTo levels core ks
     → k + suc l ≡ length levels
     → n ≡ get_or (domains_down k root) (place_above levels (suc l) core) d
     → Leads levels core ks l (get_or (domains_down (suc k) root) (place_above levels l core) n)
@@ -146,7 +148,8 @@ leads_up root levels core ks l k d n t w h to e is lower =
     let own : List ℕ = get_or levels l [] in
     let same : map child_count row ≡ own = fans_at root levels l k w e in
     let below : q < size_below (drop l levels) = place_lt levels l core t (omega arith) h in
-    let c : Counted own q = counted own q (omega (arith, below, size_drop levels l (omega arith))) in
+    let c : Counted own q =
+    counted own q (omega (arith, below, size_drop levels l (omega arith))) in
     let up : p ≡ group_of own q = above_next levels l core (omega arith) in
     let number : i ≡ place_in own q = to l (omega arith) in
     let fits : p < length row =
@@ -231,8 +234,7 @@ system_way root levels core way t w h to =
     ) in
     let here : Leads levels core way (length levels) root =
     subst (λ j. Leads levels core way (length levels) (get_or (root ∷ []) j root)) top
-    (leads root levels core way (length levels) 0 root t w h to (omega arith)) in
-    (
+    (leads root levels core way (length levels) 0 root t w h to (omega arith)) in (
       here.way,
       omega (
         arith,

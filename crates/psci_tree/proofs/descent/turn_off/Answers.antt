@@ -26,7 +26,8 @@ loop-number-preserved c =
           ))
           ∙ ap (λ n. replicate n never_started ++ drop n old) (sym up);
       same = ap length c.change_core.ensures.cores
-          ∙ length-set (cores c.loop-number.root) number never_started ∙ c.loop-number.invariant.same;
+          ∙ length-set (cores c.loop-number.root) number never_started
+          ∙ c.loop-number.invariant.same;
       kept = c.change_core.ensures.kept;
       shape = λ k. c.change_core.ensures.shape k ∙ c.loop-number.invariant.shape k;
     }

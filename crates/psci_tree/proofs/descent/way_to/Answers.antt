@@ -1,5 +1,5 @@
-use Rattle.std.proofs.Common.{◌≡◌, ◌≢◌, ◌∙◌, ◌+◌, ◌<◌, ℕ, List, [], suc, arith, length, ap, sym, drop}
-use Rattle.std.proofs.Common.{get_or, get_or-set_other, get_or-set_same, below_more, length-set}
+use Rattle.std.proofs.Common.{◌≡◌, ◌≢◌, ◌∙◌, ◌+◌, ◌<◌, ℕ, List, [], suc, arith, length, ap, sym}
+use Rattle.std.proofs.Common.{drop, get_or, get_or-set_other, get_or-set_same, below_more, length-set}
 use Rattle.std.specs.Prelude.{unwrap_or}
 use Rattle.psci_board.specs.declared.node.Node.{Node}
 use Rattle.psci_board.specs.Board.{BoardValue, size_below, place_in, place_above, group_of}
@@ -38,8 +38,11 @@ loop-level-preserved c =
       place = ap (λ (m : Node). m.place) up ∙ ap (group_of (get_or levels l [])) place
           ∙ sym (above_next levels l core fits) ∙ ap (λ j. place_above levels j core) next;
       done = below_more _ _ (λ k h. let ne : k ≢ l = omega arith in
-      rw get_or-set_other (c.loop-level.invariant.done k h))
-          (let lt : l < length way = omega (arith, c.loop-level.invariant.long,
-          c.height-level-end.ensures.board.high) in
+          rw get_or-set_other (c.loop-level.invariant.done k h))
+          (let lt : l < length way = omega (
+            arith,
+            c.loop-level.invariant.long,
+            c.height-level-end.ensures.board.high,
+          ) in
           rw get_or-set_same number);
     }

@@ -14,7 +14,11 @@ beside-kept-requires c =
     keeps_small _ _ (kept_next c.args.domains.now c.loop-domain.domain-index d c.loop-domain.kept
     c.loop-domain-test.true c.domain-item.is c.requires.kept c.loop-domain.invariant)
     (omega (arith, length_parts c.args.domains.now (c.loop-domain.domain-index + 1))) in
-    record { known = fits.known; active = omega (arith, fits.active); off = omega (arith, fits.off) }
+    record {
+      known = fits.known;
+      active = omega (arith, fits.active);
+      off = omega (arith, fits.off);
+    }
 
 pub loop-domain-preserved : goal.loop-domain-preserved
 loop-domain-preserved c =

@@ -49,7 +49,7 @@ change-requires t c =
               length_of_domain own (omega (arith, down.inside)),
             ),
             subst IsKept is (kept_at items i own down.inside
-            (kept_children own c.requires.kept)),
+                (kept_children own c.requires.kept)),
           ),
         ),
       ),
@@ -99,7 +99,8 @@ returns-clause-cores t c =
     c.index_mut.ensures.value ∙ get_or_default items i n own down.inside in
     let here = cores_with_child own i (place_by (l - 1) c.args.way.now (get_or items i own))
     (place_by l c.args.way.now own) c.change.new.self s c.kept_of-self.result
-    down.inside (sym down.place) (place_inside (l - 1) c.args.way.now (get_or items i own) down.rest)
+    down.inside (sym down.place)
+    (place_inside (l - 1) c.args.way.now (get_or items i own) down.rest)
     (child_changed own c.change.new.self l (l - 1) c.args.way.now c.args.change.now down
     (c.change.ensures.cores ∙ ap (λ (x : Domain). with_change (cores x)
     (place_by (l - 1) c.args.way.now x) c.args.change.now) is)) in
@@ -175,5 +176,6 @@ returns-clause-kept t c =
       core = (out-Domain own).core;
       kept = c.kept_of-self.result;
     }) more (subst (λ ns. Keeps c.kept_of-self.result (cores_in ns)) now c.kept_of-self.ensures)
-    (kept_set items i c.change.new.self (kept_children own c.requires.kept) c.change.ensures.kept) in
+    (kept_set items i c.change.new.self (kept_children own c.requires.kept)
+    c.change.ensures.kept) in
     simp the_lemmas (simp the_lemmas at here)
