@@ -135,8 +135,8 @@ leads_core root levels core ks k d w h e =
 
 -- and a domain above it does where its child on the path does
 leads_up : (root : Domain) (levels : List (List ℕ)) (core : ℕ) (ks : List ℕ) (l k : ℕ)
-    (d n : Domain) → IsTree levels → IsWhole root levels → core < size_below levels → IsWayTo levels core ks
-    → k + suc l ≡ length levels
+    (d n : Domain) → IsTree levels → IsWhole root levels → core < size_below levels
+    → IsWayTo levels core ks → k + suc l ≡ length levels
     → n ≡ get_or (domains_down k root) (place_above levels (suc l) core) d
     → Leads levels core ks l (get_or (domains_down (suc k) root) (place_above levels l core) n)
     → Leads levels core ks (suc l) n

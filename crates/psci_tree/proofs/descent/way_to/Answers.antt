@@ -1,5 +1,6 @@
 use Rattle.std.proofs.Common.{◌≡◌, ◌≢◌, ◌∙◌, ◌+◌, ◌<◌, ℕ, List, [], suc, arith, length, ap, sym}
-use Rattle.std.proofs.Common.{drop, get_or, get_or-set_other, get_or-set_same, below_more, length-set}
+use Rattle.std.proofs.Common.{drop, get_or, get_or-set_other, get_or-set_same, below_more}
+use Rattle.std.proofs.Common.{length-set}
 use Rattle.std.specs.Prelude.{unwrap_or}
 use Rattle.psci_board.specs.declared.node.Node.{Node}
 use Rattle.psci_board.specs.Board.{BoardValue, size_below, place_in, place_above, group_of}
