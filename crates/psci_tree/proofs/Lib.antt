@@ -5,6 +5,7 @@ pub mod Built
 pub mod GrantRows
 pub mod Granted
 pub mod Keeping
+pub mod KeptRows
 pub mod Looked
 pub mod Places
 pub mod Recounted
