@@ -1,12 +1,13 @@
 -- Worked examples: what calls with their replies come down to, and phases.
-use Rattle.std.proofs.Common.{◌++◌, ◌∷◌, ◌≡◌, List, None, Option, Some, [], false, map, refl, true}
-use Rattle.std.proofs.Common.{ℕ}
+use Rattle.std.proofs.Common.{◌++◌, ◌∷◌, ◌≡◌, List, None, Option, Some, [], false, map, negsuc}
+use Rattle.std.proofs.Common.{refl, true, ℕ}
 use Rattle.psci_link.specs.Message.{MessageValue}
 use Rattle.psci_link.specs.declared.kind.Kind.TheVariants as kinds
 use Rattle.psci_fw_model.specs.declared.fault.FwFault.TheVariants.{NoCore, NotRunning, OldStart}
 use Rattle.psci_fw_model.specs.declared.mode.SuspendMode.TheVariants.{OsInitiated, Platform}
 use Rattle.psci_fw_model.specs.declared.opening.Opening.{Opening}
 use Rattle.psci_fw_model.specs.declared.outcome.Act.{Act}
+use Rattle.psci_fw_model.specs.declared.outcome.Act.TheVariants as acts
 use Rattle.psci_fw_model.specs.declared.reply.FwReply.{FwReply}
 use Rattle.psci_fw_model.specs.declared.reply.FwReply.TheVariants.{Out}
 use Rattle.psci_fw_model.specs.declared.start.Cause.TheVariants as causes
@@ -14,6 +15,7 @@ use Rattle.psci_fw_model.specs.declared.start.Start.{Start}
 use Rattle.psci_fw_model.specs.Effects.{Acknowledges, AsksOn, Ceases, Effect, Enters, GoesOn, Halts}
 use Rattle.psci_fw_model.specs.Effects.{Leaves, Nothing, Parks, Rests, SetsMode, effect_of}
 use Rattle.psci_fw_model.specs.Lives.{start_of_life}
+use Rattle.psci_fw_model.specs.Outcomes.{goes_on}
 use Rattle.psci_fw_model.specs.Phases.{Away, Phase, Running, Suspended, is_away, is_light}
 use Rattle.psci_fw_model.specs.Phases.{is_running, is_waiting, unless_pending}
 use Rattle.psci_fw_model.specs.Phases as phases
@@ -124,7 +126,34 @@ acknowledgements : map (effect_with (take_stale 3 1 2 1)) (used ∷ old ∷ [])
     }) ∷ Nothing ∷ []
 acknowledgements = refl
 
--- replies that no legal history has count as nothing
+-- which acts go on
+acts_that_go_on : map goes_on
+    (acts.Return (record { 0 = negsuc 0 }) ∷ acts.Stop ∷ acts.Enter 0x40001000 7 ∷ acts.Resume ∷ [])
+    ≡ true ∷ false ∷ true ∷ true ∷ []
+acts_that_go_on = refl
+
+-- Replies that no legal history has -----------------------------------------------------------
+
+-- a function other than CPU_ON that sends something and returns, or goes on in another way: its
+-- caller goes on; a CPU_ON that stopped its caller asked none on
+functions_otherwise :
+    effect_with (version 0) (starts 3 1 0)
+    ∷ map (effect_with on_3) (resumes ∷ goes_to 0x40001000 7 ∷ ends acts.Resume (Some down)
+    ∷ stops 0 1 1 (part 0 3 1 ∷ []) ∷ stops_still ∷ [])
+    ≡ GoesOn 0 ∷ GoesOn 0 ∷ GoesOn 0 ∷ GoesOn 0
+    ∷ Rests 0 (record { phase = Away; opening = None }) down ∷ Leaves 0 ∷ []
+functions_otherwise = refl
+
+-- a word that is no power state suspends none, and its caller goes off
+no_power_state : effect_with (suspend 0 0 0x40000100 5) (stops 0 1 1 (part 0 3 1 ∷ []))
+    ≡ Rests 0 (record { phase = Away; opening = None }) down
+no_power_state = refl
+
+-- a core that entered and was answered like a caller goes on
+entry_answered : effect_with (enter_wake 3 2 5) (value 0) ≡ Enters 3 woken
+entry_answered = refl
+
+-- replies of another kind of call count as nothing
 other_replies : effect_with (version 0) used ∷ effect_with (enter_wake 3 1 1) used
     ∷ effect_with (take_down 3 1 1 1) (value 0) ∷ effect_with (take_down 3 1 1 1) (refused NoCore)
     ∷ [] ≡ Nothing ∷ Nothing ∷ Nothing ∷ Nothing ∷ []

@@ -23,6 +23,16 @@ faulty_power_states : AreAnswered board
 unfolding computing
 faulty_power_states = record { history = refl; values = refl }
 
+-- words of the extended format are none of the original one, which every board has
+words_of_the_other_format : AreAnswered board
+    (boot ⇒ boots
+    ∷ suspend 0 0x40000003 0x40000100 0 ⇒ error 2
+    ∷ suspend 0 0x40000033 0x40000100 0 ⇒ error 2
+    ∷ suspend 0 0x00000022 0x40000100 0 ⇒ error 2
+    ∷ suspend 0 0x01000022 0x40000100 0 ⇒ stops 0 1 1 (part 0 2 1 ∷ part 1 2 1 ∷ []) ∷ [])
+unfolding computing
+words_of_the_other_format = record { history = refl; values = refl }
+
 -- a level above the height of the board, and the height
 levels_of_one_cluster : AreAnswered one_cluster
     (boot ⇒ boots

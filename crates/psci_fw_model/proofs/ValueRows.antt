@@ -11,16 +11,18 @@ use Rattle.psci_fw_model.specs.declared.mode.SuspendMode.TheVariants.{Platform}
 use Rattle.psci_fw_model.specs.declared.opening.Opening.{Opening}
 use Rattle.psci_fw_model.specs.declared.status.Status.{Status}
 use Rattle.psci_fw_model.specs.declared.status.Status.TheVariants as statuses
+use Rattle.psci_fw_model.specs.Entry.{Entry}
 use Rattle.psci_fw_model.specs.History.{granted, halting, known, life, mode, opening, phase, status}
 use Rattle.psci_fw_model.specs.History.{values_of}
 use Rattle.psci_fw_model.specs.Lives.{first_granted, first_opening}
 use Rattle.psci_fw_model.specs.Phases.{Away, Phase, Running}
 use Rattle.psci_fw_model.specs.Phases as phases
 use Rattle.psci_fw_model.specs.Values.{Values}
-use Rattle.psci_fw_model.proofs.Steps.{Step, affinity, board, boot, computing, enter_on, enter_wake}
-use Rattle.psci_fw_model.proofs.Steps.{history_of, kept_after, message, on, on_3, part, set_mode}
-use Rattle.psci_fw_model.proofs.Steps.{suspend, system_off, system_suspend, take, take_down, tall}
-use Rattle.psci_fw_model.proofs.Steps.{uneven, version}
+use Rattle.psci_fw_model.proofs.Steps.{Step, affinity, board, boot, computing, enter_boot, enter_on}
+use Rattle.psci_fw_model.proofs.Steps.{enter_wake, history_of, kept_after, message, off, on, on_3}
+use Rattle.psci_fw_model.proofs.Steps.{part, set_mode, starts, stops_still, suspend, system_off}
+use Rattle.psci_fw_model.proofs.Steps.{system_suspend, take, take_down, tall, uneven, value}
+use Rattle.psci_fw_model.proofs.Steps.{version, with_entry}
 
 -- the values of cores 0 to 3 and of one beyond the last; of the domains of each level, and of one
 -- beyond the last of them; of the slots of the cores and of the system
@@ -176,3 +178,48 @@ two_run = record core_3_pending {
 core_entered : Says (boot ∷ on_3 ∷ enter_on 3 1 2 ∷ version 3 ∷ []) two_run
 unfolding computing
 core_entered = record { history = refl; kept = refl }
+
+-- Other histories -----------------------------------------------------------------------------
+
+-- the history says these values, and so do the values that are kept, whatever was replied
+pub record Tells (h : List Entry) (values : Shown) : Type 0 where
+  pub history : shown (values_of board h) ≡ values
+  pub kept : shown (kept_after board h) ≡ values
+
+-- a caller that is away and was answered runs
+away_and_answered : Tells
+    (with_entry (version 0) (value 65537)
+    (with_entry (off 0) stops_still (history_of board (boot ∷ [])))) booted
+unfolding computing
+away_and_answered = record { history = refl; kept = refl }
+
+-- a pending core that was answered is pending still
+pending_and_answered : Tells
+    (with_entry (version 3) (value 65537) (history_of board (boot ∷ on_3 ∷ []))) core_3_pending
+unfolding computing
+pending_and_answered = record { history = refl; kept = refl }
+
+-- a CPU_ON counts as accepted by its message, and the core of the message is the target, which may
+-- be the caller
+asked_on_itself : Tells
+    (with_entry on_3 (starts 0 9 9) (history_of board (boot ∷ [])))
+    (record none_entered {
+      life = 1;
+      known = booted.known;
+      opening = to_opening 0x40001000 7 ∷ None ∷ None ∷ None ∷ None ∷ [];
+      outstanding = Some (message kinds.Start 0 9 9 []) ∷ None ∷ None ∷ None ∷ None ∷ None ∷ [];
+    })
+unfolding computing
+asked_on_itself = record { history = refl; kept = refl }
+
+-- a start of an earlier life that was not refused begins that life anew
+earlier_life_again : Tells
+    (with_entry (enter_wake 1 1 7) stops_still
+    (history_of board (boot ∷ enter_boot 0 2 1 ∷ on_3 ∷ [])))
+    (record none_entered {
+      life = 1;
+      known = 0 ∷ 7 ∷ 0 ∷ 0 ∷ 0 ∷ [];
+      granted = (0 ∷ 0 ∷ 3 ∷ 3 ∷ 0 ∷ []) ∷ (0 ∷ 3 ∷ 0 ∷ []) ∷ (0 ∷ 0 ∷ []) ∷ (0 ∷ []) ∷ [];
+    })
+unfolding computing
+earlier_life_again = record { history = refl; kept = refl }
