@@ -78,7 +78,7 @@ unfolding computing
 refused_mode_is_not_set = record { history = refl; values = refl }
 
 -- the last core of a board may set it; and another core than the boot core may
-other_callers : AreAnswered uneven
+modes_by_other_callers : AreAnswered uneven
     (boot ⇒ boots
     ∷ on 0x102 0x40001000 7 ⇒ starts 3 1 0
     ∷ enter_on 3 1 1 ⇒ goes_on_3
@@ -87,7 +87,7 @@ other_callers : AreAnswered uneven
     ∷ off 0 ⇒ stops 0 1 1 (part 0 3 1 ∷ part 1 3 1 ∷ [])
     ∷ set_mode 3 0 ⇒ value 0 ∷ [])
 unfolding computing
-other_callers = record { history = refl; values = refl }
+modes_by_other_callers = record { history = refl; values = refl }
 
 -- a mode has 32 bits, and each of them counts
 mode_words : AreAnswered board

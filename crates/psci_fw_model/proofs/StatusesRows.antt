@@ -18,10 +18,10 @@ abbrev statuses_after : List Step → ℕ → List Status
 statuses_after steps c = statuses board (history_of board steps) c
 
 -- every core is OFF before any life, and a call that is refused then changes nothing
-before_any_life : map (statuses_after (version 0 ∷ enter_wake 3 0 1 ∷ [])) (0 ∷ 3 ∷ [])
+off_before_any_life : map (statuses_after (version 0 ∷ enter_wake 3 0 1 ∷ [])) (0 ∷ 3 ∷ [])
     ≡ (Off ∷ []) ∷ (Off ∷ []) ∷ []
 unfolding computing
-before_any_life = refl
+off_before_any_life = refl
 
 -- the boot core is pending at the start of the life, and ON when it has entered; others are OFF
 first_entry : map (statuses_after (boot ∷ [])) (0 ∷ 3 ∷ [])

@@ -160,10 +160,10 @@ unfolding computing
 core_asked_on = record { history = refl; kept = refl }
 
 -- its Start was acknowledged
-start_acknowledged : Says (boot ∷ on_3 ∷ take kinds.Start 3 1 0 1 false ∷ [])
+pending_acknowledged : Says (boot ∷ on_3 ∷ take kinds.Start 3 1 0 1 false ∷ [])
     (record core_3_pending { outstanding = none_entered.outstanding })
 unfolding computing
-start_acknowledged = record { history = refl; kept = refl }
+pending_acknowledged = record { history = refl; kept = refl }
 
 -- it has entered by its second start
 abbrev pub two_run : Shown
