@@ -53,7 +53,7 @@ last_core_on : AreAnswered board
 unfolding computing
 last_core_on = record { history = refl; values = refl }
 
--- the other way round
+-- the other way round: the first core is ON, and the last one pending
 first_core_on : AreAnswered board
     (boot ⇒ boots
     ∷ on 0x100 0x40002000 0 ⇒ starts 2 1 0

@@ -22,7 +22,7 @@ halting_life : AreAnswered board
 unfolding computing
 halting_life = record { history = refl; values = refl }
 
--- whatever is called: CPU_OFF, CPU_SUSPEND, CPU_ON, SYSTEM_RESET
+-- a core stops whatever it calls: CPU_OFF, and SYSTEM_OFF, which sends nothing then
 functions_of_a_halting_life : AreAnswered one_cluster
     (boot ⇒ boots
     ∷ on 0x1 0x40005000 0 ⇒ starts 1 1 0
@@ -37,7 +37,7 @@ functions_of_a_halting_life : AreAnswered one_cluster
 unfolding computing
 functions_of_a_halting_life = record { history = refl; values = refl }
 
--- others
+-- and CPU_SUSPEND, CPU_ON
 more_functions_of_a_halting_life : AreAnswered one_cluster
     (boot ⇒ boots
     ∷ on 0x1 0x40005000 0 ⇒ starts 1 1 0

@@ -48,12 +48,14 @@ nothing_happened : is_legal_of [] ≡ true
 nothing_happened = refl
 
 -- one with each kind of reply: the boot core entered and asked core 3 on, core 3 entered, was
--- suspended and resumed, core 1 was refused, core 3 parked, that was acknowledged, and once more
+-- suspended and resumed, a call was answered and one refused, core 3 parked, that was acknowledged,
+-- and once more
 each_kind : is_legal_of
     (take_down 3 1 3 2 ⇒ old
     ∷ take_down 3 1 3 2 ⇒ used
     ∷ enter_wake 3 1 3 ⇒ stops 3 1 3 (part 0 3 3 ∷ part 1 3 3 ∷ [])
     ∷ version 1 ⇒ refused NotRunning
+    ∷ version 0 ⇒ value 65537
     ∷ enter_wake 3 1 2 ⇒ resumes
     ∷ suspend 3 0x1 0 0 ⇒ stops 3 1 1 (part 0 1 1 ∷ [])
     ∷ enter_on 3 1 1 ⇒ goes_on_3

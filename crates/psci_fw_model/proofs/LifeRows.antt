@@ -19,7 +19,7 @@ other_core_begins : AreAnswered board
 unfolding computing
 other_core_begins = record { history = refl; values = refl }
 
--- the same before any life
+-- the same with the first life
 other_core_begins_the_first : AreAnswered board
     (enter_wake 3 1 2 ⇒ stops 3 1 2 (part 0 3 2 ∷ part 1 3 2 ∷ [])
     ∷ version 0 ⇒ refused NotRunning
@@ -75,8 +75,8 @@ granted_in_a_new_life : AreAnswered board
 unfolding computing
 granted_in_a_new_life = record { history = refl; values = refl }
 
--- and with nothing on it: the boot core is pending, so that another core does not take the system
--- down
+-- and with nothing on it: the boot core is pending, and so another core that parks does not claim
+-- the system
 boot_path_in_a_new_life : AreAnswered board
     (boot ⇒ boots
     ∷ enter_wake 3 2 1 ⇒ stops 3 2 1 (part 0 3 1 ∷ part 1 3 1 ∷ [])

@@ -66,8 +66,8 @@ to_platform_coordinated : AreAnswered board
 unfolding computing
 to_platform_coordinated = record { history = refl; values = refl }
 
--- a mode that is refused is not set: the claim of an OS-initiated suspend is what the core asks,
--- and here it is what all cores below let it have
+-- a mode that is refused is not set: a suspend claims no more than all cores below ask, where in
+-- OS-initiated mode it would have been refused
 refused_mode_is_not_set : AreAnswered board
     (boot ⇒ boots
     ∷ on_3 ⇒ starts 3 1 0
@@ -77,7 +77,7 @@ refused_mode_is_not_set : AreAnswered board
 unfolding computing
 refused_mode_is_not_set = record { history = refl; values = refl }
 
--- the last core of a board may set it; and another core than the boot core may
+-- another core than the boot core sets the mode, on an uneven board
 modes_by_other_callers : AreAnswered uneven
     (boot ⇒ boots
     ∷ on 0x102 0x40001000 7 ⇒ starts 3 1 0

@@ -56,7 +56,7 @@ suspended_core_in_cluster : AreAnswered board
 unfolding computing
 suspended_core_in_cluster = record { history = refl; values = refl }
 
--- heights 1 and 3, and an uneven board
+-- one cluster: it goes down with its last core, one of the three was never on
 last_of_one_cluster : AreAnswered one_cluster
     (boot ⇒ boots
     ∷ on 0x2 0x40001000 7 ⇒ starts 2 1 0
@@ -66,7 +66,7 @@ last_of_one_cluster : AreAnswered one_cluster
 unfolding computing
 last_of_one_cluster = record { history = refl; values = refl }
 
--- three levels above the cores
+-- three levels above the cores: a group goes down with its last cluster, and the system with it
 last_of_a_tall_board : AreAnswered tall
     (boot ⇒ boots
     ∷ on 0x100 0x40001000 7 ⇒ starts 1 1 0
@@ -76,7 +76,7 @@ last_of_a_tall_board : AreAnswered tall
 unfolding computing
 last_of_a_tall_board = record { history = refl; values = refl }
 
--- an uneven board
+-- an uneven board: each cluster goes down with its only running core
 last_of_an_uneven_board : AreAnswered uneven
     (boot ⇒ boots
     ∷ on 0x102 0x40001000 7 ⇒ starts 3 1 0
