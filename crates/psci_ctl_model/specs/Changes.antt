@@ -38,7 +38,7 @@ abbrev pub change : BoardValue → Effect → Values → Values
 change b Nothing v = v
 change b (Starts c cause) v = with_start b c cause v
 change b (Deepens c ps) v = record v { depth = laid b c ps v.depth }
-change b Ends v = record v { life = None; starts = λ c. 0 }
+change b Ends v = record v { life = None; starts = λ c. 0; cause = first_cause }
 change b Begins v = record {
   life = next_life v.life;
   starts = first_starts;

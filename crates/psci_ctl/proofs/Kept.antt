@@ -1,0 +1,64 @@
+-- What a power controller keeps after each change is such as one keeps.
+use Rattle.std.proofs.Common.{◌≡◌, ℕ, ◌+◌, ◌<◌, ◌≤◌, ◌^◌, List, length, Option, Some}
+use Rattle.std.proofs.Common.{sym, ◌∙◌, subst, arith, ap, cond, refl}
+use Rattle.std.proofs.lemmas.Bool.{eq-eqb}
+use Rattle.psci_board.specs.Board.{BoardValue, IsBoard, cores}
+use Rattle.psci_ctl_model.specs.declared.start.Cause.{Cause}
+use Rattle.psci_ctl_model.specs.Changes.{change, with_start}
+use Rattle.psci_ctl_model.specs.Effects.{Effect, Nothing, Starts, Deepens, Ends, Begins}
+use Rattle.psci_ctl_model.specs.Follows.{AreValues, MayFollow}
+use Rattle.psci_ctl_model.specs.Values.{Values, start_of_life}
+use Rattle.psci_ctl.specs.declared.row.CoreRow.{CoreRow}
+use Rattle.psci_ctl.specs.declared.level.DomainRow.{DomainRow}
+use Rattle.psci_ctl.specs.Rows.{HasShape, HasSums, core_at, values_in}
+use Rattle.psci_ctl.specs.Seen.{ControllerValue, IsController, seen}
+
+-- a power controller with these rows
+abbrev pub whole : BoardValue → Option ℕ → List CoreRow → List (List DomainRow) → ControllerValue
+whole b life cs ds = record { board = b; life = life; cores = cs; domains = ds }
+
+-- values as they are kept stay so over each effect that may follow them
+abbrev pub Keeps : Type 0
+Keeps = (b : BoardValue) (v : Values) (e : Effect) → IsBoard b → AreValues b v → MayFollow b v e
+    → AreValues b (change b e v)
+
+pub started_kept : (b : BoardValue) (o : Option ℕ) (life c : ℕ) (cause : Cause)
+    (cs new_cs : List CoreRow) (ds new_ds : List (List DomainRow)) → Keeps
+    → IsController (whole b o cs ds) → o ≡ Some life → c < cores b
+    → (core_at cs c).starts < b.starts → length new_cs ≡ length cs → HasShape b new_ds
+    → HasSums b new_cs new_ds
+    → ((l : Option ℕ) → values_in l new_cs new_ds ≡ with_start b c cause (values_in l cs ds))
+    → IsController (whole b o new_cs new_ds)
+started_kept b o life c cause cs new_cs ds new_ds keeps is here inside more count shape sums values =
+    record {
+      board = is.board;
+      cores = count ∙ is.cores;
+      shape = shape;
+      values = subst (AreValues b) (sym (values o))
+          (keeps b (values_in o cs ds) (Starts c cause) is.board is.values
+          (inside, more, (life, here)));
+      sums = λ l e. sums;
+    }
+
+pub begun_kept : (b : BoardValue) (life : ℕ) (cs : List CoreRow) (ds : List (List DomainRow))
+    → IsBoard b → AreValues b (record (start_of_life b) { life = Some life })
+    → length cs ≡ cores b → HasShape b ds → HasSums b cs ds
+    → ((l : Option ℕ) → values_in l cs ds ≡ record (start_of_life b) { life = l })
+    → IsController (whole b (Some life) cs ds)
+begun_kept b life cs ds board are count shape sums values = record {
+  board = board;
+  cores = count;
+  shape = shape;
+  values = subst (AreValues b) (sym (values (Some life))) are;
+  sums = λ l e. sums;
+}
+
+-- each core has fewer starts than a register holds
+pub few_starts : (b : BoardValue) (v : Values) → IsBoard b → AreValues b v → (k : ℕ)
+    → v.starts k < 2 ^ 32
+few_starts b v board are k = omega (arith, are.starts k, board.starts)
+
+-- a started core has one start more
+pub next_number : (b : BoardValue) (v : Values) (c : ℕ) (cause : Cause)
+    → (with_start b c cause v).starts c ≡ v.starts c + 1
+next_number b v c cause = ap (λ t. cond t (v.starts c + 1) (v.starts c)) (eq-eqb c c refl)
