@@ -1,10 +1,11 @@
 -- What a power controller keeps after each change is such as one keeps.
 use Rattle.std.proofs.Common.{◌≡◌, ℕ, ◌+◌, ◌<◌, ◌≤◌, ◌^◌, List, length, Option, Some}
 use Rattle.std.proofs.Common.{sym, ◌∙◌, subst, arith, ap, cond, refl}
-use Rattle.std.proofs.lemmas.Bool.{eq-eqb}
+use Rattle.std.specs.Prelude.{nat_lt}
+use Rattle.std.proofs.lemmas.Bool.{eq-eqb, lt-ltb}
 use Rattle.psci_board.specs.Board.{BoardValue, IsBoard, cores}
 use Rattle.psci_ctl_model.specs.declared.start.Cause.{Cause}
-use Rattle.psci_ctl_model.specs.Changes.{change, with_start}
+use Rattle.psci_ctl_model.specs.Changes.{change, next_life, with_start}
 use Rattle.psci_ctl_model.specs.Effects.{Effect, Nothing, Starts, Deepens, Ends, Begins}
 use Rattle.psci_ctl_model.specs.Follows.{AreValues, MayFollow}
 use Rattle.psci_ctl_model.specs.Values.{Values, start_of_life}
@@ -62,3 +63,18 @@ few_starts b v board are k = omega (arith, are.starts k, board.starts)
 pub next_number : (b : BoardValue) (v : Values) (c : ℕ) (cause : Cause)
     → (with_start b c cause v).starts c ≡ v.starts c + 1
 next_number b v c cause = ap (λ t. cond t (v.starts c + 1) (v.starts c)) (eq-eqb c c refl)
+
+-- the next life begins as the first one did
+pub next_kept : (b : BoardValue) (v : Values) (life : ℕ) → Keeps → IsBoard b → AreValues b v
+    → v.life ≡ Some life → life < b.lives
+    → AreValues b (record (start_of_life b) { life = Some (life + 1) })
+next_kept b v life keeps board are here low =
+    subst (λ (o : Option ℕ). AreValues b (record (start_of_life b) { life = o }))
+    (ap next_life here) (keeps b v Begins board are (life, here, low))
+
+pub next_values : (b : BoardValue) (v : Values) (life : ℕ) → v.life ≡ Some life → life < b.lives
+    → record (start_of_life b) { life = Some (life + 1) }
+    ≡ change b (cond (nat_lt life b.lives) Begins Ends) v
+next_values b v life here low =
+    sym (ap (λ t. change b (cond t Begins Ends) v) (lt-ltb life b.lives low)
+    ∙ ap (λ (o : Option ℕ). record (start_of_life b) { life = next_life o }) here)

@@ -5,6 +5,8 @@
 #![tactic(auto)]
 
 mod controller;
+mod covering;
+mod delivering;
 mod domains;
 mod done;
 mod level;
