@@ -115,6 +115,78 @@ impl Controller {
         domain(&self.domains, node).depth
     }
 
+    /// A message reaches the power controller. One of another life is ignored, and so is each
+    /// without a life; else it is carried out as far as it can be, and acknowledged. A Start takes
+    /// one step for each level; a Down one for each child of the domains on the sender's path,
+    /// however many cores there are below; a Reset writes each row anew.
+    #[tactic(auto, unfolding(psci_ctl_model::specs::Changes::after,
+        psci_ctl_model::specs::Effects::effect_of, psci_ctl_model::specs::Replies::reply,
+        psci_ctl_model::specs::Replies::delivery_of))]
+    pub fn deliver(&mut self, message: &Message) -> Delivery
+        requires { IsOfBoard self.old.board message.now }
+        ensures reply { Delivered result
+            ≡ reply self.old.board (seen self.old) (calls.Deliver message.now) }
+        ensures after { seen self.new ≡ after self.old.board (calls.Deliver message.now)
+            (Delivered result) (seen self.old) }
+        ensures board { self.new.board ≡ self.old.board }
+        ensures ignored { result ≡ deliveries.Ignored → self.new ≡ self.old }
+    {
+        let Some(life) = self.life else {
+            return Delivery::Ignored;
+        };
+        if life != message.life {
+            return Delivery::Ignored;
+        }
+        let done = self.carry_out(message);
+        Delivery::Applied(done.ack(message))
+    }
+
+    /// A core has a wake-up event, after it stopped in its start of number `halted` (0 where it was
+    /// not started in this life). It is started, unless it was started since or can't be once more;
+    /// without a life the event is ignored.
+    #[tactic(auto, unfolding(psci_ctl_model::specs::Changes::after,
+        psci_ctl_model::specs::Effects::effect_of, psci_ctl_model::specs::Replies::reply,
+        psci_ctl_model::specs::Replies::wake_of))]
+    pub fn wake(&mut self, core: Core, halted: u32) -> Kick
+        requires { core.number < cores self.old.board }
+        ensures reply { Kicked result
+            ≡ reply self.old.board (seen self.old) (calls.Wake core halted) }
+        ensures after { seen self.new ≡ after self.old.board (calls.Wake core halted)
+            (Kicked result) (seen self.old) }
+        ensures board { self.new.board ≡ self.old.board }
+        ensures ignored { result ≡ kicks.Ignored → self.new ≡ self.old }
+    {
+        let Some(life) = self.life else {
+            return Kick::Ignored;
+        };
+        if self.starts(core) != halted || !self.may_start(core) {
+            return Kick::Ignored;
+        }
+        Kick::Started(self.start(life, core, Cause::Wake))
+    }
+
+    /// A core is reset by itself: it is started, unless it can't be once more; without a life the
+    /// reset is ignored.
+    #[tactic(auto, unfolding(psci_ctl_model::specs::Changes::after,
+        psci_ctl_model::specs::Effects::effect_of, psci_ctl_model::specs::Replies::reply,
+        psci_ctl_model::specs::Replies::reset_of))]
+    pub fn reset(&mut self, core: Core) -> Kick
+        requires { core.number < cores self.old.board }
+        ensures reply { Kicked result ≡ reply self.old.board (seen self.old) (calls.Reset core) }
+        ensures after { seen self.new ≡ after self.old.board (calls.Reset core)
+            (Kicked result) (seen self.old) }
+        ensures board { self.new.board ≡ self.old.board }
+        ensures ignored { result ≡ kicks.Ignored → self.new ≡ self.old }
+    {
+        let Some(life) = self.life else {
+            return Kick::Ignored;
+        };
+        if !self.may_start(core) {
+            return Kick::Ignored;
+        }
+        Kick::Started(self.start(life, core, Cause::Reset))
+    }
+
     /// A core is started, in this life.
     pub(crate) fn start(&mut self, life: u32, core: Core, cause: Cause) -> Start
         requires core { core.number < cores self.old.board }

@@ -21,9 +21,10 @@ use crate::domains::{domain, set_domain};
 use crate::level::DomainRow;
 use crate::row::forget_starts;
 use crate::starting::begin_life;
-use psci_board::{Core, Node, law_paths, law_sizes};
+use psci_board::{Core, Node, law_paths};
 use psci_coord::Part;
 use psci_ctl_model::{Cause, law_limits};
+use psci_link::{Kind, Message, law_parts};
 
 impl Controller {
     /// Whether a core may be started once more.
@@ -172,6 +173,28 @@ impl Controller {
         Done {
             applied,
             stale: false,
+        }
+    }
+
+    /// Carries out a message of the present life.
+    pub(crate) fn carry_out(&mut self, message: &Message) -> Done
+        requires board { IsOfBoard self.old.board message.now }
+        requires life { self.old.life ≡ Some message.now.life }
+        ensures ack { ack_of message.now result.applied result.stale
+            ≡ ack_by self.old.board (seen self.old) message.now message.now.kind }
+        ensures values { seen self.new ≡ change self.old.board (message_effect self.old.board
+            message.now (ack_of message.now result.applied result.stale) message.now.kind)
+            (seen self.old) }
+        ensures board { self.new.board ≡ self.old.board }
+        ensures most { result.applied ≤ most_applied message.now.kind }
+    {
+        law_parts();
+        let (life, core) = (message.life, message.core);
+        match message.kind {
+            Kind::Down => self.take_down(core, message.parts.as_slice()),
+            Kind::Start => self.start_on(life, core, message.number),
+            Kind::Off => self.end_life(),
+            Kind::Reset => self.reset_system(life),
         }
     }
 }
