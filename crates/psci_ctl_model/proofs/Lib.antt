@@ -1,7 +1,11 @@
+pub mod Depths
 pub mod Follows
 pub mod Front
 pub mod Kept
+pub mod Nested
 pub mod OneMore
+pub mod OneReply
+pub mod Past
 pub mod Paths
 mod ScriptRows
 pub mod StartLaws

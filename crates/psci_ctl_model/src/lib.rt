@@ -19,6 +19,9 @@ mod start;
 pub use call::CtlCall;
 pub use delivery::Delivery;
 pub use kick::Kick;
-pub use laws::{law_generations, law_limits, law_replies, law_start, law_values};
+pub use laws::{
+    law_depths, law_generations, law_limits, law_nesting, law_one_reply, law_past, law_replies,
+    law_start, law_values,
+};
 pub use reply::CtlReply;
 pub use start::{Cause, Start};
