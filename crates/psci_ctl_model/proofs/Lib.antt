@@ -1,4 +1,5 @@
 pub mod Depths
+mod EdgeRows
 pub mod Follows
 pub mod Front
 pub mod Kept
@@ -11,3 +12,4 @@ mod ScriptRows
 pub mod StartLaws
 pub mod Steps
 pub mod Sums
+mod ValueRows
