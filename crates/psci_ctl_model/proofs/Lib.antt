@@ -3,6 +3,7 @@ mod EdgeRows
 pub mod Follows
 pub mod Front
 pub mod Kept
+mod LegalRows
 pub mod Nested
 pub mod OneMore
 pub mod OneReply
