@@ -83,14 +83,17 @@ laid_more b c k ps d depth h low level l q =
   where
     both_true : (l k p q : ℕ) → l ≡ k → p ≡ q → (l == k && p == q) ≡ true
     both_true l k p q e f = rw (eq-eqb l k e, eq-eqb p q f) refl
+
     both_false : (l k p q : ℕ) → l ≡ k → (p ≡ q → ⊥) → (l == k && p == q) ≡ false
     both_false l k p q e f = rw (eq-eqb l k e, ne_eqb p q f) refl
+
     here : (b : BoardValue) (c l k q : ℕ) → k ≤ height b → l ≡ k → q ≡ up b k c
         → is_on_path b c l q ≡ true
     here b c l k q low e f =
         ap (λ m. is_on_path b c m q) e
         ∙ ap (λ s. s && up b k c == q) (le-leb k (height b) low)
         ∙ eq-eqb (up b k c) q (sym f)
+
     apart : (b : BoardValue) (c l k q : ℕ) → k ≤ height b → l ≡ k → (q ≡ up b k c → ⊥)
         → is_on_path b c l q ≡ false
     apart b c l k q low e f =

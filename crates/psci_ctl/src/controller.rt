@@ -119,9 +119,7 @@ impl Controller {
     /// without a life; else it is carried out as far as it can be, and acknowledged. A Start takes
     /// one step for each level; a Down one for each child of the domains on the sender's path,
     /// however many cores there are below; a Reset writes each row anew.
-    #[tactic(auto, unfolding(psci_ctl_model::specs::Changes::after,
-        psci_ctl_model::specs::Effects::effect_of, psci_ctl_model::specs::Replies::reply,
-        psci_ctl_model::specs::Replies::delivery_of))]
+    #[tactic(auto, unfolding(psci_ctl_model::specs::Changes::after, psci_ctl_model::specs::Effects::effect_of, psci_ctl_model::specs::Replies::reply, psci_ctl_model::specs::Replies::delivery_of))]
     pub fn deliver(&mut self, message: &Message) -> Delivery
         requires { IsOfBoard self.old.board message.now }
         ensures reply { Delivered result
@@ -144,9 +142,7 @@ impl Controller {
     /// A core has a wake-up event, after it stopped in its start of number `halted` (0 where it was
     /// not started in this life). It is started, unless it was started since or can't be once more;
     /// without a life the event is ignored.
-    #[tactic(auto, unfolding(psci_ctl_model::specs::Changes::after,
-        psci_ctl_model::specs::Effects::effect_of, psci_ctl_model::specs::Replies::reply,
-        psci_ctl_model::specs::Replies::wake_of))]
+    #[tactic(auto, unfolding(psci_ctl_model::specs::Changes::after, psci_ctl_model::specs::Effects::effect_of, psci_ctl_model::specs::Replies::reply, psci_ctl_model::specs::Replies::wake_of))]
     pub fn wake(&mut self, core: Core, halted: u32) -> Kick
         requires { core.number < cores self.old.board }
         ensures reply { Kicked result
@@ -167,9 +163,7 @@ impl Controller {
 
     /// A core is reset by itself: it is started, unless it can't be once more; without a life the
     /// reset is ignored.
-    #[tactic(auto, unfolding(psci_ctl_model::specs::Changes::after,
-        psci_ctl_model::specs::Effects::effect_of, psci_ctl_model::specs::Replies::reply,
-        psci_ctl_model::specs::Replies::reset_of))]
+    #[tactic(auto, unfolding(psci_ctl_model::specs::Changes::after, psci_ctl_model::specs::Effects::effect_of, psci_ctl_model::specs::Replies::reply, psci_ctl_model::specs::Replies::reset_of))]
     pub fn reset(&mut self, core: Core) -> Kick
         requires { core.number < cores self.old.board }
         ensures reply { Kicked result ≡ reply self.old.board (seen self.old) (calls.Reset core) }
@@ -198,13 +192,7 @@ impl Controller {
         ensures board { self.new.board ≡ self.old.board }
     {
         law_limits();
-        start_core(
-            &self.board,
-            &mut self.cores,
-            &mut self.domains,
-            core,
-            cause,
-        );
+        start_core(&self.board, &mut self.cores, &mut self.domains, core, cause);
         Start {
             life,
             number: self.starts(core),

@@ -16,8 +16,8 @@ ghost use Rattle.psci_ctl.specs.Seen.{seen, start_done};
 
 use crate::controller::Controller;
 use crate::covering::is_covered;
-use crate::done::Done;
 use crate::domains::{domain, set_domain};
+use crate::done::Done;
 use crate::level::DomainRow;
 use crate::row::forget_starts;
 use crate::starting::begin_life;
@@ -43,8 +43,8 @@ impl Controller {
             ≡ start_done (may_follow self.old.board (seen self.old) core.number number) }
         ensures values { seen self.new
             ≡ (if may_follow self.old.board (seen self.old) core.number number
-                then with_start self.old.board core.number On (seen self.old)
-                else seen self.old) }
+            then with_start self.old.board core.number On (seen self.old)
+            else seen self.old) }
         ensures board { self.new.board ≡ self.old.board }
     {
         if self.starts(core) != number || !self.may_start(core) {

@@ -21,3 +21,6 @@ pub use psci_ctl_model::{
     law_nesting, law_one_reply, law_past, law_replies, law_start, law_values,
 };
 pub use psci_link::{Ack, Kind, Message};
+
+#[cfg(test)]
+mod tests;

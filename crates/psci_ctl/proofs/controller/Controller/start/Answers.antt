@@ -27,7 +27,7 @@ invariant_of-self c =
     let old : ControllerValue = whole b c.self.inside.life cs.items ds.items in
     let same : old ≡ c.args.self.now = c.self.view_is in
     let values : (l : Option ℕ) → values_in l new_cs new_ds
-        ≡ with_start b core c.args.cause (values_in l cs.items ds.items) =
+    ≡ with_start b core c.args.cause (values_in l cs.items ds.items) =
     λ l. c.start_core.ensures.values l
     ∙ ap (λ (xs : List CoreRow). with_start b core c.args.cause
     (values_in l xs c.deref_mut-2.result.now)) c.deref_mut.ensures.value
@@ -56,7 +56,7 @@ returns-clause-values c =
     let are_cs : (with_items cs new_cs).items ≡ new_cs = with_items_is cs new_cs full_cs in
     let are_ds : (with_items ds new_ds).items ≡ new_ds = with_items_is ds new_ds full_ds in
     let values : values_in life new_cs new_ds
-        ≡ with_start b core c.args.cause (values_in life cs.items ds.items) =
+    ≡ with_start b core c.args.cause (values_in life cs.items ds.items) =
     c.start_core.ensures.values life
     ∙ ap (λ (xs : List CoreRow). with_start b core c.args.cause
     (values_in life xs c.deref_mut-2.result.now)) c.deref_mut.ensures.value
