@@ -1,13 +1,12 @@
 -- The parts of a Down, applied one after another.
 use Rattle.std.proofs.Common.{◌≡◌, ℕ, zero, suc, ◌+◌, ◌<◌, ◌≤◌, Bool, true, false, cond, ◌&&◌, ◌==◌}
-use Rattle.std.proofs.Common.{List, [], ◌∷◌, length, take, drop, get_or, Option, Some, None, refl, ap}
-use Rattle.std.proofs.Common.{sym, ◌∙◌, subst, arith, inl, inr}
-use Rattle.std.specs.Prelude.{nat_le, not, slice_get}
-use Rattle.std.specs.List.{prefix_len}
+use Rattle.std.proofs.Common.{List, [], ◌∷◌, length, take, drop, get_or, Option, None, refl, ap}
+use Rattle.std.proofs.Common.{sym, ◌∙◌, arith, inl, inr}
+use Rattle.std.specs.Prelude.{not, slice_get}
 use Rattle.std.proofs.lemmas.Bool.{cases_eq, cases_lt, eq-eqb, ne_eqb, le-leb}
 use Rattle.std.proofs.lemmas.List.{drop_all}
 use Rattle.std.proofs.lemmas.List.Sums.{prefix_len_is, prefix_len-le-length}
-use Rattle.std.proofs.lemmas.Option.{slice_get-get_or, slice_get_past}
+use Rattle.std.proofs.lemmas.Option.{slice_get-get_or}
 use Rattle.psci_board.specs.Board.{BoardValue, height, up}
 use Rattle.psci_coord.specs.declared.part.Part.{Part}
 use Rattle.psci_coord.specs.View.{domain_of}

@@ -7,13 +7,13 @@ use Rattle.std.proofs.lemmas.Bool.{and_parts, eq-eqb, eqb-true, lt-ltb}
 use Rattle.psci_board.specs.Board.{BoardValue, IsBoard, cores}
 use Rattle.psci_ctl_model.specs.declared.start.Cause.{Cause}
 use Rattle.psci_ctl_model.specs.Changes.{change, next_life, with_start}
-use Rattle.psci_ctl_model.specs.Effects.{Effect, Nothing, Starts, Deepens, Ends, Begins}
+use Rattle.psci_ctl_model.specs.Effects.{Effect, Starts, Ends, Begins}
 use Rattle.psci_ctl_model.specs.Follows.{AreValues, MayFollow}
 use Rattle.psci_ctl_model.specs.Values.{Values, start_of_life}
 use Rattle.psci_ctl.specs.declared.row.CoreRow.{CoreRow}
 use Rattle.psci_ctl.specs.declared.level.DomainRow.{DomainRow}
 use Rattle.psci_ctl.specs.Rows.{HasShape, HasSums, core_at, depth_in, domain_at, values_in}
-use Rattle.psci_ctl.specs.Seen.{ControllerValue, IsController, seen}
+use Rattle.psci_ctl.specs.Seen.{ControllerValue, IsController}
 use Rattle.psci_ctl.proofs.Looked.{domain_set, set_row}
 
 -- a power controller with these rows

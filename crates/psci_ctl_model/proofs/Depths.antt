@@ -1,17 +1,15 @@
 -- Where the depth of a domain comes from.
-use Rattle.std.proofs.Common.{◌≡◌, ◌⊎◌, ℕ, ◌+◌, ◌<◌, ◌≤◌, Bool, true, false, cond, ◌==◌, List, []}
+use Rattle.std.proofs.Common.{◌≡◌, ◌⊎◌, ℕ, ◌+◌, ◌<◌, ◌≤◌, Bool, true, false, cond, List, []}
 use Rattle.std.proofs.Common.{◌∷◌, Option, Some, None, option_map, unwrap_or, refl, ap, sym, ◌∙◌}
 use Rattle.std.proofs.Common.{subst, arith, inl, inr, add-zero}
 use Rattle.std.proofs.lemmas.Option.{none-some}
 use Rattle.std.specs.Prelude.{slice_get}
-use Rattle.std.proofs.lemmas.Bool.{cases_Bool, true≢false}
-use Rattle.psci_board.specs.Board.{BoardValue, IsBoard, cores, height, up}
+use Rattle.psci_board.specs.Board.{BoardValue, cores, height}
 use Rattle.psci_board.specs.declared.node.Node.{Node}
-use Rattle.psci_board.specs.Laws.{ChildLaws, PathLaws}
+use Rattle.psci_board.specs.Laws.{ChildLaws}
 use Rattle.psci_coord.specs.declared.part.Part.{Part}
 use Rattle.psci_link.specs.Message.{IsClaim, PartByPart}
 use Rattle.psci_ctl_model.specs.declared.start.Cause.{Cause}
-use Rattle.psci_ctl_model.specs.Changes.{change, one_more}
 use Rattle.psci_ctl_model.specs.Effects.{Effect, Nothing, Starts, Deepens, Ends, Begins, effect_of}
 use Rattle.psci_ctl_model.specs.Entry.{Entry}
 use Rattle.psci_ctl_model.specs.Follows.{IsFront, MayFollow}
@@ -20,8 +18,7 @@ use Rattle.psci_ctl_model.specs.History.{starts, starts_by}
 use Rattle.psci_ctl_model.specs.History.{values_of}
 use Rattle.psci_ctl_model.specs.Lasting.{Applies, IsApplied, IsFirst, is_within}
 use Rattle.psci_ctl_model.specs.Legal.{IsLegal}
-use Rattle.psci_ctl_model.specs.Parts.{depth_or}
-use Rattle.psci_ctl_model.specs.Values.{Values, first_depth, first_starts, is_on_path, starts_below}
+use Rattle.psci_ctl_model.specs.Values.{first_starts, is_on_path, starts_below}
 use Rattle.psci_ctl_model.proofs.Follows.{follows}
 use Rattle.psci_ctl_model.proofs.Paths.{path_place}
 use Rattle.psci_ctl_model.proofs.Sums.{starts_more, starts_none}

@@ -1,9 +1,8 @@
 -- Worked examples: each reason why a message, a wake-up or a reset is not carried out, and each
 -- part that is left, with the one beside it that is not.
-use Rattle.std.proofs.Common.{◌≡◌, ℕ, true, false, List, [], ◌∷◌, refl}
-use Rattle.psci_board.specs.Board.{BoardValue, up}
+use Rattle.std.proofs.Common.{◌≡◌, true, false, [], ◌∷◌, refl}
+use Rattle.psci_board.specs.Board.{up}
 use Rattle.psci_link.specs.declared.kind.Kind.TheVariants.{Down, Start, Off, Reset}
-use Rattle.psci_ctl_model.specs.declared.call.CtlCall.{CtlCall}
 use Rattle.psci_ctl_model.specs.declared.start.Cause.TheVariants as causes
 use Rattle.psci_ctl_model.specs.Effects.{effect_of}
 use Rattle.psci_ctl_model.specs.History.{values_of}

@@ -1,20 +1,19 @@
 -- Worked examples: a legal history, and for each way to be wrong one that is not; a part that is
 -- past; and why a domain can be deeper than one below it.
-use Rattle.std.proofs.Common.{◌≡◌, ◌≤◌, ◌<◌, ℕ, true, false, List, [], ◌∷◌, Some, refl, arith}
+use Rattle.std.proofs.Common.{◌≡◌, ℕ, true, false, List, [], ◌∷◌, refl, arith}
 use Rattle.std.proofs.Common.{lit<, lit≤, Bool, ap}
 use Rattle.std.proofs.lemmas.Bool.{true≢false}
-use Rattle.psci_board.specs.Board.{BoardValue, below, up}
-use Rattle.psci_link.specs.Message.{IsClaim, IsMessage}
-use Rattle.psci_link.specs.declared.kind.Kind.TheVariants.{Down, Start}
+use Rattle.psci_board.specs.Board.{up}
+use Rattle.psci_link.specs.declared.kind.Kind.TheVariants.{Down}
 use Rattle.psci_ctl_model.specs.declared.call.CtlCall.{CtlCall}
 use Rattle.psci_ctl_model.specs.declared.delivery.Delivery.TheVariants.{Applied, Ignored}
 use Rattle.psci_ctl_model.specs.declared.reply.CtlReply.{CtlReply}
 use Rattle.psci_ctl_model.specs.declared.reply.CtlReply.TheVariants.{Delivered, Kicked}
 use Rattle.psci_ctl_model.specs.Effects.{effect_of}
 use Rattle.psci_ctl_model.specs.Entry.{Entry}
-use Rattle.psci_ctl_model.specs.History.{depth, life, starts, values_of}
+use Rattle.psci_ctl_model.specs.History.{depth, values_of}
 use Rattle.psci_ctl_model.specs.Lasting.{IsLive}
-use Rattle.psci_ctl_model.specs.Legal.{IsCall, IsLegal, legal_history}
+use Rattle.psci_ctl_model.specs.Legal.{IsCall, IsLegal}
 use Rattle.psci_ctl_model.specs.Parts.{applied, is_stale}
 use Rattle.psci_ctl_model.specs.Replies.{delivery_of, reply}
 use Rattle.psci_ctl_model.specs.Values.{starts_below}

@@ -1,25 +1,24 @@
 -- No domain is deeper than the domain below it, as long as none is made shallower but by a start.
-use Rattle.std.proofs.Common.{◌≡◌, ℕ, suc, ◌+◌, ◌<◌, ◌≤◌, Bool, true, false, cond, List, [], ◌∷◌}
-use Rattle.std.proofs.Common.{Option, Some, None, refl, ap, sym, ◌∙◌, subst, arith, inl, inr}
+use Rattle.std.proofs.Common.{◌≡◌, ℕ, suc, ◌<◌, ◌≤◌, Bool, true, false, cond, List, [], ◌∷◌}
+use Rattle.std.proofs.Common.{Option, Some, None, refl, ap, sym, subst, arith, inl, inr}
 use Rattle.std.specs.Prelude.{slice_get}
-use Rattle.std.proofs.lemmas.Bool.{cases_Bool, true≢false}
-use Rattle.psci_board.specs.Board.{BoardValue, IsBoard, cores, height, up}
+use Rattle.std.proofs.lemmas.Bool.{cases_Bool}
+use Rattle.psci_board.specs.Board.{BoardValue, cores, height, up}
 use Rattle.psci_board.specs.Laws.{ChildLaws, PathLaws}
 use Rattle.psci_coord.specs.declared.part.Part.{Part}
 use Rattle.psci_link.specs.Message.{IsClaim, PartByPart}
-use Rattle.psci_ctl_model.specs.declared.start.Cause.{Cause}
-use Rattle.psci_ctl_model.specs.Changes.{after, change, with_path_on}
+use Rattle.psci_ctl_model.specs.Changes.{after, change}
 use Rattle.psci_ctl_model.specs.Effects.{Effect, Nothing, Starts, Deepens, Ends, Begins, effect_of}
 use Rattle.psci_ctl_model.specs.Entry.{Entry}
 use Rattle.psci_ctl_model.specs.Follows.{IsFront, MayFollow}
-use Rattle.psci_ctl_model.specs.History.{depth, effect_in, values_of}
+use Rattle.psci_ctl_model.specs.History.{depth, values_of}
 use Rattle.psci_ctl_model.specs.Lasting.{IsNested, NeverShallower, OnlyDeepens}
 use Rattle.psci_ctl_model.specs.Legal.{IsLegal}
 use Rattle.psci_ctl_model.specs.Parts.{depth_or, laid}
-use Rattle.psci_ctl_model.specs.Values.{Values, first_depth, is_on_path}
+use Rattle.psci_ctl_model.specs.Values.{Values, is_on_path}
 use Rattle.psci_ctl_model.proofs.Follows.{follows}
 use Rattle.psci_ctl_model.proofs.OneMore.{values_more}
-use Rattle.psci_ctl_model.proofs.Paths.{off_path, on_path, path_place}
+use Rattle.psci_ctl_model.proofs.Paths.{off_path, path_place}
 
 -- A path that a domain is off, its children are off too
 child_off : (b : BoardValue) (c x k : ℕ) → PathLaws b → k < height b
@@ -38,11 +37,11 @@ cut_nested b c d laws is = record {
   falls = λ x k inside low. elim (cases_Bool (is_on_path b c (suc k) (up b (suc k) x))) [
     | inl on ↦ omega (arith, ap (λ t. cond t 0 (d (suc k) (up b (suc k) x))) on)
     | inr off ↦ omega (
-        arith,
-        ap (λ t. cond t 0 (d (suc k) (up b (suc k) x))) off,
-        ap (λ t. cond t 0 (d k (up b k x))) (child_off b c x k laws low off),
-        is.falls x k inside low,
-      )
+      arith,
+      ap (λ t. cond t 0 (d (suc k) (up b (suc k) x))) off,
+      ap (λ t. cond t 0 (d k (up b k x))) (child_off b c x k laws low off),
+      is.falls x k inside low,
+    )
   ];
 }
 

@@ -1,5 +1,5 @@
 -- To each list of calls there is one legal history.
-use Rattle.std.proofs.Common.{◌≡◌, List, [], ◌∷◌, map, refl, ap, sym, ◌∙◌}
+use Rattle.std.proofs.Common.{◌≡◌, List, [], ◌∷◌, map, refl, ap, ◌∙◌}
 use Rattle.psci_board.specs.Board.{BoardValue}
 use Rattle.psci_ctl_model.specs.declared.call.CtlCall.{CtlCall}
 use Rattle.psci_ctl_model.specs.declared.reply.CtlReply.{CtlReply}

@@ -1,5 +1,5 @@
 -- Worked examples: what is known after some calls, by looking backwards and by what is kept.
-use Rattle.std.proofs.Common.{◌≡◌, ℕ, true, false, List, [], ◌∷◌, Option, Some, None, refl}
+use Rattle.std.proofs.Common.{◌≡◌, ℕ, List, [], ◌∷◌, Option, Some, None, refl}
 use Rattle.psci_board.specs.Board.{BoardValue, up}
 use Rattle.psci_ctl_model.specs.declared.start.Start.{Start}
 use Rattle.psci_ctl_model.specs.declared.start.Cause.{Cause}
@@ -54,33 +54,33 @@ on_again = record { history = refl; kept = refl }
 -- retention of the cluster
 retained : Says board (history_of board
     (start 3 1 0 ∷ down 3 1 1 (part 0 3 1 ∷ part 1 2 1 ∷ []) ∷ [])) (record {
-  life = Some 1;
-  starts = 1 ∷ 0 ∷ 0 ∷ 1 ∷ 0 ∷ [];
-  last = last 1 1 causes.Boot ∷ None ∷ None ∷ last 1 1 causes.On ∷ None ∷ [];
-  depth = (0 ∷ 3 ∷ 3 ∷ 3 ∷ 3 ∷ []) ∷ (0 ∷ 2 ∷ 3 ∷ 3 ∷ 3 ∷ []) ∷ (0 ∷ 3 ∷ 3 ∷ 3 ∷ 3 ∷ []) ∷ deep ∷ [];
-})
+      life = Some 1;
+      starts = 1 ∷ 0 ∷ 0 ∷ 1 ∷ 0 ∷ [];
+      last = last 1 1 causes.Boot ∷ None ∷ None ∷ last 1 1 causes.On ∷ None ∷ [];
+      depth = (0 ∷ 3 ∷ 3 ∷ 3 ∷ 3 ∷ []) ∷ (0 ∷ 2 ∷ 3 ∷ 3 ∷ 3 ∷ []) ∷ (0 ∷ 3 ∷ 3 ∷ 3 ∷ 3 ∷ []) ∷ deep ∷ [];
+    })
 unfolding values_of after effect_of reply delivery_of applied is_stale starts_below up
 retained = record { history = refl; kept = refl }
 
 -- a part that waits: only the core went down
 partly : Says board (history_of board
     (start 3 1 0 ∷ start 2 1 0 ∷ down 3 1 1 (part 0 3 1 ∷ part 1 3 2 ∷ []) ∷ [])) (record {
-  life = Some 1;
-  starts = 1 ∷ 0 ∷ 1 ∷ 1 ∷ 0 ∷ [];
-  last = last 1 1 causes.Boot ∷ None ∷ last 1 1 causes.On ∷ last 1 1 causes.On ∷ None ∷ [];
-  depth = (0 ∷ 3 ∷ 0 ∷ 3 ∷ 3 ∷ []) ∷ (0 ∷ 0 ∷ 3 ∷ 3 ∷ 3 ∷ []) ∷ (0 ∷ 3 ∷ 3 ∷ 3 ∷ 3 ∷ []) ∷ deep ∷ [];
-})
+      life = Some 1;
+      starts = 1 ∷ 0 ∷ 1 ∷ 1 ∷ 0 ∷ [];
+      last = last 1 1 causes.Boot ∷ None ∷ last 1 1 causes.On ∷ last 1 1 causes.On ∷ None ∷ [];
+      depth = (0 ∷ 3 ∷ 0 ∷ 3 ∷ 3 ∷ []) ∷ (0 ∷ 0 ∷ 3 ∷ 3 ∷ 3 ∷ []) ∷ (0 ∷ 3 ∷ 3 ∷ 3 ∷ 3 ∷ []) ∷ deep ∷ [];
+    })
 unfolding values_of after effect_of reply delivery_of applied is_stale starts_below up
 partly = record { history = refl; kept = refl }
 
 -- a wake-up from a system that is powered down: the whole path runs again
 woken : Says board (history_of board
     (down 0 1 1 (part 0 3 1 ∷ part 1 3 1 ∷ part 2 3 1 ∷ []) ∷ wake 0 1 ∷ [])) (record {
-  life = Some 1;
-  starts = 2 ∷ 0 ∷ 0 ∷ 0 ∷ 0 ∷ [];
-  last = last 1 2 causes.Wake ∷ None ∷ None ∷ None ∷ None ∷ [];
-  depth = (0 ∷ 3 ∷ 3 ∷ 3 ∷ 3 ∷ []) ∷ (0 ∷ 3 ∷ 3 ∷ 3 ∷ 3 ∷ []) ∷ (0 ∷ 3 ∷ 3 ∷ 3 ∷ 3 ∷ []) ∷ deep ∷ [];
-})
+      life = Some 1;
+      starts = 2 ∷ 0 ∷ 0 ∷ 0 ∷ 0 ∷ [];
+      last = last 1 2 causes.Wake ∷ None ∷ None ∷ None ∷ None ∷ [];
+      depth = (0 ∷ 3 ∷ 3 ∷ 3 ∷ 3 ∷ []) ∷ (0 ∷ 3 ∷ 3 ∷ 3 ∷ 3 ∷ []) ∷ (0 ∷ 3 ∷ 3 ∷ 3 ∷ 3 ∷ []) ∷ deep ∷ [];
+    })
 unfolding values_of after effect_of reply delivery_of wake_of applied is_stale starts_below up
 woken = record { history = refl; kept = refl }
 
@@ -97,11 +97,11 @@ strangers = record { history = refl; kept = refl }
 -- the second life begins as the first one did, and counts its own starts
 second_life : Says board (history_of board
     (start 3 1 0 ∷ reset_system 0 1 1 ∷ start 3 2 0 ∷ reset 0 ∷ [])) (record {
-  life = Some 2;
-  starts = 2 ∷ 0 ∷ 0 ∷ 1 ∷ 0 ∷ [];
-  last = last 2 2 causes.Reset ∷ None ∷ None ∷ last 2 1 causes.On ∷ None ∷ [];
-  depth = (0 ∷ 3 ∷ 3 ∷ 0 ∷ 3 ∷ []) ∷ (0 ∷ 0 ∷ 3 ∷ 3 ∷ 3 ∷ []) ∷ (0 ∷ 3 ∷ 3 ∷ 3 ∷ 3 ∷ []) ∷ deep ∷ [];
-})
+      life = Some 2;
+      starts = 2 ∷ 0 ∷ 0 ∷ 1 ∷ 0 ∷ [];
+      last = last 2 2 causes.Reset ∷ None ∷ None ∷ last 2 1 causes.On ∷ None ∷ [];
+      depth = (0 ∷ 3 ∷ 3 ∷ 0 ∷ 3 ∷ []) ∷ (0 ∷ 0 ∷ 3 ∷ 3 ∷ 3 ∷ []) ∷ (0 ∷ 3 ∷ 3 ∷ 3 ∷ 3 ∷ []) ∷ deep ∷ [];
+    })
 unfolding values_of after effect_of reply delivery_of reset_of up
 second_life = record { history = refl; kept = refl }
 

@@ -1,7 +1,6 @@
 -- What is kept after a call, by what was kept before it, the call and its reply.
-use Rattle.std.specs.Prelude.{ℕ, ◌+◌, ◌==◌, if◌then◌else◌, Option, None, option_map, List}
+use Rattle.std.specs.Prelude.{ℕ, ◌+◌, ◌==◌, if◌then◌else◌, Option, None, option_map}
 use Rattle.psci_board.specs.Board.{BoardValue}
-use Rattle.psci_coord.specs.declared.part.Part.{Part}
 use Rattle.psci_ctl_model.specs.declared.call.CtlCall.{CtlCall}
 use Rattle.psci_ctl_model.specs.declared.reply.CtlReply.{CtlReply}
 use Rattle.psci_ctl_model.specs.declared.start.Cause.{Cause}

@@ -1,5 +1,5 @@
 -- Histories in which every reply is the one reply.
-use Rattle.std.specs.Prelude.{◌≡◌, ◌<◌, ◌≤◌, ◌+◌, ℕ, List, [], ◌∷◌, length}
+use Rattle.std.specs.Prelude.{◌≡◌, ◌<◌, ◌≤◌, ◌+◌, List, [], ◌∷◌, length}
 use Rattle.psci_board.specs.Board.{BoardValue, cores, height}
 use Rattle.psci_link.specs.Message.{MessageValue, IsMessage}
 use Rattle.psci_ctl_model.specs.declared.call.CtlCall.{CtlCall}

@@ -1,4 +1,4 @@
-use Rattle.std.proofs.Common.{◌≡◌, ◌<◌, arith, ap, sym}
+use Rattle.std.proofs.Common.{◌<◌, arith, ap, sym}
 use Rattle.psci_board.specs.Board.{children}
 use Rattle.psci_ctl.specs.declared.level.DomainRow.{DomainRow}
 use Rattle.psci_ctl.specs.Rows.{depth_in}

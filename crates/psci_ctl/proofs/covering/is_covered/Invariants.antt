@@ -1,4 +1,4 @@
-use Rattle.std.proofs.Common.{◌≡◌, ℕ, ◌+◌, ◌-◌, ◌<◌, ◌≤◌}
+use Rattle.std.proofs.Common.{ℕ, ◌+◌, ◌-◌, ◌<◌, ◌≤◌}
 use Rattle.psci_board.specs.Board.{first_child}
 use Rattle.psci_ctl.specs.Rows.{depth_in}
 use Rattle.psci_ctl.proofs.covering.is_covered.Given as goal

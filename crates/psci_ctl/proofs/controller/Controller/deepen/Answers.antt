@@ -8,7 +8,7 @@ use Rattle.psci_board.specs.Laws.{PathLaws}
 use Rattle.psci_coord.specs.View.{domain_of}
 use Rattle.psci_ctl.specs.declared.level.DomainRow.{DomainRow}
 use Rattle.psci_ctl.specs.Rows.{HasShape, depth_in, domain_at, values_in, with_depth}
-use Rattle.psci_ctl.specs.Seen.{ControllerValue, seen}
+use Rattle.psci_ctl.specs.Seen.{ControllerValue}
 use Rattle.psci_ctl.proofs.Kept.{IsDeepened, deepened_kept, is_deepened, whole}
 use Rattle.psci_ctl.proofs.Looked.{set_row, shape_set}
 use Rattle.psci_ctl.proofs.Started.{same_values}

@@ -1,8 +1,7 @@
-use Rattle.std.proofs.Common.{◌≡◌, ℕ, List, length, Option, Some, ap, sym, ◌∙◌, subst}
+use Rattle.std.proofs.Common.{◌≡◌, length, Some, ◌∙◌, subst}
 use Rattle.std.specs.Vec.{with_items}
 use Rattle.std.proofs.lemmas.List.{with_items_is}
-use Rattle.psci_board.specs.Board.{IsBoard, cores}
-use Rattle.psci_ctl.specs.Rows.{values_in}
+use Rattle.psci_board.specs.Board.{IsBoard}
 use Rattle.psci_ctl.proofs.Kept.{begun_kept}
 use Rattle.psci_ctl.proofs.controller.Controller.new.Goals as goal
 

@@ -1,9 +1,9 @@
-use Rattle.std.proofs.Common.{◌≡◌, ℕ, ◌+◌, ◌<◌, List, length, Option, Some, ap, sym, ◌∙◌, arith}
+use Rattle.std.proofs.Common.{◌≡◌, ◌+◌, ◌<◌, length, Some, ap, ◌∙◌, arith}
 use Rattle.std.specs.Vec.{with_items}
 use Rattle.std.proofs.lemmas.List.{with_items_is}
 use Rattle.psci_ctl.specs.Rows.{values_in}
-use Rattle.psci_ctl.specs.Seen.{ControllerValue, seen}
-use Rattle.psci_ctl.proofs.Kept.{begun_kept, next_kept, next_values, whole}
+use Rattle.psci_ctl.specs.Seen.{ControllerValue}
+use Rattle.psci_ctl.proofs.Kept.{begun_kept, next_kept, next_values}
 use Rattle.psci_ctl.proofs.controller.Controller.reset_system.Goals as goal
 
 pub invariant_of-self : goal.invariant_of-self

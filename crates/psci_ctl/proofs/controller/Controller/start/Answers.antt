@@ -1,15 +1,15 @@
-use Rattle.std.proofs.Common.{◌≡◌, ℕ, ◌+◌, ◌<◌, List, length, Option, Some, get_or, ap, sym, ◌∙◌}
-use Rattle.std.proofs.Common.{arith, subst, refl}
+use Rattle.std.proofs.Common.{◌≡◌, ℕ, ◌+◌, ◌<◌, List, length, Option, ap, sym, ◌∙◌}
+use Rattle.std.proofs.Common.{subst}
 use Rattle.std.specs.Vec.{with_items}
 use Rattle.std.proofs.lemmas.List.{with_items_is}
-use Rattle.psci_board.specs.Board.{BoardValue, cores}
+use Rattle.psci_board.specs.Board.{cores}
 use Rattle.psci_ctl_model.specs.Changes.{with_start}
 use Rattle.psci_ctl_model.specs.Values.{Values}
 use Rattle.psci_ctl.specs.declared.row.CoreRow.{CoreRow}
 use Rattle.psci_ctl.specs.declared.level.DomainRow.{DomainRow}
 use Rattle.psci_ctl.specs.Rows.{core_at, values_in}
-use Rattle.psci_ctl.specs.Seen.{ControllerValue, IsController, seen}
-use Rattle.psci_ctl.proofs.Kept.{few_starts, next_number, started_kept, whole}
+use Rattle.psci_ctl.specs.Seen.{ControllerValue, seen}
+use Rattle.psci_ctl.proofs.Kept.{next_number, started_kept, whole}
 use Rattle.psci_ctl.proofs.controller.Controller.start.Goals as goal
 
 pub invariant_of-self : goal.invariant_of-self
