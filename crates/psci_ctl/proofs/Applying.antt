@@ -144,6 +144,7 @@ none_left b v c k ps h count =
     ∙ ap (begins_stale b v c) (drop_all k ps (omega arith))
 
 -- no more parts are applied than there are
-pub applied_few : (b : BoardValue) (v : Values) (c : ℕ) (ps : List Part) → applied b v c ps ≤ length ps
+pub applied_few : (b : BoardValue) (v : Values) (c : ℕ) (ps : List Part)
+    → applied b v c ps ≤ length ps
 unfolding applied
 applied_few b v c ps = prefix_len-le-length (is_applied b v c ps) ps

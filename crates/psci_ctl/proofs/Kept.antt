@@ -32,7 +32,7 @@ pub started_kept : (b : BoardValue) (o : Option ℕ) (life c : ℕ) (cause : Cau
     → HasSums b new_cs new_ds
     → ((l : Option ℕ) → values_in l new_cs new_ds ≡ with_start b c cause (values_in l cs ds))
     → IsController (whole b o new_cs new_ds)
-started_kept b o life c cause cs new_cs ds new_ds keeps is here inside more count shape sums values =
+started_kept b o life c cause cs new_cs ds new_ds keeps is here inside more count shape has values =
     record {
       board = is.board;
       cores = count ∙ is.cores;
@@ -40,7 +40,7 @@ started_kept b o life c cause cs new_cs ds new_ds keeps is here inside more coun
       values = subst (AreValues b) (sym (values o))
           (keeps b (values_in o cs ds) (Starts c cause) is.board is.values
           (inside, more, (life, here)));
-      sums = λ l e. sums;
+      sums = λ l e. has;
     }
 
 pub begun_kept : (b : BoardValue) (life : ℕ) (cs : List CoreRow) (ds : List (List DomainRow))

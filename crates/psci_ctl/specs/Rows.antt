@@ -33,11 +33,6 @@ depth_in domains level place = (domain_at domains level place).depth
 abbrev pub with_core : List CoreRow → ℕ → CoreRow → ℕ → CoreRow
 with_core cores c row k = if k == c then row else core_at cores k
 
--- one domain's row is this
-abbrev pub with_domain : List (List DomainRow) → Node → DomainRow → ℕ → ℕ → DomainRow
-with_domain domains n row level place =
-    if level == n.level && place == n.place then row else domain_at domains level place
-
 -- a domain runs, after one more start below it
 abbrev pub run_once : DomainRow → DomainRow
 run_once row = record { depth = 0; starts = row.starts + 1 }

@@ -106,8 +106,8 @@ impl Controller {
         })
     }
 
-    /// How deep a power domain is: 0 run, 1 standby, 2 retention, 3 power-down. Nothing is said of it
-    /// without a life.
+    /// How deep a power domain is: 0 run, 1 standby, 2 retention, 3 power-down. Without a life
+    /// nothing is said of it.
     pub fn depth(&self, node: Node) -> u8
         requires { HasNode self.now.board node }
         ensures { IsSome self.now.life → result ≡ (seen self.now).depth node.level node.place }

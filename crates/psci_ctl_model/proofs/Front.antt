@@ -114,7 +114,8 @@ is_front b v c ps children inside few parts =
       covered = λ k x p e h s.
           let level : p.level ≡ suc k = parts.level (suc k) p (take_get ps n (suc k) p e) in
           let all = (and_parts (is_live b v c p) _ (applied_at b v c ps (suc k) p e)).1 in
-          let here : is_covered b (laid b c (take (suc k) ps) v.depth) (domain_of b c (suc k)) p.depth
+          let here : is_covered b (laid b c (take (suc k) ps) v.depth) (domain_of b c (suc k))
+          p.depth
           ≡ true =
           subst (λ l. is_covered b (laid b c (take l ps) v.depth) (domain_of b c l) p.depth ≡ true)
           level all in

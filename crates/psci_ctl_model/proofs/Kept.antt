@@ -106,7 +106,8 @@ pub reply_kept : (b : BoardValue) (v : Values) (call : CtlCall) → IsBoard b �
     → AreValues b (after b call (reply b v call) v)
 unfolding after
 reply_kept b v call board children laws are is =
-    change_kept b v (effect_of b call (reply b v call)) board are (follows b v call children laws is)
+    change_kept b v (effect_of b call (reply b v call)) board are
+    (follows b v call children laws is)
 
 pub legal_kept : (b : BoardValue) (h : List Entry) → IsBoard b → ChildLaws b
     → ((ps : List Part) → IsClaim ps → PartByPart ps) → IsLegal b h → AreValues b (values_of b h)

@@ -17,7 +17,8 @@ use Rattle.psci_ctl_model.specs.Legal.{IsCall, IsLegal}
 use Rattle.psci_ctl_model.specs.Parts.{applied, is_stale}
 use Rattle.psci_ctl_model.specs.Replies.{delivery_of, reply}
 use Rattle.psci_ctl_model.specs.Values.{starts_below}
-use Rattle.psci_ctl_model.proofs.Steps.{ack, board, board_of, down, history_of, ignored, part, start}
+use Rattle.psci_ctl_model.proofs.Steps.{ack, board, board_of, down, history_of, ignored, part}
+use Rattle.psci_ctl_model.proofs.Steps.{start}
 use Rattle.psci_ctl_model.proofs.Steps.{not_started, wake}
 
 -- one entry

@@ -6,7 +6,8 @@ use Rattle.psci_ctl_model.specs.declared.start.Cause.{Cause}
 use Rattle.psci_ctl_model.specs.Laws.{StartLaws, SumLaws}
 use Rattle.psci_ctl_model.specs.Values.{Values, starts_below}
 use Rattle.psci_ctl_model.proofs.Paths.{on_path}
-use Rattle.psci_ctl_model.proofs.Sums.{starts_few, starts_grow, starts_more, starts_none, starts_own}
+use Rattle.psci_ctl_model.proofs.Sums.{starts_few, starts_grow, starts_more, starts_none}
+use Rattle.psci_ctl_model.proofs.Sums.{starts_own}
 
 pub sum_laws : (b : BoardValue) → SumLaws b
 sum_laws b = record {

@@ -26,7 +26,8 @@ at_first : Says board (history_of board []) (record {
   life = Some 1;
   starts = 1 ∷ 0 ∷ 0 ∷ 0 ∷ 0 ∷ [];
   last = last 1 1 causes.Boot ∷ None ∷ None ∷ None ∷ None ∷ [];
-  depth = (0 ∷ 3 ∷ 3 ∷ 3 ∷ 3 ∷ []) ∷ (0 ∷ 3 ∷ 3 ∷ 3 ∷ 3 ∷ []) ∷ (0 ∷ 3 ∷ 3 ∷ 3 ∷ 3 ∷ []) ∷ deep ∷ [];
+  depth = (0 ∷ 3 ∷ 3 ∷ 3 ∷ 3 ∷ []) ∷ (0 ∷ 3 ∷ 3 ∷ 3 ∷ 3 ∷ [])
+      ∷ (0 ∷ 3 ∷ 3 ∷ 3 ∷ 3 ∷ []) ∷ deep ∷ [];
 })
 unfolding values_of up
 at_first = record { history = refl; kept = refl }
@@ -36,7 +37,8 @@ on : Says board (history_of board (start 3 1 0 ∷ [])) (record {
   life = Some 1;
   starts = 1 ∷ 0 ∷ 0 ∷ 1 ∷ 0 ∷ [];
   last = last 1 1 causes.Boot ∷ None ∷ None ∷ last 1 1 causes.On ∷ None ∷ [];
-  depth = (0 ∷ 3 ∷ 3 ∷ 0 ∷ 3 ∷ []) ∷ (0 ∷ 0 ∷ 3 ∷ 3 ∷ 3 ∷ []) ∷ (0 ∷ 3 ∷ 3 ∷ 3 ∷ 3 ∷ []) ∷ deep ∷ [];
+  depth = (0 ∷ 3 ∷ 3 ∷ 0 ∷ 3 ∷ []) ∷ (0 ∷ 0 ∷ 3 ∷ 3 ∷ 3 ∷ [])
+      ∷ (0 ∷ 3 ∷ 3 ∷ 3 ∷ 3 ∷ []) ∷ deep ∷ [];
 })
 unfolding values_of after effect_of reply delivery_of up
 on = record { history = refl; kept = refl }
@@ -46,7 +48,8 @@ on_again : Says board (history_of board (start 3 1 0 ∷ start 3 1 0 ∷ [])) (r
   life = Some 1;
   starts = 1 ∷ 0 ∷ 0 ∷ 1 ∷ 0 ∷ [];
   last = last 1 1 causes.Boot ∷ None ∷ None ∷ last 1 1 causes.On ∷ None ∷ [];
-  depth = (0 ∷ 3 ∷ 3 ∷ 0 ∷ 3 ∷ []) ∷ (0 ∷ 0 ∷ 3 ∷ 3 ∷ 3 ∷ []) ∷ (0 ∷ 3 ∷ 3 ∷ 3 ∷ 3 ∷ []) ∷ deep ∷ [];
+  depth = (0 ∷ 3 ∷ 3 ∷ 0 ∷ 3 ∷ []) ∷ (0 ∷ 0 ∷ 3 ∷ 3 ∷ 3 ∷ [])
+      ∷ (0 ∷ 3 ∷ 3 ∷ 3 ∷ 3 ∷ []) ∷ deep ∷ [];
 })
 unfolding values_of after effect_of reply delivery_of up
 on_again = record { history = refl; kept = refl }
@@ -57,7 +60,8 @@ retained : Says board (history_of board
       life = Some 1;
       starts = 1 ∷ 0 ∷ 0 ∷ 1 ∷ 0 ∷ [];
       last = last 1 1 causes.Boot ∷ None ∷ None ∷ last 1 1 causes.On ∷ None ∷ [];
-      depth = (0 ∷ 3 ∷ 3 ∷ 3 ∷ 3 ∷ []) ∷ (0 ∷ 2 ∷ 3 ∷ 3 ∷ 3 ∷ []) ∷ (0 ∷ 3 ∷ 3 ∷ 3 ∷ 3 ∷ []) ∷ deep ∷ [];
+      depth = (0 ∷ 3 ∷ 3 ∷ 3 ∷ 3 ∷ []) ∷ (0 ∷ 2 ∷ 3 ∷ 3 ∷ 3 ∷ [])
+          ∷ (0 ∷ 3 ∷ 3 ∷ 3 ∷ 3 ∷ []) ∷ deep ∷ [];
     })
 unfolding values_of after effect_of reply delivery_of applied is_stale starts_below up
 retained = record { history = refl; kept = refl }
@@ -68,7 +72,8 @@ partly : Says board (history_of board
       life = Some 1;
       starts = 1 ∷ 0 ∷ 1 ∷ 1 ∷ 0 ∷ [];
       last = last 1 1 causes.Boot ∷ None ∷ last 1 1 causes.On ∷ last 1 1 causes.On ∷ None ∷ [];
-      depth = (0 ∷ 3 ∷ 0 ∷ 3 ∷ 3 ∷ []) ∷ (0 ∷ 0 ∷ 3 ∷ 3 ∷ 3 ∷ []) ∷ (0 ∷ 3 ∷ 3 ∷ 3 ∷ 3 ∷ []) ∷ deep ∷ [];
+      depth = (0 ∷ 3 ∷ 0 ∷ 3 ∷ 3 ∷ []) ∷ (0 ∷ 0 ∷ 3 ∷ 3 ∷ 3 ∷ [])
+          ∷ (0 ∷ 3 ∷ 3 ∷ 3 ∷ 3 ∷ []) ∷ deep ∷ [];
     })
 unfolding values_of after effect_of reply delivery_of applied is_stale starts_below up
 partly = record { history = refl; kept = refl }
@@ -79,7 +84,8 @@ woken : Says board (history_of board
       life = Some 1;
       starts = 2 ∷ 0 ∷ 0 ∷ 0 ∷ 0 ∷ [];
       last = last 1 2 causes.Wake ∷ None ∷ None ∷ None ∷ None ∷ [];
-      depth = (0 ∷ 3 ∷ 3 ∷ 3 ∷ 3 ∷ []) ∷ (0 ∷ 3 ∷ 3 ∷ 3 ∷ 3 ∷ []) ∷ (0 ∷ 3 ∷ 3 ∷ 3 ∷ 3 ∷ []) ∷ deep ∷ [];
+      depth = (0 ∷ 3 ∷ 3 ∷ 3 ∷ 3 ∷ []) ∷ (0 ∷ 3 ∷ 3 ∷ 3 ∷ 3 ∷ [])
+          ∷ (0 ∷ 3 ∷ 3 ∷ 3 ∷ 3 ∷ []) ∷ deep ∷ [];
     })
 unfolding values_of after effect_of reply delivery_of wake_of applied is_stale starts_below up
 woken = record { history = refl; kept = refl }
@@ -89,7 +95,8 @@ strangers : Says board (history_of board (wake 2 0 ∷ reset 1 ∷ reset 1 ∷ [
   life = Some 1;
   starts = 1 ∷ 2 ∷ 1 ∷ 0 ∷ 0 ∷ [];
   last = last 1 1 causes.Boot ∷ last 1 2 causes.Reset ∷ last 1 1 causes.Wake ∷ None ∷ None ∷ [];
-  depth = (0 ∷ 0 ∷ 0 ∷ 3 ∷ 3 ∷ []) ∷ (0 ∷ 0 ∷ 3 ∷ 3 ∷ 3 ∷ []) ∷ (0 ∷ 3 ∷ 3 ∷ 3 ∷ 3 ∷ []) ∷ deep ∷ [];
+  depth = (0 ∷ 0 ∷ 0 ∷ 3 ∷ 3 ∷ []) ∷ (0 ∷ 0 ∷ 3 ∷ 3 ∷ 3 ∷ [])
+      ∷ (0 ∷ 3 ∷ 3 ∷ 3 ∷ 3 ∷ []) ∷ deep ∷ [];
 })
 unfolding values_of after effect_of reply wake_of reset_of up
 strangers = record { history = refl; kept = refl }
@@ -100,7 +107,8 @@ second_life : Says board (history_of board
       life = Some 2;
       starts = 2 ∷ 0 ∷ 0 ∷ 1 ∷ 0 ∷ [];
       last = last 2 2 causes.Reset ∷ None ∷ None ∷ last 2 1 causes.On ∷ None ∷ [];
-      depth = (0 ∷ 3 ∷ 3 ∷ 0 ∷ 3 ∷ []) ∷ (0 ∷ 0 ∷ 3 ∷ 3 ∷ 3 ∷ []) ∷ (0 ∷ 3 ∷ 3 ∷ 3 ∷ 3 ∷ []) ∷ deep ∷ [];
+      depth = (0 ∷ 3 ∷ 3 ∷ 0 ∷ 3 ∷ []) ∷ (0 ∷ 0 ∷ 3 ∷ 3 ∷ 3 ∷ [])
+          ∷ (0 ∷ 3 ∷ 3 ∷ 3 ∷ 3 ∷ []) ∷ deep ∷ [];
     })
 unfolding values_of after effect_of reply delivery_of reset_of up
 second_life = record { history = refl; kept = refl }

@@ -20,8 +20,8 @@ ghost use Rattle.psci_ctl_model.specs.Values.{Values, start_of_life};
 use psci_board::{law_children, law_paths, law_sizes};
 use psci_link::law_parts;
 
-/// The values that a history says are those of the first life's start before any call, and after one
-/// more entry those that the entry leaves. So kept values say what the history says, whichever
+/// The values that a history says are those of the first life's start before any call, and after
+/// one more entry those that the entry leaves. So kept values say what the history says, whichever
 /// entries it has.
 pub fn law_values()
     ensures first { (b : BoardValue) → values_of b [] ≡ start_of_life b }
@@ -42,8 +42,8 @@ pub fn law_start()
 {}
 
 /// What the one reply to a call brings about: without a life nothing; no start beyond the start
-/// limit, no life beyond the last; and parts are applied only where they are live and every child of
-/// their domain is at least as deep.
+/// limit, no life beyond the last; and parts are applied only where they are live and every child
+/// of their domain is at least as deep.
 pub fn law_replies()
     ensures { (b : BoardValue) (v : Values) (call : CtlCall) → IsBoard b → IsCall b call
         → MayFollow b v (effect_of b call (reply b v call)) }
@@ -94,8 +94,8 @@ pub fn law_depths()
     law_sizes();
 }
 
-/// No domain is deeper than the domain below it on any core's path, as long as no applied part makes
-/// a domain shallower than it was.
+/// No domain is deeper than the domain below it on any core's path, as long as no applied part
+/// makes a domain shallower than it was.
 pub fn law_nesting()
     ensures change { (b : BoardValue) (v : Values) (e : Effect) → IsBoard b → IsNested b v.depth
         → MayFollow b v e → OnlyDeepens b v.depth e → IsNested b (change b e v).depth }

@@ -79,7 +79,8 @@ returns-clause-start c =
     c.starts.ensures
     ∙ ap (λ (xs : List CoreRow). (core_at xs core).starts) are_cs
     ∙ ap (λ (v : Values). v.starts core) (c.start_core.ensures.values life)
-    ∙ next_number b (values_in life c.deref_mut.result.now c.deref_mut-2.result.now) core c.args.cause
+    ∙ next_number b (values_in life c.deref_mut.result.now c.deref_mut-2.result.now) core
+    c.args.cause
     ∙ ap (λ (xs : List CoreRow). (core_at xs core).starts + 1) c.deref_mut.ensures.value in
     rw (← c.self.view_is)
     (ap (λ n. record { life = c.args.life; number = n; cause = c.args.cause }) number)

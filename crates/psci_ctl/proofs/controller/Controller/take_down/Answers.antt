@@ -26,7 +26,8 @@ late_count c =
     } in
     stops old.board (seen old) core k ps none c.loop-part-test.true c.loop-part.invariant.passed
     (is_late old.board (seen old) core ps (get_or ps k none)
-    (live_then old now core k ps (get_or ps k none) false is (sym (c.if-not-is_live.ensures {u = tt}))))
+    (live_then old now core k ps (get_or ps k none) false is
+    (sym (c.if-not-is_live.ensures {u = tt}))))
 
 pub returns-then-not-is_live-clause-applied : goal.returns-then-not-is_live-clause-applied
 returns-then-not-is_live-clause-applied c = c.loop-part.invariant.count ∙ sym (late_count c)
@@ -43,7 +44,8 @@ returns-then-not-is_live-clause-stale c =
       values = c.loop-part.invariant.values;
     } in
     sym (left_stale old.board (seen old) core k ps none _ c.loop-part-test.true (late_count c)
-    (live_then old now core k ps (get_or ps k none) false is (sym (c.if-not-is_live.ensures {u = tt}))))
+    (live_then old now core k ps (get_or ps k none) false is
+    (sym (c.if-not-is_live.ensures {u = tt}))))
 
 pub is_covered-requires-clause-level : goal.is_covered-requires-clause-level
 is_covered-requires-clause-level c =
@@ -136,4 +138,5 @@ returns-then-not-is_covered-clause-stale c =
       values = c.loop-part.invariant.values;
     } in
     sym (left_stale old.board (seen old) core k ps none _ c.loop-part-test.true (held_count c)
-    (live_then old now core k ps (get_or ps k none) true is (sym (c.if-not-is_live.ensures {u = tt}))))
+    (live_then old now core k ps (get_or ps k none) true is
+    (sym (c.if-not-is_live.ensures {u = tt}))))
