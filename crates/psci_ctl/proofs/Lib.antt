@@ -1,2 +1,6 @@
+pub mod Applying
+pub mod Children
+pub mod Kept
 pub mod Looked
 pub mod Started
+pub mod Walked

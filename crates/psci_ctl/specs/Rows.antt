@@ -1,9 +1,9 @@
 -- What the power controller keeps of cores and domains, row by row.
-use Rattle.std.specs.Prelude.{◌≡◌, ℕ, ◌+◌, ◌<◌, ◌≤◌, Bool, ◌&&◌, ◌==◌, nat_lt, if◌then◌else◌, List}
-use Rattle.std.specs.Prelude.{[], length, slice_index_or, slice_set, Option}
-use Rattle.psci_board.specs.Board.{BoardValue, cores, height, nodes}
+use Rattle.std.specs.Prelude.{◌≡◌, ℕ, ◌+◌, ◌≤◌, ◌&&◌, ◌==◌, nat_lt, if◌then◌else◌, List}
+use Rattle.std.specs.Prelude.{[], length, slice_index_or, Option}
+use Rattle.psci_board.specs.Board.{BoardValue, height, nodes, up}
+use Rattle.psci_coord.specs.declared.part.Part.{Part}
 use Rattle.psci_board.specs.declared.node.Node.{Node}
-use Rattle.psci_ctl_model.specs.declared.start.Cause.{Cause}
 use Rattle.psci_ctl_model.specs.declared.start.Cause.TheVariants as causes
 use Rattle.psci_ctl_model.specs.Values.{Values, is_on_path, starts_below}
 use Rattle.psci_ctl.specs.declared.row.CoreRow.{CoreRow}
@@ -25,14 +25,13 @@ core_at cores c = slice_index_or cores c off_core
 abbrev pub domain_at : List (List DomainRow) → ℕ → ℕ → DomainRow
 domain_at domains level place = slice_index_or (slice_index_or domains level []) place off_domain
 
+-- how deep the domain of this level and place is
+abbrev pub depth_in : List (List DomainRow) → ℕ → ℕ → ℕ
+depth_in domains level place = (domain_at domains level place).depth
+
 -- one core's row is this
 abbrev pub with_core : List CoreRow → ℕ → CoreRow → ℕ → CoreRow
 with_core cores c row k = if k == c then row else core_at cores k
-
--- one domain's row is this
-abbrev pub with_domain : List (List DomainRow) → Node → DomainRow → ℕ → ℕ → DomainRow
-with_domain domains n row level place =
-    if level == n.level && place == n.place then row else domain_at domains level place
 
 -- a domain runs, after one more start below it
 abbrev pub run_once : DomainRow → DomainRow
@@ -51,7 +50,7 @@ values_in life cores domains = record {
   life = life;
   starts = λ c. (core_at cores c).starts;
   cause = λ c. (core_at cores c).cause;
-  depth = λ level place. (domain_at domains level place).depth;
+  depth = depth_in domains;
 }
 
 -- a row for each domain of the board
@@ -65,3 +64,8 @@ pub record HasSums (b : BoardValue) (cores : List CoreRow) (domains : List (List
     : Type 0 where
   pub sums : (level place : ℕ) → level ≤ height b → (domain_at domains level place).starts
       ≡ starts_below b (λ c. (core_at cores c).starts) (record { level = level; place = place })
+
+-- the domain of a part on a core's path is as deep as the part asks
+abbrev pub with_depth : BoardValue → ℕ → Part → (ℕ → ℕ → ℕ) → ℕ → ℕ → ℕ
+with_depth b c p depth level place =
+    if level == p.level && place == up b p.level c then p.depth else depth level place

@@ -4,8 +4,23 @@
 //! - A *row* is what the power controller keeps of one core, or of one power domain.
 #![tactic(auto)]
 
+mod controller;
+mod covering;
+mod delivering;
 mod domains;
+mod done;
 mod level;
 mod row;
 mod starting;
 
+pub use controller::Controller;
+pub use psci_board::{Board, Core, Memory, Node};
+pub use psci_coord::{Part, Parts};
+pub use psci_ctl_model::{
+    Cause, CtlCall, CtlReply, Delivery, Kick, Start, law_depths, law_generations, law_limits,
+    law_nesting, law_one_reply, law_past, law_replies, law_start, law_values,
+};
+pub use psci_link::{Ack, Kind, Message};
+
+#[cfg(test)]
+mod tests;

@@ -1,15 +1,12 @@
 -- What the one reply brings about may follow the values, and leaves values as they are kept.
-use Rattle.std.proofs.Common.{◌≡◌, ℕ, zero, suc, ◌+◌, ◌<◌, ◌≤◌, Bool, true, false, cond, ◌==◌}
-use Rattle.std.proofs.Common.{List, [], ◌∷◌, length, take, Option, Some, None, refl, ap, sym, ◌∙◌}
-use Rattle.std.proofs.Common.{subst, arith, inl, inr}
-use Rattle.std.specs.Prelude.{nat_lt, slice_get}
-use Rattle.std.proofs.lemmas.Bool.{and_parts, cases_Bool, eqb-true, ltb-true}
-use Rattle.std.proofs.lemmas.Option.{none-some, same_Some}
-use Rattle.psci_board.specs.Board.{BoardValue, IsBoard, cores, height}
+use Rattle.std.proofs.Common.{◌≡◌, ℕ, ◌+◌, ◌<◌, ◌≤◌, Bool, true, false, cond, ◌==◌}
+use Rattle.std.proofs.Common.{List, length, Option, Some, None, refl, ap}
+use Rattle.std.specs.Prelude.{nat_lt}
+use Rattle.std.proofs.lemmas.Bool.{and_parts, eqb-true, ltb-true}
+use Rattle.psci_board.specs.Board.{BoardValue, cores, height}
 use Rattle.psci_board.specs.Laws.{ChildLaws}
-use Rattle.psci_board.specs.declared.node.Core.{Core}
 use Rattle.psci_coord.specs.declared.part.Part.{Part}
-use Rattle.psci_link.specs.Message.{ArePartsOf, IsClaim, IsMessage, MessageValue, PartByPart}
+use Rattle.psci_link.specs.Message.{ArePartsOf, IsClaim, MessageValue, PartByPart}
 use Rattle.psci_link.specs.declared.kind.Kind.{Kind}
 use Rattle.psci_link.specs.declared.kind.Kind.TheVariants as kinds
 use Rattle.psci_ctl_model.specs.declared.call.CtlCall.{CtlCall}
@@ -18,19 +15,14 @@ use Rattle.psci_ctl_model.specs.declared.delivery.Delivery.TheVariants as delive
 use Rattle.psci_ctl_model.specs.declared.reply.CtlReply.TheVariants.{Delivered}
 use Rattle.psci_ctl_model.specs.declared.start.Cause.{Cause}
 use Rattle.psci_ctl_model.specs.declared.start.Cause.TheVariants as causes
-use Rattle.psci_ctl_model.specs.Changes.{after, change, one_more}
-use Rattle.psci_ctl_model.specs.Effects.{Effect, Nothing, Starts, Deepens, Ends, Begins}
+use Rattle.psci_ctl_model.specs.Effects.{Ends, Begins}
 use Rattle.psci_ctl_model.specs.Effects.{effect_of, kick_effect, message_effect}
-use Rattle.psci_ctl_model.specs.Entry.{Entry}
-use Rattle.psci_ctl_model.specs.Follows.{AreValues, HasLife, IsFront, MayFollow}
-use Rattle.psci_ctl_model.specs.History.{values_of}
-use Rattle.psci_ctl_model.specs.Legal.{IsCall, IsLegal, IsSendable}
-use Rattle.psci_ctl_model.specs.Parts.{applied, depth_or, laid}
+use Rattle.psci_ctl_model.specs.Follows.{HasLife, MayFollow}
+use Rattle.psci_ctl_model.specs.Legal.{IsCall, IsSendable}
 use Rattle.psci_ctl_model.specs.Replies.{ack_by, ack_of, delivery_of, is_present, kick_if}
 use Rattle.psci_ctl_model.specs.Replies.{may_follow, may_start, reply, reset_of, wake_of}
-use Rattle.psci_ctl_model.specs.Values.{Values, first_depth, is_on_path, start_of_life}
+use Rattle.psci_ctl_model.specs.Values.{Values}
 use Rattle.psci_ctl_model.proofs.Front.{is_front}
-use Rattle.psci_ctl_model.proofs.OneMore.{values_more, first_values}
 
 -- a Start that is carried out starts its core; one that is not does nothing
 start_effect : (b : BoardValue) (v : Values) (m : MessageValue) (t : Bool)

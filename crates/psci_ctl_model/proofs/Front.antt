@@ -1,7 +1,7 @@
 -- The parts of a Down that are applied: each is live, and each child of its domain is as deep.
-use Rattle.std.proofs.Common.{◌≡◌, ℕ, zero, suc, ◌+◌, ◌-◌, ◌<◌, ◌≤◌, Bool, true, false, cond, ◌&&◌}
-use Rattle.std.proofs.Common.{List, [], ◌∷◌, length, take, get_or, Some, None, refl, ap, sym, ◌∙◌}
-use Rattle.std.proofs.Common.{subst, arith, inl, inr, add-one}
+use Rattle.std.proofs.Common.{◌≡◌, ℕ, zero, suc, ◌+◌, ◌-◌, ◌<◌, ◌≤◌, Bool, true, cond}
+use Rattle.std.proofs.Common.{List, [], ◌∷◌, length, take, Some, refl, ap, sym, ◌∙◌}
+use Rattle.std.proofs.Common.{subst, arith, inl, inr}
 use Rattle.std.specs.Prelude.{nat_le, slice_get}
 use Rattle.std.specs.List.{list_all, prefix_len, range_with_len}
 use Rattle.std.proofs.lemmas.Bool.{and_parts, cases_Bool, eqb-true, leb-true, true≢false}
@@ -114,7 +114,8 @@ is_front b v c ps children inside few parts =
       covered = λ k x p e h s.
           let level : p.level ≡ suc k = parts.level (suc k) p (take_get ps n (suc k) p e) in
           let all = (and_parts (is_live b v c p) _ (applied_at b v c ps (suc k) p e)).1 in
-          let here : is_covered b (laid b c (take (suc k) ps) v.depth) (domain_of b c (suc k)) p.depth
+          let here : is_covered b (laid b c (take (suc k) ps) v.depth) (domain_of b c (suc k))
+          p.depth
           ≡ true =
           subst (λ l. is_covered b (laid b c (take l ps) v.depth) (domain_of b c l) p.depth ≡ true)
           level all in

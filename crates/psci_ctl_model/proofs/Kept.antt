@@ -1,5 +1,5 @@
 -- What the effect of the one reply leaves are values as they are kept.
-use Rattle.std.proofs.Common.{◌≡◌, ℕ, zero, suc, ◌+◌, ◌<◌, ◌≤◌, Bool, true, false, cond, ◌==◌}
+use Rattle.std.proofs.Common.{◌≡◌, ℕ, ◌+◌, ◌<◌, ◌≤◌, Bool, true, false, cond, ◌==◌}
 use Rattle.std.proofs.Common.{List, [], ◌∷◌, Option, Some, None, refl, ap, sym, ◌∙◌, subst, arith}
 use Rattle.std.specs.Prelude.{slice_get}
 use Rattle.std.proofs.lemmas.Bool.{eqb-true}
@@ -9,11 +9,10 @@ use Rattle.psci_board.specs.Laws.{ChildLaws}
 use Rattle.psci_coord.specs.declared.part.Part.{Part}
 use Rattle.psci_link.specs.Message.{IsClaim, PartByPart}
 use Rattle.psci_ctl_model.specs.declared.call.CtlCall.{CtlCall}
-use Rattle.psci_ctl_model.specs.declared.start.Cause.{Cause}
-use Rattle.psci_ctl_model.specs.Changes.{after, change, next_life, one_more}
+use Rattle.psci_ctl_model.specs.Changes.{after, change, next_life}
 use Rattle.psci_ctl_model.specs.Effects.{Effect, Nothing, Starts, Deepens, Ends, Begins, effect_of}
 use Rattle.psci_ctl_model.specs.Entry.{Entry}
-use Rattle.psci_ctl_model.specs.Follows.{AreValues, HasLife, IsFront, MayFollow}
+use Rattle.psci_ctl_model.specs.Follows.{AreValues, MayFollow}
 use Rattle.psci_ctl_model.specs.History.{values_of}
 use Rattle.psci_ctl_model.specs.Legal.{IsCall, IsLegal}
 use Rattle.psci_ctl_model.specs.Parts.{depth_or}
@@ -107,7 +106,8 @@ pub reply_kept : (b : BoardValue) (v : Values) (call : CtlCall) → IsBoard b �
     → AreValues b (after b call (reply b v call) v)
 unfolding after
 reply_kept b v call board children laws are is =
-    change_kept b v (effect_of b call (reply b v call)) board are (follows b v call children laws is)
+    change_kept b v (effect_of b call (reply b v call)) board are
+    (follows b v call children laws is)
 
 pub legal_kept : (b : BoardValue) (h : List Entry) → IsBoard b → ChildLaws b
     → ((ps : List Part) → IsClaim ps → PartByPart ps) → IsLegal b h → AreValues b (values_of b h)

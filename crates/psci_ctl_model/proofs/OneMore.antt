@@ -4,12 +4,11 @@ use Rattle.std.proofs.Common.{None, option_map, unwrap_or, refl}
 use Rattle.std.specs.Prelude.{slice_get}
 use Rattle.psci_board.specs.Board.{BoardValue}
 use Rattle.psci_coord.specs.declared.part.Part.{Part}
-use Rattle.psci_ctl_model.specs.declared.start.Cause.{Cause}
 use Rattle.psci_ctl_model.specs.Changes.{after, change}
 use Rattle.psci_ctl_model.specs.Effects.{Effect, Nothing, Starts, Deepens, Ends, Begins}
 use Rattle.psci_ctl_model.specs.Entry.{Entry}
-use Rattle.psci_ctl_model.specs.History.{cause_by, depth, depth_by, effect_in, last_cause, life}
-use Rattle.psci_ctl_model.specs.History.{life_by, only_if, starts, starts_by, values_of}
+use Rattle.psci_ctl_model.specs.History.{cause_by, depth_by, effect_in}
+use Rattle.psci_ctl_model.specs.History.{life_by, only_if, starts_by, values_of}
 use Rattle.psci_ctl_model.specs.Parts.{depth_or}
 use Rattle.psci_ctl_model.specs.Values.{Values, is_on_path, start_of_life}
 

@@ -1,8 +1,7 @@
 -- Which domains are on the path of a core.
-use Rattle.std.proofs.Common.{◌≡◌, ℕ, ◌≤◌, Bool, true, false, cond, ◌&&◌, ◌==◌, refl, inl, inr}
+use Rattle.std.proofs.Common.{◌≡◌, ℕ, ◌≤◌, true, false, refl}
 use Rattle.std.specs.Prelude.{nat_le}
 use Rattle.std.proofs.lemmas.Bool.{and_parts, eqb-true, eq-eqb, le-leb, leb-true, true≢false}
-use Rattle.std.proofs.lemmas.Bool.{cases_Bool}
 use Rattle.psci_board.specs.Board.{BoardValue, height, up}
 use Rattle.psci_ctl_model.specs.Values.{is_on_path}
 

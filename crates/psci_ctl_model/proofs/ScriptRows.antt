@@ -1,10 +1,8 @@
 -- Worked examples: what becomes of the messages, wake-ups and resets of known scripts.
-use Rattle.std.proofs.Common.{◌≡◌, ℕ, true, false, List, [], ◌∷◌, refl}
-use Rattle.psci_board.specs.Board.{BoardValue, up}
-use Rattle.psci_coord.specs.declared.part.Part.{Part}
+use Rattle.std.proofs.Common.{◌≡◌, ℕ, true, false, [], ◌∷◌, refl}
+use Rattle.psci_board.specs.Board.{up}
 use Rattle.psci_link.specs.declared.kind.Kind.TheVariants.{Down, Start, Off, Reset}
 use Rattle.psci_ctl_model.specs.declared.call.CtlCall.{CtlCall}
-use Rattle.psci_ctl_model.specs.declared.reply.CtlReply.{CtlReply}
 use Rattle.psci_ctl_model.specs.declared.start.Cause.TheVariants as causes
 use Rattle.psci_ctl_model.specs.Effects.{effect_of}
 use Rattle.psci_ctl_model.specs.History.{values_of}

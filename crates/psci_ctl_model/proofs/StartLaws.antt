@@ -1,12 +1,13 @@
 -- What a start of a core changes of depths and generations.
-use Rattle.std.proofs.Common.{◌≡◌, ℕ, ◌+◌, ◌<◌, ◌≤◌, Bool, true, false, cond, refl, ap, ◌∙◌, sym}
+use Rattle.std.proofs.Common.{ℕ, ◌+◌, ◌<◌, cond, refl, ap, ◌∙◌}
 use Rattle.std.proofs.Common.{add-zero}
-use Rattle.psci_board.specs.Board.{BoardValue, cores, height, up}
+use Rattle.psci_board.specs.Board.{BoardValue, cores, up}
 use Rattle.psci_ctl_model.specs.declared.start.Cause.{Cause}
 use Rattle.psci_ctl_model.specs.Laws.{StartLaws, SumLaws}
-use Rattle.psci_ctl_model.specs.Values.{Values, is_on_path, starts_below}
+use Rattle.psci_ctl_model.specs.Values.{Values, starts_below}
 use Rattle.psci_ctl_model.proofs.Paths.{on_path}
-use Rattle.psci_ctl_model.proofs.Sums.{starts_few, starts_grow, starts_more, starts_none, starts_own}
+use Rattle.psci_ctl_model.proofs.Sums.{starts_few, starts_grow, starts_more, starts_none}
+use Rattle.psci_ctl_model.proofs.Sums.{starts_own}
 
 pub sum_laws : (b : BoardValue) → SumLaws b
 sum_laws b = record {

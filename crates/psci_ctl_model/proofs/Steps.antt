@@ -1,8 +1,7 @@
 -- Worked examples are stated so: some calls in turn, and the replies to them.
-use Rattle.std.proofs.Common.{◌≡◌, ℕ, Bool, true, false, List, [], ◌∷◌, map, reverse, Option}
+use Rattle.std.proofs.Common.{◌≡◌, ℕ, Bool, List, [], ◌∷◌, map, reverse, Option}
 use Rattle.psci_board.specs.Board.{BoardValue}
 use Rattle.psci_coord.specs.declared.part.Part.{Part}
-use Rattle.psci_link.specs.Message.{MessageValue}
 use Rattle.psci_link.specs.declared.kind.Kind.{Kind}
 use Rattle.psci_link.specs.declared.kind.Kind.TheVariants as kinds
 use Rattle.psci_ctl_model.specs.declared.call.CtlCall.{CtlCall}
@@ -17,7 +16,7 @@ use Rattle.psci_ctl_model.specs.Changes.{after}
 use Rattle.psci_ctl_model.specs.Entry.{Entry}
 use Rattle.psci_ctl_model.specs.History.{values_of}
 use Rattle.psci_ctl_model.specs.Legal.{legal_reply}
-use Rattle.psci_ctl_model.specs.Replies.{last_start, reply}
+use Rattle.psci_ctl_model.specs.Replies.{last_start}
 use Rattle.psci_ctl_model.specs.Values.{Values, start_of_life}
 
 -- a board of this tree and these limits

@@ -1,7 +1,6 @@
 -- What is kept after a call, by what was kept before it, the call and its reply.
-use Rattle.std.specs.Prelude.{ℕ, ◌+◌, ◌==◌, if◌then◌else◌, Option, None, option_map, List}
+use Rattle.std.specs.Prelude.{ℕ, ◌+◌, ◌==◌, if◌then◌else◌, Option, None, option_map}
 use Rattle.psci_board.specs.Board.{BoardValue}
-use Rattle.psci_coord.specs.declared.part.Part.{Part}
 use Rattle.psci_ctl_model.specs.declared.call.CtlCall.{CtlCall}
 use Rattle.psci_ctl_model.specs.declared.reply.CtlReply.{CtlReply}
 use Rattle.psci_ctl_model.specs.declared.start.Cause.{Cause}
@@ -38,7 +37,7 @@ abbrev pub change : BoardValue → Effect → Values → Values
 change b Nothing v = v
 change b (Starts c cause) v = with_start b c cause v
 change b (Deepens c ps) v = record v { depth = laid b c ps v.depth }
-change b Ends v = record v { life = None; starts = λ c. 0 }
+change b Ends v = record v { life = None; starts = λ c. 0; cause = first_cause }
 change b Begins v = record {
   life = next_life v.life;
   starts = first_starts;

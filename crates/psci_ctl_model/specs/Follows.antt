@@ -1,6 +1,6 @@
 -- What the one reply to a call brings about, and what holds of the values after every history of
 -- such replies.
-use Rattle.std.specs.Prelude.{◌≡◌, ℕ, suc, ◌+◌, ◌<◌, ◌≤◌, List, length, slice_get, Option, None}
+use Rattle.std.specs.Prelude.{◌≡◌, ℕ, suc, ◌+◌, ◌<◌, ◌≤◌, List, length, slice_get, None}
 use Rattle.std.specs.Prelude.{Some}
 use Rattle.psci_board.specs.Board.{BoardValue, cores, height, up}
 use Rattle.psci_coord.specs.declared.part.Part.{Part}

@@ -3,7 +3,6 @@
 use Rattle.std.specs.Prelude.{ℕ, ◌+◌, Bool, true, false, ◌==◌, if◌then◌else◌, Option, None, Some}
 use Rattle.std.specs.Prelude.{option_map, unwrap_or, List, [], ◌∷◌, slice_get}
 use Rattle.psci_board.specs.Board.{BoardValue}
-use Rattle.psci_coord.specs.declared.part.Part.{Part}
 use Rattle.psci_ctl_model.specs.declared.start.Cause.{Cause}
 use Rattle.psci_ctl_model.specs.Effects.{Effect, Nothing, Starts, Deepens, Ends, Begins, effect_of}
 use Rattle.psci_ctl_model.specs.Entry.{Entry}
@@ -58,12 +57,13 @@ abbrev pub starts : BoardValue → List Entry → ℕ → ℕ
 starts b [] k = first_starts k
 starts b (e ∷ h) k = starts_by k (effect_in b e) (starts b h k)
 
--- what an entry says of the cause of a core's last start
+-- what an entry says of the cause of a core's last start; where no start is left, it is that of the
+-- boot core's first one
 abbrev pub cause_by : ℕ → Effect → Option Cause
 cause_by k Nothing = None
 cause_by k (Starts c cause) = only_if (k == c) (Some cause)
 cause_by k (Deepens c ps) = None
-cause_by k Ends = None
+cause_by k Ends = Some (first_cause k)
 cause_by k Begins = Some (first_cause k)
 
 -- why a core was last started

@@ -1,6 +1,5 @@
 -- What holds of the values: facts that upper layers build on.
-use Rattle.std.specs.Prelude.{◌≡◌, ℕ, ◌+◌, ◌*◌, ◌<◌, ◌≤◌, true, false, if◌then◌else◌, Option, Some}
-use Rattle.std.specs.Prelude.{None}
+use Rattle.std.specs.Prelude.{◌≡◌, ℕ, ◌+◌, ◌*◌, ◌<◌, ◌≤◌, false, if◌then◌else◌}
 use Rattle.psci_board.specs.declared.node.Node.{Node}
 use Rattle.psci_board.specs.Board.{BoardValue, cores, height, up}
 use Rattle.psci_ctl_model.specs.declared.start.Cause.{Cause}
@@ -33,7 +32,8 @@ pub record SumLaws (b : BoardValue) : Type 0 where
 -- A core is started.
 pub record StartLaws (b : BoardValue) (v : Values) (c : ℕ) (cause : Cause) : Type 0 where
   -- each domain on its path runs, and its generation is greater by 1
-  pub runs : (level : ℕ) → level ≤ height b → (with_start b c cause v).depth level (up b level c) ≡ 0
+  pub runs : (level : ℕ) → level ≤ height b
+      → (with_start b c cause v).depth level (up b level c) ≡ 0
   pub counts : (level : ℕ) → level ≤ height b
       → starts_below b (with_start b c cause v).starts
       (record { level = level; place = up b level c })

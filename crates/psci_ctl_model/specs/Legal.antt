@@ -1,5 +1,5 @@
 -- Histories in which every reply is the one reply.
-use Rattle.std.specs.Prelude.{◌≡◌, ◌<◌, ◌≤◌, ◌+◌, ℕ, List, [], ◌∷◌, length}
+use Rattle.std.specs.Prelude.{◌≡◌, ◌<◌, ◌≤◌, ◌+◌, List, [], ◌∷◌, length}
 use Rattle.psci_board.specs.Board.{BoardValue, cores, height}
 use Rattle.psci_link.specs.Message.{MessageValue, IsMessage}
 use Rattle.psci_ctl_model.specs.declared.call.CtlCall.{CtlCall}
@@ -34,3 +34,15 @@ legal_reply b h call = reply b (values_of b h) call
 abbrev pub IsLegal : BoardValue → List Entry → Type 0
 IsLegal b [] = Unit {0}
 IsLegal b (e ∷ h) = (e.reply ≡ legal_reply b h e.call) × IsCall b e.call × IsLegal b h
+
+-- the legal history of these calls, both with the newest first
+abbrev pub legal_history : BoardValue → List CtlCall → List Entry
+legal_history b [] = []
+legal_history b (call ∷ calls) =
+    let h = legal_history b calls in
+    record { call = call; reply = legal_reply b h call } ∷ h
+
+-- calls that can be made on this board
+abbrev pub AreCalls : BoardValue → List CtlCall → Type 0
+AreCalls b [] = Unit {0}
+AreCalls b (call ∷ calls) = IsCall b call × AreCalls b calls

@@ -3,6 +3,7 @@ pub mod Effects
 pub mod Entry
 pub mod Follows
 pub mod History
+pub mod Lasting
 pub mod Laws
 pub mod Legal
 pub mod Parts

@@ -1,24 +1,27 @@
 //! What holds of the definitions alone: each law is the contract of a function that does nothing.
 
-ghost use Rattle.std.specs.Prelude.{◌≡◌, ◌<◌, ℕ, List, [], ◌∷◌};
-ghost use Rattle.psci_board.specs.Board.{BoardValue, IsBoard, cores};
+ghost use Rattle.std.specs.Prelude.{◌≡◌, ◌⊎◌, ◌<◌, ◌≤◌, ℕ, List, [], ◌∷◌, ◌++◌, map, Some};
+ghost use Rattle.psci_board.specs.Board.{BoardValue, IsBoard, cores, height};
+ghost use Rattle.psci_board.specs.declared.node.Node.{Node};
 ghost use Rattle.psci_ctl_model.specs.declared.call.CtlCall.{CtlCall};
 ghost use Rattle.psci_ctl_model.specs.declared.start.Cause.{Cause};
 ghost use Rattle.psci_ctl_model.specs.Changes.{after, change};
 ghost use Rattle.psci_ctl_model.specs.Effects.{Effect, effect_of};
 ghost use Rattle.psci_ctl_model.specs.Entry.{Entry};
 ghost use Rattle.psci_ctl_model.specs.Follows.{AreValues, MayFollow};
-ghost use Rattle.psci_ctl_model.specs.History.{values_of};
+ghost use Rattle.psci_ctl_model.specs.History.{depth, life, values_of};
+ghost use Rattle.psci_ctl_model.specs.Lasting.{IsApplied, IsFirst, IsLive, IsNested};
+ghost use Rattle.psci_ctl_model.specs.Lasting.{NeverShallower, OnlyDeepens};
 ghost use Rattle.psci_ctl_model.specs.Laws.{StartLaws, SumLaws};
-ghost use Rattle.psci_ctl_model.specs.Legal.{IsCall, IsLegal};
+ghost use Rattle.psci_ctl_model.specs.Legal.{AreCalls, IsCall, IsLegal, legal_history};
 ghost use Rattle.psci_ctl_model.specs.Replies.{reply};
 ghost use Rattle.psci_ctl_model.specs.Values.{Values, start_of_life};
 
-use psci_board::law_children;
+use psci_board::{law_children, law_paths, law_sizes};
 use psci_link::law_parts;
 
-/// The values that a history says are those of the first life's start before any call, and after one
-/// more entry those that the entry leaves. So kept values say what the history says, whichever
+/// The values that a history says are those of the first life's start before any call, and after
+/// one more entry those that the entry leaves. So kept values say what the history says, whichever
 /// entries it has.
 pub fn law_values()
     ensures first { (b : BoardValue) → values_of b [] ≡ start_of_life b }
@@ -39,8 +42,8 @@ pub fn law_start()
 {}
 
 /// What the one reply to a call brings about: without a life nothing; no start beyond the start
-/// limit, no life beyond the last; and parts are applied only where they are live and every child of
-/// their domain is at least as deep.
+/// limit, no life beyond the last; and parts are applied only where they are live and every child
+/// of their domain is at least as deep.
 pub fn law_replies()
     ensures { (b : BoardValue) (v : Values) (call : CtlCall) → IsBoard b → IsCall b call
         → MayFollow b v (effect_of b call (reply b v call)) }
@@ -60,6 +63,46 @@ pub fn law_limits()
     ensures legal { (b : BoardValue) (h : List Entry) → IsBoard b → IsLegal b h
         → AreValues b (values_of b h) }
 {
+    law_children();
+    law_parts();
+}
+
+/// To each list of calls there is exactly one history in which every reply is the one reply.
+pub fn law_one_reply()
+    ensures some { (b : BoardValue) (calls : List CtlCall) → AreCalls b calls
+        → IsLegal b (legal_history b calls) }
+    ensures only { (b : BoardValue) (h : List Entry) → IsLegal b h
+        → h ≡ legal_history b (map (λ e. e.call) h) }
+{}
+
+/// A part that was live and is so no more is never live again, whatever the calls and replies.
+pub fn law_past()
+    ensures { (b : BoardValue) (then_on since before : List Entry) (life : ℕ) (n : Node) (sum : ℕ)
+        → IsLive b before life n sum → (IsLive b (since ++ before) life n sum → ⊥)
+        → IsLive b (then_on ++ (since ++ before)) life n sum → ⊥ }
+{}
+
+/// In a life a domain that doesn't run is as deep as a live part made it that was applied in this
+/// life, or as at the life's start, with no core below it started since.
+pub fn law_depths()
+    ensures { (b : BoardValue) (h : List Entry) (level place life_now : ℕ) → IsBoard b
+        → IsLegal b h → level ≤ height b → life b h ≡ Some life_now → 0 < depth b h level place
+        → IsApplied b h level place ⊎ IsFirst b h level place }
+{
+    law_children();
+    law_parts();
+    law_sizes();
+}
+
+/// No domain is deeper than the domain below it on any core's path, as long as no applied part
+/// makes a domain shallower than it was.
+pub fn law_nesting()
+    ensures change { (b : BoardValue) (v : Values) (e : Effect) → IsBoard b → IsNested b v.depth
+        → MayFollow b v e → OnlyDeepens b v.depth e → IsNested b (change b e v).depth }
+    ensures legal { (b : BoardValue) (h : List Entry) → IsBoard b → IsLegal b h
+        → NeverShallower b h → IsNested b (depth b h) }
+{
+    law_paths();
     law_children();
     law_parts();
 }

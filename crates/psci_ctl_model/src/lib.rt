@@ -1,5 +1,5 @@
 //! The power controller's replies, as definitions: the plain types of calls and replies, and in
-//! `specs/` what each call is answered, what it leaves, and the same said backwards along a history.
+//! `specs/` what each call is answered, what it leaves, and the same along a history.
 //!
 //! - A *start* is one power-up of a core; the starts of a core are numbered from 1 in each life.
 //! - A *life* is the time from one power-up of the whole system to its next reset.
@@ -19,6 +19,9 @@ mod start;
 pub use call::CtlCall;
 pub use delivery::Delivery;
 pub use kick::Kick;
-pub use laws::{law_generations, law_limits, law_replies, law_start, law_values};
+pub use laws::{
+    law_depths, law_generations, law_limits, law_nesting, law_one_reply, law_past, law_replies,
+    law_start, law_values,
+};
 pub use reply::CtlReply;
 pub use start::{Cause, Start};

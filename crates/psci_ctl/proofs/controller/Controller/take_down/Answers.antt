@@ -1,0 +1,142 @@
+use Rattle.std.proofs.Common.{◌≡◌, ℕ, ◌+◌, get_or, true, false, ap, sym, ◌∙◌, arith}
+use Rattle.psci_coord.specs.declared.part.Part.{Part}
+use Rattle.psci_ctl_model.specs.Parts.{applied}
+use Rattle.psci_ctl.specs.Seen.{seen}
+use Rattle.psci_ctl.proofs.Applying.{goes_on, is_late, left_stale, none_left, stops}
+use Rattle.psci_ctl.proofs.Walked.{IsWalked, depth_at, live_then, low_at, one_passed, one_stopped}
+use Rattle.psci_ctl.proofs.Walked.{passed_more, walked_more}
+use Rattle.psci_ctl.proofs.controller.Controller.take_down.Goals as goal
+
+-- the part that stands for none
+abbrev none : Part
+none = record { level = 0; depth = 0; generation = 0 }
+
+late_count : (c : goal.Then-not-is_live)
+    → applied c.args.self.now.board (seen c.args.self.now) c.args.core.number c.args.parts.now
+    ≡ c.loop-part.part-index
+late_count c =
+    let old = c.args.self.now in
+    let now = c.loop-part.self in
+    let ps = c.args.parts.now in
+    let core : ℕ = c.args.core.number in
+    let k : ℕ = c.loop-part.part-index in
+    let is : IsWalked old now core k ps = record {
+      board = c.loop-part.invariant.board;
+      values = c.loop-part.invariant.values;
+    } in
+    stops old.board (seen old) core k ps none c.loop-part-test.true c.loop-part.invariant.passed
+    (is_late old.board (seen old) core ps (get_or ps k none)
+    (live_then old now core k ps (get_or ps k none) false is
+    (sym (c.if-not-is_live.ensures {u = tt}))))
+
+pub returns-then-not-is_live-clause-applied : goal.returns-then-not-is_live-clause-applied
+returns-then-not-is_live-clause-applied c = c.loop-part.invariant.count ∙ sym (late_count c)
+
+pub returns-then-not-is_live-clause-stale : goal.returns-then-not-is_live-clause-stale
+returns-then-not-is_live-clause-stale c =
+    let old = c.args.self.now in
+    let now = c.loop-part.self in
+    let ps = c.args.parts.now in
+    let core : ℕ = c.args.core.number in
+    let k : ℕ = c.loop-part.part-index in
+    let is : IsWalked old now core k ps = record {
+      board = c.loop-part.invariant.board;
+      values = c.loop-part.invariant.values;
+    } in
+    sym (left_stale old.board (seen old) core k ps none _ c.loop-part-test.true (late_count c)
+    (live_then old now core k ps (get_or ps k none) false is
+    (sym (c.if-not-is_live.ensures {u = tt}))))
+
+pub is_covered-requires-clause-level : goal.is_covered-requires-clause-level
+is_covered-requires-clause-level c =
+    low_at c.args.self.now c.loop-part.self c.args.core.number c.loop-part.part-index
+    c.args.parts.now none
+    (record { board = c.loop-part.invariant.board; values = c.loop-part.invariant.values })
+    c.requires.parts c.requires.few c.loop-part-test.true
+
+pub deepen-requires-clause-level : goal.deepen-requires-clause-level
+deepen-requires-clause-level c =
+    low_at c.args.self.now c.loop-part.self c.args.core.number c.loop-part.part-index
+    c.args.parts.now none
+    (record { board = c.loop-part.invariant.board; values = c.loop-part.invariant.values })
+    c.requires.parts c.requires.few c.loop-part-test.true
+
+pub deepen-requires-clause-depth : goal.deepen-requires-clause-depth
+deepen-requires-clause-depth c =
+    depth_at c.args.parts.now c.loop-part.part-index none c.requires.parts c.loop-part-test.true
+
+pub loop-part-preserved : goal.loop-part-preserved
+loop-part-preserved c =
+    let old = c.args.self.now in
+    let now = c.loop-part.self in
+    let ps = c.args.parts.now in
+    let core : ℕ = c.args.core.number in
+    let k : ℕ = c.loop-part.part-index in
+    let is : IsWalked old now core k ps = record {
+      board = c.loop-part.invariant.board;
+      values = c.loop-part.invariant.values;
+    } in
+    let more : IsWalked old c.deepen.new.self core (k + 1) ps =
+    walked_more old now c.deepen.new.self core k ps none is c.requires.parts c.requires.few
+    c.loop-part-test.true c.deepen.ensures.board c.deepen.ensures.values in
+    record {
+      count = ap (λ n. n + 1) c.loop-part.invariant.count;
+      passed = passed_more old core k ps none c.loop-part-test.true c.loop-part.invariant.passed
+          (one_passed old now core k ps none is c.requires.parts c.loop-part-test.true
+          (sym (c.if-not-is_live.ensures {u = tt}))
+          (sym (c.if-not-is_covered.ensures {u = tt})));
+      values = more.values;
+      board = more.board;
+    }
+
+all_count : (c : goal.After-loop-part)
+    → applied c.args.self.now.board (seen c.args.self.now) c.args.core.number c.args.parts.now
+    ≡ c.loop-part.part-index
+all_count c =
+    let old = c.args.self.now in
+    goes_on old.board (seen old) c.args.core.number c.loop-part.part-index c.args.parts.now
+    (omega arith) c.loop-part.invariant.passed
+
+pub returns-after-loop-part-clause-applied : goal.returns-after-loop-part-clause-applied
+returns-after-loop-part-clause-applied c = c.loop-part.invariant.count ∙ sym (all_count c)
+
+pub returns-after-loop-part-clause-stale : goal.returns-after-loop-part-clause-stale
+returns-after-loop-part-clause-stale c =
+    let old = c.args.self.now in
+    sym (none_left old.board (seen old) c.args.core.number c.loop-part.part-index c.args.parts.now
+    (omega arith) (all_count c))
+
+held_count : (c : goal.Then-not-is_covered)
+    → applied c.args.self.now.board (seen c.args.self.now) c.args.core.number c.args.parts.now
+    ≡ c.loop-part.part-index
+held_count c =
+    let old = c.args.self.now in
+    let now = c.loop-part.self in
+    let ps = c.args.parts.now in
+    let core : ℕ = c.args.core.number in
+    let k : ℕ = c.loop-part.part-index in
+    let is : IsWalked old now core k ps = record {
+      board = c.loop-part.invariant.board;
+      values = c.loop-part.invariant.values;
+    } in
+    stops old.board (seen old) core k ps none c.loop-part-test.true c.loop-part.invariant.passed
+    (one_stopped old now core k ps none is c.requires.parts c.loop-part-test.true
+    (sym (c.if-not-is_live.ensures {u = tt})) (sym (c.if-not-is_covered.ensures {u = tt})))
+
+pub returns-then-not-is_covered-clause-applied : goal.returns-then-not-is_covered-clause-applied
+returns-then-not-is_covered-clause-applied c = c.loop-part.invariant.count ∙ sym (held_count c)
+
+pub returns-then-not-is_covered-clause-stale : goal.returns-then-not-is_covered-clause-stale
+returns-then-not-is_covered-clause-stale c =
+    let old = c.args.self.now in
+    let now = c.loop-part.self in
+    let ps = c.args.parts.now in
+    let core : ℕ = c.args.core.number in
+    let k : ℕ = c.loop-part.part-index in
+    let is : IsWalked old now core k ps = record {
+      board = c.loop-part.invariant.board;
+      values = c.loop-part.invariant.values;
+    } in
+    sym (left_stale old.board (seen old) core k ps none _ c.loop-part-test.true (held_count c)
+    (live_then old now core k ps (get_or ps k none) true is
+    (sym (c.if-not-is_live.ensures {u = tt}))))

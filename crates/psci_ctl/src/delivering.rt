@@ -1,0 +1,200 @@
+//! What the power controller does with a message of the present life.
+
+ghost use Rattle.std.specs.Prelude.{◌≡◌, ◌≤◌, ◌+◌, ◌<◌, ℕ, true, Some, take, length};
+ghost use Rattle.std.specs.Prelude.{if◌then◌else◌, nat_lt};
+ghost use Rattle.psci_board.specs.Board.{cores, height};
+ghost use Rattle.psci_coord.specs.View.{domain_of};
+ghost use Rattle.psci_link.specs.Message.{PartByPart, IsClaim, most_applied};
+ghost use Rattle.psci_ctl_model.specs.Changes.{change, with_start};
+ghost use Rattle.psci_ctl_model.specs.Effects.{Begins, Ends, message_effect};
+ghost use Rattle.psci_ctl_model.specs.Legal.{IsOfBoard};
+ghost use Rattle.psci_ctl_model.specs.Parts.{applied, is_covered, is_live, is_stale, laid};
+ghost use Rattle.psci_ctl_model.specs.Replies.{ack_by, ack_of, may_follow, may_start};
+ghost use Rattle.psci_ctl_model.specs.declared.start.Cause.TheVariants.{On};
+ghost use Rattle.psci_ctl.specs.Rows.{with_depth};
+ghost use Rattle.psci_ctl.specs.Seen.{seen, start_done};
+
+use crate::controller::Controller;
+use crate::covering::is_covered;
+use crate::domains::{domain, set_domain};
+use crate::done::Done;
+use crate::level::DomainRow;
+use crate::row::forget_starts;
+use crate::starting::begin_life;
+use psci_board::{Core, Node, law_paths};
+use psci_coord::Part;
+use psci_ctl_model::{Cause, law_limits};
+use psci_link::{Kind, Message, law_parts};
+
+impl Controller {
+    /// Whether a core may be started once more.
+    pub(crate) fn may_start(&self, core: Core) -> bool
+        requires { core.number < cores self.now.board }
+        ensures { result ≡ may_start self.now.board (seen self.now) core.number }
+    {
+        self.cores[core.number as usize].starts < self.board.start_limit()
+    }
+
+    /// Starts a core, unless it was started since the message was sent, or can't be once more.
+    pub(crate) fn start_on(&mut self, life: u32, core: Core, number: u32) -> Done
+        requires core { core.number < cores self.old.board }
+        requires life { self.old.life ≡ Some life }
+        ensures done { result
+            ≡ start_done (may_follow self.old.board (seen self.old) core.number number) }
+        ensures values { seen self.new
+            ≡ (if may_follow self.old.board (seen self.old) core.number number
+            then with_start self.old.board core.number On (seen self.old)
+            else seen self.old) }
+        ensures board { self.new.board ≡ self.old.board }
+    {
+        if self.starts(core) != number || !self.may_start(core) {
+            return Done::LATE;
+        }
+        let _start = self.start(life, core, Cause::On);
+        Done::WHOLE
+    }
+
+    /// The life ends, and none follows.
+    pub(crate) fn end_life(&mut self) -> Done
+        ensures done { result ≡ start_done true }
+        ensures values { seen self.new ≡ change self.old.board Ends (seen self.old) }
+        ensures board { self.new.board ≡ self.old.board }
+    {
+        self.life = None;
+        forget_starts(&mut self.cores);
+        Done::WHOLE
+    }
+
+    /// The next life begins; after the last one none does.
+    pub(crate) fn reset_system(&mut self, life: u32) -> Done
+        requires { self.old.life ≡ Some life }
+        ensures done { result ≡ start_done true }
+        ensures values { seen self.new ≡ change self.old.board
+            (if nat_lt life self.old.board.lives then Begins else Ends) (seen self.old) }
+        ensures board { self.new.board ≡ self.old.board }
+    {
+        law_limits();
+        if life >= self.board.life_limit() {
+            return self.end_life();
+        }
+        self.life = Some(life + 1);
+        begin_life(&self.board, &mut self.cores, &mut self.domains);
+        Done::WHOLE
+    }
+
+    /// The domain of a core at this level.
+    fn domain_on_path(&self, core: Core, level: u32) -> Node
+        requires core { core.number < cores self.now.board }
+        requires level { level ≤ height self.now.board }
+        ensures { result ≡ domain_of self.now.board core.number level }
+    {
+        law_paths();
+        let height = self.board.height();
+        prove!(level <= height);
+        let path = self.board.path(core);
+        path[level as usize]
+    }
+
+    /// Whether no core below the domain of a part was started since the part was made.
+    fn is_live(&self, core: Core, part: &Part) -> bool
+        requires core { core.number < cores self.now.board }
+        requires level { part.now.level ≤ height self.now.board }
+        requires life { (l : ℕ) × (self.now.life ≡ Some l) }
+        ensures { result ≡ is_live self.now.board (seen self.now) core.number part.now }
+    {
+        let node = self.domain_on_path(core, part.level);
+        domain(&self.domains, node).starts == part.generation
+    }
+
+    /// Whether every child of the domain of a part is at least as deep as the part asks.
+    fn is_covered(&self, core: Core, part: &Part) -> bool
+        requires core { core.number < cores self.now.board }
+        requires level { part.now.level ≤ height self.now.board }
+        ensures { result ≡ is_covered self.now.board (seen self.now).depth
+            (domain_of self.now.board core.number part.now.level) part.now.depth }
+    {
+        let node = self.domain_on_path(core, part.level);
+        is_covered(&self.domains, &self.board, node, part.depth)
+    }
+
+    /// A domain goes to this depth.
+    fn deepen(&mut self, core: Core, part: &Part)
+        requires core { core.number < cores self.old.board }
+        requires level { part.now.level ≤ height self.old.board }
+        requires depth { part.now.depth ≤ 3 }
+        ensures values { seen self.new ≡ record (seen self.old) {
+          depth = with_depth self.old.board core.number part.now (seen self.old).depth;
+        } }
+        ensures life { self.new.life ≡ self.old.life }
+        ensures board { self.new.board ≡ self.old.board }
+    {
+        law_paths();
+        law_limits();
+        let node = self.domain_on_path(core, part.level);
+        let row = DomainRow {
+            depth: part.depth,
+            ..domain(&self.domains, node)
+        };
+        set_domain(&mut self.domains, node, row);
+    }
+
+    /// Applies the parts of a Down, the lowest level first, up to the first that can't be applied:
+    /// one that is out of date, or whose domain has a child that is not as deep. It takes one step
+    /// for each child of the domains on the core's path.
+    pub(crate) fn take_down(&mut self, core: Core, parts: &[Part]) -> Done
+        requires core { core.number < cores self.old.board }
+        requires few { length parts.now ≤ height self.old.board + 1 }
+        requires parts { PartByPart parts.now }
+        requires life { (l : ℕ) × (self.old.life ≡ Some l) }
+        ensures applied { result.applied
+            ≡ applied self.old.board (seen self.old) core.number parts.now }
+        ensures stale { result.stale
+            ≡ is_stale self.old.board (seen self.old) core.number parts.now }
+        ensures values { seen self.new ≡ record (seen self.old) {
+          depth = laid self.old.board core.number (take result.applied parts.now)
+              (seen self.old).depth;
+        } }
+        ensures board { self.new.board ≡ self.old.board }
+    {
+        let mut applied: u8 = 0;
+        for part in parts {
+            if !self.is_live(core, part) {
+                return Done {
+                    applied,
+                    stale: true,
+                };
+            }
+            if !self.is_covered(core, part) {
+                break;
+            }
+            self.deepen(core, part);
+            applied += 1;
+        }
+        Done {
+            applied,
+            stale: false,
+        }
+    }
+
+    /// Carries out a message of the present life.
+    pub(crate) fn carry_out(&mut self, message: &Message) -> Done
+        requires board { IsOfBoard self.old.board message.now }
+        requires life { self.old.life ≡ Some message.now.life }
+        ensures ack { ack_of message.now result.applied result.stale
+            ≡ ack_by self.old.board (seen self.old) message.now message.now.kind }
+        ensures values { seen self.new ≡ change self.old.board (message_effect self.old.board
+            message.now (ack_of message.now result.applied result.stale) message.now.kind)
+            (seen self.old) }
+        ensures board { self.new.board ≡ self.old.board }
+        ensures most { result.applied ≤ most_applied message.now.kind }
+    {
+        law_parts();
+        let (life, core) = (message.life, message.core);
+        match message.kind {
+            Kind::Down => self.take_down(core, message.parts.as_slice()),
+            Kind::Start => self.start_on(life, core, message.number),
+            Kind::Off => self.end_life(),
+            Kind::Reset => self.reset_system(life),
+        }
+    }
+}

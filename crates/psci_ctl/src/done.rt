@@ -1,0 +1,45 @@
+//! What was done with a message.
+
+ghost use Rattle.std.specs.Prelude.{◌≡◌, ◌≤◌};
+ghost use Rattle.psci_link.specs.Message.{most_applied};
+ghost use Rattle.psci_ctl_model.specs.Replies.{ack_of};
+
+use psci_link::{Ack, Message};
+
+/// What was done with a message of the present life.
+#[derive(Clone, Copy)]
+pub struct Done {
+    /// How many parts of a Down were applied; else 1 where the message was carried out.
+    pub applied: u8,
+    /// Whether the message is out of date.
+    pub stale: bool,
+}
+
+impl Done {
+    /// The message was carried out.
+    pub const WHOLE: Done = Done {
+        applied: 1,
+        stale: false,
+    };
+
+    /// The message came too late.
+    pub const LATE: Done = Done {
+        applied: 0,
+        stale: true,
+    };
+
+    /// The acknowledgement of the message.
+    pub fn ack(self, message: &Message) -> Ack
+        requires { self.applied ≤ most_applied message.now.kind }
+        ensures { result ≡ ack_of message.now self.applied self.stale }
+    {
+        Ack {
+            kind: message.kind,
+            core: message.core,
+            life: message.life,
+            number: message.number,
+            applied: self.applied,
+            stale: self.stale,
+        }
+    }
+}
