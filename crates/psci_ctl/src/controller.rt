@@ -52,7 +52,7 @@ ghost use Rattle.psci_ctl_model.specs.Values.{start_of_life};
 ghost use Rattle.psci_ctl_model.specs.declared.call.CtlCall.TheVariants as calls;
 ghost use Rattle.psci_ctl_model.specs.declared.delivery.Delivery.TheVariants as deliveries;
 ghost use Rattle.psci_ctl_model.specs.declared.kick.Kick.TheVariants as kicks;
-ghost use Rattle.psci_ctl_model.specs.declared.reply.CtlReply.TheVariants.{Delivered, Kicked};
+ghost use Rattle.psci_ctl_model.specs.declared.reply.CtlReply.TheVariants as replies;
 ghost use Rattle.psci_ctl.specs.Rows.{core_at};
 ghost use Rattle.psci_ctl.specs.Seen.{seen};
 
@@ -122,10 +122,10 @@ impl Controller {
     #[tactic(auto, unfolding(psci_ctl_model::specs::Changes::after, psci_ctl_model::specs::Effects::effect_of, psci_ctl_model::specs::Replies::reply, psci_ctl_model::specs::Replies::delivery_of))]
     pub fn deliver(&mut self, message: &Message) -> Delivery
         requires { IsOfBoard self.old.board message.now }
-        ensures reply { Delivered result
+        ensures reply { replies.Delivery result
             ≡ reply self.old.board (seen self.old) (calls.Deliver message.now) }
         ensures after { seen self.new ≡ after self.old.board (calls.Deliver message.now)
-            (Delivered result) (seen self.old) }
+            (replies.Delivery result) (seen self.old) }
         ensures board { self.new.board ≡ self.old.board }
         ensures ignored { result ≡ deliveries.Ignored → self.new ≡ self.old }
     {
@@ -145,10 +145,10 @@ impl Controller {
     #[tactic(auto, unfolding(psci_ctl_model::specs::Changes::after, psci_ctl_model::specs::Effects::effect_of, psci_ctl_model::specs::Replies::reply, psci_ctl_model::specs::Replies::wake_of))]
     pub fn wake(&mut self, core: Core, halted: u32) -> Kick
         requires { core.number < cores self.old.board }
-        ensures reply { Kicked result
+        ensures reply { replies.Kick result
             ≡ reply self.old.board (seen self.old) (calls.Wake core halted) }
         ensures after { seen self.new ≡ after self.old.board (calls.Wake core halted)
-            (Kicked result) (seen self.old) }
+            (replies.Kick result) (seen self.old) }
         ensures board { self.new.board ≡ self.old.board }
         ensures ignored { result ≡ kicks.Ignored → self.new ≡ self.old }
     {
@@ -166,9 +166,9 @@ impl Controller {
     #[tactic(auto, unfolding(psci_ctl_model::specs::Changes::after, psci_ctl_model::specs::Effects::effect_of, psci_ctl_model::specs::Replies::reply, psci_ctl_model::specs::Replies::reset_of))]
     pub fn reset(&mut self, core: Core) -> Kick
         requires { core.number < cores self.old.board }
-        ensures reply { Kicked result ≡ reply self.old.board (seen self.old) (calls.Reset core) }
+        ensures reply { replies.Kick result ≡ reply self.old.board (seen self.old) (calls.Reset core) }
         ensures after { seen self.new ≡ after self.old.board (calls.Reset core)
-            (Kicked result) (seen self.old) }
+            (replies.Kick result) (seen self.old) }
         ensures board { self.new.board ≡ self.old.board }
         ensures ignored { result ≡ kicks.Ignored → self.new ≡ self.old }
     {

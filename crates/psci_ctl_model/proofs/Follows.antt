@@ -12,7 +12,7 @@ use Rattle.psci_link.specs.declared.kind.Kind.TheVariants as kinds
 use Rattle.psci_ctl_model.specs.declared.call.CtlCall.{CtlCall}
 use Rattle.psci_ctl_model.specs.declared.call.CtlCall.TheVariants as calls
 use Rattle.psci_ctl_model.specs.declared.delivery.Delivery.TheVariants as deliveries
-use Rattle.psci_ctl_model.specs.declared.reply.CtlReply.TheVariants.{Delivered}
+use Rattle.psci_ctl_model.specs.declared.reply.CtlReply.TheVariants as replies
 use Rattle.psci_ctl_model.specs.declared.start.Cause.{Cause}
 use Rattle.psci_ctl_model.specs.declared.start.Cause.TheVariants as causes
 use Rattle.psci_ctl_model.specs.Effects.{Ends, Begins}
@@ -62,7 +62,7 @@ present (Some k) l e = ap Some (eqb-true k l e)
 delivered : (b : BoardValue) (v : Values) (m : MessageValue) (t : Bool)
     → is_present v.life m.life ≡ t → ChildLaws b
     → ((ps : List Part) → IsClaim ps → PartByPart ps) → IsSendable b m
-    → MayFollow b v (effect_of b (calls.Deliver m) (Delivered (cond t
+    → MayFollow b v (effect_of b (calls.Deliver m) (replies.Delivery (cond t
     (deliveries.Applied (ack_by b v m m.kind)) deliveries.Ignored)))
 unfolding effect_of
 delivered b v m true e children laws sendable =

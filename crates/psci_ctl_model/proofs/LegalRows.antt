@@ -8,7 +8,7 @@ use Rattle.psci_link.specs.declared.kind.Kind.TheVariants.{Down}
 use Rattle.psci_ctl_model.specs.declared.call.CtlCall.{CtlCall}
 use Rattle.psci_ctl_model.specs.declared.delivery.Delivery.TheVariants.{Applied, Ignored}
 use Rattle.psci_ctl_model.specs.declared.reply.CtlReply.{CtlReply}
-use Rattle.psci_ctl_model.specs.declared.reply.CtlReply.TheVariants.{Delivered, Kicked}
+use Rattle.psci_ctl_model.specs.declared.reply.CtlReply.TheVariants as replies
 use Rattle.psci_ctl_model.specs.Effects.{effect_of}
 use Rattle.psci_ctl_model.specs.Entry.{Entry}
 use Rattle.psci_ctl_model.specs.History.{depth, values_of}
@@ -42,14 +42,14 @@ legal_row = (refl, core_down, tt)
 
 -- how much an acknowledgement says was applied, and whether it says stale
 abbrev count_of : CtlReply → ℕ
-count_of (Delivered (Applied a)) = a.applied
-count_of (Delivered Ignored) = 0
-count_of (Kicked k) = 0
+count_of (replies.Delivery (Applied a)) = a.applied
+count_of (replies.Delivery Ignored) = 0
+count_of (replies.Kick k) = 0
 
 abbrev is_late : CtlReply → Bool
-is_late (Delivered (Applied a)) = a.stale
-is_late (Delivered Ignored) = false
-is_late (Kicked k) = false
+is_late (replies.Delivery (Applied a)) = a.stale
+is_late (replies.Delivery Ignored) = false
+is_late (replies.Kick k) = false
 
 -- another count of parts, another staleness, and no answer at all
 count_row : IsLegal board (replied (down 0 1 1 (part 0 3 1 ∷ [])) (ack Down 0 1 1 0 false) []) → ⊥

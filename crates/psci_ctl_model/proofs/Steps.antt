@@ -9,7 +9,7 @@ use Rattle.psci_ctl_model.specs.declared.call.CtlCall.TheVariants as calls
 use Rattle.psci_ctl_model.specs.declared.delivery.Delivery.TheVariants as deliveries
 use Rattle.psci_ctl_model.specs.declared.kick.Kick.TheVariants as kicks
 use Rattle.psci_ctl_model.specs.declared.reply.CtlReply.{CtlReply}
-use Rattle.psci_ctl_model.specs.declared.reply.CtlReply.TheVariants.{Delivered, Kicked}
+use Rattle.psci_ctl_model.specs.declared.reply.CtlReply.TheVariants as replies
 use Rattle.psci_ctl_model.specs.declared.start.Cause.{Cause}
 use Rattle.psci_ctl_model.specs.declared.start.Start.{Start}
 use Rattle.psci_ctl_model.specs.Changes.{after}
@@ -70,7 +70,7 @@ reset core = calls.Reset (record { number = core })
 
 -- an acknowledgement of a message of this kind, core, life and number
 abbrev pub ack : Kind → ℕ → ℕ → ℕ → ℕ → Bool → CtlReply
-ack kind core life number applied stale = Delivered (deliveries.Applied (record {
+ack kind core life number applied stale = replies.Delivery (deliveries.Applied (record {
   kind = kind;
   core = record { number = core };
   life = life;
@@ -80,14 +80,14 @@ ack kind core life number applied stale = Delivered (deliveries.Applied (record 
 }))
 
 abbrev pub ignored : CtlReply
-ignored = Delivered deliveries.Ignored
+ignored = replies.Delivery deliveries.Ignored
 
 abbrev pub started : ℕ → ℕ → Cause → CtlReply
 started life number cause =
-    Kicked (kicks.Started (record { life = life; number = number; cause = cause }))
+    replies.Kick (kicks.Started (record { life = life; number = number; cause = cause }))
 
 abbrev pub not_started : CtlReply
-not_started = Kicked kicks.Ignored
+not_started = replies.Kick kicks.Ignored
 
 -- Histories -----------------------------------------------------------------------------------
 

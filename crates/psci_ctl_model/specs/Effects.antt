@@ -11,7 +11,7 @@ use Rattle.psci_ctl_model.specs.declared.delivery.Delivery.TheVariants as delive
 use Rattle.psci_ctl_model.specs.declared.kick.Kick.{Kick}
 use Rattle.psci_ctl_model.specs.declared.kick.Kick.TheVariants as kicks
 use Rattle.psci_ctl_model.specs.declared.reply.CtlReply.{CtlReply}
-use Rattle.psci_ctl_model.specs.declared.reply.CtlReply.TheVariants.{Delivered, Kicked}
+use Rattle.psci_ctl_model.specs.declared.reply.CtlReply.TheVariants as replies
 use Rattle.psci_ctl_model.specs.declared.start.Cause.{Cause}
 use Rattle.psci_ctl_model.specs.declared.start.Cause.TheVariants as causes
 
@@ -44,10 +44,10 @@ kick_effect c cause kicks.Ignored = Nothing
 
 -- what a call with this reply comes down to
 unfoldable pub effect_of : BoardValue → CtlCall → CtlReply → Effect
-effect_of b (calls.Deliver m) (Delivered (deliveries.Applied a)) = message_effect b m a m.kind
-effect_of b (calls.Deliver m) (Delivered deliveries.Ignored) = Nothing
-effect_of b (calls.Deliver m) (Kicked k) = Nothing
-effect_of b (calls.Wake core halted) (Delivered d) = Nothing
-effect_of b (calls.Wake core halted) (Kicked k) = kick_effect core.number causes.Wake k
-effect_of b (calls.Reset core) (Delivered d) = Nothing
-effect_of b (calls.Reset core) (Kicked k) = kick_effect core.number causes.Reset k
+effect_of b (calls.Deliver m) (replies.Delivery (deliveries.Applied a)) = message_effect b m a m.kind
+effect_of b (calls.Deliver m) (replies.Delivery deliveries.Ignored) = Nothing
+effect_of b (calls.Deliver m) (replies.Kick k) = Nothing
+effect_of b (calls.Wake core halted) (replies.Delivery d) = Nothing
+effect_of b (calls.Wake core halted) (replies.Kick k) = kick_effect core.number causes.Wake k
+effect_of b (calls.Reset core) (replies.Delivery d) = Nothing
+effect_of b (calls.Reset core) (replies.Kick k) = kick_effect core.number causes.Reset k

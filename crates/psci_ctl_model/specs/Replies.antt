@@ -12,7 +12,7 @@ use Rattle.psci_ctl_model.specs.declared.delivery.Delivery.TheVariants as delive
 use Rattle.psci_ctl_model.specs.declared.kick.Kick.{Kick}
 use Rattle.psci_ctl_model.specs.declared.kick.Kick.TheVariants as kicks
 use Rattle.psci_ctl_model.specs.declared.reply.CtlReply.{CtlReply}
-use Rattle.psci_ctl_model.specs.declared.reply.CtlReply.TheVariants.{Delivered, Kicked}
+use Rattle.psci_ctl_model.specs.declared.reply.CtlReply.TheVariants as replies
 use Rattle.psci_ctl_model.specs.declared.start.Cause.{Cause}
 use Rattle.psci_ctl_model.specs.declared.start.Cause.TheVariants as causes
 use Rattle.psci_ctl_model.specs.declared.start.Start.{Start}
@@ -87,9 +87,9 @@ reset_of b v c = kick_if (may_start b v c) v.life v c causes.Reset
 
 -- the one reply to a call
 unfoldable pub reply : BoardValue → Values → CtlCall → CtlReply
-reply b v (calls.Deliver m) = Delivered (delivery_of b v m)
-reply b v (calls.Wake core halted) = Kicked (wake_of b v core.number halted)
-reply b v (calls.Reset core) = Kicked (reset_of b v core.number)
+reply b v (calls.Deliver m) = replies.Delivery (delivery_of b v m)
+reply b v (calls.Wake core halted) = replies.Kick (wake_of b v core.number halted)
+reply b v (calls.Reset core) = replies.Kick (reset_of b v core.number)
 
 -- What is shown --------------------------------------------------------------------------------
 

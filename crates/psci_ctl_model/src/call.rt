@@ -10,13 +10,9 @@ use psci_link::Message;
 pub enum CtlCall {
     /// A message of the firmware arrives.
     Deliver(Message),
-    /// A core has a wake-up event.
-    Wake {
-        /// The core.
-        core: Core,
-        /// The number of the start in which it stopped, 0 if it was not started in this life.
-        halted: u32,
-    },
+    /// A core has a wake-up event. The number is that of the start in which it stopped, 0 if it was
+    /// not started in this life.
+    Wake(Core, u32),
     /// A core is reset by itself.
     Reset(Core),
 }
@@ -28,10 +24,7 @@ impl CtlCall {
     {
         match self {
             CtlCall::Deliver(message) => CtlCall::Deliver(message.copy()),
-            CtlCall::Wake { core, halted } => CtlCall::Wake {
-                core: *core,
-                halted: *halted,
-            },
+            CtlCall::Wake(core, halted) => CtlCall::Wake(*core, *halted),
             CtlCall::Reset(core) => CtlCall::Reset(*core),
         }
     }

@@ -9,9 +9,9 @@ use crate::kick::Kick;
 #[derive(Drop)]
 pub enum CtlReply {
     /// What became of a message.
-    Delivered(Delivery),
+    Delivery(Delivery),
     /// What became of a wake-up event or a reset.
-    Kicked(Kick),
+    Kick(Kick),
 }
 
 impl CtlReply {
@@ -20,8 +20,8 @@ impl CtlReply {
         ensures { result ≡ self.now }
     {
         match self {
-            CtlReply::Delivered(delivery) => CtlReply::Delivered(delivery.copy()),
-            CtlReply::Kicked(kick) => CtlReply::Kicked(*kick),
+            CtlReply::Delivery(delivery) => CtlReply::Delivery(delivery.copy()),
+            CtlReply::Kick(kick) => CtlReply::Kick(*kick),
         }
     }
 }
