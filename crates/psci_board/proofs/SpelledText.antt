@@ -7,9 +7,8 @@ use Rattle.std.specs.List.{AllByRecursion}
 use Rattle.std.proofs.lemmas.List.{append-nil, nil_from_length}
 use Rattle.std.proofs.lemmas.List.Elements.{recursion_from_All}
 use Rattle.std.proofs.lemmas.Option.{cond_some, option_and_then_some}
-use Rattle.psci_text.specs.Spelling.{TextLaws, IsHex, IsNumber}
+use Rattle.psci_text.specs.Spelling.{TextLaws, IsHex, IsNumber, hex}
 use Rattle.psci_board.specs.Grammar.{TreeText, BoardText, IsTreeText, IsRange}
-use Rattle.psci_text.specs.Spelling.{hex}
 use Rattle.psci_board.specs.Grammar.{IsBoardText, spaced, tree, range, spelling}
 use Rattle.psci_text.specs.Reading.{literal_at, spaced_at, number_at, hex_at}
 use Rattle.psci_board.specs.Reading.{more_at, range_at}
