@@ -13,7 +13,8 @@ use Rattle.psci_tree.specs.declared.domain.Domain.{Domain}
 use Rattle.psci_tree.specs.declared.domain.Domain.TheOpen.{Domain-F}
 use Rattle.psci_tree.specs.declared.domain.Domain.TheViews.{out-Domain, the_lemmas}
 use Rattle.psci_tree.proofs.Below.{cores_with_child, widths_with_child, cores_set}
-use Rattle.psci_tree.proofs.Below.{children_roll, length_of_domain, cores_le, cores_of_core, cores_roll_core}
+use Rattle.psci_tree.proofs.Below.{children_roll, length_of_domain, cores_le, cores_of_core}
+use Rattle.psci_tree.proofs.Below.{cores_roll_core}
 use Rattle.psci_tree.proofs.Keeping.{kept_children, kept_at, kept_set}
 use Rattle.psci_tree.proofs.Keeping.{kept_roll, kept_roll_core}
 use Rattle.psci_tree.proofs.Ways.{Step, step, place_inside, child_changed}
