@@ -3,7 +3,8 @@
 ghost use Rattle.std.specs.Prelude.{◌≡◌, ℕ, ◌^◌, ◌<◌, ◌≤◌, length};
 ghost use Rattle.psci_tree.specs.declared.domain.Domain.{Domain};
 ghost use Rattle.psci_tree.specs.Changes.{with_change};
-ghost use Rattle.psci_tree.specs.Domains.{cores, cores_in, child_counts, IsWay, place_by};
+ghost use Rattle.psci_tree.specs.Domains.{children, cores, cores_in, child_counts, IsWay};
+ghost use Rattle.psci_tree.specs.Domains.{place_by};
 ghost use Rattle.psci_tree.specs.Kept.{AreKept, IsKept, Keeps};
 
 use crate::kept::Kept;
@@ -40,7 +41,16 @@ impl Domain {
         }
         let number = way[level as usize - 1] as usize;
         self.children[number].change(level - 1, way, change);
-        self.kept = kept_of(&self.children);
+        self.kept = self.anew();
+    }
+
+    /// What is kept of the cores below, computed anew from what the children keep.
+    fn anew(&self) -> Kept
+        requires kept { AreKept (children self.now) }
+        requires few { length (cores_in (children self.now)) < 2 ^ 16 }
+        ensures { Keeps result (cores_in (children self.now)) }
+    {
+        kept_of(&self.children)
     }
 }
 

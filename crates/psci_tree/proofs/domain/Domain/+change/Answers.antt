@@ -10,9 +10,11 @@ use Rattle.psci_tree.specs.declared.state.CoreState.{CoreState}
 use Rattle.psci_tree.specs.declared.state.Change.{Change}
 use Rattle.psci_tree.specs.Kept.{Keeps, AreKept, IsKept}
 use Rattle.psci_tree.specs.declared.domain.Domain.{Domain}
+use Rattle.psci_tree.specs.declared.domain.Domain.TheOpen.{Domain-F}
 use Rattle.psci_tree.specs.declared.domain.Domain.TheViews.{out-Domain, the_lemmas}
 use Rattle.psci_tree.proofs.Below.{cores_with_child, widths_with_child, cores_set}
-use Rattle.psci_tree.proofs.Below.{length_of_domain, cores_le, cores_of_core, cores_roll_core}
+use Rattle.psci_tree.proofs.Below.{children_roll, length_of_domain, cores_le, cores_of_core}
+use Rattle.psci_tree.proofs.Below.{cores_roll_core}
 use Rattle.psci_tree.proofs.Keeping.{kept_children, kept_at, kept_set}
 use Rattle.psci_tree.proofs.Keeping.{kept_roll, kept_roll_core}
 use Rattle.psci_tree.proofs.Ways.{Step, step, place_inside, child_changed}
@@ -98,7 +100,7 @@ returns-clause-cores t c =
     let is : n ≡ get_or items i own =
     c.index_mut.ensures.value ∙ get_or_default items i n own down.inside in
     let here = cores_with_child own i (place_by (l - 1) c.args.way.now (get_or items i own))
-    (place_by l c.args.way.now own) c.change.new.self s c.kept_of-self.result
+    (place_by l c.args.way.now own) c.change.new.self s c.anew-self.result
     down.inside (sym down.place)
     (place_inside (l - 1) c.args.way.now (get_or items i own) down.rest)
     (child_changed own c.change.new.self l (l - 1) c.args.way.now c.args.change.now down
@@ -116,22 +118,25 @@ returns-clause-shape t c = λ k.
     let items : List Domain = children own in
     let is : c.index_mut.result.now ≡ get_or items i own =
     c.index_mut.ensures.value ∙ get_or_default items i c.index_mut.result.now own down.inside in
-    let here = widths_with_child own i c.change.new.self c.kept_of-self.result
+    let here = widths_with_child own i c.change.new.self c.anew-self.result
     (λ j. c.change.ensures.shape j ∙ ap (child_counts j) is) k in
     simp the_lemmas (simp the_lemmas at here)
 
-pub kept_of-self-requires-clause-kept : goal.kept_of-self-requires-clause-kept
-kept_of-self-requires-clause-kept t c =
+pub anew-self-requires-clause-kept : goal.anew-self-requires-clause-kept
+anew-self-requires-clause-kept t c =
     let own : Domain = c.args.self.now in
     let items : List Domain = children own in
     let i : ℕ = get_or c.args.way.now (c.args.level - 1) 0 in
-    let now : c.deref.result.now ≡ set items i c.change.new.self =
-    c.deref.ensures.value ∙ simp the_lemmas in
-    subst AreKept (sym now) (kept_set items i c.change.new.self (kept_children own c.requires.kept)
-    c.change.ensures.kept)
+    let half : Domain-F Domain = record {
+      children = with_item (out-Domain own).children i c.change.new.self;
+      core = (out-Domain own).core;
+      kept = (out-Domain own).kept;
+    } in
+    subst AreKept (sym (children_roll half))
+    (kept_set items i c.change.new.self (kept_children own c.requires.kept) c.change.ensures.kept)
 
-pub kept_of-self-requires-clause-few : goal.kept_of-self-requires-clause-few
-kept_of-self-requires-clause-few t c =
+pub anew-self-requires-clause-few : goal.anew-self-requires-clause-few
+anew-self-requires-clause-few t c =
     let s : CoreState = changed c.args.change.now
     (get_or (cores c.args.self.now) (place_by c.args.level c.args.way.now c.args.self.now)
     never_started) in
@@ -142,8 +147,6 @@ kept_of-self-requires-clause-few t c =
     step _ l (l - 1) _ (omega arith) c.requires.way in
     let n : Domain = c.index_mut.result.now in
     let items : List Domain = children own in
-    let now : c.deref.result.now ≡ set items i c.change.new.self =
-    c.deref.ensures.value ∙ simp the_lemmas in
     let is : n ≡ get_or items i own =
     c.index_mut.ensures.value ∙ get_or_default items i n own down.inside in
     let below : cores_in (set items i c.change.new.self)
@@ -154,10 +157,18 @@ kept_of-self-requires-clause-few t c =
     c.change.new.self l (l - 1) c.args.way.now c.args.change.now down (c.change.ensures.cores
     ∙ ap (λ (x : Domain). with_change (cores x) (place_by (l - 1) c.args.way.now x)
     c.args.change.now) is)) in
-    let lengths : length (cores_in c.deref.result.now) ≡ length (cores_in items) =
-    ap length (ap cores_in now ∙ below)
-    ∙ length-set (cores_in items) (place_by l c.args.way.now own) s in
-    omega (arith, length_of_domain own (omega (arith, down.inside)))
+    let half : Domain-F Domain = record {
+      children = with_item (out-Domain own).children i c.change.new.self;
+      core = (out-Domain own).core;
+      kept = (out-Domain own).kept;
+    } in
+    omega (
+      arith,
+      ap (λ ns. length (cores_in ns)) (children_roll half),
+      ap length below,
+      length-set (cores_in items) (place_by l c.args.way.now own) s,
+      length_of_domain own (omega (arith, down.inside)),
+    )
 
 pub returns-clause-kept : goal.returns-clause-kept
 returns-clause-kept t c =
@@ -167,15 +178,20 @@ returns-clause-kept t c =
     let down : Step own l (l - 1) c.args.way.now =
     step _ l (l - 1) _ (omega arith) c.requires.way in
     let items : List Domain = children own in
-    let now : c.deref.result.now ≡ set items i c.change.new.self =
-    c.deref.ensures.value ∙ simp the_lemmas in
+    let half : Domain-F Domain = record {
+      children = with_item (out-Domain own).children i c.change.new.self;
+      core = (out-Domain own).core;
+      kept = (out-Domain own).kept;
+    } in
+    let keeps : Keeps c.anew-self.result (cores_in (set items i c.change.new.self)) =
+    subst (λ ns. Keeps c.anew-self.result (cores_in ns)) (children_roll half)
+    c.anew-self.ensures in
     let more : 0 < length (set items i c.change.new.self) =
     omega (arith, length-set items i c.change.new.self, down.inside) in
     let here = kept_roll (record {
       children = with_item (out-Domain own).children i c.change.new.self;
       core = (out-Domain own).core;
-      kept = c.kept_of-self.result;
-    }) more (subst (λ ns. Keeps c.kept_of-self.result (cores_in ns)) now c.kept_of-self.ensures)
-    (kept_set items i c.change.new.self (kept_children own c.requires.kept)
+      kept = c.anew-self.result;
+    }) more keeps (kept_set items i c.change.new.self (kept_children own c.requires.kept)
     c.change.ensures.kept) in
     simp the_lemmas (simp the_lemmas at here)
