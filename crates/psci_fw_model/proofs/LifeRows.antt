@@ -84,3 +84,23 @@ boot_path_in_a_new_life : AreAnswered board
     ∷ off 0 ⇒ stops 0 2 1 (part 0 3 1 ∷ part 1 3 1 ∷ part 2 3 2 ∷ []) ∷ [])
 unfolding computing
 boot_path_in_a_new_life = record { history = refl; values = refl }
+
+-- a core that was suspended in the last life begins the next one: it does not resume, and parks
+suspended_core_begins : AreAnswered board
+    (boot ⇒ boots
+    ∷ on_3 ⇒ starts 3 1 0
+    ∷ enter_on 3 1 1 ⇒ goes_on_3
+    ∷ suspend 3 0x1 0 0 ⇒ stops 3 1 1 (part 0 1 1 ∷ [])
+    ∷ enter_wake 3 2 2 ⇒ stops 3 2 2 (part 0 3 2 ∷ part 1 3 2 ∷ []) ∷ [])
+unfolding computing
+suspended_core_begins = record { history = refl; values = refl }
+
+-- a core that was asked on in the last life begins the next one: its opening is over
+pending_core_begins : AreAnswered board
+    (boot ⇒ boots
+    ∷ on_3 ⇒ starts 3 1 0
+    ∷ enter_wake 3 2 1 ⇒ stops 3 2 1 (part 0 3 1 ∷ part 1 3 1 ∷ [])
+    ∷ enter_boot 0 2 1 ⇒ boots
+    ∷ affinity 0x101 0 ⇒ value 1 ∷ [])
+unfolding computing
+pending_core_begins = record { history = refl; values = refl }
