@@ -1,7 +1,17 @@
+pub mod Allowed
+pub mod Arriving
 pub mod Claiming
+pub mod Entries
+pub mod Functions
 pub mod Granting
+pub mod Histories
+pub mod Kept
+pub mod Lower
+pub mod Made
 pub mod Older
 pub mod Parts
+pub mod Resting
 pub mod Sending
 pub mod Slots
+pub mod Started
 pub mod Sums

@@ -66,7 +66,7 @@ outstanding_phase life known phase sent outstanding c new fits are = record {
 }
 
 -- what a core's slot may hold in place of what it holds
-abbrev AreAt : ℕ → (ℕ → ℕ) → (ℕ → Phase) → List MessageValue → Slot → Option MessageValue → Type 0
+abbrev pub AreAt : ℕ → (ℕ → ℕ) → (ℕ → Phase) → List MessageValue → Slot → Option MessageValue → Type 0
 AreAt life known phase sent (OfCore c) o =
     (m : MessageValue) → o ≡ Some m → IsOfCore life known phase sent c m
 AreAt life known phase sent OfSystem o =
@@ -112,6 +112,41 @@ outstanding_put life known phase sent outstanding m is are =
     (AreAt life known phase sent slot)
     (λ here. subst (λ s. AreAt life known phase sent s (Some m)) (slot_is _ _ here) is)
     (λ there. are_at life known phase sent outstanding are slot))
+
+-- a Start was sent for a core, which is pending now
+pub outstanding_asked : (life : ℕ) (known : ℕ → ℕ) (phase : ℕ → Phase) (sent : List MessageValue)
+    (outstanding : Slot → Option MessageValue) (c : ℕ) (m : MessageValue)
+    → slot_of m.kind m.core ≡ OfCore c → IsOfCore life known (updated phase c Pending) sent c m
+    → AreOutstanding life known phase sent outstanding
+    → AreOutstanding life known (updated phase c Pending) sent
+    (λ slot. changed slot (Put m) (outstanding slot))
+outstanding_asked life known phase sent outstanding c m slot_is_c is are =
+    are_all life known new sent (λ slot. changed slot (Put m) (outstanding slot))
+    (λ slot. cond_both (is_slot (slot_of m.kind m.core) slot) (Some m) (outstanding slot)
+    (AreAt life known new sent slot)
+    (λ here. subst (λ s. AreAt life known new sent s (Some m)) (slot_is _ _ here)
+    (subst (λ s. AreAt life known new sent s (Some m)) (sym slot_is_c) at_c))
+    (λ there. beside slot (ap (λ s. is_slot s slot) (sym slot_is_c) ∙ there)))
+  where
+    new : ℕ → Phase
+    new = updated phase c Pending
+    at_c : AreAt life known new sent (OfCore c) (Some m)
+    at_c = λ n e. let same : m ≡ n = cc in subst (IsOfCore life known new sent c) same is
+    beside : (slot : Slot) → is_slot (OfCore c) slot ≡ false
+        → AreAt life known new sent slot (outstanding slot)
+    beside (OfCore x) there = λ n e.
+        let old = are.core x n e in
+        let other : x ≡ c → ⊥ = λ s. eqb-false c x there (sym s) in
+        let same : new x ≡ phase x = updated_there phase c Pending x other in
+        record {
+          listed = old.listed;
+          core = old.core;
+          number = old.number;
+          kind = old.kind;
+          start = λ s. same ∙ old.start s;
+          down = λ d i. old.down d (sym same ∙ i);
+        }
+    beside OfSystem there = λ n e. (are.system n e, are.halts n e)
 
 -- nothing is outstanding
 pub outstanding_none : (life : ℕ) (known : ℕ → ℕ) (phase : ℕ → Phase) (sent : List MessageValue)

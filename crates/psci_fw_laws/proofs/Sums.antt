@@ -142,6 +142,18 @@ known_gap b f g core level paths h =
     kept_gap f g _ _ 0 (cores b)
     (λ c t. rw next (eq-eqb _ _ (paths.joined c core level (eqb-true _ _ t)))) h
 
+-- nor does the sum itself
+pub known_rises : (b : BoardValue) (f : ℕ → ℕ) (core level : ℕ) → PathLaws b
+    → known_below b f level (up b level core)
+    ≤ known_below b f (level + 1) (up b (level + 1) core)
+known_rises b f core level paths =
+    omega (
+      arith,
+      known_gap b (λ c. 0) f core level paths (λ c. omega arith),
+      known_none b level (up b level core),
+      known_none b (level + 1) (up b (level + 1) core),
+    )
+
 -- a core is the only one below itself
 pub known_own : (b : BoardValue) (f : ℕ → ℕ) (c : ℕ) → SpanLaws b.levels → c < cores b
     → known_below b f 0 c ≡ f c
