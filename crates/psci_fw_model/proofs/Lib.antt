@@ -4,3 +4,17 @@ mod OffRows
 mod Steps
 mod SuspendRows
 mod SystemRows
+mod Arrivals
+mod Callers
+mod DomainsSay
+mod LeftBy
+mod OneMore
+mod OpeningsSay
+mod PendingCores
+mod PhasesSay
+mod Rows
+mod SameReplies
+mod Says
+mod SlotsSay
+mod StatusesSay
+mod Targets

@@ -4,7 +4,8 @@ ghost use Rattle.std.specs.Prelude.{◌≡◌, ◌<◌, ◌↔◌, ℕ, true, fa
 ghost use Rattle.psci_abi.specs.Calls.{request_of};
 ghost use Rattle.psci_abi.specs.declared.registers.Regs.{Regs};
 ghost use Rattle.psci_abi.specs.declared.request.Request.{Request};
-ghost use Rattle.psci_board.specs.Board.{BoardValue, IsBoard, cores};
+ghost use Rattle.psci_abi.specs.declared.request.Request.TheVariants.{CpuOn};
+ghost use Rattle.psci_board.specs.Board.{BoardValue, IsBoard, cores, core_of};
 ghost use Rattle.psci_coord.specs.declared.part.Part.{Part};
 ghost use Rattle.psci_link.specs.Message.{AckValue, IsClaim};
 ghost use Rattle.psci_state.specs.Ask.{IsAsk};
@@ -34,6 +35,8 @@ ghost use Rattle.psci_fw_model.specs.Outcomes.{goes_on};
 ghost use Rattle.psci_fw_model.specs.Phases.{Pending, Running, Away};
 ghost use Rattle.psci_fw_model.specs.Values.{Values};
 
+use psci_link::law_slots;
+
 /// The values that a history says are those of a life's start before any core has entered, and
 /// after one more entry those that the entry leaves. So kept values say what the history says,
 /// whichever entries it has.
@@ -41,7 +44,9 @@ pub fn law_values()
     ensures first { (b : BoardValue) → values_of b [] ≡ start_of_life b 0 }
     ensures more { (b : BoardValue) (e : Entry) (h : List Entry)
         → values_of b (e ∷ h) ≡ after b e.core e.call e.reply (values_of b h) }
-{}
+{
+    law_slots();
+}
 
 /// A core is pending exactly where its status is ON_PENDING, after every history.
 pub fn law_pending()
@@ -110,8 +115,8 @@ pub fn law_caller()
         → (after b c (Smc regs) reply v).life ≡ v.life }
 {}
 
-/// The target of an accepted CPU_ON was OFF, and so it was not running; it goes on at the entry
-/// point and with the context id that were asked.
+/// The target of an accepted CPU_ON was OFF, and so it was not running; it is the core that the
+/// affinity word names, and goes on at the entry point and with the context id that were asked.
 pub fn law_power_on()
     ensures off { (b : BoardValue) (v : Values) (c caller : ℕ) (regs : Regs) (asked : PowerOn)
         → effect_of b c (Smc regs) (answer b v c (Smc regs)) ≡ AsksOn caller asked
@@ -119,6 +124,10 @@ pub fn law_power_on()
     ensures away { (b : BoardValue) (v : Values) (c caller : ℕ) (regs : Regs) (asked : PowerOn)
         → AreValues b v → effect_of b c (Smc regs) (answer b v c (Smc regs)) ≡ AsksOn caller asked
         → v.phase (target asked) ≡ Away }
+    ensures request { (b : BoardValue) (v : Values) (c caller : ℕ) (regs : Regs) (asked : PowerOn)
+        → effect_of b c (Smc regs) (answer b v c (Smc regs)) ≡ AsksOn caller asked
+        → (word : ℕ) × (core_of b word ≡ Some asked.message.core) × (request_of regs
+        ≡ CpuOn word asked.opening.address asked.opening.context) }
 {}
 
 /// The boot core's first start is not refused: it enters at the boot address, with context id 0.
