@@ -36,6 +36,10 @@ ghost use Rattle.psci_fw_model.specs.Phases.{Pending, Running, Away};
 ghost use Rattle.psci_fw_model.specs.Values.{Values};
 
 use psci_link::law_slots;
+use psci_board::{law_paths, law_words};
+use psci_coord::{law_below, law_claims, law_last_core, law_off, law_own, law_platform};
+use psci_link::law_parts;
+use psci_state::law_power_states;
 
 /// The values that a history says are those of a life's start before any core has entered, and
 /// after one more entry those that the entry leaves. So kept values say what the history says,
@@ -80,7 +84,19 @@ pub fn law_invariant()
         → AreValues b v → AreValues b (after b c call (answer b v c call) v) }
     ensures legal { (b : BoardValue) (h : List Entry) → IsBoard b → IsLegal b h
         → AreValues b (values_of b h) }
-{}
+{
+    law_paths();
+    law_words();
+    law_below();
+    law_claims();
+    law_platform();
+    law_own();
+    law_off();
+    law_last_core();
+    law_parts();
+    law_power_states();
+    law_values();
+}
 
 /// The parts of a core that stops are a claim: one part or more, with the levels from 0 up, each
 /// with a depth of 1 to 3 that never grows upwards.
@@ -96,7 +112,17 @@ pub fn law_stops()
     ensures suspended { (b : BoardValue) (v : Values) (c : ℕ) (ask : List ℕ) (parts : List Part)
         → IsBoard b → c < cores b → AreValues b v → v.phase c ≡ Running → IsAsk ask
         → suspend_parts b v c ask ≡ Ok parts → IsClaim parts }
-{}
+{
+    law_paths();
+    law_words();
+    law_below();
+    law_claims();
+    law_platform();
+    law_own();
+    law_off();
+    law_last_core();
+    law_parts();
+}
 
 /// A core that runs is answered as the function that it calls says. That it goes on changes
 /// nothing; where it asks another core on, that alone is changed; and it runs on where it goes on.
