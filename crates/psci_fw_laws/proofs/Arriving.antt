@@ -1,0 +1,158 @@
+-- A core enters: what it finds, what its arrival leaves, and what it does then.
+use Rattle.std.proofs.Common.{◌≡◌, ℕ, ◌<◌, ◌≤◌, Bool, false, ◌==◌, List}
+use Rattle.std.proofs.Common.{None, Some, refl, arith, ap, sym, ◌∙◌}
+use Rattle.std.specs.Prelude.{slice_get}
+use Rattle.std.proofs.lemmas.Bool.{cond_both, cond-true, eq-eqb, eqb-true, eqb-false}
+use Rattle.psci_board.specs.Board.{BoardValue}
+use Rattle.psci_board.specs.Laws.{PathLaws}
+use Rattle.psci_link.specs.Message.{MessageValue}
+use Rattle.psci_link.specs.Slots.{OfCore}
+use Rattle.psci_ctl_model.specs.declared.start.Start.{Start}
+use Rattle.psci_fw_model.specs.declared.status.Status.TheVariants as statuses
+use Rattle.psci_fw_model.specs.AffinityInfo.{is_on}
+use Rattle.psci_fw_model.specs.Changes.{with_arrival, with_phase, with_running}
+use Rattle.psci_fw_model.specs.Lives.{first_phase, first_status, in_life, start_of_life}
+use Rattle.psci_fw_model.specs.Phases.{Phase, Running, unless_pending}
+use Rattle.psci_fw_model.specs.Values.{Values, updated}
+use Rattle.psci_fw_laws.specs.Allowed.{IsEntering}
+use Rattle.psci_fw_laws.specs.Claims.{AreApart}
+use Rattle.psci_fw_laws.specs.Messages.{AreSent}
+use Rattle.psci_fw_laws.proofs.Claiming.{quiet_arrival, quiet_life, quiet_phase}
+use Rattle.psci_fw_laws.proofs.Granting.{granted_arrival, granted_life, granted_phase}
+use Rattle.psci_fw_laws.specs.Kept.{Holds}
+use Rattle.psci_fw_laws.proofs.Older.{NoneCurrent, none_arrived}
+use Rattle.psci_fw_laws.proofs.Parts.{part_has, updated_at, updated_here}
+use Rattle.psci_fw_laws.proofs.Sending.{sent_arrival, sent_life, sent_phase}
+use Rattle.psci_fw_laws.proofs.Slots.{outstanding_arrival, outstanding_none, outstanding_phase}
+
+-- The start of a life -------------------------------------------------------------------------
+
+pub first_not_on : (c : ℕ) → is_on (first_status c) ≡ false
+first_not_on c =
+    updated_at (λ s. is_on s ≡ false) (λ x. statuses.Off) 0 statuses.Pending c (λ e. refl)
+    (λ e. refl)
+
+pub first_holds : (b : BoardValue) (life : ℕ) (halting : Bool) (known : ℕ → ℕ) (phase : ℕ → Phase)
+    (sent : List MessageValue) (later : ℕ) → later ≤ b.lives → life < later → AreApart b sent
+    → AreSent b life halting known phase sent → Holds b (start_of_life b later) sent
+first_holds b life halting known phase sent later most h apart are = record {
+  lives = most;
+  messages = sent_life b life halting known phase sent later false (λ c. 0) first_phase h are;
+  apart = apart;
+  quiet = quiet_life b later (λ c. 0) sent;
+  grants = granted_life b later first_phase sent
+      (λ level place p f.
+      let has = part_has b later level place f.message p f.part in
+      omega (arith, (are f.index f.message f.at).begun, has.present));
+  entered = λ c e. first_not_on c;
+  slots = outstanding_none later (λ c. 0) first_phase sent;
+}
+
+-- what a core finds
+pub found_holds : (b : BoardValue) (v : Values) (sent : List MessageValue) (c : ℕ) (s : Start)
+    → IsEntering b v c s → Holds b v sent → Holds b (in_life b s.life v) sent
+found_holds b v sent c s enters holds =
+    cond_both (s.life == v.life) v (start_of_life b s.life) (λ w. Holds b w sent)
+    (λ e. holds)
+    (λ e.
+    let other = eqb-false s.life v.life e in
+    first_holds b v.life v.halting v.known v.phase sent s.life enters.lives
+    (omega (arith, enters.life, other)) holds.apart holds.messages)
+
+pub found_later : (b : BoardValue) (v : Values) (c : ℕ) (s : Start) → IsEntering b v c s
+    → (in_life b s.life v).known c < s.number
+found_later b v c s enters =
+    cond_both (s.life == v.life) v (start_of_life b s.life) (λ w. w.known c < s.number)
+    (λ e. enters.later (eqb-true s.life v.life e)) (λ e. enters.some)
+
+pub found_life : (b : BoardValue) (v : Values) (life : ℕ) → (in_life b life v).life ≡ life
+found_life b v life =
+    cond_both (life == v.life) v (start_of_life b life) (λ w. w.life ≡ life)
+    (λ e. sym (eqb-true life v.life e)) (λ e. refl)
+
+-- The arrival ---------------------------------------------------------------------------------
+
+pub arrives : (b : BoardValue) (v : Values) (sent : List MessageValue) (c : ℕ) (s : Start)
+    → PathLaws b → IsEntering b v c s → Holds b v sent → Holds b (with_arrival b c s v) sent
+arrives b v sent c s paths enters holds =
+    let w : Values = in_life b s.life v in
+    let found : Holds b w sent = found_holds b v sent c s enters holds in
+    let later = found_later b v c s enters in
+    record {
+      lives = found.lives;
+      messages = sent_arrival b w.life w.halting w.known w.phase sent c s.number paths later
+          found.messages;
+      apart = found.apart;
+      quiet = quiet_arrival b w.life w.halting w.known w.phase sent c s.number found.messages
+          enters.core later found.quiet;
+      grants = granted_arrival b w.life w.halting w.known w.phase w.granted sent c s.number
+          found.messages enters.core later found.grants;
+      entered = λ x. updated_at (λ k. k ≡ 0 → is_on (w.status x) ≡ false) w.known c s.number x
+          (λ here e. absurd (omega (arith, enters.some, e))) (λ there. found.entered x);
+      slots = outstanding_arrival w.life w.known w.phase sent w.outstanding c s.number found.slots;
+    }
+
+-- What is so of a core that has just entered.
+pub record IsNew (b : BoardValue) (v : Values) (sent : List MessageValue) (c : ℕ) : Type 0 where
+  pub known : 0 < v.known c
+  pub none : NoneCurrent b v.life v.known sent c
+  pub numbers : (k : ℕ) (m : MessageValue) → slice_get sent k ≡ Some m → m.life ≡ v.life
+      → m.core.number ≡ c → m.number < v.known c
+  pub slot : v.outstanding (OfCore c) ≡ None
+
+pub arrived_new : (b : BoardValue) (v : Values) (sent : List MessageValue) (c : ℕ) (s : Start)
+    → IsEntering b v c s → Holds b v sent → IsNew b (with_arrival b c s v) sent c
+arrived_new b v sent c s enters holds =
+    let w : Values = in_life b s.life v in
+    let found : Holds b w sent = found_holds b v sent c s enters holds in
+    let later = found_later b v c s enters in
+    let now : updated w.known c s.number c ≡ s.number = updated_here w.known c s.number in
+    record {
+      known = omega (arith, now, enters.some);
+      none = none_arrived b w.life w.halting w.known w.phase sent c s.number found.messages
+          enters.core later;
+      numbers = λ k m at life core.
+          let number = ((found.messages k m at).present life).number in
+          omega (arith, number, ap w.known core, now, later);
+      slot = cond-true (c == c) None (w.outstanding (OfCore c)) (eq-eqb c c refl);
+    }
+
+-- And then ------------------------------------------------------------------------------------
+
+-- a core that has just entered is of another phase
+new_phase : (b : BoardValue) (v : Values) (sent : List MessageValue) (c : ℕ) (left : Phase)
+    → IsNew b v sent c → Holds b v sent
+    → Holds b (record v { phase = updated v.phase c left }) sent
+new_phase b v sent c left new holds = record {
+  lives = holds.lives;
+  messages = sent_phase b v.life v.halting v.known v.phase sent c left
+      (λ k m at life core number. absurd (omega (arith, new.numbers k m at life core, number)))
+      holds.messages;
+  apart = holds.apart;
+  quiet = quiet_phase b v.life v.known v.phase sent c left (λ e. new.none) holds.quiet;
+  grants = granted_phase b v.life v.known v.phase v.granted sent c left (λ e n. new.none)
+      holds.grants;
+  entered = holds.entered;
+  slots = outstanding_phase v.life v.known v.phase sent v.outstanding c left
+      (λ m e. let no : None ≡ Some m = sym new.slot ∙ e in absurd (cc)) holds.slots;
+}
+
+pub runs : (b : BoardValue) (v : Values) (sent : List MessageValue) (c : ℕ) → IsNew b v sent c
+    → Holds b v sent → Holds b (with_running c v) sent
+runs b v sent c new holds =
+    let phased = new_phase b v sent c Running new holds in
+    record {
+      lives = phased.lives;
+      messages = phased.messages;
+      apart = phased.apart;
+      quiet = phased.quiet;
+      grants = phased.grants;
+      entered = λ x e. updated_at (λ s. is_on s ≡ false) v.status c statuses.On x
+          (λ here. absurd (omega (arith, new.known, ap v.known here, e)))
+          (λ there. holds.entered x e);
+      slots = phased.slots;
+    }
+
+pub stays : (b : BoardValue) (v : Values) (sent : List MessageValue) (c : ℕ) (left : Phase)
+    → IsNew b v sent c → Holds b v sent → Holds b (with_phase c left v) sent
+stays b v sent c left = new_phase b v sent c (unless_pending (v.phase c) left)

@@ -1,0 +1,160 @@
+-- Claims of one domain stay apart, and below a current one no core runs.
+use Rattle.std.proofs.Common.{◌≡◌, ℕ, zero, suc, ◌<◌, inl, inr, Bool, false, List, [], ◌∷◌}
+use Rattle.std.proofs.Common.{Some, refl, arith, subst, ap, sym, ◌∙◌}
+use Rattle.std.specs.Prelude.{slice_get}
+use Rattle.std.proofs.lemmas.Bool.{cases_eq}
+use Rattle.psci_board.specs.Board.{BoardValue, cores, up}
+use Rattle.psci_coord.specs.declared.part.Part.{Part}
+use Rattle.psci_link.specs.declared.kind.Kind.TheVariants.{Down}
+use Rattle.psci_link.specs.Message.{MessageValue}
+use Rattle.psci_link.specs.Slots.{is_kind}
+use Rattle.psci_fw_model.specs.Lives.{first_phase}
+use Rattle.psci_fw_model.specs.Phases.{Phase, Running, Pending, Away}
+use Rattle.psci_fw_model.specs.Values.{updated}
+use Rattle.psci_fw_laws.specs.KnownBelow.{known_below}
+use Rattle.psci_fw_laws.specs.Claims.{AreApart, AreQuiet, IsFromMessage, part_for}
+use Rattle.psci_fw_laws.specs.Messages.{AreSent, known_on}
+use Rattle.psci_fw_laws.proofs.Older.{NoneCurrent, known_beside, none_arrived}
+use Rattle.psci_fw_laws.proofs.Parts.{claim_more, no_part, part_has, updated_at}
+use Rattle.psci_fw_laws.proofs.Sums.{known_less}
+
+-- A Down of a core, made beside these known starts.
+pub record IsNewDown (b : BoardValue) (life : ℕ) (known : ℕ → ℕ) (c : ℕ) (m : MessageValue)
+    : Type 0 where
+  pub present : m.life ≡ life
+  pub core : m.core.number ≡ c
+  pub current : (level : ℕ) (p : Part) → slice_get m.parts level ≡ Some p
+      → p.generation ≡ known_on b known c level
+
+-- Apart ---------------------------------------------------------------------------------------
+
+-- A message whose claims are above all older ones.
+pub record IsAbove (b : BoardValue) (sent : List MessageValue) (m : MessageValue) : Type 0 where
+  pub later : (life level place : ℕ) (p q : Part) → part_for b life level place m ≡ Some p
+      → IsFromMessage b life level place q sent → q.generation < p.generation
+  pub start : (life level place : ℕ) (p : Part) → part_for b life level place m ≡ Some p
+      → 0 < p.generation
+
+apart_later : (b : BoardValue) (sent : List MessageValue) (x : MessageValue) → IsAbove b sent x
+    → AreApart b sent → (life level place j k : ℕ) (m n : MessageValue) (p q : Part) → j < k
+    → slice_get (x ∷ sent) j ≡ Some m → slice_get (x ∷ sent) k ≡ Some n
+    → part_for b life level place m ≡ Some p → part_for b life level place n ≡ Some q
+    → q.generation < p.generation
+apart_later b sent x above are life level place zero zero m n p q h i j e f = absurd (omega arith)
+apart_later b sent x above are life level place (suc j) zero m n p q h i g e f =
+    absurd (omega arith)
+apart_later b sent x above are life level place zero (suc k) m n p q h i j e f =
+    let same : m ≡ x = cc in
+    above.later life level place p q
+    (subst (λ y. part_for b life level place y ≡ Some p) same e)
+    (record { index = k; message = n; at = j; part = f })
+apart_later b sent x above are life level place (suc j) (suc k) m n p q h i g e f =
+    are.later life level place j k m n p q (omega arith) i g e f
+
+apart_start : (b : BoardValue) (sent : List MessageValue) (x : MessageValue) → IsAbove b sent x
+    → AreApart b sent → (life level place k : ℕ) (m : MessageValue) (p : Part)
+    → slice_get (x ∷ sent) k ≡ Some m → part_for b life level place m ≡ Some p → 0 < p.generation
+apart_start b sent x above are life level place zero m p i e =
+    let same : m ≡ x = cc in
+    above.start life level place p (subst (λ y. part_for b life level place y ≡ Some p) same e)
+apart_start b sent x above are life level place (suc k) m p i e =
+    are.start life level place k m p i e
+
+pub apart_new : (b : BoardValue) (sent : List MessageValue) (m : MessageValue)
+    → IsAbove b sent m → AreApart b sent → AreApart b (m ∷ sent)
+apart_new b sent m above are =
+    record { later = apart_later b sent m above are; start = apart_start b sent m above are }
+
+pub apart_none : (b : BoardValue) → AreApart b []
+apart_none b = record {
+  later = λ life level place j k m n p q h i. absurd (cc);
+  start = λ life level place k m p i. absurd (cc);
+}
+
+-- a message that is no Down
+pub above_other : (b : BoardValue) (sent : List MessageValue) (m : MessageValue)
+    → is_kind m.kind Down ≡ false → IsAbove b sent m
+above_other b sent m other = record {
+  later = λ life level place p q e f. absurd (no_part b life level place p m other e);
+  start = λ life level place p e. absurd (no_part b life level place p m other e);
+}
+
+-- a new Down of a core on whose path no claim is current
+pub above_down : (b : BoardValue) (life : ℕ) (known : ℕ → ℕ) (sent : List MessageValue) (c : ℕ)
+    (m : MessageValue) → c < cores b → 0 < known c → IsNewDown b life known c m
+    → NoneCurrent b life known sent c → IsAbove b sent m
+above_down b life known sent c m on entered new none = record {
+  later = λ l level place p q e f.
+      let has = part_has b l level place m p e in
+      let here : place ≡ up b level c = has.on ∙ ap (up b level) new.core in
+      let sum : p.generation ≡ known_below b known level place =
+      new.current level p has.part ∙ ap (known_below b known level) (sym here) in
+      let same : l ≡ life = sym has.present ∙ new.present in
+      let low = none level place q here
+      (inr (subst (λ x. IsFromMessage b x level place q sent) same f)) in
+      omega arith;
+  start = λ l level place p e.
+      let has = part_has b l level place m p e in
+      let sum = new.current level p has.part in
+      let some = known_less b (λ x. 0) known level (up b level c) c (λ x i t. omega arith) on refl
+      entered in
+      omega (arith, sum, some);
+}
+
+-- Quiet ---------------------------------------------------------------------------------------
+
+-- one more message
+pub quiet_new : (b : BoardValue) (life : ℕ) (known : ℕ → ℕ) (phase : ℕ → Phase)
+    (sent : List MessageValue) (m : MessageValue)
+    → ((level place : ℕ) (p : Part) → part_for b life level place m ≡ Some p
+    → (c : ℕ) → c < cores b → up b level c ≡ place → phase c ≡ Running → ⊥)
+    → AreQuiet b life known phase sent → AreQuiet b life known phase (m ∷ sent)
+quiet_new b life known phase sent m here quiet level place p claim =
+    elim (claim_more b life level place p m sent claim) [
+      | inl new ↦ λ e. here level place p new
+      | inr old ↦ quiet level place p old
+    ]
+
+pub quiet_other : (b : BoardValue) (life : ℕ) (known : ℕ → ℕ) (phase : ℕ → Phase)
+    (sent : List MessageValue) (m : MessageValue) → is_kind m.kind Down ≡ false
+    → AreQuiet b life known phase sent → AreQuiet b life known phase (m ∷ sent)
+quiet_other b life known phase sent m other =
+    quiet_new b life known phase sent m
+    (λ level place p e. absurd (no_part b life level place p m other e))
+
+-- one core is of another phase: it does not run, or no claim on its path is current
+pub quiet_phase : (b : BoardValue) (life : ℕ) (known : ℕ → ℕ) (phase : ℕ → Phase)
+    (sent : List MessageValue) (c : ℕ) (new : Phase)
+    → (new ≡ Running → NoneCurrent b life known sent c)
+    → AreQuiet b life known phase sent → AreQuiet b life known (updated phase c new) sent
+quiet_phase b life known phase sent c new none quiet level place p claim current x on at =
+    updated_at (λ y. y ≡ Running → ⊥) phase c new x
+    (λ here runs.
+    let low = none runs level place p (sym at ∙ ap (up b level) here) claim in
+    omega (arith, low, current))
+    (λ there. quiet level place p claim current x on at)
+
+-- a core has entered by a later start
+pub quiet_arrival : (b : BoardValue) (life : ℕ) (halting : Bool) (known : ℕ → ℕ)
+    (phase : ℕ → Phase) (sent : List MessageValue) (c n : ℕ)
+    → AreSent b life halting known phase sent → c < cores b → known c < n
+    → AreQuiet b life known phase sent → AreQuiet b life (updated known c n) phase sent
+quiet_arrival b life halting known phase sent c n are on later quiet level place p claim current =
+    elim (cases_eq place (up b level c)) [
+      | inl here ↦
+          let low = none_arrived b life halting known phase sent c n are on later level place p here
+          claim in
+          absurd (omega (arith, low, current))
+      | inr there ↦
+          let same = known_beside b known c n level place there in
+          quiet level place p claim (current ∙ same)
+    ]
+
+first_rests : (c : ℕ) → first_phase c ≡ Running → ⊥
+first_rests c =
+    updated_at (λ y. y ≡ Running → ⊥) (λ x. Away) 0 Pending c (λ e f. absurd (cc))
+    (λ e f. absurd (cc))
+
+pub quiet_life : (b : BoardValue) (life : ℕ) (known : ℕ → ℕ) (sent : List MessageValue)
+    → AreQuiet b life known first_phase sent
+quiet_life b life known sent level place p claim current c on at = first_rests c

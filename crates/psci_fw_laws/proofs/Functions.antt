@@ -1,0 +1,79 @@
+-- What a function is answered is allowed.
+use Rattle.std.proofs.Common.{◌≡◌, ℕ, Bool, true, false, cond, []}
+use Rattle.std.proofs.Common.{refl}
+use Rattle.psci_abi.specs.declared.request.Request.{Request}
+use Rattle.psci_abi.specs.declared.request.Request.TheVariants as requests
+use Rattle.psci_board.specs.Board.{BoardValue}
+use Rattle.psci_link.specs.declared.kind.Kind.{Kind}
+use Rattle.psci_link.specs.declared.kind.Kind.TheVariants as kinds
+use Rattle.psci_fw_model.specs.Calls.{function_outcome, outcome_of}
+use Rattle.psci_fw_model.specs.CpuOn.{target_of}
+use Rattle.psci_fw_model.specs.CpuSuspend.{ask_named}
+use Rattle.psci_fw_model.specs.Effects.{Halts}
+use Rattle.psci_fw_model.specs.Outcomes.{message_for, stops}
+use Rattle.psci_fw_model.specs.SuspendMode.{set_suspend_mode}
+use Rattle.psci_fw_model.specs.Values.{Values}
+use Rattle.psci_fw_laws.specs.Messages.{is_system}
+use Rattle.psci_fw_laws.specs.Allowed.{IsAllowed, IsCalling}
+use Rattle.psci_fw_laws.proofs.Allowing.{Allows, IsReady}
+use Rattle.psci_fw_laws.proofs.Lower.{LowerLaws}
+use Rattle.psci_fw_laws.proofs.Started.{system_other}
+use Rattle.psci_fw_laws.proofs.Returning.{outcome_effect, returned}
+use Rattle.psci_fw_laws.proofs.Stopping.{off_allowed, suspend_allowed, system_allowed}
+use Rattle.psci_fw_laws.proofs.Targets.{on_allowed}
+
+-- All functions -------------------------------------------------------------------------------
+
+halt_allowed : (b : BoardValue) (v : Values) (c : ℕ) → IsReady b v → IsCalling b v c
+    → v.halting ≡ false → (kind : Kind) → is_system kind ≡ true
+    → IsAllowed b v (Halts c (message_for v kind c []))
+halt_allowed b v c ready calls awake kind system = record {
+  calls = calls;
+  awake = awake;
+  plain = record {
+    life = calls.begun;
+    present = refl;
+    core = calls.core;
+    number = refl;
+    limit = ready.values.known c;
+    parts = refl;
+    other = system_other kind system;
+  };
+  system = system;
+}
+
+function_allowed : (b : BoardValue) (v : Values) (c : ℕ) (r : Request) → LowerLaws b
+    → IsReady b v → IsCalling b v c → v.halting ≡ false
+    → Allows b v (outcome_effect b c r (function_outcome b v c r))
+function_allowed b v c requests.Version laws ready calls awake are = calls
+function_allowed b v c (requests.CpuSuspend state entry_point context) laws ready calls awake are =
+    suspend_allowed b v c state entry_point context (ask_named b state) laws ready calls awake refl
+    are
+function_allowed b v c requests.CpuOff laws ready calls awake are =
+    off_allowed b v c laws ready calls awake are
+function_allowed b v c (requests.CpuOn target entry_point context) laws ready calls awake are =
+    on_allowed b v c target entry_point context (target_of b v target entry_point) laws ready calls
+    awake refl are
+function_allowed b v c (requests.AffinityInfo target level) laws ready calls awake are = calls
+function_allowed b v c requests.MigrateInfoType laws ready calls awake are = calls
+function_allowed b v c requests.SystemOff laws ready calls awake are =
+    halt_allowed b v c ready calls awake kinds.Off refl
+function_allowed b v c requests.SystemReset laws ready calls awake are =
+    halt_allowed b v c ready calls awake kinds.Reset refl
+function_allowed b v c (requests.Features word) laws ready calls awake are = calls
+function_allowed b v c (requests.SystemSuspend entry_point context) laws ready calls awake are =
+    system_allowed b v c entry_point context laws ready calls awake are
+function_allowed b v c (requests.SetSuspendMode mode) laws ready calls awake are =
+    returned b v c (requests.SetSuspendMode mode) (set_suspend_mode b v c mode) calls are
+function_allowed b v c requests.Unknown laws ready calls awake are = calls
+
+-- in a halting life every function stops its caller
+pub call_allowed : (b : BoardValue) (v : Values) (c : ℕ) (r : Request) → LowerLaws b
+    → IsReady b v → IsCalling b v c → Allows b v (outcome_effect b c r (outcome_of b v c r))
+unfolding outcome_of
+call_allowed b v c r laws ready calls = by_halting v.halting refl
+  where
+    by_halting : (t : Bool) → v.halting ≡ t
+        → Allows b v (outcome_effect b c r (cond t stops (function_outcome b v c r)))
+    by_halting true e = λ are. record { calls = calls; halting = e }
+    by_halting false e = function_allowed b v c r laws ready calls e

@@ -1,0 +1,71 @@
+-- No claim is above the known starts below its domain.
+use Rattle.std.proofs.Common.{◌≡◌, ℕ, ◌<◌, ◌≤◌, inl, inr, Bool, List, arith, subst, ap, sym, ◌∙◌}
+use Rattle.psci_board.specs.Board.{BoardValue, cores, up}
+use Rattle.psci_coord.specs.declared.part.Part.{Part}
+use Rattle.psci_link.specs.Message.{MessageValue}
+use Rattle.psci_fw_model.specs.Phases.{Phase, Running}
+use Rattle.psci_fw_model.specs.Values.{updated}
+use Rattle.psci_fw_laws.specs.KnownBelow.{known_below}
+use Rattle.psci_fw_laws.specs.Claims.{AreQuiet, IsClaimOn, IsFromMessage}
+use Rattle.psci_fw_laws.specs.Messages.{AreSent}
+use Rattle.psci_fw_laws.proofs.Parts.{part_has, updated_at, updated_here, updated_there}
+use Rattle.psci_fw_laws.proofs.Sums.{known_less, known_same}
+
+from_older : (b : BoardValue) (life : ℕ) (halting : Bool) (known : ℕ → ℕ) (phase : ℕ → Phase)
+    (sent : List MessageValue) (level place : ℕ) (p : Part)
+    → AreSent b life halting known phase sent → IsFromMessage b life level place p sent
+    → p.generation ≤ known_below b known level place
+from_older b life halting known phase sent level place p are f =
+    let has = part_has b life level place f.message p f.part in
+    let present = (are f.index f.message f.at).present has.present in
+    subst (λ x. p.generation ≤ known_below b known level x) (sym has.on)
+    (present.older level p has.part)
+
+pub claim_older : (b : BoardValue) (life : ℕ) (halting : Bool) (known : ℕ → ℕ) (phase : ℕ → Phase)
+    (sent : List MessageValue) (level place : ℕ) (p : Part)
+    → AreSent b life halting known phase sent → IsClaimOn b life level place p sent
+    → p.generation ≤ known_below b known level place
+claim_older b life halting known phase sent level place p are claim = elim claim [
+  | inl s ↦ let zero : p.generation ≡ 0 = ap (λ (q : Part). q.generation) s.is in omega arith
+  | inr f ↦ from_older b life halting known phase sent level place p are f
+]
+
+-- no claim on the path of a core is current
+abbrev pub NoneCurrent : BoardValue → ℕ → (ℕ → ℕ) → List MessageValue → ℕ → Type 0
+NoneCurrent b life known sent c =
+    (level place : ℕ) (p : Part) → place ≡ up b level c → IsClaimOn b life level place p sent
+    → p.generation < known_below b known level place
+
+-- on the path of a core that runs none is
+pub none_running : (b : BoardValue) (life : ℕ) (halting : Bool) (known : ℕ → ℕ)
+    (phase : ℕ → Phase) (sent : List MessageValue) (c : ℕ)
+    → AreSent b life halting known phase sent → AreQuiet b life known phase sent → c < cores b
+    → phase c ≡ Running → NoneCurrent b life known sent c
+none_running b life halting known phase sent c are quiet on runs level place p at claim =
+    let low = claim_older b life halting known phase sent level place p are claim in
+    let other : p.generation ≡ known_below b known level place → ⊥ =
+    λ e. quiet level place p claim e c on (sym at) runs in
+    omega (arith, low, other)
+
+-- nor on that of a core that has entered by a later start
+pub none_arrived : (b : BoardValue) (life : ℕ) (halting : Bool) (known : ℕ → ℕ)
+    (phase : ℕ → Phase) (sent : List MessageValue) (c n : ℕ)
+    → AreSent b life halting known phase sent → c < cores b → known c < n
+    → NoneCurrent b life (updated known c n) sent c
+none_arrived b life halting known phase sent c n are on later level place p at claim =
+    let low = claim_older b life halting known phase sent level place p are claim in
+    let here : known c < updated known c n c = omega (arith, updated_here known c n) in
+    let more : known_below b known level place < known_below b (updated known c n) level place =
+    known_less b known (updated known c n) level place c
+    (λ k i e. updated_at (λ x. known k ≤ x) known c n k
+    (λ s. omega (arith, ap known s)) (λ s. omega arith))
+    on (sym at) here in
+    omega arith
+
+-- off its path nothing is known anew
+pub known_beside : (b : BoardValue) (known : ℕ → ℕ) (c n level place : ℕ)
+    → (place ≡ up b level c → ⊥)
+    → known_below b (updated known c n) level place ≡ known_below b known level place
+known_beside b known c n level place off =
+    known_same b (updated known c n) known level place
+    (λ k i at. updated_there known c n k (λ s. off (sym at ∙ ap (up b level) s)))

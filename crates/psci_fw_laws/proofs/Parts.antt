@@ -1,0 +1,127 @@
+-- Which messages claim something of a domain.
+use Rattle.std.proofs.Common.{◌≡◌, ℕ, zero, suc, ◌⊎◌, inl, inr, Bool, true, false}
+use Rattle.std.proofs.Common.{◌==◌, ◌&&◌, cond, List, ◌∷◌, Option, None, Some, refl, ap}
+use Rattle.std.proofs.Common.{subst}
+use Rattle.std.specs.Prelude.{slice_get}
+use Rattle.std.proofs.lemmas.Bool.{and_from, and_parts, cond_both, eq-eqb, eqb-false, eqb-true}
+use Rattle.psci_board.specs.Board.{BoardValue, up}
+use Rattle.psci_coord.specs.declared.part.Part.{Part}
+use Rattle.psci_link.specs.declared.kind.Kind.{Kind}
+use Rattle.psci_link.specs.declared.kind.Kind.TheVariants.{Down, Start, Off, Reset}
+use Rattle.psci_link.specs.Message.{MessageValue}
+use Rattle.psci_link.specs.Slots.{is_kind}
+use Rattle.psci_fw_model.specs.Values.{updated}
+use Rattle.psci_fw_laws.specs.Claims.{IsClaimOn, IsFromMessage, part_for}
+
+-- A function updated at one core ---------------------------------------------------------------
+
+pub updated_at : {A : Type 0} (P : A → Type 0) (f : ℕ → A) (c : ℕ) (x : A) (k : ℕ)
+    → (k ≡ c → P x) → ((k ≡ c → ⊥) → P (f k)) → P (updated f c x k)
+updated_at P f c x k here there =
+    cond_both (k == c) x (f k) P (λ e. here (eqb-true k c e)) (λ e. there (eqb-false k c e))
+
+pub updated_here : {A : Type 0} (f : ℕ → A) (c : ℕ) (x : A) → updated f c x c ≡ x
+updated_here f c x = updated_at (λ y. y ≡ x) f c x c (λ e. refl) (λ e. absurd (e refl))
+
+pub updated_there : {A : Type 0} (f : ℕ → A) (c : ℕ) (x : A) (k : ℕ) → (k ≡ c → ⊥)
+    → updated f c x k ≡ f k
+updated_there f c x k ne = updated_at (λ y. y ≡ f k) f c x k (λ e. absurd (ne e)) (λ e. refl)
+
+-- Parts ---------------------------------------------------------------------------------------
+
+kind_is : (k : Kind) → is_kind k Down ≡ true → k ≡ Down
+kind_is Down e = refl
+kind_is Start e = absurd (cc)
+kind_is Off e = absurd (cc)
+kind_is Reset e = absurd (cc)
+
+-- What it means that a message has a part for a domain.
+pub record HasPart (b : BoardValue) (life level place : ℕ) (m : MessageValue) (p : Part)
+    : Type 0 where
+  pub kind : m.kind ≡ Down
+  pub present : m.life ≡ life
+  pub on : place ≡ up b level m.core.number
+  pub part : slice_get m.parts level ≡ Some p
+
+some_if : (t : Bool) (o : Option Part) (p : Part) → cond t o None ≡ Some p
+    → (t ≡ true) × (o ≡ Some p)
+some_if true o p e = (refl, e)
+some_if false o p e = absurd (cc)
+
+pub part_has : (b : BoardValue) (life level place : ℕ) (m : MessageValue) (p : Part)
+    → part_for b life level place m ≡ Some p → HasPart b life level place m p
+part_has b life level place m p e =
+    let both =
+    some_if (is_kind m.kind Down && (m.life == life && (place == up b level m.core.number)))
+    (slice_get m.parts level) p e in
+    let kind = and_parts (is_kind m.kind Down) _ both.0 in
+    let rest = and_parts (m.life == life) _ kind.1 in
+    record {
+      kind = kind_is m.kind kind.0;
+      present = eqb-true _ _ rest.0;
+      on = eqb-true _ _ rest.1;
+      part = both.1;
+    }
+
+pub part_from : (b : BoardValue) (life level place : ℕ) (m : MessageValue) (p : Part)
+    → HasPart b life level place m p → part_for b life level place m ≡ Some p
+part_from b life level place m p h =
+    let kind : is_kind m.kind Down ≡ true = ap (λ k. is_kind k Down) h.kind in
+    let test : (is_kind m.kind Down && (m.life == life && (place == up b level m.core.number)))
+    ≡ true = and_from _ _ kind (and_from _ _ (eq-eqb _ _ h.present) (eq-eqb _ _ h.on)) in
+    rw (test) h.part
+
+-- Claims --------------------------------------------------------------------------------------
+
+-- one more message
+pub claim_new : (b : BoardValue) (life level place : ℕ) (p : Part) (m : MessageValue)
+    (sent : List MessageValue) → part_for b life level place m ≡ Some p
+    → IsClaimOn b life level place p (m ∷ sent)
+claim_new b life level place p m sent e =
+    inr (record { index = 0; message = m; at = refl; part = e })
+
+pub claim_old : (b : BoardValue) (life level place : ℕ) (p : Part) (m : MessageValue)
+    (sent : List MessageValue) → IsClaimOn b life level place p sent
+    → IsClaimOn b life level place p (m ∷ sent)
+claim_old b life level place p m sent claim = elim claim [
+  | inl s ↦ inl s
+  | inr f ↦ inr (record { index = suc f.index; message = f.message; at = f.at; part = f.part })
+]
+
+from_more : (b : BoardValue) (life level place : ℕ) (p : Part) (m n : MessageValue)
+    (sent : List MessageValue) (k : ℕ) → slice_get (m ∷ sent) k ≡ Some n
+    → part_for b life level place n ≡ Some p
+    → (part_for b life level place m ≡ Some p) ⊎ IsFromMessage b life level place p sent
+from_more b life level place p m n sent zero at e =
+    let same : n ≡ m = cc in
+    inl (subst (λ x. part_for b life level place x ≡ Some p) same e)
+from_more b life level place p m n sent (suc k) at e =
+    inr (record { index = k; message = n; at = at; part = e })
+
+pub claim_more : (b : BoardValue) (life level place : ℕ) (p : Part) (m : MessageValue)
+    (sent : List MessageValue) → IsClaimOn b life level place p (m ∷ sent)
+    → (part_for b life level place m ≡ Some p) ⊎ IsClaimOn b life level place p sent
+claim_more b life level place p m sent claim = elim claim [
+  | inl s ↦ inr (inl s)
+  | inr f ↦ elim (from_more b life level place p m f.message sent f.index f.at f.part) [
+    | inl here ↦ inl here
+    | inr old ↦ inr (inr old)
+  ]
+]
+
+-- a message that is no Down claims nothing
+pub no_part : (b : BoardValue) (life level place : ℕ) (p : Part) (m : MessageValue)
+    → is_kind m.kind Down ≡ false → part_for b life level place m ≡ Some p → ⊥
+no_part b life level place p m other e =
+    let kind = (part_has b life level place m p e).kind in
+    let down : is_kind m.kind Down ≡ true = ap (λ k. is_kind k Down) kind in
+    absurd (cc)
+
+pub claim_before : (b : BoardValue) (life level place : ℕ) (p : Part) (m : MessageValue)
+    (sent : List MessageValue) → is_kind m.kind Down ≡ false
+    → IsClaimOn b life level place p (m ∷ sent) → IsClaimOn b life level place p sent
+claim_before b life level place p m sent other claim =
+    elim (claim_more b life level place p m sent claim) [
+      | inl here ↦ absurd (no_part b life level place p m other here)
+      | inr old ↦ old
+    ]

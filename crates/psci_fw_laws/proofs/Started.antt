@@ -1,0 +1,179 @@
+-- A core is asked on, the system is asked to go off, an acknowledgement is taken.
+use Rattle.std.proofs.Common.{◌≡◌, ℕ, ◌<◌, Bool, true, false, cond, List, [], ◌∷◌}
+use Rattle.std.proofs.Common.{Some, refl, arith, subst, ap, sym, ◌∙◌}
+use Rattle.std.specs.Prelude.{slice_get}
+use Rattle.std.proofs.lemmas.Bool.{cond_both}
+use Rattle.psci_board.specs.Board.{BoardValue}
+use Rattle.psci_coord.specs.declared.part.Part.{Part}
+use Rattle.psci_link.specs.declared.kind.Kind.{Kind}
+use Rattle.psci_link.specs.declared.kind.Kind.TheVariants.{Down, Start, Off, Reset}
+use Rattle.psci_link.specs.Message.{AckValue, ArePartsOf, MessageValue}
+use Rattle.psci_link.specs.Slots.{OfSystem, is_kind, slot_of}
+use Rattle.psci_fw_model.specs.declared.status.Status.TheVariants as statuses
+use Rattle.psci_fw_model.specs.AffinityInfo.{is_on}
+use Rattle.psci_fw_model.specs.Changes.{PowerOn, turns_off, with_acknowledgement, with_halt}
+use Rattle.psci_fw_model.specs.Changes.{with_pending}
+use Rattle.psci_fw_model.specs.Phases.{Phase, Pending}
+use Rattle.psci_fw_model.specs.Values.{Values, updated}
+use Rattle.psci_fw_laws.specs.Allowed.{IsPlain}
+use Rattle.psci_fw_laws.specs.Messages.{IsSent, IsSound, is_system}
+use Rattle.psci_fw_laws.specs.Outstanding.{IsOfLife}
+use Rattle.psci_fw_laws.proofs.Claiming.{above_other, apart_new, quiet_other, quiet_phase}
+use Rattle.psci_fw_laws.proofs.Granting.{granted_other, granted_pending}
+use Rattle.psci_fw_laws.specs.Kept.{Holds}
+use Rattle.psci_fw_laws.proofs.Parts.{updated_at, updated_here}
+use Rattle.psci_fw_laws.proofs.Sending.{sent_halting, sent_new, sent_phase}
+use Rattle.psci_fw_laws.proofs.Slots.{AreAt, outstanding_asked, outstanding_put, outstanding_sent}
+use Rattle.psci_fw_laws.proofs.Slots.{outstanding_taken}
+
+no_parts : (ps : List Part) (k : ℕ) (p : Part) → ps ≡ [] → slice_get ps k ≡ Some p → ⊥
+no_parts ps k p e i =
+    let no : slice_get {X = Part} [] k ≡ Some p = ap (λ xs. slice_get xs k) (sym e) ∙ i in
+    absurd (cc)
+
+pub not_down : (k : Kind) → is_kind k Down ≡ false → k ≡ Down → ⊥
+not_down k e s =
+    let no : is_kind Down Down ≡ false = ap (λ x. is_kind x Down) (sym s) ∙ e in absurd (cc)
+
+plain_parts : (k : Kind) (ps : List Part) → is_kind k Down ≡ false → ps ≡ [] → ArePartsOf k ps
+plain_parts Down ps e i = absurd (cc)
+plain_parts Start ps e i = i
+plain_parts Off ps e i = i
+plain_parts Reset ps e i = i
+
+pub plain_sound : (b : BoardValue) (v : Values) (m : MessageValue) → IsPlain b v m
+    → (m.kind ≡ Start → m.number < b.starts) → IsSound b m
+plain_sound b v m plain room = record {
+  life = omega (arith, plain.life, plain.present);
+  core = plain.core;
+  parts = plain_parts m.kind m.parts plain.other plain.parts;
+  few = let none = ap (λ xs. Rattle.std.specs.Prelude.length xs) plain.parts in omega arith;
+  number = omega (arith, plain.number, plain.limit);
+  room = room;
+  entered = λ d. absurd (not_down m.kind plain.other d);
+  first = λ p i. absurd (no_parts m.parts 0 p plain.parts i);
+  most = λ l p i. absurd (no_parts m.parts l p plain.parts i);
+  rises = λ l p q i. absurd (no_parts m.parts l p plain.parts i);
+}
+
+plain_sent : (b : BoardValue) (v : Values) (m : MessageValue) (halting : Bool) (phase : ℕ → Phase)
+    → IsPlain b v m → (m.kind ≡ Start → m.number < b.starts)
+    → (is_system m.kind ≡ true → halting ≡ true)
+    → (m.kind ≡ Start → phase m.core.number ≡ Pending)
+    → IsSent b v.life halting v.known phase m
+plain_sent b v m halting phase plain room halts pending = record {
+  sound = plain_sound b v m plain room;
+  begun = omega (arith, plain.present);
+  present = λ e. record {
+    number = omega (arith, plain.number);
+    older = λ l p i. absurd (no_parts m.parts l p plain.parts i);
+    lacking = λ l p q i. absurd (no_parts m.parts l p plain.parts i);
+    halts = halts;
+    pending = λ s n. pending s;
+    asked = λ d. absurd (not_down m.kind plain.other d);
+  };
+}
+
+-- Asked on ------------------------------------------------------------------------------------
+
+pub asks_on : (b : BoardValue) (v : Values) (sent : List MessageValue) (asked : PowerOn)
+    → IsPlain b v asked.message → asked.message.kind ≡ Start
+    → asked.message.number < b.starts → Holds b v sent
+    → Holds b (with_pending b asked v) (asked.message ∷ sent)
+asks_on b v sent asked plain kind room holds =
+    let m : MessageValue = asked.message in
+    let t : ℕ = m.core.number in
+    let phase : ℕ → Phase = updated v.phase t Pending in
+    let other : is_system m.kind ≡ false = ap is_system kind in
+    record {
+      lives = holds.lives;
+      messages = sent_new b v.life v.halting v.known phase sent m
+          (plain_sent b v m v.halting phase plain (λ s. room)
+          (λ s. let no : false ≡ true = sym other ∙ s in absurd (cc))
+          (λ s. updated_here v.phase t Pending))
+          (sent_phase b v.life v.halting v.known v.phase sent t Pending
+          (λ k n at life core number. record {
+            pending = λ s. refl;
+            asked = λ d rests. absurd (rests refl);
+          })
+          holds.messages);
+      apart = apart_new b sent m (above_other b sent m plain.other) holds.apart;
+      quiet = quiet_other b v.life v.known phase sent m plain.other
+          (quiet_phase b v.life v.known v.phase sent t Pending (λ e. absurd (cc)) holds.quiet);
+      grants = granted_other b v.life v.known phase _ sent m plain.other
+          (granted_pending b v.life v.known v.phase v.granted sent t plain.core holds.grants);
+      entered = λ x e. updated_at (λ s. is_on s ≡ false) v.status t statuses.Pending x (λ s. refl)
+          (λ s. holds.entered x e);
+      slots = outstanding_asked v.life v.known v.phase (m ∷ sent) v.outstanding t m
+          (ap (λ k. slot_of k m.core) kind)
+          (record {
+            listed = record { index = 0; at = refl; present = plain.present };
+            core = refl;
+            number = plain.number;
+            kind = other;
+            start = λ s. updated_here v.phase t Pending;
+            down = λ d. absurd (not_down m.kind plain.other d);
+          })
+          (outstanding_sent v.life v.known v.phase sent v.outstanding m holds.slots);
+    }
+
+-- Halting -------------------------------------------------------------------------------------
+
+system_slot : (k : Kind) (c : Rattle.psci_board.specs.declared.node.Core.Core)
+    → is_system k ≡ true → slot_of k c ≡ OfSystem
+system_slot Down c e = absurd (cc)
+system_slot Start c e = absurd (cc)
+system_slot Off c e = refl
+system_slot Reset c e = refl
+
+pub system_other : (k : Kind) → is_system k ≡ true → is_kind k Down ≡ false
+system_other Down e = absurd (cc)
+system_other Start e = absurd (cc)
+system_other Off e = refl
+system_other Reset e = refl
+
+system_start : (k : Kind) → is_system k ≡ true → k ≡ Start → ⊥
+system_start k e s = let no : is_system Start ≡ true = ap is_system (sym s) ∙ e in absurd (cc)
+
+pub halts : (b : BoardValue) (v : Values) (sent : List MessageValue) (m : MessageValue)
+    → IsPlain b v m → is_system m.kind ≡ true → Holds b v sent
+    → Holds b (with_halt m v) (m ∷ sent)
+halts b v sent m plain system holds = record {
+  lives = holds.lives;
+  messages = sent_new b v.life true v.known v.phase sent m
+      (plain_sent b v m true v.phase plain (λ s. absurd (system_start m.kind system s))
+      (λ s. refl) (λ s. absurd (system_start m.kind system s)))
+      (sent_halting b v.life v.halting v.known v.phase sent holds.messages);
+  apart = apart_new b sent m (above_other b sent m plain.other) holds.apart;
+  quiet = quiet_other b v.life v.known v.phase sent m plain.other holds.quiet;
+  grants = granted_other b v.life v.known v.phase v.granted sent m plain.other holds.grants;
+  entered = holds.entered;
+  slots = outstanding_put v.life v.known v.phase (m ∷ sent) v.outstanding m
+      (subst (λ s. AreAt v.life v.known v.phase (m ∷ sent) s (Some m))
+      (sym (system_slot m.kind m.core system)) (λ n e.
+      let same : m ≡ n = cc in (
+        subst (IsOfLife v.life (m ∷ sent)) same
+            (record { index = 0; at = refl; present = plain.present }),
+        ap (λ (x : MessageValue). is_system x.kind) (sym same) ∙ system,
+      )))
+      (outstanding_sent v.life v.known v.phase sent v.outstanding m holds.slots);
+}
+
+-- Acknowledgements ----------------------------------------------------------------------------
+
+pub takes : (b : BoardValue) (v : Values) (sent : List MessageValue) (a : AckValue)
+    → Holds b v sent → Holds b (with_acknowledgement a v) sent
+takes b v sent a holds = record {
+  lives = holds.lives;
+  messages = holds.messages;
+  apart = holds.apart;
+  quiet = holds.quiet;
+  grants = holds.grants;
+  entered = λ x e. updated_at (λ s. is_on s ≡ false) v.status a.core.number
+      (cond (turns_off v a) statuses.Off (v.status a.core.number)) x
+      (λ here. cond_both (turns_off v a) statuses.Off (v.status a.core.number)
+      (λ s. is_on s ≡ false) (λ t. refl)
+      (λ t. holds.entered a.core.number (ap v.known (sym here) ∙ e)))
+      (λ there. holds.entered x e);
+  slots = outstanding_taken v.life v.known v.phase sent v.outstanding a holds.slots;
+}

@@ -1,0 +1,168 @@
+-- Sums over the cores below a domain.
+use Rattle.std.proofs.Common.{◌≡◌, ℕ, zero, suc, ◌+◌, ◌*◌, ◌<◌, ◌≤◌, Bool, true, false, cond}
+use Rattle.std.proofs.Common.{List, [], ◌∷◌, filter, refl, ap, ◌∙◌, arith, inl, inr}
+use Rattle.std.specs.List.{sum_by, range_with_len}
+use Rattle.std.proofs.lemmas.Bool.{cases_eq, eq-eqb, eqb-true}
+use Rattle.std.proofs.lemmas.List.Sums.{sum_by-cons}
+use Rattle.psci_board.specs.Board.{BoardValue, below, cores, span, up}
+use Rattle.psci_board.specs.Laws.{PathLaws, SpanLaws}
+use Rattle.psci_fw_laws.specs.KnownBelow.{known_below}
+
+-- Sums over the numbers that a filter keeps of a range ---------------------------------------
+
+abbrev kept : (ℕ → ℕ) → (ℕ → Bool) → ℕ → ℕ → ℕ
+kept f test a n = sum_by f (filter test (range_with_len a n))
+
+one_le : (f g : ℕ → ℕ) (t : Bool) (a : ℕ) (xs : List ℕ) → (t ≡ true → f a ≤ g a)
+    → sum_by f xs ≤ sum_by g xs
+    → sum_by f (cond t (a ∷ xs) xs) ≤ sum_by g (cond t (a ∷ xs) xs)
+one_le f g true a xs h e = omega (arith, sum_by-cons f a xs, sum_by-cons g a xs, h refl, e)
+one_le f g false a xs h e = e
+
+kept_le : (f g : ℕ → ℕ) (test : ℕ → Bool) (a n : ℕ)
+    → ((c : ℕ) → a ≤ c → c < a + n → test c ≡ true → f c ≤ g c)
+    → kept f test a n ≤ kept g test a n
+kept_le f g test a zero h = omega arith
+kept_le f g test a (suc n) h =
+    one_le f g (test a) a (filter test (range_with_len (a + 1) n))
+    (h a (omega arith) (omega arith))
+    (kept_le f g test (a + 1) n (λ c p q. h c (omega arith) (omega arith)))
+
+one_less : (f g : ℕ → ℕ) (t : Bool) (a : ℕ) (xs : List ℕ) → t ≡ true → f a < g a
+    → sum_by f xs ≤ sum_by g xs
+    → sum_by f (cond t (a ∷ xs) xs) < sum_by g (cond t (a ∷ xs) xs)
+one_less f g true a xs t h e = omega (arith, sum_by-cons f a xs, sum_by-cons g a xs)
+one_less f g false a xs t h e = absurd (cc)
+
+more_less : (f g : ℕ → ℕ) (t : Bool) (a : ℕ) (xs : List ℕ) → (t ≡ true → f a ≤ g a)
+    → sum_by f xs < sum_by g xs
+    → sum_by f (cond t (a ∷ xs) xs) < sum_by g (cond t (a ∷ xs) xs)
+more_less f g true a xs h e = omega (arith, sum_by-cons f a xs, sum_by-cons g a xs, h refl)
+more_less f g false a xs h e = e
+
+kept_less : (f g : ℕ → ℕ) (test : ℕ → Bool) (a n k : ℕ)
+    → ((c : ℕ) → a ≤ c → c < a + n → test c ≡ true → f c ≤ g c)
+    → a ≤ k → k < a + n → test k ≡ true → f k < g k
+    → kept f test a n < kept g test a n
+kept_less f g test a zero k h i j t less = absurd (omega arith)
+kept_less f g test a (suc n) k h i j t less =
+    let rest = λ (c : ℕ) (p : a + 1 ≤ c) (q : c < a + 1 + n). h c (omega arith) (omega arith) in
+    elim (cases_eq a k) [
+      | inl s ↦ one_less f g (test a) a (filter test (range_with_len (a + 1) n)) (ap test s ∙ t)
+          (omega (arith, ap f s, ap g s)) (kept_le f g test (a + 1) n rest)
+      | inr s ↦ more_less f g (test a) a (filter test (range_with_len (a + 1) n))
+          (h a (omega arith) (omega arith))
+          (kept_less f g test (a + 1) n k rest (omega (arith, s)) (omega arith) t less)
+    ]
+
+-- over more numbers what two functions differ by is no less
+one_gap : (f g : ℕ → ℕ) (s t : Bool) (a : ℕ) (xs ys : List ℕ) → (s ≡ true → t ≡ true) → f a ≤ g a
+    → sum_by g xs + sum_by f ys ≤ sum_by f xs + sum_by g ys
+    → sum_by g (cond s (a ∷ xs) xs) + sum_by f (cond t (a ∷ ys) ys)
+    ≤ sum_by f (cond s (a ∷ xs) xs) + sum_by g (cond t (a ∷ ys) ys)
+one_gap f g true true a xs ys h i e =
+    omega (arith, sum_by-cons f a xs, sum_by-cons g a xs, sum_by-cons f a ys, sum_by-cons g a ys)
+one_gap f g true false a xs ys h i e = let no : false ≡ true = h refl in absurd (cc)
+one_gap f g false true a xs ys h i e = omega (arith, sum_by-cons f a ys, sum_by-cons g a ys)
+one_gap f g false false a xs ys h i e = e
+
+kept_gap : (f g : ℕ → ℕ) (s t : ℕ → Bool) (a n : ℕ) → ((c : ℕ) → s c ≡ true → t c ≡ true)
+    → ((c : ℕ) → f c ≤ g c)
+    → kept g s a n + kept f t a n ≤ kept f s a n + kept g t a n
+kept_gap f g s t a zero h i = omega arith
+kept_gap f g s t a (suc n) h i =
+    one_gap f g (s a) (t a) a (filter s (range_with_len (a + 1) n))
+    (filter t (range_with_len (a + 1) n)) (h a) (i a) (kept_gap f g s t (a + 1) n h i)
+
+one_none : (t : Bool) (a : ℕ) (xs : List ℕ) → sum_by (λ c. 0) xs ≡ 0
+    → sum_by (λ c. 0) (cond t (a ∷ xs) xs) ≡ 0
+one_none true a xs e = omega (arith, sum_by-cons (λ (c : ℕ). 0) a xs)
+one_none false a xs e = e
+
+kept_none : (test : ℕ → Bool) (a n : ℕ) → kept (λ c. 0) test a n ≡ 0
+kept_none test a zero = refl
+kept_none test a (suc n) =
+    one_none (test a) a (filter test (range_with_len (a + 1) n)) (kept_none test (a + 1) n)
+
+one_most : (f : ℕ → ℕ) (t : Bool) (a n most : ℕ) (xs : List ℕ) → f a ≤ most
+    → sum_by f xs ≤ n * most → sum_by f (cond t (a ∷ xs) xs) ≤ suc n * most
+one_most f true a n most xs h e = omega (arith, sum_by-cons f a xs)
+one_most f false a n most xs h e = omega arith
+
+kept_most : (f : ℕ → ℕ) (test : ℕ → Bool) (a n most : ℕ) → ((c : ℕ) → f c ≤ most)
+    → kept f test a n ≤ n * most
+kept_most f test a zero most h = omega arith
+kept_most f test a (suc n) most h =
+    one_most f (test a) a n most (filter test (range_with_len (a + 1) n)) (h a)
+    (kept_most f test (a + 1) n most h)
+
+-- Below a domain ------------------------------------------------------------------------------
+
+pub known_le : (b : BoardValue) (f g : ℕ → ℕ) (level place : ℕ)
+    → ((c : ℕ) → c < cores b → up b level c ≡ place → f c ≤ g c)
+    → known_below b f level place ≤ known_below b g level place
+unfolding known_below up
+known_le b f g level place h =
+    kept_le f g _ 0 (cores b) (λ c p q t. h c (omega arith) (eqb-true _ _ t))
+
+pub known_less : (b : BoardValue) (f g : ℕ → ℕ) (level place k : ℕ)
+    → ((c : ℕ) → c < cores b → up b level c ≡ place → f c ≤ g c)
+    → k < cores b → up b level k ≡ place → f k < g k
+    → known_below b f level place < known_below b g level place
+unfolding known_below up
+known_less b f g level place k h i at less =
+    kept_less f g _ 0 (cores b) k (λ c p q t. h c (omega arith) (eqb-true _ _ t)) (omega arith)
+    (omega arith) (eq-eqb _ _ at) less
+
+pub known_same : (b : BoardValue) (f g : ℕ → ℕ) (level place : ℕ)
+    → ((c : ℕ) → c < cores b → up b level c ≡ place → f c ≡ g c)
+    → known_below b f level place ≡ known_below b g level place
+known_same b f g level place h =
+    let up = known_le b f g level place (λ c i at. omega (arith, h c i at)) in
+    let down = known_le b g f level place (λ c i at. omega (arith, h c i at)) in
+    omega arith
+
+pub known_none : (b : BoardValue) (level place : ℕ) → known_below b (λ c. 0) level place ≡ 0
+unfolding known_below
+known_none b level place = kept_none _ 0 (cores b)
+
+pub known_most : (b : BoardValue) (f : ℕ → ℕ) (level place most : ℕ) → ((c : ℕ) → f c ≤ most)
+    → known_below b f level place ≤ cores b * most
+unfolding known_below
+known_most b f level place most h = kept_most f _ 0 (cores b) most h
+
+-- what one function is above another, summed, never falls up a path
+pub known_gap : (b : BoardValue) (f g : ℕ → ℕ) (core level : ℕ) → PathLaws b
+    → ((c : ℕ) → f c ≤ g c)
+    → known_below b g level (up b level core) + known_below b f (level + 1) (up b (level + 1) core)
+    ≤ known_below b f level (up b level core) + known_below b g (level + 1) (up b (level + 1) core)
+unfolding known_below up
+known_gap b f g core level paths h =
+    let next : level + 1 ≡ suc level = omega arith in
+    kept_gap f g _ _ 0 (cores b)
+    (λ c t. rw next (eq-eqb _ _ (paths.joined c core level (eqb-true _ _ t)))) h
+
+-- nor does the sum itself
+pub known_rises : (b : BoardValue) (f : ℕ → ℕ) (core level : ℕ) → PathLaws b
+    → known_below b f level (up b level core)
+    ≤ known_below b f (level + 1) (up b (level + 1) core)
+known_rises b f core level paths =
+    omega (
+      arith,
+      known_gap b (λ c. 0) f core level paths (λ c. omega arith),
+      known_none b level (up b level core),
+      known_none b (level + 1) (up b (level + 1) core),
+    )
+
+-- a core is the only one below itself
+pub known_own : (b : BoardValue) (f : ℕ → ℕ) (c : ℕ) → SpanLaws b.levels → c < cores b
+    → known_below b f 0 c ≡ f c
+unfolding known_below
+known_own b f c spans h =
+    let laws = spans.cores (record { level = 0; place = c })
+    (record { level = omega arith; place = h }) in
+    let one : (span b.levels (record { level = 0; place = c })).count ≡ 1 =
+    ap (λ (s : Rattle.psci_board.specs.declared.span.CoreSpan.CoreSpan). s.count) (spans.core c) in
+    let alone : below b (record { level = 0; place = c }) ≡ c ∷ [] =
+    laws ∙ ap (range_with_len c) one in
+    ap (sum_by f) alone ∙ omega (arith, sum_by-cons f c [])
