@@ -1,3 +1,0 @@
-mod Begun
-mod Rowed
-mod Spanned
