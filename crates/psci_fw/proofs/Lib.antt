@@ -1,0 +1,5 @@
+mod Acked
+mod Changed
+mod Moved
+mod Spanned
+mod Viewed

@@ -50,6 +50,11 @@ phase_by On activities.Off = phases.Away
 phase_by Off activities.Off = phases.Away
 phase_by Pending activities.Off = phases.Away
 
+-- what a core does that has started and stops, by whether it is pending
+abbrev pub stopped : Bool → Activity
+stopped true = activities.Active
+stopped false = activities.Off
+
 -- whether a core of this phase is pending
 abbrev pub is_pending_phase : Phase → Bool
 is_pending_phase phases.Pending = true

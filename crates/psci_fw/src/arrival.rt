@@ -1,18 +1,19 @@
 //! What the entry of a core changes in the state.
 
-ghost use Rattle.std.specs.Prelude.{◌≡◌, ◌<◌};
-ghost use Rattle.psci_board.specs.Board.{cores};
+ghost use Rattle.std.specs.Prelude.{◌≡◌, ◌<◌, ◌==◌, ℕ, length, if◌then◌else◌};
+ghost use Rattle.psci_board.specs.Board.{cores, place_above};
+ghost use Rattle.psci_tree.specs.Recount.{IsDomainTree, core_at, granted_at};
 ghost use Rattle.psci_fw_model.specs.Changes.{with_arrival, with_phase, with_running};
 ghost use Rattle.psci_fw_model.specs.Lives.{in_life};
 ghost use Rattle.psci_fw_model.specs.Phases.{Away};
-ghost use Rattle.psci_fw.specs.Seen.{IsStateOf, values_in};
+ghost use Rattle.psci_fw.specs.Seen.{IsStateOf, stopped, values_in};
 
 use crate::row::{CoreRow, reset_rows, row_of, set_row};
 use crate::state::State;
 use psci_board::{Board, Core};
 use psci_fw_model::{Start, Status, SuspendMode};
 use psci_link::law_slots;
-use psci_tree::{law_cores, law_granted, law_start_of_life};
+use psci_tree::{Tree, law_cores, law_granted, law_start_of_life};
 
 impl State {
     /// The firmware is in this life: all is as at its start, if it is a new one.
@@ -69,20 +70,34 @@ impl State {
             (with_arrival board.now core.number start (values_in self.old)) }
         ensures state { IsStateOf board.now self.new }
     {
-        law_cores();
-        law_granted();
         law_slots();
         let _cores = board.cores();
         let pending = self.is_pending(core);
-        self.tree.set_start(core, start.number);
-        if !pending {
-            self.tree.set_off(core);
-        }
+        stop(&mut self.tree, core, start.number, pending);
         let row = CoreRow {
             opening: None,
             ..row_of(&self.rows, core)
         };
         set_row(&mut self.rows, core, row);
         self.slots.clear(core);
+    }
+}
+
+/// A core has started with this number, and stops in the tree, unless it is pending.
+fn stop(tree: &mut Tree, core: Core, number: u32, pending: bool)
+    requires tree { IsDomainTree tree.old }
+    requires inside { core.number < length tree.old.cores }
+    ensures cores { (c : ℕ) → core_at tree.new c ≡ (if core.number == c
+        then record { activity = stopped pending; known = number } else core_at tree.old c) }
+    ensures granted { (l p : ℕ) → granted_at tree.new l p
+        ≡ (if place_above tree.old.levels l core.number == p then 0 else granted_at tree.old l p) }
+    ensures levels { tree.new.levels ≡ tree.old.levels }
+    ensures tree { IsDomainTree tree.new }
+{
+    law_cores();
+    law_granted();
+    tree.set_start(core, number);
+    if !pending {
+        tree.set_off(core);
     }
 }

@@ -5,7 +5,8 @@ ghost use Rattle.psci_board.specs.Board.{cores};
 ghost use Rattle.psci_link.specs.declared.kind.Kind.TheVariants as kinds;
 ghost use Rattle.psci_link.specs.declared.taken.Taken.TheVariants.{Used, Old};
 ghost use Rattle.psci_link.specs.Slots.{IsOfCores, slot_of};
-ghost use Rattle.psci_fw_model.specs.Changes.{with_acknowledgement, with_halt, with_mode};
+ghost use Rattle.psci_fw_model.specs.Changes.{turns_off, with_acknowledgement, with_halt};
+ghost use Rattle.psci_fw_model.specs.Changes.{with_mode};
 ghost use Rattle.psci_fw_model.specs.Changes.{with_pending, with_phase, with_rest};
 ghost use Rattle.psci_fw_model.specs.Effects.{suspended};
 ghost use Rattle.psci_fw_model.specs.Phases.{Away, Running};
@@ -124,9 +125,12 @@ impl State {
         law_slots();
         let _cores = board.cores();
         let core = ack.core;
-        let is_off = ack.kind == Kind::Down && ack.applied > 0 && self.is_away(core);
+        let is_off = self.turns_off(&ack);
         let taken = self.slots.take_ack(ack);
-        if taken == Taken::Used && is_off {
+        if taken == Taken::Old {
+            return taken;
+        }
+        if is_off {
             let row = CoreRow {
                 status: Status::Off,
                 ..row_of(&self.rows, core)
@@ -134,5 +138,12 @@ impl State {
             set_row(&mut self.rows, core, row);
         }
         taken
+    }
+
+    /// Whether an acknowledgement says that its core is off.
+    fn turns_off(&self, ack: &Ack) -> bool
+        ensures { result ≡ turns_off (values_in self.now) ack.now }
+    {
+        ack.kind == Kind::Down && ack.applied > 0 && self.is_away(ack.core)
     }
 }
