@@ -1,4 +1,5 @@
 mod Acked
+mod Begun
 mod Changed
 mod Moved
 mod Spanned
