@@ -4,4 +4,5 @@ mod Changed
 mod Granting
 mod Moved
 mod Spanned
+mod Stopping
 mod Viewed

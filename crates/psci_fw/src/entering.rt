@@ -9,7 +9,8 @@ ghost use Rattle.psci_fw_model.specs.Invariant.{AreValues};
 ghost use Rattle.psci_fw.specs.Seen.{IsStateOf, values_in};
 ghost use Rattle.psci_fw.specs.Ways.{way_on};
 
-use crate::held::{law_invariant, law_stops};
+use crate::held::law_stops;
+use crate::laws::law_may_claim;
 use crate::off::send_down;
 use crate::state::State;
 use psci_board::{Board, Core};
@@ -53,7 +54,7 @@ pub fn enter(board: &Board, state: &mut State, core: Core, start: Start) -> Outc
         result.act result.message) (values_in state.old) }
     ensures state { IsStateOf board.now state.new }
 {
-    law_invariant();
+    law_may_claim();
     law_stops();
     state.begin_life(board, start.life);
     if state.halting() {

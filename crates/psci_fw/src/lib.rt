@@ -14,6 +14,7 @@ mod claim;
 mod entering;
 mod firmware;
 mod held;
+mod laws;
 mod mode;
 mod off;
 mod on;

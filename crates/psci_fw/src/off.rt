@@ -11,7 +11,8 @@ ghost use Rattle.psci_fw.specs.Claims.{MayClaim};
 ghost use Rattle.psci_fw.specs.Calls.{IsAnswered, MayCall};
 ghost use Rattle.psci_fw.specs.Seen.{IsStateOf, values_in};
 
-use crate::held::{law_invariant, law_stops};
+use crate::held::law_stops;
+use crate::laws::law_may_claim;
 use crate::state::State;
 use psci_board::{Board, Core};
 use psci_coord::Parts;
@@ -26,7 +27,7 @@ pub fn cpu_off(board: &Board, state: &mut State, caller: Core) -> Outcome
     ensures state { IsStateOf board.now state.new }
 {
     law_stops();
-    law_invariant();
+    law_may_claim();
     state.set_away(board, caller);
     let parts = state.leaving_parts(board, caller);
     send_down(board, state, caller, parts)

@@ -12,7 +12,8 @@ ghost use Rattle.psci_fw.specs.Calls.{IsAnswered, MayCall};
 ghost use Rattle.psci_fw.specs.Claims.{MaySleep, Slept};
 ghost use Rattle.psci_fw.specs.Seen.{IsStateOf, values_in};
 
-use crate::held::{law_invariant, law_stops};
+use crate::held::law_stops;
+use crate::laws::law_may_claim;
 use crate::off::send_down;
 use crate::state::State;
 use psci_abi::{Code, Format};
@@ -39,7 +40,7 @@ pub fn cpu_suspend(
         (CpuSuspend word opening.address opening.context) result (values_in state.new) }
     ensures state { IsStateOf board.now state.new }
 {
-    law_invariant();
+    law_may_claim();
     let Ok(ask) = Ask::read(word, FORMAT, board.height()) else {
         return Outcome::returns(Code::INVALID_PARAMETERS);
     };

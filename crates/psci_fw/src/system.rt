@@ -11,7 +11,7 @@ ghost use Rattle.psci_fw.specs.Calls.{IsAnswered, MayCall};
 ghost use Rattle.psci_fw.specs.Halts.{IsOfSystem};
 ghost use Rattle.psci_fw.specs.Seen.{IsStateOf, values_in};
 
-use crate::held::law_invariant;
+use crate::laws::law_may_claim;
 use crate::state::State;
 use crate::suspend::sleep;
 use psci_abi::Code;
@@ -29,7 +29,7 @@ pub fn system_suspend(board: &Board, state: &mut State, caller: Core, opening: O
         (requests.SystemSuspend opening.address opening.context) result (values_in state.new) }
     ensures state { IsStateOf board.now state.new }
 {
-    law_invariant();
+    law_may_claim();
     if !board.may_enter(opening.address) {
         return Outcome::returns(Code::INVALID_ADDRESS);
     }
