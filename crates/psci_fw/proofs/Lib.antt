@@ -1,4 +1,5 @@
 mod Acked
+mod Answered
 mod Begun
 mod Changed
 mod Granting

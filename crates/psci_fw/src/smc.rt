@@ -7,7 +7,7 @@ ghost use Rattle.psci_fw_model.specs.Calls.{call_fault, outcome_of};
 ghost use Rattle.psci_fw_model.specs.Effects.{function_effect};
 ghost use Rattle.psci_fw_model.specs.Invariant.{AreValues};
 ghost use Rattle.psci_fw_model.specs.Phases.{Running};
-ghost use Rattle.psci_fw.specs.Calls.{IsAnswered, MayCall, query_code};
+ghost use Rattle.psci_fw.specs.Calls.{IsAnswered, MayCall};
 ghost use Rattle.psci_fw.specs.Seen.{IsStateOf, values_in};
 
 use crate::mode::set_suspend_mode;
@@ -90,25 +90,13 @@ fn function(board: &Board, state: &mut State, caller: Core, request: Request) ->
             system_suspend(board, state, caller, opening(entry, context))
         }
         Request::SetSuspendMode { mode } => set_suspend_mode(board, state, caller, mode),
-        Request::Version
-        | Request::AffinityInfo { .. }
-        | Request::MigrateInfoType
-        | Request::Features { .. }
-        | Request::Unknown => Outcome::returns(query(board, state, request)),
-    }
-}
-
-/// What a function answers that changes nothing; NOT_SUPPORTED of every other one.
-fn query(board: &Board, state: &State, request: Request) -> Code
-    requires { IsStateOf board.now state.now }
-    ensures { result ≡ query_code board.now (values_in state.now) request }
-{
-    match request {
-        Request::Version => VERSION,
-        Request::AffinityInfo { target, level } => state.affinity_info(board, target, level),
-        Request::MigrateInfoType => NO_MIGRATION,
-        Request::Features { word } => Code(features(word, FORMAT)),
-        _ => Code::NOT_SUPPORTED,
+        Request::Version => Outcome::returns(VERSION),
+        Request::AffinityInfo { target, level } => {
+            Outcome::returns(state.affinity_info(board, target, level))
+        }
+        Request::MigrateInfoType => Outcome::returns(NO_MIGRATION),
+        Request::Features { word } => Outcome::returns(Code(features(word, FORMAT))),
+        Request::Unknown => Outcome::returns(Code::NOT_SUPPORTED),
     }
 }
 
