@@ -1,12 +1,15 @@
 -- What a core is answered that stops or enters, and what is left.
 use Rattle.std.proofs.Common.{◌≡◌, ℕ, ◌<◌, ◌==◌, Bool, true, false, cond, not, nat_lt, List, None}
-use Rattle.std.proofs.Common.{Some, Option, refl, sym, subst, ◌∙◌, ap, arith}
+use Rattle.std.proofs.Common.{Some, Option, Ok, Err, Result, ◌&&◌, refl, sym, subst, ◌∙◌, ap, arith}
 use Rattle.std.proofs.lemmas.Bool.{ltb-true}
 use Rattle.std.specs.Option.{option_or}
 use Rattle.psci_abi.specs.declared.request.Request.TheVariants as requests
-use Rattle.psci_board.specs.Board.{BoardValue, cores}
+use Rattle.psci_board.specs.Board.{BoardValue, cores, may_enter}
+use Rattle.psci_coord.specs.declared.osi.Osi.{Osi}
 use Rattle.psci_coord.specs.declared.part.Part.{Part}
 use Rattle.psci_link.specs.declared.kind.Kind.TheVariants.{Down}
+use Rattle.psci_state.specs.Ask.{is_deep}
+use Rattle.psci_state.specs.declared.fault.BadState.{BadState}
 use Rattle.psci_fw_model.specs.declared.fault.FwFault.{FwFault}
 use Rattle.psci_fw_model.specs.declared.fault.FwFault.TheVariants.{NoCore, NoLife, OldStart}
 use Rattle.psci_fw_model.specs.declared.opening.Opening.{Opening}
@@ -16,17 +19,18 @@ use Rattle.psci_fw_model.specs.declared.outcome.Outcome.{Outcome}
 use Rattle.psci_fw_model.specs.declared.start.Start.{Start}
 use Rattle.psci_fw_model.specs.After.{change}
 use Rattle.psci_fw_model.specs.Changes.{with_arrival, with_claim, with_phase, with_rest}
-use Rattle.psci_fw_model.specs.Claims.{leaving_claim, off_parts}
+use Rattle.psci_fw_model.specs.Claims.{leaving_claim, off_parts, suspend_parts}
 use Rattle.psci_fw_model.specs.CpuOff.{off_message}
-use Rattle.psci_fw_model.specs.Effects.{function_effect, going_off}
+use Rattle.psci_fw_model.specs.CpuSuspend.{ask_named, sleeps, suspend_asked}
+use Rattle.psci_fw_model.specs.Effects.{function_effect, going_off, rest_named, suspended}
 use Rattle.psci_fw_model.specs.Entering.{enter_fault, enter_outcome, is_old, outcome_at, resumes}
 use Rattle.psci_fw_model.specs.Lives.{in_life, start_of_life}
 use Rattle.psci_fw_model.specs.Outcomes.{message_for, stops, stops_with}
-use Rattle.psci_fw_model.specs.Phases.{Away}
+use Rattle.psci_fw_model.specs.Phases.{Away, Phase, Running, unless_pending}
 use Rattle.psci_fw_model.specs.Values.{Values}
 use Rattle.psci_fw_model.specs.Views.{view}
 use Rattle.psci_fw.specs.Calls.{IsAnswered}
-use Rattle.psci_fw.specs.Claims.{MayClaim}
+use Rattle.psci_fw.specs.Claims.{MayClaim, slept_by}
 use Rattle.psci_fw.specs.Ways.{way_by, way_on}
 use Rattle.psci_fw.proofs.Changed.{same_values, updated_same}
 use Rattle.psci_fw.proofs.Moved.{arrived}
@@ -86,6 +90,53 @@ off_answered b v w u c o parts e is answer left =
           ∙ ap (λ (x : Outcome). change b (function_effect b c requests.CpuOff x.act x.message) v)
           (sym stopped);
     }
+
+-- Suspended -------------------------------------------------------------------------------------
+
+-- a running core that goes on changes nothing
+pub goes_on : (v : Values) (c : ℕ) → v.phase c ≡ Running → v ≡ with_phase c Running v
+goes_on v c e = same_values _ _ (record {
+  life = refl;
+  halting = refl;
+  mode = refl;
+  known = λ k. refl;
+  status = λ k. refl;
+  phase = λ k.
+      sym (updated_same v.phase c (unless_pending (v.phase c) Running)
+      (ap (λ (p : Phase). unless_pending p Running) e ∙ sym e) k);
+  opening = λ k. refl;
+  granted = λ l p. refl;
+  outstanding = λ slot. refl;
+})
+
+module _ (b : BoardValue) (v : Values) (c word : ℕ) (opening : Opening) (ask : List ℕ)
+    (running : v.phase c ≡ Running) (named : ask_named b word ≡ Ok ask) where
+  slept_after : (x : Result (List Part) Osi)
+      → slept_by b v c (suspended opening ask) (sleeps v c x).message
+      ≡ change b (function_effect b c (requests.CpuSuspend word opening.address opening.context)
+      (sleeps v c x).act (sleeps v c x).message) v
+  slept_after (Ok parts) =
+      ap (λ (n : Result (List ℕ) BadState).
+          with_claim b (message_for v Down c parts) (with_rest c (rest_named opening n) v))
+      (sym named)
+  slept_after (Err reason) = goes_on v c running
+
+  pub suspended_answered : (o : Outcome) (w : Values)
+      → (is_deep ask && not (may_enter b opening.address)) ≡ false → (v.known c ≡ b.starts → ⊥)
+      → o ≡ sleeps v c (suspend_parts b v c ask)
+      → w ≡ slept_by b v c (suspended opening ask) o.message
+      → IsAnswered b v c (requests.CpuSuspend word opening.address opening.context) o w
+  suspended_answered o w may low is left =
+      let other : (v.known c == b.starts) ≡ false = grind arith in
+      let asked : suspend_asked b v c opening.address (Ok ask)
+      ≡ sleeps v c (suspend_parts b v c ask) = rw (may, other) refl in
+      record {
+        answer = is ∙ sym (ap (suspend_asked b v c opening.address) named ∙ asked);
+        after = left ∙ ap (λ (x : Outcome). slept_by b v c (suspended opening ask) x.message) is
+            ∙ slept_after (suspend_parts b v c ask)
+            ∙ ap (λ (x : Outcome). change b (function_effect b c
+            (requests.CpuSuspend word opening.address opening.context) x.act x.message) v) (sym is);
+      }
 
 -- Entering --------------------------------------------------------------------------------------
 

@@ -1,6 +1,8 @@
 //! The functions that a running core calls.
 
 ghost use Rattle.std.specs.Prelude.{◌≡◌, ◌<◌, MatchResult, None, Some};
+ghost use Rattle.psci_abi.specs.declared.format.Format.TheVariants.{Original};
+ghost use Rattle.psci_abi.specs.Calls.{features_of};
 ghost use Rattle.psci_board.specs.Board.{cores};
 ghost use Rattle.psci_fw_model.specs.After.{change};
 ghost use Rattle.psci_fw_model.specs.Calls.{call_fault, outcome_of};
@@ -95,9 +97,16 @@ fn function(board: &Board, state: &mut State, caller: Core, request: Request) ->
             Outcome::returns(state.affinity_info(board, target, level))
         }
         Request::MigrateInfoType => Outcome::returns(NO_MIGRATION),
-        Request::Features { word } => Outcome::returns(Code(features(word, FORMAT))),
+        Request::Features { word } => Outcome::returns(feature_code(word)),
         Request::Unknown => Outcome::returns(Code::NOT_SUPPORTED),
     }
+}
+
+/// PSCI_FEATURES (DEN0022D): the feature flags of a function word, or NOT_SUPPORTED.
+fn feature_code(word: u32) -> Code
+    ensures { result ≡ record { 0 = features_of Original word } }
+{
+    Code(features(word, FORMAT))
 }
 
 /// Where a core goes on: entry point and context id.
