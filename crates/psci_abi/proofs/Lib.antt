@@ -1,2 +1,4 @@
 mod CodeRows
+mod FeatureRows
+mod RequestRows
 mod ResultRows

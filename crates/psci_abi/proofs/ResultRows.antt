@@ -1,5 +1,5 @@
 -- The result register, on codes and words that are known.
-use Rattle.std.proofs.Common.{◌≡◌, ℕ, Bool, true, false, ℤ, pos, negsuc, refl}
+use Rattle.std.proofs.Common.{◌≡◌, ℕ, true, false, ℤ, pos, negsuc, refl}
 use Rattle.psci_abi.specs.declared.registers.Regs.{Regs}
 use Rattle.psci_abi.specs.Codes.{invalid_address}
 use Rattle.psci_abi.specs.Calls.{is_wide, register_of, result_of}

@@ -1,16 +1,18 @@
 -- The function words, the arguments and the results of a call.
-use Rattle.std.specs.Prelude.{ℕ, ◌%◌, ◌/◌, ◌^◌, Bool, true, false, ◌||◌}
+use Rattle.std.specs.Prelude.{ℕ, ◌+◌, ◌%◌, ◌/◌, ◌^◌, Bool, true, false, ◌||◌}
 use Rattle.std.specs.Prelude.{◌==◌, if◌then◌else◌, ℤ, pos}
 use Rattle.std.specs.Int.{cast_unsigned, w32, w64}
 use Rattle.psci_abi.specs.Codes.{not_supported}
 use Rattle.psci_abi.specs.declared.code.Code.{Code}
-use Rattle.psci_abi.specs.declared.registers.Regs.{Regs}
 use Rattle.psci_abi.specs.declared.format.Format.{Format}
+use Rattle.psci_abi.specs.declared.format.Format.TheVariants.{Original, Extended}
+use Rattle.psci_abi.specs.declared.registers.Regs.{Regs}
 use Rattle.psci_abi.specs.declared.request.Request.{Request}
-use Rattle.psci_abi.specs.declared.request.Request.TheVariants.{Version, CpuOn, AffinityInfo}
-use Rattle.psci_abi.specs.declared.request.Request.TheVariants.{MigrateInfoType, Features, Unknown}
-use Rattle.psci_abi.specs.declared.request.Request.TheVariants.{CpuSuspend, CpuOff, SystemOff}
-use Rattle.psci_abi.specs.declared.request.Request.TheVariants.{SystemReset, SystemSuspend, SetSuspendMode}
+use Rattle.psci_abi.specs.declared.request.Request.TheVariants.{Version, CpuSuspend, CpuOff, CpuOn}
+use Rattle.psci_abi.specs.declared.request.Request.TheVariants.{AffinityInfo, MigrateInfoType}
+use Rattle.psci_abi.specs.declared.request.Request.TheVariants.{SystemOff, SystemReset, Features}
+use Rattle.psci_abi.specs.declared.request.Request.TheVariants.{SystemSuspend, SetSuspendMode}
+use Rattle.psci_abi.specs.declared.request.Request.TheVariants.{Unknown}
 
 -- the low half of a register, or of an argument: the function word, and what has 32 bits
 abbrev pub low : ℕ → ℕ
@@ -25,7 +27,8 @@ abbrev pub argument : Regs → ℕ → ℕ
 argument r register = if is_wide r then register else low register
 
 -- The table of functions (DEN0022D), by the function word and the arguments. A function without a
--- word in the SMC64 convention is unknown there; a level and a feature word have 32 bits in both.
+-- word in the SMC64 convention is unknown there; a power state, a level, a feature word and a mode
+-- have 32 bits in both.
 abbrev pub function_of : ℕ → ℕ → ℕ → ℕ → Request
 function_of word x1 x2 x3 =
     (if word == 0x84000000 then Version
@@ -47,16 +50,46 @@ request_of r = function_of (low r.x0) (argument r r.x1) (argument r r.x2) (argum
 
 -- whether the table has the function
 abbrev pub is_known : Request → Bool
+is_known Version = true
+is_known (CpuSuspend state entry context) = true
+is_known CpuOff = true
+is_known (CpuOn target entry context) = true
+is_known (AffinityInfo target level) = true
+is_known MigrateInfoType = true
+is_known SystemOff = true
+is_known SystemReset = true
+is_known (Features word) = true
+is_known (SystemSuspend entry context) = true
+is_known (SetSuspendMode mode) = true
 is_known Unknown = false
-is_known r = true
 
 -- which function words are supported: those of the table
 abbrev pub is_supported : ℕ → Bool
 is_supported word = is_known (function_of word 0 0 0)
 
--- what PSCI_FEATURES answers: no function has a feature flag yet
+-- the flag of CPU_SUSPEND for OS-initiated mode, bit 0 (DEN0022D, PSCI_FEATURES)
+abbrev pub os_initiated_flag : ℕ
+os_initiated_flag = 2 ^ 0
+
+-- the flag of CPU_SUSPEND for power state words in the extended format, bit 1
+abbrev pub extended_flag : ℕ
+extended_flag = 2 ^ 1
+
+-- the flags of CPU_SUSPEND: OS-initiated mode is there, and power state words have this format
+abbrev pub suspend_flags : Format → ℕ
+suspend_flags Original = os_initiated_flag
+suspend_flags Extended = os_initiated_flag + extended_flag
+
+-- the feature flags of a function: CPU_SUSPEND has some, and no other function
+abbrev pub feature_flags : Format → Request → ℕ
+feature_flags format (CpuSuspend state entry context) = suspend_flags format
+feature_flags format _ = 0
+
+-- what PSCI_FEATURES answers: the flags of a function that is there, else NOT_SUPPORTED
 abbrev pub features_of : Format → ℕ → ℤ
-features_of f word = if word == 0x84000001 || word == 0xC4000001 then pos 1 else (if is_supported word then pos 0 else not_supported.0)
+features_of format word =
+    if is_supported word then pos (feature_flags format (function_of word 0 0 0))
+    else not_supported.0
 
 -- a result register: the code over 64 bits, or over the low 32 with the upper half zero
 abbrev pub register_of : ℤ → Bool → ℕ

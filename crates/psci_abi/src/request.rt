@@ -5,24 +5,30 @@ ghost use Rattle.psci_abi.specs.Calls.{function_of, request_of};
 
 use crate::registers::{Regs, low};
 use crate::words::{
-    AFFINITY_INFO_32, AFFINITY_INFO_64, CPU_ON_32, CPU_ON_64, MIGRATE_INFO_TYPE, PSCI_FEATURES,
-    PSCI_VERSION,
+    AFFINITY_INFO_32, AFFINITY_INFO_64, CPU_OFF, CPU_ON_32, CPU_ON_64, CPU_SUSPEND_32,
+    CPU_SUSPEND_64, MIGRATE_INFO_TYPE, PSCI_FEATURES, PSCI_SET_SUSPEND_MODE, PSCI_VERSION,
+    SYSTEM_OFF, SYSTEM_RESET, SYSTEM_SUSPEND_32, SYSTEM_SUSPEND_64,
 };
 
 /// A function with its arguments, each cut to its width, so that no later code sees a register.
 ///
 /// Targets, entry points and context ids have 64 bits in an SMC64 call and 32 in an SMC32 call;
-/// levels have 32 bits in both, and so has the function word that PSCI_FEATURES asks about.
+/// power states, levels and modes have 32 bits in both, and so has the function word that
+/// PSCI_FEATURES asks about. The variants stand in the order of the function numbers.
 #[derive(Clone, Copy, Debug, PartialEq, Eq)]
 pub enum Request {
     /// PSCI_VERSION.
     Version,
-    /// CPU_SUSPEND
+    /// CPU_SUSPEND: the caller stops in a power state.
     CpuSuspend {
+        /// The power state word, in the board's format.
         state: u32,
+        /// Where it enters again after a power-down state.
         entry: u64,
+        /// What it finds in x0 there.
         context: u64,
     },
+    /// CPU_OFF: the caller stops until it is asked on again.
     CpuOff,
     /// CPU_ON: start the core that `target` names at the entry point, with the context id.
     CpuOn {
@@ -42,18 +48,25 @@ pub enum Request {
     },
     /// MIGRATE_INFO_TYPE.
     MigrateInfoType,
+    /// SYSTEM_OFF: the whole system powers down.
     SystemOff,
+    /// SYSTEM_RESET: the whole system powers down and starts again.
     SystemReset,
     /// PSCI_FEATURES: whether a function is there, and its feature flags.
     Features {
         /// The function word that is asked about.
         word: u32,
     },
+    /// SYSTEM_SUSPEND: the caller, the last core that is not off, takes the system down with it.
     SystemSuspend {
+        /// Where it enters again.
         entry: u64,
+        /// What it finds in x0 there.
         context: u64,
     },
+    /// PSCI_SET_SUSPEND_MODE: who decides on the states of power domains.
     SetSuspendMode {
+        /// 0 for platform-coordinated, 1 for OS-initiated mode; any other value is passed on.
         mode: u32,
     },
     /// Every other function word: NOT_SUPPORTED.
@@ -61,6 +74,17 @@ pub enum Request {
 }
 
 impl Request {
+    /// CPU_SUSPEND with these arguments.
+    fn cpu_suspend(state: u32, entry: u64, context: u64) -> Request
+        ensures { result ≡ Request.CpuSuspend state entry context }
+    {
+        Request::CpuSuspend {
+            state,
+            entry,
+            context,
+        }
+    }
+
     /// CPU_ON with these arguments.
     fn cpu_on(target: u64, entry: u64, context: u64) -> Request
         ensures { result ≡ Request.CpuOn target entry context }
@@ -78,6 +102,13 @@ impl Request {
     {
         Request::AffinityInfo { target, level }
     }
+
+    /// SYSTEM_SUSPEND with these arguments.
+    fn system_suspend(entry: u64, context: u64) -> Request
+        ensures { result ≡ Request.SystemSuspend entry context }
+    {
+        Request::SystemSuspend { entry, context }
+    }
 }
 
 /// The function that the registers call. Every value of every register has one answer.
@@ -94,16 +125,16 @@ pub(crate) fn function(word: u32, x1: u64, x2: u64, x3: u64) -> Request
 {
     match word {
         PSCI_VERSION => Request::Version,
-        0x8400_0001 | 0xC400_0001 => Request::CpuSuspend { state: low(x1), entry: x2, context: x3 },
-        0x8400_0002 => Request::CpuOff,
-        0x8400_0008 => Request::SystemOff,
-        0x8400_0009 => Request::SystemReset,
-        0x8400_000E | 0xC400_000E => Request::SystemSuspend { entry: x1, context: x2 },
-        0x8400_000F => Request::SetSuspendMode { mode: low(x1) },
+        CPU_SUSPEND_32 | CPU_SUSPEND_64 => Request::cpu_suspend(low(x1), x2, x3),
+        CPU_OFF => Request::CpuOff,
         CPU_ON_32 | CPU_ON_64 => Request::cpu_on(x1, x2, x3),
         AFFINITY_INFO_32 | AFFINITY_INFO_64 => Request::affinity_info(x1, low(x2)),
         MIGRATE_INFO_TYPE => Request::MigrateInfoType,
+        SYSTEM_OFF => Request::SystemOff,
+        SYSTEM_RESET => Request::SystemReset,
         PSCI_FEATURES => Request::Features { word: low(x1) },
+        SYSTEM_SUSPEND_32 | SYSTEM_SUSPEND_64 => Request::system_suspend(x1, x2),
+        PSCI_SET_SUSPEND_MODE => Request::SetSuspendMode { mode: low(x1) },
         _ => Request::Unknown,
     }
 }

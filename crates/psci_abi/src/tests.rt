@@ -26,7 +26,8 @@ fn feature_words(rt: HostRuntime) {
     assert_eq!(rt; features(0xc400_0003, Format::Original), 0);
     assert_eq!(rt; features(0xc400_0002, Format::Original), -1);
     assert_eq!(rt; features(0x8400_0013, Format::Original), -1);
-    assert_eq!(rt; features(0x8400_0001, Format::Original), -1);
+    assert_eq!(rt; features(0x8400_0001, Format::Original), 1);
+    assert_eq!(rt; features(0x8400_0001, Format::Extended), 3);
     assert_eq!(rt; features(0x8400_000a, Format::Original), 0);
 }
 
@@ -58,4 +59,32 @@ fn arguments_are_cut(rt: HostRuntime) {
             level: 2
         }
     );
+}
+
+#[test]
+fn suspend_arguments(rt: HostRuntime) {
+    let high = 0xdead_0000_0000_0000;
+    let suspend = Regs {
+        x0: 0xc400_0001,
+        x1: high | 0x0101_0033,
+        x2: high | 0x4000_0100,
+        x3: high | 5,
+    };
+    let asked = Request::CpuSuspend {
+        state: 0x0101_0033,
+        entry: high | 0x4000_0100,
+        context: high | 5,
+    };
+    assert_eq!(rt; read(suspend), asked);
+    let system = Regs {
+        x0: 0x8400_000e,
+        x1: high | 0x4000_0200,
+        x2: high | 9,
+        x3: 0,
+    };
+    let asked = Request::SystemSuspend {
+        entry: 0x4000_0200,
+        context: 9,
+    };
+    assert_eq!(rt; read(system), asked);
 }

@@ -1,7 +1,16 @@
-//! The function words of DEN0022D that this firmware answers.
+//! The function words of DEN0022D that are read.
 
 /// PSCI_VERSION.
 pub const PSCI_VERSION: u32 = 0x8400_0000;
+
+/// CPU_SUSPEND in the SMC32 convention.
+pub const CPU_SUSPEND_32: u32 = 0x8400_0001;
+
+/// CPU_SUSPEND in the SMC64 convention.
+pub const CPU_SUSPEND_64: u32 = 0xC400_0001;
+
+/// CPU_OFF.
+pub const CPU_OFF: u32 = 0x8400_0002;
 
 /// CPU_ON in the SMC32 convention.
 pub const CPU_ON_32: u32 = 0x8400_0003;
@@ -18,5 +27,20 @@ pub const AFFINITY_INFO_64: u32 = 0xC400_0004;
 /// MIGRATE_INFO_TYPE.
 pub const MIGRATE_INFO_TYPE: u32 = 0x8400_0006;
 
+/// SYSTEM_OFF.
+pub const SYSTEM_OFF: u32 = 0x8400_0008;
+
+/// SYSTEM_RESET.
+pub const SYSTEM_RESET: u32 = 0x8400_0009;
+
 /// PSCI_FEATURES.
 pub const PSCI_FEATURES: u32 = 0x8400_000A;
+
+/// SYSTEM_SUSPEND in the SMC32 convention.
+pub const SYSTEM_SUSPEND_32: u32 = 0x8400_000E;
+
+/// SYSTEM_SUSPEND in the SMC64 convention.
+pub const SYSTEM_SUSPEND_64: u32 = 0xC400_000E;
+
+/// PSCI_SET_SUSPEND_MODE.
+pub const PSCI_SET_SUSPEND_MODE: u32 = 0x8400_000F;

@@ -20,7 +20,7 @@ use Rattle.psci_bench.specs.Progress.{Progress, progress, Ahead, WriteFailed, Is
 use Rattle.psci_bench.specs.Script.{Saying, Transcript, after_line, transcript, transcript_of_rest}
 use Rattle.psci_bench.specs.Script.{transcript_of_first, transcript_of_board, transcript_of_lines}
 use Rattle.psci_bench.specs.Script.{board_line, ok_or, ends}
-use Rattle.psci_board.specs.Reading.{literal_at}
+use Rattle.psci_text.specs.Reading.{literal_at}
 use Rattle.std.specs.Prelude.{codes}
 use Rattle.psci_bench.specs.Run.{LinesAnswered, Ended, CutShort, Unwritten}
 use Rattle.psci_bench.proofs.Known.{appends_more}

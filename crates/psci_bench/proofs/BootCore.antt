@@ -3,19 +3,19 @@ use Rattle.std.proofs.Common.{◌≡◌, ◌<◌, ℕ, true, List, [], ◌∷◌
 use Rattle.std.proofs.Common.{arith, subst, None}
 use Rattle.psci_abi.specs.Calls.{request_of}
 use Rattle.psci_abi.specs.declared.registers.Regs.{Regs}
-use Rattle.psci_board.specs.Board.{BoardValue, cores}
+use Rattle.psci_board.specs.Board.{BoardValue, IsBoard, cores}
 use Rattle.psci_fw_model.specs.declared.call.FwCall.{FwCall}
 use Rattle.psci_fw_model.specs.declared.call.FwCall.TheVariants as calls
 use Rattle.psci_fw_model.specs.declared.outcome.Act.{Act}
 use Rattle.psci_fw_model.specs.declared.outcome.Act.TheVariants as acts
 use Rattle.psci_fw_model.specs.declared.outcome.Outcome.{Outcome}
-use Rattle.psci_fw_model.specs.declared.phase.Phase.TheVariants as phases
+use Rattle.psci_fw_model.specs.Phases as phases
 use Rattle.psci_fw_model.specs.declared.reply.FwReply.{FwReply}
 use Rattle.psci_fw_model.specs.declared.reply.FwReply.TheVariants.{Out}
-use Rattle.psci_fw_model.specs.declared.start.Start.{Start}
+use Rattle.psci_ctl_model.specs.declared.start.Start.{Start}
 use Rattle.psci_fw_model.specs.Answer.{answer}
 use Rattle.psci_fw_model.specs.Calls.{outcome_of}
-use Rattle.psci_fw_model.specs.Changes.{after}
+use Rattle.psci_fw_model.specs.After.{after}
 use Rattle.psci_fw_model.specs.Entry.{Entry}
 use Rattle.psci_fw_model.specs.History.{values_of}
 use Rattle.psci_fw_model.specs.Invariant.{AreValues}
@@ -24,7 +24,7 @@ use Rattle.psci_fw_model.specs.Outcomes.{goes_on}
 use Rattle.psci_fw_model.specs.Values.{Values}
 use Rattle.psci_bench.specs.declared.event.Event.{Event}
 use Rattle.psci_bench.specs.declared.event.Event.TheVariants.{Call, Enter}
-use Rattle.psci_bench.specs.declared.firmware_machine.Place.TheVariants.{Running}
+use Rattle.psci_bench.specs.declared.place.Place.TheVariants.{Running}
 use Rattle.psci_bench.specs.Legal.{place_after, call_in, first_start}
 
 -- The laws of the firmware's definitions that are needed here.
@@ -52,8 +52,8 @@ pub record Laws : Type 0 where
   pub enters_life : (b : BoardValue) (v : Values) (c : ℕ) (s : Start) (o : Outcome)
       → (after b c (calls.Enter s) (Out o) v).life ≡ s.life
   -- the values are such as a firmware keeps
-  pub start_values : (b : BoardValue) (life : ℕ) → AreValues b (start_of_life b life)
-  pub answer_values : (b : BoardValue) (v : Values) (c : ℕ) (call : FwCall) → AreValues b v
+  pub start_values : (b : BoardValue) (life : ℕ) → IsBoard b → AreValues b (start_of_life b life)
+  pub answer_values : (b : BoardValue) (v : Values) (c : ℕ) (call : FwCall) → IsBoard b → AreValues b v
       → AreValues b (after b c call (answer b v c call) v)
 
 -- the boot core runs, in a life, and the values are such as a firmware keeps
@@ -75,13 +75,14 @@ goes acts.Resume e = refl
 
 -- the values after an answer
 values_left : Laws → (b : BoardValue) (v : Values) (c : ℕ) (call : FwCall) (o : Outcome)
-    → AreValues b v → answer b v c call ≡ Out o → AreValues b (after b c call (Out o) v)
-values_left laws b v c call o k e =
-    subst (λ (r : FwReply). AreValues b (after b c call r v)) e (laws.answer_values b v c call k)
+    → IsBoard b → AreValues b v → answer b v c call ≡ Out o → AreValues b (after b c call (Out o) v)
+values_left laws b v c call o board k e =
+    subst (λ (r : FwReply). AreValues b (after b c call r v)) e
+    (laws.answer_values b v c call board k)
 
-pub answers_call : Laws → (b : BoardValue) (v : Values) (regs : Regs) → 0 < cores b → IsUp b v
-    → Answered b 0 (Call 0 regs) v
-answers_call laws b v regs on u =
+pub answers_call : Laws → (b : BoardValue) (v : Values) (regs : Regs) → IsBoard b → 0 < cores b
+    → IsUp b v → Answered b 0 (Call 0 regs) v
+answers_call laws b v regs board on u =
     let o = outcome_of b v 0 (request_of regs) in
     let e = laws.answered b v 0 regs on u.lives u.runs in (
       o,
@@ -89,22 +90,23 @@ answers_call laws b v regs on u =
       λ p. record {
         lives = subst (λ (n : ℕ). 0 < n) (sym (laws.life b v 0 regs (Out o))) u.lives;
         runs = laws.runs_on b v 0 regs u.values u.runs (goes o.act p);
-        values = values_left laws b v 0 (calls.Smc regs) o u.values e;
+        values = values_left laws b v 0 (calls.Smc regs) o board u.values e;
       },
     )
 
-pub enters_first : Laws → (b : BoardValue) → 0 < cores b → 0 < b.starts → 0 < b.lives
+pub enters_first : Laws → (b : BoardValue) → IsBoard b → 0 < cores b
     → Answered b 0 (Enter 0) (start_of_life b 0)
-enters_first laws b on some lives =
+enters_first laws b board on =
     let o : Outcome = record { act = acts.Enter b.boot 0; message = None } in
     let v = start_of_life b 0 in
-    let e = laws.enters b first_start on some lives refl refl in (
+    let e = laws.enters b first_start on board.some_starts board.some_lives refl refl in (
       o,
       e,
       λ p. record {
         lives = subst (λ (n : ℕ). 0 < n) (sym (laws.enters_life b v 0 first_start o))
             (omega arith);
         runs = laws.enters_runs b v 0 first_start o refl;
-        values = values_left laws b v 0 (calls.Enter first_start) o (laws.start_values b 0) e;
+        values = values_left laws b v 0 (calls.Enter first_start) o board
+            (laws.start_values b 0 board) e;
       },
     )

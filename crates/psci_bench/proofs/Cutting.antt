@@ -1,19 +1,48 @@
 -- The first line feed.
 use Rattle.std.proofs.Common.{◌≡◌, ℕ, suc, ◌+◌, ◌<◌, ◌≤◌, Bool, true, false, not, ◌||◌, cond}
 use Rattle.std.proofs.Common.{nat_lt, ◌==◌, List, [], ◌∷◌, ◌++◌, length, take, drop, refl, ap, sym}
-use Rattle.std.proofs.Common.{◌∙◌, arith, subst, Some, None, append_assoc}
+use Rattle.std.proofs.Common.{◌∙◌, arith, subst, Some, None, append_assoc, Option, get_or}
 use Rattle.std.specs.List.{position, position_or_len}
 use Rattle.std.proofs.lemmas.List.{take_all, take-append-le, drop-append-le, take-append-drop}
 use Rattle.std.proofs.lemmas.List.{length-take, length-append}
+use Rattle.std.proofs.lemmas.List.Sums.{position_or_len_is}
+use Rattle.std.proofs.lemmas.Bool.Decides.{nat_tests}
 use Rattle.std.proofs.lemmas.Bool.{eqb-true}
 use borrow.Author.Tests.{ltb-true, ltb-false}
+use Rattle.memchr.specs.Find.{IsFirstByte, is_byte}
 use Rattle.psci_bench.specs.Lines.{has_line_feed}
 
-abbrev feed : ℕ → Bool
+abbrev pub feed : ℕ → Bool
 feed b = b == 10
 
 abbrev place : List ℕ → ℕ
 place xs = position_or_len feed xs
+
+-- a test that is not passed fails
+fails : (b : Bool) → (b ≡ true → ⊥) → b ≡ false
+fails true h = absurd (h refl)
+fails false h = refl
+
+position_by : (xs : List ℕ) (n : ℕ) → place xs ≡ n → position feed xs
+    ≡ cond (nat_lt n (length xs)) (Some n) None
+position_by xs n e = ap (λ (k : ℕ). cond (nat_lt k (length xs)) (Some k) None) e
+
+-- where the first byte that is a line feed stands
+pub first_feed : (xs : List ℕ) (r : Option ℕ) → IsFirstByte (is_byte 10) xs r
+    → r ≡ position feed xs
+first_feed xs None h =
+    let at : place xs ≡ length xs =
+    position_or_len_is feed xs (length xs) 0 (omega arith)
+    (λ k l. fails (feed (get_or xs k 0)) (h k (omega arith) l)) (λ l. absurd (omega (arith, l))) in
+    let t : nat_lt (length xs) (length xs) ≡ false = grind (arith, nat_tests) in
+    rw (position_by xs (length xs) at, t) refl
+first_feed xs (Some n) h =
+    let l : n < length xs = h.0.high in
+    let at : place xs ≡ n =
+    position_or_len_is feed xs n 0 (omega (arith, l))
+    (λ k m. fails (feed (get_or xs k 0)) (h.0.before k (omega arith) m)) (λ m. h.1) in
+    let t : nat_lt n (length xs) ≡ true = grind (arith, nat_tests) in
+    rw (position_by xs n at, t) refl
 
 -- before the first line feed there is none
 before_more : (x : ℕ) (xs : List ℕ) (t : Bool) → feed x ≡ t

@@ -6,8 +6,8 @@ use Rattle.std.specs.Prelude.{codes, option_map, unwrap_or}
 use Rattle.std.specs.Fmt.{decimal}
 use Rattle.std.proofs.lemmas.List.{append-nil, nil_from_length}
 use Rattle.std.proofs.lemmas.Option.{cond_some, none-some, option_and_then_some}
-use Rattle.psci_board.specs.Grammar.{IsNumber}
-use Rattle.psci_board.specs.Reading.{literal_at, number_at, spaced_at}
+use Rattle.psci_text.specs.Spelling.{TextLaws, IsNumber}
+use Rattle.psci_text.specs.Reading.{literal_at, number_at, spaced_at}
 use Rattle.psci_bench.specs.declared.event.Event.{Event}
 use Rattle.psci_bench.specs.declared.event.Event.TheVariants.{Call, Enter}
 use Rattle.psci_bench.specs.declared.grammar.Line.TheVariants.{Blank, Event as Says}
@@ -18,7 +18,7 @@ use Rattle.psci_bench.specs.EventText.{registers_text, event_text, value_at, eve
 use Rattle.psci_bench.specs.EventText.{AreRegisterTexts, IsRegisterText, IsEventText}
 use Rattle.psci_bench.specs.EventText.{ReadsAsSpelled, SpellsWhatItSays}
 use Rattle.psci_bench.specs.EventText.EventText.{EnterText, CallText}
-use Rattle.psci_bench.proofs.Words.{IsEnd, IsRegister, number_again, number_takes, word_takes}
+use Rattle.psci_bench.proofs.Words.{IsEnd, IsRegister, number_again}
 use Rattle.psci_bench.proofs.Words.{register_again, register_takes}
 
 -- What is spelled is read -----------------------------------------------------------------------
@@ -27,72 +27,73 @@ registers_end : (rs : List RegisterText) → IsEnd (registers_text rs)
 registers_end [] = tt
 registers_end (r ∷ rs) = refl
 
-spaced_again : (r : RegisterText) (rs : List RegisterText) → IsRegisterText r
+spaced_again : (w : TextLaws) (r : RegisterText) (rs : List RegisterText) → IsRegisterText r
     → spaced_at register_at (registers_text (r ∷ rs)) ≡ Some (register_value r, registers_text rs)
 unfolding spaced_at literal_at
-spaced_again r rs h = register_again r (registers_text rs) h (registers_end rs)
+spaced_again w r rs h = register_again w r (registers_text rs) h (registers_end rs)
 
-optional_again : (r : RegisterText) (rs : List RegisterText) → IsRegisterText r
+optional_again : (w : TextLaws) (r : RegisterText) (rs : List RegisterText) → IsRegisterText r
     → optional_register_at (registers_text (r ∷ rs)) ≡ (register_value r, registers_text rs)
 unfolding optional_register_at
-optional_again r rs h = ap (λ (o : Option (ℕ × List ℕ)). unwrap_or o
-    (0, registers_text (r ∷ rs))) (spaced_again r rs h)
+optional_again w r rs h = ap (λ (o : Option (ℕ × List ℕ)). unwrap_or o
+    (0, registers_text (r ∷ rs))) (spaced_again w r rs h)
 
 optional_none : optional_register_at [] ≡ (0, [])
 unfolding optional_register_at spaced_at literal_at
 optional_none = refl
 
-call_again : (core : ℕ) (x0 : RegisterText) (rs : List RegisterText) → IsNumber core
+call_again : (w : TextLaws) (core : ℕ) (x0 : RegisterText) (rs : List RegisterText) → IsNumber core
     → IsRegisterText x0 → AreRegisterTexts rs → length rs ≤ 3
     → call_at (decimal core ++ registers_text (x0 ∷ rs)) ≡ Some (event_of (CallText core x0 rs))
 unfolding call_at
-call_again core x0 [] c h a l =
+call_again w core x0 [] c h a l =
     rw (
-      number_again core (registers_text (x0 ∷ [])) c refl,
-      spaced_again x0 [] h,
+      number_again w core (registers_text (x0 ∷ [])) c refl,
+      spaced_again w x0 [] h,
       optional_none,
       optional_none,
       optional_none,
     ) refl
-call_again core x0 (r ∷ []) c h a l =
+call_again w core x0 (r ∷ []) c h a l =
     rw (
-      number_again core (registers_text (x0 ∷ r ∷ [])) c refl,
-      spaced_again x0 (r ∷ []) h,
-      optional_again r [] a.0,
+      number_again w core (registers_text (x0 ∷ r ∷ [])) c refl,
+      spaced_again w x0 (r ∷ []) h,
+      optional_again w r [] a.0,
       optional_none,
       optional_none,
     ) refl
-call_again core x0 (r ∷ s ∷ []) c h a l =
+call_again w core x0 (r ∷ s ∷ []) c h a l =
     rw (
-      number_again core (registers_text (x0 ∷ r ∷ s ∷ [])) c refl,
-      spaced_again x0 (r ∷ s ∷ []) h,
-      optional_again r (s ∷ []) a.0,
-      optional_again s [] a.1.0,
+      number_again w core (registers_text (x0 ∷ r ∷ s ∷ [])) c refl,
+      spaced_again w x0 (r ∷ s ∷ []) h,
+      optional_again w r (s ∷ []) a.0,
+      optional_again w s [] a.1.0,
       optional_none,
     ) refl
-call_again core x0 (r ∷ s ∷ t ∷ []) c h a l =
+call_again w core x0 (r ∷ s ∷ t ∷ []) c h a l =
     rw (
-      number_again core (registers_text (x0 ∷ r ∷ s ∷ t ∷ [])) c refl,
-      spaced_again x0 (r ∷ s ∷ t ∷ []) h,
-      optional_again r (s ∷ t ∷ []) a.0,
-      optional_again s (t ∷ []) a.1.0,
-      optional_again t [] a.1.1.0,
+      number_again w core (registers_text (x0 ∷ r ∷ s ∷ t ∷ [])) c refl,
+      spaced_again w x0 (r ∷ s ∷ t ∷ []) h,
+      optional_again w r (s ∷ t ∷ []) a.0,
+      optional_again w s (t ∷ []) a.1.0,
+      optional_again w t [] a.1.1.0,
     ) refl
-call_again core x0 (r ∷ s ∷ t ∷ u ∷ rs) c h a l = absurd (omega (arith, l))
+call_again w core x0 (r ∷ s ∷ t ∷ u ∷ rs) c h a l = absurd (omega (arith, l))
 
-enter_again : (core : ℕ) → IsNumber core → enter_at (decimal core) ≡ Some (Enter core)
+enter_again : (w : TextLaws) (core : ℕ) → IsNumber core
+    → enter_at (decimal core) ≡ Some (Enter core)
 unfolding enter_at
-enter_again core c =
+enter_again w core c =
     let number : number_at (decimal core) ≡ Some (core, []) =
     subst (λ (ds : List ℕ). number_at ds ≡ Some (core, [])) (append-nil (decimal core))
-    (number_again core [] c tt) in
+    (number_again w core [] c tt) in
     rw number refl
 
-pub line_again : ReadsAsSpelled
+pub line_again : TextLaws → ReadsAsSpelled
 unfolding line_of literal_at
-line_again (EnterText core) h = ap (option_map Says) (enter_again core h)
-line_again (CallText core x0 rs) h =
-    ap (option_map Says) (call_again core x0 rs h.0 h.1.0 h.1.1 h.2)
+line_again w (EnterText core) h = ap (option_map Says) (enter_again w core h)
+line_again w (CallText core x0 rs) h =
+    ap (option_map Says) (call_again w core x0 rs h.0 h.1.0 h.1.1 h.2)
 
 -- What is read is spelled -----------------------------------------------------------------------
 
@@ -134,22 +135,24 @@ values_more n bytes y r rs e v more zero l = ap (λ (x : ℕ × List ℕ). x.0) 
 values_more n bytes y r rs e v more (suc i) l =
     ap (λ (x : ℕ × List ℕ). (optional_register_at (after i x.1)).0) e ∙ more i (omega (arith, l))
 
-spaced_takes : (bytes : List ℕ) (x : ℕ × List ℕ) → spaced_at register_at bytes ≡ Some x
+spaced_takes : (w : TextLaws) (bytes : List ℕ) (x : ℕ × List ℕ)
+    → spaced_at register_at bytes ≡ Some x
     → (rest : List ℕ) × IsRegister rest x × (bytes ≡ 32 ∷ rest)
 unfolding spaced_at
-spaced_takes bytes x e =
+spaced_takes w bytes x e =
     option_and_then_some register_at (literal_at (32 ∷ []) bytes) x e
-    (λ rest l i. (rest, register_takes rest x i, word_takes (32 ∷ []) bytes rest l))
+    (λ rest l i. (rest, register_takes w rest x i, w.word_takes (32 ∷ []) bytes rest l))
 
 optional_is : (bytes : List ℕ) (o : Option (ℕ × List ℕ)) → spaced_at register_at bytes ≡ o
     → optional_register_at bytes ≡ unwrap_or o (0, bytes)
 unfolding optional_register_at
 optional_is bytes o e = ap (λ (q : Option (ℕ × List ℕ)). unwrap_or q (0, bytes)) e
 
-one_more : (n : ℕ) (bytes : List ℕ) (y : ℕ × List ℕ) → spaced_at register_at bytes ≡ Some y
+one_more : (w : TextLaws) (n : ℕ) (bytes : List ℕ) (y : ℕ × List ℕ)
+    → spaced_at register_at bytes ≡ Some y
     → AreRegisters n y.1 → AreRegisters (suc n) bytes
-one_more n bytes y e k =
-    let s = spaced_takes bytes y e in record {
+one_more w n bytes y e k =
+    let s = spaced_takes w bytes y e in record {
       texts = s.1.text ∷ k.texts;
       fit = (s.1.fits, k.fit);
       few = omega (arith, k.few);
@@ -159,23 +162,24 @@ one_more n bytes y e k =
           k.values;
     }
 
-follow_by : (n : ℕ) (bytes : List ℕ) (o : Option (ℕ × List ℕ)) → spaced_at register_at bytes ≡ o
+follow_by : (w : TextLaws) (n : ℕ) (bytes : List ℕ) (o : Option (ℕ × List ℕ))
+    → spaced_at register_at bytes ≡ o
     → after (suc n) bytes ≡ []
     → ((rest : List ℕ) → after n rest ≡ [] → AreRegisters n rest) → AreRegisters (suc n) bytes
-follow_by n bytes None e h more = none_follow (suc n) bytes (optional_is bytes None e) h
-follow_by n bytes (Some y) e h more = one_more n bytes y e (more y.1
+follow_by w n bytes None e h more = none_follow (suc n) bytes (optional_is bytes None e) h
+follow_by w n bytes (Some y) e h more = one_more w n bytes y e (more y.1
     (sym (ap (λ (x : ℕ × List ℕ). after n x.1) (optional_is bytes (Some y) e)) ∙ h))
 
-follow : (n : ℕ) (bytes : List ℕ) → after n bytes ≡ [] → AreRegisters n bytes
-follow zero bytes h = record {
+follow : (w : TextLaws) (n : ℕ) (bytes : List ℕ) → after n bytes ≡ [] → AreRegisters n bytes
+follow w zero bytes h = record {
   texts = [];
   fit = tt;
   few = omega arith;
   spelled = h;
   values = λ i l. absurd (omega (arith, l));
 }
-follow (suc n) bytes h =
-    follow_by n bytes (spaced_at register_at bytes) refl h (λ rest e. follow n rest e)
+follow w (suc n) bytes h =
+    follow_by w n bytes (spaced_at register_at bytes) refl h (λ rest e. follow w n rest e)
 
 -- the event line that these bytes spell
 abbrev Spells : List ℕ → Event → Type 0
@@ -191,7 +195,7 @@ same_call core x0 y0 x1 y1 x2 y2 x3 y3 a b c d =
     ∙ ap (λ (z : ℕ). Call core (record { x0 = y0; x1 = y1; x2 = z; x3 = x3 })) c
     ∙ ap (λ (z : ℕ). Call core (record { x0 = y0; x1 = y1; x2 = y2; x3 = z })) d
 
-call_spelled : (bytes rest : List ℕ) (event : Event) (c x : ℕ × List ℕ)
+call_spelled : (w : TextLaws) (bytes rest : List ℕ) (event : Event) (c x : ℕ × List ℕ)
     → bytes ≡ codes "call " ++ rest → number_at rest ≡ Some c
     → spaced_at register_at c.1 ≡ Some x → AreRegisters 3 x.1
     → Call c.0 (record {
@@ -200,9 +204,9 @@ call_spelled : (bytes rest : List ℕ) (event : Event) (c x : ℕ × List ℕ)
       x2 = (optional_register_at (after 1 x.1)).0;
       x3 = (optional_register_at (after 2 x.1)).0;
     }) ≡ event → Spells bytes event
-call_spelled bytes rest event c x b n s k e =
-    let core = number_takes rest c n in
-    let first = spaced_takes c.1 x s in
+call_spelled w bytes rest event c x b n s k e =
+    let core = w.numbers.takes rest c n in
+    let first = spaced_takes w c.1 x s in
     let r = first.1.text in (
       CallText c.0 r k.texts,
       (core.0, (first.1.fits, k.fit), k.few),
@@ -213,24 +217,24 @@ call_spelled bytes rest event c x b n s k e =
           (k.values 1 (omega arith)) (k.values 2 (omega arith)),
     )
 
-call_takes : (bytes rest : List ℕ) (event : Event) → bytes ≡ codes "call " ++ rest
+call_takes : (w : TextLaws) (bytes rest : List ℕ) (event : Event) → bytes ≡ codes "call " ++ rest
     → call_at rest ≡ Some event → Spells bytes event
 unfolding call_at
-call_takes bytes rest event b e =
+call_takes w bytes rest event b e =
     option_and_then_some _ (number_at rest) event e (λ c n e1.
     option_and_then_some _ (spaced_at register_at c.1) event e1 (λ x s e2.
     let end = cond_some (eqb (length (after 3 x.1)) 0) _ event e2 in
-    call_spelled bytes rest event c x b n s
-    (follow 3 x.1 (nil_from_length (after 3 x.1) (eqb-true (length (after 3 x.1)) 0 end.0)))
+    call_spelled w bytes rest event c x b n s
+    (follow w 3 x.1 (nil_from_length (after 3 x.1) (eqb-true (length (after 3 x.1)) 0 end.0)))
     end.1))
 
-enter_takes : (bytes rest : List ℕ) (event : Event) → bytes ≡ codes "enter " ++ rest
+enter_takes : (w : TextLaws) (bytes rest : List ℕ) (event : Event) → bytes ≡ codes "enter " ++ rest
     → enter_at rest ≡ Some event → Spells bytes event
 unfolding enter_at
-enter_takes bytes rest event b e =
+enter_takes w bytes rest event b e =
     option_and_then_some _ (number_at rest) event e (λ c n e1.
     let end = cond_some (eqb (length c.1) 0) (Enter c.0) event e1 in
-    let core = number_takes rest c n in
+    let core = w.numbers.takes rest c n in
     let none : c.1 ≡ [] = nil_from_length c.1 (eqb-true (length c.1) 0 end.0) in (
       EnterText c.0,
       core.0,
@@ -239,14 +243,14 @@ enter_takes bytes rest event b e =
       sym end.1,
     ))
 
-event_by : (bytes : List ℕ) (event : Event) (call enter : Option (List ℕ))
+event_by : (w : TextLaws) (bytes : List ℕ) (event : Event) (call enter : Option (List ℕ))
     → literal_at (codes "call ") bytes ≡ call → literal_at (codes "enter ") bytes ≡ enter
     → after_word call call_at (after_word enter enter_at None) ≡ Some event → Spells bytes event
-event_by bytes event (Some rest) enter l m e =
-    call_takes bytes rest event (word_takes (codes "call ") bytes rest l) e
-event_by bytes event None (Some rest) l m e =
-    enter_takes bytes rest event (word_takes (codes "enter ") bytes rest m) e
-event_by bytes event None None l m e = absurd (none-some event e)
+event_by w bytes event (Some rest) enter l m e =
+    call_takes w bytes rest event (w.word_takes (codes "call ") bytes rest l) e
+event_by w bytes event None (Some rest) l m e =
+    enter_takes w bytes rest event (w.word_takes (codes "enter ") bytes rest m) e
+event_by w bytes event None None l m e = absurd (none-some event e)
 
 says_event : (t : Bool) (o : Option Event) (event : Event)
     → cond t (Some Blank) (option_map Says o) ≡ Some (Says event) → o ≡ Some event
@@ -254,10 +258,10 @@ says_event true o event e = absurd (cc)
 says_event false None event e = absurd (cc)
 says_event false (Some x) event e = cc
 
-pub line_takes : SpellsWhatItSays
+pub line_takes : TextLaws → SpellsWhatItSays
 unfolding line_of
-line_takes [] event e = absurd (cc)
-line_takes (b ∷ bs) event e =
-    event_by (b ∷ bs) event (literal_at (codes "call ") (b ∷ bs))
+line_takes w [] event e = absurd (cc)
+line_takes w (b ∷ bs) event e =
+    event_by w (b ∷ bs) event (literal_at (codes "call ") (b ∷ bs))
     (literal_at (codes "enter ") (b ∷ bs)) refl refl
     (says_event (eqb b 35) (event_at (b ∷ bs)) event e)

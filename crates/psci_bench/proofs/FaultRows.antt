@@ -3,7 +3,8 @@ use Rattle.std.proofs.Common.{◌≡◌, ℕ, List, [], ◌∷◌, ◌++◌, ref
 use Rattle.std.specs.Prelude.{codes, Ok, Err, replicate}
 use Rattle.std.specs.Fmt.{digits}
 use Rattle.psci_board.specs.Board.{core_of, node_of, up}
-use Rattle.psci_board.specs.Reading.{literal_at, number_at, hex_at, range_at, spaced_at, at_most}
+use Rattle.psci_text.specs.Reading.{literal_at, number_at, hex_at, spaced_at}
+use Rattle.psci_board.specs.Reading.{range_at, at_most}
 use Rattle.psci_board.specs.Reading.{more_at, list_at, member_at, tree_at, board_text}
 use Rattle.psci_board.specs.Verdict.{board_of, verdict}
 use Rattle.psci_board.specs.declared.fault.BoardFault.TheVariants.{Grammar, Uneven, TooWide}

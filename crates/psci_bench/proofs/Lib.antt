@@ -12,6 +12,7 @@ pub mod LimitRows
 pub mod LineRows
 pub mod MachineSteps
 pub mod Moved
+pub mod PartLines
 pub mod PlaceRows
 pub mod Places
 pub mod ScriptRows

@@ -1,7 +1,7 @@
 -- The limits of lines, which fault of a line comes first, and the board line.
 use Rattle.std.proofs.Common.{◌≡◌, [], ◌∷◌, refl}
 use Rattle.std.specs.Prelude.{Err, Ok, codes, replicate}
-use Rattle.psci_board.specs.Reading.{literal_at, number_at, hex_at, spaced_at}
+use Rattle.psci_text.specs.Reading.{literal_at, number_at, hex_at, spaced_at}
 use Rattle.psci_bench.specs.declared.fault.ScriptFault.TheVariants.{Line, Long, NoBoard, TooMany}
 use Rattle.psci_bench.specs.declared.grammar.Line.TheVariants.{Blank}
 use Rattle.psci_bench.specs.Line.{line_of, call_at, enter_at, register_at, optional_register_at}

@@ -1,7 +1,7 @@
 -- What each form of a line says.
 use Rattle.std.proofs.Common.{◌≡◌, ℕ, [], ◌∷◌, ◌++◌, refl}
 use Rattle.std.specs.Prelude.{Option, None, Some, codes}
-use Rattle.psci_board.specs.Reading.{literal_at, number_at, hex_at, spaced_at}
+use Rattle.psci_text.specs.Reading.{literal_at, number_at, hex_at, spaced_at}
 use Rattle.psci_bench.specs.declared.event.Event.TheVariants.{Call, Enter}
 use Rattle.psci_bench.specs.declared.grammar.Line.{Line as LineSays}
 use Rattle.psci_bench.specs.declared.grammar.Line.TheVariants.{Blank, Event as Says}

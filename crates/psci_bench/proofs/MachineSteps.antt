@@ -9,12 +9,12 @@ use Rattle.std.proofs.Math.Nat.{min-eq_right}
 use Rattle.psci_board.specs.Board.{BoardValue, cores}
 use Rattle.psci_board.specs.declared.node.Core.{Core}
 use Rattle.psci_fw_model.specs.declared.outcome.Outcome.{Outcome}
-use Rattle.psci_fw_model.specs.declared.message.Message.{Message}
+use Rattle.psci_link.specs.Message.{MessageValue}
 use Rattle.psci_fw_model.specs.declared.fault.FwFault.{FwFault}
 use Rattle.psci_fw_model.specs.declared.reply.FwReply.{FwReply}
 use Rattle.psci_fw_model.specs.declared.reply.FwReply.TheVariants.{Out, Fault}
 use Rattle.psci_fw_model.specs.Entry.{Entry}
-use Rattle.psci_fw_model.specs.Changes.{after}
+use Rattle.psci_fw_model.specs.After.{after}
 use Rattle.psci_fw_model.specs.Answer.{answer}
 use Rattle.psci_fw_model.specs.History.{values_of}
 use Rattle.psci_fw.specs.Seen.{FirmwareValue, seen}
@@ -23,7 +23,7 @@ use Rattle.psci_bench.specs.declared.event.Event.{Event}
 use Rattle.psci_bench.specs.declared.said.Sent.{Sent}
 use Rattle.psci_bench.specs.declared.said.Said.{Said}
 use Rattle.psci_bench.specs.declared.said.Said.TheVariants.{Ignored, Absent}
-use Rattle.psci_bench.specs.declared.firmware_machine.Place.{Place}
+use Rattle.psci_bench.specs.declared.place.Place.{Place}
 use Rattle.psci_bench.specs.Line.{core_in}
 use Rattle.psci_bench.specs.declared.said.Record.{Record}
 use Rattle.psci_bench.specs.Legal.{history, sent_count, count_of, sent_in, place, place_after}
@@ -126,20 +126,20 @@ kept_place false p = refl
 
 -- Messages -------------------------------------------------------------------------------------
 
-count_sent : (n : ℕ) (m : Option Message) → count_of (sent_as n m) ≡ count_of m
+count_sent : (n : ℕ) (m : Option MessageValue) → count_of (sent_as n m) ≡ count_of m
 count_sent n None = refl
 count_sent n (Some m) = refl
 
-count_small : (m : Option Message) → count_of m ≤ 1
+count_small : (m : Option MessageValue) → count_of m ≤ 1
 count_small None = omega arith
 count_small (Some m) = omega arith
 
-message_kept : (n : ℕ) (m : Option Message) → option_map (λ (s : Sent). s.message) (sent_as n m) ≡ m
+message_kept : (n : ℕ) (m : Option MessageValue) → option_map (λ (s : Sent). s.message) (sent_as n m) ≡ m
 message_kept n None = refl
 message_kept n (Some m) = refl
 
 pub outcome_kept : (n : ℕ) (o : Outcome) → outcome_in o.act (sent_as n o.message) ≡ o
-outcome_kept n o = ap (λ (m : Option Message). record { act = o.act; message = m })
+outcome_kept n o = ap (λ (m : Option MessageValue). record { act = o.act; message = m })
     (message_kept n o.message)
 
 sent_small : (s : Option Sent) → count_of s ≤ 1

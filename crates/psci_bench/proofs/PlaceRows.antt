@@ -4,19 +4,21 @@ use Rattle.std.specs.Prelude.{None, Some}
 use Rattle.psci_board.specs.Board.{BoardValue, core_of, node_of, up}
 use Rattle.psci_fw_model.specs.declared.call.FwCall.TheVariants as calls
 use Rattle.psci_fw_model.specs.declared.fault.FwFault.TheVariants.{NotRunning}
-use Rattle.psci_fw_model.specs.declared.message.Kind.TheVariants.{Start}
-use Rattle.psci_fw_model.specs.declared.message.Message.{Message}
+use Rattle.psci_link.specs.declared.kind.Kind.TheVariants.{Start}
+use Rattle.psci_link.specs.Message.{MessageValue}
 use Rattle.psci_fw_model.specs.declared.outcome.Act.{Act}
 use Rattle.psci_fw_model.specs.declared.outcome.Act.TheVariants as acts
 use Rattle.psci_fw_model.specs.declared.reply.FwReply.TheVariants.{Out, Fault}
-use Rattle.psci_fw_model.specs.declared.start.Cause.TheVariants.{Boot}
+use Rattle.psci_ctl_model.specs.declared.start.Cause.TheVariants.{Boot}
 use Rattle.psci_fw_model.specs.Answer.{answer}
+use Rattle.psci_fw_model.specs.Calls.{outcome_of}
+use Rattle.psci_fw_model.specs.Entering.{enter_outcome}
 use Rattle.psci_fw_model.specs.CpuOn.{target_of}
 use Rattle.psci_fw_model.specs.History.{values_of}
 use Rattle.psci_fw_model.specs.AffinityInfo.{node_status}
 use Rattle.psci_bench.specs.declared.event.Event.{Event}
 use Rattle.psci_bench.specs.declared.event.Event.TheVariants.{Call, Enter}
-use Rattle.psci_bench.specs.declared.firmware_machine.Place.TheVariants.{Started, Running, Stopped}
+use Rattle.psci_bench.specs.declared.place.Place.TheVariants.{Started, Running, Stopped}
 use Rattle.psci_bench.specs.declared.said.Record.{Record}
 use Rattle.psci_bench.specs.declared.said.Said.{Said}
 use Rattle.psci_bench.specs.declared.said.Said.TheVariants.{Fw, Ignored, Absent}
@@ -36,8 +38,14 @@ board = record {
 abbrev call : ℕ → Event
 call c = Call c (record { x0 = 0x84000000; x1 = 0; x2 = 0; x3 = 0 })
 
-abbrev message : Message
-message = record { kind = Start; core = record { number = 3 }; life = 1; number = 0 }
+abbrev message : MessageValue
+message = record {
+  kind = Start;
+  core = record { number = 3 };
+  life = 1;
+  number = 0;
+  parts = [];
+}
 
 -- an event of which this was said
 abbrev said : Event → Said → Record
@@ -162,28 +170,28 @@ history_with_message = refl
 
 -- a core beyond the board, also where nothing runs yet
 pub absent_core : legal board [] (call 4) ≡ Absent
-unfolding legal answer target_of values_of core_of node_of up node_status
+unfolding legal answer outcome_of enter_outcome target_of values_of core_of node_of up node_status
 absent_core = refl
 
 pub last_core : legal board [] (call 3) ≡ Ignored
-unfolding legal answer target_of values_of core_of node_of up node_status
+unfolding legal answer outcome_of enter_outcome target_of values_of core_of node_of up node_status
 last_core = refl
 
 pub started_core_calls : legal board [] (call 0) ≡ Ignored
-unfolding legal answer target_of values_of core_of node_of up node_status
+unfolding legal answer outcome_of enter_outcome target_of values_of core_of node_of up node_status
 started_core_calls = refl
 
 -- the boot core enters at the boot address, and then calls and enters no more
 pub boot_core_enters : legal board [] (Enter 0) ≡ Fw (acts.Enter 0x40000000 0) None
-unfolding legal answer target_of values_of core_of node_of up node_status
+unfolding legal answer outcome_of enter_outcome target_of values_of core_of node_of up node_status
 boot_core_enters = refl
 
 pub boot_core_calls : legal board (did (Enter 0) (acts.Enter 0x40000000 0) ∷ []) (call 0) ≡ Fw
     (acts.Return (record { 0 = pos 65537 })) None
-unfolding legal answer target_of values_of core_of node_of up node_status
+unfolding legal answer outcome_of enter_outcome target_of values_of core_of node_of up node_status
 boot_core_calls = refl
 
 pub boot_core_enters_again : legal board (did (Enter 0) (acts.Enter 0x40000000 0) ∷ []) (Enter 0)
     ≡ Ignored
-unfolding legal answer target_of values_of core_of node_of up node_status
+unfolding legal answer outcome_of enter_outcome target_of values_of core_of node_of up node_status
 boot_core_enters_again = refl

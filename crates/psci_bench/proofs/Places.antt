@@ -12,14 +12,14 @@ use Rattle.psci_fw_model.specs.declared.reply.FwReply.{FwReply}
 use Rattle.psci_fw_model.specs.declared.reply.FwReply.TheVariants.{Out}
 use Rattle.psci_fw_model.specs.Lives.{start_of_life}
 use Rattle.psci_fw_model.specs.Values.{Values}
-use Rattle.psci_fw_model.specs.Changes.{after}
+use Rattle.psci_fw_model.specs.After.{after}
 use Rattle.psci_fw_model.specs.History.{values_of}
 use Rattle.psci_bench.specs.declared.event.Event.{Event}
 use Rattle.psci_bench.specs.declared.event.Event.TheVariants.{Call, Enter}
 use Rattle.psci_bench.specs.declared.said.Said.{Said}
 use Rattle.psci_bench.specs.declared.said.Said.TheVariants.{Ignored, Absent}
-use Rattle.psci_bench.specs.declared.firmware_machine.Place.{Place}
-use Rattle.psci_bench.specs.declared.firmware_machine.Place.TheVariants.{Started, Running, Stopped}
+use Rattle.psci_bench.specs.declared.place.Place.{Place}
+use Rattle.psci_bench.specs.declared.place.Place.TheVariants.{Started, Running, Stopped}
 use Rattle.psci_bench.specs.Line.{core_in}
 use Rattle.psci_bench.specs.declared.said.Record.{Record}
 use Rattle.psci_bench.specs.Legal.{IsLegalPast, IsAnswered, history, place, place_after, happens}
@@ -84,34 +84,34 @@ enter_starts Stopped c h = absurd (cc)
 first_is_on : (b : BoardValue) (c : ℕ) → nat_lt c (cores b) ≡ true → 0 ≡ c → 0 < cores b
 first_is_on b c on e = let on_board : c < cores b = grind (arith, nat_tests) in omega (arith, e)
 
-called_at : Laws → (b : BoardValue) (past : List Record) (c : ℕ) (regs : Regs) → Settled b past
-    → nat_lt c (cores b) ≡ true → happens (place past c) (Call c regs) ≡ true → 0 ≡ c
+called_at : Laws → (b : BoardValue) (past : List Record) (c : ℕ) (regs : Regs) → IsBoard b
+    → Settled b past → nat_lt c (cores b) ≡ true → happens (place past c) (Call c regs) ≡ true → 0 ≡ c
     → Answered b c (Call c regs) (values_of b (history past))
-called_at laws b past c regs s on h e =
+called_at laws b past c regs board s on h e =
     subst (λ (k : ℕ). Answered b k (Call k regs) (values_of b (history past))) e
-    (answers_call laws b (values_of b (history past)) regs (first_is_on b c on e)
+    (answers_call laws b (values_of b (history past)) regs board (first_is_on b c on e)
     (s.runs (ap (place past) e ∙ call_runs (place past c) c regs h)))
 
-entered_at : Laws → (b : BoardValue) (past : List Record) (c : ℕ) → Settled b past
-    → 0 < b.starts → 0 < b.lives → nat_lt c (cores b) ≡ true
+entered_at : Laws → (b : BoardValue) (past : List Record) (c : ℕ) → IsBoard b → Settled b past
+    → nat_lt c (cores b) ≡ true
     → happens (place past c) (Enter c) ≡ true → 0 ≡ c
     → Answered b c (Enter c) (values_of b (history past))
-entered_at laws b past c s some lives on h e =
+entered_at laws b past c board s on h e =
     let none : history past ≡ [] = s.starts (ap (place past) e ∙ enter_starts (place past c) c h) in
     let values : start_of_life b 0 ≡ values_of b (history past) =
     sym (ap (values_of b) none ∙ laws.first b) in
     subst (λ (k : ℕ). Answered b k (Enter k) (values_of b (history past))) e
     (subst (λ (v : Values). Answered b 0 (Enter 0) v) values
-    (enters_first laws b (first_is_on b c on e) some lives))
+    (enters_first laws b board (first_is_on b c on e)))
 
-at_place : Laws → (b : BoardValue) (past : List Record) (event : Event) → Settled b past
-    → 0 < b.starts → 0 < b.lives → nat_lt (core_in event) (cores b) ≡ true
+at_place : Laws → (b : BoardValue) (past : List Record) (event : Event) → IsBoard b
+    → Settled b past → nat_lt (core_in event) (cores b) ≡ true
     → happens (place past (core_in event)) event ≡ true
     → Answered b (core_in event) event (values_of b (history past))
-at_place laws b past (Call c regs) s some lives on h =
-    called_at laws b past c regs s on h (boot_only b past (Call c regs) c (c == 0) refl s h)
-at_place laws b past (Enter c) s some lives on h =
-    entered_at laws b past c s some lives on h (boot_only b past (Enter c) c (c == 0) refl s h)
+at_place laws b past (Call c regs) board s on h =
+    called_at laws b past c regs board s on h (boot_only b past (Call c regs) c (c == 0) refl s h)
+at_place laws b past (Enter c) board s on h =
+    entered_at laws b past c board s on h (boot_only b past (Enter c) c (c == 0) refl s h)
 
 -- One more record -----------------------------------------------------------------------------
 
@@ -157,35 +157,35 @@ settled_reply laws b past event s e a =
     (sym a.1) (settled_answered laws b past event (sent_count past) a.0 s e a.2)
 
 settled_here : Laws → (b : BoardValue) (past : List Record) (event : Event) (t : Bool)
-    → Settled b past → 0 < b.starts → 0 < b.lives → nat_lt (core_in event) (cores b) ≡ true
+    → IsBoard b → Settled b past → nat_lt (core_in event) (cores b) ≡ true
     → happens (place past (core_in event)) event ≡ t
     → Settled b (record_of event (legal b past event) ∷ past)
-settled_here laws b past event true s some lives on h =
+settled_here laws b past event true board s on h =
     subst (λ (x : Said). Settled b (record_of event x ∷ past))
     (sym (legal_here b past event true on h))
     (settled_reply laws b past event s
     (boot_only b past event (core_in event) (core_in event == 0) refl s h)
-    (at_place laws b past event s some lives on h))
-settled_here laws b past event false s some lives on h =
+    (at_place laws b past event board s on h))
+settled_here laws b past event false board s on h =
     subst (λ (x : Said). Settled b (record_of event x ∷ past))
     (sym (legal_here b past event false on h)) (settled_ignored b past event s)
 
 settled_more : Laws → (b : BoardValue) (past : List Record) (event : Event) (t : Bool)
-    → Settled b past → 0 < b.starts → 0 < b.lives → nat_lt (core_in event) (cores b) ≡ t
+    → IsBoard b → Settled b past → nat_lt (core_in event) (cores b) ≡ t
     → Settled b (record_of event (legal b past event) ∷ past)
-settled_more laws b past event true s some lives on = settled_here laws b past event
-    (happens (place past (core_in event)) event) s some lives on refl
-settled_more laws b past event false s some lives off =
+settled_more laws b past event true board s on = settled_here laws b past event
+    (happens (place past (core_in event)) event) board s on refl
+settled_more laws b past event false board s off =
     subst (λ (x : Said). Settled b (record_of event x ∷ past))
     (sym (legal_absent b past event off)) (settled_absent b past event s)
 
-settled : Laws → (b : BoardValue) (past : List Record) → 0 < b.starts → 0 < b.lives
+settled : Laws → (b : BoardValue) (past : List Record) → IsBoard b
     → IsLegalPast b past → Settled b past
-settled laws b [] some lives l = settled_first b
-settled laws b (r ∷ past) some lives l =
+settled laws b [] board l = settled_first b
+settled laws b (r ∷ past) board l =
     subst (λ (x : Said). Settled b (record_of r.event x ∷ past)) (sym l.0)
     (settled_more laws b past r.event (nat_lt (core_in r.event) (cores b))
-    (settled laws b past some lives l.1) some lives refl)
+    board (settled laws b past board l.1) refl)
 
 -- a core at its place is answered
 pub not_refused : Laws → (b : BoardValue) (past : List Record) (event : Event)
@@ -194,7 +194,6 @@ pub not_refused : Laws → (b : BoardValue) (past : List Record) (event : Event)
 not_refused laws b past event board l on h =
     let here : nat_lt (core_in event) (cores b) ≡ true = grind (arith, nat_tests) in
     let a = at_place laws b past event
-    (settled laws b past board.some_starts board.some_lives l)
-    board.some_starts board.some_lives here h in
+    board (settled laws b past board l) here h in
     subst IsAnswered (sym (legal_here b past event true here h
     ∙ ap (said_by (sent_count past)) a.1)) tt

@@ -2,8 +2,9 @@
 use Rattle.std.proofs.Common.{◌≡◌, ℕ, pos, negsuc, List, [], ◌∷◌, ◌++◌, refl}
 use Rattle.std.specs.Prelude.{None, Some, codes}
 use Rattle.std.specs.Fmt.{digits}
-use Rattle.psci_fw_model.specs.declared.message.Kind.{Kind}
-use Rattle.psci_fw_model.specs.declared.message.Kind.TheVariants.{Down, Start, Off, Reset}
+use Rattle.psci_coord.specs.declared.part.Part.{Part}
+use Rattle.psci_link.specs.declared.kind.Kind.{Kind}
+use Rattle.psci_link.specs.declared.kind.Kind.TheVariants.{Down, Start, Off, Reset}
 use Rattle.psci_fw_model.specs.declared.outcome.Act.{Act}
 use Rattle.psci_fw_model.specs.declared.outcome.Act.TheVariants.{Return, Stop, Enter, Resume}
 use Rattle.psci_bench.specs.declared.said.Said.TheVariants.{Fw, Ignored, Absent}
@@ -16,7 +17,26 @@ alone act = said_text (Fw act None)
 abbrev with_message : Act → Kind → List ℕ
 with_message act kind = said_text (Fw act (Some (record {
   index = 12;
-  message = record { kind = kind; core = record { number = 3 }; life = 2; number = 10 };
+  message = record {
+    kind = kind;
+    core = record { number = 3 };
+    life = 2;
+    number = 10;
+    parts = [];
+  };
+})))
+
+-- a Down with these parts
+abbrev down_with : List Part → List ℕ
+down_with parts = said_text (Fw Stop (Some (record {
+  index = 12;
+  message = record {
+    kind = Down;
+    core = record { number = 3 };
+    life = 2;
+    number = 10;
+    parts = parts;
+  };
 })))
 
 -- a code: signed, in decimal
@@ -73,6 +93,17 @@ absent = refl
 pub down : with_message Stop Down ≡ codes "stop #12 down 3 life 2 number 10"
 unfolding digits
 down = refl
+
+pub one_part : down_with (record { level = 0; depth = 2; generation = 10 } ∷ [])
+    ≡ codes "stop #12 down 3 life 2 number 10 parts 0:2:10"
+unfolding digits
+one_part = refl
+
+pub two_parts : down_with (record { level = 0; depth = 3; generation = 10 }
+    ∷ record { level = 1; depth = 1; generation = 12 } ∷ [])
+    ≡ codes "stop #12 down 3 life 2 number 10 parts 0:3:10 1:1:12"
+unfolding digits
+two_parts = refl
 
 pub start : with_message (Return (record { 0 = pos 0 })) Start
     ≡ codes "return 0 #12 start 3 life 2 number 10"

@@ -8,10 +8,9 @@ use Rattle.std.specs.Fmt.{decimal}
 use Rattle.std.proofs.lemmas.Bool.Decides.{nat_tests}
 use Rattle.std.proofs.lemmas.Fmt.{first_decimal, decimal_digit}
 use Rattle.std.proofs.lemmas.Option.{same_Some}
-use Rattle.psci_board.specs.Grammar.{IsNumber, hex}
-use Rattle.psci_board.specs.Reading.{literal_at, number_at, hex_at, hex_value}
-use Rattle.psci_board.proofs.Spelled.{Ends, literal_takes}
-use Rattle.psci_board.proofs.SpelledWords.{number_reads, hex_reads}
+use Rattle.psci_text.specs.Spelling.{TextLaws, IsNumber, hex}
+use Rattle.psci_text.specs.Reading.{literal_at, number_at, hex_at, hex_value}
+use Rattle.psci_text.specs.Spelling.{Ends}
 use Rattle.psci_bench.specs.Line.{or_else, register_at}
 use Rattle.psci_bench.specs.EventText.{RegisterText, register_text, register_value, IsRegisterText}
 use Rattle.psci_bench.specs.EventText.RegisterText.{Decimal, Hexadecimal}
@@ -31,17 +30,9 @@ ends_hexdigits (b ∷ bs) e = ap is_ascii_hexdigit e
 
 -- Numbers -------------------------------------------------------------------------------------
 
-pub number_again : (n : ℕ) (rest : List ℕ) → IsNumber n → IsEnd rest
+pub number_again : (w : TextLaws) (n : ℕ) (rest : List ℕ) → IsNumber n → IsEnd rest
     → number_at (decimal n ++ rest) ≡ Some (n, rest)
-number_again n rest h e = number_reads.again n rest h (ends_digits rest e)
-
-pub number_takes : (bytes : List ℕ) (x : ℕ × List ℕ) → number_at bytes ≡ Some x
-    → IsNumber x.0 × (bytes ≡ decimal x.0 ++ x.1)
-number_takes bytes x e = number_reads.takes bytes x e
-
-pub word_takes : (word bytes rest : List ℕ) → literal_at word bytes ≡ Some rest
-    → bytes ≡ word ++ rest
-word_takes word bytes rest e = literal_takes word bytes rest e
+number_again w n rest h e = w.numbers.again n rest h (ends_digits rest e)
 
 -- A decimal number is no hexadecimal one --------------------------------------------------------
 
@@ -80,13 +71,14 @@ no_hex n rest h e = rw (no_prefix (decimal n) rest (first_digit n h) e) refl
 
 -- Registers -----------------------------------------------------------------------------------
 
-pub register_again : (r : RegisterText) (rest : List ℕ) → IsRegisterText r → IsEnd rest
+pub register_again : (w : TextLaws) (r : RegisterText) (rest : List ℕ) → IsRegisterText r
+    → IsEnd rest
     → register_at (register_text r ++ rest) ≡ Some (register_value r, rest)
 unfolding register_at
-register_again (Decimal n) rest h e = rw (no_hex n rest h e, number_again n rest h e) refl
-register_again (Hexadecimal ds) rest h e =
+register_again w (Decimal n) rest h e = rw (no_hex n rest h e, number_again w n rest h e) refl
+register_again w (Hexadecimal ds) rest h e =
     ap (λ (o : Option (List ℕ × List ℕ)). or_else (option_map hex_value o)
-    (number_at (hex ds ++ rest))) (hex_reads.again ds rest h (ends_hexdigits rest e))
+    (number_at (hex ds ++ rest))) (w.hexadecimals.again ds rest h (ends_hexdigits rest e))
 
 -- the register that was read, and its spelling
 pub record IsRegister (bytes : List ℕ) (x : ℕ × List ℕ) : Type 0 where
@@ -95,13 +87,14 @@ pub record IsRegister (bytes : List ℕ) (x : ℕ × List ℕ) : Type 0 where
   pub spelled : bytes ≡ register_text text ++ x.1
   pub value : x.0 ≡ register_value text
 
-register_by : (bytes : List ℕ) (x : ℕ × List ℕ) (o : Option (List ℕ × List ℕ)) → hex_at bytes ≡ o
+register_by : (w : TextLaws) (bytes : List ℕ) (x : ℕ × List ℕ) (o : Option (List ℕ × List ℕ))
+    → hex_at bytes ≡ o
     → or_else (option_map hex_value o) (number_at bytes) ≡ Some x → IsRegister bytes x
-register_by bytes x None e h =
-    let t = number_takes bytes x h in
+register_by w bytes x None e h =
+    let t = w.numbers.takes bytes x h in
     record { text = Decimal x.0; fits = t.0; spelled = t.1; value = refl }
-register_by bytes x (Some y) e h =
-    let t = hex_reads.takes bytes y e in
+register_by w bytes x (Some y) e h =
+    let t = w.hexadecimals.takes bytes y e in
     let same = same_Some (hex_value y) x h in
     record {
       text = Hexadecimal y.0;
@@ -110,7 +103,7 @@ register_by bytes x (Some y) e h =
       value = sym (ap (λ (z : ℕ × List ℕ). z.0) same);
     }
 
-pub register_takes : (bytes : List ℕ) (x : ℕ × List ℕ) → register_at bytes ≡ Some x
+pub register_takes : (w : TextLaws) (bytes : List ℕ) (x : ℕ × List ℕ) → register_at bytes ≡ Some x
     → IsRegister bytes x
 unfolding register_at
-register_takes bytes x e = register_by bytes x (hex_at bytes) refl e
+register_takes w bytes x e = register_by w bytes x (hex_at bytes) refl e

@@ -3,16 +3,16 @@
 use Rattle.std.specs.Prelude.{◌≡◌, ℕ, ◌+◌, ◌<◌, ⊤, Bool, true, false, ◌==◌, nat_lt, if◌then◌else◌}
 use Rattle.std.specs.Prelude.{Option, None, Some, option_map, unwrap_or, List, [], ◌∷◌}
 use Rattle.psci_board.specs.Board.{BoardValue, IsBoard, cores}
-use Rattle.psci_fw_model.specs.declared.start.Start.{Start}
-use Rattle.psci_fw_model.specs.declared.start.Cause.TheVariants.{Boot}
-use Rattle.psci_fw_model.specs.declared.message.Message.{Message}
+use Rattle.psci_ctl_model.specs.declared.start.Start.{Start}
+use Rattle.psci_ctl_model.specs.declared.start.Cause.TheVariants.{Boot}
+use Rattle.psci_link.specs.Message.{MessageValue}
 use Rattle.psci_fw_model.specs.declared.outcome.Act.{Act}
 use Rattle.psci_fw_model.specs.declared.outcome.Act.TheVariants as acts
 use Rattle.psci_fw_model.specs.declared.outcome.Outcome.{Outcome}
 use Rattle.psci_fw_model.specs.declared.call.FwCall.{FwCall}
 use Rattle.psci_fw_model.specs.declared.call.FwCall.TheVariants as calls
 use Rattle.psci_fw_model.specs.declared.reply.FwReply.{FwReply}
-use Rattle.psci_fw_model.specs.declared.reply.FwReply.TheVariants.{Out, Fault}
+use Rattle.psci_fw_model.specs.declared.reply.FwReply.TheVariants.{Out, Taken, Fault}
 use Rattle.psci_fw_model.specs.Entry.{Entry}
 use Rattle.psci_fw_model.specs.Answer.{answer}
 use Rattle.psci_fw_model.specs.History.{values_of}
@@ -22,8 +22,8 @@ use Rattle.psci_bench.specs.declared.said.Record.{Record}
 use Rattle.psci_bench.specs.declared.said.Sent.{Sent}
 use Rattle.psci_bench.specs.declared.said.Said.{Said}
 use Rattle.psci_bench.specs.declared.said.Said.TheVariants.{Fw, Ignored, Absent}
-use Rattle.psci_bench.specs.declared.firmware_machine.Place.{Place}
-use Rattle.psci_bench.specs.declared.firmware_machine.Place.TheVariants.{Started, Running, Stopped}
+use Rattle.psci_bench.specs.declared.place.Place.{Place}
+use Rattle.psci_bench.specs.declared.place.Place.TheVariants.{Started, Running, Stopped}
 use Rattle.psci_bench.specs.Line.{core_in}
 
 -- The firmware's history -----------------------------------------------------------------------
@@ -107,12 +107,13 @@ happens Stopped event = false
 -- What is said ---------------------------------------------------------------------------------
 
 -- a message under the number of messages before it
-abbrev pub sent_as : ℕ → Option Message → Option Sent
+abbrev pub sent_as : ℕ → Option MessageValue → Option Sent
 sent_as index message = option_map (λ m. record { index = index; message = m }) message
 
 -- the outcome, as it is said. A core at its place is never refused: see AnswersAtPlace below.
 abbrev pub said_by : ℕ → FwReply → Said
 said_by index (Out outcome) = Fw outcome.act (sent_as index outcome.message)
+said_by index (Taken taken) = Ignored
 said_by index (Fault fault) = Ignored
 
 -- the firmware's answer after the calls that it has answered

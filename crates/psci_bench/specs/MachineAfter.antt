@@ -5,7 +5,7 @@ use Rattle.psci_board.specs.Board.{BoardValue, cores}
 use Rattle.psci_board.specs.declared.node.Core.{Core}
 use Rattle.psci_fw_model.specs.History.{values_of}
 use Rattle.psci_fw.specs.Seen.{FirmwareValue, seen}
-use Rattle.psci_bench.specs.declared.firmware_machine.Place.{Place}
+use Rattle.psci_bench.specs.declared.place.Place.{Place}
 use Rattle.psci_bench.specs.declared.said.Record.{Record}
 use Rattle.psci_bench.specs.Legal.{history, place, sent_count}
 

@@ -2,7 +2,7 @@
 use Rattle.std.specs.Prelude.{ℕ, ◌+◌, List, [], ◌∷◌, ◌++◌, length, nat_lt, if◌then◌else◌, Option}
 use Rattle.std.specs.Prelude.{None, Some, Result, Ok, Err, codes}
 use Rattle.psci_board.specs.Board.{BoardValue}
-use Rattle.psci_board.specs.Reading.{literal_at}
+use Rattle.psci_text.specs.Reading.{literal_at}
 use Rattle.psci_board.specs.Verdict.{board_of}
 use Rattle.psci_board.specs.declared.fault.BoardFault.{BoardFault}
 use Rattle.psci_bench.specs.declared.event.Event.{Event}

@@ -1,10 +1,11 @@
 -- The answer line of an event.
-use Rattle.std.specs.Prelude.{ℕ, false, List, ◌++◌, ◌∷◌, [], Option, Some, None, codes}
+use Rattle.std.specs.Prelude.{ℕ, false, List, ◌++◌, ◌∷◌, [], Option, Some, None, codes, flat_map}
 use Rattle.std.specs.Fmt.{decimal, signed_decimal, digits}
 use Rattle.psci_fw_model.specs.declared.outcome.Act.{Act}
 use Rattle.psci_fw_model.specs.declared.outcome.Act.TheVariants.{Return, Stop, Enter, Resume}
-use Rattle.psci_fw_model.specs.declared.message.Kind.{Kind}
-use Rattle.psci_fw_model.specs.declared.message.Kind.TheVariants.{Down, Start, Off, Reset}
+use Rattle.psci_coord.specs.declared.part.Part.{Part}
+use Rattle.psci_link.specs.declared.kind.Kind.{Kind}
+use Rattle.psci_link.specs.declared.kind.Kind.TheVariants.{Down, Start, Off, Reset}
 use Rattle.psci_bench.specs.declared.said.Sent.{Sent}
 use Rattle.psci_bench.specs.declared.said.Said.{Said}
 use Rattle.psci_bench.specs.declared.said.Said.TheVariants.{Fw, Ignored, Absent}
@@ -28,12 +29,23 @@ kind_text Start = codes "start"
 kind_text Off = codes "off"
 kind_text Reset = codes "reset"
 
+-- a part, after a space: level, depth and generation
+abbrev pub part_text : Part → List ℕ
+part_text p =
+    codes " " ++ (decimal p.level ++ (codes ":" ++ (decimal p.depth ++ (codes ":"
+    ++ decimal p.generation))))
+
+-- the parts of a message, where it has some
+abbrev pub parts_text : List Part → List ℕ
+parts_text [] = []
+parts_text (p ∷ ps) = codes " parts" ++ flat_map part_text (p ∷ ps)
+
 -- a message, with how many were sent before it
 abbrev pub sent_text : Sent → List ℕ
 sent_text s =
     codes "#" ++ (decimal s.index ++ (codes " " ++ (kind_text s.message.kind ++ (codes " "
     ++ (decimal s.message.core.number ++ (codes " life " ++ (decimal s.message.life
-    ++ (codes " number " ++ decimal s.message.number))))))))
+    ++ (codes " number " ++ (decimal s.message.number ++ parts_text s.message.parts)))))))))
 
 -- the message after the act, where one was sent
 abbrev pub message_text : Option Sent → List ℕ

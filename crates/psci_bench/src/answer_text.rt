@@ -3,7 +3,9 @@
 ghost use Rattle.std.specs.Prelude.{Some};
 
 use crate::said::{Said, Sent};
-use psci_fw_model::{Act, Kind};
+use psci_coord::Part;
+use psci_fw_model::Act;
+use psci_link::Kind;
 use std::fmt;
 
 /// What was said of the event of this number, counted from 1.
@@ -22,6 +24,14 @@ struct ActText<'a>(&'a Act);
 /// The word of a kind of message.
 #[derive(Clone, Copy)]
 struct KindText(Kind);
+
+/// A part of a message, after a space: level, depth and generation.
+#[derive(Clone, Copy)]
+struct PartText<'a>(&'a Part);
+
+/// The parts of a message, as an answer line has them after it.
+#[derive(Clone, Copy)]
+struct PartsText<'a>(&'a [Part]);
 
 impl fmt::Display for ActText<'_> {
     ghost use Rattle.std.specs.Prelude.{Some};
@@ -55,6 +65,40 @@ impl fmt::Display for KindText {
     }
 }
 
+impl fmt::Display for PartText<'_> {
+    ghost use Rattle.std.specs.Prelude.{Some};
+    ghost use Rattle.psci_bench.specs.Text.{part_text};
+
+    ghost output = { λ text. Some (part_text text.0.now) };
+
+    fn fmt<W: fmt::Write>(&self, f: &mut fmt::Formatter<W>) -> fmt::Result {
+        let Part {
+            level,
+            depth,
+            generation,
+        } = self.0;
+        write!(f, " {level}:{depth}:{generation}")
+    }
+}
+
+impl fmt::Display for PartsText<'_> {
+    ghost use Rattle.std.specs.Prelude.{Some};
+    ghost use Rattle.psci_bench.specs.Text.{parts_text};
+
+    ghost output = { λ text. Some (parts_text text.0.now) };
+
+    fn fmt<W: fmt::Write>(&self, f: &mut fmt::Formatter<W>) -> fmt::Result {
+        if self.0.is_empty() {
+            return Ok(());
+        }
+        write!(f, " parts")?;
+        for part in self.0 {
+            write!(f, "{}", PartText(part))?;
+        }
+        Ok(())
+    }
+}
+
 impl fmt::Display for Sent {
     ghost use Rattle.std.specs.Prelude.{Some};
     ghost use Rattle.psci_bench.specs.Text.{sent_text};
@@ -67,9 +111,10 @@ impl fmt::Display for Sent {
         let core = message.core.number;
         let life = message.life;
         let number = message.number;
+        let parts = PartsText(message.parts.as_slice());
         write!(
             f,
-            "#{} {kind} {core} life {life} number {number}",
+            "#{} {kind} {core} life {life} number {number}{parts}",
             self.index
         )
     }
@@ -83,7 +128,7 @@ impl fmt::Display for Said {
 
     fn fmt<W: fmt::Write>(&self, f: &mut fmt::Formatter<W>) -> fmt::Result {
         match self {
-            Said::Fw { act, sent: None } => write!(f, "{}", ActText(act)),
+            Said::Fw { act, sent: None } => ActText(act).fmt(f),
             Said::Fw {
                 act,
                 sent: Some(sent),

@@ -3,53 +3,20 @@
 ghost use Rattle.std.specs.Prelude.{◌≡◌, ℕ, ◌+◌, ◌-◌, ◌^◌, ◌<◌, min, length, slice_set, slice_get};
 ghost use Rattle.std.specs.Prelude.{IfOk, OnErr, Some};
 ghost use Rattle.psci_fw_model.specs.declared.reply.FwReply.TheVariants.{Out};
-ghost use Rattle.psci_fw_model.specs.Changes.{after};
+ghost use Rattle.psci_fw_model.specs.After.{after};
 ghost use Rattle.psci_fw_model.specs.Answer.{answer, reply_of};
 ghost use Rattle.psci_fw.specs.Seen.{seen};
-ghost use Rattle.psci_bench.specs.Legal.{call_in, count_of, first_place, happens, place_after};
-ghost use Rattle.psci_bench.specs.Legal.{said_by};
+ghost use Rattle.psci_bench.specs.Legal.{call_in, count_of, first_place, place_after, said_by};
 ghost use Rattle.psci_bench.specs.MachineAfter.{first_of, located};
 
 use crate::event::Event;
 use crate::machine::Machine;
+use crate::place::Place;
 use crate::said::{Said, Sent};
 use psci_board::{Board, Core, Memory};
 use psci_fw::Firmware;
-use psci_fw_model::{Act, Cause, FwFault, Outcome, Start, law_values};
+use psci_fw_model::{Cause, FwFault, Outcome, Start, law_values};
 use std::alloc::Global;
-
-/// Where a core is.
-#[derive(Clone, Copy, Debug, PartialEq, Eq)]
-pub enum Place {
-    /// It was started, and has not entered the firmware.
-    Started,
-    /// It has entered, and executes outside the firmware.
-    Running,
-    /// It executes nothing.
-    Stopped,
-}
-
-impl Place {
-    /// Where a core is that was answered so.
-    fn after(act: &Act) -> Place
-        ensures { result ≡ place_after act.now }
-    {
-        match act {
-            Act::Stop => Place::Stopped,
-            Act::Return(_) | Act::Enter { .. } | Act::Resume => Place::Running,
-        }
-    }
-
-    /// Whether the event can happen to a core there.
-    fn allows(self, event: Event) -> bool
-        ensures { result ≡ happens self event }
-    {
-        match (self, event) {
-            (Place::Running, Event::Call(..)) | (Place::Started, Event::Enter(_)) => true,
-            _ => false,
-        }
-    }
-}
 
 /// The one start of a script: that of the boot core in the first life.
 const FIRST_START: Start = Start {

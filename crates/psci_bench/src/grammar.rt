@@ -1,13 +1,13 @@
 //! The grammar of a line after the first.
 
 ghost use Rattle.std.specs.Prelude.{◌≡◌, option_map};
-ghost use Rattle.psci_board.specs.Reading.{spaced_at};
+ghost use Rattle.psci_text.specs.Reading.{spaced_at};
 ghost use Rattle.psci_bench.specs.Line.{register_at, optional_register_at, call_at, enter_at};
 ghost use Rattle.psci_bench.specs.Line.{line_of};
 
 use crate::event::Event;
 use psci_abi::Regs;
-use psci_board::{hex, literal, number};
+use psci_text::{hex, literal, number};
 
 /// What a line says.
 #[derive(Clone, Copy, Debug, PartialEq, Eq)]
@@ -27,7 +27,9 @@ fn register(text: &[u8]) -> Option<(u64, &[u8])>
 }
 
 /// The register after a space, and the text after it.
-#[tactic(auto, unfolding(psci_board::specs::Reading::spaced_at))]
+// In place, since a call would write its four words to memory, also where no register is left.
+#[inline(always)]
+#[tactic(auto, unfolding(psci_text::specs::Reading::spaced_at))]
 fn spaced_register(text: &[u8]) -> Option<(u64, &[u8])>
     ensures { option_map (λ x. (x.0, x.1.now)) result ≡ spaced_at register_at text.now }
 {

@@ -4,6 +4,7 @@ ghost use Rattle.psci_bench.specs.EventText.{ReadsAsSpelled, SpellsWhatItSays};
 ghost use Rattle.psci_bench.specs.Legal.{AnswersAtPlace};
 
 use psci_fw_model::{law_caller, law_enters, law_first_start, law_invariant, law_values};
+use psci_text::law_text;
 
 /// A core at its place is never refused by the firmware: the `Ignored` that is said of an event
 /// says that its core does not run, or was not started.
@@ -25,4 +26,6 @@ pub fn law_places()
 pub fn law_event_lines()
     ensures again { ReadsAsSpelled }
     ensures spelled { SpellsWhatItSays }
-{}
+{
+    law_text();
+}

@@ -19,6 +19,7 @@ mod laws;
 mod limits;
 mod lines;
 mod machine;
+mod place;
 mod progress;
 mod run;
 mod said;

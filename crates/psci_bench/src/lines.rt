@@ -7,6 +7,7 @@ ghost use Rattle.psci_bench.specs.Limits.{longest_line};
 ghost use Rattle.psci_bench.specs.Lines.{IsFrontOf};
 
 use crate::limits::LONGEST_LINE;
+use memchr::memchr;
 
 /// Where a line ends.
 #[derive(Clone, Copy, Debug, PartialEq, Eq)]
@@ -31,10 +32,7 @@ pub enum Front {
 fn line_feed(bytes: &[u8]) -> Option<usize>
     ensures { result ≡ position (λ b. b == 10) (take (longest_line + 1) bytes.now) }
 {
-    bytes
-        .iter()
-        .take(LONGEST_LINE + 1)
-        .position(|byte| *byte == b'\n')
+    memchr(b'\n', &bytes[..(LONGEST_LINE + 1).min(bytes.len())])
 }
 
 /// What is at the front of these bytes.

@@ -24,7 +24,8 @@ use crate::laws::law_places;
 use crate::lines::Extent;
 use crate::machine::Machine;
 use crate::progress::Progress;
-use psci_board::{Board, BoardFault, literal};
+use psci_board::{Board, BoardFault};
+use psci_text::literal;
 use std::alloc::Global;
 
 /// The board of a first line.

@@ -1,7 +1,8 @@
 //! What is said of an event.
 
 use crate::event::Event;
-use psci_fw_model::{Act, Message};
+use psci_fw_model::Act;
+use psci_link::Message;
 
 /// A message, and how many messages were sent before it.
 #[derive(Drop, Debug, PartialEq)]

@@ -9,8 +9,10 @@ use Rattle.std.specs.Prelude.{option_and_then, option_map, codes}
 use Rattle.psci_board.specs.Summary.{ranges_at, value_and_rest, TreeSummaryValue}
 use Rattle.psci_board.specs.Summary.{RangesSummaryValue}
 use Rattle.psci_board.specs.declared.text.TextSummary.{TextSummary}
-use Rattle.psci_board.specs.Reading.{literal_at, spaced_at, more_at}
-use Rattle.psci_board.specs.Reading.{hex_at, range_at}
+use Rattle.psci_text.specs.Reading.{literal_at, spaced_at}
+use Rattle.psci_board.specs.Reading.{more_at}
+use Rattle.psci_text.specs.Reading.{hex_at}
+use Rattle.psci_board.specs.Reading.{range_at}
 use Rattle.psci_board.proofs.More.{Shortens, literal_shortens}
 
 -- what was read, where a value of it and its rest are known

@@ -2,7 +2,6 @@ pub mod AffinityRows
 pub mod BoardRows
 pub mod Children
 pub mod Decided
-pub mod Digits
 pub mod FaultRows
 pub mod Fields
 pub mod FirstCores
@@ -24,8 +23,8 @@ pub mod Search
 pub mod SpanRows
 pub mod Spans
 pub mod Spelled
+pub mod SpelledRanges
 pub mod SpelledRows
 pub mod SpelledText
 pub mod SpelledTree
-pub mod SpelledWords
 pub mod VerdictRows

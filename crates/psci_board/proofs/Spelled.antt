@@ -1,50 +1,21 @@
--- What is spelled is read, whatever follows it, and what is read is spelled so: words and lists.
-use Rattle.std.proofs.Common.{◌≡◌, ℕ, zero, suc, Bool, true, false, cond, eqb, List, [], ◌∷◌, ◌++◌}
+-- What is spelled is read, whatever follows it, and what is read is spelled so: lists.
+use Rattle.std.proofs.Common.{◌≡◌, ℕ, zero, suc, Bool, false, List, [], ◌∷◌, ◌++◌}
 use Rattle.std.proofs.Common.{length, Option, Some, None, refl, ap, sym, ◌∙◌, arith, append_assoc}
-use Rattle.std.proofs.Common.{eqb-true, subst, length-append}
+use Rattle.std.proofs.Common.{subst, length-append}
 use Rattle.std.specs.List.{AllByRecursion}
 use Rattle.std.proofs.lemmas.List.Elements.{All-from_recursion, recursion_from_All}
 use Rattle.std.proofs.lemmas.Option.{option_and_then_some, same_Some}
 use Rattle.psci_board.specs.Grammar.{spaced, listed, IsListOf}
-use Rattle.psci_board.specs.Reading.{literal_at, spaced_at, then_more, at_most, more_at, list_at}
+use Rattle.psci_text.specs.Reading.{literal_at, spaced_at}
+use Rattle.psci_text.specs.Spelling.{TextLaws, Ends, Reads}
+use Rattle.psci_board.specs.Reading.{then_more, at_most, more_at, list_at}
 use Rattle.psci_board.proofs.More.{Shortens, more_some, more_none}
-
--- no byte of the kind comes next
-abbrev pub Ends : (ℕ → Bool) → List ℕ → Type 0
-Ends kind [] = Unit {0}
-Ends kind (b ∷ bs) = kind b ≡ false
-
--- An item is read as it is spelled, where no byte of the kind follows it, and in no other way.
-pub record Reads {A : Type 0} (item : List ℕ → Option (A × List ℕ)) (spell : A → List ℕ)
-    (P : A → Type 0) (kind : ℕ → Bool) : Type 0 where
-  pub again : (x : A) (rest : List ℕ) → P x → Ends kind rest
-      → item (spell x ++ rest) ≡ Some (x, rest)
-  pub takes : (bytes : List ℕ) (x : A × List ℕ) → item bytes ≡ Some x
-      → P x.0 × (bytes ≡ spell x.0 ++ x.1)
 
 -- what is left is no longer than the text
 pub shortens : {A : Type 0} (item : List ℕ → Option (A × List ℕ)) (spell : A → List ℕ)
     (P : A → Type 0) (kind : ℕ → Bool) → Reads item spell P kind → Shortens item
 shortens item spell P kind r bytes x e =
     omega (arith, length-append (spell x.0) x.1, ap length (r.takes bytes x e).1)
-
--- A word ----------------------------------------------------------------------------------------
-
-pub cond_both : {A : Type 0} (t : Bool) (o : Option A) (x : A) → cond t o None ≡ Some x
-    → (t ≡ true) × (o ≡ Some x)
-cond_both true o x e = (refl, e)
-cond_both false o x e = cc
-
-pub literal_takes : (word bytes rest : List ℕ) → literal_at word bytes ≡ Some rest
-    → bytes ≡ word ++ rest
-unfolding literal_at
-literal_takes [] bytes rest e = cc
-literal_takes (w ∷ ws) [] rest e = cc
-literal_takes (w ∷ ws) (b ∷ bs) rest e =
-    let c = cond_both (eqb b w) (literal_at ws bs) rest e in
-    let first : b ≡ w = eqb-true b w c.0 in
-    let others : bs ≡ ws ++ rest = literal_takes ws bs rest c.1 in
-    cc
 
 -- Items after a space each ---------------------------------------------------------------------
 
@@ -53,15 +24,16 @@ spaced_again : {A : Type 0} (item : List ℕ → Option (A × List ℕ)) (bytes 
 unfolding spaced_at literal_at
 spaced_again item bytes x e = e
 
-pub spaced_takes : {A : Type 0} (item : List ℕ → Option (A × List ℕ)) (spell : A → List ℕ)
+pub spaced_takes : {A : Type 0} (w : TextLaws) (item : List ℕ → Option (A × List ℕ))
+    (spell : A → List ℕ)
     (P : A → Type 0) (kind : ℕ → Bool) → Reads item spell P kind
     → (bytes : List ℕ) (x : A × List ℕ) → spaced_at item bytes ≡ Some x
     → P x.0 × (bytes ≡ 32 ∷ spell x.0 ++ x.1)
 unfolding spaced_at
-spaced_takes item spell P kind r bytes x e =
+spaced_takes w item spell P kind r bytes x e =
     option_and_then_some _ (literal_at (32 ∷ []) bytes) x e (λ after l i.
     let t = r.takes after x i in
-    (t.0, literal_takes (32 ∷ []) bytes after l ∙ ap (λ bs. 32 ∷ bs) t.1))
+    (t.0, w.word_takes (32 ∷ []) bytes after l ∙ ap (λ bs. 32 ∷ bs) t.1))
 
 ends_there : {A : Type 0} (spell : A → List ℕ) (kind : ℕ → Bool) → kind 32 ≡ false → (xs : List A)
     (rest : List ℕ) → Ends kind rest → Ends kind (spaced spell xs ++ rest)
@@ -108,20 +80,22 @@ then_takes spell P bytes go (Some x) first others =
           ∙ sym (append_assoc (32 ∷ spell x.0) (spaced spell (go x.1).0) (go x.1).1),
     )
 
-at_most_takes : {A : Type 0} (item : List ℕ → Option (A × List ℕ)) (spell : A → List ℕ)
+at_most_takes : {A : Type 0} (w : TextLaws) (item : List ℕ → Option (A × List ℕ))
+    (spell : A → List ℕ)
     (P : A → Type 0) (kind : ℕ → Bool) → Reads item spell P kind
     → (n : ℕ) (bytes : List ℕ) → Taken spell P bytes (at_most item n bytes)
 unfolding at_most
-at_most_takes item spell P kind r zero bytes = (tt, refl)
-at_most_takes item spell P kind r (suc n) bytes =
+at_most_takes w item spell P kind r zero bytes = (tt, refl)
+at_most_takes w item spell P kind r (suc n) bytes =
     then_takes spell P bytes (at_most item n) (spaced_at item bytes)
-    (spaced_takes item spell P kind r bytes) (at_most_takes item spell P kind r n)
+    (spaced_takes w item spell P kind r bytes) (at_most_takes w item spell P kind r n)
 
-pub more_takes : {A : Type 0} (item : List ℕ → Option (A × List ℕ)) (spell : A → List ℕ)
+pub more_takes : {A : Type 0} (w : TextLaws) (item : List ℕ → Option (A × List ℕ))
+    (spell : A → List ℕ)
     (P : A → Type 0) (kind : ℕ → Bool) → Reads item spell P kind
     → (bytes : List ℕ) → Taken spell P bytes (more_at item bytes)
 unfolding more_at
-more_takes item spell P kind r bytes = at_most_takes item spell P kind r (length bytes) bytes
+more_takes w item spell P kind r bytes = at_most_takes w item spell P kind r (length bytes) bytes
 
 -- Lists -----------------------------------------------------------------------------------------
 
@@ -161,22 +135,23 @@ list_joined : (bytes within item after items rest close : List ℕ) → bytes �
 list_joined bytes within item after items rest close a b c d =
     rw (append_assoc, append_assoc) (cc)
 
-pub list_takes : {A : Type 0} (item : List ℕ → Option (A × List ℕ)) (spell : A → List ℕ)
+pub list_takes : {A : Type 0} (w : TextLaws) (item : List ℕ → Option (A × List ℕ))
+    (spell : A → List ℕ)
     (P : A → Type 0) (kind : ℕ → Bool) → Reads item spell P kind
     → (bytes : List ℕ) (xs : List A × List ℕ) → list_at item bytes ≡ Some xs
     → IsListOf P xs.0 × (bytes ≡ listed spell xs.0 ++ xs.1)
 unfolding list_at
-list_takes {A} item spell P kind r bytes xs e =
+list_takes {A} w item spell P kind r bytes xs e =
     option_and_then_some _ (literal_at (40 ∷ []) bytes) xs e (λ within a e1.
     option_and_then_some _ (item within) xs e1 (λ first b e2.
     option_and_then_some _ (literal_at (41 ∷ []) (more_at item first.1).1) xs e2 (λ close d e3.
     let others = more_at item first.1 in
     let f = r.takes within first b in
-    let m = more_takes item spell P kind r first.1 in
+    let m = more_takes w item spell P kind r first.1 in
     let whole : bytes ≡ listed spell (first.0 ∷ others.0) ++ close =
     list_joined bytes within (spell first.0) first.1 (spaced spell others.0) others.1 close
-    (literal_takes (40 ∷ []) bytes within a) f.1 m.1
-    (literal_takes (41 ∷ []) others.1 close d) in
+    (w.word_takes (40 ∷ []) bytes within a) f.1 m.1
+    (w.word_takes (41 ∷ []) others.1 close d) in
     let same : (first.0 ∷ others.0, close) ≡ xs = same_Some _ _ e3 in
     subst (λ (y : List A × List ℕ). IsListOf P y.0 × (bytes ≡ listed spell y.0 ++ y.1)) same
     (list_of P first.0 others.0 f.0 m.0, whole))))

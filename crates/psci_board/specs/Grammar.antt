@@ -1,8 +1,8 @@
 -- The grammar of board texts: what a board text is, and how each is spelled.
-use Rattle.std.specs.Prelude.{ℕ, ◌^◌, ◌<◌, ◌≤◌, List, [], ◌∷◌, ◌++◌, length, flat_map, codes}
-use Rattle.std.specs.List.{All, AllPass}
-use Rattle.std.specs.Char.{is_ascii_hexdigit}
+use Rattle.std.specs.Prelude.{ℕ, ◌<◌, List, [], ◌∷◌, ◌++◌, length, flat_map, codes}
+use Rattle.std.specs.List.{All}
 use Rattle.std.specs.Fmt.{decimal}
+use Rattle.psci_text.specs.Spelling.{hex, IsNumber, IsHex}
 
 -- a member of the outer list: a number, or a list of numbers
 pub data Member : Type 0 where
@@ -31,10 +31,6 @@ abbrev pub listed : {A : Type 0} → (A → List ℕ) → List A → List ℕ
 listed item [] = []
 listed item (x ∷ xs) = 40 ∷ item x ++ (spaced item xs ++ 41 ∷ [])
 
--- an address: 0x and its digits
-abbrev pub hex : List ℕ → List ℕ
-hex digits = 48 ∷ 120 ∷ digits
-
 -- a range: two addresses with a hyphen between them
 abbrev pub range : List ℕ × List ℕ → List ℕ
 range r = hex r.0 ++ 45 ∷ hex r.1
@@ -55,16 +51,7 @@ spelling t = tree t.tree ++ (codes " exec" ++ (spaced range t.ranges ++ (codes "
     ++ (hex t.boot ++ (codes " starts " ++ (decimal t.starts
     ++ (codes " lives " ++ decimal t.lives)))))))
 
--- What has a spelling. A number is below 2 ^ 64.
-abbrev pub IsNumber : ℕ → Type 0
-IsNumber n = n < 2 ^ 64
-
--- an address has 1 to 16 digits
-pub record IsHex (digits : List ℕ) : Type 0 where
-  pub some : 0 < length digits
-  pub most : length digits ≤ 16
-  pub each : AllPass is_ascii_hexdigit digits
-
+-- What has a spelling.
 -- a range of two addresses
 pub record IsRange (r : List ℕ × List ℕ) : Type 0 where
   pub start : IsHex r.0

@@ -1,46 +1,10 @@
 -- Reading a board text from left to right. What is read is a value and the bytes after it.
-use Rattle.std.specs.Prelude.{ℕ, zero, suc, ◌^◌, ◌||◌, ◌&&◌, not, Bool, List, [], ◌∷◌, length, take}
-use Rattle.std.specs.Prelude.{drop, Option, Some, None, option_and_then, nat_lt, nat_le, ◌==◌}
-use Rattle.std.specs.Prelude.{if◌then◌else◌, codes, slice_index}
-use Rattle.std.specs.List.{prefix_len}
-use Rattle.std.specs.Char.{is_ascii_digit, is_ascii_hexdigit}
-use Rattle.std.specs.Str.Parse.{digits_value}
+use Rattle.std.specs.Prelude.{ℕ, zero, suc, Bool, List, [], ◌∷◌, length, Option, Some, None}
+use Rattle.std.specs.Prelude.{◌==◌, if◌then◌else◌, codes, slice_index}
+use Rattle.psci_text.specs.Reading.{◌>>=◌, literal_at, number_at, hex_at, spaced_at}
 use Rattle.psci_board.specs.Grammar.{Member, TreeText, BoardText}
 use Rattle.psci_board.specs.Grammar.Member.{Cluster, Group}
 use Rattle.psci_board.specs.Grammar.TreeText.{One, Members}
-
-infixl 10 ◌>>=◌
--- what is read next, where something was read
-abbrev pub ◌>>=◌ : {A B : Type 0} → Option A → (A → Option B) → Option B
-o >>= f = option_and_then f o
-
--- these very bytes
-unfoldable pub literal_at : List ℕ → List ℕ → Option (List ℕ)
-literal_at [] bytes = Some bytes
-literal_at (w ∷ ws) [] = None
-literal_at (w ∷ ws) (b ∷ bs) = if b == w then literal_at ws bs else None
-
--- a number has no leading zero, unless it is 0 itself
-abbrev pub is_number : List ℕ → Bool
-is_number digits = nat_lt 0 (length digits)
-    && ((length digits == 1 || not (slice_index digits 0 == 48))
-    && nat_lt (digits_value 10 digits) (2 ^ 64))
-
--- a number: all digits that stand there, if they are one
-unfoldable pub number_at : List ℕ → Option (ℕ × List ℕ)
-number_at bytes = let n = prefix_len is_ascii_digit bytes in
-    if is_number (take n bytes) then Some (digits_value 10 (take n bytes), drop n bytes) else None
-
--- the digits of an address
-unfoldable pub hex_at : List ℕ → Option (List ℕ × List ℕ)
-hex_at bytes = do
-  rest ← literal_at (codes "0x") bytes
-  let n = prefix_len is_ascii_hexdigit rest
-  if nat_lt 0 n && nat_le n 16 then Some (take n rest, drop n rest) else None
-
--- its value, and the bytes after it
-abbrev pub hex_value : List ℕ × List ℕ → ℕ × List ℕ
-hex_value x = (digits_value 16 x.0, x.1)
 
 -- a range: two addresses with a hyphen between them
 unfoldable pub range_at : List ℕ → Option ((List ℕ × List ℕ) × List ℕ)
@@ -49,11 +13,6 @@ range_at bytes = do
   dash ← literal_at (codes "-") from.1
   to ← hex_at dash
   Some ((from.0, to.0), to.1)
-
--- a space, and what follows it
-unfoldable pub spaced_at : {A : Type 0} → (List ℕ → Option (A × List ℕ)) → List ℕ
-    → Option (A × List ℕ)
-spaced_at item bytes = literal_at (codes " ") bytes >>= item
 
 -- What stands at the front, and then what go reads.
 abbrev pub then_more : {A : Type 0} → List ℕ → (List ℕ → List A × List ℕ) → Option (A × List ℕ)

@@ -6,6 +6,8 @@ ghost use Rattle.psci_board.specs.Grammar.{BoardText, IsBoardText, spelling};
 ghost use Rattle.psci_board.specs.Reading.{board_text};
 ghost use Rattle.psci_board.specs.Verdict.{board_of};
 
+use psci_text::law_text;
+
 /// What holds of every board holds of each board that a text describes: whoever has the board of a
 /// text may use all that is known of boards.
 pub fn law_boards()
@@ -24,4 +26,6 @@ pub fn law_board_text()
     ensures again { (t : BoardText) → IsBoardText t → board_text (spelling t) ≡ Some t }
     ensures spelled { (bytes : List ℕ) (t : BoardText) → board_text bytes ≡ Some t
         → IsBoardText t × (bytes ≡ spelling t) }
-{}
+{
+    law_text();
+}

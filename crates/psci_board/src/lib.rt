@@ -26,7 +26,6 @@ mod summary;
 mod text;
 mod tree_laws;
 mod tree_text;
-mod words;
 
 pub use board::Board;
 pub use fault::{BoardFault, Memory};
@@ -36,7 +35,6 @@ pub use node::{Core, Node};
 pub use range::AddressRange;
 pub use span::CoreSpan;
 pub use tree_laws::{law_children, law_parents, law_paths, law_sizes, law_spans, law_words};
-pub use words::{hex, literal, number};
 
 #[cfg(test)]
 mod tests;

@@ -11,7 +11,7 @@ use crate::limits::MOST_LIVES;
 use crate::range_text::ranges;
 use crate::summary::{RangesSummary, TreeSummary};
 use crate::tree_text::tree;
-use crate::words::{hex, literal, number};
+use psci_text::{hex, literal, number};
 
 /// What is kept of a board text.
 #[derive(Drop)]

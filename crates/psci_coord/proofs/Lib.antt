@@ -1,4 +1,5 @@
 mod Accepted
+mod BelowLaws
 mod Boards
 mod ClaimLaws
 mod ClaimRows

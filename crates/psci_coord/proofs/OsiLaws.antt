@@ -56,14 +56,14 @@ some-fails p test a (suc n) e = elim (cases_Bool (test a)) [
       (rest.0, omega (arith, rest.1), omega (arith, rest.2), rest.3, rest.4)
 ]
 
-all_off-below : (b : BoardValue) (v : PowerView) (core level c : ℕ)
+pub all_off-below : (b : BoardValue) (v : PowerView) (core level c : ℕ)
     → is_all_off b v (domain_of b core level) ≡ true → c < cores b
     → up b level c ≡ up b level core → v.is_off c ≡ true
 unfolding is_all_off up
 all_off-below b v core level c e h at =
     all-pass v.is_off _ 0 (cores b) c e (omega arith) (omega arith) (eq-eqb _ _ at)
 
-some_on-below : (b : BoardValue) (v : PowerView) (core level : ℕ)
+pub some_on-below : (b : BoardValue) (v : PowerView) (core level : ℕ)
     → is_all_off b v (domain_of b core level) ≡ false
     → (c : ℕ) × (c < cores b) × (up b level c ≡ up b level core) × (v.is_off c ≡ false)
 unfolding is_all_off up

@@ -5,9 +5,24 @@ use Rattle.std.specs.List.{range_with_len}
 use Rattle.psci_board.specs.Board.{BoardValue, height, cores, up}
 use Rattle.psci_state.specs.Ask.{IsAsk}
 use Rattle.psci_coord.specs.declared.part.Part.{Part}
-use Rattle.psci_coord.specs.View.{PowerView, domain_of, generation}
+use Rattle.psci_coord.specs.View.{PowerView, domain_of, generation, least_ask, is_all_off}
 use Rattle.psci_coord.specs.Claim.{claim_of, platform_claim, own_claim, off_claim}
 use Rattle.psci_coord.specs.LastCore.{last_core_check}
+
+-- What is counted over the cores below a core's domain of a level.
+pub record BelowLaws (b : BoardValue) (v : PowerView) (core level : ℕ) : Type 0 where
+  -- the least ask is the greatest depth, of 3 at most, that no core below undercuts
+  pub most : least_ask b v (domain_of b core level) ≤ 3
+  pub below : (c : ℕ) → c < cores b → up b level c ≡ up b level core
+      → least_ask b v (domain_of b core level) ≤ v.ask c level
+  pub above : (depth : ℕ) → depth ≤ 3
+      → ((c : ℕ) → c < cores b → up b level c ≡ up b level core → depth ≤ v.ask c level)
+      → depth ≤ least_ask b v (domain_of b core level)
+  -- every core below is off or going off where each one is
+  pub off : is_all_off b v (domain_of b core level) ≡ true → (c : ℕ) → c < cores b
+      → up b level c ≡ up b level core → v.is_off c ≡ true
+  pub all : ((c : ℕ) → c < cores b → up b level c ≡ up b level core → v.is_off c ≡ true)
+      → is_all_off b v (domain_of b core level) ≡ true
 
 -- Every claim, whatever depths it wants.
 pub record ClaimLaws (b : BoardValue) (v : PowerView) (core : ℕ) (wanted : ℕ → ℕ) : Type 0 where

@@ -4,9 +4,16 @@ ghost use Rattle.std.specs.Prelude.{ℕ, ◌<◌, List};
 ghost use Rattle.psci_board.specs.Board.{BoardValue, IsBoard, cores};
 ghost use Rattle.psci_state.specs.Ask.{IsAsk};
 ghost use Rattle.psci_coord.specs.View.{PowerView};
-ghost use Rattle.psci_coord.specs.Laws.{ClaimLaws, PlatformLaws, OwnLaws, OffLaws, LastCoreLaws};
+ghost use Rattle.psci_coord.specs.Laws.{BelowLaws, ClaimLaws, PlatformLaws, OwnLaws, OffLaws};
+ghost use Rattle.psci_coord.specs.Laws.{LastCoreLaws};
 
 use psci_board::{law_children, law_paths};
+
+/// The least ask of a domain is the greatest depth, of 3 at most, that no core below undercuts. All
+/// cores below are off or going off exactly where each one is.
+pub fn law_below()
+    ensures { (b : BoardValue) (v : PowerView) (core level : ℕ) → BelowLaws b v core level }
+{}
 
 /// A claim has one part for each level from 0 up, each with the depth that is wanted there and the
 /// generation of its domain, and it ends where no depth is wanted.

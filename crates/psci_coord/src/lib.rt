@@ -14,7 +14,7 @@ mod part;
 mod parts;
 
 pub use claim::{claims, own_parts};
-pub use laws::{law_claims, law_last_core, law_off, law_own, law_platform};
+pub use laws::{law_below, law_claims, law_last_core, law_off, law_own, law_platform};
 pub use osi::Osi;
 pub use part::Part;
 pub use parts::{MOST_PARTS, Parts};

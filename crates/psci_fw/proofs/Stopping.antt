@@ -23,7 +23,7 @@ use Rattle.psci_fw_model.specs.declared.mode.SuspendMode.TheVariants.{Platform, 
 use Rattle.psci_fw_model.specs.declared.opening.Opening.{Opening}
 use Rattle.psci_fw_model.specs.declared.outcome.Act.TheVariants.{Resume, Stop}
 use Rattle.psci_fw_model.specs.declared.outcome.Outcome.{Outcome}
-use Rattle.psci_fw_model.specs.declared.start.Start.{Start}
+use Rattle.psci_ctl_model.specs.declared.start.Start.{Start}
 use Rattle.psci_fw_model.specs.After.{change}
 use Rattle.psci_fw_model.specs.Calls.{function_outcome, outcome_of}
 use Rattle.psci_fw_model.specs.Changes.{Rest, with_arrival, with_phase}

@@ -9,7 +9,7 @@ ghost use Rattle.psci_fw_model.specs.Invariant.{AreValues};
 ghost use Rattle.psci_fw.specs.Seen.{IsStateOf, values_in};
 ghost use Rattle.psci_fw.specs.Ways.{way_on};
 
-use crate::held::law_stops;
+use psci_fw_model::law_stops;
 use crate::laws::law_may_claim;
 use crate::off::send_down;
 use crate::state::State;

@@ -2,7 +2,7 @@
 
 ghost use Rattle.std.specs.Prelude.{◌≡◌};
 
-use crate::start::Start;
+use psci_ctl_model::Start;
 use psci_abi::Regs;
 use psci_link::Ack;
 

@@ -4,7 +4,8 @@ ghost use Rattle.std.specs.Prelude.{◌≡◌, ◌<◌, ◌↔◌, ℕ, true, fa
 ghost use Rattle.psci_abi.specs.Calls.{request_of};
 ghost use Rattle.psci_abi.specs.declared.registers.Regs.{Regs};
 ghost use Rattle.psci_abi.specs.declared.request.Request.{Request};
-ghost use Rattle.psci_board.specs.Board.{BoardValue, IsBoard, cores};
+ghost use Rattle.psci_abi.specs.declared.request.Request.TheVariants.{CpuOn};
+ghost use Rattle.psci_board.specs.Board.{BoardValue, IsBoard, cores, core_of};
 ghost use Rattle.psci_coord.specs.declared.part.Part.{Part};
 ghost use Rattle.psci_link.specs.Message.{AckValue, IsClaim};
 ghost use Rattle.psci_state.specs.Ask.{IsAsk};
@@ -14,7 +15,7 @@ ghost use Rattle.psci_fw_model.specs.declared.outcome.Act.TheVariants as acts;
 ghost use Rattle.psci_fw_model.specs.declared.outcome.Outcome.{Outcome};
 ghost use Rattle.psci_fw_model.specs.declared.reply.FwReply.{FwReply};
 ghost use Rattle.psci_fw_model.specs.declared.reply.FwReply.TheVariants.{Out};
-ghost use Rattle.psci_fw_model.specs.declared.start.Start.{Start};
+ghost use Rattle.psci_ctl_model.specs.declared.start.Start.{Start};
 ghost use Rattle.psci_fw_model.specs.declared.status.Status.TheVariants as statuses;
 ghost use Rattle.psci_fw_model.specs.After.{after, change};
 ghost use Rattle.psci_fw_model.specs.Answer.{answer};
@@ -34,6 +35,11 @@ ghost use Rattle.psci_fw_model.specs.Outcomes.{goes_on};
 ghost use Rattle.psci_fw_model.specs.Phases.{Pending, Running, Away};
 ghost use Rattle.psci_fw_model.specs.Values.{Values};
 
+use psci_board::{law_paths, law_words};
+use psci_coord::{law_below, law_claims, law_last_core, law_off, law_own, law_platform};
+use psci_link::{law_parts, law_slots};
+use psci_state::law_power_states;
+
 /// The values that a history says are those of a life's start before any core has entered, and
 /// after one more entry those that the entry leaves. So kept values say what the history says,
 /// whichever entries it has.
@@ -41,7 +47,9 @@ pub fn law_values()
     ensures first { (b : BoardValue) → values_of b [] ≡ start_of_life b 0 }
     ensures more { (b : BoardValue) (e : Entry) (h : List Entry)
         → values_of b (e ∷ h) ≡ after b e.core e.call e.reply (values_of b h) }
-{}
+{
+    law_slots();
+}
 
 /// A core is pending exactly where its status is ON_PENDING, after every history.
 pub fn law_pending()
@@ -75,7 +83,19 @@ pub fn law_invariant()
         → AreValues b v → AreValues b (after b c call (answer b v c call) v) }
     ensures legal { (b : BoardValue) (h : List Entry) → IsBoard b → IsLegal b h
         → AreValues b (values_of b h) }
-{}
+{
+    law_paths();
+    law_words();
+    law_below();
+    law_claims();
+    law_platform();
+    law_own();
+    law_off();
+    law_last_core();
+    law_parts();
+    law_power_states();
+    law_values();
+}
 
 /// The parts of a core that stops are a claim: one part or more, with the levels from 0 up, each
 /// with a depth of 1 to 3 that never grows upwards.
@@ -91,7 +111,17 @@ pub fn law_stops()
     ensures suspended { (b : BoardValue) (v : Values) (c : ℕ) (ask : List ℕ) (parts : List Part)
         → IsBoard b → c < cores b → AreValues b v → v.phase c ≡ Running → IsAsk ask
         → suspend_parts b v c ask ≡ Ok parts → IsClaim parts }
-{}
+{
+    law_paths();
+    law_words();
+    law_below();
+    law_claims();
+    law_platform();
+    law_own();
+    law_off();
+    law_last_core();
+    law_parts();
+}
 
 /// A core that runs is answered as the function that it calls says. That it goes on changes
 /// nothing; where it asks another core on, that alone is changed; and it runs on where it goes on.
@@ -110,8 +140,8 @@ pub fn law_caller()
         → (after b c (Smc regs) reply v).life ≡ v.life }
 {}
 
-/// The target of an accepted CPU_ON was OFF, and so it was not running; it goes on at the entry
-/// point and with the context id that were asked.
+/// The target of an accepted CPU_ON was OFF, and so it was not running; it is the core that the
+/// affinity word names, and goes on at the entry point and with the context id that were asked.
 pub fn law_power_on()
     ensures off { (b : BoardValue) (v : Values) (c caller : ℕ) (regs : Regs) (asked : PowerOn)
         → effect_of b c (Smc regs) (answer b v c (Smc regs)) ≡ AsksOn caller asked
@@ -119,6 +149,10 @@ pub fn law_power_on()
     ensures away { (b : BoardValue) (v : Values) (c caller : ℕ) (regs : Regs) (asked : PowerOn)
         → AreValues b v → effect_of b c (Smc regs) (answer b v c (Smc regs)) ≡ AsksOn caller asked
         → v.phase (target asked) ≡ Away }
+    ensures request { (b : BoardValue) (v : Values) (c caller : ℕ) (regs : Regs) (asked : PowerOn)
+        → effect_of b c (Smc regs) (answer b v c (Smc regs)) ≡ AsksOn caller asked
+        → (word : ℕ) × (core_of b word ≡ Some asked.message.core) × (request_of regs
+        ≡ CpuOn word asked.opening.address asked.opening.context) }
 {}
 
 /// The boot core's first start is not refused: it enters at the boot address, with context id 0.

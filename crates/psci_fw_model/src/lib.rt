@@ -17,7 +17,6 @@ mod mode;
 mod opening;
 mod outcome;
 mod reply;
-mod start;
 mod status;
 
 pub use call::FwCall;
@@ -30,5 +29,5 @@ pub use mode::SuspendMode;
 pub use opening::Opening;
 pub use outcome::{Act, Outcome};
 pub use reply::FwReply;
-pub use start::{Cause, Start};
+pub use psci_ctl_model::{Cause, Start};
 pub use status::Status;

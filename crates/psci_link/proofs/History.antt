@@ -154,7 +154,7 @@ stays-acknowledged slot a (Some m) own = elim (cases_Bool (is_slot (slot_of a.ki
       rw (elsewhere, and_left (answers a m) (is_done a m) other) refl
 ]
 
-outstanding-step : (slot : Slot) (change : Change) (changes : List Change)
+pub outstanding-step : (slot : Slot) (change : Change) (changes : List Change)
     → outstanding slot (change ∷ changes) ≡ changed slot change (outstanding slot changes)
 outstanding-step slot (Put m) changes = elim (cases_Bool (is_slot (slot_of m.kind m.core) slot)) [
   | inl here ↦ step-sent slot (Put m) changes m (rw here refl) ∙ rw here refl

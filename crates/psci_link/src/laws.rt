@@ -1,6 +1,6 @@
 //! What holds of frames, and of outstanding messages over every history.
 
-ghost use Rattle.std.specs.Prelude.{◌≡◌, ℕ, List, None, Some, true, length};
+ghost use Rattle.std.specs.Prelude.{◌≡◌, ℕ, List, ◌∷◌, None, Some, true, length};
 ghost use Rattle.psci_board.specs.Board.{BoardValue};
 ghost use Rattle.psci_link.specs.declared.frame.Frame.{Frame};
 ghost use Rattle.psci_link.specs.Frame.{AreBytes, IsFrame, IsOf, spelling, first_fault};
@@ -34,6 +34,9 @@ pub fn law_slots()
         ≡ changed slot change (message_in slots slot) }
     ensures outstanding { (cores : ℕ) (changes : List Change) → AreChanges cores changes
         → (slot : Slot) → message_in (after_all cores changes) slot ≡ outstanding slot changes }
+    // What one more change leaves outstanding, whatever the changes before it.
+    ensures more { (slot : Slot) (change : Change) (changes : List Change)
+        → outstanding slot (change ∷ changes) ≡ changed slot change (outstanding slot changes) }
     // A slot holds only messages of its own core, or of the system.
     ensures own { (slot : Slot) (changes : List Change) (m : MessageValue)
         → outstanding slot changes ≡ Some m → is_slot (slot_of m.kind m.core) slot ≡ true }

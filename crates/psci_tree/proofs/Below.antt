@@ -4,12 +4,13 @@ use Rattle.std.proofs.Common.{get_or, map, take, drop, replicate, min, arith, re
 use Rattle.std.proofs.Common.{sym, append-nil, length-append, drop-cons, suc, zero, add-one}
 use Rattle.std.proofs.Math.ListN.{set, length-set}
 use Rattle.std.specs.Vec.{with_item}
-use Rattle.std.specs.List.{flat_map, sum_by}
-use Rattle.std.proofs.lemmas.List.{set-append_left, set-append_right, take_more, take_all}
+use Rattle.std.specs.List.{flat_map}
+use Rattle.std.proofs.lemmas.List.{set-append_left, set-append_right, take_more}
 use Rattle.std.proofs.lemmas.List.Concat.{flat_map-append}
 use Rattle.std.proofs.lemmas.List.Folds.{flat_map-map}
-use Rattle.std.proofs.lemmas.List.Sums.{sum_by-append, sum_by-cons}
 use Rattle.psci_tree.specs.Recount.{least, asks}
+use Rattle.psci_tree.specs.Kept.{low_in}
+use Rattle.psci_tree.specs.declared.kept.Kept.{Kept}
 use Rattle.psci_tree.specs.Domains.{cores, cores_from, cores_step, cores_in, children, child_counts}
 use Rattle.psci_tree.specs.declared.state.CoreState.{CoreState}
 use Rattle.psci_tree.specs.declared.domain.Domain.{Domain}
@@ -61,12 +62,6 @@ cores_take ns i d h =
     ap cores_in (take_more ns i d h) ∙ flat_map-append cores (take i ns) (get_or ns i d ∷ [])
     ∙ ap (λ (x : List CoreState). cores_in (take i ns) ++ x) (append-nil (cores (get_or ns i d)))
 
-pub cores_end : (ns : List Domain) (i : ℕ) → length ns ≤ i → cores_in (drop i ns) ≡ []
-cores_end [] zero h = refl
-cores_end [] (suc i) h = refl
-cores_end (n ∷ ns) zero h = absurd (omega arith)
-cores_end (n ∷ ns) (suc i) h = cores_end ns i (omega arith)
-
 pub length_drop : (ns : List Domain) (i : ℕ) (d : Domain) → i < length ns
     → length (cores_in (drop i ns))
     ≡ length (cores (get_or ns i d)) + length (cores_in (drop (i + 1) ns))
@@ -79,6 +74,18 @@ pub length_take : (ns : List Domain) (i : ℕ) (d : Domain) → i < length ns
 length_take ns i d h =
     ap length (cores_take ns i d h) ∙ length-append (cores_in (take i ns)) (cores (get_or ns i d))
 
+-- the cores below the first so many and below the others
+pub length_parts : (ns : List Domain) (k : ℕ)
+    → length (cores_in (take k ns)) + length (cores_in (drop k ns)) ≡ length (cores_in ns)
+length_parts ns zero = omega arith
+length_parts [] (suc k) = omega arith
+length_parts (n ∷ ns) (suc k) = omega (
+  arith,
+  length-append (cores n) (cores_in (take k ns)),
+  length-append (cores n) (cores_in ns),
+  length_parts ns k,
+)
+
 -- a domain has no more cores than those beside it together
 pub cores_le : (ns : List Domain) (i : ℕ) (d : Domain) → i < length ns
     → length (cores (get_or ns i d)) ≤ length (cores_in ns)
@@ -89,59 +96,14 @@ cores_le (n ∷ ns) (suc i) d h =
 
 -- The least ask ------------------------------------------------------------------------------
 
-abbrev pub low_in : ℕ → List CoreState → ℕ
-low_in level cs = least (map (λ c. asks c.activity level) cs)
-
 pub least_le : (ds : List ℕ) → least ds ≤ 3
 least_le [] = omega arith
 least_le (d ∷ ds) = omega (arith, least_le ds)
 
-low-append : (level : ℕ) (xs ys : List CoreState)
+pub low-append : (level : ℕ) (xs ys : List CoreState)
     → low_in level (xs ++ ys) ≡ min (low_in level xs) (low_in level ys)
 low-append level [] ys = omega (arith, least_le (map (λ c. asks c.activity level) ys))
 low-append level (x ∷ xs) ys = omega (arith, low-append level xs ys)
-
-pub low_of_domain : (level : ℕ) (n : Domain) → 0 < length (children n)
-    → low_in level (cores n) ≡ low_in level (cores_in (children n))
-low_of_domain level n h = ap (low_in level) (cores_of_domain n h)
-
-pub low_of_core : (level : ℕ) (n : Domain) → length (children n) ≡ 0
-    → low_in level (cores n) ≡ min (asks (out-Domain n).core.activity level) 3
-low_of_core level n h = ap (low_in level) (cores_of_core n h)
-
-pub low_drop : (level : ℕ) (ns : List Domain) (i : ℕ) (d : Domain) → i < length ns
-    → low_in level (cores_in (drop i ns))
-    ≡ min (low_in level (cores (get_or ns i d))) (low_in level (cores_in (drop (i + 1) ns)))
-low_drop level ns i d h = ap (low_in level) (cores_drop ns i d h)
-    ∙ low-append level (cores (get_or ns i d)) (cores_in (drop (i + 1) ns))
-
-pub low_end : (level : ℕ) (ns : List Domain) (i : ℕ) → length ns ≤ i
-    → low_in level (cores_in (drop i ns)) ≡ 3
-low_end level ns i h = ap (low_in level) (cores_end ns i h)
-
--- A sum --------------------------------------------------------------------------------------
-
-pub sum_of_domain : (f : CoreState → ℕ) (n : Domain) → 0 < length (children n)
-    → sum_by f (cores n) ≡ sum_by f (cores_in (children n))
-sum_of_domain f n h = ap (sum_by f) (cores_of_domain n h)
-
-pub sum_of_core : (f : CoreState → ℕ) (n : Domain) → length (children n) ≡ 0
-    → sum_by f (cores n) ≡ f (out-Domain n).core
-sum_of_core f n h =
-    ap (sum_by f) (cores_of_core n h) ∙ omega (arith, sum_by-cons f (out-Domain n).core [])
-
-pub sum_take : (f : CoreState → ℕ) (ns : List Domain) (i : ℕ) (d : Domain) → i < length ns
-    → sum_by f (cores_in (take (i + 1) ns))
-    ≡ sum_by f (cores_in (take i ns)) + sum_by f (cores (get_or ns i d))
-sum_take f ns i d h = ap (sum_by f) (cores_take ns i d h)
-    ∙ sum_by-append f (cores_in (take i ns)) (cores (get_or ns i d))
-
-pub sum_done : (f : CoreState → ℕ) (n : Domain) (ns : List Domain) (i : ℕ) → ns ≡ children n
-    → 0 < length ns → length ns ≤ i → sum_by f (cores_in (take i ns)) ≡ sum_by f (cores n)
-sum_done f n ns i e h l =
-    let some : 0 < length (children n) = omega (arith, ap length e) in
-    ap (λ (x : List Domain). sum_by f (cores_in x)) (take_all i ns l ∙ e)
-    ∙ sym (sum_of_domain f n some)
 
 -- Another core -------------------------------------------------------------------------------
 
@@ -162,15 +124,16 @@ cores_set (n ∷ ns) (suc i) rest place d m s h e r q =
     (cores_set ns i rest (place - length (cores n)) d m s (omega arith) (omega arith) r q))
 
 -- another child with another core makes another domain with that core
-pub cores_with_child : (n : Domain) (i rest place : ℕ) (m : Domain) (s : CoreState)
+pub cores_with_child : (n : Domain) (i rest place : ℕ) (m : Domain) (s : CoreState) (k : Kept)
     → i < length (children n) → length (cores_in (take i (children n))) + rest ≡ place
     → rest < length (cores (get_or (children n) i n))
     → cores m ≡ set (cores (get_or (children n) i n)) rest s →
     cores (roll-Domain (record {
       children = with_item (out-Domain n).children i m;
       core = (out-Domain n).core;
+      kept = k;
     })) ≡ set (cores n) place s
-cores_with_child n i rest place m s h e r q =
+cores_with_child n i rest place m s k h e r q =
     let some : 0 < length (children n) = omega arith in
     let more : 0 < length (set (children n) i m) = omega (arith, length-set (children n) i m) in
     cores_roll _ more ∙ cores_set (children n) i rest place n m s h e r q
@@ -194,23 +157,17 @@ widths_suc : (k : ℕ) (x : Domain-F Domain)
 widths_suc k x = ap (flat_map (child_counts k)) (children_roll x)
 
 -- a domain with another child of the same shape has the same shape
-pub widths_with_child : (n : Domain) (i : ℕ) (m : Domain)
+pub widths_with_child : (n : Domain) (i : ℕ) (m : Domain) (v : Kept)
     → ((k : ℕ) → child_counts k m ≡ child_counts k (get_or (children n) i n)) → (k : ℕ) →
     child_counts k (roll-Domain (record {
       children = with_item (out-Domain n).children i m;
       core = (out-Domain n).core;
+      kept = v;
     })) ≡ child_counts k n
-widths_with_child n i m each zero =
+widths_with_child n i m v each zero =
     widths_zero _ ∙ ap (λ (x : ℕ). x ∷ []) (length-set (children n) i m)
-widths_with_child n i m each (suc k) =
+widths_with_child n i m v each (suc k) =
     widths_suc k _ ∙ flat_map_set (child_counts k) (children n) i n m (each k)
-
--- a core's state is no part of its shape
-pub widths_with_core : (n : Domain) (s : CoreState) (k : ℕ)
-    → child_counts k (roll-Domain (record { children = (out-Domain n).children; core = s }))
-    ≡ child_counts k n
-widths_with_core n s zero = widths_zero _
-widths_with_core n s (suc k) = widths_suc k _
 
 -- one more core that is like those before it
 pub set_next : (s : CoreState) (xs : List CoreState) (i : ℕ) → i < length xs

@@ -1,16 +1,20 @@
 -- Domains put together level by level, from the cores up.
 use Rattle.std.proofs.Common.{◌≡◌, ℕ, zero, suc, ◌<◌, List, [], ◌∷◌, ◌++◌, length, drop, map}
-use Rattle.std.proofs.Common.{sum, refl, ap, sym, ◌∙◌, arith, append-nil, get_or, length-append}
-use Rattle.std.specs.List.{flat_map}
-use Rattle.std.proofs.lemmas.List.{length_push, map-append}
+use Rattle.std.proofs.Common.{sum, replicate, ◌+◌, refl, ap, sym, ◌∙◌, arith, append-nil, get_or}
+use Rattle.std.proofs.Common.{length-append}
+use Rattle.std.specs.List.{flat_map, AllPass}
+use Rattle.std.proofs.lemmas.Bool.Decides.{nat_tests}
+use Rattle.std.proofs.lemmas.List.{length_push, map-append, replicate_more}
 use Rattle.std.proofs.lemmas.List.Concat.{flat_map-append, flat_map_single}
 use Rattle.std.proofs.lemmas.List.Sums.{sum_by_push}
-use Rattle.psci_board.specs.Board.{IsTree, size_below}
-use Rattle.psci_tree.specs.Domains.{children, child_count, child_counts, HasShape, IsWhole}
+use Rattle.psci_board.specs.Board.{IsTree, size_below, is_width}
+use Rattle.psci_tree.specs.declared.state.CoreState.{CoreState}
+use Rattle.psci_tree.specs.Domains.{cores, cores_in, children, child_count, child_counts, HasShape}
+use Rattle.psci_tree.specs.Domains.{IsWhole}
 use Rattle.psci_tree.specs.declared.domain.Domain.{Domain}
 use Rattle.psci_tree.specs.declared.domain.Domain.TheOpen.{Domain-F}
 use Rattle.psci_tree.specs.declared.domain.Domain.TheViews.{roll-Domain}
-use Rattle.psci_tree.proofs.Below.{children_roll}
+use Rattle.psci_tree.proofs.Below.{children_roll, cores_roll_core}
 
 pub child_count_roll : (x : Domain-F Domain) → child_count (roll-Domain x) ≡ length x.children.items
 child_count_roll x = ap length (children_roll x)
@@ -85,3 +89,17 @@ pub counts_push : (ps : List Domain) (x : Domain-F Domain)
 counts_push ps x =
     map-append child_count ps (roll-Domain x ∷ [])
     ∙ ap (λ k. map child_count ps ++ k ∷ []) (child_count_roll x)
+
+-- one more core that is off
+pub cores_push : (ns : List Domain) (x : Domain-F Domain) (n : ℕ) (s : CoreState)
+    → length x.children.items ≡ 0 → x.core ≡ s → cores_in ns ≡ replicate n s
+    → cores_in (ns ++ roll-Domain x ∷ []) ≡ replicate (n + 1) s
+cores_push ns x n s none own h =
+    flat_map-append cores ns (roll-Domain x ∷ [])
+    ∙ ap (λ ys. cores_in ns ++ ys)
+    (append-nil (cores (roll-Domain x)) ∙ cores_roll_core x none ∙ ap (λ c. c ∷ []) own)
+    ∙ ap (λ ys. ys ++ s ∷ []) h ∙ replicate_more n s
+
+-- each domain above the cores has a child
+pub some_children : (w : List ℕ) (i : ℕ) → AllPass is_width w → i < length w → 0 < get_or w i 0
+some_children w i h l = let e = h i 0 l in grind (arith, nat_tests)

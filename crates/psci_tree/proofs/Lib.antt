@@ -4,6 +4,9 @@ pub mod Bounds
 pub mod Built
 pub mod GrantRows
 pub mod Granted
+pub mod Keeping
+pub mod KeptRows
+pub mod Leaves
 pub mod Looked
 pub mod Places
 pub mod Recounted
@@ -14,3 +17,4 @@ pub mod Sums
 pub mod UnevenRows
 pub mod Upward
 pub mod Valid
+pub mod Ways

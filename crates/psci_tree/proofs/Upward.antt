@@ -179,3 +179,23 @@ top_node b n h e =
     first_fails : (a c : Bool) → c ≡ true → (a && c) ≡ false → a ≡ false
     first_fails true c p q = absurd (let no : true ≡ false = sym p ∙ q in cc)
     first_fails false c p q = refl
+
+both_some : {X : Type 0} (a c : Bool) (x : X) → a ≡ true → c ≡ true
+    → cond (a && c) (Some x) None ≡ Some x
+both_some true true x p q = refl
+both_some true false x p q = absurd (let no : false ≡ true = q in cc)
+both_some false c x p q = absurd (let no : false ≡ true = p in cc)
+
+-- each node below the system has a parent, and a number among its siblings
+pub parent_some : (b : BoardValue) (n : Node) → n.level < length b.levels
+    → n.place < size_below (drop n.level b.levels)
+    → parent b n ≡ Some (record {
+      level = n.level + 1;
+      place = group_of (get_or b.levels n.level []) n.place;
+    })
+parent_some b n h i = both_some _ _ _ (lt-ltb _ _ h) (lt-ltb _ _ i)
+
+pub number_some : (b : BoardValue) (n : Node) → n.level < length b.levels
+    → n.place < size_below (drop n.level b.levels)
+    → child_number b n ≡ Some (place_in (get_or b.levels n.level []) n.place)
+number_some b n h i = both_some _ _ _ (lt-ltb _ _ h) (lt-ltb _ _ i)

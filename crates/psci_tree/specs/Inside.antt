@@ -1,9 +1,11 @@
 -- How the domains in memory and the value of a tree belong together.
 use Rattle.psci_tree.specs.declared.domain.Domain.{Domain}
 use Rattle.psci_tree.specs.Domains.{IsWhole}
+use Rattle.psci_tree.specs.Kept.{IsKept}
 use Rattle.psci_tree.specs.Recount.{TreeValue, IsDomainTree}
 
--- the domains below the root are those of the levels
+-- the domains below the root are those of the levels, and each keeps the recount of its cores
 pub record IsTied (root : Domain) (t : TreeValue) : Type 0 where
   pub whole : IsWhole root t.levels
+  pub kept : IsKept root
   pub valid : IsDomainTree t

@@ -1,4 +1,5 @@
 pub mod Changes
 pub mod Domains
 pub mod Inside
+pub mod Kept
 pub mod Recount

@@ -7,8 +7,10 @@ ghost use Rattle.psci_board.specs.Board.{IsBoard, size_below, height};
 ghost use Rattle.psci_tree.specs.declared.domain.Domain.{Domain};
 ghost use Rattle.psci_tree.specs.Recount.{never_started};
 ghost use Rattle.psci_tree.specs.Domains.{IsWhole, children, child_count, cores, cores_in};
+ghost use Rattle.psci_tree.specs.Kept.{AreKept, IsKept};
 
-use crate::domain::Domain;
+use crate::domain::{Domain, kept_of};
+use crate::kept::Kept;
 use crate::state::NEVER_STARTED;
 use psci_board::{Board, Memory, Node};
 use std::alloc::Global;
@@ -19,6 +21,7 @@ pub fn build(alloc: Global, board: &Board) -> Result<Domain, Memory>
     ensures whole { IfOk result (λ root. IsWhole root board.now.levels) }
     ensures off { IfOk result (λ root.
         cores root ≡ replicate (size_below board.now.levels) never_started) }
+    ensures kept { IfOk result (λ root. IsKept root) }
 {
     let mut row = row_of_cores(alloc, board.cores())?;
     for below in 0..board.height() {
@@ -35,12 +38,14 @@ fn row_of_cores(alloc: Global, count: u16) -> Result<Vec<Domain>, Memory>
     ensures count { IfOk result (λ row. length row.items ≡ count) }
     ensures leaves { IfOk result (λ row. sum (map child_count row.items) ≡ 0) }
     ensures off { IfOk result (λ row. cores_in row.items ≡ replicate count never_started) }
+    ensures kept { IfOk result (λ row. AreKept row.items) }
 {
     let mut row = Vec::new(alloc);
     for _ in 0..count {
         row.push(Domain {
             children: Vec::new(alloc),
             core: NEVER_STARTED,
+            kept: Kept::of_core(&NEVER_STARTED),
         })?;
     }
     Ok(row)
@@ -55,10 +60,13 @@ fn parents_of(
 ) -> Result<Vec<Domain>, Memory>
     requires board { IsBoard board.now }
     requires level { below < height board.now }
+    requires kept { AreKept row.items }
+    requires few { length (cores_in row.items) < 2 ^ 16 }
     requires children { sum (slice_index_or board.now.levels below []) ≡ length row.items }
     ensures children { IfOk result (λ parents. flat_map children parents.items ≡ row.items) }
     ensures counts { IfOk result (λ parents.
         map child_count parents.items ≡ slice_index_or board.now.levels below []) }
+    ensures kept { IfOk result (λ parents. AreKept parents.items) }
 {
     let level = below + 1;
     let mut rest = row;
@@ -66,8 +74,10 @@ fn parents_of(
     for place in 0..board.nodes(level) {
         let count = board.children(Node { level, place });
         let others = rest.split_off(count as usize)?;
+        let group = replace(&mut rest, others);
         parents.push(Domain {
-            children: replace(&mut rest, others),
+            kept: kept_of(&group),
+            children: group,
             core: NEVER_STARTED,
         })?;
     }

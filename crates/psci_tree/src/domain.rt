@@ -1,13 +1,13 @@
 //! Power domains that hold those below them.
 
-ghost use Rattle.std.specs.Prelude.{◌≡◌, ℕ, ◌+◌, ◌*◌, ◌^◌, ◌<◌, ◌≤◌, length};
-ghost use Rattle.std.specs.Prelude.{map, replicate, slice_set, take, get_or};
-ghost use Rattle.std.specs.List.{sum_by, count_by};
+ghost use Rattle.std.specs.Prelude.{◌≡◌, ℕ, ◌^◌, ◌<◌, ◌≤◌, length};
 ghost use Rattle.psci_tree.specs.declared.domain.Domain.{Domain};
-ghost use Rattle.psci_tree.specs.Recount.{asks, is_active, is_off, least, never_started};
-ghost use Rattle.psci_tree.specs.Domains.{cores, cores_in, child_counts};
+ghost use Rattle.psci_tree.specs.Changes.{with_change};
+ghost use Rattle.psci_tree.specs.Domains.{cores, cores_in, child_counts, IsWay, place_by};
+ghost use Rattle.psci_tree.specs.Kept.{AreKept, IsKept, Keeps};
 
-use crate::state::{CoreState, NEVER_STARTED};
+use crate::kept::Kept;
+use crate::state::{Change, CoreState};
 
 /// A power domain. One without children is a core.
 #[derive(Drop)]
@@ -16,128 +16,43 @@ pub struct Domain {
     pub children: Vec<Domain>,
     /// What is kept of the core. It is in use where there are no children.
     pub core: CoreState,
+    /// What is kept of the cores below.
+    pub kept: Kept,
 }
 
 impl Domain {
-    /// The number of cores below.
-    fn count(&self) -> usize
-        requires { length (cores self.now) < 2 ^ 16 }
-        ensures { result ≡ length (cores self.now) }
-    {
-        if self.children.is_empty() {
-            return 1;
-        }
-        let mut count = 0;
-        for child in &self.children {
-            count += child.count();
-        }
-        count
-    }
-
-    /// The least ask at a level of the cores below.
-    pub fn low(&self, level: u32) -> u8
-        ensures { result ≡ least (map (λ c. asks c.activity level) (cores self.now)) }
-    {
-        if self.children.is_empty() {
-            return self.core.ask(level);
-        }
-        let mut low: u8 = 3;
-        for child in &self.children {
-            low = low.min(child.low(level));
-        }
-        low
-    }
-
-    /// The sum of the known starts of the cores below.
-    pub fn known(&self) -> u64
-        requires { length (cores self.now) < 2 ^ 16 }
-        ensures value { result ≡ sum_by (λ c. c.known) (cores self.now) }
-        ensures small { result ≤ 2 ^ 32 * length (cores self.now) }
-    {
-        if self.children.is_empty() {
-            return u64::from(self.core.known);
-        }
-        let mut known: u64 = 0;
-        for child in &self.children {
-            known += child.known();
-        }
-        known
-    }
-
-    /// How many cores below are running or pending.
-    pub fn active(&self) -> u32
-        requires { length (cores self.now) < 2 ^ 16 }
-        ensures value { result ≡ count_by (λ c. is_active c.activity) (cores self.now) }
-        ensures small { result ≤ length (cores self.now) }
-    {
-        if self.children.is_empty() {
-            return u32::from(self.core.is_active());
-        }
-        let mut active = 0;
-        for child in &self.children {
-            active += child.active();
-        }
-        active
-    }
-
-    /// How many cores below are off or going off.
-    pub fn off(&self) -> u32
-        requires { length (cores self.now) < 2 ^ 16 }
-        ensures value { result ≡ count_by (λ c. is_off c.activity) (cores self.now) }
-        ensures small { result ≤ length (cores self.now) }
-    {
-        if self.children.is_empty() {
-            return u32::from(self.core.is_off());
-        }
-        let mut off = 0;
-        for child in &self.children {
-            off += child.off();
-        }
-        off
-    }
-
-    /// Sets the state of the core at this place below, from the left.
-    pub fn set(&mut self, place: usize, state: CoreState)
-        requires inside { place < length (cores self.old) }
+    /// Changes the core that a way leads to, so many levels down, and what is kept of it.
+    pub fn change(&mut self, level: u32, way: &[u32], change: &Change)
+        requires long { level ≤ length way.now }
+        requires way { IsWay level way.now self.old }
         requires few { length (cores self.old) < 2 ^ 16 }
-        ensures cores { cores self.new ≡ slice_set (cores self.old) place state }
+        requires kept { IsKept self.old }
+        ensures cores { cores self.new ≡ with_change (cores self.old)
+            (place_by level way.now self.old) change.now }
         ensures shape { (k : ℕ) → child_counts k self.new ≡ child_counts k self.old }
+        ensures kept { IsKept self.new }
     {
-        if self.children.is_empty() {
-            self.core = state;
+        if level == 0 {
+            let core = self.core.changed(change);
+            self.kept = Kept::of_core(&core);
+            self.core = core;
             return;
         }
-        let (child, rest) = find(&self.children, place);
-        self.children[child].set(rest, state);
-    }
-
-    /// Turns off every core below, and forgets its starts.
-    pub fn turn_off(&mut self)
-        requires { length (cores self.old) < 2 ^ 16 }
-        ensures cores { cores self.new ≡ replicate (length (cores self.old)) never_started }
-        ensures shape { (k : ℕ) → child_counts k self.new ≡ child_counts k self.old }
-    {
-        for place in 0..self.count() {
-            self.set(place, NEVER_STARTED);
-        }
+        let number = way[level as usize - 1] as usize;
+        self.children[number].change(level - 1, way, change);
+        self.kept = kept_of(&self.children);
     }
 }
 
-/// The domain with the core at this place, and the core's place below that domain.
-fn find(domains: &[Domain], place: usize) -> (usize, usize)
-    requires inside { place < length (cores_in domains.now) }
+/// What is kept of the cores below several domains.
+pub fn kept_of(domains: &[Domain]) -> Kept
+    requires kept { AreKept domains.now }
     requires few { length (cores_in domains.now) < 2 ^ 16 }
-    ensures domain { result.0 < length domains.now }
-    ensures before { length (cores_in (take result.0 domains.now)) + result.1 ≡ place }
-    ensures rest { (n : Domain) → result.1 < length (cores (get_or domains.now result.0 n)) }
+    ensures { Keeps result (cores_in domains.now) }
 {
-    let mut rest = place;
-    for (at, domain) in domains.iter().enumerate() {
-        let count = domain.count();
-        if rest < count {
-            return (at, rest);
-        }
-        rest -= count;
+    let mut kept = Kept::none();
+    for domain in domains {
+        kept = kept.beside(&domain.kept);
     }
-    unreachable!()
+    kept
 }

@@ -16,6 +16,7 @@ mod build;
 mod descent;
 mod domain;
 mod grants;
+mod kept;
 mod laws;
 mod state;
 mod tree;

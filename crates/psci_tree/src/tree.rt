@@ -1,10 +1,10 @@
 //! The tree of power domains.
 
 use crate::build::build;
-use crate::descent::domain_at;
+use crate::descent::{change_core, domain_at, turn_off};
 use crate::domain::Domain;
 use crate::grants::{clear_up, deepest_rows, fill_rows, write};
-use crate::state::{Activity, CoreState, NEVER_STARTED};
+use crate::state::{Activity, Change, CoreState, NEVER_STARTED};
 use psci_board::{Board, Core, Memory, Node, law_sizes, law_spans};
 use psci_state::Ask;
 use std::alloc::Global;
@@ -45,7 +45,7 @@ impl Model for Tree {
     }) };
 }
 
-ghost use Rattle.std.specs.Prelude.{◌≡◌, ℕ, ◌+◌, ◌^◌, ◌<◌, ◌≤◌, map, length, IfOk};
+ghost use Rattle.std.specs.Prelude.{◌≡◌, ℕ, ◌+◌, ◌^◌, ◌<◌, ◌≤◌, map, length, unwrap_or, IfOk};
 ghost use Rattle.psci_board.specs.Board.{size_below, HasNodeIn, below_in};
 ghost use Rattle.psci_tree.specs.declared.domain.Domain.{Domain, out-Domain};
 ghost use Rattle.psci_tree.specs.declared.state.Activity.TheVariants.{Active, Suspended, Off};
@@ -55,6 +55,7 @@ ghost use Rattle.psci_tree.specs.Changes.{MayGrant, suspended, turned_off, made_
 ghost use Rattle.psci_tree.specs.Changes.{with_grant, with_core_state, with_path_cleared};
 ghost use Rattle.psci_tree.specs.Changes.{all_off, start_of_life};
 ghost use Rattle.psci_tree.specs.Domains.{cores};
+ghost use Rattle.psci_tree.specs.Kept.{Keeps};
 
 impl Tree {
     /// The tree of a board at the start of a life: the boot core, core 0, is pending, every other
@@ -94,7 +95,7 @@ impl Tree {
         if level > self.board.height() {
             return 0;
         }
-        self.domain(node).low(level)
+        self.domain(node).kept.lows[level as usize]
     }
 
     /// The sum of the known starts of the cores below a domain.
@@ -102,7 +103,7 @@ impl Tree {
         requires { HasNodeIn self.now.levels node }
         ensures { result ≡ known self.now node }
     {
-        self.domain(node).known()
+        self.domain(node).kept.known
     }
 
     /// How many cores below a domain are running or pending.
@@ -110,7 +111,7 @@ impl Tree {
         requires { HasNodeIn self.now.levels node }
         ensures { result ≡ active self.now node }
     {
-        self.domain(node).active()
+        self.domain(node).kept.active
     }
 
     /// How many cores below a domain are off or going off.
@@ -118,7 +119,7 @@ impl Tree {
         requires { HasNodeIn self.now.levels node }
         ensures { result ≡ off self.now node }
     {
-        self.domain(node).off()
+        self.domain(node).kept.off
     }
 
     /// The granted depth of a domain.
@@ -163,8 +164,7 @@ impl Tree {
         ensures levels { self.new.levels ≡ self.old.levels }
         ensures tree { IsDomainTree self.new }
     {
-        let known = self.known_start(core);
-        self.set_core(core, Activity::Suspended(ask), known);
+        self.set_core(core, Activity::Suspended(ask), None);
     }
 
     /// A core is off, or going off.
@@ -174,8 +174,7 @@ impl Tree {
         ensures levels { self.new.levels ≡ self.old.levels }
         ensures tree { IsDomainTree self.new }
     {
-        let known = self.known_start(core);
-        self.set_core(core, Activity::Off, known);
+        self.set_core(core, Activity::Off, None);
     }
 
     /// A core is pending: nothing is granted any more on its path.
@@ -185,8 +184,7 @@ impl Tree {
         ensures levels { self.new.levels ≡ self.old.levels }
         ensures tree { IsDomainTree self.new }
     {
-        let known = self.known_start(core);
-        self.set_core(core, Activity::Active, known);
+        self.set_core(core, Activity::Active, None);
         self.clear_path(core);
     }
 
@@ -197,7 +195,7 @@ impl Tree {
         ensures levels { self.new.levels ≡ self.old.levels }
         ensures tree { IsDomainTree self.new }
     {
-        self.set_core(core, Activity::Active, number);
+        self.set_core(core, Activity::Active, Some(number));
         self.clear_path(core);
     }
 
@@ -211,16 +209,17 @@ impl Tree {
         self.domain(core.node()).core
     }
 
-    /// Sets the state of a core.
-    fn set_core(&mut self, core: Core, activity: Activity, known: u32)
+    /// Changes a core.
+    fn set_core(&mut self, core: Core, activity: Activity, started: Option<u32>)
         requires core { core.number < size_below self.old.levels }
         requires activity { IsActivity activity }
-        ensures value { self.new ≡ with_core_state self.old core.number activity known }
+        ensures value { self.new ≡ with_core_state self.old core.number activity
+            (unwrap_or started (known_at self.old core.number)) }
         ensures levels { self.new.levels ≡ self.old.levels }
         ensures tree { IsDomainTree self.new }
     {
-        self.root
-            .set(core.number as usize, CoreState { activity, known });
+        let change = Change { activity, started };
+        change_core(&mut self.root, &self.board, core, &change);
     }
 
     /// Takes away what is granted on the path of a core.
@@ -239,7 +238,7 @@ impl Tree {
         ensures levels { self.new.levels ≡ self.old.levels }
         ensures tree { IsDomainTree self.new }
     {
-        self.root.turn_off();
+        turn_off(&mut self.root, &self.board);
         fill_rows(&mut self.granted, 3);
     }
 
@@ -248,7 +247,7 @@ impl Tree {
         requires { HasNodeIn self.now.levels node }
         ensures cores { cores result.now
             ≡ map (λ c. core_at self.now c) (below_in self.now.levels node) }
-        ensures few { length (cores result.now) < 2 ^ 16 }
+        ensures kept { Keeps (out-Domain result.now).kept (cores result.now) }
         ensures core { node.level ≡ 0 → (out-Domain result.now).core ≡ core_at self.now node.place }
     {
         law_spans();

@@ -2,4 +2,7 @@ use Rattle.psci_bench.proofs.EventLines.{line_again, line_takes}
 use Rattle.psci_bench.proofs.laws.law_event_lines.Goals as goal
 
 pub returns : goal.returns
-returns c = record { again = line_again; spelled = line_takes }
+returns c = record {
+  again = line_again c.law_text.ensures;
+  spelled = line_takes c.law_text.ensures;
+}

@@ -1,5 +1,5 @@
 -- Each clause is a law of slots.
-use Rattle.psci_link.proofs.History.{look-after_all, outstanding-own}
+use Rattle.psci_link.proofs.History.{look-after_all, outstanding-own, outstanding-step}
 use Rattle.psci_link.proofs.LookUps.{look-after}
 use Rattle.psci_link.proofs.laws.law_slots.Goals as goal
 
@@ -8,6 +8,9 @@ returns-clause-changed c = look-after
 
 pub returns-clause-outstanding : goal.returns-clause-outstanding
 returns-clause-outstanding c = look-after_all
+
+pub returns-clause-more : goal.returns-clause-more
+returns-clause-more c = outstanding-step
 
 pub returns-clause-own : goal.returns-clause-own
 returns-clause-own c = outstanding-own

@@ -8,6 +8,8 @@ use Rattle.psci_tree.specs.declared.domain.Domain.{Domain}
 use Rattle.psci_tree.proofs.Slices.{cores_down, widths_at}
 use Rattle.psci_tree.proofs.Built.{shaped_more, ends_more}
 use Rattle.psci_tree.proofs.Built.{tree_at}
+use Rattle.psci_tree.specs.Kept.{AreKept}
+use Rattle.psci_tree.proofs.Keeping.{kept_last}
 use Rattle.psci_tree.proofs.build.build.Goals as goal
 
 pub loop-below-preserved : goal.loop-below-preserved
@@ -30,5 +32,10 @@ loop-below-preserved c =
       ends = ends_more new old at (at + 1) up children c.loop-below.invariant.ends;
       size = rw up (sym (length-map new child_count) ∙ ap length counts
           ∙ tree_at levels at tree fits);
+      kept = c.in_ok-row-2.ensures.kept;
       off = cores_down new wide ∙ ap cores_in children ∙ c.loop-below.invariant.off;
     }
+
+pub returns-clause-kept : goal.returns-clause-kept
+returns-clause-kept c =
+    kept_last _ c.in-Some.root (subst AreKept c.in-Some.ensures.items c.loop-below.invariant.kept)

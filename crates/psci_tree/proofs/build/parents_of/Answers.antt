@@ -1,12 +1,16 @@
 use Rattle.std.proofs.Common.{◌≡◌, ◌<◌, ◌≤◌, ◌+◌, ◌∙◌, suc, arith, ap, ℕ, List, [], get_or}
-use Rattle.std.proofs.Common.{length, take, drop, map, sym, append_assoc, ◌++◌, ◌∷◌}
+use Rattle.std.proofs.Common.{length, take, drop, map, sym, append_assoc, ◌++◌, ◌∷◌, subst}
 use Rattle.std.specs.List.{flat_map}
 use Rattle.std.proofs.lemmas.List.{take-append-drop, length-take-le, length-drop, take_more}
 use Rattle.std.proofs.lemmas.List.Sums.{sum_by-drop_more}
 use Rattle.psci_board.specs.Board.{children_at, size_below}
-use Rattle.psci_tree.specs.Domains.{children, child_count}
+use Rattle.psci_tree.specs.Domains.{children, child_count, cores_in}
+use Rattle.psci_tree.specs.Kept.{AreKept, Keeps}
 use Rattle.psci_tree.specs.declared.domain.Domain.{Domain}
-use Rattle.psci_tree.proofs.Built.{tree_at, children_push, counts_push}
+use Rattle.psci_tree.proofs.Below.{length_parts}
+use Rattle.psci_tree.proofs.Built.{tree_at, children_push, counts_push, some_children}
+use Rattle.psci_tree.proofs.Keeping.{kept_take, kept_drop, kept_push, kept_roll}
+use Rattle.psci_tree.proofs.Slices.{widths_at}
 use Rattle.psci_tree.proofs.build.parents_of.Goals as goal
 
 pub split_off-requires : goal.split_off-requires
@@ -32,6 +36,23 @@ split_off-requires c =
       c.loop-place.rest.ok.0,
     )
 
+pub kept_of-requires : goal.kept_of-requires
+kept_of-requires c =
+    let n : ℕ = c.children-count.result in
+    let rest : List Domain = c.loop-place.rest.items in
+    let taken : c.deref.result.now ≡ take n rest =
+    c.deref.ensures.value ∙ ap (λ v. v.items) c.replace-group.ensures.value
+    ∙ c.in_ok-others.ensures.items in
+    record {
+      kept = subst AreKept (sym taken) (kept_take rest n c.loop-place.invariant.rest);
+      few = omega (
+        arith,
+        ap (λ ns. length (cores_in ns)) taken,
+        length_parts rest n,
+        c.loop-place.invariant.few,
+      );
+    }
+
 pub loop-place-preserved : goal.loop-place-preserved
 loop-place-preserved c =
     let levels : List (List ℕ) = c.args.board.now.levels in
@@ -50,27 +71,49 @@ loop-place-preserved c =
     let parents : List Domain = c.loop-place.parents.items in
     let rest : List Domain = c.loop-place.rest.items in
     let n : ℕ = c.children-count.result in
-    let taken : c.replace.result.items ≡ take n rest =
-    ap (λ v. v.items) c.replace.ensures.value ∙ c.in_ok-others.ensures.items in
-    let left : c.replace.new.dest.items ≡ drop n rest =
-    ap (λ v. v.items) c.replace.ensures.after ∙ c.in_ok-others.ensures.tail in
+    let taken : c.replace-group.result.items ≡ take n rest =
+    ap (λ v. v.items) c.replace-group.ensures.value ∙ c.in_ok-others.ensures.items in
+    let left : c.replace-group.new.dest.items ≡ drop n rest =
+    ap (λ v. v.items) c.replace-group.ensures.after ∙ c.in_ok-others.ensures.tail in
     let more = sum_by-drop_more (λ x. x) own place 0 fits in
     let enough : n ≤ length rest = omega (arith, count, more, c.loop-place.invariant.left) in
+    let group : AreKept c.replace-group.result.items =
+    subst AreKept (sym taken) (kept_take rest n c.loop-place.invariant.rest) in
+    let some : 0 < length c.replace-group.result.items = omega (
+      arith,
+      ap length taken,
+      length-take-le n rest enough,
+      count,
+      some_children own place
+          (widths_at levels c.args.below c.requires.board.tree c.requires.level) fits,
+    ) in
     record {
       whole =
-          ap (λ xs. flat_map children xs ++ c.replace.new.dest.items) c.in_ok-push.ensures.items
-          ∙ ap (λ xs. xs ++ c.replace.new.dest.items) (children_push parents _)
-          ∙ append_assoc (flat_map children parents) c.replace.result.items c.replace.new.dest.items
-          ∙ ap (λ xs. flat_map children parents ++ (xs ++ c.replace.new.dest.items)) taken
+          ap (λ xs. flat_map children xs ++ c.replace-group.new.dest.items)
+          c.in_ok-push.ensures.items
+          ∙ ap (λ xs. xs ++ c.replace-group.new.dest.items) (children_push parents _)
+          ∙ append_assoc (flat_map children parents) c.replace-group.result.items
+          c.replace-group.new.dest.items
+          ∙ ap (λ xs. flat_map children parents ++ (xs ++ c.replace-group.new.dest.items)) taken
           ∙ ap (λ xs. flat_map children parents ++ (take n rest ++ xs)) left
           ∙ ap (λ xs. flat_map children parents ++ xs) (take-append-drop n rest)
           ∙ c.loop-place.invariant.whole;
       counts =
           ap (map child_count) c.in_ok-push.ensures.items ∙ counts_push parents _
-          ∙ ap (λ xs. xs ++ length c.replace.result.items ∷ []) c.loop-place.invariant.counts
+          ∙ ap (λ xs. xs ++ length c.replace-group.result.items ∷ []) c.loop-place.invariant.counts
           ∙ ap (λ k. take place own ++ k ∷ [])
           (ap length taken ∙ length-take-le n rest enough ∙ count)
           ∙ sym (take_more own place 0 fits);
+      kept = subst AreKept (sym c.in_ok-push.ensures.items) (kept_push parents _
+          c.loop-place.invariant.kept (kept_roll _ some (subst (λ ns. Keeps c.kept_of.result
+          (cores_in ns)) c.deref.ensures.value c.kept_of.ensures) group));
+      rest = subst AreKept (sym left) (kept_drop rest n c.loop-place.invariant.rest);
+      few = omega (
+        arith,
+        ap (λ ns. length (cores_in ns)) left,
+        length_parts rest n,
+        c.loop-place.invariant.few,
+      );
       left = omega (
         arith,
         ap length left,

@@ -1,6 +1,7 @@
-use Rattle.std.proofs.Common.{◌≡◌, ◌++◌, [], length, map, sum, take, drop, get_or}
+use Rattle.std.proofs.Common.{◌≡◌, ◌++◌, ◌<◌, ◌^◌, [], length, map, sum, take, drop, get_or}
 use Rattle.std.specs.List.{flat_map}
-use Rattle.psci_tree.specs.Domains.{children, child_count}
+use Rattle.psci_tree.specs.Domains.{children, child_count, cores_in}
+use Rattle.psci_tree.specs.Kept.{AreKept}
 use Rattle.psci_tree.proofs.build.parents_of.Given as goal
 
 abbrev pub invariant-loop-place : goal.invariant-loop-place
@@ -9,5 +10,8 @@ invariant-loop-place l =
     record {
       whole : flat_map children l.parents.items ++ l.rest.items ≡ l.fn.row.items;
       counts : map child_count l.parents.items ≡ take l.place own;
+      kept : AreKept l.parents.items;
+      rest : AreKept l.rest.items;
+      few : length (cores_in l.rest.items) < 2 ^ 16;
       left : sum (drop l.place own) ≡ length l.rest.items;
     }

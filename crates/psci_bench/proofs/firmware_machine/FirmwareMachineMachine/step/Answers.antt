@@ -1,7 +1,7 @@
 use Rattle.std.proofs.Common.{◌≡◌, ℕ, ap, sym, ◌∙◌, subst, arith, length, slice_set, ◌∷◌, ◌+◌, ◌-◌}
 use Rattle.std.proofs.Common.{◌^◌, min}
 use Rattle.std.proofs.lemmas.Option.{slice_get_within}
-use Rattle.psci_fw_model.specs.Changes.{after}
+use Rattle.psci_fw_model.specs.After.{after}
 use Rattle.psci_fw_model.specs.Answer.{answer}
 use Rattle.psci_fw.specs.Seen.{FirmwareValue, seen}
 use Rattle.psci_fw_model.specs.declared.reply.FwReply.TheVariants.{Out}

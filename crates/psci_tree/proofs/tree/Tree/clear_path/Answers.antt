@@ -56,5 +56,6 @@ invariant_of-self c =
     subst (IsTied c.self.inside.root) c.self.view_is c.self.invariant in
     subst (IsTied c.self.inside.root) (sym (returns-clause-value c)) (record {
       whole = tied.whole;
+      kept = tied.kept;
       valid = path_valid c.args.self.now c.args.core.number tied.valid;
     })

@@ -62,6 +62,7 @@ invariant_of-self c =
     subst (IsTied c.self.inside.root) c.self.view_is c.self.invariant in
     subst (IsTied c.self.inside.root) (sym (returns-clause-value c)) (record {
       whole = tied.whole;
+      kept = tied.kept;
       valid = grant_valid c.args.self.now c.args.node c.args.depth tied.valid c.requires.domain
           c.requires.depth;
     })

@@ -4,6 +4,7 @@ use Rattle.psci_board.specs.Board.{below_in, span}
 use Rattle.psci_board.specs.Laws.{SpanLaws}
 use Rattle.psci_tree.specs.Recount.{TreeValue}
 use Rattle.psci_tree.specs.Inside.{IsTied}
+use Rattle.psci_tree.proofs.Keeping.{keeps_low}
 use Rattle.psci_tree.proofs.Recounted.{low_is, low_above}
 use Rattle.psci_tree.proofs.tree.Tree.low.Goals as goal
 
@@ -28,7 +29,12 @@ returns-then-level-height c =
 
 pub returns : goal.returns
 returns c =
-    c.low.ensures
+    keeps_low _ _ c.args.level c.domain.ensures.kept (omega (
+      arith,
+      c.if-level-height.false,
+      c.height.ensures.height,
+      c.height.ensures.board.high,
+    ))
     ∙ low_is c.args.self.now c.args.node c.args.level _ c.domain.ensures.cores (omega (
       arith,
       c.if-level-height.false,

@@ -29,6 +29,7 @@ invariant_of-tree c =
     λ gs. record { levels = own.levels; cores = cores root; granted = gs } in
     record {
       whole = whole;
+      kept = c.in_ok-build.ensures.kept;
       valid = subst (λ gs. IsDomainTree (at gs)) (sym granted) (full_valid own.levels
           (cores root) board.tree board.high (length_cores root own.levels board.tree whole) idle);
     }

@@ -19,14 +19,14 @@ returns-clause-value c =
     let kept = with_items_is c.self.inside.granted c.fill_rows.new.rows long in
     let change : List CoreState → List (List ℕ) → TreeValue =
     λ cs gs. record { levels = levels; cores = cs; granted = gs } in
-    let states : cores c.turn_off.new.self ≡ replicate (size_below levels) never_started =
+    let states : cores c.turn_off.new.root ≡ replicate (size_below levels) never_started =
     c.turn_off.ensures.cores
     ∙ ap (λ n. replicate n never_started) c.self.invariant.valid.cores in
     let rows : map (λ v. v.items) c.fill_rows.new.rows ≡ rows_with_depth (level_sizes levels) 3 =
     c.fill_rows.ensures
     ∙ ap (λ xs. rows_with_depth (map length (map (λ v. v.items) xs)) 3) c.deref_mut.ensures.value
     ∙ ap (λ ns. rows_with_depth ns 3) c.self.invariant.valid.granted in
-    ap (change (cores c.turn_off.new.self)) (ap (map (λ v. v.items)) kept ∙ rows)
+    ap (change (cores c.turn_off.new.root)) (ap (map (λ v. v.items)) kept ∙ rows)
     ∙ ap (λ cs. change cs (rows_with_depth (level_sizes levels) 3)) states
     ∙ ap (λ (t : TreeValue). all_off t.levels) c.self.view_is
 
@@ -41,9 +41,10 @@ pub invariant_of-self : goal.invariant_of-self
 invariant_of-self c =
     let tied : IsTied c.self.inside.root c.args.self.now =
     subst (IsTied c.self.inside.root) c.self.view_is c.self.invariant in
-    let root : Domain = c.turn_off.new.self in
+    let root : Domain = c.turn_off.new.root in
     subst (IsTied root) (sym (returns-clause-value c)) (record {
       whole = whole_kept c.self.inside.root root c.args.self.now.levels
           c.turn_off.ensures.shape tied.whole;
+      kept = c.turn_off.ensures.kept;
       valid = all_off_valid c.args.self.now.levels tied.valid.tree tied.valid.high;
     })

@@ -1,0 +1,23 @@
+use Rattle.std.proofs.Common.{◌≡◌, ℕ, List, length, replicate, ap, sym, ◌∙◌, subst}
+use Rattle.psci_ctl_model.specs.declared.start.Cause.TheVariants as causes
+use Rattle.psci_ctl_model.specs.Changes.{with_start}
+use Rattle.psci_ctl.specs.declared.row.CoreRow.{CoreRow}
+use Rattle.psci_ctl.specs.Rows.{HasSums, off_core, values_in}
+use Rattle.psci_ctl.proofs.Started.{begun_values, off_sums}
+use Rattle.psci_ctl.proofs.starting.begin_life.Goals as goal
+
+pub start_core-requires-clause-sums : goal.start_core-requires-clause-sums
+start_core-requires-clause-sums c =
+    let b = c.args.board.now in
+    subst (λ (rows : List CoreRow). HasSums b rows c.turn_off.new.levels)
+    (sym c.forget_starts.ensures)
+    (off_sums b (length c.args.rows.now) c.turn_off.new.levels (c.law_generations.ensures b)
+    c.turn_off.ensures.rows)
+
+pub returns-clause-values : goal.returns-clause-values
+returns-clause-values c = λ life.
+    let b = c.args.board.now in
+    c.start_core.ensures.values life
+    ∙ ap (λ (rows : List CoreRow). with_start b 0 causes.Boot
+    (values_in life rows c.turn_off.new.levels)) c.forget_starts.ensures
+    ∙ begun_values b (length c.args.rows.now) c.turn_off.new.levels life c.turn_off.ensures.rows

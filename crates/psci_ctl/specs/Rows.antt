@@ -1,0 +1,67 @@
+-- What the power controller keeps of cores and domains, row by row.
+use Rattle.std.specs.Prelude.{◌≡◌, ℕ, ◌+◌, ◌<◌, ◌≤◌, Bool, ◌&&◌, ◌==◌, nat_lt, if◌then◌else◌, List}
+use Rattle.std.specs.Prelude.{[], length, slice_index_or, slice_set, Option}
+use Rattle.psci_board.specs.Board.{BoardValue, cores, height, nodes}
+use Rattle.psci_board.specs.declared.node.Node.{Node}
+use Rattle.psci_ctl_model.specs.declared.start.Cause.{Cause}
+use Rattle.psci_ctl_model.specs.declared.start.Cause.TheVariants as causes
+use Rattle.psci_ctl_model.specs.Values.{Values, is_on_path, starts_below}
+use Rattle.psci_ctl.specs.declared.row.CoreRow.{CoreRow}
+use Rattle.psci_ctl.specs.declared.level.DomainRow.{DomainRow}
+
+-- a core that was not started in this life
+abbrev pub off_core : CoreRow
+off_core = record { starts = 0; cause = causes.Boot }
+
+-- a domain that is powered down, and below which no core was started
+abbrev pub off_domain : DomainRow
+off_domain = record { depth = 3; starts = 0 }
+
+-- what is kept of the core of this number
+abbrev pub core_at : List CoreRow → ℕ → CoreRow
+core_at cores c = slice_index_or cores c off_core
+
+-- what is kept of the domain of this level and place
+abbrev pub domain_at : List (List DomainRow) → ℕ → ℕ → DomainRow
+domain_at domains level place = slice_index_or (slice_index_or domains level []) place off_domain
+
+-- one core's row is this
+abbrev pub with_core : List CoreRow → ℕ → CoreRow → ℕ → CoreRow
+with_core cores c row k = if k == c then row else core_at cores k
+
+-- one domain's row is this
+abbrev pub with_domain : List (List DomainRow) → Node → DomainRow → ℕ → ℕ → DomainRow
+with_domain domains n row level place =
+    if level == n.level && place == n.place then row else domain_at domains level place
+
+-- a domain runs, after one more start below it
+abbrev pub run_once : DomainRow → DomainRow
+run_once row = record { depth = 0; starts = row.starts + 1 }
+
+-- the domains of a core's path below this level run, after one more start below them
+abbrev pub run_below : BoardValue → ℕ → List (List DomainRow) → ℕ → ℕ → ℕ → DomainRow
+run_below b c domains end level place =
+    if nat_lt level end && is_on_path b c level place
+    then run_once (domain_at domains level place)
+    else domain_at domains level place
+
+-- the values in the rows of cores and domains
+abbrev pub values_in : Option ℕ → List CoreRow → List (List DomainRow) → Values
+values_in life cores domains = record {
+  life = life;
+  starts = λ c. (core_at cores c).starts;
+  cause = λ c. (core_at cores c).cause;
+  depth = λ level place. (domain_at domains level place).depth;
+}
+
+-- a row for each domain of the board
+pub record HasShape (b : BoardValue) (domains : List (List DomainRow)) : Type 0 where
+  pub levels : length domains ≡ height b + 1
+  pub places : (level : ℕ) → level ≤ height b
+      → length (slice_index_or domains level []) ≡ nodes b level
+
+-- each domain's row has the sum of the starts of the cores below
+pub record HasSums (b : BoardValue) (cores : List CoreRow) (domains : List (List DomainRow))
+    : Type 0 where
+  pub sums : (level place : ℕ) → level ≤ height b → (domain_at domains level place).starts
+      ≡ starts_below b (λ c. (core_at cores c).starts) (record { level = level; place = place })

@@ -1,0 +1,31 @@
+-- What the power controller is seen as: the board, and what it keeps, core by core and domain by
+-- domain.
+use Rattle.std.specs.Prelude.{◌≡◌, ℕ, List, length, Option, Some}
+use Rattle.psci_board.specs.Board.{BoardValue, cores}
+use Rattle.psci_ctl_model.specs.Follows.{AreValues}
+use Rattle.psci_ctl_model.specs.Values.{Values}
+use Rattle.psci_ctl.specs.declared.row.CoreRow.{CoreRow}
+use Rattle.psci_ctl.specs.declared.level.DomainRow.{DomainRow}
+use Rattle.psci_ctl.specs.Rows.{HasShape, HasSums, values_in}
+
+-- A power controller as contracts see it.
+pub record ControllerValue : Type 0 where
+  pub board : BoardValue
+  -- none once the system is off
+  pub life : Option ℕ
+  -- of each core, in the order of their numbers
+  pub cores : List CoreRow
+  -- of each domain, by level and place
+  pub domains : List (List DomainRow)
+
+-- the values in a power controller
+abbrev pub seen : ControllerValue → Values
+seen c = values_in c.life c.cores c.domains
+
+-- what holds of every power controller: it has a row for each core and each domain, its values are
+-- such as one keeps, and in a life each domain's row has the sum of the starts below
+pub record IsController (c : ControllerValue) : Type 0 where
+  pub cores : length c.cores ≡ cores c.board
+  pub shape : HasShape c.board c.domains
+  pub values : AreValues c.board (seen c)
+  pub sums : (life : ℕ) → c.life ≡ Some life → HasSums c.board c.cores c.domains

@@ -1,0 +1,78 @@
+//! What the power controller keeps of the power domains of one level.
+
+use psci_board::Memory;
+use std::alloc::Global;
+use std::marker::Model;
+
+/// What the power controller keeps of one power domain.
+#[derive(Clone, Copy)]
+pub struct DomainRow {
+    /// How deep it is: 0 run, 1 standby, 2 retention, 3 power-down.
+    pub depth: u8,
+    /// Its generation: the sum of the starts of the cores below it.
+    pub starts: u64,
+}
+
+impl DomainRow {
+    /// The row of a domain that is powered down, below which no core was started.
+    pub const OFF: DomainRow = DomainRow {
+        depth: 3,
+        starts: 0,
+    };
+}
+
+/// The power domains of one level, by their places.
+#[derive(Drop)]
+pub struct Level {
+    rows: Vec<DomainRow>,
+}
+
+impl Model for Level {
+    ghost use Rattle.std.specs.Prelude.{List};
+    ghost use Rattle.psci_ctl.specs.declared.level.DomainRow.{DomainRow};
+
+    ghost Value = { List DomainRow };
+
+    ghost view = { λ l. l.rows.items };
+}
+
+ghost use Rattle.std.specs.Prelude.{◌≡◌, ◌<◌, length, replicate, slice_index_or, slice_set, IfOk};
+ghost use Rattle.psci_ctl.specs.Rows.{off_domain};
+
+impl Level {
+    /// A level of so many domains, all of them powered down.
+    pub fn new(alloc: Global, count: u16) -> Result<Level, Memory>
+        ensures { IfOk result (λ level. length level ≡ count) }
+    {
+        let mut rows = Vec::with_capacity(alloc, count as usize)?;
+        for _place in 0..count {
+            rows.push(DomainRow::OFF)?;
+        }
+        Ok(Level { rows })
+    }
+
+    /// What is kept of the domain at `place`; of one that is not there, that it is powered down.
+    pub fn row(&self, place: u16) -> DomainRow
+        ensures { result ≡ slice_index_or self.now place off_domain }
+    {
+        self.rows
+            .get(place as usize)
+            .copied()
+            .unwrap_or(DomainRow::OFF)
+    }
+
+    /// Keeps this of the domain at `place`.
+    pub fn set_row(&mut self, place: u16, row: DomainRow)
+        requires { place < length self.old }
+        ensures { self.new ≡ slice_set self.old place row }
+    {
+        self.rows[place as usize] = row;
+    }
+
+    /// Powers all domains down, and forgets all starts.
+    pub fn turn_off(&mut self)
+        ensures { self.new ≡ replicate (length self.old) off_domain }
+    {
+        self.rows.fill(DomainRow::OFF);
+    }
+}

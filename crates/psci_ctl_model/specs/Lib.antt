@@ -1,0 +1,10 @@
+pub mod Changes
+pub mod Effects
+pub mod Entry
+pub mod Follows
+pub mod History
+pub mod Laws
+pub mod Legal
+pub mod Parts
+pub mod Replies
+pub mod Values

@@ -1,0 +1,24 @@
+//! The power controller's replies, as definitions: the plain types of calls and replies, and in
+//! `specs/` what each call is answered, what it leaves, and the same said backwards along a history.
+//!
+//! - A *start* is one power-up of a core; the starts of a core are numbered from 1 in each life.
+//! - A *life* is the time from one power-up of the whole system to its next reset.
+//! - The *generation* of a power domain is the sum of the starts of the cores below it.
+//! - A part of a message is *live* while its generation is that of its domain, in its life.
+//! - A *depth* is how far a domain is down: 0 run, 1 standby, 2 retention, 3 power-down.
+//! - An *entry* is an item of a history: one call with its reply.
+#![tactic(auto)]
+
+mod call;
+mod delivery;
+mod kick;
+mod laws;
+mod reply;
+mod start;
+
+pub use call::CtlCall;
+pub use delivery::Delivery;
+pub use kick::Kick;
+pub use laws::{law_generations, law_limits, law_replies, law_start, law_values};
+pub use reply::CtlReply;
+pub use start::{Cause, Start};

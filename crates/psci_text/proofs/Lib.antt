@@ -1,0 +1,5 @@
+pub mod Values
+pub mod Prefixes
+pub mod Rows
+pub mod SpelledLiterals
+pub mod SpelledNumbers

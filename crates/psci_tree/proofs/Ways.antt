@@ -1,0 +1,245 @@
+-- Ways from a domain down to a core.
+use Rattle.std.proofs.Common.{◌≡◌, ℕ, zero, suc, ◌+◌, ◌<◌, ◌≤◌, true, List, [], ◌∷◌, ◌++◌, length}
+use Rattle.std.proofs.Common.{take, drop, map, sum, get_or, arith, refl, ap, sym, ◌∙◌, subst}
+use Rattle.std.proofs.Common.{append_assoc, length-append}
+use Rattle.std.proofs.Math.ListN.{set}
+use Rattle.std.specs.List.{flat_map, AllPass}
+use Rattle.std.proofs.lemmas.List.{take-append-le, take-map, get_or-map, length-map, drop_all}
+use Rattle.std.proofs.lemmas.List.Concat.{flat_map-append, length-flat_map, get_or-flat_map}
+use Rattle.std.proofs.lemmas.List.Elements.{All-take}
+use Rattle.std.proofs.lemmas.List.Sums.{sum-map, get_or-le-sum_by}
+use Rattle.psci_board.specs.Board.{IsTree, size_below, is_width, group_of, place_in, place_above}
+use Rattle.psci_board.specs.Board.{first_core}
+use Rattle.psci_tree.specs.Domains.{cores, cores_in, children, child_count, child_counts, IsWay}
+use Rattle.psci_tree.specs.Domains.{place_by, domains_down, IsWayTo, IsWhole}
+use Rattle.psci_tree.specs.Recount.{never_started}
+use Rattle.psci_tree.specs.Changes.{changed, with_change}
+use Rattle.psci_tree.specs.declared.state.Change.{Change}
+use Rattle.psci_tree.specs.declared.domain.Domain.{Domain}
+use Rattle.psci_tree.proofs.Below.{cores_of_core, cores_of_domain, length_of_domain, length_drop}
+use Rattle.psci_tree.proofs.Below.{length_parts}
+use Rattle.psci_tree.proofs.Granted.{place_lt}
+use Rattle.psci_tree.proofs.Places.{Counted, counted, sum-cons}
+use Rattle.psci_tree.proofs.Slices.{first_len, fans_at, wide_at, size_at, size_drop, widths_are}
+use Rattle.psci_tree.proofs.Slices.{down_step, cores_down, take_past}
+
+-- One step -----------------------------------------------------------------------------------
+
+-- a way from a domain above the cores: its first step, and the rest of it
+pub record Step (n : Domain) (l k : ℕ) (way : List ℕ) : Type 0 where
+  pub inside : get_or way k 0 < length (children n)
+  pub rest : IsWay k way (get_or (children n) (get_or way k 0) n)
+  pub place : place_by l way n ≡ length (cores_in (take (get_or way k 0) (children n)))
+      + place_by k way (get_or (children n) (get_or way k 0) n)
+
+pub step : (n : Domain) (l k : ℕ) (way : List ℕ) → l ≡ suc k → IsWay l way n → Step n l k way
+step n l k way e h = subst (λ j. IsWay j way n → Step n j k way) (sym e) first h
+  where
+    first : IsWay (suc k) way n → Step n (suc k) k way
+    first i = record { inside = i.0; rest = i.1; place = refl }
+
+-- a way ends at one of the cores below
+pub place_inside : (l : ℕ) (way : List ℕ) (n : Domain) → IsWay l way n
+    → place_by l way n < length (cores n)
+place_inside zero way n h = omega (arith, ap length (cores_of_core n h))
+place_inside (suc l) way n h =
+    let i : ℕ = get_or way l 0 in
+    omega (
+      arith,
+      length_of_domain n (omega (arith, h.0)),
+      length_parts (children n) i,
+      length_drop (children n) i n h.0,
+      place_inside l way (get_or (children n) i n) h.1,
+    )
+
+-- the core at a place below a domain, as one below its child
+pub same_core : (n : Domain) (i rest place : ℕ) → i < length (children n)
+    → length (cores_in (take i (children n))) + rest ≡ place
+    → rest < length (cores (get_or (children n) i n))
+    → get_or (cores n) place never_started
+    ≡ get_or (cores (get_or (children n) i n)) rest never_started
+same_core n i rest place h e r =
+    ap (λ cs. get_or cs place never_started) (cores_of_domain n (omega arith))
+    ∙ ap (λ p. get_or (cores_in (children n)) p never_started) (sym e)
+    ∙ get_or-flat_map cores (children n) i rest n never_started h r
+
+-- a change of a child's core, as one of the domain's
+pub child_changed : (n m : Domain) (l k : ℕ) (way : List ℕ) (change : Change) → Step n l k way
+    → cores m ≡ with_change (cores (get_or (children n) (get_or way k 0) n))
+    (place_by k way (get_or (children n) (get_or way k 0) n)) change
+    → cores m ≡ set (cores (get_or (children n) (get_or way k 0) n))
+    (place_by k way (get_or (children n) (get_or way k 0) n))
+    (changed change (get_or (cores n) (place_by l way n) never_started))
+child_changed n m l k way change h e =
+    let i : ℕ = get_or way k 0 in
+    let d : Domain = get_or (children n) i n in
+    let rest : ℕ = place_by k way d in
+    e ∙ ap (λ core. set (cores d) rest (changed change core))
+    (sym (same_core n i rest (place_by l way n) h.inside (sym h.place)
+    (place_inside k way d h.rest)))
+
+-- The way to a core of the board -------------------------------------------------------------
+
+-- one level up
+pub above_next : (levels : List (List ℕ)) (l c : ℕ) → l < length levels
+    → place_above levels (suc l) c ≡ group_of (get_or levels l []) (place_above levels l c)
+above_next [] l c h = absurd (omega arith)
+above_next (w ∷ ws) zero c h = refl
+above_next (w ∷ ws) (suc l) c h = above_next ws l (group_of w c) (omega arith)
+
+-- the children of the domains before one, and its own first ones
+take_in : (ns : List Domain) (p k : ℕ) (d : Domain) → p < length ns
+    → k ≤ length (children (get_or ns p d))
+    → take (sum (take p (map child_count ns)) + k) (flat_map children ns)
+    ≡ flat_map children (take p ns) ++ take k (children (get_or ns p d))
+take_in [] p k d h i = absurd (omega arith)
+take_in (n ∷ ns) zero k d h i =
+    let none : 0 + k ≡ k = omega arith in
+    rw none (take-append-le k (children n) (flat_map children ns) i)
+take_in (n ∷ ns) (suc p) k d h i =
+    let more : sum (take (suc p) (map child_count (n ∷ ns))) + k
+    ≡ length (children n) + (sum (take p (map child_count ns)) + k) =
+    omega (arith, sum-cons (child_count n) (take p (map child_count ns))) in
+    ap (λ j. take j (children n ++ flat_map children ns)) more
+    ∙ take_past (children n) (flat_map children ns) (sum (take p (map child_count ns)) + k)
+    ∙ ap (λ xs. children n ++ xs) (take_in ns p k d (omega arith) i)
+    ∙ sym (append_assoc (children n) (flat_map children (take p ns))
+    (take k (children (get_or ns p d))))
+
+-- from a domain of this level on a core's path, the way leads to that core
+pub record Leads (levels : List (List ℕ)) (core : ℕ) (ks : List ℕ) (l : ℕ)
+    (n : Domain) : Type 0 where
+  pub way : IsWay l ks n
+  pub place : first_core levels l (place_above levels l core) + place_by l ks n ≡ core
+
+-- the domain of a core leads to it at once
+leads_core : (root : Domain) (levels : List (List ℕ)) (core : ℕ) (ks : List ℕ) (k : ℕ) (d : Domain)
+    → IsWhole root levels → core < size_below levels → k + 0 ≡ length levels
+    → Leads levels core ks 0 (get_or (domains_down k root) core d)
+leads_core root levels core ks k d w h e =
+    let row : List Domain = domains_down k root in
+    let fits : core < length row = omega (arith, size_at root levels 0 k w e) in
+    let all : k ≡ length levels = omega arith in
+    let ends : sum (map child_count row) ≡ 0 = ap sum (sym (widths_are k root))
+    ∙ ap (λ j. sum (child_counts j root)) all ∙ w.ends in
+    record {
+      way = omega (
+        arith,
+        get_or-map child_count row core d 0 fits,
+        get_or-le-sum_by (λ x. x) (map child_count row) core 0
+            (omega (arith, length-map row child_count)),
+        ends,
+      );
+      place = omega arith;
+    }
+
+-- and a domain above it does where its child on the path does
+leads_up : (root : Domain) (levels : List (List ℕ)) (core : ℕ) (ks : List ℕ) (l k : ℕ)
+    (d n : Domain) → IsTree levels → IsWhole root levels → core < size_below levels
+    → IsWayTo levels core ks → k + suc l ≡ length levels
+    → n ≡ get_or (domains_down k root) (place_above levels (suc l) core) d
+    → Leads levels core ks l (get_or (domains_down (suc k) root) (place_above levels l core) n)
+    → Leads levels core ks (suc l) n
+leads_up root levels core ks l k d n t w h to e is lower =
+    let row : List Domain = domains_down k root in
+    let q : ℕ = place_above levels l core in
+    let p : ℕ = place_above levels (suc l) core in
+    let i : ℕ = get_or ks l 0 in
+    let own : List ℕ = get_or levels l [] in
+    let same : map child_count row ≡ own = fans_at root levels l k w e in
+    let below : q < size_below (drop l levels) = place_lt levels l core t (omega arith) h in
+    let c : Counted own q =
+    counted own q (omega (arith, below, size_drop levels l (omega arith))) in
+    let up : p ≡ group_of own q = above_next levels l core (omega arith) in
+    let number : i ≡ place_in own q = to l (omega arith) in
+    let fits : p < length row =
+    omega (arith, up, c.group, ap length same, length-map row child_count) in
+    let fans : length (children n) ≡ get_or own p 0 =
+    ap (λ m. length (children m)) is ∙ sym (get_or-map child_count row p d 0 fits)
+    ∙ ap (λ x. get_or x p 0) same in
+    let inside : i < length (children n) =
+    omega (arith, fans, c.place, number, ap (λ j. get_or own j 0) up) in
+    let before : sum (take p (map child_count row)) + i ≡ q =
+    omega (
+      arith,
+      c.whole,
+      number,
+      ap (λ x. sum (take p x)) same,
+      ap (λ j. sum (take j own)) up,
+    ) in
+    let inside_too : i < length (children (get_or row p d)) =
+    omega (arith, inside, ap (λ m. length (children m)) is) in
+    let parts : take q (domains_down (suc k) root)
+    ≡ flat_map children (take p row) ++ take i (children n) =
+    ap (take q) (down_step k root)
+    ∙ ap (λ j. take j (flat_map children row)) (sym before)
+    ∙ take_in row p i d fits (omega (arith, inside_too))
+    ∙ ap (λ m. flat_map children (take p row) ++ take i (children m)) (sym is) in
+    let place : length (flat_map children (take p row)) + i ≡ q = omega (
+      arith,
+      before,
+      length-flat_map children (take p row),
+      sum-map child_count (take p row),
+      ap sum (take-map child_count p row),
+    ) in
+    let child : get_or (domains_down (suc k) root) q n ≡ get_or (children n) i n =
+    ap (λ x. get_or x q n) (down_step k root)
+    ∙ ap (λ j. get_or (flat_map children row) j n) (sym place)
+    ∙ get_or-flat_map children row p i d n fits inside_too
+    ∙ ap (λ m. get_or (children m) i n) (sym is) in
+    let wide : AllPass is_width (map child_count (take p row)) =
+    (let P : List ℕ → Type 0 = AllPass is_width in subst P (take-map child_count p row)
+    (All-take (λ x. is_width x ≡ true) p (map child_count row) (wide_at root levels l k t w e))) in
+    let rest : Leads levels core ks l (get_or (children n) i n) =
+    subst (Leads levels core ks l) child lower in
+    record {
+      way = (inside, rest.way);
+      place = omega (
+        arith,
+        rest.place,
+        first_len root levels l (suc k) q t w (omega arith)
+            (omega (arith, below, size_at root levels l (suc k) w (omega arith))),
+        first_len root levels (suc l) k p t w e (omega arith),
+        ap (λ ns. length (cores_in ns)) parts,
+        ap length
+            (flat_map-append cores (flat_map children (take p row)) (take i (children n))),
+        length-append (cores_in (flat_map children (take p row))) (cores_in (take i (children n))),
+        ap length (cores_down (take p row) wide),
+      );
+    }
+
+leads : (root : Domain) (levels : List (List ℕ)) (core : ℕ) (ks : List ℕ) (l k : ℕ) (d : Domain)
+    → IsTree levels → IsWhole root levels → core < size_below levels → IsWayTo levels core ks
+    → k + l ≡ length levels
+    → Leads levels core ks l (get_or (domains_down k root) (place_above levels l core) d)
+leads root levels core ks zero k d t w h to e = leads_core root levels core ks k d w h e
+leads root levels core ks (suc l) k d t w h to e =
+    leads_up root levels core ks l k d _ t w h to e refl
+    (leads root levels core ks l (suc k) _ t w h to (omega arith))
+
+first_none : (levels : List (List ℕ)) (l : ℕ) → first_core levels l 0 ≡ 0
+first_none levels zero = refl
+first_none levels (suc l) = first_none levels l
+
+-- from the system, the way leads to the core
+pub system_way : (root : Domain) (levels : List (List ℕ)) (core : ℕ) (way : List ℕ)
+    → IsTree levels → IsWhole root levels → core < size_below levels → IsWayTo levels core way
+    → IsWay (length levels) way root × (place_by (length levels) way root ≡ core)
+system_way root levels core way t w h to =
+    let top : place_above levels (length levels) core ≡ 0 =
+    omega (
+      arith,
+      place_lt levels (length levels) core t (omega arith) h,
+      ap size_below (drop_all (length levels) levels (omega arith)),
+    ) in
+    let here : Leads levels core way (length levels) root =
+    subst (λ j. Leads levels core way (length levels) (get_or (root ∷ []) j root)) top
+    (leads root levels core way (length levels) 0 root t w h to (omega arith)) in (
+      here.way,
+      omega (
+        arith,
+        here.place,
+        ap (first_core levels (length levels)) top,
+        first_none levels (length levels),
+      ),
+    )

@@ -1,0 +1,49 @@
+use Rattle.std.proofs.Common.{◌≡◌, ◌≢◌, ◌∙◌, ◌+◌, ◌<◌, ℕ, List, [], suc, arith, length, ap, sym}
+use Rattle.std.proofs.Common.{drop, get_or, get_or-set_other, get_or-set_same, below_more}
+use Rattle.std.proofs.Common.{length-set}
+use Rattle.std.specs.Prelude.{unwrap_or}
+use Rattle.psci_board.specs.declared.node.Node.{Node}
+use Rattle.psci_board.specs.Board.{BoardValue, size_below, place_in, place_above, group_of}
+use Rattle.psci_tree.proofs.Granted.{place_lt}
+use Rattle.psci_tree.proofs.Upward.{parent_some, number_some}
+use Rattle.psci_tree.proofs.Ways.{above_next}
+use Rattle.psci_tree.proofs.descent.way_to.Goals as goal
+
+pub loop-level-preserved : goal.loop-level-preserved
+loop-level-preserved c =
+    let b : BoardValue = c.args.board.now in
+    let levels : List (List ℕ) = b.levels in
+    let core : ℕ = c.args.core.number in
+    let l : ℕ = c.loop-level.level in
+    let n : Node = record { level = l; place = c.loop-level.place } in
+    let way : List ℕ = c.loop-level.way in
+    let q : ℕ = place_above levels l core in
+    let fits : l < length levels =
+    omega (arith, c.loop-level-test.true, c.height-level-end.ensures.height) in
+    let place : c.loop-level.place ≡ q = c.loop-level.invariant.place in
+    let inside : c.loop-level.place < size_below (drop l levels) =
+    omega (arith, place, place_lt levels l core c.requires.tree (omega arith) c.requires.core) in
+    let number : c.unwrap_or.result ≡ place_in (get_or levels l []) q =
+    c.unwrap_or.ensures
+    ∙ ap (λ o. unwrap_or o 0) (c.child_number.ensures ∙ number_some b n fits inside)
+    ∙ ap (place_in (get_or levels l [])) place in
+    let up : c.unwrap_or-place.result ≡ record {
+      level = l + 1;
+      place = group_of (get_or levels l []) c.loop-level.place;
+    } =
+    c.unwrap_or-place.ensures
+    ∙ ap (λ o. unwrap_or o n) (c.parent.ensures ∙ parent_some b n fits inside) in
+    let next : suc l ≡ l + 1 = omega arith in
+    record {
+      long = length-set way l c.unwrap_or.result ∙ c.loop-level.invariant.long;
+      place = ap (λ (m : Node). m.place) up ∙ ap (group_of (get_or levels l [])) place
+          ∙ sym (above_next levels l core fits) ∙ ap (λ j. place_above levels j core) next;
+      done = below_more _ _ (λ k h. let ne : k ≢ l = omega arith in
+          rw get_or-set_other (c.loop-level.invariant.done k h))
+          (let lt : l < length way = omega (
+            arith,
+            c.loop-level.invariant.long,
+            c.height-level-end.ensures.board.high,
+          ) in
+          rw get_or-set_same number);
+    }

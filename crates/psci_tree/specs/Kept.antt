@@ -1,0 +1,49 @@
+-- What a domain keeps of the cores below it, so that they need not be counted again.
+use Rattle.std.specs.Prelude.{◌≡◌, ℕ, ◌+◌, ◌*◌, ◌^◌, ◌≤◌, min, List, [], ◌∷◌, length, map}
+use Rattle.std.specs.Prelude.{slice_index}
+use Rattle.std.specs.List.{All, sum_by, count_by, flat_map}
+use Rattle.psci_tree.specs.declared.state.CoreState.{CoreState}
+use Rattle.psci_tree.specs.declared.kept.Kept.{Kept}
+use Rattle.psci_tree.specs.declared.domain.Domain.{Domain, out-Domain}
+use Rattle.psci_tree.specs.Recount.{asks, is_active, is_off, least}
+use Rattle.psci_tree.specs.Domains.{cores, domains_down}
+
+-- the least ask of these cores at a level
+abbrev pub low_in : ℕ → List CoreState → ℕ
+low_in level cs = least (map (λ c. asks c.activity level) cs)
+
+-- all that is kept of these cores, counted anew
+abbrev pub recount : List CoreState → Kept
+recount cs = record {
+  lows = map (λ level. low_in level cs) (0 ∷ 1 ∷ 2 ∷ 3 ∷ []);
+  known = sum_by (λ c. c.known) cs;
+  active = count_by (λ c. is_active c.activity) cs;
+  off = count_by (λ c. is_off c.activity) cs;
+}
+
+-- what is kept of some cores and of others beside them
+abbrev pub beside : Kept → Kept → Kept
+beside j k = record {
+  lows = map (λ level. min (slice_index j.lows level) (slice_index k.lows level))
+      (0 ∷ 1 ∷ 2 ∷ 3 ∷ []);
+  known = j.known + k.known;
+  active = j.active + k.active;
+  off = j.off + k.off;
+}
+
+-- this is kept of these cores: it is their recount, and each known start has 32 bits
+pub record Keeps (k : Kept) (cs : List CoreState) : Type 0 where
+  pub counted : k ≡ recount cs
+  pub small : k.known ≤ 2 ^ 32 * length cs
+
+-- what a domain keeps is kept of the cores below it
+abbrev pub IsRecount : Domain → Type 0
+IsRecount n = Keeps (out-Domain n).kept (cores n)
+
+-- so it is with these domains and with all domains below them, however many levels down
+pub record AreKept (ns : List Domain) : Type 0 where
+  pub each : (levels : ℕ) → All IsRecount (flat_map (domains_down levels) ns)
+
+-- so it is with a domain and with all domains below it
+pub record IsKept (n : Domain) : Type 0 where
+  pub each : (levels : ℕ) → All IsRecount (domains_down levels n)

@@ -1,0 +1,67 @@
+//! What a domain keeps of the cores below it.
+
+ghost use Rattle.std.specs.Prelude.{◌≡◌, ℕ, ◌+◌, ◌<◌, ◌^◌, ◌∷◌, [], length, slice_index};
+ghost use Rattle.psci_tree.specs.Kept.{Keeps, beside};
+
+use crate::state::CoreState;
+
+/// What is kept of several cores, so that they need not be counted again.
+#[derive(Clone, Copy)]
+pub struct Kept {
+    /// The least ask at each level, from 0 to 3.
+    pub lows: [u8; 4],
+    /// The sum of the known starts.
+    pub known: u64,
+    /// How many are running or pending.
+    pub active: u32,
+    /// How many are off or going off.
+    pub off: u32,
+}
+
+impl Kept {
+    /// What is kept of no core.
+    pub fn none() -> Kept
+        ensures { Keeps result [] }
+    {
+        Kept {
+            lows: [3; 4],
+            known: 0,
+            active: 0,
+            off: 0,
+        }
+    }
+
+    /// What is kept of one core.
+    pub fn of_core(core: &CoreState) -> Kept
+        ensures { Keeps result (core.now ∷ []) }
+    {
+        Kept {
+            lows: [core.ask(0), core.ask(1), core.ask(2), core.ask(3)],
+            known: u64::from(core.known),
+            active: u32::from(core.is_active()),
+            off: u32::from(core.is_off()),
+        }
+    }
+
+    /// What is kept of these cores and of others beside them.
+    pub fn beside(&self, other: &Kept) -> Kept
+        requires known { self.now.known + other.now.known < 2 ^ 64 }
+        requires active { self.now.active + other.now.active < 2 ^ 32 }
+        requires off { self.now.off + other.now.off < 2 ^ 32 }
+        ensures { result ≡ beside self.now other.now }
+    {
+        let [core, first, second, third] = self.lows;
+        let lows = other.lows;
+        Kept {
+            lows: [
+                core.min(lows[0]),
+                first.min(lows[1]),
+                second.min(lows[2]),
+                third.min(lows[3]),
+            ],
+            known: self.known + other.known,
+            active: self.active + other.active,
+            off: self.off + other.off,
+        }
+    }
+}
