@@ -1,3 +1,9 @@
+mod Acked
+mod Answered
 mod Begun
-mod Rowed
+mod Changed
+mod Granting
+mod Moved
 mod Spanned
+mod Stopping
+mod Viewed

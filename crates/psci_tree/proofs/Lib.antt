@@ -6,6 +6,7 @@ pub mod GrantRows
 pub mod Granted
 pub mod Keeping
 pub mod KeptRows
+pub mod Leaves
 pub mod Looked
 pub mod Places
 pub mod Recounted

@@ -4,7 +4,7 @@ use crate::build::build;
 use crate::descent::{change_core, domain_at, turn_off};
 use crate::domain::Domain;
 use crate::grants::{clear_up, deepest_rows, fill_rows, write};
-use crate::state::{Activity, Change};
+use crate::state::{Activity, Change, CoreState, NEVER_STARTED};
 use psci_board::{Board, Core, Memory, Node, law_sizes, law_spans};
 use psci_state::Ask;
 use std::alloc::Global;
@@ -132,6 +132,20 @@ impl Tree {
         row[node.place as usize]
     }
 
+    /// What a core does. A core that the board does not have is off.
+    pub fn activity(&self, core: Core) -> Activity
+        ensures { result ≡ (core_at self.now core.number).activity }
+    {
+        self.core(core).activity
+    }
+
+    /// The known start of a core, 0 of one that the board does not have.
+    pub fn known_start(&self, core: Core) -> u32
+        ensures { result ≡ known_at self.now core.number }
+    {
+        self.core(core).known
+    }
+
     /// Grants a depth to a domain.
     pub fn grant(&mut self, node: Node, depth: u8)
         requires domain { HasNodeIn self.old.levels node }
@@ -185,6 +199,16 @@ impl Tree {
         self.clear_path(core);
     }
 
+    /// What is kept of a core.
+    fn core(&self, core: Core) -> CoreState
+        ensures { result ≡ core_at self.now core.number }
+    {
+        if core.number >= self.board.cores() {
+            return NEVER_STARTED;
+        }
+        self.domain(core.node()).core
+    }
+
     /// Changes a core.
     fn set_core(&mut self, core: Core, activity: Activity, started: Option<u32>)
         requires core { core.number < size_below self.old.levels }
@@ -224,6 +248,7 @@ impl Tree {
         ensures cores { cores result.now
             ≡ map (λ c. core_at self.now c) (below_in self.now.levels node) }
         ensures kept { Keeps (out-Domain result.now).kept (cores result.now) }
+        ensures core { node.level ≡ 0 → (out-Domain result.now).core ≡ core_at self.now node.place }
     {
         law_spans();
         domain_at(&self.root, &self.board, node)

@@ -5,6 +5,7 @@ use Rattle.psci_tree.specs.Inside.{IsTied}
 use Rattle.psci_tree.specs.Kept.{IsRecount}
 use Rattle.psci_tree.specs.declared.domain.Domain.{Domain}
 use Rattle.psci_board.specs.declared.node.Node.{Node}
+use Rattle.psci_tree.proofs.Leaves.{core_of_leaf}
 use Rattle.psci_tree.proofs.Slices.{states_at, size_at}
 use Rattle.psci_tree.proofs.tree.Tree.domain.Goals as goal
 
@@ -42,3 +43,16 @@ returns-clause-kept c =
       size_at c.self.inside.root c.self.inside.board.levels n.level k c.self.invariant.whole
           (omega (arith, in'.level)),
     )))
+
+pub returns-clause-core : goal.returns-clause-core
+returns-clause-core c =
+    let k : ℕ = length c.self.inside.board.levels - c.args.node.level in
+    let is = c.self.view_is in
+    let tied : IsTied c.self.inside.root c.args.self.now =
+    subst (IsTied c.self.inside.root) is c.self.invariant in
+    let e : k + c.args.node.level ≡ length c.args.self.now.levels =
+    omega (arith, ap (λ (v : TreeValue). length v.levels) is, c.requires.level) in
+    core_of_leaf c.self.inside.root c.args.self.now c.args.node k c.domain_at.result.now
+    (c.law_spans.ensures c.args.self.now.levels tied.valid.tree) tied.valid.tree tied.whole
+    (ap (λ (v : TreeValue). v.cores) (sym is)) c.requires e
+    (c.domain_at.ensures c.domain_at.result.now)

@@ -1,0 +1,79 @@
+use Rattle.std.proofs.Common.{◌≡◌, None, false, sym, subst, ap, ◌∙◌}
+use Rattle.psci_link.specs.Message.{IsClaim}
+use Rattle.psci_fw_model.specs.Changes.{with_arrival}
+use Rattle.psci_fw_model.specs.Lives.{in_life}
+use Rattle.psci_fw_model.specs.Values.{Values}
+use Rattle.psci_fw.specs.Seen.{values_in}
+use Rattle.psci_fw.specs.Ways.{way_on}
+use Rattle.psci_fw.proofs.Answered.{arrived_away, fault_inside, halted_outcome, left_may}
+use Rattle.psci_fw.proofs.Answered.{leaving_off, no_opening, no_resume, parked, way_outcome}
+use Rattle.psci_fw.proofs.Stopping.{park_outcome}
+use Rattle.psci_fw.proofs.entering.enter.Goals as goal
+
+pub returns-then-halting-clause-answer : goal.returns-then-halting-clause-answer
+returns-then-halting-clause-answer c =
+    halted_outcome c.args.board.now (values_in c.args.state.now) c.args.core.number c.args.start
+    (sym (ap (λ (x : Values). x.halting) c.begin_life.ensures.after)
+    ∙ sym c.halting.ensures ∙ c.if-halting.true)
+
+pub send_down-requires-clause-claim : goal.send_down-requires-clause-claim
+send_down-requires-clause-claim c =
+    let b = c.args.board.now in
+    let v = values_in c.args.state.now in
+    let core = c.args.core.number in
+    let s = c.args.start in
+    let found = c.begin_life.ensures.after in
+    let awake : (in_life b s.life v).halting ≡ false =
+    sym (ap (λ (x : Values). x.halting) found) ∙ sym c.halting.ensures ∙ c.if-halting.false in
+    let none : way_on (in_life b s.life v) core s ≡ None =
+    sym (ap (λ (x : Values). way_on x core s) found) ∙ sym c.way_on.ensures ∙ c.in-None.is in
+    let same = leaving_off b (with_arrival b core s v) _ core _
+    (arrived_away b v _ _ core s found c.arrive_away-in-None.ensures.after)
+    c.leaving_parts-parts.ensures in
+    subst IsClaim (sym same) (c.law_stops.ensures.parks b v core s c.requires.state.board
+    (fault_inside b v core s c.requires.fault) c.requires.values awake
+    (no_opening (in_life b s.life v) core s none))
+
+pub send_down-requires-clause-may : goal.send_down-requires-clause-may
+send_down-requires-clause-may c =
+    let b = c.args.board.now in
+    let v = values_in c.args.state.now in
+    let core = c.args.core.number in
+    let s = c.args.start in
+    let found = c.begin_life.ensures.after in
+    let awake : (in_life b s.life v).halting ≡ false =
+    sym (ap (λ (x : Values). x.halting) found) ∙ sym c.halting.ensures ∙ c.if-halting.false in
+    let none : way_on (in_life b s.life v) core s ≡ None =
+    sym (ap (λ (x : Values). way_on x core s) found) ∙ sym c.way_on.ensures ∙ c.in-None.is in
+    let away = arrived_away b v _ _ core s found c.arrive_away-in-None.ensures.after in
+    let same = leaving_off b (with_arrival b core s v) _ core _ away c.leaving_parts-parts.ensures in
+    left_may b (with_arrival b core s v) _ core _ _ away same
+    (c.law_may_claim.ensures.parks b v core s c.requires.state.board
+    (fault_inside b v core s c.requires.fault) c.requires.values c.requires.fault awake
+    (no_opening (in_life b s.life v) core s none) (no_resume (in_life b s.life v) core s none))
+
+pub returns-in-Some-clause-answer : goal.returns-in-Some-clause-answer
+returns-in-Some-clause-answer c =
+    let v = values_in c.args.state.now in
+    let found = c.begin_life.ensures.after in
+    way_outcome c.args.board.now v c.args.core.number c.args.start c.in-Some.act
+    (sym (ap (λ (x : Values). x.halting) found) ∙ sym c.halting.ensures ∙ c.if-halting.false)
+    (sym (ap (λ (x : Values). way_on x c.args.core.number c.args.start) found)
+    ∙ sym c.way_on.ensures ∙ c.in-Some.is)
+
+pub returns-in-None-clause-answer : goal.returns-in-None-clause-answer
+returns-in-None-clause-answer c =
+    let b = c.args.board.now in
+    let v = values_in c.args.state.now in
+    let core = c.args.core.number in
+    let s = c.args.start in
+    let found = c.begin_life.ensures.after in
+    let awake : (in_life b s.life v).halting ≡ false =
+    sym (ap (λ (x : Values). x.halting) found) ∙ sym c.halting.ensures ∙ c.if-halting.false in
+    let none : way_on (in_life b s.life v) core s ≡ None =
+    sym (ap (λ (x : Values). way_on x core s) found) ∙ sym c.way_on.ensures ∙ c.in-None.is in
+    let away = arrived_away b v _ _ core s found c.arrive_away-in-None.ensures.after in
+    let same = leaving_off b (with_arrival b core s v) _ core _ away c.leaving_parts-parts.ensures in
+    parked b (with_arrival b core s v) _ core _ _ away same c.send_down.ensures.answer
+    ∙ sym (park_outcome b v core s awake (no_opening (in_life b s.life v) core s none)
+    (no_resume (in_life b s.life v) core s none))

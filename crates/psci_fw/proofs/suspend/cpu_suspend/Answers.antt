@@ -1,0 +1,28 @@
+use Rattle.std.proofs.Common.{◌≡◌, Ok, sym, ◌∙◌}
+use Rattle.psci_fw_model.specs.CpuSuspend.{ask_named}
+use Rattle.psci_fw.proofs.Answered.{suspended_answered}
+use Rattle.psci_fw.proofs.suspend.cpu_suspend.Goals as goal
+
+pub sleep-requires-clause-may : goal.sleep-requires-clause-may
+sleep-requires-clause-may c =
+    let named : ask_named c.args.board.now c.args.word ≡ Ok c.in-Ok.ask =
+    sym (rw c.height.ensures.height at c.read.ensures.value) ∙ c.in-Ok.is in
+    record {
+      shape = c.in-Ok.ensures.shape;
+      may = c.law_may_claim.ensures.suspended c.args.board.now _ c.args.caller.number c.args.word
+          c.args.opening.address c.args.opening.context c.in-Ok.ask c.requires.state.board
+          c.requires.inside c.requires.values c.requires.running c.requires.awake named
+          (sym c.is_nowhere.ensures ∙ c.if-is_nowhere.false)
+          (λ e. c.if-known-start_limit.false
+              (c.known.ensures ∙ e ∙ sym c.start_limit.ensures));
+    }
+
+pub returns-clause-answer : goal.returns-clause-answer
+returns-clause-answer c =
+    let named : ask_named c.args.board.now c.args.word ≡ Ok c.in-Ok.ask =
+    sym (rw c.height.ensures.height at c.read.ensures.value) ∙ c.in-Ok.is in
+    suspended_answered c.args.board.now _ c.args.caller.number c.args.word c.args.opening
+    c.in-Ok.ask c.requires.running named c.sleep.result _
+    (sym c.is_nowhere.ensures ∙ c.if-is_nowhere.false)
+    (λ e. c.if-known-start_limit.false (c.known.ensures ∙ e ∙ sym c.start_limit.ensures))
+    c.sleep.ensures.answer c.sleep.ensures.after

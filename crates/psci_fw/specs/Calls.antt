@@ -1,0 +1,26 @@
+-- How a running core is answered.
+use Rattle.std.specs.Prelude.{◌≡◌, ◌<◌, ℕ, false}
+use Rattle.psci_abi.specs.declared.request.Request.{Request}
+use Rattle.psci_board.specs.Board.{BoardValue, cores}
+use Rattle.psci_fw_model.specs.declared.outcome.Outcome.{Outcome}
+use Rattle.psci_fw_model.specs.After.{change}
+use Rattle.psci_fw_model.specs.Calls.{function_outcome}
+use Rattle.psci_fw_model.specs.Effects.{function_effect}
+use Rattle.psci_fw_model.specs.Invariant.{AreValues}
+use Rattle.psci_fw_model.specs.Phases.{Running}
+use Rattle.psci_fw_model.specs.Values.{Values}
+use Rattle.psci_fw.specs.Seen.{IsStateOf, StateValue, values_in}
+
+-- a core may call a function: it is running, in a life that is not halting
+pub record MayCall (b : BoardValue) (s : StateValue) (c : ℕ) : Type 0 where
+  pub state : IsStateOf b s
+  pub values : AreValues b (values_in s)
+  pub inside : c < cores b
+  pub running : (values_in s).phase c ≡ Running
+  pub awake : (values_in s).halting ≡ false
+
+-- a function was answered as the definitions say, and left what they say
+pub record IsAnswered (b : BoardValue) (v : Values) (c : ℕ) (r : Request) (o : Outcome) (w : Values)
+    : Type 0 where
+  pub answer : o ≡ function_outcome b v c r
+  pub after : w ≡ change b (function_effect b c r o.act o.message) v

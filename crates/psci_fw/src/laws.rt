@@ -1,0 +1,52 @@
+//! What holds of the claims of cores that stop, for proofs. The law is the contract of a function
+//! that does nothing.
+
+ghost use Rattle.std.specs.Prelude.{◌≡◌, ◌<◌, ◌&&◌, ℕ, List, None, Ok, false, not, true};
+ghost use Rattle.psci_board.specs.Board.{BoardValue, IsBoard, cores, height, may_enter};
+ghost use Rattle.psci_coord.specs.declared.part.Part.{Part};
+ghost use Rattle.psci_state.specs.Ask.{deepest_of, is_deep};
+ghost use Rattle.psci_ctl_model.specs.declared.start.Start.{Start};
+ghost use Rattle.psci_fw_model.specs.Changes.{with_arrival};
+ghost use Rattle.psci_fw_model.specs.Claims.{off_parts, suspend_parts};
+ghost use Rattle.psci_fw_model.specs.CpuSuspend.{ask_named};
+ghost use Rattle.psci_fw_model.specs.Entering.{enter_fault, resumes};
+ghost use Rattle.psci_fw_model.specs.Invariant.{AreValues};
+ghost use Rattle.psci_fw_model.specs.Lives.{in_life};
+ghost use Rattle.psci_fw_model.specs.Phases.{Running};
+ghost use Rattle.psci_fw_model.specs.SystemCalls.{all_others, is_off_status};
+ghost use Rattle.psci_fw_model.specs.Values.{Values};
+ghost use Rattle.psci_fw.specs.Claims.{MayClaim};
+
+use psci_fw_model::law_invariant;
+use psci_board::law_paths;
+use psci_coord::{law_claims, law_last_core};
+
+/// The claims of cores that stop may be granted.
+pub fn law_may_claim()
+    // A core that goes off.
+    ensures off { (b : BoardValue) (v : Values) (c : ℕ) → IsBoard b → c < cores b → AreValues b v
+        → v.phase c ≡ Running → v.halting ≡ false → MayClaim b c (off_parts b v c) v.granted }
+    // A core that parks.
+    ensures parks { (b : BoardValue) (v : Values) (c : ℕ) (s : Start) → IsBoard b → c < cores b
+        → AreValues b v → enter_fault b v c s ≡ None → let found = in_life b s.life v in
+        found.halting ≡ false → found.opening c ≡ None → resumes found c s ≡ false
+        → let arrived = with_arrival b c s v in
+        MayClaim b c (off_parts b arrived c) arrived.granted }
+    // A core that asks for a power state.
+    ensures suspended { (b : BoardValue) (v : Values) (c word entry context : ℕ) (ask : List ℕ)
+        → IsBoard b → c < cores b → AreValues b v → v.phase c ≡ Running → v.halting ≡ false
+        → ask_named b word ≡ Ok ask → (is_deep ask && not (may_enter b entry)) ≡ false
+        → (v.known c ≡ b.starts → ⊥) → (parts : List Part) → suspend_parts b v c ask ≡ Ok parts
+        → MayClaim b c parts v.granted }
+    // The last core of the system.
+    ensures system { (b : BoardValue) (v : Values) (c entry context : ℕ) → IsBoard b → c < cores b
+        → AreValues b v → v.phase c ≡ Running → v.halting ≡ false → may_enter b entry ≡ true
+        → all_others b c (λ k. is_off_status (v.status k)) ≡ true → (v.known c ≡ b.starts → ⊥)
+        → (parts : List Part) → suspend_parts b v c (deepest_of (height b)) ≡ Ok parts
+        → MayClaim b c parts v.granted }
+{
+    law_invariant();
+    law_paths();
+    law_claims();
+    law_last_core();
+}
