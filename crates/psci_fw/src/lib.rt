@@ -25,8 +25,7 @@ mod system;
 
 pub use firmware::Firmware;
 pub use psci_fw_model::{
-    Act, Cause, FwCall, FwFault, FwReply, Opening, Outcome, Start, Status, SuspendMode, law_caller,
-    law_first_start, law_power_on, law_values,
+    Act, Cause, FwCall, FwFault, FwReply, Opening, Outcome, Start, Status, SuspendMode,
 };
 
 #[cfg(test)]
