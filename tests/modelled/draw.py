@@ -20,16 +20,16 @@ OTHERS = (0x84000005, 0x84000007, 0x8400000B, 0x8400000C, 0x8400000D, 0x84000010
 
 class Draw(random.Random):
     def rarely(self, common, *others):
-        return self.choice(others) if self.randrange(24) == 0 else common
+        return self.choice(others) if self.randrange(32) == 0 else common
 
     def board(self):
         rarely = self.rarely
         cluster = lambda: str(rarely(self.choice((1, 1, 2, 2, 3, 4)), 16, 16, 16, 17, 0, 2**64))
         group = lambda: f"({' '.join(cluster() for _ in range(self.choice((1, 2, 3))))})"
-        kind = self.randrange(12)
+        kind = self.randrange(24)
         many = range(rarely(self.choice((1, 2, 2, 3, 4)), 16, 17))
-        tree = (cluster() if kind < 3 else f"({' '.join(cluster() for _ in many)})" if kind < 7
-                else f"({' '.join(group() for _ in many)})" if kind < 11
+        tree = (cluster() if kind < 5 else f"({' '.join(cluster() for _ in many)})" if kind < 14
+                else f"({' '.join(group() for _ in many)})" if kind < 23
                 else f"({' '.join(self.choice((cluster, group))() for _ in many)})")
         ends = lambda: self.choice(((0, 4), (0x10, 0x20), (0x40000000, 0x40100000), (0x10, 2**64 - 1),
                                     rarely((0, 8), (4, 4), (8, 4))))
@@ -60,7 +60,7 @@ class Draw(random.Random):
                         reverse=True)
         word = sum(depth << 4 * level for level, depth in enumerate(depths))
         word |= max([0] + [level for level, depth in enumerate(depths) if depth]) << 24 | (depths[0] == 3) << 16
-        if self.randrange(2) == 0:
+        if self.randrange(5) < 2:
             word ^= self.choice((1, 2, 3, 16, 32, 48, 0x100, 0x200, 0x1000, 0x10000, 1 << 24, 2 << 24, 4, 1 << 17,
                                  1 << 23, 1 << 26, 1 << 30, 1 << 31, self.getrandbits(32)))
         return word
@@ -85,8 +85,10 @@ class Draw(random.Random):
         return [it | bits for it, bits in zip(regs, upper)]
 
     def call(self, world, controlled):
-        if self.randrange(4 if controlled else 24) == 0 and self.randrange(2):
-            words = self.choice(LAST) if self.randrange(8) == 0 or not controlled else fw.CPU_OFF
+        if self.randrange(40) == 0:
+            words = self.choice(LAST)
+        elif controlled and self.randrange(8) == 0:
+            words = fw.CPU_OFF
         elif self.randrange(12) == 0:
             words = (self.choice(OTHERS), self.getrandbits(32))
         else:
@@ -107,7 +109,25 @@ class Draw(random.Random):
         """Mostly one of the last that there are."""
         return max(0, self.choice((many - 1,) * 6 + (many - 2, many - 3, self.randrange(many + 1), many)))
 
+    def onward(self, world):
+        """What brings a core on that was started, asked on or suspended, if there is one."""
+        firmware, cores = world.firmware, world.board.cores
+        started = [core for core in cores if world.place[core] == "started"]
+        asked = [at for at, it in enumerate(world.sent) if it.kind == "start" and firmware.slots.get(it.core) is it]
+        asleep = [core for core in cores if world.place[core] == "stopped" and firmware.phase(core) == "suspended"]
+        running = [core for core in cores if world.place[core] == "running"]
+        if started:
+            return f"enter {self.choice(started)}"
+        if asked:
+            return f"deliver {self.choice(asked)}"
+        if asleep and (not running or self.randrange(6) == 0):
+            return f"wake {self.choice(asleep)}"
+        return self.call(world, True) if running else None
+
     def event(self, world, controlled):
+        onward = self.onward(world) if controlled and self.randrange(4) else None
+        if onward:
+            return onward
         word = self.choices(("call", "enter", "deliver", "take", "wake", "reset"),
                             (10, 4, 5, 4, 3, 1) if controlled else (20, 1, 0, 0, 0, 0))[0]
         if word == "call":
