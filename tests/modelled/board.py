@@ -18,7 +18,8 @@ class Board:
         if not match:
             raise Fault("line 1: board fault 1")
         tree, ranges, boot, starts, lives = match.groups()
-        if any(int(it) >= 2**64 for it in re.findall(rf"(?<![0-9a-zA-Z]){DEC}(?![0-9a-zA-Z])", text)):
+        decimals = re.findall(rf"(?<![0-9a-zA-Z]){DEC}(?![0-9a-zA-Z])", text)
+        if any(int(it) >= 2**64 for it in decimals):
             raise Fault("line 1: board fault 1")
         members = re.findall(r"\([^()]*\)|[0-9]+", tree[1:-1] if tree[0] == "(" else tree)
         groups = [[int(it) for it in re.findall("[0-9]+", member)] for member in members]
@@ -43,7 +44,8 @@ class Board:
             self.places = [(core, cluster, group) for group, them in enumerate(groups)
                            for cluster, size in enumerate(them) for core in range(size)]
         else:
-            self.places = [(core, cluster, 0) for cluster, size in enumerate(sizes) for core in range(size)]
+            self.places = [(core, cluster, 0) for cluster, size in enumerate(sizes)
+                           for core in range(size)]
         self.cores = range(len(self.places))
         self.nodes = {node for core in self.cores for node in self.path(core)}
 
@@ -72,4 +74,6 @@ class Board:
     def children(self, node):
         """The domains one level down, none of a core."""
         level = node[0] - 1
-        return {(level, self.places[core][level:]) for core in self.below(node)} if level >= 0 else set()
+        if level < 0:
+            return set()
+        return {(level, self.places[core][level:]) for core in self.below(node)}

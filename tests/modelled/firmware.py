@@ -24,8 +24,8 @@ CPU_SUSPEND, CPU_OFF = (0x84000001, 0xC4000001), (0x84000002,)
 CPU_ON, AFFINITY_INFO = (0x84000003, 0xC4000003), (0x84000004, 0xC4000004)
 SYSTEM_OFF, SYSTEM_RESET = (0x84000008,), (0x84000009,)
 SYSTEM_SUSPEND, SET_SUSPEND_MODE = (0x8400000E, 0xC400000E), (0x8400000F,)
-SUPPORTED = (VERSION + CPU_SUSPEND + CPU_OFF + CPU_ON + AFFINITY_INFO + MIGRATE_INFO_TYPE + SYSTEM_OFF
-             + SYSTEM_RESET + FEATURES + SYSTEM_SUSPEND + SET_SUSPEND_MODE)
+SUPPORTED = (VERSION + CPU_SUSPEND + CPU_OFF + CPU_ON + AFFINITY_INFO + MIGRATE_INFO_TYPE
+             + SYSTEM_OFF + SYSTEM_RESET + FEATURES + SYSTEM_SUSPEND + SET_SUSPEND_MODE)
 
 
 def depths_of(word, height):
@@ -71,9 +71,6 @@ class Firmware:
 
     # ---- outcomes
 
-    def answered(self, code, message=None):
-        return Outcome("return", (code,), message)
-
     def send(self, kind, core, parts=()):
         message = Message(kind, core, self.life, self.known[core], tuple(parts))
         self.slots[SYSTEM if kind in ("off", "reset") else core] = message
@@ -114,29 +111,27 @@ class Firmware:
         if self.halting:
             return self.silent_stop(core)
         word = regs[0] % 2**32
-        x1, x2, x3 = regs[1:] if word & SMC64 else [it % 2**32 for it in regs[1:]]
-        if word in VERSION:
-            return self.answered(0x10001)
-        if word in MIGRATE_INFO_TYPE:
-            return self.answered(2)
-        if word in FEATURES:
-            return self.answered(self.features(x1 % 2**32))
-        if word in CPU_ON:
-            return self.cpu_on(x1, x2, x3)
-        if word in AFFINITY_INFO:
-            return self.answered(self.affinity_info(x1, x2 % 2**32))
-        if word in CPU_SUSPEND:
-            return self.cpu_suspend(core, x1 % 2**32, x2, x3)
-        if word in CPU_OFF:
-            return self.stop(core, "away")
-        if word in SYSTEM_SUSPEND:
-            return self.system_suspend(core, x1, x2)
-        if word in SYSTEM_OFF + SYSTEM_RESET:
-            self.halting, self.last[core] = True, "away"
-            return Outcome("stop", (), self.send("off" if word in SYSTEM_OFF else "reset", core))
-        if word in SET_SUSPEND_MODE:
-            return self.answered(self.set_suspend_mode(core, x1 % 2**32))
-        return self.answered(NOT_SUPPORTED)
+        args = regs[1:] if word & SMC64 else [it % 2**32 for it in regs[1:]]
+        said = self.function(core, word, *args)
+        return said if isinstance(said, Outcome) else Outcome("return", (said,), None)
+
+    def function(self, core, word, x1, x2, x3):
+        """The code that is returned, or the outcome where it is more than a code."""
+        answers = {
+            VERSION: lambda: 0x10001,
+            MIGRATE_INFO_TYPE: lambda: 2,
+            FEATURES: lambda: self.features(x1 % 2**32),
+            CPU_ON: lambda: self.cpu_on(x1, x2, x3),
+            AFFINITY_INFO: lambda: self.affinity_info(x1, x2 % 2**32),
+            CPU_SUSPEND: lambda: self.cpu_suspend(core, x1 % 2**32, x2, x3),
+            CPU_OFF: lambda: self.stop(core, "away"),
+            SYSTEM_SUSPEND: lambda: self.system_suspend(core, x1, x2),
+            SYSTEM_OFF: lambda: self.halt(core, "off"),
+            SYSTEM_RESET: lambda: self.halt(core, "reset"),
+            SET_SUSPEND_MODE: lambda: self.set_suspend_mode(core, x1 % 2**32),
+        }
+        named = [answer for words, answer in answers.items() if word in words]
+        return named[0]() if named else NOT_SUPPORTED
 
     def features(self, word):
         if word in CPU_SUSPEND:
@@ -146,17 +141,17 @@ class Firmware:
     def cpu_on(self, target, entry, context):
         named = self.board.named(target, 0)
         if not named:
-            return self.answered(INVALID_PARAMETERS)
+            return INVALID_PARAMETERS
         if not self.board.may_enter(entry):
-            return self.answered(INVALID_ADDRESS)
+            return INVALID_ADDRESS
         core = named[0]
         if self.status[core] != OFF:
-            return self.answered(ALREADY_ON if self.status[core] == ON else ON_PENDING)
+            return ALREADY_ON if self.status[core] == ON else ON_PENDING
         if self.known[core] == self.board.starts:
-            return self.answered(INTERNAL_FAILURE)
+            return INTERNAL_FAILURE
         self.status[core], self.opening[core] = PENDING, (entry, context)
         self.disturb(core)
-        return self.answered(0, self.send("start", core))
+        return Outcome("return", (0,), self.send("start", core))
 
     def affinity_info(self, target, level):
         found = {self.status[core] for core in self.board.named(target, level)}
@@ -167,27 +162,27 @@ class Firmware:
     def cpu_suspend(self, core, word, entry, context):
         depths = depths_of(word, self.board.height)
         if depths is None:
-            return self.answered(INVALID_PARAMETERS)
+            return INVALID_PARAMETERS
         if depths[0] == 3 and not self.board.may_enter(entry):
-            return self.answered(INVALID_ADDRESS)
+            return INVALID_ADDRESS
         if self.known[core] == self.board.starts:
-            return self.answered(0)
+            return 0
         return self.suspend(core, depths, (entry, context) if depths[0] == 3 else None)
 
     def system_suspend(self, core, entry, context):
         if not self.board.may_enter(entry):
-            return self.answered(INVALID_ADDRESS)
+            return INVALID_ADDRESS
         if any(self.status[it] != OFF for it in self.board.cores if it != core):
-            return self.answered(DENIED)
+            return DENIED
         if self.known[core] == self.board.starts:
-            return self.answered(DENIED)
+            return DENIED
         depths = [3 if level <= self.board.height else 0 for level in range(4)]
         return self.suspend(core, depths, (entry, context))
 
     def suspend(self, core, depths, opening):
         refused = self.last_core(core, depths) if self.mode == OS_INITIATED else None
         if refused is not None:
-            return self.answered(refused)
+            return refused
         if opening is not None:
             self.opening[core] = opening
         return self.stop(core, depths)
@@ -200,6 +195,10 @@ class Firmware:
         if any(self.nobody_active(child) for child in shallow):
             return INVALID_PARAMETERS
         return DENIED if shallow else None
+
+    def halt(self, core, kind):
+        self.halting, self.last[core] = True, "away"
+        return Outcome("stop", (), self.send(kind, core))
 
     def set_suspend_mode(self, core, mode):
         if mode not in (PLATFORM, OS_INITIATED):

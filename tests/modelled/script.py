@@ -15,7 +15,8 @@ class World:
         self.place = self.places_at_start()
 
     def places_at_start(self):
-        return ["started" if core in self.controller.started else "stopped" for core in self.board.cores]
+        started = self.controller.started
+        return ["started" if core in started else "stopped" for core in self.board.cores]
 
     # every method answers the text of one event
 
