@@ -48,8 +48,8 @@ class Draw(random.Random):
         return f"{tree} exec {pairs} boot {spelled(boot)} starts {starts} lives {lives}"
 
     def affinity(self, board):
-        fields = (self.choice(board.places) if self.randrange(4) else
-                  [self.choice(them) for them in ((0, 1, 2, 3, 15, 16), (0, 0, 1, 2, 15), (0, 0, 1, 2))])
+        any_fields = (0, 1, 2, 3, 15, 16), (0, 0, 1, 2, 15), (0, 0, 1, 2)
+        fields = self.choice([self.choice(board.places)] * 3 + [map(self.choice, any_fields)])
         word = sum(field << 8 * at for at, field in enumerate(fields))
         return self.rarely(word, *(word | 1 << at for at in (3, 11, 19, 24, 31, 32, 39, 40, 63)))
 
