@@ -1,3 +1,6 @@
+mod Acked
 mod Begun
-mod Rowed
+mod Changed
+mod Moved
 mod Spanned
+mod Viewed

@@ -15,7 +15,7 @@ use Rattle.psci_fw_model.specs.declared.status.Status.TheVariants.{On, Off, Pend
 use Rattle.psci_fw_model.specs.AffinityInfo.{is_on, is_pending, node_status, status_over}
 use Rattle.psci_fw.specs.declared.row.CoreRow.{CoreRow}
 use Rattle.psci_fw.specs.Rows.{off_row, row_at, status_of_all}
-use Rattle.psci_fw.specs.Seen.{values_in}
+
 
 -- The span of a node --------------------------------------------------------------------------
 
@@ -78,11 +78,11 @@ status_all b status n laws h = rw h (by_test (n.level == 0) refl)
         ∙ ap (λ (s : CoreSpan). range_with_len s.first s.count) one in
         rw alone (sym (one_status (status n.place)))
 
-pub status_some : (b : BoardValue) (rows : List CoreRow) (life : ℕ) (n : Node) (s : CoreSpan)
+pub status_some : (b : BoardValue) (rows : List CoreRow) (n : Node) (s : CoreSpan)
     → SpanLaws b.levels → length rows ≡ cores b → cores_below b n ≡ Some s
     → status_of_all (take s.count (drop s.first rows))
-    ≡ node_status b (values_in life rows).status n
-status_some b rows life n s laws len e =
+    ≡ node_status b (λ c. (row_at rows c).status) n
+status_some b rows n s laws len e =
     let at = found b n s e in
     let within : s.first + s.count ≤ length rows =
     omega (arith, len, ends_inside b n s laws e) in
@@ -91,7 +91,7 @@ status_some b rows life n s laws len e =
     ∙ ap (λ (s : CoreSpan). range_with_len s.first s.count) (sym at.is) in
     let on = any_range (λ r. is_on r.status) rows s.count s.first within in
     let pending = any_range (λ r. is_pending r.status) rows s.count s.first within in
-    rw (status_all b (values_in life rows).status n laws at.has, all, on, pending) refl
+    rw (status_all b (λ c. (row_at rows c).status) n laws at.has, all, on, pending) refl
 
 pub status_none : (b : BoardValue) (status : ℕ → Status) (n : Node) → cores_below b n ≡ None
     → Off ≡ node_status b status n

@@ -1,2 +1,6 @@
+pub mod Calls
+pub mod Claims
+pub mod Halts
 pub mod Rows
 pub mod Seen
+pub mod Ways

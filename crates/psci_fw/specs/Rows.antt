@@ -1,27 +1,21 @@
--- What the firmware keeps, core by core.
+-- What the firmware keeps of each core beside the tree of power domains.
 use Rattle.std.specs.Prelude.{◌≡◌, ℕ, ◌<◌, List, length, slice_index_or, None}
 use Rattle.std.specs.List.{list_any}
 use Rattle.std.specs.Prelude.{if◌then◌else◌}
 use Rattle.psci_board.specs.Board.{BoardValue, cores}
-use Rattle.psci_fw_model.specs.declared.phase.Phase.TheVariants as phases
 use Rattle.psci_fw_model.specs.declared.status.Status.{Status}
 use Rattle.psci_fw_model.specs.declared.status.Status.TheVariants.{On, Off, Pending}
 use Rattle.psci_fw_model.specs.AffinityInfo.{is_on, is_pending}
-use Rattle.psci_fw_model.specs.Lives.{first_status, first_phase, first_opening}
+use Rattle.psci_fw_model.specs.Lives.{first_status, first_opening}
 use Rattle.psci_fw.specs.declared.row.CoreRow.{CoreRow}
 
--- a core that is off and was never started
+-- a core that is off and goes on nowhere
 abbrev pub off_row : CoreRow
-off_row = record { known = 0; status = Off; phase = phases.Away; opening = None }
+off_row = record { status = Off; opening = None }
 
 -- a core at the start of a life
 abbrev pub first_row : BoardValue → ℕ → CoreRow
-first_row b c = record {
-  known = 0;
-  status = first_status c;
-  phase = first_phase c;
-  opening = first_opening b c;
-}
+first_row b c = record { status = first_status c; opening = first_opening b c }
 
 -- what is kept of the core of this number; of one that is not there, that it is off
 abbrev pub row_at : List CoreRow → ℕ → CoreRow

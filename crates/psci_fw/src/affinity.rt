@@ -4,34 +4,36 @@ ghost use Rattle.std.specs.Prelude.{◌≡◌};
 ghost use Rattle.std.specs.List.{list_any};
 ghost use Rattle.psci_fw_model.specs.AffinityInfo.{affinity_info, is_on, is_pending, node_status};
 ghost use Rattle.psci_fw.specs.Rows.{status_of_all};
-ghost use Rattle.psci_fw.specs.Seen.{seen};
+ghost use Rattle.psci_fw.specs.Seen.{IsStateOf, values_in};
 
-use crate::firmware::Firmware;
 use crate::row::CoreRow;
+use crate::state::State;
 use psci_abi::Code;
-use psci_board::{Node, law_spans};
+use psci_board::{Board, Node, law_spans};
 use psci_fw_model::Status;
 
-impl Firmware {
+impl State {
     /// AFFINITY_INFO (DEN0022D): the status of the core or power domain that `target` names at the
     /// level.
-    pub(crate) fn affinity_info(&self, target: u64, level: u32) -> Code
-        ensures { result ≡ affinity_info self.now.board (seen self.now) target level }
+    pub fn affinity_info(&self, board: &Board, target: u64, level: u32) -> Code
+        requires { IsStateOf board.now self.now }
+        ensures { result ≡ affinity_info board.now (values_in self.now) target level }
     {
-        match self.board.node_of(target, level) {
-            Some(node) => self.node_status(node).code(),
+        match board.node_of(target, level) {
+            Some(node) => self.node_status(board, node).code(),
             None => Code::INVALID_PARAMETERS,
         }
     }
 
     /// The status of a core or power domain, by those of the cores below it. A node that the board
     /// does not have is OFF.
-    pub(crate) fn node_status(&self, node: Node) -> Status
-        ensures { result ≡ node_status self.now.board (seen self.now).status node }
+    #[tactic(auto, unfolding(crate::specs::Seen::values_in))]
+    pub fn node_status(&self, board: &Board, node: Node) -> Status
+        requires { IsStateOf board.now self.now }
+        ensures { result ≡ node_status board.now (values_in self.now).status node }
     {
         law_spans();
-        let _cores = self.board.cores();
-        match self.board.cores_below(node) {
+        match board.cores_below(node) {
             Some(span) => {
                 let first = span.first as usize;
                 status_of_all(&self.rows[first..first + span.count as usize])

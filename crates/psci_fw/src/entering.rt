@@ -1,144 +1,96 @@
-//! The entry of a started core: it arrives, and then goes on or parks.
+//! The entry of a started core: it goes on, or stops.
 
-ghost use Rattle.std.specs.Prelude.{◌≡◌, ◌<◌, ◌≤◌, MatchResult, None, Some};
+ghost use Rattle.std.specs.Prelude.{◌≡◌, ◌<◌, MatchResult, None, Some};
 ghost use Rattle.psci_board.specs.Board.{cores};
-ghost use Rattle.psci_fw_model.specs.Changes.{with_arrival, with_phase, with_running};
-ghost use Rattle.psci_fw_model.specs.declared.phase.Phase.TheVariants.{Away};
-ghost use Rattle.psci_fw_model.specs.Entering.{down_message, enter_fault, is_old, outcome_at};
-ghost use Rattle.psci_fw_model.specs.Lives.{in_life};
-ghost use Rattle.psci_fw_model.specs.Phases.{phase_under};
-ghost use Rattle.psci_fw.specs.Seen.{seen};
+ghost use Rattle.psci_fw_model.specs.After.{change};
+ghost use Rattle.psci_fw_model.specs.Effects.{enter_effect};
+ghost use Rattle.psci_fw_model.specs.Entering.{enter_fault, enter_outcome, is_old, resumes};
+ghost use Rattle.psci_fw_model.specs.Invariant.{AreValues};
+ghost use Rattle.psci_fw.specs.Seen.{IsStateOf, values_in};
+ghost use Rattle.psci_fw.specs.Ways.{way_on};
 
-use crate::firmware::Firmware;
-use crate::row::{CoreRow, reset_rows};
-use psci_board::Core;
-use psci_fw_model::{Act, FwFault, Kind, Message, Opening, Outcome, Phase, Start, Status};
+use crate::held::{law_invariant, law_stops};
+use crate::off::send_down;
+use crate::state::State;
+use psci_board::{Board, Core};
+use psci_fw_model::{Act, Cause, FwFault, Opening, Outcome, Start};
 
-impl Firmware {
-    /// Whether a core may enter by this start, or the first reason why it may not.
-    pub(crate) fn check_start(&self, core: Core, start: Start) -> Result<(), FwFault>
-        ensures { let fault = enter_fault self.now.board (seen self.now) core.number start in
-            MatchResult result (λ _. fault ≡ None) (λ e. fault ≡ Some e) }
-    {
-        if core.number >= self.board.cores() {
-            return Err(FwFault::NoCore);
-        }
-        if start.life == 0 || start.life > self.board.life_limit() {
-            return Err(FwFault::NoLife);
-        }
-        if self.is_old(core, start) {
-            return Err(FwFault::OldStart);
-        }
-        Ok(())
+/// Whether a core may enter by this start, or the first reason why it may not.
+pub fn check_start(board: &Board, state: &State, core: Core, start: Start) -> Result<(), FwFault>
+    ensures { let fault = enter_fault board.now (values_in state.now) core.number start in
+        MatchResult result (λ _. fault ≡ None) (λ e. fault ≡ Some e) }
+{
+    if core.number >= board.cores() {
+        return Err(FwFault::NoCore);
     }
-
-    /// Whether a start is over, or is none that the board has.
-    fn is_old(&self, core: Core, start: Start) -> bool
-        ensures { result ≡ is_old self.now.board (seen self.now) core.number start }
-    {
-        start.life < self.life
-            || start.number == 0
-            || start.number > self.board.start_limit()
-            || (start.life == self.life && start.number <= self.row(core).known)
+    if start.life == 0 || start.life > board.life_limit() {
+        return Err(FwFault::NoLife);
     }
-
-    /// A core arrives by this start, and uses up its opening. A start of another life begins that
-    /// life first.
-    pub(crate) fn arrive(&mut self, core: Core, start: Start) -> Option<Opening>
-        requires inside { core.number < cores self.old.board }
-        requires limit { start.number ≤ self.old.board.starts }
-        ensures opening { result
-            ≡ (in_life self.old.board start.life (seen self.old)).opening core.number }
-        ensures after { seen self.new
-            ≡ with_arrival self.old.board core.number start (seen self.old) }
-        ensures board { self.new.board ≡ self.old.board }
-    {
-        self.begin_life(start.life);
-        let row = self.row(core);
-        let arrived = CoreRow {
-            known: start.number,
-            opening: None,
-            ..row
-        };
-        self.set_row(core, arrived);
-        row.opening
+    if is_old(board, state, core, start) {
+        return Err(FwFault::OldStart);
     }
-
-    /// The firmware is in this life: every core is as at its start, if it is a new one.
-    fn begin_life(&mut self, life: u32)
-        ensures after { seen self.new ≡ in_life self.old.board life (seen self.old) }
-        ensures board { self.new.board ≡ self.old.board }
-    {
-        if life == self.life {
-            return;
-        }
-        let _cores = self.board.cores();
-        self.life = life;
-        reset_rows(&mut self.rows, &self.board);
-    }
-
-    /// A core that has arrived goes on: it is ON and runs.
-    pub(crate) fn set_running(&mut self, core: Core)
-        requires { core.number < cores self.old.board }
-        ensures after { seen self.new ≡ with_running core.number (seen self.old) }
-        ensures board { self.new.board ≡ self.old.board }
-    {
-        let row = CoreRow {
-            status: Status::On,
-            phase: Phase::Running,
-            ..self.row(core)
-        };
-        self.set_row(core, row);
-    }
-
-    /// A core that has arrived stops, as one that goes off: it is away, but for one that is
-    /// ON_PENDING, which is pending.
-    pub(crate) fn set_away(&mut self, core: Core)
-        requires { core.number < cores self.old.board }
-        ensures after { seen self.new ≡ with_phase core.number Away (seen self.old) }
-        ensures board { self.new.board ≡ self.old.board }
-    {
-        let row = self.row(core);
-        let phase = phase_under(row.status, Phase::Away);
-        self.set_row(core, CoreRow { phase, ..row });
-    }
+    Ok(())
 }
 
-/// The phase of a core with this status that its last outcome left so.
-fn phase_under(status: Status, left: Phase) -> Phase
-    ensures { result ≡ phase_under status left }
+/// Whether a start is over, or is none that the board has.
+fn is_old(board: &Board, state: &State, core: Core, start: Start) -> bool
+    ensures { result ≡ is_old board.now (values_in state.now) core.number start }
 {
-    match status {
-        Status::Pending => Phase::Pending,
-        Status::On | Status::Off => left,
-    }
+    start.life < state.life()
+        || start.number == 0
+        || start.number > board.start_limit()
+        || (start.life == state.life() && start.number <= state.known(core))
 }
 
-/// What a core is answered that entered by this start: it goes on at its opening, or parks where it
-/// has none.
-pub(crate) fn outcome_at(core: Core, start: Start, opening: Option<Opening>) -> Outcome
-    ensures { result ≡ outcome_at core.number start opening }
+/// What a core does that enters by this start: in a halting life it stops; else it goes on at its
+/// opening, resumes after its suspend, or parks. A start of another life begins that life first.
+pub fn enter(board: &Board, state: &mut State, core: Core, start: Start) -> Outcome
+    requires state { IsStateOf board.now state.old }
+    requires values { AreValues board.now (values_in state.old) }
+    requires fault { enter_fault board.now (values_in state.old) core.number start ≡ None }
+    ensures answer { result ≡ enter_outcome board.now (values_in state.old) core.number start }
+    ensures after { values_in state.new ≡ change board.now (enter_effect core.number start
+        result.act result.message) (values_in state.old) }
+    ensures state { IsStateOf board.now state.new }
 {
-    match opening {
-        Some(Opening { address, context }) => Outcome {
-            act: Act::Enter { address, context },
-            message: None,
-        },
-        None => Outcome {
+    law_invariant();
+    law_stops();
+    state.begin_life(board, start.life);
+    if state.halting() {
+        state.arrive_away(board, core, start);
+        return Outcome {
             act: Act::Stop,
-            message: Some(down_message(core, start)),
-        },
+            message: None,
+        };
+    }
+    match way_on(state, core, start) {
+        Some(act) => {
+            state.arrive_running(board, core, start);
+            Outcome { act, message: None }
+        }
+        None => {
+            state.arrive_away(board, core, start);
+            let parts = state.leaving_parts(board, core);
+            send_down(board, state, core, parts)
+        }
     }
 }
 
-/// What a core sends that stops in this start.
-fn down_message(core: Core, start: Start) -> Message
-    ensures { result ≡ down_message core.number start }
+/// Where a core goes on that enters by this start: at its opening, or after its suspend.
+fn way_on(state: &State, core: Core, start: Start) -> Option<Act>
+    ensures { result ≡ way_on (values_in state.now) core.number start }
 {
-    Message {
-        kind: Kind::Down,
-        core,
-        life: start.life,
-        number: start.number,
+    match state.opening(core) {
+        Some(Opening { address, context }) => Some(Act::Enter { address, context }),
+        None => resumes(state, core, start).then_some(Act::Resume),
     }
+}
+
+/// Whether a core resumes after its suspend: it was woken by the very next start.
+fn resumes(state: &State, core: Core, start: Start) -> bool
+    ensures { result ≡ resumes (values_in state.now) core.number start }
+{
+    state.is_light(core)
+        && matches!(start.cause, Cause::Wake)
+        && state.known(core).checked_add(1) == Some(start.number)
 }

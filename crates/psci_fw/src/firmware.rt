@@ -1,21 +1,18 @@
 //! The firmware of one board.
 
-use crate::entering::outcome_at;
-use crate::row::{CoreRow, first_rows};
+use crate::state::State;
 use psci_abi::{Regs, read};
 use psci_board::{Board, Core, Memory, Node};
-use psci_fw_model::{FwFault, Outcome, Phase, Start, Status};
+use psci_fw_model::{FwFault, Outcome, Start, Status};
+use psci_link::{Ack, Message, Taken};
 use std::alloc::Global;
 use std::marker::Model;
 
-/// The power firmware of one board. Contracts see the board, and what is kept of each core.
+/// The power firmware of one board. Contracts see the board, and what is kept.
 #[derive(Drop)]
 pub struct Firmware {
-    pub(crate) board: Board,
-    /// 0 before any core has entered.
-    pub(crate) life: u32,
-    /// In the order of the numbers of the cores.
-    pub(crate) rows: Vec<CoreRow>,
+    board: Board,
+    state: State,
 }
 
 impl Model for Firmware {
@@ -23,85 +20,92 @@ impl Model for Firmware {
 
     ghost Value = { FirmwareValue };
 
-    ghost view = { λ f. record { board = f.board; life = f.life; rows = f.rows.items } };
+    ghost view = { λ f. record { board = f.board; state = f.state } };
 
-    ghost invariant = { λ f. IsFirmware (record {
-      board = f.board;
-      life = f.life;
-      rows = f.rows.items;
-    }) };
+    ghost invariant = { λ f. IsFirmware (record { board = f.board; state = f.state }) };
 }
 
-ghost use Rattle.std.specs.Prelude.{◌≡◌, ◌<◌, ◌≤◌, length, slice_set, true, IfOk, OnErr};
-ghost use Rattle.psci_board.specs.Board.{cores};
-ghost use Rattle.psci_fw_model.specs.declared.call.FwCall.TheVariants.{Smc, Enter};
+ghost use Rattle.std.specs.Prelude.{◌≡◌, ℕ, IfOk, OnErr, option_map};
+ghost use Rattle.psci_fw_model.specs.declared.call.FwCall.TheVariants as calls;
+ghost use Rattle.psci_fw_model.specs.declared.reply.FwReply.TheVariants as replies;
+ghost use Rattle.psci_fw_model.specs.After.{after};
 ghost use Rattle.psci_fw_model.specs.Answer.{answer, reply_of};
-ghost use Rattle.psci_fw_model.specs.Changes.{after};
-ghost use Rattle.psci_fw_model.specs.Invariant.{agrees};
 ghost use Rattle.psci_fw_model.specs.Lives.{start_of_life};
 ghost use Rattle.psci_fw_model.specs.Phases.{is_running};
-ghost use Rattle.psci_fw.specs.Rows.{row_at};
-ghost use Rattle.psci_fw.specs.Seen.{IsFirmware, life_shown, seen, status_shown};
+ghost use Rattle.psci_fw.specs.Seen.{life_shown, message_shown, seen, status_shown};
+
+use crate::entering::{check_start, enter};
+use crate::held::law_invariant;
+use crate::smc::{check_caller, dispatch};
 
 impl Firmware {
     /// The firmware of this board, before any core has entered. It takes the memory of all its
-    /// calls here: a copy of the board, and a row for each core.
+    /// calls here.
     pub fn new(alloc: Global, board: &Board) -> Result<Firmware, Memory>
         ensures board { IfOk result (λ f. f.board ≡ board.now) }
         ensures values { IfOk result (λ f. seen f ≡ start_of_life board.now 0) }
     {
-        let board = board.copy(alloc)?;
+        law_invariant();
         Ok(Firmware {
-            rows: first_rows(alloc, &board)?,
-            life: 0,
-            board,
+            state: State::new(alloc, board)?,
+            board: board.copy(alloc)?,
         })
     }
 
     /// A secure monitor call of a core with these registers. All 64 bits of each count as the
-    /// called function reads them. The steps of a call don't grow with the number of cores, but for
-    /// AFFINITY_INFO of a power domain above the cores, which looks at each core below it.
+    /// called function reads them.
     ///
     /// Refused with NoCore where the board has no such core, NoLife before any core has entered,
     /// and NotRunning where the core is not running.
-    #[tactic(auto, unfolding(psci_fw_model::specs::Answer::answer, psci_fw_model::specs::Changes::after))]
+    #[tactic(auto, unfolding(psci_fw_model::specs::Answer::answer, psci_fw_model::specs::After::after))]
     pub fn smc(&mut self, core: Core, regs: Regs) -> Result<Outcome, FwFault>
         ensures answer { reply_of result
-            ≡ answer self.old.board (seen self.old) core.number (Smc regs) }
+            ≡ answer self.old.board (seen self.old) core.number (calls.Smc regs) }
         ensures after { seen self.new
-            ≡ after self.old.board core.number (Smc regs) (reply_of result) (seen self.old) }
+            ≡ after self.old.board core.number (calls.Smc regs) (reply_of result) (seen self.old) }
         ensures board { self.new.board ≡ self.old.board }
         ensures refused { OnErr result (self.new ≡ self.old) }
     {
-        self.check_caller(core)?;
-        Ok(self.dispatch(core, read(regs)))
+        law_invariant();
+        check_caller(&self.board, &self.state, core)?;
+        Ok(dispatch(&self.board, &mut self.state, core, read(regs)))
     }
 
-    /// A core enters by this start: it goes on at its opening, or parks where it has none. A start
-    /// of a later life than the firmware's begins that life first, which writes each core's row
-    /// anew; else the steps don't grow with the number of cores.
+    /// A core enters by this start: it goes on at its opening, resumes after a suspend in standby or
+    /// retention that the very next start wakes it from, or parks. In a halting life it stops. A
+    /// start of a later life than the firmware's begins that life first.
     ///
     /// Refused with NoCore where the board has no such core, NoLife where it has no such life, and
     /// OldStart where the start is over or can't be: its life is an earlier one than the
     /// firmware's, its number is none that the board allows, or it is no later one than the core's
     /// known start in the firmware's life.
-    #[tactic(auto, unfolding(psci_fw_model::specs::Answer::answer, psci_fw_model::specs::Changes::after))]
+    #[tactic(auto, unfolding(psci_fw_model::specs::Answer::answer, psci_fw_model::specs::After::after))]
     pub fn enter(&mut self, core: Core, start: Start) -> Result<Outcome, FwFault>
         ensures answer { reply_of result
-            ≡ answer self.old.board (seen self.old) core.number (Enter start) }
+            ≡ answer self.old.board (seen self.old) core.number (calls.Enter start) }
         ensures after { seen self.new
-            ≡ after self.old.board core.number (Enter start) (reply_of result) (seen self.old) }
+            ≡ after self.old.board core.number (calls.Enter start) (reply_of result)
+            (seen self.old) }
         ensures board { self.new.board ≡ self.old.board }
         ensures refused { OnErr result (self.new ≡ self.old) }
     {
-        self.check_start(core, start)?;
-        let opening = self.arrive(core, start);
-        if opening.is_some() {
-            self.set_running(core);
-        } else {
-            self.set_away(core);
-        }
-        Ok(outcome_at(core, start, opening))
+        law_invariant();
+        check_start(&self.board, &self.state, core, start)?;
+        Ok(enter(&self.board, &mut self.state, core, start))
+    }
+
+    /// Takes an acknowledgement of the power controller: used where its message is outstanding,
+    /// else old, and nothing changes.
+    #[tactic(auto, unfolding(psci_fw_model::specs::Answer::answer, psci_fw_model::specs::After::after))]
+    pub fn take(&mut self, ack: Ack) -> Taken
+        ensures answer { (c : ℕ) → replies.Taken result
+            ≡ answer self.old.board (seen self.old) c (calls.Take ack) }
+        ensures after { (c : ℕ) → seen self.new
+            ≡ after self.old.board c (calls.Take ack) (replies.Taken result) (seen self.old) }
+        ensures board { self.new.board ≡ self.old.board }
+    {
+        law_invariant();
+        self.state.acknowledge(&self.board, ack)
     }
 
     /// The status of a core or power domain by the rule of AFFINITY_INFO; None before any core has
@@ -109,50 +113,51 @@ impl Firmware {
     pub fn status(&self, node: Node) -> Option<Status>
         ensures { result ≡ status_shown self.now node }
     {
-        (self.life != 0).then(|| self.node_status(node))
+        (self.state.life() != 0).then(|| self.state.node_status(&self.board, node))
+    }
+
+    /// The outstanding message of the core of this number, or of the system at the number of cores.
+    pub fn outstanding(&self, number: u16) -> Option<&Message>
+        ensures { option_map (λ message. message.now) result
+            ≡ message_shown self.now.board (seen self.now) number }
+    {
+        self.state.outstanding(&self.board, number)
+    }
+
+    /// The granted depth of a power domain, 0 of one that the board does not have.
+    pub fn granted(&self, node: Node) -> u8
+        ensures { result ≡ (seen self.now).granted node.level node.place }
+    {
+        self.state.granted(&self.board, node)
+    }
+
+    /// The known start of a core: the number of the last start by which it entered in this life, or
+    /// 0.
+    pub fn known(&self, core: Core) -> u32
+        ensures { result ≡ (seen self.now).known core.number }
+    {
+        self.state.known(core)
     }
 
     /// Whether a core may call a function: it is not pending, and its last outcome was no stop.
     pub fn running(&self, core: Core) -> bool
         ensures { result ≡ is_running ((seen self.now).phase core.number) }
     {
-        self.row(core).phase == Phase::Running
+        self.state.is_running(core)
     }
 
     /// The life of the last start that entered; None before any.
     pub fn life(&self) -> Option<u32>
-        ensures { result ≡ life_shown self.now.life }
+        ensures { result ≡ life_shown (seen self.now).life }
     {
-        (self.life != 0).then_some(self.life)
+        let life = self.state.life();
+        (life != 0).then_some(life)
     }
 
-    /// What holds of every firmware, for proofs: it does nothing.
-    pub(crate) fn law(&self)
-        ensures { IsFirmware self.now }
+    /// Whether SYSTEM_OFF or SYSTEM_RESET was accepted in this life.
+    pub fn halting(&self) -> bool
+        ensures { result ≡ (seen self.now).halting }
     {
-        let _life = self.life;
-    }
-
-    /// What is kept of a core; of one that the board does not have, that it is off.
-    pub(crate) fn row(&self, core: Core) -> CoreRow
-        ensures row { result ≡ row_at self.now.rows core.number }
-        ensures known { result.known ≤ self.now.board.starts }
-        ensures agree { agrees result.status result.phase ≡ true }
-        ensures count { length self.now.rows ≡ cores self.now.board }
-    {
-        self.rows
-            .get(core.number as usize)
-            .copied()
-            .unwrap_or(CoreRow::OFF)
-    }
-
-    /// Keeps this of a core.
-    pub(crate) fn set_row(&mut self, core: Core, row: CoreRow)
-        requires inside { core.number < cores self.old.board }
-        requires known { row.known ≤ self.old.board.starts }
-        requires agree { agrees row.status row.phase ≡ true }
-        ensures { self.new ≡ record self.old { rows = slice_set self.old.rows core.number row } }
-    {
-        self.rows[core.number as usize] = row;
+        self.state.halting()
     }
 }

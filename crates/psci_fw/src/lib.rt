@@ -1,21 +1,31 @@
 //! The power firmware: what it answers to the calls of the cores, and what it keeps for them. The
 //! words and the definitions are those of `psci_fw_model`.
 //!
-//! - A *row* is what the firmware keeps of one core.
+//! - The *state* of the firmware is all that a call changes.
+//! - A *row* is what the state keeps of one core beside the tree of power domains.
 //! - The *dispatch* of a call is the choice of the function that its registers name.
+//! - A *claim* is what a core that stops asks of its power domains, and so sends.
 #![tactic(auto)]
 
 mod affinity;
+mod arrival;
+mod changes;
+mod claim;
 mod entering;
 mod firmware;
+mod held;
+mod mode;
+mod off;
 mod on;
 mod row;
 mod smc;
+mod state;
+mod suspend;
+mod system;
 
 pub use firmware::Firmware;
 pub use psci_fw_model::{
-    Act, Cause, FwCall, FwFault, FwReply, Kind, Message, Opening, Outcome, Phase, Start, Status,
-    law_caller, law_first_start, law_power_on, law_values,
+    Act, Cause, FwCall, FwFault, FwReply, Opening, Outcome, Start, Status, SuspendMode,
 };
 
 #[cfg(test)]

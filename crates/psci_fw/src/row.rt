@@ -1,32 +1,26 @@
-//! What the firmware keeps of one core.
+//! What the state keeps of one core beside the tree of power domains.
 
-ghost use Rattle.std.specs.Prelude.{◌≡◌, length, IfOk};
+ghost use Rattle.std.specs.Prelude.{◌≡◌, length, slice_set, IfOk};
 ghost use Rattle.psci_board.specs.Board.{cores};
-ghost use Rattle.psci_fw.specs.Rows.{AreFirst, first_row};
+ghost use Rattle.psci_fw.specs.Rows.{AreFirst, first_row, row_at};
 
-use psci_board::{Board, Memory};
-use psci_fw_model::{Opening, Phase, Status};
+use psci_board::{Board, Core, Memory};
+use psci_fw_model::{Opening, Status};
 use std::alloc::Global;
 
-/// What the firmware keeps of one core.
+/// What the state keeps of one core beside the tree of power domains.
 #[derive(Clone, Copy)]
 pub struct CoreRow {
-    /// The known start: the number of the last start by which it entered in this life, or 0.
-    pub known: u32,
     /// What AFFINITY_INFO says of the core.
     pub status: Status,
-    /// What the core is to the firmware.
-    pub phase: Phase,
-    /// Where the core goes on when it next enters, if it was asked on.
+    /// Where the core goes on when it next enters, if it is asked for.
     pub opening: Option<Opening>,
 }
 
 impl CoreRow {
-    /// The row of a core that is off and was never started.
+    /// The row of a core that is off and goes on nowhere.
     pub const OFF: CoreRow = CoreRow {
-        known: 0,
         status: Status::Off,
-        phase: Phase::Away,
         opening: None,
     };
 
@@ -39,9 +33,7 @@ impl CoreRow {
             return CoreRow::OFF;
         }
         CoreRow {
-            known: 0,
             status: Status::Pending,
-            phase: Phase::Pending,
             opening: Some(Opening {
                 address: board.boot(),
                 context: 0,
@@ -68,5 +60,24 @@ pub fn reset_rows(rows: &mut [CoreRow], board: &Board)
 {
     for core in 0..board.cores() {
         rows[core as usize] = CoreRow::first(board, core);
+    }
+}
+
+/// The row of a core; of one that is not there, that it is off.
+pub fn row_of(rows: &[CoreRow], core: Core) -> CoreRow
+    ensures { result ≡ row_at rows.now core.number }
+{
+    rows.get(core.number as usize)
+        .copied()
+        .unwrap_or(CoreRow::OFF)
+}
+
+/// Keeps this row of a core, if it is there.
+pub fn set_row(rows: &mut [CoreRow], core: Core, row: CoreRow)
+    ensures { rows.new ≡ slice_set rows.old core.number row }
+{
+    let number = core.number as usize;
+    if number < rows.len() {
+        rows[number] = row;
     }
 }

@@ -2,16 +2,23 @@
 
 ghost use Rattle.std.specs.Prelude.{◌≡◌, ◌<◌, MatchResult, None, Some};
 ghost use Rattle.psci_board.specs.Board.{cores};
-ghost use Rattle.psci_fw_model.specs.declared.phase.Phase.TheVariants.{Running};
+ghost use Rattle.psci_fw_model.specs.After.{change};
 ghost use Rattle.psci_fw_model.specs.Calls.{call_fault, outcome_of};
-ghost use Rattle.psci_fw_model.specs.Changes.{change};
 ghost use Rattle.psci_fw_model.specs.Effects.{function_effect};
-ghost use Rattle.psci_fw.specs.Seen.{seen};
+ghost use Rattle.psci_fw_model.specs.Invariant.{AreValues};
+ghost use Rattle.psci_fw_model.specs.Phases.{Running};
+ghost use Rattle.psci_fw.specs.Calls.{IsAnswered, MayCall, query_code};
+ghost use Rattle.psci_fw.specs.Seen.{IsStateOf, values_in};
 
-use crate::firmware::Firmware;
-use psci_abi::{Code, Format, Request, features};
-use psci_board::Core;
-use psci_fw_model::{FwFault, Outcome, law_caller};
+use crate::mode::set_suspend_mode;
+use crate::off::cpu_off;
+use crate::on::cpu_on;
+use crate::state::State;
+use crate::suspend::{FORMAT, cpu_suspend};
+use crate::system::{system_off, system_reset, system_suspend};
+use psci_abi::{Code, Request, features};
+use psci_board::{Board, Core};
+use psci_fw_model::{Act, FwFault, Opening, Outcome};
 
 /// PSCI 1.1: the major version in bits 31:16, the minor one in bits 15:0.
 const VERSION: Code = Code(0x0001_0001);
@@ -19,50 +26,95 @@ const VERSION: Code = Code(0x0001_0001);
 /// MIGRATE_INFO_TYPE: the Trusted OS needs no migration, or there is none.
 const NO_MIGRATION: Code = Code(2);
 
-impl Firmware {
-    /// Whether a core may call, or the first reason why it may not.
-    pub(crate) fn check_caller(&self, core: Core) -> Result<(), FwFault>
-        ensures { let fault = call_fault self.now.board (seen self.now) core.number in
-            MatchResult result (λ _. fault ≡ None) (λ e. fault ≡ Some e) }
-    {
-        if core.number >= self.board.cores() {
-            return Err(FwFault::NoCore);
-        }
-        if self.life == 0 {
-            return Err(FwFault::NoLife);
-        }
-        if !self.running(core) {
-            return Err(FwFault::NotRunning);
-        }
-        Ok(())
+/// Whether a core may call, or the first reason why it may not.
+pub fn check_caller(board: &Board, state: &State, core: Core) -> Result<(), FwFault>
+    ensures { let fault = call_fault board.now (values_in state.now) core.number in
+        MatchResult result (λ _. fault ≡ None) (λ e. fault ≡ Some e) }
+{
+    if core.number >= board.cores() {
+        return Err(FwFault::NoCore);
     }
+    if state.life() == 0 {
+        return Err(FwFault::NoLife);
+    }
+    if !state.is_running(core) {
+        return Err(FwFault::NotRunning);
+    }
+    Ok(())
+}
 
-    /// What a running core is answered to its request.
-    pub(crate) fn dispatch(&mut self, caller: Core, request: Request) -> Outcome
-        requires running { (seen self.old).phase caller.number ≡ Running }
-        ensures answer { result
-            ≡ outcome_of self.old.board (seen self.old) caller.number request }
-        ensures after { seen self.new ≡ change self.old.board
-            (function_effect caller.number request result) (seen self.old) }
-        ensures board { self.new.board ≡ self.old.board }
-    {
-        law_caller();
-        self.law();
-        match request {
-            Request::Version => Outcome::returns(VERSION),
-            Request::CpuOn {
-                target,
-                entry,
-                context,
-            } => self.cpu_on(caller, target, entry, context),
-            Request::AffinityInfo { target, level } => {
-                Outcome::returns(self.affinity_info(target, level))
-            }
-            Request::MigrateInfoType => Outcome::returns(NO_MIGRATION),
-            Request::Features { word } => {
-                Outcome::returns(Code(features(word, Format::Original)))
-            }
-            Request::Unknown => Outcome::returns(Code::NOT_SUPPORTED),
-        }
+/// What a running core is answered to its request: in a halting life it stops, whatever it asks.
+#[tactic(auto, unfolding(psci_fw_model::specs::Calls::outcome_of))]
+pub fn dispatch(board: &Board, state: &mut State, caller: Core, request: Request) -> Outcome
+    requires state { IsStateOf board.now state.old }
+    requires values { AreValues board.now (values_in state.old) }
+    requires inside { caller.number < cores board.now }
+    requires running { (values_in state.old).phase caller.number ≡ Running }
+    ensures answer { result ≡ outcome_of board.now (values_in state.old) caller.number request }
+    ensures after { values_in state.new ≡ change board.now (function_effect board.now caller.number
+        request result.act result.message) (values_in state.old) }
+    ensures state { IsStateOf board.now state.new }
+{
+    if state.halting() {
+        state.set_away(board, caller);
+        return Outcome {
+            act: Act::Stop,
+            message: None,
+        };
     }
+    function(board, state, caller, request)
+}
+
+/// What a function answers.
+fn function(board: &Board, state: &mut State, caller: Core, request: Request) -> Outcome
+    requires { MayCall board.now state.old caller.number }
+    ensures answer { IsAnswered board.now (values_in state.old) caller.number request result
+        (values_in state.new) }
+    ensures state { IsStateOf board.now state.new }
+{
+    match request {
+        Request::CpuSuspend {
+            state: word,
+            entry,
+            context,
+        } => cpu_suspend(board, state, caller, word, opening(entry, context)),
+        Request::CpuOff => cpu_off(board, state, caller),
+        Request::CpuOn {
+            target,
+            entry,
+            context,
+        } => cpu_on(board, state, caller, target, opening(entry, context)),
+        Request::SystemOff => system_off(board, state, caller),
+        Request::SystemReset => system_reset(board, state, caller),
+        Request::SystemSuspend { entry, context } => {
+            system_suspend(board, state, caller, opening(entry, context))
+        }
+        Request::SetSuspendMode { mode } => set_suspend_mode(board, state, caller, mode),
+        Request::Version
+        | Request::AffinityInfo { .. }
+        | Request::MigrateInfoType
+        | Request::Features { .. }
+        | Request::Unknown => Outcome::returns(query(board, state, request)),
+    }
+}
+
+/// What a function answers that changes nothing; NOT_SUPPORTED of every other one.
+fn query(board: &Board, state: &State, request: Request) -> Code
+    requires { IsStateOf board.now state.now }
+    ensures { result ≡ query_code board.now (values_in state.now) request }
+{
+    match request {
+        Request::Version => VERSION,
+        Request::AffinityInfo { target, level } => state.affinity_info(board, target, level),
+        Request::MigrateInfoType => NO_MIGRATION,
+        Request::Features { word } => Code(features(word, FORMAT)),
+        _ => Code::NOT_SUPPORTED,
+    }
+}
+
+/// Where a core goes on: entry point and context id.
+fn opening(address: u64, context: u64) -> Opening
+    ensures { result ≡ record { address = address; context = context } }
+{
+    Opening { address, context }
 }

@@ -1,10 +1,15 @@
 //! Calls of the firmware whose answers are known: what no script reaches, in its order of refusals.
 
-use crate::{Act, Cause, Firmware, FwFault, Kind, Message, Outcome, Start, Status};
+use crate::{Act, Cause, Firmware, FwFault, Outcome, Start, Status};
 use psci_abi::{Code, Regs};
 use psci_board::{Board, Core, Node};
+use psci_coord::{Part, Parts};
+use psci_link::{Ack, Kind, Message, Taken};
 use std::alloc::Global;
 use std::test::Fail;
+
+mod lives;
+mod power;
 
 /// Two clusters of two cores.
 const BOARD: &str = "(2 2) exec 0x40000000-0x40100000 boot 0x40000000 starts 1000 lives 3";
@@ -19,6 +24,18 @@ const LARGEST: &str = "((1 1 1 1 1 1 1 1 1 1 1 1 1 1 1 1) (1 1 1 1 1 1 1 1 1 1 1
 
 const BOOT: Core = Core { number: 0 };
 
+/// The last core of the two clusters.
+const LAST: Core = Core { number: 3 };
+
+const CLUSTER: Node = Node { level: 1, place: 1 };
+
+const SYSTEM: Node = Node { level: 2, place: 0 };
+
+/// A call with these registers.
+fn regs(x0: u64, x1: u64, x2: u64, x3: u64) -> Regs {
+    Regs { x0, x1, x2, x3 }
+}
+
 const VERSION: Regs = Regs {
     x0: 0x8400_0000,
     x1: 0,
@@ -26,15 +43,12 @@ const VERSION: Regs = Regs {
     x3: 0,
 };
 
-/// The last core of the two clusters asked on at this entry point, with context id 7.
-fn on(entry: u64) -> Regs {
-    Regs {
-        x0: 0xc400_0003,
-        x1: 0x101,
-        x2: entry,
-        x3: 7,
-    }
-}
+const CPU_OFF: Regs = Regs {
+    x0: 0x8400_0002,
+    x1: 0,
+    x2: 0,
+    x3: 0,
+};
 
 /// The status of the last core of the two clusters.
 const LAST_STATUS: Regs = Regs {
@@ -43,6 +57,16 @@ const LAST_STATUS: Regs = Regs {
     x2: 0,
     x3: 0,
 };
+
+/// The last core of the two clusters asked on at this entry point, with context id 7.
+fn on(entry: u64) -> Regs {
+    regs(0xc400_0003, 0x101, entry, 7)
+}
+
+/// A suspend with this power state, entry point and context id.
+fn suspend(state: u64, entry: u64, context: u64) -> Regs {
+    regs(0xc400_0001, state, entry, context)
+}
 
 fn start(life: u32, number: u32) -> Start {
     Start {
@@ -72,12 +96,43 @@ fn accepted(core: Core, life: u32, number: u32) -> Outcome {
             core,
             life,
             number,
+            parts: Parts::new(),
         }),
     }
 }
 
-/// A core parks that entered by this start.
-fn parked(core: Core, life: u32, number: u32) -> Outcome {
+/// A core stops, and nothing is sent.
+fn stopped() -> Outcome {
+    Outcome {
+        act: Act::Stop,
+        message: None,
+    }
+}
+
+/// A core stops with a message of this kind for the whole system.
+fn halted(kind: Kind, core: Core, life: u32, number: u32) -> Outcome {
+    Outcome {
+        act: Act::Stop,
+        message: Some(Message {
+            kind,
+            core,
+            life,
+            number,
+            parts: Parts::new(),
+        }),
+    }
+}
+
+/// A core stops with these depths and generations, from level 0 up.
+fn down(core: Core, life: u32, number: u32, claimed: &[(u8, u64)]) -> Outcome {
+    let mut parts = Parts::new();
+    for (level, (depth, generation)) in claimed.iter().enumerate() {
+        parts.push(Part {
+            level: level as u32,
+            depth: *depth,
+            generation: *generation,
+        });
+    }
     Outcome {
         act: Act::Stop,
         message: Some(Message {
@@ -85,7 +140,20 @@ fn parked(core: Core, life: u32, number: u32) -> Outcome {
             core,
             life,
             number,
+            parts,
         }),
+    }
+}
+
+/// An acknowledgement of a message of life 1.
+fn acked(kind: Kind, core: Core, number: u32, applied: u8, stale: bool) -> Ack {
+    Ack {
+        kind,
+        core,
+        life: 1,
+        number,
+        applied,
+        stale,
     }
 }
 
@@ -95,6 +163,20 @@ fn firmware_of(alloc: Global, text: &str) -> Result<Firmware, Fail> {
     Ok(Firmware::new(alloc, &board)?)
 }
 
+/// The firmware of the two clusters, where the boot core runs.
+fn booted(alloc: Global) -> Result<Firmware, Fail> {
+    let mut firmware = firmware_of(alloc, BOARD)?;
+    let _entered = firmware.enter(BOOT, start(1, 1));
+    Ok(firmware)
+}
+
+/// The same, where the last core runs too.
+fn both_run(alloc: Global) -> Result<Firmware, Fail> {
+    let mut firmware = booted(alloc)?;
+    let _asked = firmware.smc(BOOT, on(0x4000_1000));
+    let _entered = firmware.enter(LAST, start(1, 1));
+    Ok(firmware)
+}
 #[test]
 fn second_core_is_started(rt: HostRuntime) -> Result<(), Fail> {
     let mut firmware = firmware_of(rt.alloc(), BOARD)?;
@@ -209,7 +291,7 @@ fn life_is_over_when_a_later_one_begins(rt: HostRuntime) -> Result<(), Fail> {
 fn core_without_opening_parks(rt: HostRuntime) -> Result<(), Fail> {
     let mut firmware = firmware_of(rt.alloc(), BOARD)?;
     let core = Core { number: 3 };
-    assert_eq!(rt; firmware.enter(core, start(2, 5)), Ok(parked(core, 2, 5)));
+    assert_eq!(rt; firmware.enter(core, start(2, 5)), Ok(down(core, 2, 5, &[(3, 5), (3, 5)])));
     assert_eq!(rt; firmware.status(core.node()), Some(Status::Off));
     assert_eq!(rt; firmware.status(BOOT.node()), Some(Status::Pending));
     let boot = firmware.enter(BOOT, start(2, 1));
@@ -220,7 +302,7 @@ fn core_without_opening_parks(rt: HostRuntime) -> Result<(), Fail> {
     );
     let asked = firmware.enter(core, start(2, 6));
     assert_eq!(rt; asked, Ok(entered(0x4000_1000, 7)));
-    assert_eq!(rt; firmware.enter(core, start(2, 7)), Ok(parked(core, 2, 7)));
+    assert_eq!(rt; firmware.enter(core, start(2, 7)), Ok(down(core, 2, 7, &[(3, 7), (3, 7)])));
     assert_eq!(rt; firmware.smc(core, VERSION), Err(FwFault::NotRunning));
     assert_eq!(rt; firmware.smc(BOOT, LAST_STATUS), Ok(returned(0)));
     assert_eq!(rt; firmware.smc(BOOT, on(0x4000_1000)), Ok(returned(-4)));
@@ -233,7 +315,7 @@ fn last_start_leaves_none(rt: HostRuntime) -> Result<(), Fail> {
     let core = Core { number: 3 };
     let first = firmware.enter(BOOT, start(1, 2));
     assert_eq!(rt; first, Ok(entered(0x4000_0000, 0)));
-    assert_eq!(rt; firmware.enter(core, start(1, 2)), Ok(parked(core, 1, 2)));
+    assert_eq!(rt; firmware.enter(core, start(1, 2)), Ok(down(core, 1, 2, &[(3, 2), (3, 2)])));
     assert_eq!(rt; firmware.smc(BOOT, on(0x4000_1000)), Ok(returned(-6)));
     assert_eq!(rt; firmware.smc(BOOT, on(0x4000_1002)), Ok(returned(-9)));
     let itself = Regs {

@@ -24,4 +24,5 @@ mod tree;
 pub use laws::{
     law_asks, law_cores, law_counts, law_granted, law_known, law_low, law_start_of_life, law_states,
 };
+pub use state::Activity;
 pub use tree::Tree;

@@ -4,7 +4,7 @@ use crate::build::build;
 use crate::descent::{domain_at, set_core, turn_off};
 use crate::domain::Domain;
 use crate::grants::{clear_up, deepest_rows, fill_rows, write};
-use crate::state::{Activity, CoreState};
+use crate::state::{Activity, CoreState, NEVER_STARTED};
 use psci_board::{Board, Core, Memory, Node, law_sizes, law_spans};
 use psci_state::Ask;
 use std::alloc::Global;
@@ -132,6 +132,20 @@ impl Tree {
         row[node.place as usize]
     }
 
+    /// What a core does. A core that the board does not have is off.
+    pub fn activity(&self, core: Core) -> Activity
+        ensures { result ≡ (core_at self.now core.number).activity }
+    {
+        self.core(core).activity
+    }
+
+    /// The known start of a core, 0 of one that the board does not have.
+    pub fn known_start(&self, core: Core) -> u32
+        ensures { result ≡ known_at self.now core.number }
+    {
+        self.core(core).known
+    }
+
     /// Grants a depth to a domain.
     pub fn grant(&mut self, node: Node, depth: u8)
         requires domain { HasNodeIn self.old.levels node }
@@ -188,12 +202,14 @@ impl Tree {
         self.clear_path(core);
     }
 
-    /// The known start of a core.
-    fn known_start(&self, core: Core) -> u32
-        requires { core.number < size_below self.now.levels }
-        ensures { result ≡ known_at self.now core.number }
+    /// What is kept of a core.
+    fn core(&self, core: Core) -> CoreState
+        ensures { result ≡ core_at self.now core.number }
     {
-        self.domain(core.node()).core.known
+        if core.number >= self.board.cores() {
+            return NEVER_STARTED;
+        }
+        self.domain(core.node()).core
     }
 
     /// Sets the state of a core.

@@ -1,0 +1,42 @@
+-- What claims are made from is what the tree holds.
+use Rattle.std.proofs.Common.{◌≡◌, ℕ, refl, ap, length, sym}
+use Rattle.std.specs.Prelude.{nat_le, if◌then◌else◌}
+use Rattle.psci_board.specs.Board.{BoardValue, height}
+use Rattle.psci_coord.specs.Looked.{view_of}
+use Rattle.psci_coord.specs.View.{PowerView}
+use Rattle.psci_tree.specs.declared.state.Activity.{Activity}
+use Rattle.psci_tree.specs.declared.state.Activity.TheVariants as activities
+use Rattle.psci_tree.specs.Recount.{asks, core_at, is_active, is_off}
+use Rattle.psci_fw_model.specs.declared.status.Status.{Status}
+use Rattle.psci_fw_model.specs.declared.status.Status.TheVariants as statuses
+use Rattle.psci_fw_model.specs.Phases.{activity_of}
+use Rattle.psci_fw_model.specs.Views.{view}
+use Rattle.psci_fw.specs.Rows.{row_at}
+use Rattle.psci_fw.specs.Seen.{StateValue, phase_by, values_in}
+
+back : (s : Status) (a : Activity) → activity_of (phase_by s a) ≡ a
+back statuses.On activities.Active = refl
+back statuses.Off activities.Active = refl
+back statuses.Pending activities.Active = refl
+back statuses.On (activities.Suspended ask) = refl
+back statuses.Off (activities.Suspended ask) = refl
+back statuses.Pending (activities.Suspended ask) = refl
+back statuses.On activities.Off = refl
+back statuses.Off activities.Off = refl
+back statuses.Pending activities.Off = refl
+
+pub view_is : (b : BoardValue) (s : StateValue) → s.tree.levels ≡ b.levels
+    → view_of s.tree ≡ view b (values_in s)
+unfolding view values_in
+view_is b s e =
+    let at : (c : ℕ) → (core_at s.tree c).activity
+    ≡ activity_of (phase_by (row_at s.rows c).status (core_at s.tree c).activity) =
+    λ c. sym (back (row_at s.rows c).status (core_at s.tree c).activity) in
+    λ i. record {
+      ask = λ c level.
+          if nat_le level (length (e i)) then asks (at c i) level else 0;
+      known = (view_of s.tree).known;
+      is_active = λ c. is_active (at c i);
+      is_off = λ c. is_off (at c i);
+      granted = (view_of s.tree).granted;
+    }

@@ -1,0 +1,53 @@
+//! CPU_OFF, and what a core sends that stops.
+
+ghost use Rattle.std.specs.Prelude.{◌≡◌, ◌<◌};
+ghost use Rattle.psci_abi.specs.declared.request.Request.TheVariants.{CpuOff};
+ghost use Rattle.psci_board.specs.Board.{cores};
+ghost use Rattle.psci_link.specs.declared.kind.Kind.TheVariants as kinds;
+ghost use Rattle.psci_link.specs.Message.{IsClaim};
+ghost use Rattle.psci_fw_model.specs.Changes.{with_claim};
+ghost use Rattle.psci_fw_model.specs.Outcomes.{message_for, stops_with};
+ghost use Rattle.psci_fw.specs.Claims.{MayClaim};
+ghost use Rattle.psci_fw.specs.Calls.{IsAnswered, MayCall};
+ghost use Rattle.psci_fw.specs.Seen.{IsStateOf, values_in};
+
+use crate::held::{law_invariant, law_stops};
+use crate::state::State;
+use psci_board::{Board, Core};
+use psci_coord::Parts;
+use psci_fw_model::{Act, Outcome};
+use psci_link::Kind;
+
+/// CPU_OFF (DEN0022D): the caller stops, and goes off.
+pub fn cpu_off(board: &Board, state: &mut State, caller: Core) -> Outcome
+    requires { MayCall board.now state.old caller.number }
+    ensures answer { IsAnswered board.now (values_in state.old) caller.number CpuOff result
+        (values_in state.new) }
+    ensures state { IsStateOf board.now state.new }
+{
+    law_stops();
+    law_invariant();
+    state.set_away(board, caller);
+    let parts = state.leaving_parts(board, caller);
+    send_down(board, state, caller, parts)
+}
+
+/// A core stops with this claim: it sends a Down, and its domains are granted what it claims.
+pub fn send_down(board: &Board, state: &mut State, core: Core, parts: Parts) -> Outcome
+    requires state { IsStateOf board.now state.old }
+    requires inside { core.number < cores board.now }
+    requires claim { IsClaim parts }
+    requires may { MayClaim board.now core.number parts (values_in state.old).granted }
+    ensures answer { result
+        ≡ stops_with (message_for (values_in state.old) kinds.Down core.number parts) }
+    ensures after { values_in state.new ≡ with_claim board.now
+        (message_for (values_in state.old) kinds.Down core.number parts) (values_in state.old) }
+    ensures state { IsStateOf board.now state.new }
+{
+    let message = state.message(board, Kind::Down, core, parts);
+    state.claim(board, &message);
+    Outcome {
+        act: Act::Stop,
+        message: Some(message),
+    }
+}

@@ -1,0 +1,91 @@
+//! The functions for the whole system: SYSTEM_SUSPEND, SYSTEM_OFF, SYSTEM_RESET.
+
+ghost use Rattle.std.specs.Prelude.{◌≡◌, [], ◌∷◌};
+ghost use Rattle.psci_abi.specs.declared.request.Request.TheVariants as requests;
+ghost use Rattle.psci_link.specs.declared.kind.Kind.TheVariants as kinds;
+ghost use Rattle.psci_fw_model.specs.Changes.{with_halt, with_phase};
+ghost use Rattle.psci_fw_model.specs.Outcomes.{message_for, stops_with};
+ghost use Rattle.psci_fw_model.specs.Phases.{Away};
+ghost use Rattle.psci_fw_model.specs.SystemCalls.{all_others, is_off_status, system_message};
+ghost use Rattle.psci_fw.specs.Calls.{IsAnswered, MayCall};
+ghost use Rattle.psci_fw.specs.Halts.{IsOfSystem};
+ghost use Rattle.psci_fw.specs.Seen.{IsStateOf, values_in};
+
+use crate::held::law_invariant;
+use crate::state::State;
+use crate::suspend::sleep;
+use psci_abi::Code;
+use psci_board::{Board, Core};
+use psci_coord::Parts;
+use psci_fw_model::{Act, Opening, Outcome, Status};
+use psci_link::Kind;
+use psci_state::Ask;
+
+/// SYSTEM_SUSPEND (DEN0022D): the caller is suspended with power-down of all levels, where every
+/// other core is OFF. It then goes on at the opening.
+pub fn system_suspend(board: &Board, state: &mut State, caller: Core, opening: Opening) -> Outcome
+    requires { MayCall board.now state.old caller.number }
+    ensures answer { IsAnswered board.now (values_in state.old) caller.number
+        (requests.SystemSuspend opening.address opening.context) result (values_in state.new) }
+    ensures state { IsStateOf board.now state.new }
+{
+    law_invariant();
+    if !board.may_enter(opening.address) {
+        return Outcome::returns(Code::INVALID_ADDRESS);
+    }
+    if !are_others_off(board, state, caller) {
+        return Outcome::returns(Code::DENIED);
+    }
+    if state.known(caller) == board.start_limit() {
+        return Outcome::returns(Code::DENIED);
+    }
+    sleep(board, state, caller, Ask::deepest(board.height()), opening)
+}
+
+/// Whether every core but this one is OFF.
+fn are_others_off(board: &Board, state: &State, caller: Core) -> bool
+    ensures { let status = (values_in state.now).status in
+        result ≡ all_others board.now caller.number (λ k. is_off_status (status k)) }
+{
+    (0..board.cores())
+        .all(|number| number == caller.number || state.status(Core { number }) == Status::Off)
+}
+
+/// SYSTEM_OFF (DEN0022D): the caller stops, and the system goes off.
+pub fn system_off(board: &Board, state: &mut State, caller: Core) -> Outcome
+    requires { MayCall board.now state.old caller.number }
+    ensures answer { IsAnswered board.now (values_in state.old) caller.number requests.SystemOff
+        result (values_in state.new) }
+    ensures state { IsStateOf board.now state.new }
+{
+    halt(board, state, caller, Kind::Off)
+}
+
+/// SYSTEM_RESET (DEN0022D): the caller stops, and the system is reset.
+pub fn system_reset(board: &Board, state: &mut State, caller: Core) -> Outcome
+    requires { MayCall board.now state.old caller.number }
+    ensures answer { IsAnswered board.now (values_in state.old) caller.number requests.SystemReset
+        result (values_in state.new) }
+    ensures state { IsStateOf board.now state.new }
+{
+    halt(board, state, caller, Kind::Reset)
+}
+
+/// The caller stops, and sends a message of this kind for the whole system.
+fn halt(board: &Board, state: &mut State, caller: Core, kind: Kind) -> Outcome
+    requires call { MayCall board.now state.old caller.number }
+    requires kind { IsOfSystem kind }
+    ensures answer { result ≡ system_message (values_in state.old) kind caller.number }
+    ensures after { values_in state.new
+        ≡ with_halt (message_for (values_in state.old) kind caller.number [])
+        (with_phase caller.number Away (values_in state.old)) }
+    ensures state { IsStateOf board.now state.new }
+{
+    let message = state.message(board, kind, caller, Parts::new());
+    state.set_away(board, caller);
+    state.halt(board, message.copy());
+    Outcome {
+        act: Act::Stop,
+        message: Some(message),
+    }
+}
