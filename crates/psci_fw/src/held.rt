@@ -7,7 +7,7 @@ ghost use Rattle.psci_coord.specs.declared.part.Part.{Part};
 ghost use Rattle.psci_link.specs.Message.{AckValue, IsClaim};
 ghost use Rattle.psci_state.specs.Ask.{IsAsk};
 ghost use Rattle.psci_fw_model.specs.declared.call.FwCall.{FwCall};
-ghost use Rattle.psci_fw_model.specs.declared.start.Start.{Start};
+ghost use Rattle.psci_ctl_model.specs.declared.start.Start.{Start};
 ghost use Rattle.psci_fw_model.specs.After.{after, change};
 ghost use Rattle.psci_fw_model.specs.Answer.{answer};
 ghost use Rattle.psci_fw_model.specs.Calls.{outcome_of};
