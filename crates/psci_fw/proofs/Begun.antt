@@ -124,6 +124,10 @@ first_is c = rw (eqb_swap 0 c) (by (c == 0) refl)
     by true e = refl
     by false e = refl
 
+-- what is granted at the start of a life, by whether the domain is on the boot core's path
+abbrev depth : Bool → ℕ
+depth on_path = cond on_path 0 3
+
 granted_first : (b : BoardValue) (u : TreeValue) (l p : ℕ) → IsDomainTree u → u.levels ≡ b.levels
     → (l ≤ height b → p < nodes b l
     → granted_at u l p ≡ cond (place_above b.levels l 0 == p) 0 3)
@@ -139,8 +143,6 @@ granted_first b u l p is e law =
     none n =
         granted_beyond u l p is
         (subst (λ (ws : List (List ℕ)). l ≤ length ws → p < size_below (drop l ws) → ⊥) (sym e) n)
-    abbrev depth : Bool → ℕ
-    depth on_path = cond on_path 0 3
     by : (x y : Bool) → leb l (height b) ≡ x → ltb p (nodes b l) ≡ y
         → granted_at u l p ≡ cond ((x && y) && not (p == place_above b.levels l 0)) 3 0
     by false y f g = none (apart false y f g refl)

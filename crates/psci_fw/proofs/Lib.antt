@@ -1,6 +1,7 @@
 mod Acked
 mod Begun
 mod Changed
+mod Granting
 mod Moved
 mod Spanned
 mod Viewed

@@ -1,5 +1,5 @@
 -- What claims are made from is what the tree holds.
-use Rattle.std.proofs.Common.{◌≡◌, ℕ, refl, ap, length, sym}
+use Rattle.std.proofs.Common.{◌≡◌, ℕ, refl, ap, length, sym, ◌∙◌}
 use Rattle.std.specs.Prelude.{nat_le, if◌then◌else◌}
 use Rattle.psci_board.specs.Board.{BoardValue, height}
 use Rattle.psci_coord.specs.Looked.{view_of}
@@ -25,10 +25,10 @@ back statuses.On activities.Off = refl
 back statuses.Off activities.Off = refl
 back statuses.Pending activities.Off = refl
 
-pub view_is : (b : BoardValue) (s : StateValue) → s.tree.levels ≡ b.levels
+viewed : (b : BoardValue) (s : StateValue) → s.tree.levels ≡ b.levels
     → view_of s.tree ≡ view b (values_in s)
 unfolding view values_in
-view_is b s e =
+viewed b s e =
     let at : (c : ℕ) → (core_at s.tree c).activity
     ≡ activity_of (phase_by (row_at s.rows c).status (core_at s.tree c).activity) =
     λ c. sym (back (row_at s.rows c).status (core_at s.tree c).activity) in
@@ -40,3 +40,7 @@ view_is b s e =
       is_off = λ c. is_off (at c i);
       granted = (view_of s.tree).granted;
     }
+
+pub view_is : (b : BoardValue) (s now : StateValue) → s ≡ now → s.tree.levels ≡ b.levels
+    → view_of s.tree ≡ view b (values_in now)
+view_is b s now e levels = viewed b s levels ∙ ap (λ (x : StateValue). view b (values_in x)) e

@@ -1,7 +1,7 @@
 //! What a core that stops claims of its power domains.
 
 ghost use Rattle.std.specs.Prelude.{◌≡◌, ◌<◌, ◌≤◌, ◌+◌, ℕ, length, IfOk, OnErr};
-ghost use Rattle.psci_board.specs.Board.{cores, height};
+ghost use Rattle.psci_board.specs.Board.{IsBoard, cores, height};
 ghost use Rattle.psci_coord.specs.Claim.{off_claim, platform_claim};
 ghost use Rattle.psci_coord.specs.LastCore.{last_core_check};
 ghost use Rattle.psci_link.specs.declared.kind.Kind.TheVariants as kinds;
@@ -139,6 +139,7 @@ impl State {
 
 /// Grants these parts on the path of a core, from the core up: each at the level of its place.
 fn grant_parts(tree: &mut Tree, board: &Board, core: Core, parts: &[Part])
+    requires board { IsBoard board.now }
     requires tree { IsDomainTree tree.old }
     requires levels { tree.old.levels ≡ board.now.levels }
     requires inside { core.number < cores board.now }
@@ -148,11 +149,11 @@ fn grant_parts(tree: &mut Tree, board: &Board, core: Core, parts: &[Part])
     ensures granted { (level place : ℕ) → granted_at tree.new level place
         ≡ laid board.now core.number parts.now (granted_at tree.old) level place }
     ensures cores { (c : ℕ) → core_at tree.new c ≡ core_at tree.old c }
-    ensures count { length tree.new.cores ≡ length tree.old.cores }
     ensures levels { tree.new.levels ≡ tree.old.levels }
     ensures tree { IsDomainTree tree.new }
 {
     law_paths();
+    law_parts();
     law_cores();
     law_granted();
     let path = board.path(core);

@@ -33,6 +33,7 @@ returns-clause-after c =
     (rw rows (at_start c.args.board.now c.args.life c.reset_life.new.self c.reset_rows.new.rows
     c.clear_all.new.self board c.reset_life.ensures.tree new
     (λ k. rw c.reset_life.ensures.value (c.law_start_of_life.ensures.cores s.tree.levels k some))
-    (λ l p h i. ?)
+    (λ l p h i. rw (c.reset_life.ensures.value, of.levels)
+        (c.law_start_of_life.ensures.granted c.args.board.now.levels l p h i))
     c.reset_rows.ensures
     (λ slot. rw c.clear_all.ensures.slots (c.law_slots.ensures.changed s.slots ClearAll tt slot))))
