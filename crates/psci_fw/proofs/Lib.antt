@@ -1,7 +1,10 @@
 mod Acked
 mod Begun
 mod Changed
+mod Freed
 mod Granting
 mod Moved
+mod Parked
+mod Replied
 mod Spanned
 mod Viewed

@@ -3,7 +3,7 @@
 use crate::state::State;
 use psci_abi::{Regs, read};
 use psci_board::{Board, Core, Memory, Node};
-use psci_fw_model::{FwFault, Outcome, Start, Status};
+use psci_fw_model::{FwFault, Outcome, Start, Status, law_invariant};
 use psci_link::{Ack, Message, Taken};
 use std::alloc::Global;
 use std::marker::Model;
@@ -35,7 +35,6 @@ ghost use Rattle.psci_fw_model.specs.Phases.{is_running};
 ghost use Rattle.psci_fw.specs.Seen.{life_shown, message_shown, seen, status_shown};
 
 use crate::entering::{check_start, enter};
-use crate::held::law_invariant;
 use crate::smc::{check_caller, dispatch};
 
 impl Firmware {

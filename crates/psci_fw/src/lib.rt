@@ -13,7 +13,6 @@ mod changes;
 mod claim;
 mod entering;
 mod firmware;
-mod held;
 mod mode;
 mod off;
 mod on;

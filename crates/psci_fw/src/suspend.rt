@@ -12,13 +12,12 @@ ghost use Rattle.psci_fw.specs.Calls.{IsAnswered, MayCall};
 ghost use Rattle.psci_fw.specs.Claims.{MaySleep, Slept};
 ghost use Rattle.psci_fw.specs.Seen.{IsStateOf, values_in};
 
-use crate::held::{law_invariant, law_stops};
 use crate::off::send_down;
 use crate::state::State;
 use psci_abi::{Code, Format};
-use psci_board::{Board, Core};
+use psci_board::{Board, Core, law_paths};
 use psci_coord::Osi;
-use psci_fw_model::{Opening, Outcome};
+use psci_fw_model::{Opening, Outcome, law_caller, law_invariant, law_stops};
 use psci_state::Ask;
 
 /// How every board writes its power state words.
@@ -40,6 +39,8 @@ pub fn cpu_suspend(
     ensures state { IsStateOf board.now state.new }
 {
     law_invariant();
+    law_caller();
+    law_paths();
     let Ok(ask) = Ask::read(word, FORMAT, board.height()) else {
         return Outcome::returns(Code::INVALID_PARAMETERS);
     };

@@ -11,13 +11,12 @@ ghost use Rattle.psci_fw.specs.Calls.{IsAnswered, MayCall};
 ghost use Rattle.psci_fw.specs.Halts.{IsOfSystem};
 ghost use Rattle.psci_fw.specs.Seen.{IsStateOf, values_in};
 
-use crate::held::law_invariant;
 use crate::state::State;
 use crate::suspend::sleep;
 use psci_abi::Code;
-use psci_board::{Board, Core};
+use psci_board::{Board, Core, law_paths};
 use psci_coord::Parts;
-use psci_fw_model::{Act, Opening, Outcome, Status};
+use psci_fw_model::{Act, Opening, Outcome, Status, law_caller, law_invariant};
 use psci_link::Kind;
 use psci_state::Ask;
 
@@ -30,6 +29,8 @@ pub fn system_suspend(board: &Board, state: &mut State, caller: Core, opening: O
     ensures state { IsStateOf board.now state.new }
 {
     law_invariant();
+    law_caller();
+    law_paths();
     if !board.may_enter(opening.address) {
         return Outcome::returns(Code::INVALID_ADDRESS);
     }
