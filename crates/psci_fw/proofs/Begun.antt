@@ -4,11 +4,14 @@ use Rattle.std.proofs.Common.{List, [], ◌∷◌, length, sum, drop, map, get_o
 use Rattle.std.proofs.Common.{None, Some, Option, refl, sym, subst, ◌∙◌, ap, arith, inl, inr}
 use Rattle.std.specs.List.{AllPass}
 use Rattle.std.proofs.lemmas.Bool.{and_parts, cases_lt, eqb-true, ltb-true, leb-true}
-use Rattle.std.proofs.lemmas.List.{get_or_past}
+use Rattle.std.proofs.lemmas.List.{get_or-replicate, get_or_past, length-replicate}
+use Rattle.std.proofs.Math.ListN.{replicate}
 use Rattle.std.proofs.lemmas.List.Sums.{sum_by-cons}
 use Rattle.psci_board.specs.Board.{BoardValue, IsBoard, IsTree, is_width, size_below, cores, height}
 use Rattle.psci_board.specs.Board.{has_node, nodes, place_above, up}
-use Rattle.psci_link.specs.Slots.{Slot, SlotsValue, message_in}
+use Rattle.psci_link.specs.Message.{MessageValue}
+use Rattle.psci_link.specs.Slots.{Slot, SlotsValue, message_in, no_messages}
+use Rattle.psci_link.specs.Slots.Slot.{OfCore, OfSystem}
 use Rattle.psci_tree.specs.declared.state.Activity.TheVariants as activities
 use Rattle.psci_tree.specs.declared.state.CoreState.{CoreState}
 use Rattle.psci_tree.specs.Recount.{IsDomainTree, TreeValue, core_at, granted_at, level_sizes}
@@ -188,6 +191,14 @@ at_start b life u rows slots is tree levels cores_are granted first empty =
       outstanding = empty;
     })
 
+-- at first no slot holds a message
+pub none_in : (n : ℕ) (slot : Slot) → message_in (no_messages n) slot ≡ None
+none_in n OfSystem = refl
+none_in n (OfCore c) = elim (cases_lt c n) [
+  | inl h ↦ get_or-replicate n c None None h
+  | inr h ↦ get_or_past (replicate n None) c None (omega (arith, length-replicate {A = Option MessageValue} n None))
+]
+
 -- a life that is not the firmware's begins
 pub begun : (b : BoardValue) (life : ℕ) (now : Values) (w : Values) → (life ≡ now.life → ⊥)
     → w ≡ start_of_life b life → w ≡ in_life b life now
@@ -196,3 +207,12 @@ begun b life now w other e = let new : (life == now.life) ≡ false = grind arit
 pub life_is : (s now : StateValue) → s ≡ now → (values_in now).life ≡ s.life
 unfolding values_in
 life_is s now e = ap (λ (x : StateValue). x.life) (sym e)
+
+pub granted_shown : (b : BoardValue) (s now : StateValue) (l p : ℕ) → s ≡ now
+    → IsDomainTree s.tree → s.tree.levels ≡ b.levels → (l ≤ height b → p < nodes b l → ⊥)
+    → 0 ≡ (values_in now).granted l p
+unfolding values_in
+granted_shown b s now l p e tree levels n =
+    sym (granted_beyond s.tree l p tree
+    (subst (λ (ws : List (List ℕ)). l ≤ length ws → p < size_below (drop l ws) → ⊥) (sym levels) n))
+    ∙ ap (λ (x : StateValue). granted_at x.tree l p) e

@@ -160,6 +160,13 @@ pub in_rows : (b : BoardValue) (s now : StateValue) (c : ℕ) → s ≡ now → 
     → IsStateOf b now → c < cores b → c < length s.rows
 in_rows b s now c e is of inside = omega (arith, is.rows, within b s now c e is of inside)
 
+pub row_count : (b : BoardValue) (s now : StateValue) → s ≡ now → IsState s → IsStateOf b now
+    → length s.rows ≡ cores b
+row_count b s now e is of =
+    let at : IsStateOf b s = subst (IsStateOf b) (sym e) of in
+    let levels : size_below s.tree.levels ≡ size_below b.levels = ap size_below at.levels in
+    omega (arith, is.rows, is.tree.cores)
+
 -- Changes ---------------------------------------------------------------------------------------
 
 -- a core that is not pending is off or going off

@@ -14,6 +14,7 @@ use Rattle.psci_fw_model.specs.declared.status.Status.{Status}
 use Rattle.psci_fw_model.specs.declared.status.Status.TheVariants.{On, Off, Pending}
 use Rattle.psci_fw_model.specs.AffinityInfo.{is_on, is_pending, node_status, status_over}
 use Rattle.psci_fw.specs.declared.row.CoreRow.{CoreRow}
+use Rattle.psci_fw.specs.Seen.{StateValue, values_in}
 use Rattle.psci_fw.specs.Rows.{off_row, row_at, status_of_all}
 
 
@@ -78,7 +79,7 @@ status_all b status n laws h = rw h (by_test (n.level == 0) refl)
         ∙ ap (λ (s : CoreSpan). range_with_len s.first s.count) one in
         rw alone (sym (one_status (status n.place)))
 
-pub status_some : (b : BoardValue) (rows : List CoreRow) (n : Node) (s : CoreSpan)
+status_some : (b : BoardValue) (rows : List CoreRow) (n : Node) (s : CoreSpan)
     → SpanLaws b.levels → length rows ≡ cores b → cores_below b n ≡ Some s
     → status_of_all (take s.count (drop s.first rows))
     ≡ node_status b (λ c. (row_at rows c).status) n
@@ -92,6 +93,15 @@ status_some b rows n s laws len e =
     let on = any_range (λ r. is_on r.status) rows s.count s.first within in
     let pending = any_range (λ r. is_pending r.status) rows s.count s.first within in
     rw (status_all b (λ c. (row_at rows c).status) n laws at.has, all, on, pending) refl
+
+pub status_seen : (b : BoardValue) (s now : StateValue) (n : Node) (span : CoreSpan) → s ≡ now
+    → SpanLaws b.levels → length s.rows ≡ cores b → cores_below b n ≡ Some span
+    → status_of_all (take span.count (drop span.first s.rows))
+    ≡ node_status b (values_in now).status n
+unfolding values_in
+status_seen b s now n span same laws len e =
+    status_some b s.rows n span laws len e
+    ∙ ap (λ (x : StateValue). node_status b (λ c. (row_at x.rows c).status) n) same
 
 pub status_none : (b : BoardValue) (status : ℕ → Status) (n : Node) → cores_below b n ≡ None
     → Off ≡ node_status b status n

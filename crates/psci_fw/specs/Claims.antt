@@ -1,5 +1,5 @@
 -- Whether a claim may be granted.
-use Rattle.std.specs.Prelude.{◌≡◌, ◌≤◌, ◌<◌, ◌+◌, ℕ, List, Option, None, Some, Ok}
+use Rattle.std.specs.Prelude.{◌≡◌, ◌≤◌, ◌<◌, ◌+◌, ℕ, List, length, Option, None, Some, Ok}
 use Rattle.psci_board.specs.Board.{BoardValue, cores, height, up}
 use Rattle.psci_coord.specs.declared.part.Part.{Part}
 use Rattle.psci_link.specs.Message.{MessageValue}
@@ -11,10 +11,11 @@ use Rattle.psci_fw_model.specs.Claims.{suspend_parts}
 use Rattle.psci_fw_model.specs.Paths.{laid}
 use Rattle.psci_fw_model.specs.Values.{Values}
 
--- The parts of a core may be granted: nothing is granted on its path, and once they are, no domain
--- is granted more than the one below it on a path.
+-- The parts of a core may be granted: they are of levels of the board, nothing is granted on the
+-- core's path, and once they are, no domain is granted more than the one below it on a path.
 pub record MayClaim (b : BoardValue) (c : ℕ) (parts : List Part) (granted : ℕ → ℕ → ℕ)
     : Type 0 where
+  pub few : length parts ≤ height b + 1
   pub free : (level : ℕ) → level ≤ height b → granted level (up b level c) ≡ 0
   pub nested : (core level : ℕ) → core < cores b → level < height b
       → laid b c parts granted (level + 1) (up b (level + 1) core)

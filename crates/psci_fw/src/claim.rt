@@ -58,11 +58,13 @@ impl State {
                 self.set_suspended(board, core, ask, opening);
                 Ok(self.least_parts(board, core))
             }
-            SuspendMode::OsInitiated => {
-                let parts = self.checked_parts(board, core, ask)?;
-                self.set_suspended(board, core, ask, opening);
-                Ok(parts)
-            }
+            SuspendMode::OsInitiated => match self.checked_parts(board, core, ask) {
+                Ok(parts) => {
+                    self.set_suspended(board, core, ask, opening);
+                    Ok(parts)
+                }
+                Err(reason) => Err(reason),
+            },
         }
     }
 

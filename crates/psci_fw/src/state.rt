@@ -4,7 +4,7 @@ use crate::row::{CoreRow, first_rows, row_of};
 use psci_board::{Board, Core, Memory, Node};
 use psci_fw_model::{Opening, Status, SuspendMode};
 use psci_link::{Message, Slots};
-use psci_tree::{Activity, Tree};
+use psci_tree::{Activity, Tree, law_start_of_life};
 use std::alloc::Global;
 use std::marker::Model;
 
@@ -58,6 +58,7 @@ impl State {
         ensures state { IfOk result (λ state. IsStateOf board.now state) }
         ensures values { IfOk result (λ state. values_in state ≡ start_of_life board.now 0) }
     {
+        law_start_of_life();
         Ok(State {
             life: 0,
             halting: false,
