@@ -21,6 +21,7 @@ use Rattle.psci_fw_model.specs.Phases.{Away}
 use Rattle.psci_fw_model.specs.Values.{Values}
 use Rattle.psci_fw_model.specs.Views.{view}
 use Rattle.psci_fw.specs.Claims.{MayClaim}
+use Rattle.psci_fw.proofs.Freed.{EachClaim, off_few}
 
 -- The life of an entry ---------------------------------------------------------------------------
 
@@ -57,16 +58,17 @@ cleared_at b c level f =
     equal n = grind arith
 
 -- the claim of a core that parks
-pub park_may : (b : BoardValue) (v : Values) (c : ℕ) (s : Start) (parts : List Part)
+pub park_may : (b : BoardValue) (v : Values) (c : ℕ) (s : Start) → EachClaim b
     → AreValues b (change b (enter_effect c s (enter_outcome b v c s).act
     (enter_outcome b v c s).message) v)
-    → enter_outcome b v c s ≡ stops_with (message_for (with_arrival b c s v) Down c parts)
-    → MayClaim b c parts (with_arrival b c s v).granted
-park_may b v c s parts after e =
-    let kept : AreValues b (with_claim b (message_for (with_arrival b c s v) Down c parts)
-    (with_phase c Away (with_arrival b c s v))) =
+    → enter_outcome b v c s ≡ stops_with (off_message b (with_arrival b c s v) c)
+    → MayClaim b c (off_parts b (with_arrival b c s v) c) (with_arrival b c s v).granted
+park_may b v c s claims after e =
+    let arrived = with_arrival b c s v in
+    let kept : AreValues b (with_claim b (off_message b arrived c) (with_phase c Away arrived)) =
     subst (λ (o : Outcome). AreValues b (change b (enter_effect c s o.act o.message) v)) e after in
     record {
+      few = off_few b arrived c claims;
       free = λ level h. cleared_at b c level (in_life b s.life v).granted;
       nested = kept.nested;
     }

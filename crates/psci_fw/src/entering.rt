@@ -9,10 +9,11 @@ ghost use Rattle.psci_fw_model.specs.Invariant.{AreValues};
 ghost use Rattle.psci_fw.specs.Seen.{IsStateOf, values_in};
 ghost use Rattle.psci_fw.specs.Ways.{way_on};
 
+use crate::laws::law_may_claim;
 use crate::off::send_down;
 use crate::state::State;
-use psci_board::{Board, Core, law_paths};
-use psci_fw_model::{Act, Cause, FwFault, Opening, Outcome, Start, law_invariant, law_stops};
+use psci_board::{Board, Core};
+use psci_fw_model::{Act, Cause, FwFault, Opening, Outcome, Start, law_stops};
 
 /// Whether a core may enter by this start, or the first reason why it may not.
 pub fn check_start(board: &Board, state: &State, core: Core, start: Start) -> Result<(), FwFault>
@@ -52,9 +53,8 @@ pub fn enter(board: &Board, state: &mut State, core: Core, start: Start) -> Outc
         result.act result.message) (values_in state.old) }
     ensures state { IsStateOf board.now state.new }
 {
-    law_invariant();
     law_stops();
-    law_paths();
+    law_may_claim();
     state.begin_life(board, start.life);
     if state.halting() {
         state.arrive_away(board, core, start);

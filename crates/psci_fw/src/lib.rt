@@ -13,6 +13,7 @@ mod changes;
 mod claim;
 mod entering;
 mod firmware;
+mod laws;
 mod mode;
 mod off;
 mod on;

@@ -11,10 +11,11 @@ ghost use Rattle.psci_fw.specs.Claims.{MayClaim};
 ghost use Rattle.psci_fw.specs.Calls.{IsAnswered, MayCall};
 ghost use Rattle.psci_fw.specs.Seen.{IsStateOf, values_in};
 
+use crate::laws::law_may_claim;
 use crate::state::State;
-use psci_board::{Board, Core, law_paths};
+use psci_board::{Board, Core};
 use psci_coord::Parts;
-use psci_fw_model::{Act, Outcome, law_invariant, law_stops};
+use psci_fw_model::{Act, Outcome, law_stops};
 use psci_link::Kind;
 
 /// CPU_OFF (DEN0022D): the caller stops, and goes off.
@@ -25,8 +26,7 @@ pub fn cpu_off(board: &Board, state: &mut State, caller: Core) -> Outcome
     ensures state { IsStateOf board.now state.new }
 {
     law_stops();
-    law_invariant();
-    law_paths();
+    law_may_claim();
     state.set_away(board, caller);
     let parts = state.leaving_parts(board, caller);
     send_down(board, state, caller, parts)

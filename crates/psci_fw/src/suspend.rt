@@ -12,12 +12,13 @@ ghost use Rattle.psci_fw.specs.Calls.{IsAnswered, MayCall};
 ghost use Rattle.psci_fw.specs.Claims.{MaySleep, Slept};
 ghost use Rattle.psci_fw.specs.Seen.{IsStateOf, values_in};
 
+use crate::laws::law_may_claim;
 use crate::off::send_down;
 use crate::state::State;
 use psci_abi::{Code, Format};
-use psci_board::{Board, Core, law_paths};
+use psci_board::{Board, Core};
 use psci_coord::Osi;
-use psci_fw_model::{Opening, Outcome, law_caller, law_invariant, law_stops};
+use psci_fw_model::{Opening, Outcome, law_caller, law_stops};
 use psci_state::Ask;
 
 /// How every board writes its power state words.
@@ -38,9 +39,8 @@ pub fn cpu_suspend(
         (CpuSuspend word opening.address opening.context) result (values_in state.new) }
     ensures state { IsStateOf board.now state.new }
 {
-    law_invariant();
     law_caller();
-    law_paths();
+    law_may_claim();
     let Ok(ask) = Ask::read(word, FORMAT, board.height()) else {
         return Outcome::returns(Code::INVALID_PARAMETERS);
     };

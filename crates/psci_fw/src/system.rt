@@ -11,12 +11,13 @@ ghost use Rattle.psci_fw.specs.Calls.{IsAnswered, MayCall};
 ghost use Rattle.psci_fw.specs.Halts.{IsOfSystem};
 ghost use Rattle.psci_fw.specs.Seen.{IsStateOf, values_in};
 
+use crate::laws::law_may_claim;
 use crate::state::State;
 use crate::suspend::sleep;
 use psci_abi::Code;
-use psci_board::{Board, Core, law_paths};
+use psci_board::{Board, Core};
 use psci_coord::Parts;
-use psci_fw_model::{Act, Opening, Outcome, Status, law_caller, law_invariant};
+use psci_fw_model::{Act, Opening, Outcome, Status};
 use psci_link::Kind;
 use psci_state::Ask;
 
@@ -28,9 +29,7 @@ pub fn system_suspend(board: &Board, state: &mut State, caller: Core, opening: O
         (requests.SystemSuspend opening.address opening.context) result (values_in state.new) }
     ensures state { IsStateOf board.now state.new }
 {
-    law_invariant();
-    law_caller();
-    law_paths();
+    law_may_claim();
     if !board.may_enter(opening.address) {
         return Outcome::returns(Code::INVALID_ADDRESS);
     }
