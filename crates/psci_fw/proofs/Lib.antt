@@ -3,6 +3,7 @@ mod Begun
 mod Changed
 mod Freed
 mod Granting
+mod Left
 mod Moved
 mod Parked
 mod Replied
