@@ -1,4 +1,5 @@
 mod Acked
+mod Asleep
 mod Begun
 mod Changed
 mod Freed
@@ -6,6 +7,7 @@ mod Granting
 mod Left
 mod Moved
 mod Parked
+mod Queried
 mod Replied
 mod Spanned
 mod Viewed
