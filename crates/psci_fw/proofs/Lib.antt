@@ -2,6 +2,7 @@ mod Acked
 mod Asleep
 mod Begun
 mod Changed
+mod Entered
 mod Freed
 mod Granting
 mod Left
