@@ -80,7 +80,8 @@ call_again w core x0 (r ∷ s ∷ t ∷ []) c h a l =
     ) refl
 call_again w core x0 (r ∷ s ∷ t ∷ u ∷ rs) c h a l = absurd (omega (arith, l))
 
-enter_again : (w : TextLaws) (core : ℕ) → IsNumber core → enter_at (decimal core) ≡ Some (Enter core)
+enter_again : (w : TextLaws) (core : ℕ) → IsNumber core
+    → enter_at (decimal core) ≡ Some (Enter core)
 unfolding enter_at
 enter_again w core c =
     let number : number_at (decimal core) ≡ Some (core, []) =
@@ -134,7 +135,8 @@ values_more n bytes y r rs e v more zero l = ap (λ (x : ℕ × List ℕ). x.0) 
 values_more n bytes y r rs e v more (suc i) l =
     ap (λ (x : ℕ × List ℕ). (optional_register_at (after i x.1)).0) e ∙ more i (omega (arith, l))
 
-spaced_takes : (w : TextLaws) (bytes : List ℕ) (x : ℕ × List ℕ) → spaced_at register_at bytes ≡ Some x
+spaced_takes : (w : TextLaws) (bytes : List ℕ) (x : ℕ × List ℕ)
+    → spaced_at register_at bytes ≡ Some x
     → (rest : List ℕ) × IsRegister rest x × (bytes ≡ 32 ∷ rest)
 unfolding spaced_at
 spaced_takes w bytes x e =
@@ -146,7 +148,8 @@ optional_is : (bytes : List ℕ) (o : Option (ℕ × List ℕ)) → spaced_at re
 unfolding optional_register_at
 optional_is bytes o e = ap (λ (q : Option (ℕ × List ℕ)). unwrap_or q (0, bytes)) e
 
-one_more : (w : TextLaws) (n : ℕ) (bytes : List ℕ) (y : ℕ × List ℕ) → spaced_at register_at bytes ≡ Some y
+one_more : (w : TextLaws) (n : ℕ) (bytes : List ℕ) (y : ℕ × List ℕ)
+    → spaced_at register_at bytes ≡ Some y
     → AreRegisters n y.1 → AreRegisters (suc n) bytes
 one_more w n bytes y e k =
     let s = spaced_takes w bytes y e in record {
@@ -159,7 +162,8 @@ one_more w n bytes y e k =
           k.values;
     }
 
-follow_by : (w : TextLaws) (n : ℕ) (bytes : List ℕ) (o : Option (ℕ × List ℕ)) → spaced_at register_at bytes ≡ o
+follow_by : (w : TextLaws) (n : ℕ) (bytes : List ℕ) (o : Option (ℕ × List ℕ))
+    → spaced_at register_at bytes ≡ o
     → after (suc n) bytes ≡ []
     → ((rest : List ℕ) → after n rest ≡ [] → AreRegisters n rest) → AreRegisters (suc n) bytes
 follow_by w n bytes None e h more = none_follow (suc n) bytes (optional_is bytes None e) h

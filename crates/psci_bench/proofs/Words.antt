@@ -71,7 +71,8 @@ no_hex n rest h e = rw (no_prefix (decimal n) rest (first_digit n h) e) refl
 
 -- Registers -----------------------------------------------------------------------------------
 
-pub register_again : (w : TextLaws) (r : RegisterText) (rest : List ℕ) → IsRegisterText r → IsEnd rest
+pub register_again : (w : TextLaws) (r : RegisterText) (rest : List ℕ) → IsRegisterText r
+    → IsEnd rest
     → register_at (register_text r ++ rest) ≡ Some (register_value r, rest)
 unfolding register_at
 register_again w (Decimal n) rest h e = rw (no_hex n rest h e, number_again w n rest h e) refl
@@ -86,7 +87,8 @@ pub record IsRegister (bytes : List ℕ) (x : ℕ × List ℕ) : Type 0 where
   pub spelled : bytes ≡ register_text text ++ x.1
   pub value : x.0 ≡ register_value text
 
-register_by : (w : TextLaws) (bytes : List ℕ) (x : ℕ × List ℕ) (o : Option (List ℕ × List ℕ)) → hex_at bytes ≡ o
+register_by : (w : TextLaws) (bytes : List ℕ) (x : ℕ × List ℕ) (o : Option (List ℕ × List ℕ))
+    → hex_at bytes ≡ o
     → or_else (option_map hex_value o) (number_at bytes) ≡ Some x → IsRegister bytes x
 register_by w bytes x None e h =
     let t = w.numbers.takes bytes x h in

@@ -27,6 +27,7 @@ fn register(text: &[u8]) -> Option<(u64, &[u8])>
 }
 
 /// The register after a space, and the text after it.
+// In place, since a call would write its four words to memory, also where no register is left.
 #[inline(always)]
 #[tactic(auto, unfolding(psci_text::specs::Reading::spaced_at))]
 fn spaced_register(text: &[u8]) -> Option<(u64, &[u8])>

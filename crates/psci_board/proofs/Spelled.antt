@@ -24,7 +24,8 @@ spaced_again : {A : Type 0} (item : List ℕ → Option (A × List ℕ)) (bytes 
 unfolding spaced_at literal_at
 spaced_again item bytes x e = e
 
-pub spaced_takes : {A : Type 0} (w : TextLaws) (item : List ℕ → Option (A × List ℕ)) (spell : A → List ℕ)
+pub spaced_takes : {A : Type 0} (w : TextLaws) (item : List ℕ → Option (A × List ℕ))
+    (spell : A → List ℕ)
     (P : A → Type 0) (kind : ℕ → Bool) → Reads item spell P kind
     → (bytes : List ℕ) (x : A × List ℕ) → spaced_at item bytes ≡ Some x
     → P x.0 × (bytes ≡ 32 ∷ spell x.0 ++ x.1)
@@ -79,7 +80,8 @@ then_takes spell P bytes go (Some x) first others =
           ∙ sym (append_assoc (32 ∷ spell x.0) (spaced spell (go x.1).0) (go x.1).1),
     )
 
-at_most_takes : {A : Type 0} (w : TextLaws) (item : List ℕ → Option (A × List ℕ)) (spell : A → List ℕ)
+at_most_takes : {A : Type 0} (w : TextLaws) (item : List ℕ → Option (A × List ℕ))
+    (spell : A → List ℕ)
     (P : A → Type 0) (kind : ℕ → Bool) → Reads item spell P kind
     → (n : ℕ) (bytes : List ℕ) → Taken spell P bytes (at_most item n bytes)
 unfolding at_most
@@ -88,7 +90,8 @@ at_most_takes w item spell P kind r (suc n) bytes =
     then_takes spell P bytes (at_most item n) (spaced_at item bytes)
     (spaced_takes w item spell P kind r bytes) (at_most_takes w item spell P kind r n)
 
-pub more_takes : {A : Type 0} (w : TextLaws) (item : List ℕ → Option (A × List ℕ)) (spell : A → List ℕ)
+pub more_takes : {A : Type 0} (w : TextLaws) (item : List ℕ → Option (A × List ℕ))
+    (spell : A → List ℕ)
     (P : A → Type 0) (kind : ℕ → Bool) → Reads item spell P kind
     → (bytes : List ℕ) → Taken spell P bytes (more_at item bytes)
 unfolding more_at
@@ -132,7 +135,8 @@ list_joined : (bytes within item after items rest close : List ℕ) → bytes �
 list_joined bytes within item after items rest close a b c d =
     rw (append_assoc, append_assoc) (cc)
 
-pub list_takes : {A : Type 0} (w : TextLaws) (item : List ℕ → Option (A × List ℕ)) (spell : A → List ℕ)
+pub list_takes : {A : Type 0} (w : TextLaws) (item : List ℕ → Option (A × List ℕ))
+    (spell : A → List ℕ)
     (P : A → Type 0) (kind : ℕ → Bool) → Reads item spell P kind
     → (bytes : List ℕ) (xs : List A × List ℕ) → list_at item bytes ≡ Some xs
     → IsListOf P xs.0 × (bytes ≡ listed spell xs.0 ++ xs.1)

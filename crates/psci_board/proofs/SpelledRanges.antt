@@ -7,7 +7,8 @@ use Rattle.psci_text.specs.Spelling.{TextLaws, Ends, Reads, hex}
 use Rattle.psci_board.specs.Grammar.{IsRange, range}
 use Rattle.psci_board.specs.Reading.{range_at}
 
-range_again : (w : TextLaws) (r : List ℕ × List ℕ) (rest : List ℕ) → IsRange r → Ends is_ascii_hexdigit rest
+range_again : (w : TextLaws) (r : List ℕ × List ℕ) (rest : List ℕ) → IsRange r
+    → Ends is_ascii_hexdigit rest
     → range_at (range r ++ rest) ≡ Some (r, rest)
 unfolding range_at literal_at
 range_again w r rest h e =
@@ -20,7 +21,8 @@ range_joined : (bytes from dash after to rest : List ℕ) → bytes ≡ from ++ 
     → after ≡ to ++ rest → bytes ≡ (from ++ 45 ∷ to) ++ rest
 range_joined bytes from dash after to rest a b c = rw append_assoc (cc)
 
-range_takes : (w : TextLaws) (bytes : List ℕ) (x : (List ℕ × List ℕ) × List ℕ) → range_at bytes ≡ Some x
+range_takes : (w : TextLaws) (bytes : List ℕ) (x : (List ℕ × List ℕ) × List ℕ)
+    → range_at bytes ≡ Some x
     → IsRange x.0 × (bytes ≡ range x.0 ++ x.1)
 unfolding range_at
 range_takes w bytes x e =

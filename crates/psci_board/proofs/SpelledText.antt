@@ -37,13 +37,15 @@ no_range : (rest : List ℕ) → spaced_at range_at (codes " boot " ++ rest) ≡
 unfolding spaced_at range_at hex_at literal_at
 no_range rest = refl
 
-others_again : (w : TextLaws) (rs : List (List ℕ × List ℕ)) (rest : List ℕ) → AllByRecursion IsRange rs
+others_again : (w : TextLaws) (rs : List (List ℕ × List ℕ)) (rest : List ℕ)
+    → AllByRecursion IsRange rs
     → more_at range_at (spaced range rs ++ (codes " boot " ++ rest)) ≡ (rs, codes " boot " ++ rest)
 others_again w rs rest h =
     more_again range_at range IsRange _ (range_reads w) refl rs (codes " boot " ++ rest) h refl
     (no_range rest)
 
-parts_again : (w : TextLaws) (t : TreeText) (r : List ℕ × List ℕ) (rs : List (List ℕ × List ℕ)) (boot : List ℕ)
+parts_again : (w : TextLaws) (t : TreeText) (r : List ℕ × List ℕ) (rs : List (List ℕ × List ℕ))
+    (boot : List ℕ)
     (starts lives : ℕ) → IsTreeText t → IsRange r → AllByRecursion IsRange rs → IsHex boot
     → IsNumber starts → IsNumber lives → IsRead (board t (r ∷ rs) boot starts lives)
 unfolding board_text literal_at
@@ -63,7 +65,8 @@ parts_again w t r rs boot starts lives ht hr hrs hb hs hl =
     w.numbers.again starts after_starts hs refl in
     rw (tree_again, range_again, ranges_again, boot_again, starts_again, last_again w lives hl) refl
 
-text_by : (w : TextLaws) (t : TreeText) (rs : List (List ℕ × List ℕ)) (boot : List ℕ) (starts lives : ℕ)
+text_by : (w : TextLaws) (t : TreeText) (rs : List (List ℕ × List ℕ)) (boot : List ℕ)
+    (starts lives : ℕ)
     → IsBoardText (board t rs boot starts lives) → IsRead (board t rs boot starts lives)
 text_by w t [] boot starts lives h = absurd (omega (arith, h.ranges.some))
 text_by w t (r ∷ rs) boot starts lives h =

@@ -44,7 +44,8 @@ list_starts : {A : Type 0} (P : A → Type 0) (spell : A → List ℕ) (xs : Lis
 list_starts P spell [] rest h = absurd (omega (arith, h.some))
 list_starts P spell (x ∷ xs) rest h = refl
 
-one_again : {A B : Type 0} (w : TextLaws) (one : ℕ → B) (many : List A → B) (item : List ℕ → Option (A × List ℕ))
+one_again : {A B : Type 0} (w : TextLaws) (one : ℕ → B) (many : List A → B)
+    (item : List ℕ → Option (A × List ℕ))
     (n : ℕ) (rest : List ℕ) → IsNumber n → Ends is_ascii_digit rest
     → number_or one many item (decimal n ++ rest) false ≡ Some (one n, rest)
 unfolding number_or
@@ -113,7 +114,8 @@ tree_takes : (w : TextLaws) (bytes : List ℕ) (x : TreeText × List ℕ) → tr
     → IsTreeText x.0 × (bytes ≡ tree x.0 ++ x.1)
 unfolding tree_at number_or
 tree_takes w bytes x e =
-    either_takes w One Members member_at member IsMember (member_reads w) bytes (starts_list bytes) x e
+    either_takes w One Members member_at member IsMember (member_reads w) bytes (starts_list bytes)
+    x e
     (λ (y : TreeText × List ℕ). IsTreeText y.0 × (bytes ≡ tree y.0 ++ y.1))
     (λ n rest h s. (h, s)) (λ ms rest h s. (h, s))
 

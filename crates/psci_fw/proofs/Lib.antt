@@ -1,5 +1,5 @@
 mod Acked
-mod Asleep
+mod Answered
 mod Begun
 mod Changed
 mod Entered
@@ -11,4 +11,5 @@ mod Parked
 mod Queried
 mod Replied
 mod Spanned
+mod Stopping
 mod Viewed

@@ -156,7 +156,7 @@ in_this : (b : BoardValue) (life : ℕ) (v : Values) → v.life ≡ life → in_
 in_this b life v e = let same : (life == v.life) ≡ true = grind arith in rw same refl
 
 -- the start is of the firmware's life
-abbrev arrived : BoardValue → ℕ → Start → Values → Values
+abbrev pub arrived : BoardValue → ℕ → Start → Values → Values
 arrived b c s v = record v {
   known = updated v.known c s.number;
   opening = updated v.opening c None;

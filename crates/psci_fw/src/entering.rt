@@ -9,6 +9,7 @@ ghost use Rattle.psci_fw_model.specs.Invariant.{AreValues};
 ghost use Rattle.psci_fw.specs.Seen.{IsStateOf, values_in};
 ghost use Rattle.psci_fw.specs.Ways.{way_on};
 
+use psci_fw_model::law_stops;
 use crate::laws::law_may_claim;
 use crate::off::send_down;
 use crate::state::State;
@@ -53,6 +54,7 @@ pub fn enter(board: &Board, state: &mut State, core: Core, start: Start) -> Outc
         result.act result.message) (values_in state.old) }
     ensures state { IsStateOf board.now state.new }
 {
+    law_may_claim();
     law_stops();
     law_may_claim();
     state.begin_life(board, start.life);

@@ -11,6 +11,7 @@ ghost use Rattle.psci_fw.specs.Claims.{MayClaim};
 ghost use Rattle.psci_fw.specs.Calls.{IsAnswered, MayCall};
 ghost use Rattle.psci_fw.specs.Seen.{IsStateOf, values_in};
 
+use psci_fw_model::law_stops;
 use crate::laws::law_may_claim;
 use crate::state::State;
 use psci_board::{Board, Core};

@@ -1,73 +1,114 @@
--- Worked examples: the suspend mode, and OS-initiated suspends.
-use Rattle.std.proofs.Common.{[], ◌∷◌, pos, negsuc, true, false, refl}
-use Rattle.psci_board.specs.Board.{core_of, node_of, up}
-use Rattle.psci_coord.specs.Claim.{claim_of}
-use Rattle.psci_coord.specs.LastCore.{last_core_check, refusal, shallow, shallow_at}
-use Rattle.psci_coord.specs.View.{generation, is_all_off, is_idle, least_ask}
-use Rattle.psci_link.specs.declared.kind.Kind.TheVariants.{Down, Start, Off, Reset}
-use Rattle.psci_link.specs.Outstanding.{changes_since, last_message, outstanding}
-use Rattle.psci_ctl_model.specs.declared.start.Cause.TheVariants as causes
-use Rattle.psci_fw_model.specs.AffinityInfo.{node_status}
-use Rattle.psci_fw_model.specs.After.{after}
-use Rattle.psci_fw_model.specs.Answer.{answer}
-use Rattle.psci_fw_model.specs.Calls.{outcome_of}
-use Rattle.psci_fw_model.specs.Claims.{off_parts, suspend_parts}
-use Rattle.psci_fw_model.specs.CpuOn.{target_of}
-use Rattle.psci_fw_model.specs.Entering.{enter_outcome}
-use Rattle.psci_fw_model.specs.History.{values_of}
-use Rattle.psci_fw_model.specs.Views.{view}
-use Rattle.psci_fw_model.proofs.Steps.{AreAnswered, board, code, enter_by, goes_to, old, part, resumes}
-use Rattle.psci_fw_model.proofs.Steps.{smc, starts, stops, stops_by, stops_still, take, used}
+-- Worked examples: PSCI_SET_SUSPEND_MODE, and what PSCI_FEATURES says of the modes.
+use Rattle.std.proofs.Common.{◌∷◌, [], refl}
+use Rattle.psci_fw_model.proofs.Steps.{◌⇒◌, AreAnswered, board, boot, boots, computing, enter_on}
+use Rattle.psci_fw_model.proofs.Steps.{enter_wake, error, features, goes_on_3, goes_to, off, on}
+use Rattle.psci_fw_model.proofs.Steps.{on_3, part, resumes, set_mode, smc, starts, stops, suspend}
+use Rattle.psci_fw_model.proofs.Steps.{uneven, value}
 
--- os initiated system down
-os_initiated_system_down : AreAnswered board
-    (enter_by causes.Boot 0 1 1 ∷ smc 0 0x8400000f 1 0 0 ∷ smc 0 0x8400000a 0xc4000001 0 0
-    ∷ smc 0 0xc4000001 0x02010333 0x40000100 0 ∷ [])
-    (goes_to 0x40000000 0x0 ∷ code (pos 0) ∷ code (pos 1)
-    ∷ stops 0 1 1 (part 0 3 1 ∷ part 1 3 1 ∷ part 2 3 1 ∷ []) ∷ [])
-unfolding answer values_of after outcome_of enter_outcome target_of core_of node_of node_status off_parts
-    suspend_parts view up claim_of least_ask generation is_all_off is_idle last_core_check refusal
-    shallow shallow_at outstanding last_message changes_since
-os_initiated_system_down = record { history = refl; values = refl }
-
--- os initiated last core
-os_initiated_last_core : AreAnswered board
-    (enter_by causes.Boot 0 1 1 ∷ smc 0 0x8400000f 1 0 0 ∷ smc 0 0xc4000003 0x101 0x40001000 0x7
-    ∷ enter_by causes.On 3 1 1 ∷ smc 0 0xc4000001 0x02010333 0x40000100 0
-    ∷ smc 3 0xc4000001 0x00010003 0x40004000 2 ∷ smc 0 0xc4000001 0x02010333 0x40000100 0
-    ∷ enter_by causes.Wake 3 1 2 ∷ smc 0 0xc4000003 0x1 0x40005000 0 ∷ enter_by causes.On 1 1 1
-    ∷ smc 1 0xc4000001 0x00000001 0 0 ∷ smc 0 0xc4000001 0x02010333 0x40000100 0 ∷ [])
-    (goes_to 0x40000000 0x0 ∷ code (pos 0) ∷ starts 3 1 0 ∷ goes_to 0x40001000 0x7
-    ∷ code (negsuc 2) ∷ stops 3 1 1 (part 0 3 1 ∷ []) ∷ code (negsuc 1) ∷ goes_to 0x40004000 0x2
-    ∷ starts 1 1 0 ∷ goes_to 0x40005000 0x0 ∷ stops 1 1 1 (part 0 1 1 ∷ []) ∷ code (negsuc 1) ∷ [])
-unfolding answer values_of after outcome_of enter_outcome target_of core_of node_of node_status off_parts
-    suspend_parts view up claim_of least_ask generation is_all_off is_idle last_core_check refusal
-    shallow shallow_at outstanding last_message changes_since
-os_initiated_last_core = record { history = refl; values = refl }
-
--- suspend mode conditions
+-- a number that is no mode; the mode that is set; a mode while a core is pending; both modes
 suspend_mode_conditions : AreAnswered board
-    (enter_by causes.Boot 0 1 1 ∷ smc 0 0x8400000f 2 0 0 ∷ smc 0 0x8400000f 0 0 0
-    ∷ smc 0 0xc4000003 0x101 0x40001000 0x7 ∷ smc 0 0x8400000f 1 0 0 ∷ enter_by causes.On 3 1 1
-    ∷ smc 0 0x8400000f 1 0 0 ∷ smc 0 0x8400000f 0 0 0 ∷ smc 3 0x84000002 0 0 0
-    ∷ smc 0 0x8400000f 0 0 0 ∷ [])
-    (goes_to 0x40000000 0x0 ∷ code (negsuc 1) ∷ code (pos 0) ∷ starts 3 1 0 ∷ code (negsuc 2)
-    ∷ goes_to 0x40001000 0x7 ∷ code (pos 0) ∷ code (negsuc 2)
-    ∷ stops 3 1 1 (part 0 3 1 ∷ part 1 3 1 ∷ []) ∷ code (pos 0) ∷ [])
-unfolding answer values_of after outcome_of enter_outcome target_of core_of node_of node_status off_parts
-    suspend_parts view up claim_of least_ask generation is_all_off is_idle last_core_check refusal
-    shallow shallow_at outstanding last_message changes_since
+    (boot ⇒ boots
+    ∷ set_mode 0 2 ⇒ error 2
+    ∷ set_mode 0 0 ⇒ value 0
+    ∷ on_3 ⇒ starts 3 1 0
+    ∷ set_mode 0 1 ⇒ error 3
+    ∷ enter_on 3 1 1 ⇒ goes_on_3
+    ∷ set_mode 0 1 ⇒ value 0
+    ∷ set_mode 0 0 ⇒ error 3
+    ∷ off 3 ⇒ stops 3 1 1 (part 0 3 1 ∷ part 1 3 1 ∷ [])
+    ∷ set_mode 0 0 ⇒ value 0 ∷ [])
+unfolding computing
 suspend_mode_conditions = record { history = refl; values = refl }
 
--- features
-features : AreAnswered board
-    (enter_by causes.Boot 0 1 1 ∷ smc 0 0x8400000a 0x84000001 0 0
-    ∷ smc 0 0x8400000a 0xc4000003 0 0 ∷ smc 0 0x8400000a 0xc4000002 0 0
-    ∷ smc 0 0x8400000a 0x84000013 0 0 ∷ smc 0 0x84000006 0 0 0 ∷ [])
-    (goes_to 0x40000000 0x0 ∷ code (pos 1) ∷ code (pos 0) ∷ code (negsuc 0) ∷ code (negsuc 0)
-    ∷ code (pos 2) ∷ [])
-unfolding answer values_of after outcome_of enter_outcome target_of core_of node_of node_status off_parts
-    suspend_parts view up claim_of least_ask generation is_all_off is_idle last_core_check refusal
-    shallow shallow_at outstanding last_message changes_since
-features = record { history = refl; values = refl }
+-- the mode that is set is accepted whatever the cores do
+present_mode : AreAnswered board
+    (boot ⇒ boots
+    ∷ on_3 ⇒ starts 3 1 0
+    ∷ set_mode 0 0 ⇒ value 0
+    ∷ enter_on 3 1 1 ⇒ goes_on_3
+    ∷ set_mode 0 0 ⇒ value 0
+    ∷ set_mode 0 1 ⇒ value 0
+    ∷ suspend 3 0x1 0 0 ⇒ stops 3 1 1 (part 0 1 1 ∷ [])
+    ∷ set_mode 0 1 ⇒ value 0
+    ∷ set_mode 0 2 ⇒ error 2 ∷ [])
+unfolding computing
+present_mode = record { history = refl; values = refl }
 
+-- OS-initiated mode is not set while a core is suspended, however light
+to_os_initiated : AreAnswered board
+    (boot ⇒ boots
+    ∷ on_3 ⇒ starts 3 1 0
+    ∷ enter_on 3 1 1 ⇒ goes_on_3
+    ∷ suspend 3 0x1 0 0 ⇒ stops 3 1 1 (part 0 1 1 ∷ [])
+    ∷ set_mode 0 1 ⇒ error 3
+    ∷ enter_wake 3 1 2 ⇒ resumes
+    ∷ suspend 3 0x00010003 0x40004000 2 ⇒ stops 3 1 2 (part 0 3 2 ∷ [])
+    ∷ set_mode 0 1 ⇒ error 3
+    ∷ enter_wake 3 1 3 ⇒ goes_to 0x40004000 2
+    ∷ off 3 ⇒ stops 3 1 3 (part 0 3 3 ∷ part 1 3 3 ∷ [])
+    ∷ set_mode 0 1 ⇒ value 0 ∷ [])
+unfolding computing
+to_os_initiated = record { history = refl; values = refl }
+
+-- platform-coordinated mode is not set while another core is pending, runs or is suspended; it is
+-- where the others are going off, or parked
+to_platform_coordinated : AreAnswered board
+    (boot ⇒ boots
+    ∷ set_mode 0 1 ⇒ value 0
+    ∷ on_3 ⇒ starts 3 1 0
+    ∷ set_mode 0 0 ⇒ error 3
+    ∷ enter_on 3 1 1 ⇒ goes_on_3
+    ∷ set_mode 0 0 ⇒ error 3
+    ∷ suspend 3 0x1 0 0 ⇒ stops 3 1 1 (part 0 1 1 ∷ [])
+    ∷ set_mode 0 0 ⇒ error 3
+    ∷ enter_wake 3 1 3 ⇒ stops 3 1 3 (part 0 3 3 ∷ part 1 3 3 ∷ [])
+    ∷ set_mode 0 0 ⇒ value 0 ∷ [])
+unfolding computing
+to_platform_coordinated = record { history = refl; values = refl }
+
+-- a mode that is refused is not set: a suspend claims no more than all cores below ask, where in
+-- OS-initiated mode it would have been refused
+refused_mode_is_not_set : AreAnswered board
+    (boot ⇒ boots
+    ∷ on_3 ⇒ starts 3 1 0
+    ∷ set_mode 0 1 ⇒ error 3
+    ∷ set_mode 0 2 ⇒ error 2
+    ∷ suspend 0 0x02010333 0x40000100 0 ⇒ stops 0 1 1 (part 0 3 1 ∷ part 1 3 1 ∷ []) ∷ [])
+unfolding computing
+refused_mode_is_not_set = record { history = refl; values = refl }
+
+-- another core than the boot core sets the mode, on an uneven board
+modes_by_other_callers : AreAnswered uneven
+    (boot ⇒ boots
+    ∷ on 0x102 0x40001000 7 ⇒ starts 3 1 0
+    ∷ enter_on 3 1 1 ⇒ goes_on_3
+    ∷ set_mode 3 1 ⇒ value 0
+    ∷ set_mode 3 0 ⇒ error 3
+    ∷ off 0 ⇒ stops 0 1 1 (part 0 3 1 ∷ part 1 3 1 ∷ [])
+    ∷ set_mode 3 0 ⇒ value 0 ∷ [])
+unfolding computing
+modes_by_other_callers = record { history = refl; values = refl }
+
+-- a mode has 32 bits, and each of them counts
+mode_words : AreAnswered board
+    (boot ⇒ boots
+    ∷ set_mode 0 0x100000001 ⇒ value 0
+    ∷ on_3 ⇒ starts 3 1 0
+    ∷ set_mode 0 0 ⇒ error 3
+    ∷ set_mode 0 0x80000000 ⇒ error 2
+    ∷ set_mode 0 0x10001 ⇒ error 2 ∷ [])
+unfolding computing
+mode_words = record { history = refl; values = refl }
+
+-- the flag of OS-initiated mode, and functions that are there and not there
+features_of_modes : AreAnswered board
+    (boot ⇒ boots
+    ∷ features 0x84000001 ⇒ value 1
+    ∷ features 0xc4000003 ⇒ value 0
+    ∷ features 0xc4000002 ⇒ error 1
+    ∷ features 0x84000013 ⇒ error 1
+    ∷ smc 0 0x84000006 0 0 0 ⇒ value 2
+    ∷ smc 0 0x84000013 0 0 0 ⇒ error 1
+    ∷ smc 0 0xc400000f 1 0 0 ⇒ error 1 ∷ [])
+unfolding computing
+features_of_modes = record { history = refl; values = refl }

@@ -1,24 +1,49 @@
--- Worked examples are stated so: the calls of some cores in turn, and the replies to them.
-use Rattle.std.proofs.Common.{◌≡◌, ℕ, ℤ, pos, Bool, List, [], ◌∷◌, map, reverse, None, Some}
-use Rattle.psci_board.specs.Board.{BoardValue}
-use Rattle.psci_fw_model.specs.declared.call.FwCall.{FwCall}
-use Rattle.psci_fw_model.specs.declared.call.FwCall.TheVariants.{Smc, Enter, Take}
+-- Worked examples are stated so: the calls of some cores in turn, and beside each its reply.
+use Rattle.std.proofs.Common.{◌≡◌, ℕ, zero, suc, ℤ, pos, negsuc, Bool, true, false}
+use Rattle.std.proofs.Common.{List, [], ◌∷◌, map, reverse, None, Some}
+use Rattle.psci_board.specs.Board.{BoardValue, core_of, node_of, up}
 use Rattle.psci_coord.specs.declared.part.Part.{Part}
+use Rattle.psci_coord.specs.Claim.{claim_of}
+use Rattle.psci_coord.specs.LastCore.{last_core_check, refusal, shallow, shallow_at}
+use Rattle.psci_coord.specs.View.{generation, is_all_off, is_idle, least_ask}
 use Rattle.psci_link.specs.declared.kind.Kind.{Kind}
 use Rattle.psci_link.specs.declared.kind.Kind.TheVariants as kinds
 use Rattle.psci_link.specs.declared.taken.Taken.TheVariants as takens
 use Rattle.psci_link.specs.Message.{MessageValue}
+use Rattle.psci_link.specs.Outstanding.{changes_since, last_message, outstanding}
+use Rattle.psci_fw_model.specs.declared.call.FwCall.{FwCall}
+use Rattle.psci_fw_model.specs.declared.call.FwCall.TheVariants.{Smc, Enter, Take}
+use Rattle.psci_fw_model.specs.declared.fault.FwFault.{FwFault}
 use Rattle.psci_fw_model.specs.declared.outcome.Act.TheVariants as acts
 use Rattle.psci_fw_model.specs.declared.reply.FwReply.{FwReply}
-use Rattle.psci_fw_model.specs.declared.reply.FwReply.TheVariants.{Out, Taken}
+use Rattle.psci_fw_model.specs.declared.reply.FwReply.TheVariants.{Out, Taken, Fault}
 use Rattle.psci_ctl_model.specs.declared.start.Cause.{Cause}
-use Rattle.psci_ctl_model.specs.declared.start.Cause.TheVariants.{On, Wake, Reset}
-use Rattle.psci_fw_model.specs.Answer.{answer}
+use Rattle.psci_ctl_model.specs.declared.start.Cause.TheVariants.{Boot, On, Wake, Reset}
+use Rattle.psci_fw_model.specs.AffinityInfo.{node_status}
 use Rattle.psci_fw_model.specs.After.{after}
+use Rattle.psci_fw_model.specs.Answer.{answer}
+use Rattle.psci_fw_model.specs.Calls.{outcome_of}
+use Rattle.psci_fw_model.specs.Claims.{off_parts, suspend_parts}
+use Rattle.psci_fw_model.specs.CpuOn.{target_of}
+use Rattle.psci_fw_model.specs.Entering.{enter_outcome}
 use Rattle.psci_fw_model.specs.Entry.{Entry}
+use Rattle.psci_fw_model.specs.History.{values_of}
 use Rattle.psci_fw_model.specs.Legal.{legal_reply}
 use Rattle.psci_fw_model.specs.Lives.{start_of_life}
+use Rattle.psci_fw_model.specs.Sent.{sent_messages}
+use Rattle.psci_fw_model.specs.Statuses.{statuses}
 use Rattle.psci_fw_model.specs.Values.{Values}
+use Rattle.psci_fw_model.specs.Views.{view}
+
+-- what an example unfolds to compute answers and values on calls that are written out
+unfoldable pub computing : Unit {0}
+unfolding answer values_of after outcome_of enter_outcome target_of core_of node_of node_status
+    off_parts suspend_parts view up claim_of least_ask generation is_all_off is_idle
+    last_core_check refusal shallow shallow_at outstanding last_message changes_since sent_messages
+    statuses
+computing = tt
+
+-- Boards --------------------------------------------------------------------------------------
 
 -- two clusters of two cores
 abbrev pub board : BoardValue
@@ -29,6 +54,26 @@ board = record {
   starts = 1000;
   lives = 3;
 }
+
+-- the same with other limits: of starts, of lives
+abbrev pub limited : ℕ → ℕ → BoardValue
+limited starts lives = record board { starts = starts; lives = lives }
+
+-- one core
+abbrev pub one_core : BoardValue
+one_core = record board { levels = (1 ∷ []) ∷ [] }
+
+-- one cluster of three cores
+abbrev pub one_cluster : BoardValue
+one_cluster = record board { levels = (3 ∷ []) ∷ [] }
+
+-- a cluster of one core and one of three
+abbrev pub uneven : BoardValue
+uneven = record board { levels = (1 ∷ 3 ∷ []) ∷ (2 ∷ []) ∷ [] }
+
+-- two groups of two clusters of one core
+abbrev pub tall : BoardValue
+tall = record board { levels = (1 ∷ 1 ∷ 1 ∷ 1 ∷ []) ∷ (2 ∷ 2 ∷ []) ∷ (2 ∷ []) ∷ [] }
 
 -- Calls ---------------------------------------------------------------------------------------
 
@@ -41,16 +86,75 @@ pub record Step : Type 0 where
 abbrev pub smc : ℕ → ℕ → ℕ → ℕ → ℕ → Step
 smc c x0 x1 x2 x3 = record { core = c; call = Smc (record { x0 = x0; x1 = x1; x2 = x2; x3 = x3 }) }
 
--- a core enters in this life by the start of this number and cause
+-- PSCI_VERSION by a core
+abbrev pub version : ℕ → Step
+version c = smc c 0x84000000 0 0 0
+
+-- CPU_ON by a core: affinity word, entry point, context id
+abbrev pub on_by : ℕ → ℕ → ℕ → ℕ → Step
+on_by c target entry_point context = smc c 0xc4000003 target entry_point context
+
+-- the same by the boot core
+abbrev pub on : ℕ → ℕ → ℕ → Step
+on target entry_point context = on_by 0 target entry_point context
+
+-- the boot core asks core 3 on
+abbrev pub on_3 : Step
+on_3 = on 0x101 0x40001000 7
+
+-- AFFINITY_INFO by the boot core: affinity word, level
+abbrev pub affinity : ℕ → ℕ → Step
+affinity target level = smc 0 0xc4000004 target level 0
+
+-- CPU_SUSPEND by a core: power state word, entry point, context id
+abbrev pub suspend : ℕ → ℕ → ℕ → ℕ → Step
+suspend c state entry_point context = smc c 0xc4000001 state entry_point context
+
+-- CPU_OFF by a core
+abbrev pub off : ℕ → Step
+off c = smc c 0x84000002 0 0 0
+
+-- SYSTEM_SUSPEND by a core: entry point, context id
+abbrev pub system_suspend : ℕ → ℕ → ℕ → Step
+system_suspend c entry_point context = smc c 0xc400000e entry_point context 0
+
+-- SYSTEM_OFF and SYSTEM_RESET by a core
+abbrev pub system_off : ℕ → Step
+system_off c = smc c 0x84000008 0 0 0
+
+abbrev pub system_reset : ℕ → Step
+system_reset c = smc c 0x84000009 0 0 0
+
+-- PSCI_SET_SUSPEND_MODE by a core: 0 for platform-coordinated mode, 1 for OS-initiated mode
+abbrev pub set_mode : ℕ → ℕ → Step
+set_mode c mode = smc c 0x8400000f mode 0 0
+
+-- PSCI_FEATURES by the boot core
+abbrev pub features : ℕ → Step
+features word = smc 0 0x8400000a word 0 0
+
+-- a core enters: life, number of its start
 abbrev pub enter_by : Cause → ℕ → ℕ → ℕ → Step
 enter_by cause c life number = record {
   core = c;
   call = Enter (record { life = life; number = number; cause = cause });
 }
 
--- the same after a wake-up event
-abbrev pub enter : ℕ → ℕ → ℕ → Step
-enter c life number = enter_by Wake c life number
+abbrev pub enter_boot : ℕ → ℕ → ℕ → Step
+enter_boot c life number = enter_by Boot c life number
+
+abbrev pub enter_on : ℕ → ℕ → ℕ → Step
+enter_on c life number = enter_by On c life number
+
+abbrev pub enter_wake : ℕ → ℕ → ℕ → Step
+enter_wake c life number = enter_by Wake c life number
+
+abbrev pub enter_reset : ℕ → ℕ → ℕ → Step
+enter_reset c life number = enter_by Reset c life number
+
+-- the boot core's first start
+abbrev pub boot : Step
+boot = enter_boot 0 1 1
 
 -- an acknowledgement: kind, core, life, number; how many parts were applied, whether it is stale
 abbrev pub take : Kind → ℕ → ℕ → ℕ → ℕ → Bool → Step
@@ -66,25 +170,13 @@ take kind c life number applied stale = record {
   });
 }
 
--- the boot core's first start
-abbrev pub boot : Step
-boot = enter 0 1 1
+-- of a Down: core, life, number; how many parts were applied, and nothing is stale
+abbrev pub take_down : ℕ → ℕ → ℕ → ℕ → Step
+take_down c life number applied = take kinds.Down c life number applied false
 
--- PSCI_VERSION
-abbrev pub version : ℕ → Step
-version c = smc c 0x84000000 0 0 0
-
--- the boot core asks core 3 on
-abbrev pub on_3 : Step
-on_3 = smc 0 0xc4000003 0x101 0x40001000 7
-
--- CPU_ON by the boot core: affinity word, entry point
-abbrev pub on : ℕ → ℕ → Step
-on target entry_point = smc 0 0xc4000003 target entry_point 0
-
--- AFFINITY_INFO by the boot core: affinity word, level
-abbrev pub affinity : ℕ → ℕ → Step
-affinity target level = smc 0 0xc4000004 target level 0
+-- of a Down, stale
+abbrev pub take_stale : ℕ → ℕ → ℕ → ℕ → Step
+take_stale c life number applied = take kinds.Down c life number applied true
 
 -- Replies -------------------------------------------------------------------------------------
 
@@ -92,13 +184,29 @@ affinity target level = smc 0 0xc4000004 target level 0
 abbrev pub code : ℤ → FwReply
 code z = Out (record { act = acts.Return (record { 0 = z }); message = None })
 
--- the core goes on there
+-- a code of 0 or more, and one below 0 by its absolute value
+abbrev pub value : ℕ → FwReply
+value n = code (pos n)
+
+abbrev pub error : ℕ → FwReply
+error zero = code (pos 0)
+error (suc n) = code (negsuc n)
+
+-- the core goes on there: entry point, context id
 abbrev pub goes_to : ℕ → ℕ → FwReply
 goes_to address context = Out (record { act = acts.Enter address context; message = None })
 
 -- the boot core goes on at the boot address
 abbrev pub boots : FwReply
 boots = goes_to 0x40000000 0
+
+-- core 3 goes on where the boot core asked it on
+abbrev pub goes_on_3 : FwReply
+goes_on_3 = goes_to 0x40001000 7
+
+-- a core resumes
+abbrev pub resumes : FwReply
+resumes = Out (record { act = acts.Resume; message = None })
 
 -- a message: kind, core, life, number, parts
 abbrev pub message : Kind → ℕ → ℕ → ℕ → List Part → MessageValue
@@ -134,10 +242,6 @@ stops c life number parts = stops_by kinds.Down c life number parts
 abbrev pub stops_still : FwReply
 stops_still = Out (record { act = acts.Stop; message = None })
 
--- a core resumes
-abbrev pub resumes : FwReply
-resumes = Out (record { act = acts.Resume; message = None })
-
 -- an acknowledgement was used, or old
 abbrev pub used : FwReply
 used = Taken takens.Used
@@ -145,14 +249,30 @@ used = Taken takens.Used
 abbrev pub old : FwReply
 old = Taken takens.Old
 
+-- a call was refused
+abbrev pub refused : FwFault → FwReply
+refused fault = Fault fault
+
 -- What is answered ----------------------------------------------------------------------------
+
+-- a call, and the reply to it
+pub record Row : Type 0 where
+  pub step : Step
+  pub reply : FwReply
+
+infix 80 ◌⇒◌
+abbrev pub ◌⇒◌ : Step → FwReply → Row
+step ⇒ reply = record { step = step; reply = reply }
+
+-- one more entry of a history: this call with this reply
+abbrev pub with_entry : Step → FwReply → List Entry → List Entry
+with_entry s reply h = record { core = s.core; call = s.call; reply = reply } ∷ h
 
 -- the legal history of these calls, the first one first, after a history
 abbrev pub history_from : BoardValue → List Entry → List Step → List Entry
 history_from b h [] = h
 history_from b h (s ∷ ss) =
-    let reply = legal_reply b h s.core s.call in
-    history_from b (record { core = s.core; call = s.call; reply = reply } ∷ h) ss
+    history_from b (with_entry s (legal_reply b h s.core s.call) h) ss
 
 abbrev pub history_of : BoardValue → List Step → List Entry
 history_of b steps = history_from b [] steps
@@ -168,16 +288,12 @@ by_values b v (s ∷ ss) =
     let reply = answer b v s.core s.call in
     reply ∷ by_values b (after b s.core s.call reply v) ss
 
--- the values that are kept after these calls
-abbrev pub values_from : BoardValue → Values → List Step → Values
-values_from b v [] = v
-values_from b v (s ∷ ss) =
-    values_from b (after b s.core s.call (answer b v s.core s.call) v) ss
-
-abbrev pub values_after : BoardValue → List Step → Values
-values_after b steps = values_from b (start_of_life b 0) steps
-
 -- these calls are answered so, by the history and by the values alike
-pub record AreAnswered (b : BoardValue) (steps : List Step) (replies : List FwReply) : Type 0 where
-  pub history : by_history b steps ≡ replies
-  pub values : by_values b (start_of_life b 0) steps ≡ replies
+pub record AreAnswered (b : BoardValue) (rows : List Row) : Type 0 where
+  pub history : by_history b (map (λ r. r.step) rows) ≡ map (λ r. r.reply) rows
+  pub values : by_values b (start_of_life b 0) (map (λ r. r.step) rows) ≡ map (λ r. r.reply) rows
+
+-- the values after a history, by looking backwards and by keeping them from call to call
+abbrev pub kept_after : BoardValue → List Entry → Values
+kept_after b [] = start_of_life b 0
+kept_after b (e ∷ h) = after b e.core e.call e.reply (kept_after b h)

@@ -4,7 +4,8 @@ use Rattle.psci_board.specs.Board.{BoardValue}
 use Rattle.psci_fw_model.specs.declared.call.FwCall.{FwCall}
 use Rattle.psci_fw_model.specs.declared.reply.FwReply.{FwReply}
 use Rattle.psci_fw_model.specs.Changes.{with_acknowledgement, with_arrival, with_claim, with_halt}
-use Rattle.psci_fw_model.specs.Changes.{with_mode, with_pending, with_phase, with_rest, with_running}
+use Rattle.psci_fw_model.specs.Changes.{with_mode, with_pending, with_phase, with_rest}
+use Rattle.psci_fw_model.specs.Changes.{with_running}
 use Rattle.psci_fw_model.specs.Effects.{Effect, Nothing, GoesOn, SetsMode, AsksOn, Rests, Halts}
 use Rattle.psci_fw_model.specs.Effects.{Leaves, Enters, Parks, Ceases, Acknowledges, effect_of}
 use Rattle.psci_fw_model.specs.Phases.{Running, Away}

@@ -22,10 +22,12 @@ leaving_claim b w c OsInitiated = off_claim b w c
 unfoldable pub off_parts : BoardValue → Values → ℕ → List Part
 off_parts b v c = leaving_claim b (view b (with_phase c Away v)) c v.mode
 
--- the claim of a core that is suspended with this ask, or why it may not be: in platform-coordinated
--- mode it always may
-abbrev pub suspend_claim : BoardValue → Values → ℕ → List ℕ → SuspendMode → Result (List Part) Osi
-suspend_claim b v c ask Platform = Ok (platform_claim b (view b (with_phase c (Suspended ask) v)) c)
+-- the claim of a core that is suspended with this ask, or why it may not be: in
+-- platform-coordinated mode it always may
+abbrev pub suspend_claim : BoardValue → Values → ℕ → List ℕ → SuspendMode
+    → Result (List Part) Osi
+suspend_claim b v c ask Platform =
+    Ok (platform_claim b (view b (with_phase c (Suspended ask) v)) c)
 suspend_claim b v c ask OsInitiated = last_core_check b (view b v) c ask
 
 -- the same in the mode that was set

@@ -1,5 +1,5 @@
 -- What a call with its reply comes down to.
-use Rattle.std.specs.Prelude.{ℕ, Bool, true, false, if◌then◌else◌, Option, None, Some}
+use Rattle.std.specs.Prelude.{ℕ, if◌then◌else◌, Option, None, Some}
 use Rattle.std.specs.Prelude.{Result, Ok, Err, List}
 use Rattle.psci_abi.specs.Calls.{request_of}
 use Rattle.psci_abi.specs.Codes.{success}
@@ -18,9 +18,8 @@ use Rattle.psci_fw_model.specs.declared.mode.SuspendMode.{SuspendMode}
 use Rattle.psci_fw_model.specs.declared.opening.Opening.{Opening}
 use Rattle.psci_fw_model.specs.declared.outcome.Act.{Act}
 use Rattle.psci_fw_model.specs.declared.outcome.Act.TheVariants as acts
-use Rattle.psci_fw_model.specs.declared.outcome.Outcome.{Outcome}
 use Rattle.psci_fw_model.specs.declared.reply.FwReply.{FwReply}
-use Rattle.psci_fw_model.specs.declared.reply.FwReply.TheVariants.{Out, Taken, Fault}
+use Rattle.psci_fw_model.specs.declared.reply.FwReply.TheVariants.{Out, Taken}
 use Rattle.psci_ctl_model.specs.declared.start.Start.{Start}
 use Rattle.psci_fw_model.specs.Changes.{PowerOn, Rest}
 use Rattle.psci_fw_model.specs.CpuSuspend.{ask_named}

@@ -43,7 +43,8 @@ is_wake Reset = false
 abbrev pub resumes : Values → ℕ → Start → Bool
 resumes v c s = is_light (v.phase c) && (is_wake s.cause && s.number == v.known c + 1)
 
--- what a core does that has entered and is asked for nowhere: it goes on after its suspend, or parks
+-- what a core does that has entered and is asked for nowhere: it goes on after its suspend, or it
+-- parks
 abbrev pub without_opening : BoardValue → Values → Values → ℕ → Start → Outcome
 without_opening b found arrived c s =
     if resumes found c s
@@ -52,7 +53,8 @@ without_opening b found arrived c s =
 
 -- a core with an opening goes on there
 abbrev pub outcome_at : BoardValue → Values → Values → ℕ → Start → Option Opening → Outcome
-outcome_at b found arrived c s (Some o) = record { act = acts.Enter o.address o.context; message = None }
+outcome_at b found arrived c s (Some o) =
+    record { act = acts.Enter o.address o.context; message = None }
 outcome_at b found arrived c s None = without_opening b found arrived c s
 
 -- What a core is answered that may enter, by what it finds in the life of its start, and what its

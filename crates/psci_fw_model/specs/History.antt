@@ -5,7 +5,6 @@ use Rattle.std.specs.Prelude.{None, Some, option_map, unwrap_or, List, [], ◌�
 use Rattle.std.specs.Prelude.{slice_get, option_and_then}
 use Rattle.std.specs.Option.{option_or}
 use Rattle.psci_board.specs.Board.{BoardValue}
-use Rattle.psci_coord.specs.declared.part.Part.{Part}
 use Rattle.psci_link.specs.declared.kind.Kind.TheVariants.{Down}
 use Rattle.psci_link.specs.Message.{AckValue, MessageValue}
 use Rattle.psci_link.specs.Outstanding as slots
@@ -13,17 +12,16 @@ use Rattle.psci_link.specs.Slots.{Change, is_kind}
 use Rattle.psci_fw_model.specs.declared.mode.SuspendMode.{SuspendMode}
 use Rattle.psci_fw_model.specs.declared.mode.SuspendMode.TheVariants.{Platform}
 use Rattle.psci_fw_model.specs.declared.opening.Opening.{Opening}
-use Rattle.psci_ctl_model.specs.declared.start.Start.{Start}
 use Rattle.psci_fw_model.specs.declared.status.Status.{Status}
 use Rattle.psci_fw_model.specs.declared.status.Status.TheVariants as statuses
-use Rattle.psci_fw_model.specs.Changes.{PowerOn, Rest, target}
+use Rattle.psci_fw_model.specs.Changes.{target}
 use Rattle.psci_fw_model.specs.Effects.{Effect, SetsMode, Rests, Halts, Acknowledges}
 use Rattle.psci_fw_model.specs.Entry.{Entry, effect}
 use Rattle.psci_fw_model.specs.Lives.{first_granted, first_opening, first_status}
 use Rattle.psci_fw_model.specs.Paths.{is_on_path}
 use Rattle.psci_fw_model.specs.Phases.{Phase, is_away}
 use Rattle.psci_fw_model.specs.Phases.{Pending, Away}
-use Rattle.psci_fw_model.specs.Said.{Arrival, Left, arrived, asked_on, claimed, left, ran}
+use Rattle.psci_fw_model.specs.Said.{Arrival, arrived, asked_on, claimed, left, ran}
 use Rattle.psci_fw_model.specs.Said.{slot_changes}
 use Rattle.psci_fw_model.specs.Values.{Values}
 
@@ -131,6 +129,7 @@ is_gone b c before a =
     c == a.core.number
     && ((is_kind a.kind Down && nat_lt 0 a.applied) && is_away (phase b before c))
 
+-- such an acknowledgement says that the core is OFF, and nothing else says so
 abbrev pub says_off : BoardValue → ℕ → List Entry → Effect → Option Status
 says_off b c before (Acknowledges a) = only_if (is_gone b c before a) (Some statuses.Off)
 says_off b c before e = None

@@ -1,5 +1,5 @@
 -- What has been sent, and what was claimed with it.
-use Rattle.std.specs.Prelude.{ℕ, List, [], ◌∷◌, ◌++◌}
+use Rattle.std.specs.Prelude.{List, [], ◌∷◌, ◌++◌}
 use Rattle.psci_board.specs.Board.{BoardValue}
 use Rattle.psci_link.specs.Message.{MessageValue}
 use Rattle.psci_fw_model.specs.Entry.{Entry, effect}

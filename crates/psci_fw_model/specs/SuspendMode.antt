@@ -26,7 +26,8 @@ is_mode m n = false
 -- platform-coordinated mode while every other core is off or going off
 abbrev pub may_set : BoardValue → Values → ℕ → SuspendMode → Bool
 may_set b v c Platform = all_others b c (λ k. is_away (v.phase k))
-may_set b v c OsInitiated = not (list_any (λ k. is_waiting (v.phase k)) (range_with_len 0 (cores b)))
+may_set b v c OsInitiated =
+    not (list_any (λ k. is_waiting (v.phase k)) (range_with_len 0 (cores b)))
 
 -- what it answers, by the mode of its number
 abbrev pub mode_asked : BoardValue → Values → ℕ → Option SuspendMode → Code

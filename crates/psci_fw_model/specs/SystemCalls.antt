@@ -1,5 +1,5 @@
 -- Functions for the whole system: SYSTEM_SUSPEND, SYSTEM_OFF, SYSTEM_RESET.
-use Rattle.std.specs.Prelude.{ℕ, List, [], Bool, true, false, ◌||◌, not, ◌==◌, if◌then◌else◌}
+use Rattle.std.specs.Prelude.{ℕ, [], Bool, true, false, ◌||◌, not, ◌==◌, if◌then◌else◌}
 use Rattle.std.specs.List.{list_all, range_with_len}
 use Rattle.psci_abi.specs.Codes.{denied, invalid_address}
 use Rattle.psci_board.specs.Board.{BoardValue, cores, height, may_enter}

@@ -75,7 +75,8 @@ hexadecimal_no b h = grind (arith, nat_tests)
 
 pub decimal_front : (bytes : List ℕ) → AllDigits 10 (take (prefix_len is_ascii_digit bytes) bytes)
 decimal_front bytes =
-    front_digits 10 is_ascii_digit decimal_digit bytes (prefix_len is_ascii_digit bytes) (omega arith)
+    front_digits 10 is_ascii_digit decimal_digit bytes (prefix_len is_ascii_digit bytes) (omega
+    arith)
 
 pub hexadecimal_front : (bytes : List ℕ) (i : ℕ) → i ≤ prefix_len is_ascii_hexdigit bytes
     → AllDigits 16 (take i bytes)

@@ -62,12 +62,6 @@ cores_take ns i d h =
     ap cores_in (take_more ns i d h) ∙ flat_map-append cores (take i ns) (get_or ns i d ∷ [])
     ∙ ap (λ (x : List CoreState). cores_in (take i ns) ++ x) (append-nil (cores (get_or ns i d)))
 
-pub cores_end : (ns : List Domain) (i : ℕ) → length ns ≤ i → cores_in (drop i ns) ≡ []
-cores_end [] zero h = refl
-cores_end [] (suc i) h = refl
-cores_end (n ∷ ns) zero h = absurd (omega arith)
-cores_end (n ∷ ns) (suc i) h = cores_end ns i (omega arith)
-
 pub length_drop : (ns : List Domain) (i : ℕ) (d : Domain) → i < length ns
     → length (cores_in (drop i ns))
     ≡ length (cores (get_or ns i d)) + length (cores_in (drop (i + 1) ns))
@@ -174,16 +168,6 @@ widths_with_child n i m v each zero =
     widths_zero _ ∙ ap (λ (x : ℕ). x ∷ []) (length-set (children n) i m)
 widths_with_child n i m v each (suc k) =
     widths_suc k _ ∙ flat_map_set (child_counts k) (children n) i n m (each k)
-
--- a core's state is no part of its shape
-pub widths_with_core : (n : Domain) (s : CoreState) (v : Kept) (k : ℕ) →
-    child_counts k (roll-Domain (record {
-      children = (out-Domain n).children;
-      core = s;
-      kept = v;
-    })) ≡ child_counts k n
-widths_with_core n s v zero = widths_zero _
-widths_with_core n s v (suc k) = widths_suc k _
 
 -- one more core that is like those before it
 pub set_next : (s : CoreState) (xs : List CoreState) (i : ℕ) → i < length xs

@@ -1,6 +1,7 @@
 -- Domains put together level by level, from the cores up.
 use Rattle.std.proofs.Common.{◌≡◌, ℕ, zero, suc, ◌<◌, List, [], ◌∷◌, ◌++◌, length, drop, map}
-use Rattle.std.proofs.Common.{sum, replicate, ◌+◌, refl, ap, sym, ◌∙◌, arith, append-nil, get_or, length-append}
+use Rattle.std.proofs.Common.{sum, replicate, ◌+◌, refl, ap, sym, ◌∙◌, arith, append-nil, get_or}
+use Rattle.std.proofs.Common.{length-append}
 use Rattle.std.specs.List.{flat_map, AllPass}
 use Rattle.std.proofs.lemmas.Bool.Decides.{nat_tests}
 use Rattle.std.proofs.lemmas.List.{length_push, map-append, replicate_more}
@@ -8,7 +9,8 @@ use Rattle.std.proofs.lemmas.List.Concat.{flat_map-append, flat_map_single}
 use Rattle.std.proofs.lemmas.List.Sums.{sum_by_push}
 use Rattle.psci_board.specs.Board.{IsTree, size_below, is_width}
 use Rattle.psci_tree.specs.declared.state.CoreState.{CoreState}
-use Rattle.psci_tree.specs.Domains.{cores, cores_in, children, child_count, child_counts, HasShape, IsWhole}
+use Rattle.psci_tree.specs.Domains.{cores, cores_in, children, child_count, child_counts, HasShape}
+use Rattle.psci_tree.specs.Domains.{IsWhole}
 use Rattle.psci_tree.specs.declared.domain.Domain.{Domain}
 use Rattle.psci_tree.specs.declared.domain.Domain.TheOpen.{Domain-F}
 use Rattle.psci_tree.specs.declared.domain.Domain.TheViews.{roll-Domain}

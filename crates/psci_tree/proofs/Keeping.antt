@@ -16,7 +16,7 @@ use Rattle.psci_tree.specs.declared.domain.Domain.{Domain, out-Domain}
 use Rattle.psci_tree.specs.declared.domain.Domain.TheOpen.{Domain-F}
 use Rattle.psci_tree.specs.declared.domain.Domain.TheViews.{roll-Domain, out-roll-Domain}
 use Rattle.psci_tree.proofs.Below.{low-append, cores_roll, cores_roll_core, children_roll}
-use Rattle.psci_tree.proofs.Below.{cores_take, length_take, length_drop}
+use Rattle.psci_tree.proofs.Below.{cores_take}
 
 -- Some cores and others ----------------------------------------------------------------------
 
@@ -44,10 +44,12 @@ keeps_append j k xs ys h l = record {
 -- Several domains ----------------------------------------------------------------------------
 
 left_of : {X : Type 0} (P : X → Type 0) (xs ys : List X) → All P (xs ++ ys) → All P xs
-left_of P xs ys h = subst (All P) (take_at xs ys (length xs) refl) (All-take P (length xs) (xs ++ ys) h)
+left_of P xs ys h =
+    subst (All P) (take_at xs ys (length xs) refl) (All-take P (length xs) (xs ++ ys) h)
 
 right_of : {X : Type 0} (P : X → Type 0) (xs ys : List X) → All P (xs ++ ys) → All P ys
-right_of P xs ys h = subst (All P) (drop_at xs ys (length xs) refl) (All-drop P (length xs) (xs ++ ys) h)
+right_of P xs ys h =
+    subst (All P) (drop_at xs ys (length xs) refl) (All-drop P (length xs) (xs ++ ys) h)
 
 pub kept_head : (n : Domain) (ns : List Domain) → AreKept (n ∷ ns) → IsKept n
 kept_head n ns h = record {

@@ -5,6 +5,8 @@ pub mod Built
 pub mod GrantRows
 pub mod Granted
 pub mod Keeping
+pub mod KeptRows
+pub mod Leaves
 pub mod Looked
 pub mod Places
 pub mod Recounted

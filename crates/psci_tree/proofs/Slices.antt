@@ -1,25 +1,23 @@
 -- The domains of one level, and that the cores below one are a slice of all cores.
-use Rattle.std.proofs.Common.{◌≡◌, ℕ, zero, suc, ◌+◌, ◌<◌, ◌≤◌, Bool, true, List, []}
+use Rattle.std.proofs.Common.{◌≡◌, ℕ, zero, suc, ◌+◌, ◌<◌, ◌≤◌, true, List, []}
 use Rattle.std.proofs.Common.{◌∷◌, ◌++◌, length, take, drop, get_or, map, sum, refl, ap}
-use Rattle.std.proofs.Common.{sym, ◌∙◌, arith, ◌==◌, length-append, append-nil, subst}
+use Rattle.std.proofs.Common.{sym, ◌∙◌, arith, length-append, append-nil, subst}
 use Rattle.std.specs.List.{flat_map, AllPass, range_with_len}
 use Rattle.std.proofs.lemmas.Bool.Decides.{nat_tests}
 use Rattle.std.proofs.lemmas.List.{length-take-le, map-append, map-id, take-map, take-append-drop}
-use Rattle.std.proofs.lemmas.List.{drop_at, take_at, drop_more, length-map, get_or-map, drop_all}
+use Rattle.std.proofs.lemmas.List.{drop_at, take_at, drop_more, drop_all}
 use Rattle.std.proofs.lemmas.List.Concat.{flat_map-append, flat_map_single, length-flat_map}
-use Rattle.std.proofs.lemmas.List.Sums.{sum-map, get_or-le-sum_by}
-use Rattle.std.proofs.lemmas.List.Sums.{length-filter, count_by-le-length}
-use Rattle.std.proofs.lemmas.List.FromFn.{length-range_with_len}
+use Rattle.std.proofs.lemmas.List.Sums.{sum-map}
 use Rattle.std.proofs.lemmas.List.Elements.{All-take}
 use Rattle.psci_board.specs.declared.node.Node.{Node}
-use Rattle.psci_board.specs.Board.{IsTree, HasNodeIn, size_below, is_width, place_above}
+use Rattle.psci_board.specs.Board.{IsTree, HasNodeIn, size_below, is_width}
 use Rattle.psci_board.specs.Board.{below_in, first_core, span}
 use Rattle.psci_board.specs.Laws.{SpanLaws}
 use Rattle.psci_tree.specs.Recount.{TreeValue, core_at, never_started}
 use Rattle.psci_tree.specs.Domains.{cores, cores_in, children, child_count}
 use Rattle.psci_tree.specs.Domains.{domains_down, child_counts, HasShape, IsWhole}
 use Rattle.psci_tree.specs.declared.state.CoreState.{CoreState}
-use Rattle.psci_tree.specs.declared.domain.Domain.{Domain, out-Domain}
+use Rattle.psci_tree.specs.declared.domain.Domain.{Domain}
 use Rattle.psci_tree.proofs.Below.{cores_of_domain, cores_of_core, cores_drop, length_take}
 use Rattle.psci_tree.proofs.Places.{sum-cons, sum_take_le}
 
@@ -250,51 +248,3 @@ states_at n t at k d laws i h same in' e is =
 pub size_few : (levels : List (List ℕ)) → IsTree levels → size_below levels ≤ 64
 size_few [] t = omega arith
 size_few (w ∷ ws) t = t.1
-
-pub few_below : (levels : List (List ℕ)) (n : Node) → IsTree levels
-    → length (below_in levels n) ≤ 64
-few_below levels n t =
-    omega (
-      arith,
-      length-filter test (range_with_len 0 (size_below levels)),
-      count_by-le-length test (range_with_len 0 (size_below levels)),
-      length-range_with_len 0 (size_below levels),
-      size_few levels t,
-    )
-  where
-    test : ℕ → Bool
-    test c = place_above levels n.level c == n.place
-
--- a domain of level 0 is the core itself
-pub core_of_leaf : (n : Domain) (t : TreeValue) (at : Node) (k : ℕ) (d : Domain)
-    → SpanLaws t.levels → IsTree t.levels → IsWhole n t.levels → t.cores ≡ cores n
-    → HasNodeIn t.levels at → k + at.level ≡ length t.levels
-    → d ≡ get_or (domains_down k n) at.place d → at.level ≡ 0
-    → (out-Domain d).core ≡ core_at t at.place
-core_of_leaf n t at k d laws i h same in' e is low =
-    let row : List Domain = domains_down k n in
-    let here : k ≡ length t.levels = omega arith in
-    let none : sum (map child_count row) ≡ 0 =
-    ap sum (sym (widths_are k n)) ∙ ap (λ j. sum (child_counts j n)) here ∙ h.ends in
-    let fits : at.place < length row =
-    omega (arith, in'.place, size_at n t.levels at.level k h e) in
-    let fans : child_count d ≡ 0 = omega (
-      arith,
-      ap child_count is,
-      get_or-map child_count row at.place d 0 fits,
-      get_or-le-sum_by (λ x. x) (map child_count row) at.place 0
-          (omega (arith, length-map row child_count)),
-    ) in
-    let own : cores d ≡ (out-Domain d).core ∷ [] = cores_of_core d fans in
-    let first : (span t.levels at).first ≡ at.place =
-    ap (λ l. first_core t.levels l at.place) low in
-    let last : first_core t.levels at.level (at.place + 1) ≡ at.place + 1 =
-    ap (λ l. first_core t.levels l (at.place + 1)) low in
-    let one : (span t.levels at).count ≡ 1 = omega arith in
-    let alone : below_in t.levels at ≡ at.place ∷ [] = laws.cores at in'
-    ∙ ap (λ x. range_with_len x (span t.levels at).count) first
-    ∙ ap (range_with_len at.place) one in
-    let all : (out-Domain d).core ∷ [] ≡ core_at t at.place ∷ [] =
-    sym own ∙ states_at n t at k d laws i h same in' e is
-    ∙ ap (map (λ c. core_at t c)) alone in
-    cc

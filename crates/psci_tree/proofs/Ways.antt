@@ -2,6 +2,7 @@
 use Rattle.std.proofs.Common.{◌≡◌, ℕ, zero, suc, ◌+◌, ◌<◌, ◌≤◌, true, List, [], ◌∷◌, ◌++◌, length}
 use Rattle.std.proofs.Common.{take, drop, map, sum, get_or, arith, refl, ap, sym, ◌∙◌, subst}
 use Rattle.std.proofs.Common.{append_assoc, length-append}
+use Rattle.std.proofs.Math.ListN.{set}
 use Rattle.std.specs.List.{flat_map, AllPass}
 use Rattle.std.proofs.lemmas.List.{take-append-le, take-map, get_or-map, length-map, drop_all}
 use Rattle.std.proofs.lemmas.List.Concat.{flat_map-append, length-flat_map, get_or-flat_map}
@@ -11,8 +12,12 @@ use Rattle.psci_board.specs.Board.{IsTree, size_below, is_width, group_of, place
 use Rattle.psci_board.specs.Board.{first_core}
 use Rattle.psci_tree.specs.Domains.{cores, cores_in, children, child_count, child_counts, IsWay}
 use Rattle.psci_tree.specs.Domains.{place_by, domains_down, IsWayTo, IsWhole}
-use Rattle.psci_tree.specs.declared.domain.Domain.{Domain, out-Domain}
-use Rattle.psci_tree.proofs.Below.{cores_of_core, length_of_domain, length_drop, length_parts}
+use Rattle.psci_tree.specs.Recount.{never_started}
+use Rattle.psci_tree.specs.Changes.{changed, with_change}
+use Rattle.psci_tree.specs.declared.state.Change.{Change}
+use Rattle.psci_tree.specs.declared.domain.Domain.{Domain}
+use Rattle.psci_tree.proofs.Below.{cores_of_core, cores_of_domain, length_of_domain, length_drop}
+use Rattle.psci_tree.proofs.Below.{length_parts}
 use Rattle.psci_tree.proofs.Granted.{place_lt}
 use Rattle.psci_tree.proofs.Places.{Counted, counted, sum-cons}
 use Rattle.psci_tree.proofs.Slices.{first_len, fans_at, wide_at, size_at, size_drop, widths_are}
@@ -47,6 +52,32 @@ place_inside (suc l) way n h =
       place_inside l way (get_or (children n) i n) h.1,
     )
 
+-- the core at a place below a domain, as one below its child
+pub same_core : (n : Domain) (i rest place : ℕ) → i < length (children n)
+    → length (cores_in (take i (children n))) + rest ≡ place
+    → rest < length (cores (get_or (children n) i n))
+    → get_or (cores n) place never_started
+    ≡ get_or (cores (get_or (children n) i n)) rest never_started
+same_core n i rest place h e r =
+    ap (λ cs. get_or cs place never_started) (cores_of_domain n (omega arith))
+    ∙ ap (λ p. get_or (cores_in (children n)) p never_started) (sym e)
+    ∙ get_or-flat_map cores (children n) i rest n never_started h r
+
+-- a change of a child's core, as one of the domain's
+pub child_changed : (n m : Domain) (l k : ℕ) (way : List ℕ) (change : Change) → Step n l k way
+    → cores m ≡ with_change (cores (get_or (children n) (get_or way k 0) n))
+    (place_by k way (get_or (children n) (get_or way k 0) n)) change
+    → cores m ≡ set (cores (get_or (children n) (get_or way k 0) n))
+    (place_by k way (get_or (children n) (get_or way k 0) n))
+    (changed change (get_or (cores n) (place_by l way n) never_started))
+child_changed n m l k way change h e =
+    let i : ℕ = get_or way k 0 in
+    let d : Domain = get_or (children n) i n in
+    let rest : ℕ = place_by k way d in
+    e ∙ ap (λ core. set (cores d) rest (changed change core))
+    (sym (same_core n i rest (place_by l way n) h.inside (sym h.place)
+    (place_inside k way d h.rest)))
+
 -- The way to a core of the board -------------------------------------------------------------
 
 -- one level up
@@ -76,7 +107,8 @@ take_in (n ∷ ns) (suc p) k d h i =
     (take k (children (get_or ns p d))))
 
 -- from a domain of this level on a core's path, the way leads to that core
-pub record Leads (levels : List (List ℕ)) (core : ℕ) (ks : List ℕ) (l : ℕ) (n : Domain) : Type 0 where
+pub record Leads (levels : List (List ℕ)) (core : ℕ) (ks : List ℕ) (l : ℕ)
+    (n : Domain) : Type 0 where
   pub way : IsWay l ks n
   pub place : first_core levels l (place_above levels l core) + place_by l ks n ≡ core
 
@@ -102,9 +134,9 @@ leads_core root levels core ks k d w h e =
     }
 
 -- and a domain above it does where its child on the path does
-leads_up : (root : Domain) (levels : List (List ℕ)) (core : ℕ) (ks : List ℕ) (l k : ℕ) (d n : Domain)
-    → IsTree levels → IsWhole root levels → core < size_below levels → IsWayTo levels core ks
-    → k + suc l ≡ length levels
+leads_up : (root : Domain) (levels : List (List ℕ)) (core : ℕ) (ks : List ℕ) (l k : ℕ)
+    (d n : Domain) → IsTree levels → IsWhole root levels → core < size_below levels
+    → IsWayTo levels core ks → k + suc l ≡ length levels
     → n ≡ get_or (domains_down k root) (place_above levels (suc l) core) d
     → Leads levels core ks l (get_or (domains_down (suc k) root) (place_above levels l core) n)
     → Leads levels core ks (suc l) n
@@ -116,7 +148,8 @@ leads_up root levels core ks l k d n t w h to e is lower =
     let own : List ℕ = get_or levels l [] in
     let same : map child_count row ≡ own = fans_at root levels l k w e in
     let below : q < size_below (drop l levels) = place_lt levels l core t (omega arith) h in
-    let c : Counted own q = counted own q (omega (arith, below, size_drop levels l (omega arith))) in
+    let c : Counted own q =
+    counted own q (omega (arith, below, size_drop levels l (omega arith))) in
     let up : p ≡ group_of own q = above_next levels l core (omega arith) in
     let number : i ≡ place_in own q = to l (omega arith) in
     let fits : p < length row =
@@ -201,8 +234,7 @@ system_way root levels core way t w h to =
     ) in
     let here : Leads levels core way (length levels) root =
     subst (λ j. Leads levels core way (length levels) (get_or (root ∷ []) j root)) top
-    (leads root levels core way (length levels) 0 root t w h to (omega arith)) in
-    (
+    (leads root levels core way (length levels) 0 root t w h to (omega arith)) in (
       here.way,
       omega (
         arith,

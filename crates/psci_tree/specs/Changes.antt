@@ -1,11 +1,25 @@
 -- What a call changes in a tree of power domains.
 use Rattle.std.specs.Prelude.{◌≡◌, ℕ, ◌+◌, ◌-◌, ◌<◌, ◌≤◌, List, [], ◌∷◌, length}
-use Rattle.std.specs.Prelude.{map, replicate, slice_set, slice_index_or}
+use Rattle.std.specs.Prelude.{map, replicate, slice_set, slice_index_or, unwrap_or}
 use Rattle.psci_board.specs.declared.node.Node.{Node}
 use Rattle.psci_board.specs.Board.{size_below, group_of, place_above}
+use Rattle.psci_tree.specs.declared.state.CoreState.{CoreState}
+use Rattle.psci_tree.specs.declared.state.Change.{Change}
 use Rattle.psci_tree.specs.declared.state.Activity.{Activity}
 use Rattle.psci_tree.specs.declared.state.Activity.TheVariants.{Active, Suspended, Off}
 use Rattle.psci_tree.specs.Recount.{TreeValue, never_started, known_at, granted_at, level_sizes}
+
+-- what becomes of a core: another activity, and the number of its start, if it was started
+abbrev pub changed : Change → CoreState → CoreState
+changed change core = record {
+  activity = change.activity;
+  known = unwrap_or change.started core.known;
+}
+
+-- the same of one core among these
+abbrev pub with_change : List CoreState → ℕ → Change → List CoreState
+with_change cs core change =
+    slice_set cs core (changed change (slice_index_or cs core never_started))
 
 -- another state of one core
 abbrev pub with_core_state : TreeValue → ℕ → Activity → ℕ → TreeValue

@@ -1,15 +1,16 @@
 //! The way down from the system to a domain, and back up from a core that changes.
 
-ghost use Rattle.std.specs.Prelude.{◌≡◌, ℕ, ◌-◌, ◌<◌, length, get_or, replicate, slice_set};
+ghost use Rattle.std.specs.Prelude.{◌≡◌, ℕ, ◌-◌, ◌<◌, length, get_or, replicate};
 ghost use Rattle.psci_board.specs.Board.{HasNode, IsTree, height, size_below};
 ghost use Rattle.psci_tree.specs.declared.domain.Domain.{Domain};
 ghost use Rattle.psci_tree.specs.Recount.{never_started};
+ghost use Rattle.psci_tree.specs.Changes.{with_change};
 ghost use Rattle.psci_tree.specs.Domains.{HasShape, IsWayTo, IsWhole, child_counts, cores};
 ghost use Rattle.psci_tree.specs.Domains.{domains_down};
 ghost use Rattle.psci_tree.specs.Kept.{IsKept};
 
 use crate::domain::Domain;
-use crate::state::{CoreState, NEVER_STARTED};
+use crate::state::{Activity, Change};
 use psci_board::{Board, Core, Node};
 
 /// The domain of a node of the board, one step down for each level.
@@ -27,17 +28,17 @@ pub fn domain_at<'a>(root: &'a Domain, board: &Board, node: Node) -> &'a Domain
     &parent.children[number as usize]
 }
 
-/// Sets the state of a core, and what each domain on its path keeps.
-pub fn set_core(root: &mut Domain, board: &Board, core: Core, state: CoreState)
+/// Changes a core, and what each domain on its path keeps.
+pub fn change_core(root: &mut Domain, board: &Board, core: Core, change: &Change)
     requires tree { IsTree board.now.levels }
     requires whole { IsWhole root.old board.now.levels }
     requires core { core.number < size_below board.now.levels }
     requires kept { IsKept root.old }
-    ensures cores { cores root.new ≡ slice_set (cores root.old) core.number state }
+    ensures cores { cores root.new ≡ with_change (cores root.old) core.number change.now }
     ensures shape { (k : ℕ) → child_counts k root.new ≡ child_counts k root.old }
     ensures kept { IsKept root.new }
 {
-    root.set(board.height(), &way_to(board, core), &state);
+    root.change(board.height(), &way_to(board, core), change);
 }
 
 /// Turns off every core, and forgets its starts.
@@ -49,8 +50,12 @@ pub fn turn_off(root: &mut Domain, board: &Board)
     ensures shape { (k : ℕ) → child_counts k root.new ≡ child_counts k root.old }
     ensures kept { IsKept root.new }
 {
+    let change = Change {
+        activity: Activity::Off,
+        started: Some(0),
+    };
     for number in 0..board.cores() {
-        set_core(root, board, Core { number }, NEVER_STARTED);
+        change_core(root, board, Core { number }, &change);
     }
 }
 
@@ -62,10 +67,11 @@ fn way_to(board: &Board, core: Core) -> [u32; 3]
     ensures { IsWayTo board.now.levels core.number result }
 {
     let mut way = [0; 3];
-    let mut node = core.node();
+    let mut place = core.number;
     for level in 0..board.height() {
+        let node = Node { level, place };
         way[level as usize] = board.child_number(node).unwrap_or(0);
-        node = board.parent(node).unwrap_or(node);
+        place = board.parent(node).unwrap_or(node).place;
     }
     way
 }

@@ -1,12 +1,13 @@
 //! Power domains that hold those below them.
 
-ghost use Rattle.std.specs.Prelude.{◌≡◌, ℕ, ◌^◌, ◌<◌, ◌≤◌, length, slice_set};
+ghost use Rattle.std.specs.Prelude.{◌≡◌, ℕ, ◌^◌, ◌<◌, ◌≤◌, length};
 ghost use Rattle.psci_tree.specs.declared.domain.Domain.{Domain};
+ghost use Rattle.psci_tree.specs.Changes.{with_change};
 ghost use Rattle.psci_tree.specs.Domains.{cores, cores_in, child_counts, IsWay, place_by};
 ghost use Rattle.psci_tree.specs.Kept.{AreKept, IsKept, Keeps};
 
 use crate::kept::Kept;
-use crate::state::CoreState;
+use crate::state::{Change, CoreState};
 
 /// A power domain. One without children is a core.
 #[derive(Drop)]
@@ -20,24 +21,25 @@ pub struct Domain {
 }
 
 impl Domain {
-    /// Sets the state of the core that a way leads to, so many levels down, and what is kept of it.
-    pub fn set(&mut self, level: u32, way: &[u32], state: &CoreState)
+    /// Changes the core that a way leads to, so many levels down, and what is kept of it.
+    pub fn change(&mut self, level: u32, way: &[u32], change: &Change)
         requires long { level ≤ length way.now }
         requires way { IsWay level way.now self.old }
         requires few { length (cores self.old) < 2 ^ 16 }
         requires kept { IsKept self.old }
-        ensures cores { cores self.new
-            ≡ slice_set (cores self.old) (place_by level way.now self.old) state.now }
+        ensures cores { cores self.new ≡ with_change (cores self.old)
+            (place_by level way.now self.old) change.now }
         ensures shape { (k : ℕ) → child_counts k self.new ≡ child_counts k self.old }
         ensures kept { IsKept self.new }
     {
         if level == 0 {
-            self.kept = Kept::of_core(state);
-            self.core = *state;
+            let core = self.core.changed(change);
+            self.kept = Kept::of_core(&core);
+            self.core = core;
             return;
         }
         let number = way[level as usize - 1] as usize;
-        self.children[number].set(level - 1, way, state);
+        self.children[number].change(level - 1, way, change);
         self.kept = kept_of(&self.children);
     }
 }

@@ -2,6 +2,7 @@
 
 ghost use Rattle.std.specs.Prelude.{◌≡◌, ◌≤◌, ◌<◌, ◌^◌};
 ghost use Rattle.psci_tree.specs.Recount.{asks, is_active, is_off};
+ghost use Rattle.psci_tree.specs.Changes.{changed};
 
 use psci_state::Ask;
 
@@ -25,6 +26,16 @@ pub struct CoreState {
     pub known: u32,
 }
 
+/// What becomes of a core.
+#[derive(Clone, Copy)]
+pub struct Change {
+    /// What it does from now on.
+    pub activity: Activity,
+    /// The number of the start that was seen to enter, if there was one: without it the known start
+    /// stays.
+    pub started: Option<u32>,
+}
+
 /// A core that is off and was never started. A domain above the cores holds it without use.
 pub const NEVER_STARTED: CoreState = CoreState {
     activity: Activity::Off,
@@ -32,6 +43,16 @@ pub const NEVER_STARTED: CoreState = CoreState {
 };
 
 impl CoreState {
+    /// The state after a change.
+    pub fn changed(self, change: &Change) -> CoreState
+        ensures { result ≡ changed change.now self }
+    {
+        CoreState {
+            activity: change.activity,
+            known: change.started.unwrap_or(self.known),
+        }
+    }
+
     /// The depth that the core asks of its domain of this level.
     pub fn ask(&self, level: u32) -> u8
         ensures value { result ≡ asks self.now.activity level }

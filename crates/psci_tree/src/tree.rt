@@ -1,10 +1,10 @@
 //! The tree of power domains.
 
 use crate::build::build;
-use crate::descent::{domain_at, set_core, turn_off};
+use crate::descent::{change_core, domain_at, turn_off};
 use crate::domain::Domain;
 use crate::grants::{clear_up, deepest_rows, fill_rows, write};
-use crate::state::{Activity, CoreState, NEVER_STARTED};
+use crate::state::{Activity, Change, CoreState, NEVER_STARTED};
 use psci_board::{Board, Core, Memory, Node, law_sizes, law_spans};
 use psci_state::Ask;
 use std::alloc::Global;
@@ -45,7 +45,7 @@ impl Model for Tree {
     }) };
 }
 
-ghost use Rattle.std.specs.Prelude.{◌≡◌, ℕ, ◌+◌, ◌^◌, ◌<◌, ◌≤◌, map, length, IfOk};
+ghost use Rattle.std.specs.Prelude.{◌≡◌, ℕ, ◌+◌, ◌^◌, ◌<◌, ◌≤◌, map, length, unwrap_or, IfOk};
 ghost use Rattle.psci_board.specs.Board.{size_below, HasNodeIn, below_in};
 ghost use Rattle.psci_tree.specs.declared.domain.Domain.{Domain, out-Domain};
 ghost use Rattle.psci_tree.specs.declared.state.Activity.TheVariants.{Active, Suspended, Off};
@@ -164,8 +164,7 @@ impl Tree {
         ensures levels { self.new.levels ≡ self.old.levels }
         ensures tree { IsDomainTree self.new }
     {
-        let known = self.known_start(core);
-        self.set_core(core, Activity::Suspended(ask), known);
+        self.set_core(core, Activity::Suspended(ask), None);
     }
 
     /// A core is off, or going off.
@@ -175,8 +174,7 @@ impl Tree {
         ensures levels { self.new.levels ≡ self.old.levels }
         ensures tree { IsDomainTree self.new }
     {
-        let known = self.known_start(core);
-        self.set_core(core, Activity::Off, known);
+        self.set_core(core, Activity::Off, None);
     }
 
     /// A core is pending: nothing is granted any more on its path.
@@ -186,8 +184,7 @@ impl Tree {
         ensures levels { self.new.levels ≡ self.old.levels }
         ensures tree { IsDomainTree self.new }
     {
-        let known = self.known_start(core);
-        self.set_core(core, Activity::Active, known);
+        self.set_core(core, Activity::Active, None);
         self.clear_path(core);
     }
 
@@ -198,7 +195,7 @@ impl Tree {
         ensures levels { self.new.levels ≡ self.old.levels }
         ensures tree { IsDomainTree self.new }
     {
-        self.set_core(core, Activity::Active, number);
+        self.set_core(core, Activity::Active, Some(number));
         self.clear_path(core);
     }
 
@@ -212,20 +209,17 @@ impl Tree {
         self.domain(core.node()).core
     }
 
-    /// Sets the state of a core.
-    fn set_core(&mut self, core: Core, activity: Activity, known: u32)
+    /// Changes a core.
+    fn set_core(&mut self, core: Core, activity: Activity, started: Option<u32>)
         requires core { core.number < size_below self.old.levels }
         requires activity { IsActivity activity }
-        ensures value { self.new ≡ with_core_state self.old core.number activity known }
+        ensures value { self.new ≡ with_core_state self.old core.number activity
+            (unwrap_or started (known_at self.old core.number)) }
         ensures levels { self.new.levels ≡ self.old.levels }
         ensures tree { IsDomainTree self.new }
     {
-        set_core(
-            &mut self.root,
-            &self.board,
-            core,
-            CoreState { activity, known },
-        );
+        let change = Change { activity, started };
+        change_core(&mut self.root, &self.board, core, &change);
     }
 
     /// Takes away what is granted on the path of a core.
@@ -254,7 +248,6 @@ impl Tree {
         ensures cores { cores result.now
             ≡ map (λ c. core_at self.now c) (below_in self.now.levels node) }
         ensures kept { Keeps (out-Domain result.now).kept (cores result.now) }
-        ensures few { length (cores result.now) < 2 ^ 16 }
         ensures core { node.level ≡ 0 → (out-Domain result.now).core ≡ core_at self.now node.place }
     {
         law_spans();

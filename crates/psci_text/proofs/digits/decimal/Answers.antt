@@ -1,4 +1,5 @@
-use Rattle.std.proofs.Common.{◌≡◌, ◌+◌, ◌*◌, ◌≤◌, ◌<◌, ◌^◌, arith, sym, ◌∙◌, length, get_or, true, false, take}
+use Rattle.std.proofs.Common.{◌≡◌, ◌+◌, ◌*◌, ◌≤◌, ◌<◌, ◌^◌, arith, sym, ◌∙◌, length, get_or, true}
+use Rattle.std.proofs.Common.{false, take}
 use Rattle.std.specs.Char.{is_ascii_digit, digit_value}
 use Rattle.std.specs.List.{prefix_len}
 use Rattle.std.specs.Str.Parse.{digits_value}
@@ -44,7 +45,8 @@ loop-byte-preserved c =
     let more : i + 1 ≤ prefix_len is_ascii_digit text =
     one_more is_ascii_digit text i (omega arith) l digit in
     let value = digits_value_more 10 text i l in
-    let next : c.in_ok-value.value ≡ digits_value 10 (take i text) * 10 + digit_value (get_or text i 0) =
+    let next : c.in_ok-value.value ≡ digits_value 10 (take i text) * 10
+    + digit_value (get_or text i 0) =
     grind (arith, nat_tests) in
     (omega arith, more, grind (arith, nat_tests), next ∙ sym value)
 
@@ -53,6 +55,7 @@ returns-then-not-is_ascii_digit c =
     let text = c.args.text.now in
     let i = c.loop-byte.count in
     let other : is_ascii_digit (get_or text i 0) ≡ false = grind (arith, common_steps) in
-    let all : prefix_len is_ascii_digit text ≡ i = no_more is_ascii_digit text i (omega arith) other in
+    let all : prefix_len is_ascii_digit text ≡ i =
+    no_more is_ascii_digit text i (omega arith) other in
     let v = c.loop-byte.invariant in
     rw (all, ← v.3) (fits c.loop-byte.value (c.loop-byte.value, i) (v.2))

@@ -89,9 +89,11 @@ loop-place-preserved c =
     ) in
     record {
       whole =
-          ap (λ xs. flat_map children xs ++ c.replace-group.new.dest.items) c.in_ok-push.ensures.items
+          ap (λ xs. flat_map children xs ++ c.replace-group.new.dest.items)
+          c.in_ok-push.ensures.items
           ∙ ap (λ xs. xs ++ c.replace-group.new.dest.items) (children_push parents _)
-          ∙ append_assoc (flat_map children parents) c.replace-group.result.items c.replace-group.new.dest.items
+          ∙ append_assoc (flat_map children parents) c.replace-group.result.items
+          c.replace-group.new.dest.items
           ∙ ap (λ xs. flat_map children parents ++ (xs ++ c.replace-group.new.dest.items)) taken
           ∙ ap (λ xs. flat_map children parents ++ (take n rest ++ xs)) left
           ∙ ap (λ xs. flat_map children parents ++ xs) (take-append-drop n rest)

@@ -6,7 +6,7 @@ use Rattle.std.proofs.Math.ListN.{set, length-set}
 use Rattle.psci_tree.specs.Recount.{never_started}
 use Rattle.psci_tree.specs.Domains.{cores}
 use Rattle.psci_tree.proofs.Below.{set_next}
-use Rattle.psci_tree.proofs.Slices.{whole_kept, length_cores}
+use Rattle.psci_tree.proofs.Slices.{length_cores}
 use Rattle.psci_tree.proofs.descent.turn_off.Goals as goal
 
 pub loop-number-preserved : goal.loop-number-preserved
@@ -16,7 +16,7 @@ loop-number-preserved c =
     let up : number + 1 ≡ suc number = omega arith in
     record {
       states =
-          c.set_core.ensures.cores
+          c.change_core.ensures.cores
           ∙ ap (λ xs. set xs number never_started) c.loop-number.invariant.states
           ∙ set_next never_started old number (omega (
             arith,
@@ -25,10 +25,11 @@ loop-number-preserved c =
             length_cores c.args.root.now c.args.board.now.levels c.requires.tree c.requires.whole,
           ))
           ∙ ap (λ n. replicate n never_started ++ drop n old) (sym up);
-      same = ap length c.set_core.ensures.cores
-          ∙ length-set (cores c.loop-number.root) number never_started ∙ c.loop-number.invariant.same;
-      kept = c.set_core.ensures.kept;
-      shape = λ k. c.set_core.ensures.shape k ∙ c.loop-number.invariant.shape k;
+      same = ap length c.change_core.ensures.cores
+          ∙ length-set (cores c.loop-number.root) number never_started
+          ∙ c.loop-number.invariant.same;
+      kept = c.change_core.ensures.kept;
+      shape = λ k. c.change_core.ensures.shape k ∙ c.loop-number.invariant.shape k;
     }
 
 pub returns-clause-cores : goal.returns-clause-cores

@@ -8,8 +8,7 @@ invariant-loop-level l =
     let core = l.fn.core.number in
     record {
       long : length l.way ≡ 3;
-      level : l.node.level ≡ l.level;
-      place : l.node.place ≡ place_above levels l.level core;
+      place : l.place ≡ place_above levels l.level core;
       done : (k : ℕ) → k < l.level
           → get_or l.way k 0 ≡ place_in (get_or levels k []) (place_above levels k core);
     }

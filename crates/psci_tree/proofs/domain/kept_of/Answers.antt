@@ -1,4 +1,4 @@
-use Rattle.std.proofs.Common.{◌≡◌, ◌+◌, ◌≤◌, arith, length, take, subst, sym}
+use Rattle.std.proofs.Common.{◌+◌, arith, take, subst, sym}
 use Rattle.psci_tree.specs.Domains.{cores_in}
 use Rattle.psci_tree.specs.Kept.{Keeps, beside}
 use Rattle.psci_tree.specs.declared.kept.Kept.{Kept}
@@ -14,7 +14,11 @@ beside-kept-requires c =
     keeps_small _ _ (kept_next c.args.domains.now c.loop-domain.domain-index d c.loop-domain.kept
     c.loop-domain-test.true c.domain-item.is c.requires.kept c.loop-domain.invariant)
     (omega (arith, length_parts c.args.domains.now (c.loop-domain.domain-index + 1))) in
-    record { known = fits.known; active = omega (arith, fits.active); off = omega (arith, fits.off) }
+    record {
+      known = fits.known;
+      active = omega (arith, fits.active);
+      off = omega (arith, fits.off);
+    }
 
 pub loop-domain-preserved : goal.loop-domain-preserved
 loop-domain-preserved c =

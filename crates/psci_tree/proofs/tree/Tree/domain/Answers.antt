@@ -1,12 +1,12 @@
 use Rattle.std.proofs.Common.{◌≡◌, ◌+◌, ◌-◌, ℕ, arith, ap, sym, subst, length}
-use Rattle.std.proofs.lemmas.List.{length-map}
-use Rattle.psci_board.specs.Board.{below_in, HasNodeIn}
-use Rattle.psci_tree.specs.Recount.{TreeValue, core_at}
+use Rattle.psci_board.specs.Board.{HasNodeIn}
+use Rattle.psci_tree.specs.Recount.{TreeValue}
 use Rattle.psci_tree.specs.Inside.{IsTied}
 use Rattle.psci_tree.specs.Kept.{IsRecount}
 use Rattle.psci_tree.specs.declared.domain.Domain.{Domain}
 use Rattle.psci_board.specs.declared.node.Node.{Node}
-use Rattle.psci_tree.proofs.Slices.{states_at, core_of_leaf, few_below, size_at}
+use Rattle.psci_tree.proofs.Leaves.{core_of_leaf}
+use Rattle.psci_tree.proofs.Slices.{states_at, size_at}
 use Rattle.psci_tree.proofs.tree.Tree.domain.Goals as goal
 
 pub domain_at-requires : goal.domain_at-requires
@@ -29,30 +29,6 @@ returns-clause-cores c =
     (ap (λ (v : TreeValue). v.cores) (sym is)) c.requires e
     (c.domain_at.ensures c.domain_at.result.now)
 
-pub returns-clause-few : goal.returns-clause-few
-returns-clause-few c =
-    let tied : IsTied c.self.inside.root c.args.self.now =
-    subst (IsTied c.self.inside.root) c.self.view_is c.self.invariant in
-    omega (
-      arith,
-      ap length (returns-clause-cores c),
-      length-map (below_in c.args.self.now.levels c.args.node) (λ x. core_at c.args.self.now x),
-      few_below c.args.self.now.levels c.args.node tied.valid.tree,
-    )
-
-pub returns-clause-core : goal.returns-clause-core
-returns-clause-core c =
-    let k : ℕ = length c.self.inside.board.levels - c.args.node.level in
-    let is = c.self.view_is in
-    let tied : IsTied c.self.inside.root c.args.self.now =
-    subst (IsTied c.self.inside.root) is c.self.invariant in
-    let e : k + c.args.node.level ≡ length c.args.self.now.levels =
-    omega (arith, ap (λ (v : TreeValue). length v.levels) is, c.requires.level) in
-    core_of_leaf c.self.inside.root c.args.self.now c.args.node k c.domain_at.result.now
-    (c.law_spans.ensures c.args.self.now.levels tied.valid.tree) tied.valid.tree tied.whole
-    (ap (λ (v : TreeValue). v.cores) (sym is)) c.requires e
-    (c.domain_at.ensures c.domain_at.result.now)
-
 pub returns-clause-kept : goal.returns-clause-kept
 returns-clause-kept c =
     let k : ℕ = length c.self.inside.board.levels - c.args.node.level in
@@ -67,3 +43,16 @@ returns-clause-kept c =
       size_at c.self.inside.root c.self.inside.board.levels n.level k c.self.invariant.whole
           (omega (arith, in'.level)),
     )))
+
+pub returns-clause-core : goal.returns-clause-core
+returns-clause-core c =
+    let k : ℕ = length c.self.inside.board.levels - c.args.node.level in
+    let is = c.self.view_is in
+    let tied : IsTied c.self.inside.root c.args.self.now =
+    subst (IsTied c.self.inside.root) is c.self.invariant in
+    let e : k + c.args.node.level ≡ length c.args.self.now.levels =
+    omega (arith, ap (λ (v : TreeValue). length v.levels) is, c.requires.level) in
+    core_of_leaf c.self.inside.root c.args.self.now c.args.node k c.domain_at.result.now
+    (c.law_spans.ensures c.args.self.now.levels tied.valid.tree) tied.valid.tree tied.whole
+    (ap (λ (v : TreeValue). v.cores) (sym is)) c.requires e
+    (c.domain_at.ensures c.domain_at.result.now)

@@ -1,18 +1,22 @@
-use Rattle.std.proofs.Common.{◌≡◌, ◌<◌, ◌-◌, ◌+◌, ℕ, List, arith, rules, length, ap, get_or, ◌∙◌}
-use Rattle.std.proofs.Common.{suc, subst, sym, take, [], ◌∷◌}
+use Rattle.std.proofs.Common.{◌≡◌, ◌<◌, ◌-◌, ℕ, List, arith, rules, length, ap, get_or, ◌∙◌}
+use Rattle.std.proofs.Common.{subst, sym, [], ◌∷◌}
 use Rattle.std.proofs.lemmas.List.{get_or_default}
 use Rattle.std.proofs.Math.ListN.{set, length-set}
 use Rattle.std.specs.Vec.{with_item}
 use Rattle.psci_tree.specs.Domains.{cores, cores_in, children, child_counts, IsWay, place_by}
+use Rattle.psci_tree.specs.Recount.{never_started}
+use Rattle.psci_tree.specs.Changes.{changed, with_change}
+use Rattle.psci_tree.specs.declared.state.CoreState.{CoreState}
+use Rattle.psci_tree.specs.declared.state.Change.{Change}
 use Rattle.psci_tree.specs.Kept.{Keeps, AreKept, IsKept}
 use Rattle.psci_tree.specs.declared.domain.Domain.{Domain}
 use Rattle.psci_tree.specs.declared.domain.Domain.TheViews.{out-Domain, the_lemmas}
-use Rattle.psci_tree.proofs.Below.{cores_with_child, widths_with_child, widths_with_core, cores_set}
+use Rattle.psci_tree.proofs.Below.{cores_with_child, widths_with_child, cores_set}
 use Rattle.psci_tree.proofs.Below.{length_of_domain, cores_le, cores_of_core, cores_roll_core}
 use Rattle.psci_tree.proofs.Keeping.{kept_children, kept_at, kept_set}
 use Rattle.psci_tree.proofs.Keeping.{kept_roll, kept_roll_core}
-use Rattle.psci_tree.proofs.Ways.{Step, step, place_inside}
-use Rattle.psci_tree.proofs.domain.Domain.+set.Goals as goal
+use Rattle.psci_tree.proofs.Ways.{Step, step, place_inside, child_changed}
+use Rattle.psci_tree.proofs.domain.Domain.+change.Goals as goal
 
 pub index_mut-requires : goal.index_mut-requires
 index_mut-requires t c =
@@ -21,8 +25,8 @@ index_mut-requires t c =
     step _ l (l - 1) _ (omega arith) c.requires.way in
     omega (arith, down.inside, (out-Domain c.args.self.now).children.ok.0)
 
-pub set-requires : goal.set-requires
-set-requires t c =
+pub change-requires : goal.change-requires
+change-requires t c =
     let own : Domain = c.args.self.now in
     let l : ℕ = c.args.level in
     let i : ℕ = get_or c.args.way.now (l - 1) 0 in
@@ -45,7 +49,7 @@ set-requires t c =
               length_of_domain own (omega (arith, down.inside)),
             ),
             subst IsKept is (kept_at items i own down.inside
-            (kept_children own c.requires.kept)),
+                (kept_children own c.requires.kept)),
           ),
         ),
       ),
@@ -56,15 +60,16 @@ returns-then-level-eq0-clause-cores t c =
     let own : Domain = c.args.self.now in
     let none : length (children own) ≡ 0 =
     subst (λ j. IsWay j c.args.way.now own) c.if-level-eq0.true c.requires.way in
-    let there : set (cores own) (place_by c.args.level c.args.way.now own) c.args.state.now
-    ≡ c.args.state.now ∷ [] =
-    ap (λ j. set (cores own) (place_by j c.args.way.now own) c.args.state.now) c.if-level-eq0.true
-    ∙ ap (λ cs. set cs 0 c.args.state.now) (cores_of_core own none) in
+    let change : Change = c.args.change.now in
+    let there : with_change (cores own) (place_by c.args.level c.args.way.now own) change
+    ≡ changed change (out-Domain own).core ∷ [] =
+    ap (λ j. with_change (cores own) (place_by j c.args.way.now own) change) c.if-level-eq0.true
+    ∙ ap (λ cs. with_change cs 0 change) (cores_of_core own none) in
     let here = cores_roll_core (record {
       children = (out-Domain own).children;
-      core = c.args.state.now;
+      core = c.changed-core.result;
       kept = c.of_core-self.result;
-    }) none ∙ sym there in
+    }) none ∙ ap (λ core. core ∷ []) c.changed-core.ensures ∙ sym there in
     simp the_lemmas (simp the_lemmas at here)
 
 pub returns-then-level-eq0-clause-kept : goal.returns-then-level-eq0-clause-kept
@@ -73,13 +78,16 @@ returns-then-level-eq0-clause-kept t c =
     subst (λ j. IsWay j c.args.way.now c.args.self.now) c.if-level-eq0.true c.requires.way in
     let here = kept_roll_core (record {
       children = (out-Domain c.args.self.now).children;
-      core = c.args.state.now;
+      core = c.changed-core.result;
       kept = c.of_core-self.result;
     }) none c.of_core-self.ensures in
     simp the_lemmas (simp the_lemmas at here)
 
 pub returns-clause-cores : goal.returns-clause-cores
 returns-clause-cores t c =
+    let s : CoreState = changed c.args.change.now
+    (get_or (cores c.args.self.now) (place_by c.args.level c.args.way.now c.args.self.now)
+    never_started) in
     let own : Domain = c.args.self.now in
     let l : ℕ = c.args.level in
     let i : ℕ = get_or c.args.way.now (l - 1) 0 in
@@ -90,10 +98,12 @@ returns-clause-cores t c =
     let is : n ≡ get_or items i own =
     c.index_mut.ensures.value ∙ get_or_default items i n own down.inside in
     let here = cores_with_child own i (place_by (l - 1) c.args.way.now (get_or items i own))
-    (place_by l c.args.way.now own) c.set.new.self c.args.state.now c.kept_of-self.result
-    down.inside (sym down.place) (place_inside (l - 1) c.args.way.now (get_or items i own) down.rest)
-    (c.set.ensures.cores ∙ ap (λ (x : Domain). set (cores x) (place_by (l - 1) c.args.way.now x)
-    c.args.state.now) is) in
+    (place_by l c.args.way.now own) c.change.new.self s c.kept_of-self.result
+    down.inside (sym down.place)
+    (place_inside (l - 1) c.args.way.now (get_or items i own) down.rest)
+    (child_changed own c.change.new.self l (l - 1) c.args.way.now c.args.change.now down
+    (c.change.ensures.cores ∙ ap (λ (x : Domain). with_change (cores x)
+    (place_by (l - 1) c.args.way.now x) c.args.change.now) is)) in
     simp the_lemmas (simp the_lemmas at here)
 
 pub returns-clause-shape : goal.returns-clause-shape
@@ -106,8 +116,8 @@ returns-clause-shape t c = λ k.
     let items : List Domain = children own in
     let is : c.index_mut.result.now ≡ get_or items i own =
     c.index_mut.ensures.value ∙ get_or_default items i c.index_mut.result.now own down.inside in
-    let here = widths_with_child own i c.set.new.self c.kept_of-self.result
-    (λ j. c.set.ensures.shape j ∙ ap (child_counts j) is) k in
+    let here = widths_with_child own i c.change.new.self c.kept_of-self.result
+    (λ j. c.change.ensures.shape j ∙ ap (child_counts j) is) k in
     simp the_lemmas (simp the_lemmas at here)
 
 pub kept_of-self-requires-clause-kept : goal.kept_of-self-requires-clause-kept
@@ -115,13 +125,16 @@ kept_of-self-requires-clause-kept t c =
     let own : Domain = c.args.self.now in
     let items : List Domain = children own in
     let i : ℕ = get_or c.args.way.now (c.args.level - 1) 0 in
-    let now : c.deref.result.now ≡ set items i c.set.new.self =
+    let now : c.deref.result.now ≡ set items i c.change.new.self =
     c.deref.ensures.value ∙ simp the_lemmas in
-    subst AreKept (sym now) (kept_set items i c.set.new.self (kept_children own c.requires.kept)
-    c.set.ensures.kept)
+    subst AreKept (sym now) (kept_set items i c.change.new.self (kept_children own c.requires.kept)
+    c.change.ensures.kept)
 
 pub kept_of-self-requires-clause-few : goal.kept_of-self-requires-clause-few
 kept_of-self-requires-clause-few t c =
+    let s : CoreState = changed c.args.change.now
+    (get_or (cores c.args.self.now) (place_by c.args.level c.args.way.now c.args.self.now)
+    never_started) in
     let own : Domain = c.args.self.now in
     let l : ℕ = c.args.level in
     let i : ℕ = get_or c.args.way.now (l - 1) 0 in
@@ -129,19 +142,21 @@ kept_of-self-requires-clause-few t c =
     step _ l (l - 1) _ (omega arith) c.requires.way in
     let n : Domain = c.index_mut.result.now in
     let items : List Domain = children own in
-    let now : c.deref.result.now ≡ set items i c.set.new.self =
+    let now : c.deref.result.now ≡ set items i c.change.new.self =
     c.deref.ensures.value ∙ simp the_lemmas in
     let is : n ≡ get_or items i own =
     c.index_mut.ensures.value ∙ get_or_default items i n own down.inside in
-    let below : cores_in (set items i c.set.new.self)
-    ≡ set (cores_in items) (place_by l c.args.way.now own) c.args.state.now =
+    let below : cores_in (set items i c.change.new.self)
+    ≡ set (cores_in items) (place_by l c.args.way.now own) s =
     cores_set items i (place_by (l - 1) c.args.way.now (get_or items i own))
-    (place_by l c.args.way.now own) own c.set.new.self c.args.state.now down.inside (sym down.place)
-    (place_inside (l - 1) c.args.way.now (get_or items i own) down.rest) (c.set.ensures.cores
-    ∙ ap (λ (x : Domain). set (cores x) (place_by (l - 1) c.args.way.now x) c.args.state.now) is) in
+    (place_by l c.args.way.now own) own c.change.new.self s down.inside (sym down.place)
+    (place_inside (l - 1) c.args.way.now (get_or items i own) down.rest) (child_changed own
+    c.change.new.self l (l - 1) c.args.way.now c.args.change.now down (c.change.ensures.cores
+    ∙ ap (λ (x : Domain). with_change (cores x) (place_by (l - 1) c.args.way.now x)
+    c.args.change.now) is)) in
     let lengths : length (cores_in c.deref.result.now) ≡ length (cores_in items) =
     ap length (ap cores_in now ∙ below)
-    ∙ length-set (cores_in items) (place_by l c.args.way.now own) c.args.state.now in
+    ∙ length-set (cores_in items) (place_by l c.args.way.now own) s in
     omega (arith, length_of_domain own (omega (arith, down.inside)))
 
 pub returns-clause-kept : goal.returns-clause-kept
@@ -152,14 +167,15 @@ returns-clause-kept t c =
     let down : Step own l (l - 1) c.args.way.now =
     step _ l (l - 1) _ (omega arith) c.requires.way in
     let items : List Domain = children own in
-    let now : c.deref.result.now ≡ set items i c.set.new.self =
+    let now : c.deref.result.now ≡ set items i c.change.new.self =
     c.deref.ensures.value ∙ simp the_lemmas in
-    let more : 0 < length (set items i c.set.new.self) =
-    omega (arith, length-set items i c.set.new.self, down.inside) in
+    let more : 0 < length (set items i c.change.new.self) =
+    omega (arith, length-set items i c.change.new.self, down.inside) in
     let here = kept_roll (record {
-      children = with_item (out-Domain own).children i c.set.new.self;
+      children = with_item (out-Domain own).children i c.change.new.self;
       core = (out-Domain own).core;
       kept = c.kept_of-self.result;
     }) more (subst (λ ns. Keeps c.kept_of-self.result (cores_in ns)) now c.kept_of-self.ensures)
-    (kept_set items i c.set.new.self (kept_children own c.requires.kept) c.set.ensures.kept) in
+    (kept_set items i c.change.new.self (kept_children own c.requires.kept)
+    c.change.ensures.kept) in
     simp the_lemmas (simp the_lemmas at here)

@@ -1,0 +1,90 @@
+-- What domains keep, and the ways down to cores, on boards whose values are known: a cluster of two
+-- cores, and clusters of one, two and one core below two domains of level 2.
+use Rattle.std.proofs.Common.{◌≡◌, ℕ, List, [], ◌∷◌, map, refl}
+use Rattle.psci_board.specs.Board.{place_in, place_above}
+use Rattle.std.specs.Prelude.{Some, None, slice_index_or}
+use Rattle.psci_tree.specs.declared.state.CoreState.{CoreState}
+use Rattle.psci_tree.specs.declared.state.Activity.TheVariants.{Active, Suspended, Off}
+use Rattle.psci_tree.specs.Recount.{never_started}
+use Rattle.psci_tree.specs.Kept.{recount, beside}
+use Rattle.psci_tree.specs.Changes.{changed, with_change}
+
+-- a core in power-down, and one in retention of its cluster
+abbrev down : CoreState
+down = record { activity = Suspended (3 ∷ 3 ∷ 0 ∷ 0 ∷ []); known = 1 }
+
+abbrev retained : CoreState
+retained = record { activity = Suspended (3 ∷ 2 ∷ 0 ∷ 0 ∷ []); known = 4 }
+
+abbrev pending : CoreState
+pending = record { activity = Active; known = 1 }
+
+abbrev gone : CoreState
+gone = record { activity = Off; known = 1 }
+
+-- no core asks for less than power-down, where there is none
+keeps_none : recount []
+    ≡ record { lows = 3 ∷ 3 ∷ 3 ∷ 3 ∷ []; known = 0; active = 0; off = 0 }
+keeps_none = refl
+
+-- the least ask of each level by itself
+keeps_least : recount (down ∷ retained ∷ [])
+    ≡ record { lows = 3 ∷ 2 ∷ 0 ∷ 0 ∷ []; known = 5; active = 0; off = 0 }
+keeps_least = refl
+
+-- whichever of the two comes first
+keeps_either : recount (retained ∷ down ∷ [])
+    ≡ record { lows = 3 ∷ 2 ∷ 0 ∷ 0 ∷ []; known = 5; active = 0; off = 0 }
+keeps_either = refl
+
+-- a minimum rises again, once the core that asked for less asks for more
+keeps_risen : recount (down ∷ record { activity = Suspended (3 ∷ 3 ∷ 0 ∷ 0 ∷ []); known = 4 } ∷ [])
+    ≡ record { lows = 3 ∷ 3 ∷ 0 ∷ 0 ∷ []; known = 5; active = 0; off = 0 }
+keeps_risen = refl
+
+-- a pending core asks for nothing, and is counted
+keeps_pending : recount (pending ∷ retained ∷ [])
+    ≡ record { lows = 0 ∷ 0 ∷ 0 ∷ 0 ∷ []; known = 5; active = 1; off = 0 }
+keeps_pending = refl
+
+-- an off core asks for power-down, and is counted among those off
+keeps_off : recount (gone ∷ down ∷ [])
+    ≡ record { lows = 3 ∷ 3 ∷ 0 ∷ 0 ∷ []; known = 2; active = 0; off = 1 }
+keeps_off = refl
+
+-- two clusters: the least of both, and the sums
+keeps_beside : beside (recount (pending ∷ retained ∷ [])) (recount (gone ∷ never_started ∷ []))
+    ≡ record { lows = 0 ∷ 0 ∷ 0 ∷ 0 ∷ []; known = 6; active = 1; off = 2 }
+keeps_beside = refl
+
+-- a start takes its own number, however many there were before, and not one more
+change_starts : changed (record { activity = Active; started = Some 9 }) retained
+    ≡ record { activity = Active; known = 9 }
+change_starts = refl
+
+-- without a start the known one stays
+change_keeps : changed (record { activity = Off; started = None }) retained
+    ≡ record { activity = Off; known = 4 }
+change_keeps = refl
+
+-- and no other core changes
+change_one : with_change (down ∷ retained ∷ gone ∷ []) 1 (record { activity = Off; started = None })
+    ≡ down ∷ record { activity = Off; known = 4 } ∷ gone ∷ []
+change_one = refl
+
+-- the numbers of the children on the ways to the cores, from the core's own up
+abbrev levels : List (List ℕ)
+levels = (1 ∷ 2 ∷ 1 ∷ []) ∷ (2 ∷ 1 ∷ []) ∷ (2 ∷ []) ∷ []
+
+abbrev way : ℕ → List ℕ
+way core =
+    map (λ l. place_in (slice_index_or levels l []) (place_above levels l core)) (0 ∷ 1 ∷ 2 ∷ [])
+
+way_first : way 0 ≡ 0 ∷ 0 ∷ 0 ∷ []
+way_first = refl
+
+way_in_pair : way 2 ≡ 1 ∷ 1 ∷ 0 ∷ []
+way_in_pair = refl
+
+way_last : way 3 ≡ 0 ∷ 0 ∷ 1 ∷ []
+way_last = refl
