@@ -2,14 +2,8 @@ mod Acked
 mod Answered
 mod Begun
 mod Changed
-mod Entered
-mod Freed
 mod Granting
-mod Left
 mod Moved
-mod Parked
-mod Queried
-mod Replied
 mod Spanned
 mod Stopping
 mod Viewed

@@ -14,7 +14,7 @@ use crate::laws::law_may_claim;
 use crate::off::send_down;
 use crate::state::State;
 use psci_board::{Board, Core};
-use psci_fw_model::{Act, Cause, FwFault, Opening, Outcome, Start, law_stops};
+use psci_fw_model::{Act, Cause, FwFault, Opening, Outcome, Start};
 
 /// Whether a core may enter by this start, or the first reason why it may not.
 pub fn check_start(board: &Board, state: &State, core: Core, start: Start) -> Result<(), FwFault>
@@ -56,7 +56,6 @@ pub fn enter(board: &Board, state: &mut State, core: Core, start: Start) -> Outc
 {
     law_may_claim();
     law_stops();
-    law_may_claim();
     state.begin_life(board, start.life);
     if state.halting() {
         state.arrive_away(board, core, start);

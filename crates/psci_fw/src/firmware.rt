@@ -3,7 +3,7 @@
 use crate::state::State;
 use psci_abi::{Regs, read};
 use psci_board::{Board, Core, Memory, Node};
-use psci_fw_model::{FwFault, Outcome, Start, Status, law_invariant};
+use psci_fw_model::{FwFault, Outcome, Start, Status};
 use psci_link::{Ack, Message, Taken};
 use std::alloc::Global;
 use std::marker::Model;

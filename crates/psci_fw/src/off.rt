@@ -16,7 +16,7 @@ use crate::laws::law_may_claim;
 use crate::state::State;
 use psci_board::{Board, Core};
 use psci_coord::Parts;
-use psci_fw_model::{Act, Outcome, law_stops};
+use psci_fw_model::{Act, Outcome};
 use psci_link::Kind;
 
 /// CPU_OFF (DEN0022D): the caller stops, and goes off.

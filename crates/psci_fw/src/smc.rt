@@ -20,7 +20,7 @@ use crate::suspend::{FORMAT, cpu_suspend};
 use crate::system::{system_off, system_reset, system_suspend};
 use psci_abi::{Code, Request, features};
 use psci_board::{Board, Core};
-use psci_fw_model::{Act, FwFault, Opening, Outcome, law_caller};
+use psci_fw_model::{Act, FwFault, Opening, Outcome};
 
 /// PSCI 1.1: the major version in bits 31:16, the minor one in bits 15:0.
 const VERSION: Code = Code(0x0001_0001);
@@ -74,7 +74,6 @@ fn function(board: &Board, state: &mut State, caller: Core, request: Request) ->
         (values_in state.new) }
     ensures state { IsStateOf board.now state.new }
 {
-    law_caller();
     match request {
         Request::CpuSuspend {
             state: word,

@@ -18,7 +18,7 @@ use crate::state::State;
 use psci_abi::{Code, Format};
 use psci_board::{Board, Core};
 use psci_coord::Osi;
-use psci_fw_model::{Opening, Outcome, law_caller, law_stops};
+use psci_fw_model::{Opening, Outcome};
 use psci_state::Ask;
 
 /// How every board writes its power state words.
