@@ -177,6 +177,7 @@ fn both_run(alloc: Global) -> Result<Firmware, Fail> {
     let _entered = firmware.enter(LAST, start(1, 1));
     Ok(firmware)
 }
+
 #[test]
 fn second_core_is_started(rt: HostRuntime) -> Result<(), Fail> {
     let mut firmware = firmware_of(rt.alloc(), BOARD)?;
@@ -291,7 +292,10 @@ fn life_is_over_when_a_later_one_begins(rt: HostRuntime) -> Result<(), Fail> {
 fn core_without_opening_parks(rt: HostRuntime) -> Result<(), Fail> {
     let mut firmware = firmware_of(rt.alloc(), BOARD)?;
     let core = Core { number: 3 };
-    assert_eq!(rt; firmware.enter(core, start(2, 5)), Ok(down(core, 2, 5, &[(3, 5), (3, 5)])));
+    assert_eq!(rt;
+        firmware.enter(core, start(2, 5)),
+        Ok(down(core, 2, 5, &[(3, 5), (3, 5)]))
+    );
     assert_eq!(rt; firmware.status(core.node()), Some(Status::Off));
     assert_eq!(rt; firmware.status(BOOT.node()), Some(Status::Pending));
     let boot = firmware.enter(BOOT, start(2, 1));
@@ -302,7 +306,10 @@ fn core_without_opening_parks(rt: HostRuntime) -> Result<(), Fail> {
     );
     let asked = firmware.enter(core, start(2, 6));
     assert_eq!(rt; asked, Ok(entered(0x4000_1000, 7)));
-    assert_eq!(rt; firmware.enter(core, start(2, 7)), Ok(down(core, 2, 7, &[(3, 7), (3, 7)])));
+    assert_eq!(rt;
+        firmware.enter(core, start(2, 7)),
+        Ok(down(core, 2, 7, &[(3, 7), (3, 7)]))
+    );
     assert_eq!(rt; firmware.smc(core, VERSION), Err(FwFault::NotRunning));
     assert_eq!(rt; firmware.smc(BOOT, LAST_STATUS), Ok(returned(0)));
     assert_eq!(rt; firmware.smc(BOOT, on(0x4000_1000)), Ok(returned(-4)));
@@ -315,7 +322,10 @@ fn last_start_leaves_none(rt: HostRuntime) -> Result<(), Fail> {
     let core = Core { number: 3 };
     let first = firmware.enter(BOOT, start(1, 2));
     assert_eq!(rt; first, Ok(entered(0x4000_0000, 0)));
-    assert_eq!(rt; firmware.enter(core, start(1, 2)), Ok(down(core, 1, 2, &[(3, 2), (3, 2)])));
+    assert_eq!(rt;
+        firmware.enter(core, start(1, 2)),
+        Ok(down(core, 1, 2, &[(3, 2), (3, 2)]))
+    );
     assert_eq!(rt; firmware.smc(BOOT, on(0x4000_1000)), Ok(returned(-6)));
     assert_eq!(rt; firmware.smc(BOOT, on(0x4000_1002)), Ok(returned(-9)));
     let itself = Regs {

@@ -44,7 +44,10 @@ fn system_is_not_suspended_beside_a_core(rt: HostRuntime) -> Result<(), Fail> {
     assert_eq!(rt; off, Ok(down(LAST, 1, 1, &[(3, 1), (3, 1)])));
     let going = firmware.smc(BOOT, system_suspend(0x4000_0200));
     assert_eq!(rt; going, Ok(returned(-3)));
-    assert_eq!(rt; firmware.take(acked(Kind::Down, LAST, 1, 2, false)), Taken::Used);
+    assert_eq!(rt;
+        firmware.take(acked(Kind::Down, LAST, 1, 2, false)),
+        Taken::Used
+    );
     let rests = firmware.smc(BOOT, system_suspend(0x4000_0200));
     assert_eq!(rt; rests, Ok(down(BOOT, 1, 1, &[(3, 1), (3, 1), (3, 2)])));
     Ok(())
@@ -77,7 +80,10 @@ fn halting_life_stops_every_core(rt: HostRuntime) -> Result<(), Fail> {
     assert_eq!(rt; firmware.enter(LAST, start(1, 2)), Ok(stopped()));
     assert_eq!(rt; firmware.known(LAST), 2);
     assert_eq!(rt; firmware.granted(LAST.node()), 0);
-    assert_eq!(rt; firmware.take(acked(Kind::Off, BOOT, 1, 1, false)), Taken::Used);
+    assert_eq!(rt;
+        firmware.take(acked(Kind::Off, BOOT, 1, 1, false)),
+        Taken::Used
+    );
     assert!(rt; firmware.outstanding(4).is_none());
     assert_eq!(rt; firmware.status(BOOT.node()), Some(Status::On));
     Ok(())
@@ -125,6 +131,9 @@ fn new_life_begins_anew(rt: HostRuntime) -> Result<(), Fail> {
     assert_eq!(rt; boot, Ok(entered(0x4000_0000, 0)));
     let same = firmware.smc(BOOT, regs(0x8400_000f, 0, 0, 0));
     assert_eq!(rt; same, Ok(returned(0)));
-    assert_eq!(rt; firmware.take(acked(Kind::Down, LAST, 1, 2, false)), Taken::Old);
+    assert_eq!(rt;
+        firmware.take(acked(Kind::Down, LAST, 1, 2, false)),
+        Taken::Old
+    );
     Ok(())
 }

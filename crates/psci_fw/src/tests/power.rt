@@ -30,12 +30,24 @@ fn core_is_off_once_acknowledged(rt: HostRuntime) -> Result<(), Fail> {
     assert_eq!(rt; firmware.granted(LAST.node()), 3);
     assert_eq!(rt; firmware.granted(CLUSTER), 3);
     assert_eq!(rt; firmware.granted(SYSTEM), 0);
-    assert_eq!(rt; firmware.take(acked(Kind::Down, LAST, 2, 2, false)), Taken::Old);
-    assert_eq!(rt; firmware.take(acked(Kind::Start, LAST, 1, 1, false)), Taken::Old);
-    assert_eq!(rt; firmware.take(acked(Kind::Down, LAST, 1, 2, false)), Taken::Used);
+    assert_eq!(rt;
+        firmware.take(acked(Kind::Down, LAST, 2, 2, false)),
+        Taken::Old
+    );
+    assert_eq!(rt;
+        firmware.take(acked(Kind::Start, LAST, 1, 1, false)),
+        Taken::Old
+    );
+    assert_eq!(rt;
+        firmware.take(acked(Kind::Down, LAST, 1, 2, false)),
+        Taken::Used
+    );
     assert_eq!(rt; firmware.smc(BOOT, LAST_STATUS), Ok(returned(1)));
     assert!(rt; firmware.outstanding(3).is_none());
-    assert_eq!(rt; firmware.take(acked(Kind::Down, LAST, 1, 2, false)), Taken::Old);
+    assert_eq!(rt;
+        firmware.take(acked(Kind::Down, LAST, 1, 2, false)),
+        Taken::Old
+    );
     Ok(())
 }
 
@@ -46,7 +58,10 @@ fn start_acknowledged_turns_no_core_off(rt: HostRuntime) -> Result<(), Fail> {
         firmware.smc(BOOT, on(0x4000_1000)),
         Ok(accepted(LAST, 1, 0))
     );
-    assert_eq!(rt; firmware.take(acked(Kind::Start, LAST, 0, 1, false)), Taken::Used);
+    assert_eq!(rt;
+        firmware.take(acked(Kind::Start, LAST, 0, 1, false)),
+        Taken::Used
+    );
     assert_eq!(rt; firmware.status(LAST.node()), Some(Status::Pending));
     assert!(rt; firmware.outstanding(3).is_none());
     assert_eq!(rt;
@@ -63,9 +78,15 @@ fn core_woken_from_off_parks(rt: HostRuntime) -> Result<(), Fail> {
     assert_eq!(rt; off, Ok(down(LAST, 1, 1, &[(3, 1), (3, 1)])));
     let woken = firmware.enter(LAST, start(1, 2));
     assert_eq!(rt; woken, Ok(down(LAST, 1, 2, &[(3, 2), (3, 2)])));
-    assert_eq!(rt; firmware.take(acked(Kind::Down, LAST, 1, 0, true)), Taken::Old);
+    assert_eq!(rt;
+        firmware.take(acked(Kind::Down, LAST, 1, 0, true)),
+        Taken::Old
+    );
     assert_eq!(rt; firmware.status(LAST.node()), Some(Status::On));
-    assert_eq!(rt; firmware.take(acked(Kind::Down, LAST, 2, 2, false)), Taken::Used);
+    assert_eq!(rt;
+        firmware.take(acked(Kind::Down, LAST, 2, 2, false)),
+        Taken::Used
+    );
     assert_eq!(rt; firmware.status(LAST.node()), Some(Status::Off));
     Ok(())
 }
@@ -78,10 +99,16 @@ fn message_stays_until_all_parts_are_applied(rt: HostRuntime) -> Result<(), Fail
     let boot = firmware.smc(BOOT, suspend(ALL_DOWN, 0x4000_0100, 0));
     assert_eq!(rt; boot, Ok(down(BOOT, 1, 1, &[(3, 1), (3, 1), (3, 2)])));
     assert_eq!(rt; firmware.granted(SYSTEM), 3);
-    assert_eq!(rt; firmware.take(acked(Kind::Down, BOOT, 1, 2, false)), Taken::Used);
+    assert_eq!(rt;
+        firmware.take(acked(Kind::Down, BOOT, 1, 2, false)),
+        Taken::Used
+    );
     assert!(rt; firmware.outstanding(0).is_some());
     assert_eq!(rt; firmware.status(BOOT.node()), Some(Status::On));
-    assert_eq!(rt; firmware.take(acked(Kind::Down, BOOT, 1, 3, false)), Taken::Used);
+    assert_eq!(rt;
+        firmware.take(acked(Kind::Down, BOOT, 1, 3, false)),
+        Taken::Used
+    );
     assert!(rt; firmware.outstanding(0).is_none());
     assert_eq!(rt; firmware.status(BOOT.node()), Some(Status::On));
     assert_eq!(rt;
@@ -99,10 +126,16 @@ fn message_partly_applied_then_stale(rt: HostRuntime) -> Result<(), Fail> {
     let mut firmware = both_run(rt.alloc())?;
     let off = firmware.smc(LAST, CPU_OFF);
     assert_eq!(rt; off, Ok(down(LAST, 1, 1, &[(3, 1), (3, 1)])));
-    assert_eq!(rt; firmware.take(acked(Kind::Down, LAST, 1, 1, false)), Taken::Used);
+    assert_eq!(rt;
+        firmware.take(acked(Kind::Down, LAST, 1, 1, false)),
+        Taken::Used
+    );
     assert_eq!(rt; firmware.status(LAST.node()), Some(Status::Off));
     assert!(rt; firmware.outstanding(3).is_some());
-    assert_eq!(rt; firmware.take(acked(Kind::Down, LAST, 1, 1, true)), Taken::Used);
+    assert_eq!(rt;
+        firmware.take(acked(Kind::Down, LAST, 1, 1, true)),
+        Taken::Used
+    );
     assert!(rt; firmware.outstanding(3).is_none());
     Ok(())
 }
@@ -112,7 +145,10 @@ fn nothing_applied_turns_no_core_off(rt: HostRuntime) -> Result<(), Fail> {
     let mut firmware = both_run(rt.alloc())?;
     let off = firmware.smc(LAST, CPU_OFF);
     assert_eq!(rt; off, Ok(down(LAST, 1, 1, &[(3, 1), (3, 1)])));
-    assert_eq!(rt; firmware.take(acked(Kind::Down, LAST, 1, 0, true)), Taken::Used);
+    assert_eq!(rt;
+        firmware.take(acked(Kind::Down, LAST, 1, 0, true)),
+        Taken::Used
+    );
     assert_eq!(rt; firmware.status(LAST.node()), Some(Status::On));
     assert!(rt; firmware.outstanding(3).is_none());
     Ok(())
