@@ -11,7 +11,7 @@ use Rattle.psci_link.specs.declared.kind.Kind.TheVariants.{Down}
 use Rattle.psci_state.specs.Ask.{is_deep}
 use Rattle.psci_state.specs.declared.fault.BadState.{BadState}
 use Rattle.psci_fw_model.specs.declared.fault.FwFault.{FwFault}
-use Rattle.psci_fw_model.specs.declared.fault.FwFault.TheVariants.{NoCore, NoLife, OldStart}
+use Rattle.psci_fw_model.specs.declared.fault.FwFault.TheVariants.{NoCore}
 use Rattle.psci_fw_model.specs.declared.opening.Opening.{Opening}
 use Rattle.psci_fw_model.specs.declared.outcome.Act.{Act}
 use Rattle.psci_fw_model.specs.declared.outcome.Act.TheVariants.{Resume}
@@ -23,7 +23,7 @@ use Rattle.psci_fw_model.specs.Claims.{leaving_claim, off_parts, suspend_parts}
 use Rattle.psci_fw_model.specs.CpuOff.{off_message}
 use Rattle.psci_fw_model.specs.CpuSuspend.{ask_named, sleeps, suspend_asked}
 use Rattle.psci_fw_model.specs.Effects.{function_effect, going_off, rest_named, suspended}
-use Rattle.psci_fw_model.specs.Entering.{enter_fault, enter_outcome, is_old, outcome_at, resumes}
+use Rattle.psci_fw_model.specs.Entering.{enter_fault, enter_outcome, outcome_at, resumes}
 use Rattle.psci_fw_model.specs.Lives.{in_life, start_of_life}
 use Rattle.psci_fw_model.specs.Outcomes.{message_for, stops, stops_with}
 use Rattle.psci_fw_model.specs.Phases.{Away, Phase, Running, unless_pending}
@@ -117,7 +117,7 @@ module _ (b : BoardValue) (v : Values) (c word : ℕ) (opening : Opening) (ask :
       (sleeps v c x).act (sleeps v c x).message) v
   slept_after (Ok parts) =
       ap (λ (n : Result (List ℕ) BadState).
-          with_claim b (message_for v Down c parts) (with_rest c (rest_named opening n) v))
+      with_claim b (message_for v Down c parts) (with_rest c (rest_named opening n) v))
       (sym named)
   slept_after (Err reason) = goes_on v c running
 
@@ -175,7 +175,7 @@ unfolding enter_outcome
 halted_outcome b v c s e =
     let found = in_life b s.life v in
     sym (ap (λ (t : Bool).
-        cond t stops (outcome_at b found (with_arrival b c s v) c s (found.opening c))) e)
+    cond t stops (outcome_at b found (with_arrival b c s v) c s (found.opening c))) e)
 
 -- Where a core goes on --------------------------------------------------------------------------
 
@@ -199,7 +199,7 @@ way_outcome b v c s act awake e =
     let found = in_life b s.life v in
     way_is b found (with_arrival b c s v) c s act (found.opening c) e
     ∙ sym (ap (λ (t : Bool).
-        cond t stops (outcome_at b found (with_arrival b c s v) c s (found.opening c))) awake)
+    cond t stops (outcome_at b found (with_arrival b c s v) c s (found.opening c))) awake)
 
 opening_by : (found : Values) (c : ℕ) (s : Start) (o : Option Opening)
     → way_by found c s o ≡ None → o ≡ None

@@ -1,18 +1,15 @@
 -- The claims of cores that stop may be granted: nothing is granted on their paths, and what the
 -- values then grant falls upwards.
 use Rattle.std.proofs.Common.{◌≡◌, ℕ, zero, suc, ◌+◌, ◌<◌, ◌≤◌, ◌==◌, ◌&&◌, Bool, true, false, cond}
-use Rattle.std.proofs.Common.{not, List, length, None, Some, Option, Ok, Err, Result, refl, sym}
+use Rattle.std.proofs.Common.{not, List, length, None, Some, Ok, refl}
 use Rattle.std.proofs.Common.{subst, ◌∙◌, ap, arith, add-one, nat_le}
-use Rattle.std.proofs.lemmas.Bool.{leb-true}
 use Rattle.psci_abi.specs.declared.request.Request.{Request}
 use Rattle.psci_abi.specs.declared.request.Request.TheVariants as requests
-use Rattle.psci_board.specs.Board.{BoardValue, IsBoard, cores, height, may_enter, up}
+use Rattle.psci_board.specs.Board.{BoardValue, cores, height, may_enter, up}
 use Rattle.psci_board.specs.Laws.{PathLaws}
-use Rattle.psci_coord.specs.declared.osi.Osi.{Osi}
 use Rattle.psci_coord.specs.declared.part.Part.{Part}
-use Rattle.psci_coord.specs.Claim.{claim_of, off_claim, off_wish, own_claim, own_wish}
+use Rattle.psci_coord.specs.Claim.{off_wish, own_wish}
 use Rattle.psci_coord.specs.Claim.{least_wish, platform_claim}
-use Rattle.psci_coord.specs.LastCore.{last_core_check}
 use Rattle.psci_coord.specs.Laws.{ClaimLaws, LastCoreLaws}
 use Rattle.psci_coord.specs.View.{PowerView}
 use Rattle.psci_link.specs.declared.kind.Kind.TheVariants.{Down}
@@ -20,7 +17,6 @@ use Rattle.psci_link.specs.Message.{MessageValue}
 use Rattle.psci_state.specs.Ask.{deepest_of, is_deep}
 use Rattle.psci_fw_model.specs.declared.mode.SuspendMode.{SuspendMode}
 use Rattle.psci_fw_model.specs.declared.mode.SuspendMode.TheVariants.{Platform, OsInitiated}
-use Rattle.psci_fw_model.specs.declared.opening.Opening.{Opening}
 use Rattle.psci_fw_model.specs.declared.outcome.Act.TheVariants.{Resume, Stop}
 use Rattle.psci_fw_model.specs.declared.outcome.Outcome.{Outcome}
 use Rattle.psci_ctl_model.specs.declared.start.Start.{Start}
@@ -41,7 +37,6 @@ use Rattle.psci_fw_model.specs.SystemCalls.{all_others, is_off_status}
 use Rattle.psci_fw_model.specs.Values.{Values}
 use Rattle.psci_fw_model.specs.Views.{ask, view}
 use Rattle.psci_tree.specs.Recount.{asks}
-use Rattle.psci_fw.specs.Claims.{MayClaim}
 
 -- Nothing is granted on the path ----------------------------------------------------------------
 
@@ -112,7 +107,7 @@ pub nested_after : (b : BoardValue) (v : Values) (c : ℕ) (r : Request) (o : Ou
     ≤ laid b c parts v.granted level (up b level core)
 nested_after b v c r o rest parts are is effect =
     let by_outcome = subst (λ (x : Outcome).
-        AreValues b (change b (function_effect b c r x.act x.message) v)) is are in
+    AreValues b (change b (function_effect b c r x.act x.message) v)) is are in
     let by_effect = subst (λ (e : Effect). AreValues b (change b e v)) effect by_outcome in
     by_effect.nested
 
@@ -175,7 +170,7 @@ park_outcome b v c s awake none parks =
     ap (λ (t : Bool). cond t stops (outcome_at b found arrived c s (found.opening c))) awake
     ∙ ap (outcome_at b found arrived c s) none
     ∙ ap (λ (t : Bool).
-        cond t (record { act = Resume; message = None }) (stops_with (off_message b arrived c)))
+    cond t (record { act = Resume; message = None }) (stops_with (off_message b arrived c)))
     parks
 
 pub nested_parked : (b : BoardValue) (v : Values) (c : ℕ) (s : Start) (o : Outcome)
@@ -188,5 +183,5 @@ pub nested_parked : (b : BoardValue) (v : Values) (c : ℕ) (s : Start) (o : Out
     (up b level core)
 nested_parked b v c s o are is =
     let parked = subst (λ (x : Outcome).
-        AreValues b (change b (enter_effect c s x.act x.message) v)) is are in
+    AreValues b (change b (enter_effect c s x.act x.message) v)) is are in
     parked.nested

@@ -9,12 +9,11 @@ ghost use Rattle.psci_fw_model.specs.Invariant.{AreValues};
 ghost use Rattle.psci_fw.specs.Seen.{IsStateOf, values_in};
 ghost use Rattle.psci_fw.specs.Ways.{way_on};
 
-use psci_fw_model::law_stops;
 use crate::laws::law_may_claim;
 use crate::off::send_down;
 use crate::state::State;
 use psci_board::{Board, Core};
-use psci_fw_model::{Act, Cause, FwFault, Opening, Outcome, Start};
+use psci_fw_model::{Act, Cause, FwFault, Opening, Outcome, Start, law_stops};
 
 /// Whether a core may enter by this start, or the first reason why it may not.
 pub fn check_start(board: &Board, state: &State, core: Core, start: Start) -> Result<(), FwFault>

@@ -35,8 +35,8 @@ ghost use Rattle.psci_fw_model.specs.Phases.{is_running};
 ghost use Rattle.psci_fw.specs.Seen.{life_shown, message_shown, seen, status_shown};
 
 use crate::entering::{check_start, enter};
-use psci_fw_model::law_invariant;
 use crate::smc::{check_caller, dispatch};
+use psci_fw_model::law_invariant;
 
 impl Firmware {
     /// The firmware of this board, before any core has entered. It takes the memory of all its

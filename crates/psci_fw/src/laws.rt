@@ -17,9 +17,9 @@ ghost use Rattle.psci_fw_model.specs.SystemCalls.{all_others, is_off_status};
 ghost use Rattle.psci_fw_model.specs.Values.{Values};
 ghost use Rattle.psci_fw.specs.Claims.{MayClaim};
 
-use psci_fw_model::law_invariant;
 use psci_board::law_paths;
 use psci_coord::{law_claims, law_last_core};
+use psci_fw_model::law_invariant;
 
 /// The claims of cores that stop may be granted.
 pub fn law_may_claim()

@@ -11,12 +11,11 @@ ghost use Rattle.psci_fw.specs.Claims.{MayClaim};
 ghost use Rattle.psci_fw.specs.Calls.{IsAnswered, MayCall};
 ghost use Rattle.psci_fw.specs.Seen.{IsStateOf, values_in};
 
-use psci_fw_model::law_stops;
 use crate::laws::law_may_claim;
 use crate::state::State;
 use psci_board::{Board, Core};
 use psci_coord::Parts;
-use psci_fw_model::{Act, Outcome};
+use psci_fw_model::{Act, Outcome, law_stops};
 use psci_link::Kind;
 
 /// CPU_OFF (DEN0022D): the caller stops, and goes off.

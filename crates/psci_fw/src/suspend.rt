@@ -11,14 +11,13 @@ ghost use Rattle.psci_fw.specs.Calls.{IsAnswered, MayCall};
 ghost use Rattle.psci_fw.specs.Claims.{MaySleep, Slept};
 ghost use Rattle.psci_fw.specs.Seen.{IsStateOf, values_in};
 
-use psci_fw_model::law_stops;
 use crate::laws::law_may_claim;
 use crate::off::send_down;
 use crate::state::State;
 use psci_abi::{Code, Format};
 use psci_board::{Board, Core};
 use psci_coord::Osi;
-use psci_fw_model::{Opening, Outcome};
+use psci_fw_model::{Opening, Outcome, law_stops};
 use psci_state::Ask;
 
 /// How every board writes its power state words.

@@ -1,6 +1,5 @@
-use Rattle.std.proofs.Common.{refl, Ok}
+use Rattle.std.proofs.Common.{refl}
 use Rattle.psci_abi.specs.declared.request.Request.TheVariants as requests
-use Rattle.psci_coord.specs.Laws.{ClaimLaws}
 use Rattle.psci_state.specs.Ask.{deepest_of}
 use Rattle.psci_board.specs.Board.{height}
 use Rattle.psci_fw_model.specs.Changes.{with_arrival}

@@ -14,7 +14,7 @@ sleep-requires-clause-may c =
           c.requires.inside c.requires.values c.requires.running c.requires.awake named
           (sym c.is_nowhere.ensures ∙ c.if-is_nowhere.false)
           (λ e. c.if-known-start_limit.false
-              (c.known.ensures ∙ e ∙ sym c.start_limit.ensures));
+          (c.known.ensures ∙ e ∙ sym c.start_limit.ensures));
     }
 
 pub returns-clause-answer : goal.returns-clause-answer

@@ -15,5 +15,5 @@ sleep-requires-clause-may c =
           (sym c.may_enter.ensures ∙ c.if-not-may_enter.false)
           (sym c.are_others_off.ensures ∙ c.if-not-are_others_off.false)
           (λ e. c.if-known-start_limit.false
-              (c.known.ensures ∙ e ∙ sym c.start_limit.ensures)));
+          (c.known.ensures ∙ e ∙ sym c.start_limit.ensures)));
     }
