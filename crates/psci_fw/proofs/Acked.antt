@@ -1,21 +1,20 @@
 -- An acknowledgement is taken: what the values in the state are then.
-use Rattle.std.proofs.Common.{◌≡◌, ℕ, ◌<◌, ◌≤◌, ◌==◌, Bool, true, false, cond, List, length}
-use Rattle.std.proofs.Common.{None, Some, Option, refl, sym, subst, ◌∙◌, ap, arith, inl, inr}
+use Rattle.std.proofs.Common.{◌≡◌, ◌<◌, Bool, true, false, cond, List, length}
+use Rattle.std.proofs.Common.{None, Some, Option, refl, sym, ◌∙◌, ap, inl, inr}
 use Rattle.std.proofs.Common.{slice_index_or}
 use Rattle.std.proofs.lemmas.Bool.{and_parts, cases_lt, eqb-true}
 use Rattle.std.proofs.lemmas.List.{get_or_past}
-use Rattle.psci_board.specs.declared.node.Core.{Core}
 use Rattle.psci_link.specs.declared.kind.Kind.{Kind}
 use Rattle.psci_link.specs.declared.kind.Kind.TheVariants.{Down, Start, Off, Reset}
 use Rattle.psci_link.specs.declared.taken.Taken.TheVariants.{Used, Old}
 use Rattle.psci_link.specs.Message.{AckValue, MessageValue}
-use Rattle.psci_link.specs.Slots.{Slot, SlotsValue, answers, changed, is_done, is_kind, is_slot}
+use Rattle.psci_link.specs.Slots.{Slot, SlotsValue, answers, changed, is_kind, is_slot}
 use Rattle.psci_link.specs.Slots.{left_by, message_in, slot_of, taken}
 use Rattle.psci_link.specs.Slots.Slot.{OfCore, OfSystem}
 use Rattle.psci_link.specs.Slots.Change.{Acknowledge}
 use Rattle.psci_fw_model.specs.declared.status.Status.TheVariants as statuses
 use Rattle.psci_fw_model.specs.Changes.{turns_off, with_acknowledgement}
-use Rattle.psci_fw_model.specs.Phases.{Phase, is_away}
+use Rattle.psci_fw_model.specs.Phases.{is_away}
 use Rattle.psci_fw_model.specs.Values.{Values, updated}
 use Rattle.psci_tree.specs.Recount.{core_at}
 use Rattle.psci_tree.specs.declared.state.Activity.{Activity}
@@ -25,7 +24,7 @@ use Rattle.psci_fw_model.specs.declared.status.Status.{Status}
 use Rattle.psci_fw.specs.declared.row.CoreRow.{CoreRow}
 use Rattle.psci_fw.specs.Rows.{row_at}
 use Rattle.psci_fw.specs.Seen.{StateValue, phase_by, values_in}
-use Rattle.psci_fw.proofs.Changed.{Same, Set, ap_set, both_set, same_set, same_values, stays}
+use Rattle.psci_fw.proofs.Changed.{Set, ap_set, both_set, same_set, same_values, stays}
 use Rattle.psci_fw.proofs.Changed.{updated_is, updated_same}
 
 -- Slots -----------------------------------------------------------------------------------------

@@ -1,14 +1,14 @@
 -- A life begins: what the values in the state are then.
 use Rattle.std.proofs.Common.{◌≡◌, ℕ, zero, suc, ◌+◌, ◌<◌, ◌≤◌, ◌==◌, ◌&&◌, Bool, true, false, cond}
 use Rattle.std.proofs.Common.{List, [], ◌∷◌, length, sum, drop, map, get_or, leb, ltb, not}
-use Rattle.std.proofs.Common.{None, Some, Option, refl, sym, subst, ◌∙◌, ap, arith, inl, inr}
+use Rattle.std.proofs.Common.{None, Option, refl, sym, subst, ◌∙◌, ap, arith, inl, inr}
 use Rattle.std.specs.List.{AllPass}
-use Rattle.std.proofs.lemmas.Bool.{and_parts, cases_lt, eqb-true, ltb-true, leb-true}
+use Rattle.std.proofs.lemmas.Bool.{and_parts, cases_lt, ltb-true, leb-true}
 use Rattle.std.proofs.lemmas.List.{get_or-replicate, get_or_past, length-replicate}
 use Rattle.std.proofs.Math.ListN.{replicate}
 use Rattle.std.proofs.lemmas.List.Sums.{sum_by-cons}
 use Rattle.psci_board.specs.Board.{BoardValue, IsBoard, IsTree, is_width, size_below, cores, height}
-use Rattle.psci_board.specs.Board.{has_node, nodes, place_above, up}
+use Rattle.psci_board.specs.Board.{nodes, place_above, up}
 use Rattle.psci_link.specs.Message.{MessageValue}
 use Rattle.psci_link.specs.Slots.{Slot, SlotsValue, message_in, no_messages}
 use Rattle.psci_link.specs.Slots.Slot.{OfCore, OfSystem}
@@ -142,10 +142,12 @@ granted_first b u l p is e law =
     apart : (x y : Bool) → leb l (height b) ≡ x → ltb p (nodes b l) ≡ y → (x && y) ≡ false
         → l ≤ height b → p < nodes b l → ⊥
     apart x y f g h i j = grind arith
+
     none : (l ≤ height b → p < nodes b l → ⊥) → granted_at u l p ≡ 0
     none n =
         granted_beyond u l p is
         (subst (λ (ws : List (List ℕ)). l ≤ length ws → p < size_below (drop l ws) → ⊥) (sym e) n)
+
     by : (x y : Bool) → leb l (height b) ≡ x → ltb p (nodes b l) ≡ y
         → granted_at u l p ≡ cond ((x && y) && not (p == place_above b.levels l 0)) 3 0
     by false y f g = none (apart false y f g refl)

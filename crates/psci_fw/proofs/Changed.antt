@@ -1,22 +1,17 @@
 -- What the values in a state say once the state of one core, or its row, is another one.
-use Rattle.std.proofs.Common.{◌≡◌, ℕ, ◌<◌, ◌==◌, Bool, true, false, cond, List, length, get_or}
-use Rattle.std.proofs.Common.{None, Some, Option, refl, sym, subst, ◌∙◌, ap, arith}
+use Rattle.std.proofs.Common.{◌≡◌, ℕ, ◌<◌, ◌==◌, Bool, true, false, cond, List, length}
+use Rattle.std.proofs.Common.{refl, sym, subst, ◌∙◌, ap, arith}
 use Rattle.std.proofs.Math.ListN.{set}
 use Rattle.std.proofs.lemmas.Bool.{eqb-true, eqb-false}
 use Rattle.std.proofs.lemmas.List.{get_or-set_same, get_or-set_other}
-use Rattle.std.specs.Option.{option_or}
 use Rattle.psci_board.specs.Board.{BoardValue, cores, size_below}
-use Rattle.psci_link.specs.Message.{AckValue, MessageValue}
-use Rattle.psci_link.specs.Slots.{Change, Slot, SlotsValue, changed, message_in}
-use Rattle.psci_state.specs.Ask.{is_deep}
-use Rattle.psci_tree.specs.declared.state.Activity.{Activity}
+use Rattle.psci_link.specs.Slots.{Slot}
 use Rattle.psci_tree.specs.declared.state.Activity.TheVariants as activities
 use Rattle.psci_tree.specs.declared.state.CoreState.{CoreState}
 use Rattle.psci_tree.specs.Recount.{TreeValue, core_at, granted_at, known_at}
-use Rattle.psci_fw_model.specs.declared.opening.Opening.{Opening}
 use Rattle.psci_fw_model.specs.declared.status.Status.{Status}
 use Rattle.psci_fw_model.specs.declared.status.Status.TheVariants as statuses
-use Rattle.psci_fw_model.specs.Changes.{PowerOn, Rest, target, with_phase, with_rest}
+use Rattle.psci_fw_model.specs.Changes.{with_phase}
 use Rattle.psci_fw_model.specs.Phases.{Phase, unless_pending}
 use Rattle.psci_fw_model.specs.Phases as phases
 use Rattle.psci_fw_model.specs.Values.{Values, updated}

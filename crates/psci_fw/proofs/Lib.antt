@@ -1,14 +1,9 @@
 mod Acked
-mod Asleep
+mod Answered
 mod Begun
 mod Changed
-mod Entered
-mod Freed
 mod Granting
-mod Left
 mod Moved
-mod Parked
-mod Queried
-mod Replied
 mod Spanned
+mod Stopping
 mod Viewed

@@ -1,15 +1,13 @@
 -- A core is suspended, asked on, or arrives: what the values in the state are then.
-use Rattle.std.proofs.Common.{◌≡◌, ℕ, ◌<◌, ◌==◌, Bool, true, false, cond, List, length}
-use Rattle.std.proofs.Common.{None, Some, Option, Vec, refl, sym, subst, ◌∙◌, ap, arith}
+use Rattle.std.proofs.Common.{◌≡◌, ℕ, ◌==◌, Bool, true, false, cond, List, length}
+use Rattle.std.proofs.Common.{None, Some, Option, Vec, refl, sym, ◌∙◌, ap, arith}
 use Rattle.std.proofs.Math.ListN.{set}
-use Rattle.std.proofs.lemmas.Bool.{eqb-true, eqb-false}
 use Rattle.std.proofs.lemmas.List.{length-set, with_items_is}
 use Rattle.std.specs.Option.{option_or}
 use Rattle.std.specs.Vec.{with_items}
 use Rattle.psci_board.specs.Board.{BoardValue, place_above, up}
-use Rattle.psci_board.specs.declared.node.Core.{Core}
 use Rattle.psci_link.specs.Message.{MessageValue}
-use Rattle.psci_link.specs.Slots.{Change, Slot, SlotsValue, changed, message_in}
+use Rattle.psci_link.specs.Slots.{Slot, SlotsValue, changed, message_in}
 use Rattle.psci_link.specs.Slots.Change.{Put, Clear}
 use Rattle.psci_state.specs.Ask.{is_deep}
 use Rattle.psci_tree.specs.declared.state.Activity.{Activity}
@@ -20,10 +18,10 @@ use Rattle.psci_fw_model.specs.declared.opening.Opening.{Opening}
 use Rattle.psci_ctl_model.specs.declared.start.Start.{Start}
 use Rattle.psci_fw_model.specs.declared.status.Status.{Status}
 use Rattle.psci_fw_model.specs.declared.status.Status.TheVariants as statuses
-use Rattle.psci_fw_model.specs.Changes.{PowerOn, with_arrival, with_pending, with_phase, with_rest}
+use Rattle.psci_fw_model.specs.Changes.{with_arrival, with_pending, with_phase, with_rest}
 use Rattle.psci_fw_model.specs.Changes.{with_running}
 use Rattle.psci_fw_model.specs.Effects.{suspended}
-use Rattle.psci_fw_model.specs.Lives.{in_life, start_of_life}
+use Rattle.psci_fw_model.specs.Lives.{in_life}
 use Rattle.psci_fw_model.specs.Paths.{cleared}
 use Rattle.psci_fw_model.specs.Phases.{Phase, unless_pending}
 use Rattle.psci_fw_model.specs.Phases as phases
@@ -31,8 +29,8 @@ use Rattle.psci_fw_model.specs.Values.{Values, updated}
 use Rattle.psci_fw.specs.declared.row.CoreRow.{CoreRow}
 use Rattle.psci_fw.specs.Rows.{row_at}
 use Rattle.psci_fw.specs.Seen.{StateValue, is_pending_phase, phase_by, stopped, values_in}
-use Rattle.psci_fw.proofs.Changed.{Set, ap_set, both_set, core_set, left_not_pending, left_pending}
-use Rattle.psci_fw.proofs.Changed.{off_is_away, same_set, same_values, stays, suspended_is}
+use Rattle.psci_fw.proofs.Changed.{Set, ap_set, both_set, core_set}
+use Rattle.psci_fw.proofs.Changed.{same_values, stays, suspended_is}
 use Rattle.psci_fw.proofs.Changed.{updated_is}
 
 -- the rows in memory, one of them set
@@ -156,7 +154,7 @@ in_this : (b : BoardValue) (life : ℕ) (v : Values) → v.life ≡ life → in_
 in_this b life v e = let same : (life == v.life) ≡ true = grind arith in rw same refl
 
 -- the start is of the firmware's life
-abbrev arrived : BoardValue → ℕ → Start → Values → Values
+abbrev pub arrived : BoardValue → ℕ → Start → Values → Values
 arrived b c s v = record v {
   known = updated v.known c s.number;
   opening = updated v.opening c None;

@@ -1,5 +1,5 @@
 -- The rows of the cores below a node are a slice of all rows, and so say the node's status.
-use Rattle.std.proofs.Common.{◌≡◌, ℕ, zero, suc, ◌+◌, ◌<◌, ◌≤◌, ◌==◌, ◌||◌, Bool, true, false, cond}
+use Rattle.std.proofs.Common.{◌≡◌, ℕ, zero, suc, ◌+◌, ◌≤◌, ◌==◌, ◌||◌, Bool, true, false, cond}
 use Rattle.std.proofs.Common.{List, [], ◌∷◌, length, take, drop, leb, ltb, Option, None, Some, refl}
 use Rattle.std.proofs.Common.{sym, ◌∙◌, ap, arith, add-one}
 use Rattle.std.specs.List.{list_any, range_with_len}
@@ -16,7 +16,6 @@ use Rattle.psci_fw_model.specs.AffinityInfo.{is_on, is_pending, node_status, sta
 use Rattle.psci_fw.specs.declared.row.CoreRow.{CoreRow}
 use Rattle.psci_fw.specs.Seen.{StateValue, values_in}
 use Rattle.psci_fw.specs.Rows.{off_row, row_at, status_of_all}
-
 
 -- The span of a node --------------------------------------------------------------------------
 

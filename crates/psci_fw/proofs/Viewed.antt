@@ -1,11 +1,10 @@
 -- What claims are made from is what the tree holds.
 use Rattle.std.proofs.Common.{◌≡◌, ℕ, refl, ap, length, sym, ◌∙◌, List, Ok}
 use Rattle.std.specs.Prelude.{nat_le, if◌then◌else◌}
-use Rattle.psci_board.specs.Board.{BoardValue, height}
+use Rattle.psci_board.specs.Board.{BoardValue}
 use Rattle.psci_coord.specs.Claim.{platform_claim}
 use Rattle.psci_coord.specs.LastCore.{last_core_check}
 use Rattle.psci_coord.specs.Looked.{view_of}
-use Rattle.psci_coord.specs.View.{PowerView}
 use Rattle.psci_tree.specs.declared.state.Activity.{Activity}
 use Rattle.psci_tree.specs.declared.state.Activity.TheVariants as activities
 use Rattle.psci_tree.specs.Recount.{asks, core_at, is_active, is_off}
@@ -13,10 +12,10 @@ use Rattle.psci_fw_model.specs.declared.status.Status.{Status}
 use Rattle.psci_fw_model.specs.declared.status.Status.TheVariants as statuses
 use Rattle.psci_fw_model.specs.declared.mode.SuspendMode.TheVariants.{Platform, OsInitiated}
 use Rattle.psci_fw_model.specs.declared.opening.Opening.{Opening}
-use Rattle.psci_fw_model.specs.Changes.{with_phase, with_rest}
-use Rattle.psci_fw_model.specs.Claims.{leaving_claim, suspend_claim, suspend_parts}
+use Rattle.psci_fw_model.specs.Changes.{with_rest}
+use Rattle.psci_fw_model.specs.Claims.{suspend_claim, suspend_parts}
 use Rattle.psci_fw_model.specs.Effects.{suspended}
-use Rattle.psci_fw_model.specs.Phases.{Suspended, activity_of}
+use Rattle.psci_fw_model.specs.Phases.{activity_of}
 use Rattle.psci_fw_model.specs.Values.{Values}
 use Rattle.psci_fw_model.specs.Views.{view}
 use Rattle.psci_fw.specs.Rows.{row_at}

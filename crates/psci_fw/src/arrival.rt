@@ -53,7 +53,7 @@ impl State {
         self.tree.set_start(core, start.number);
         let row = CoreRow {
             status: Status::On,
-            opening: None,
+            ..CoreRow::OFF
         };
         set_row(&mut self.rows, core, row);
         self.slots.clear(core);

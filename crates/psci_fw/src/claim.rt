@@ -41,8 +41,13 @@ impl State {
     }
 
     /// A running core is suspended with this ask: its parts, or why it may not be.
-    pub fn suspend(&mut self, board: &Board, core: Core, ask: Ask, opening: Opening)
-        -> Result<Parts, Osi>
+    pub fn suspend(
+        &mut self,
+        board: &Board,
+        core: Core,
+        ask: Ask,
+        opening: Opening,
+    ) -> Result<Parts, Osi>
         requires state { IsStateOf board.now self.old }
         requires inside { core.number < cores board.now }
         requires running { (values_in self.old).phase core.number ≡ Running }
@@ -134,7 +139,12 @@ impl State {
         law_slots();
         law_granted();
         let _cores = board.cores();
-        grant_parts(&mut self.tree, board, message.core, message.parts.as_slice());
+        grant_parts(
+            &mut self.tree,
+            board,
+            message.core,
+            message.parts.as_slice(),
+        );
         self.slots.put(message.copy());
     }
 }

@@ -53,8 +53,8 @@ pub fn enter(board: &Board, state: &mut State, core: Core, start: Start) -> Outc
         result.act result.message) (values_in state.old) }
     ensures state { IsStateOf board.now state.new }
 {
-    law_stops();
     law_may_claim();
+    law_stops();
     state.begin_life(board, start.life);
     if state.halting() {
         state.arrive_away(board, core, start);

@@ -3,7 +3,7 @@
 use crate::state::State;
 use psci_abi::{Regs, read};
 use psci_board::{Board, Core, Memory, Node};
-use psci_fw_model::{FwFault, Outcome, Start, Status, law_invariant};
+use psci_fw_model::{FwFault, Outcome, Start, Status};
 use psci_link::{Ack, Message, Taken};
 use std::alloc::Global;
 use std::marker::Model;
@@ -36,6 +36,7 @@ ghost use Rattle.psci_fw.specs.Seen.{life_shown, message_shown, seen, status_sho
 
 use crate::entering::{check_start, enter};
 use crate::smc::{check_caller, dispatch};
+use psci_fw_model::law_invariant;
 
 impl Firmware {
     /// The firmware of this board, before any core has entered. It takes the memory of all its

@@ -1,13 +1,15 @@
 //! The functions that a running core calls.
 
 ghost use Rattle.std.specs.Prelude.{◌≡◌, ◌<◌, MatchResult, None, Some};
+ghost use Rattle.psci_abi.specs.declared.format.Format.TheVariants.{Original};
+ghost use Rattle.psci_abi.specs.Calls.{features_of};
 ghost use Rattle.psci_board.specs.Board.{cores};
 ghost use Rattle.psci_fw_model.specs.After.{change};
 ghost use Rattle.psci_fw_model.specs.Calls.{call_fault, outcome_of};
 ghost use Rattle.psci_fw_model.specs.Effects.{function_effect};
 ghost use Rattle.psci_fw_model.specs.Invariant.{AreValues};
 ghost use Rattle.psci_fw_model.specs.Phases.{Running};
-ghost use Rattle.psci_fw.specs.Calls.{IsAnswered, MayCall, query_code};
+ghost use Rattle.psci_fw.specs.Calls.{IsAnswered, MayCall};
 ghost use Rattle.psci_fw.specs.Seen.{IsStateOf, values_in};
 
 use crate::mode::set_suspend_mode;
@@ -18,7 +20,7 @@ use crate::suspend::{FORMAT, cpu_suspend};
 use crate::system::{system_off, system_reset, system_suspend};
 use psci_abi::{Code, Request, features};
 use psci_board::{Board, Core};
-use psci_fw_model::{Act, FwFault, Opening, Outcome, law_caller};
+use psci_fw_model::{Act, FwFault, Opening, Outcome};
 
 /// PSCI 1.1: the major version in bits 31:16, the minor one in bits 15:0.
 const VERSION: Code = Code(0x0001_0001);
@@ -72,7 +74,6 @@ fn function(board: &Board, state: &mut State, caller: Core, request: Request) ->
         (values_in state.new) }
     ensures state { IsStateOf board.now state.new }
 {
-    law_caller();
     match request {
         Request::CpuSuspend {
             state: word,
@@ -91,26 +92,21 @@ fn function(board: &Board, state: &mut State, caller: Core, request: Request) ->
             system_suspend(board, state, caller, opening(entry, context))
         }
         Request::SetSuspendMode { mode } => set_suspend_mode(board, state, caller, mode),
-        Request::Version
-        | Request::AffinityInfo { .. }
-        | Request::MigrateInfoType
-        | Request::Features { .. }
-        | Request::Unknown => Outcome::returns(query(board, state, request)),
+        Request::Version => Outcome::returns(VERSION),
+        Request::AffinityInfo { target, level } => {
+            Outcome::returns(state.affinity_info(board, target, level))
+        }
+        Request::MigrateInfoType => Outcome::returns(NO_MIGRATION),
+        Request::Features { word } => Outcome::returns(feature_code(word)),
+        Request::Unknown => Outcome::returns(Code::NOT_SUPPORTED),
     }
 }
 
-/// What a function answers that changes nothing; NOT_SUPPORTED of every other one.
-fn query(board: &Board, state: &State, request: Request) -> Code
-    requires { IsStateOf board.now state.now }
-    ensures { result ≡ query_code board.now (values_in state.now) request }
+/// PSCI_FEATURES (DEN0022D): the feature flags of a function word, or NOT_SUPPORTED.
+fn feature_code(word: u32) -> Code
+    ensures { result ≡ record { 0 = features_of Original word } }
 {
-    match request {
-        Request::Version => VERSION,
-        Request::AffinityInfo { target, level } => state.affinity_info(board, target, level),
-        Request::MigrateInfoType => NO_MIGRATION,
-        Request::Features { word } => Code(features(word, FORMAT)),
-        _ => Code::NOT_SUPPORTED,
-    }
+    Code(features(word, FORMAT))
 }
 
 /// Where a core goes on: entry point and context id.

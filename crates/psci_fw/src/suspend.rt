@@ -1,10 +1,9 @@
 //! CPU_SUSPEND.
 
-ghost use Rattle.std.specs.Prelude.{◌≡◌, ◌≤◌};
+ghost use Rattle.std.specs.Prelude.{◌≡◌, ◌&&◌, not};
 ghost use Rattle.psci_abi.specs.declared.request.Request.TheVariants.{CpuSuspend};
-ghost use Rattle.psci_board.specs.Board.{height};
-ghost use Rattle.psci_state.specs.Ask.{highest_of};
-ghost use Rattle.psci_fw_model.specs.Changes.{with_claim, with_rest};
+ghost use Rattle.psci_board.specs.Board.{may_enter};
+ghost use Rattle.psci_state.specs.Ask.{is_deep};
 ghost use Rattle.psci_fw_model.specs.Claims.{suspend_parts};
 ghost use Rattle.psci_fw_model.specs.CpuSuspend.{osi_code, sleeps};
 ghost use Rattle.psci_fw_model.specs.Effects.{suspended};
@@ -18,7 +17,7 @@ use crate::state::State;
 use psci_abi::{Code, Format};
 use psci_board::{Board, Core};
 use psci_coord::Osi;
-use psci_fw_model::{Opening, Outcome, law_caller, law_stops};
+use psci_fw_model::{Opening, Outcome, law_stops};
 use psci_state::Ask;
 
 /// How every board writes its power state words.
@@ -39,18 +38,24 @@ pub fn cpu_suspend(
         (CpuSuspend word opening.address opening.context) result (values_in state.new) }
     ensures state { IsStateOf board.now state.new }
 {
-    law_caller();
     law_may_claim();
     let Ok(ask) = Ask::read(word, FORMAT, board.height()) else {
         return Outcome::returns(Code::INVALID_PARAMETERS);
     };
-    if ask.deep() && !board.may_enter(opening.address) {
+    if is_nowhere(board, ask, opening.address) {
         return Outcome::returns(Code::INVALID_ADDRESS);
     }
     if state.known(caller) == board.start_limit() {
         return Outcome::returns(Code::SUCCESS);
     }
     sleep(board, state, caller, ask, opening)
+}
+
+/// Whether a core that asks for this would go on at an address that it may not enter.
+fn is_nowhere(board: &Board, ask: Ask, entry_point: u64) -> bool
+    ensures { result ≡ (is_deep ask && not (may_enter board.now entry_point)) }
+{
+    ask.deep() && !board.may_enter(entry_point)
 }
 
 /// A core is suspended with this ask, or is answered why it may not be.

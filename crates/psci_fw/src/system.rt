@@ -47,8 +47,8 @@ fn are_others_off(board: &Board, state: &State, caller: Core) -> bool
     ensures { let status = (values_in state.now).status in
         result ≡ all_others board.now caller.number (λ k. is_off_status (status k)) }
 {
-    (0..board.cores())
-        .all(|number| number == caller.number || state.status(Core { number }) == Status::Off)
+    (0..board.cores()).all(|number| number == caller.number
+        || state.status(Core { number }) == Status::Off)
 }
 
 /// SYSTEM_OFF (DEN0022D): the caller stops, and the system goes off.

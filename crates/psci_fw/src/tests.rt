@@ -1,15 +1,19 @@
 //! Calls of the firmware whose answers are known: what no script reaches, in its order of refusals.
 
+ghost use Rattle.std.specs.Prelude.{◌<◌, ◌≤◌};
+ghost use Rattle.psci_link.specs.Message.{most_applied};
+
 use crate::{Act, Cause, Firmware, FwFault, Outcome, Start, Status};
 use psci_abi::{Code, Regs};
 use psci_board::{Board, Core, Node};
-use psci_coord::{Part, Parts};
-use psci_link::{Ack, Kind, Message, Taken};
+use psci_coord::Part;
+use psci_link::{Ack, Kind, Taken};
 use std::alloc::Global;
 use std::test::Fail;
 
 mod lives;
 mod power;
+mod refusals;
 
 /// Two clusters of two cores.
 const BOARD: &str = "(2 2) exec 0x40000000-0x40100000 boot 0x40000000 starts 1000 lives 3";
@@ -87,20 +91,6 @@ fn returned(code: i32) -> Outcome {
     Outcome::returns(Code(code))
 }
 
-/// A CPU_ON is accepted.
-fn accepted(core: Core, life: u32, number: u32) -> Outcome {
-    Outcome {
-        act: Act::Return(Code::SUCCESS),
-        message: Some(Message {
-            kind: Kind::Start,
-            core,
-            life,
-            number,
-            parts: Parts::new(),
-        }),
-    }
-}
-
 /// A core stops, and nothing is sent.
 fn stopped() -> Outcome {
     Outcome {
@@ -109,44 +99,76 @@ fn stopped() -> Outcome {
     }
 }
 
-/// A core stops with a message of this kind for the whole system.
-fn halted(kind: Kind, core: Core, life: u32, number: u32) -> Outcome {
-    Outcome {
-        act: Act::Stop,
-        message: Some(Message {
-            kind,
-            core,
-            life,
-            number,
-            parts: Parts::new(),
-        }),
-    }
+/// Whether a core is answered this act, and a message of this kind, core, life and number is sent,
+/// with these depths and generations from level 0 up.
+fn is_sent(
+    answer: &Result<Outcome, FwFault>,
+    act: Act,
+    kind: Kind,
+    core: Core,
+    life: u32,
+    number: u32,
+    claimed: &[(u8, u64)],
+) -> bool {
+    let Ok(outcome) = answer else {
+        return false;
+    };
+    let Some(message) = &outcome.message else {
+        return false;
+    };
+    outcome.act == act
+        && message.kind == kind
+        && message.core == core
+        && message.life == life
+        && message.number == number
+        && are_parts(message.parts.as_slice(), claimed)
 }
 
-/// A core stops with these depths and generations, from level 0 up.
-fn down(core: Core, life: u32, number: u32, claimed: &[(u8, u64)]) -> Outcome {
-    let mut parts = Parts::new();
-    for (level, (depth, generation)) in claimed.iter().enumerate() {
-        parts.push(Part {
-            level: level as u32,
-            depth: *depth,
-            generation: *generation,
-        });
-    }
-    Outcome {
-        act: Act::Stop,
-        message: Some(Message {
-            kind: Kind::Down,
-            core,
-            life,
-            number,
-            parts,
-        }),
-    }
+/// Whether the parts have these depths and generations, and levels from 0 up.
+fn are_parts(parts: &[Part], claimed: &[(u8, u64)]) -> bool {
+    parts.len() == claimed.len()
+        && parts
+            .iter()
+            .enumerate()
+            .all(|(level, part)| part.level as usize == level)
+        && parts.iter().zip(claimed).all(|(part, (depth, generation))| {
+            part.depth == *depth && part.generation == *generation
+        })
+}
+
+/// Whether a CPU_ON is accepted.
+fn is_accepted(answer: &Result<Outcome, FwFault>, core: Core, life: u32, number: u32) -> bool {
+    let act = Act::Return(Code::SUCCESS);
+    is_sent(answer, act, Kind::Start, core, life, number, &[])
+}
+
+/// Whether a core stops with a message of this kind for the whole system.
+fn is_halted(
+    answer: &Result<Outcome, FwFault>,
+    kind: Kind,
+    core: Core,
+    life: u32,
+    number: u32,
+) -> bool {
+    is_sent(answer, Act::Stop, kind, core, life, number, &[])
+}
+
+/// Whether a core stops with this claim.
+fn is_down(
+    answer: &Result<Outcome, FwFault>,
+    core: Core,
+    life: u32,
+    number: u32,
+    claimed: &[(u8, u64)],
+) -> bool {
+    is_sent(answer, Act::Stop, Kind::Down, core, life, number, claimed)
 }
 
 /// An acknowledgement of a message of life 1.
-fn acked(kind: Kind, core: Core, number: u32, applied: u8, stale: bool) -> Ack {
+fn acked(kind: Kind, core: Core, number: u32, applied: u8, stale: bool) -> Ack
+    requires core { core.number < 256 }
+    requires applied { applied ≤ most_applied kind }
+{
     Ack {
         kind,
         core,
@@ -176,174 +198,4 @@ fn both_run(alloc: Global) -> Result<Firmware, Fail> {
     let _asked = firmware.smc(BOOT, on(0x4000_1000));
     let _entered = firmware.enter(LAST, start(1, 1));
     Ok(firmware)
-}
-#[test]
-fn second_core_is_started(rt: HostRuntime) -> Result<(), Fail> {
-    let mut firmware = firmware_of(rt.alloc(), BOARD)?;
-    let core = Core { number: 3 };
-    let first = firmware.enter(BOOT, start(1, 1));
-    assert_eq!(rt; first, Ok(entered(0x4000_0000, 0)));
-    assert_eq!(rt;
-        firmware.smc(BOOT, on(0x4000_1000)),
-        Ok(accepted(core, 1, 0))
-    );
-    assert_eq!(rt; firmware.smc(BOOT, on(0x4000_1000)), Ok(returned(-5)));
-    assert_eq!(rt; firmware.status(core.node()), Some(Status::Pending));
-    let cluster = Node { level: 1, place: 1 };
-    assert_eq!(rt; firmware.status(cluster), Some(Status::Pending));
-    let system = Node { level: 2, place: 0 };
-    assert_eq!(rt; firmware.status(system), Some(Status::On));
-    assert!(rt; !firmware.running(core));
-    assert_eq!(rt;
-        firmware.enter(core, start(1, 1)),
-        Ok(entered(0x4000_1000, 7))
-    );
-    assert!(rt; firmware.running(core));
-    assert_eq!(rt; firmware.smc(core, LAST_STATUS), Ok(returned(0)));
-    Ok(())
-}
-
-#[test]
-fn callers_are_refused_in_order(rt: HostRuntime) -> Result<(), Fail> {
-    let mut firmware = firmware_of(rt.alloc(), BOARD)?;
-    let beyond = Core { number: 4 };
-    assert_eq!(rt; firmware.smc(beyond, VERSION), Err(FwFault::NoCore));
-    assert_eq!(rt; firmware.smc(BOOT, VERSION), Err(FwFault::NoLife));
-    assert_eq!(rt; firmware.life(), None);
-    assert_eq!(rt; firmware.status(BOOT.node()), None);
-    let first = firmware.enter(BOOT, start(1, 1));
-    assert_eq!(rt; first, Ok(entered(0x4000_0000, 0)));
-    assert_eq!(rt; firmware.life(), Some(1));
-    assert_eq!(rt; firmware.smc(BOOT, VERSION), Ok(returned(65537)));
-    assert_eq!(rt; firmware.smc(beyond, VERSION), Err(FwFault::NoCore));
-    let second = Core { number: 1 };
-    assert_eq!(rt; firmware.smc(second, VERSION), Err(FwFault::NotRunning));
-    Ok(())
-}
-
-#[test]
-fn starts_are_refused_in_order(rt: HostRuntime) -> Result<(), Fail> {
-    let mut firmware = firmware_of(rt.alloc(), BOARD)?;
-    let beyond = Core { number: 4 };
-    assert_eq!(rt; firmware.enter(beyond, start(0, 0)), Err(FwFault::NoCore));
-    assert_eq!(rt; firmware.enter(BOOT, start(0, 0)), Err(FwFault::NoLife));
-    assert_eq!(rt; firmware.enter(BOOT, start(4, 1)), Err(FwFault::NoLife));
-    assert_eq!(rt; firmware.enter(BOOT, start(1, 0)), Err(FwFault::OldStart));
-    assert_eq!(rt;
-        firmware.enter(BOOT, start(1, 1001)),
-        Err(FwFault::OldStart)
-    );
-    assert_eq!(rt; firmware.life(), None);
-    let last = firmware.enter(BOOT, start(1, 1000));
-    assert_eq!(rt; last, Ok(entered(0x4000_0000, 0)));
-    assert_eq!(rt;
-        firmware.enter(BOOT, start(1, 1000)),
-        Err(FwFault::OldStart)
-    );
-    assert_eq!(rt; firmware.enter(BOOT, start(1, 999)), Err(FwFault::OldStart));
-    Ok(())
-}
-
-#[test]
-fn faults_say_what_is_wrong(rt: HostRuntime) -> Result<(), Fail> {
-    let texts = [
-        (FwFault::NoCore, "the board has no such core"),
-        (FwFault::NoLife, "there is no such life"),
-        (FwFault::NotRunning, "the calling core is not running"),
-        (FwFault::OldStart, "the start is not a new one of the core"),
-    ];
-    for (fault, text) in texts {
-        let said = format!(in rt.alloc(); "{fault}")?;
-        assert_eq!(rt; said.as_str(), text);
-    }
-    Ok(())
-}
-
-#[test]
-fn life_is_over_when_a_later_one_begins(rt: HostRuntime) -> Result<(), Fail> {
-    let mut firmware = firmware_of(rt.alloc(), BOARD)?;
-    let core = Core { number: 3 };
-    let first = firmware.enter(BOOT, start(1, 5));
-    assert_eq!(rt; first, Ok(entered(0x4000_0000, 0)));
-    assert_eq!(rt;
-        firmware.smc(BOOT, on(0x4000_1000)),
-        Ok(accepted(core, 1, 0))
-    );
-    let asked = firmware.enter(core, start(1, 4));
-    assert_eq!(rt; asked, Ok(entered(0x4000_1000, 7)));
-    let boot = firmware.enter(BOOT, start(3, 1));
-    assert_eq!(rt; boot, Ok(entered(0x4000_0000, 0)));
-    assert_eq!(rt; firmware.life(), Some(3));
-    assert_eq!(rt; firmware.status(core.node()), Some(Status::Off));
-    assert!(rt; !firmware.running(core));
-    assert_eq!(rt; firmware.enter(BOOT, start(2, 6)), Err(FwFault::OldStart));
-    assert_eq!(rt; firmware.enter(BOOT, start(3, 1)), Err(FwFault::OldStart));
-    assert_eq!(rt;
-        firmware.smc(BOOT, on(0x4000_2000)),
-        Ok(accepted(core, 3, 0))
-    );
-    let again = firmware.enter(core, start(3, 1));
-    assert_eq!(rt; again, Ok(entered(0x4000_2000, 7)));
-    Ok(())
-}
-
-#[test]
-fn core_without_opening_parks(rt: HostRuntime) -> Result<(), Fail> {
-    let mut firmware = firmware_of(rt.alloc(), BOARD)?;
-    let core = Core { number: 3 };
-    assert_eq!(rt; firmware.enter(core, start(2, 5)), Ok(down(core, 2, 5, &[(3, 5), (3, 5)])));
-    assert_eq!(rt; firmware.status(core.node()), Some(Status::Off));
-    assert_eq!(rt; firmware.status(BOOT.node()), Some(Status::Pending));
-    let boot = firmware.enter(BOOT, start(2, 1));
-    assert_eq!(rt; boot, Ok(entered(0x4000_0000, 0)));
-    assert_eq!(rt;
-        firmware.smc(BOOT, on(0x4000_1000)),
-        Ok(accepted(core, 2, 5))
-    );
-    let asked = firmware.enter(core, start(2, 6));
-    assert_eq!(rt; asked, Ok(entered(0x4000_1000, 7)));
-    assert_eq!(rt; firmware.enter(core, start(2, 7)), Ok(down(core, 2, 7, &[(3, 7), (3, 7)])));
-    assert_eq!(rt; firmware.smc(core, VERSION), Err(FwFault::NotRunning));
-    assert_eq!(rt; firmware.smc(BOOT, LAST_STATUS), Ok(returned(0)));
-    assert_eq!(rt; firmware.smc(BOOT, on(0x4000_1000)), Ok(returned(-4)));
-    Ok(())
-}
-
-#[test]
-fn last_start_leaves_none(rt: HostRuntime) -> Result<(), Fail> {
-    let mut firmware = firmware_of(rt.alloc(), TWO_STARTS)?;
-    let core = Core { number: 3 };
-    let first = firmware.enter(BOOT, start(1, 2));
-    assert_eq!(rt; first, Ok(entered(0x4000_0000, 0)));
-    assert_eq!(rt; firmware.enter(core, start(1, 2)), Ok(down(core, 1, 2, &[(3, 2), (3, 2)])));
-    assert_eq!(rt; firmware.smc(BOOT, on(0x4000_1000)), Ok(returned(-6)));
-    assert_eq!(rt; firmware.smc(BOOT, on(0x4000_1002)), Ok(returned(-9)));
-    let itself = Regs {
-        x1: 0,
-        ..on(0x4000_1000)
-    };
-    assert_eq!(rt; firmware.smc(BOOT, itself), Ok(returned(-4)));
-    Ok(())
-}
-
-#[test]
-fn largest_board_has_its_last_core(rt: HostRuntime) -> Result<(), Fail> {
-    let mut firmware = firmware_of(rt.alloc(), LARGEST)?;
-    let last = Core { number: 63 };
-    assert_eq!(rt;
-        firmware.enter(BOOT, start(65535, 1)),
-        Ok(entered(0x100, 0))
-    );
-    let asked = Regs {
-        x1: 0x3_0f00,
-        ..on(0x200)
-    };
-    assert_eq!(rt; firmware.smc(BOOT, asked), Ok(accepted(last, 65535, 0)));
-    let begun = firmware.enter(last, start(65535, 4_294_967_295));
-    assert_eq!(rt; begun, Ok(entered(0x200, 7)));
-    assert_eq!(rt;
-        firmware.enter(Core { number: 64 }, start(65535, 1)),
-        Err(FwFault::NoCore)
-    );
-    Ok(())
 }

@@ -27,7 +27,7 @@ fn system_is_suspended_by_its_last_core(rt: HostRuntime) -> Result<(), Fail> {
     let outside = firmware.smc(BOOT, system_suspend(0x5000_0000));
     assert_eq!(rt; outside, Ok(returned(-9)));
     let rests = firmware.smc(BOOT, system_suspend(0x4000_0200));
-    assert_eq!(rt; rests, Ok(down(BOOT, 1, 1, &[(3, 1), (3, 1), (3, 1)])));
+    assert!(rt; is_down(&rests, BOOT, 1, 1, &[(3, 1), (3, 1), (3, 1)]));
     assert_eq!(rt;
         firmware.enter(BOOT, start(1, 2)),
         Ok(entered(0x4000_0200, 9))
@@ -41,12 +41,15 @@ fn system_is_not_suspended_beside_a_core(rt: HostRuntime) -> Result<(), Fail> {
     let denied = firmware.smc(BOOT, system_suspend(0x4000_0200));
     assert_eq!(rt; denied, Ok(returned(-3)));
     let off = firmware.smc(LAST, CPU_OFF);
-    assert_eq!(rt; off, Ok(down(LAST, 1, 1, &[(3, 1), (3, 1)])));
+    assert!(rt; is_down(&off, LAST, 1, 1, &[(3, 1), (3, 1)]));
     let going = firmware.smc(BOOT, system_suspend(0x4000_0200));
     assert_eq!(rt; going, Ok(returned(-3)));
-    assert_eq!(rt; firmware.take(acked(Kind::Down, LAST, 1, 2, false)), Taken::Used);
+    assert_eq!(rt;
+        firmware.take(acked(Kind::Down, LAST, 1, 2, false)),
+        Taken::Used
+    );
     let rests = firmware.smc(BOOT, system_suspend(0x4000_0200));
-    assert_eq!(rt; rests, Ok(down(BOOT, 1, 1, &[(3, 1), (3, 1), (3, 2)])));
+    assert!(rt; is_down(&rests, BOOT, 1, 1, &[(3, 1), (3, 1), (3, 2)]));
     Ok(())
 }
 
@@ -66,10 +69,7 @@ fn no_suspend_at_the_start_limit(rt: HostRuntime) -> Result<(), Fail> {
 fn halting_life_stops_every_core(rt: HostRuntime) -> Result<(), Fail> {
     let mut firmware = both_run(rt.alloc())?;
     assert!(rt; !firmware.halting());
-    assert_eq!(rt;
-        firmware.smc(BOOT, SYSTEM_OFF),
-        Ok(halted(Kind::Off, BOOT, 1, 1))
-    );
+    assert!(rt; is_halted(&firmware.smc(BOOT, SYSTEM_OFF), Kind::Off, BOOT, 1, 1));
     assert!(rt; firmware.halting());
     assert!(rt; firmware.outstanding(4).is_some());
     assert_eq!(rt; firmware.smc(BOOT, VERSION), Err(FwFault::NotRunning));
@@ -77,7 +77,10 @@ fn halting_life_stops_every_core(rt: HostRuntime) -> Result<(), Fail> {
     assert_eq!(rt; firmware.enter(LAST, start(1, 2)), Ok(stopped()));
     assert_eq!(rt; firmware.known(LAST), 2);
     assert_eq!(rt; firmware.granted(LAST.node()), 0);
-    assert_eq!(rt; firmware.take(acked(Kind::Off, BOOT, 1, 1, false)), Taken::Used);
+    assert_eq!(rt;
+        firmware.take(acked(Kind::Off, BOOT, 1, 1, false)),
+        Taken::Used
+    );
     assert!(rt; firmware.outstanding(4).is_none());
     assert_eq!(rt; firmware.status(BOOT.node()), Some(Status::On));
     Ok(())
@@ -87,11 +90,8 @@ fn halting_life_stops_every_core(rt: HostRuntime) -> Result<(), Fail> {
 fn pending_core_stays_so_in_a_halting_life(rt: HostRuntime) -> Result<(), Fail> {
     let mut firmware = booted(rt.alloc())?;
     let asked = firmware.smc(BOOT, on(0x4000_1000));
-    assert_eq!(rt; asked, Ok(accepted(LAST, 1, 0)));
-    assert_eq!(rt;
-        firmware.smc(BOOT, SYSTEM_RESET),
-        Ok(halted(Kind::Reset, BOOT, 1, 1))
-    );
+    assert!(rt; is_accepted(&asked, LAST, 1, 0));
+    assert!(rt; is_halted(&firmware.smc(BOOT, SYSTEM_RESET), Kind::Reset, BOOT, 1, 1));
     assert!(rt; firmware.outstanding(3).is_some());
     assert_eq!(rt; firmware.enter(LAST, start(1, 1)), Ok(stopped()));
     assert_eq!(rt; firmware.status(LAST.node()), Some(Status::Pending));
@@ -104,15 +104,20 @@ fn pending_core_stays_so_in_a_halting_life(rt: HostRuntime) -> Result<(), Fail> 
 fn new_life_begins_anew(rt: HostRuntime) -> Result<(), Fail> {
     let mut firmware = both_run(rt.alloc())?;
     let off = firmware.smc(LAST, CPU_OFF);
-    assert_eq!(rt; off, Ok(down(LAST, 1, 1, &[(3, 1), (3, 1)])));
+    assert!(rt; is_down(&off, LAST, 1, 1, &[(3, 1), (3, 1)]));
     let set = firmware.smc(BOOT, regs(0x8400_000f, 1, 0, 0));
     assert_eq!(rt; set, Ok(returned(0)));
     let reset = firmware.smc(BOOT, SYSTEM_RESET);
-    assert_eq!(rt; reset, Ok(halted(Kind::Reset, BOOT, 1, 1)));
+    assert!(rt; is_halted(&reset, Kind::Reset, BOOT, 1, 1));
     let second = Core { number: 1 };
-    assert_eq!(rt;
-        firmware.enter(second, start(2, 1)),
-        Ok(down(second, 2, 1, &[(3, 1)]))
+    assert!(rt;
+        is_down(
+            &firmware.enter(second, start(2, 1)),
+            second,
+            2,
+            1,
+            &[(3, 1)]
+        )
     );
     assert!(rt; !firmware.halting());
     assert!(rt; firmware.outstanding(3).is_none());
@@ -125,6 +130,9 @@ fn new_life_begins_anew(rt: HostRuntime) -> Result<(), Fail> {
     assert_eq!(rt; boot, Ok(entered(0x4000_0000, 0)));
     let same = firmware.smc(BOOT, regs(0x8400_000f, 0, 0, 0));
     assert_eq!(rt; same, Ok(returned(0)));
-    assert_eq!(rt; firmware.take(acked(Kind::Down, LAST, 1, 2, false)), Taken::Old);
+    assert_eq!(rt;
+        firmware.take(acked(Kind::Down, LAST, 1, 2, false)),
+        Taken::Old
+    );
     Ok(())
 }

@@ -1,7 +1,6 @@
-use Rattle.std.proofs.Common.{◌≡◌, ◌≤◌, ◌<◌, ℕ, Some, length, get_or, slice_get, arith, ap, ◌∙◌}
+use Rattle.std.proofs.Common.{◌≤◌, arith, ◌∙◌}
 use Rattle.std.proofs.lemmas.Option.{slice_get-get_or}
-use Rattle.psci_board.specs.Board.{BoardValue, height}
-use Rattle.psci_board.specs.declared.node.Node.{Node}
+use Rattle.psci_board.specs.Board.{height}
 use Rattle.psci_coord.specs.declared.part.Part.{Part}
 use Rattle.psci_tree.specs.Recount.{granted_at}
 use Rattle.psci_fw.proofs.Granting.{laid_all, laid_more, may_grant, on_path, path_at}
@@ -52,8 +51,8 @@ loop-level-preserved c =
       laid = laid_more b c.args.core.number c.args.parts.now (granted_at c.args.tree.now)
           c.loop-level.tree c.grant.new.self c.loop-level.level _ part
           (λ l p. rw (c.grant.ensures.value, node)
-              (c.law_granted.ensures.grant c.loop-level.tree _ _ l p c.loop-level.invariant.tree
-              has)) c.loop-level.invariant.laid;
+          (c.law_granted.ensures.grant c.loop-level.tree _ _ l p c.loop-level.invariant.tree
+          has)) c.loop-level.invariant.laid;
       cores = λ k. rw c.grant.ensures.value
           (c.law_cores.ensures.grant c.loop-level.tree _ _ k ∙ c.loop-level.invariant.cores k);
       levels = c.grant.ensures.levels ∙ c.loop-level.invariant.levels;

@@ -1,7 +1,7 @@
 use Rattle.std.proofs.Common.{◌≡◌, ◌<◌, true, false, length, sym, subst, ap, arith, ◌∙◌}
 use Rattle.psci_link.specs.declared.taken.Taken.TheVariants.{Used, Old}
 use Rattle.psci_link.specs.Message.{AckValue}
-use Rattle.psci_link.specs.Slots.{changed, message_in, slot_of, taken}
+use Rattle.psci_link.specs.Slots.{message_in, slot_of, taken}
 use Rattle.psci_link.specs.Slots.Change.{Acknowledge}
 use Rattle.psci_fw_model.specs.declared.status.Status.TheVariants as statuses
 use Rattle.psci_fw_model.specs.Changes.{turns_off}
@@ -49,7 +49,7 @@ returns-then-is_off-clause-used c = λ used.
     (off_changed s _ _ c.take_ack-taken.new.self a c.self.view_is off
     (rw (rows, row) (row_set s.rows a.core.number _ row_inside))
     (λ slot. rw (c.take_ack-taken.ensures.slots, ← c.ack.view_is)
-        (c.law_slots.ensures.changed s.slots (Acknowledge a) tt slot)))
+    (c.law_slots.ensures.changed s.slots (Acknowledge a) tt slot)))
 
 pub returns-then-eq-clause-old : goal.returns-then-eq-clause-old
 returns-then-eq-clause-old c = λ old.
@@ -74,8 +74,8 @@ returns-then-eq-clause-old c = λ old.
     (sym c.ack.view_is) (sym c.take_ack-taken.ensures.taken ∙ old) in
     old_changed s _ c.take_ack-taken.new.self c.self.view_is
     (λ slot. rw (c.take_ack-taken.ensures.slots, ← c.ack.view_is)
-        (c.law_slots.ensures.changed s.slots (Acknowledge a) tt slot
-        ∙ old_slot a s.slots slot found))
+    (c.law_slots.ensures.changed s.slots (Acknowledge a) tt slot
+    ∙ old_slot a s.slots slot found))
 
 pub returns-else-is_off-clause-used : goal.returns-else-is_off-clause-used
 returns-else-is_off-clause-used c = λ used.
@@ -101,4 +101,4 @@ returns-else-is_off-clause-used c = λ used.
     rw (← c.ack.view_is)
     (used_changed s _ c.take_ack-taken.new.self a c.self.view_is off
     (λ slot. rw (c.take_ack-taken.ensures.slots, ← c.ack.view_is)
-        (c.law_slots.ensures.changed s.slots (Acknowledge a) tt slot)))
+    (c.law_slots.ensures.changed s.slots (Acknowledge a) tt slot)))

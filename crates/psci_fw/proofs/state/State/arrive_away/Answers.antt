@@ -1,12 +1,10 @@
-use Rattle.std.proofs.Common.{◌≡◌, ◌<◌, None, Some, length, sym, subst, ap, refl, ◌∙◌}
-use Rattle.std.proofs.Math.ListN.{set}
+use Rattle.std.proofs.Common.{◌≡◌, None, sym, subst, ap, ◌∙◌}
 use Rattle.psci_link.specs.Slots.Change.{Clear}
-use Rattle.psci_fw_model.specs.declared.status.Status.TheVariants as statuses
 use Rattle.psci_fw.specs.Rows.{row_at}
 use Rattle.psci_fw.specs.Seen.{IsStateOf, StateValue}
-use Rattle.psci_fw.proofs.Changed.{in_rows, row_set, same_set, within}
-use Rattle.psci_fw.proofs.Moved.{path_cleared, pending_of, rows_set, running_changed}
-use Rattle.psci_fw.proofs.Moved.{stopped_changed, suspended_changed}
+use Rattle.psci_fw.proofs.Changed.{in_rows, row_set}
+use Rattle.psci_fw.proofs.Moved.{path_cleared, rows_set}
+use Rattle.psci_fw.proofs.Moved.{stopped_changed}
 use Rattle.psci_fw.proofs.state.State.arrive_away.Goals as goal
 
 pub returns-clause-after : goal.returns-clause-after

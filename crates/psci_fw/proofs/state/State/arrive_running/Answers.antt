@@ -1,12 +1,9 @@
-use Rattle.std.proofs.Common.{◌≡◌, ◌<◌, None, Some, length, sym, subst, ap, refl, ◌∙◌}
-use Rattle.std.proofs.Math.ListN.{set}
+use Rattle.std.proofs.Common.{◌<◌, None, length, sym, subst}
 use Rattle.psci_link.specs.Slots.Change.{Clear}
 use Rattle.psci_fw_model.specs.declared.status.Status.TheVariants as statuses
-use Rattle.psci_fw.specs.Rows.{row_at}
 use Rattle.psci_fw.specs.Seen.{IsStateOf, StateValue}
-use Rattle.psci_fw.proofs.Changed.{in_rows, row_set, same_set, within}
-use Rattle.psci_fw.proofs.Moved.{path_cleared, pending_of, rows_set, running_changed}
-use Rattle.psci_fw.proofs.Moved.{stopped_changed, suspended_changed}
+use Rattle.psci_fw.proofs.Changed.{in_rows, row_set, within}
+use Rattle.psci_fw.proofs.Moved.{path_cleared, rows_set, running_changed}
 use Rattle.psci_fw.proofs.state.State.arrive_running.Goals as goal
 
 pub returns-clause-after : goal.returns-clause-after
@@ -29,10 +26,10 @@ returns-clause-after c =
     running_changed c.args.board.now s _ c.set_start.new.self _ c.clear.new.self
     c.args.core.number c.args.start c.self.view_is c.requires.life
     (λ k. rw c.set_start.ensures.value
-        (c.law_cores.ensures.started s.tree c.args.core.number k c.args.start.number inside))
+    (c.law_cores.ensures.started s.tree c.args.core.number k c.args.start.number inside))
     (rw rows (row_set s.rows c.args.core.number _
     (in_rows _ _ _ _ c.self.view_is c.self.invariant c.requires.state c.requires.inside)))
     (path_cleared c.args.board.now s c.set_start.new.self c.args.core.number of.levels
     (λ l p. rw c.set_start.ensures.value
-        (c.law_granted.ensures.started s.tree c.args.core.number c.args.start.number l p)))
+    (c.law_granted.ensures.started s.tree c.args.core.number c.args.start.number l p)))
     (λ slot. rw c.clear.ensures.slots (c.law_slots.ensures.changed s.slots (Clear c.args.core) tt slot))

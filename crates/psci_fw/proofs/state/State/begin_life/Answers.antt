@@ -1,5 +1,4 @@
-use Rattle.std.proofs.Common.{◌≡◌, ◌<◌, length, sym, subst, ap, arith, ◌∙◌}
-use Rattle.std.specs.Vec.{with_items}
+use Rattle.std.proofs.Common.{◌≡◌, ◌<◌, length, sym, subst, ap, ◌∙◌}
 use Rattle.std.proofs.lemmas.List.{with_items_is}
 use Rattle.psci_board.specs.Board.{size_below}
 use Rattle.psci_link.specs.Slots.Change.{ClearAll}
@@ -34,6 +33,6 @@ returns-clause-after c =
     c.clear_all.new.self board c.reset_life.ensures.tree new
     (λ k. rw c.reset_life.ensures.value (c.law_start_of_life.ensures.cores s.tree.levels k some))
     (λ l p h i. rw (c.reset_life.ensures.value, of.levels)
-        (c.law_start_of_life.ensures.granted c.args.board.now.levels l p h i))
+    (c.law_start_of_life.ensures.granted c.args.board.now.levels l p h i))
     c.reset_rows.ensures
     (λ slot. rw c.clear_all.ensures.slots (c.law_slots.ensures.changed s.slots ClearAll tt slot))))

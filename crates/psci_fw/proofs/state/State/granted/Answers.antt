@@ -1,5 +1,4 @@
-use Rattle.std.proofs.Common.{◌≡◌, ◌<◌, ◌≤◌, sym, subst, ap, arith, ◌∙◌, length, drop}
-use Rattle.psci_board.specs.Board.{size_below}
+use Rattle.std.proofs.Common.{sym, subst, arith}
 use Rattle.psci_fw.specs.Seen.{IsStateOf, StateValue}
 use Rattle.psci_fw.proofs.Begun.{granted_shown}
 use Rattle.psci_fw.proofs.state.State.granted.Goals as goal

@@ -1,6 +1,6 @@
-use Rattle.std.proofs.Common.{◌≡◌, ◌+◌, ◌-◌, ◌≤◌, Some, None, sym, subst, ◌∙◌, ap, arith}
-use Rattle.psci_board.specs.Board.{cores, cores_below}
-use Rattle.psci_fw.specs.Seen.{IsStateOf, StateValue}
+use Rattle.std.proofs.Common.{◌≡◌, ◌+◌, ◌-◌, ◌≤◌, sym, ◌∙◌, arith}
+use Rattle.psci_board.specs.Board.{cores}
+use Rattle.psci_fw.specs.Seen.{StateValue}
 use Rattle.psci_fw.proofs.Changed.{row_count}
 use Rattle.psci_fw.proofs.Spanned.{ends_inside, status_none, status_seen}
 use Rattle.psci_fw.proofs.state.State.node_status.Goals as goal

@@ -1,16 +1,13 @@
-use Rattle.std.proofs.Common.{◌≡◌, ◌<◌, None, Some, length, sym, subst, ap, refl, ◌∙◌}
-use Rattle.std.proofs.Math.ListN.{set}
+use Rattle.std.proofs.Common.{◌≡◌, ◌<◌, Some, length, sym, subst, ap, ◌∙◌}
 use Rattle.psci_board.specs.Board.{cores}
 use Rattle.psci_link.specs.declared.kind.Kind.TheVariants as kinds
 use Rattle.psci_link.specs.Message.{MessageValue}
 use Rattle.psci_link.specs.Slots.{IsOfCores, slot_of}
-use Rattle.psci_link.specs.Slots.Change.{Clear, Put}
+use Rattle.psci_link.specs.Slots.Change.{Put}
 use Rattle.psci_fw_model.specs.declared.status.Status.TheVariants as statuses
-use Rattle.psci_fw.specs.Rows.{row_at}
 use Rattle.psci_fw.specs.Seen.{IsStateOf, StateValue}
-use Rattle.psci_fw.proofs.Changed.{core_set, in_rows, row_set, same_set, within}
-use Rattle.psci_fw.proofs.Moved.{path_cleared, pending_of, rows_set, running_changed}
-use Rattle.psci_fw.proofs.Moved.{stopped_changed, suspended_changed}
+use Rattle.psci_fw.proofs.Changed.{core_set, in_rows, row_set, within}
+use Rattle.psci_fw.proofs.Moved.{path_cleared, pending_of, rows_set}
 use Rattle.psci_fw.proofs.state.State.set_pending.Goals as goal
 
 pub returns-clause-after : goal.returns-clause-after
@@ -50,10 +47,10 @@ returns-clause-after c =
     rw (← c.self.view_is, ← c.message.view_is)
     (pending_of c.args.board.now s c.set_pending.new.self _ c.put.new.self m c.args.opening
     (core_set s.tree c.set_pending.new.self m.core.number _ (λ k. rw c.set_pending.ensures.value
-        (c.law_cores.ensures.pending s.tree m.core.number k inside)))
+    (c.law_cores.ensures.pending s.tree m.core.number k inside)))
     (rw rows (row_set s.rows m.core.number _ row_inside))
     (path_cleared c.args.board.now s c.set_pending.new.self m.core.number of.levels
     (λ l p. rw c.set_pending.ensures.value
-        (c.law_granted.ensures.pending s.tree m.core.number l p)))
+    (c.law_granted.ensures.pending s.tree m.core.number l p)))
     (λ slot. rw (c.put.ensures.slots, ← c.message.view_is)
-        (c.law_slots.ensures.changed s.slots (Put m) has_slot slot)))
+    (c.law_slots.ensures.changed s.slots (Put m) has_slot slot)))

@@ -1,11 +1,9 @@
 use Rattle.std.proofs.Common.{◌≡◌, ◌<◌, None, Some, length, sym, subst, ap, refl, ◌∙◌}
-use Rattle.std.proofs.Math.ListN.{set}
-use Rattle.psci_fw_model.specs.declared.status.Status.TheVariants as statuses
 use Rattle.psci_fw.specs.Rows.{row_at}
 use Rattle.psci_fw.specs.Seen.{IsStateOf, StateValue}
 use Rattle.psci_fw.proofs.Changed.{in_rows, row_set, same_set, within}
-use Rattle.psci_fw.proofs.Moved.{path_cleared, pending_of, rows_set, running_changed}
-use Rattle.psci_fw.proofs.Moved.{stopped_changed, suspended_changed}
+use Rattle.psci_fw.proofs.Moved.{rows_set}
+use Rattle.psci_fw.proofs.Moved.{suspended_changed}
 use Rattle.psci_fw.proofs.state.State.set_suspended.Goals as goal
 
 pub returns-then-deep-clause-after : goal.returns-then-deep-clause-after
@@ -32,11 +30,11 @@ returns-then-deep-clause-after c =
     suspended_changed s _ c.set_ask.new.self _ c.args.core.number c.args.ask c.args.opening
     (Some c.args.opening) c.self.view_is c.requires.running
     (λ k. rw c.set_ask.ensures.value
-        (c.law_cores.ensures.suspended s.tree c.args.core.number k c.args.ask inside))
+    (c.law_cores.ensures.suspended s.tree c.args.core.number k c.args.ask inside))
     (rw (rows, row) (row_set s.rows c.args.core.number _
     (in_rows _ _ _ _ c.self.view_is c.self.invariant c.requires.state c.requires.inside)))
     (λ l p. rw c.set_ask.ensures.value
-        (c.law_granted.ensures.suspended s.tree c.args.core.number l p c.args.ask))
+    (c.law_granted.ensures.suspended s.tree c.args.core.number l p c.args.ask))
     (rw (sym c.deep.ensures ∙ c.if-deep.true) refl)
 
 pub returns-else-deep-clause-after : goal.returns-else-deep-clause-after
@@ -56,8 +54,8 @@ returns-else-deep-clause-after c =
     suspended_changed s _ c.set_ask.new.self s.rows c.args.core.number c.args.ask c.args.opening
     None c.self.view_is c.requires.running
     (λ k. rw c.set_ask.ensures.value
-        (c.law_cores.ensures.suspended s.tree c.args.core.number k c.args.ask inside))
+    (c.law_cores.ensures.suspended s.tree c.args.core.number k c.args.ask inside))
     (same_set (row_at s.rows) c.args.core.number)
     (λ l p. rw c.set_ask.ensures.value
-        (c.law_granted.ensures.suspended s.tree c.args.core.number l p c.args.ask))
+    (c.law_granted.ensures.suspended s.tree c.args.core.number l p c.args.ask))
     (rw (sym c.deep.ensures ∙ c.if-deep.false) refl)

@@ -1,0 +1,224 @@
+-- What a core is answered that stops or enters, and what is left.
+use Rattle.std.proofs.Common.{◌≡◌, ℕ, ◌<◌, ◌==◌, Bool, true, false, cond, not, nat_lt, List, None}
+use Rattle.std.proofs.Common.{Some, Option, Ok, Err, Result, ◌&&◌, refl, sym, subst, ◌∙◌, ap, arith}
+use Rattle.std.proofs.lemmas.Bool.{ltb-true}
+use Rattle.std.specs.Option.{option_or}
+use Rattle.psci_abi.specs.declared.request.Request.TheVariants as requests
+use Rattle.psci_board.specs.Board.{BoardValue, cores, may_enter}
+use Rattle.psci_coord.specs.declared.osi.Osi.{Osi}
+use Rattle.psci_coord.specs.declared.part.Part.{Part}
+use Rattle.psci_link.specs.declared.kind.Kind.TheVariants.{Down}
+use Rattle.psci_state.specs.Ask.{is_deep}
+use Rattle.psci_state.specs.declared.fault.BadState.{BadState}
+use Rattle.psci_fw_model.specs.declared.fault.FwFault.{FwFault}
+use Rattle.psci_fw_model.specs.declared.fault.FwFault.TheVariants.{NoCore}
+use Rattle.psci_fw_model.specs.declared.opening.Opening.{Opening}
+use Rattle.psci_fw_model.specs.declared.outcome.Act.{Act}
+use Rattle.psci_fw_model.specs.declared.outcome.Act.TheVariants.{Resume}
+use Rattle.psci_fw_model.specs.declared.outcome.Outcome.{Outcome}
+use Rattle.psci_ctl_model.specs.declared.start.Start.{Start}
+use Rattle.psci_fw_model.specs.After.{change}
+use Rattle.psci_fw_model.specs.Changes.{with_arrival, with_claim, with_phase, with_rest}
+use Rattle.psci_fw_model.specs.Claims.{leaving_claim, off_parts, suspend_parts}
+use Rattle.psci_fw_model.specs.CpuOff.{off_message}
+use Rattle.psci_fw_model.specs.CpuSuspend.{ask_named, sleeps, suspend_asked}
+use Rattle.psci_fw_model.specs.Effects.{function_effect, going_off, rest_named, suspended}
+use Rattle.psci_fw_model.specs.Entering.{enter_fault, enter_outcome, outcome_at, resumes}
+use Rattle.psci_fw_model.specs.Lives.{in_life, start_of_life}
+use Rattle.psci_fw_model.specs.Outcomes.{message_for, stops, stops_with}
+use Rattle.psci_fw_model.specs.Phases.{Away, Phase, Running, unless_pending}
+use Rattle.psci_fw_model.specs.Values.{Values}
+use Rattle.psci_fw_model.specs.Views.{view}
+use Rattle.psci_fw.specs.Calls.{IsAnswered}
+use Rattle.psci_fw.specs.Claims.{MayClaim, slept_by}
+use Rattle.psci_fw.specs.Ways.{way_by, way_on}
+use Rattle.psci_fw.proofs.Changed.{same_values, updated_same}
+use Rattle.psci_fw.proofs.Moved.{arrived}
+
+-- Stopping --------------------------------------------------------------------------------------
+
+-- the parts of a core that is off or going off now
+pub leaving_off : (b : BoardValue) (v w : Values) (c : ℕ) (parts : List Part)
+    → w ≡ with_phase c Away v → parts ≡ leaving_claim b (view b w) c w.mode
+    → parts ≡ off_parts b v c
+unfolding off_parts
+leaving_off b v w c parts e is = is ∙ ap (λ (x : Values). leaving_claim b (view b x) c x.mode) e
+
+pub left_may : (b : BoardValue) (v w : Values) (c : ℕ) (parts whole : List Part)
+    → w ≡ with_phase c Away v → parts ≡ whole → MayClaim b c whole v.granted
+    → MayClaim b c parts w.granted
+left_may b v w c parts whole e same may =
+    subst (λ (x : Values). MayClaim b c parts x.granted) (sym e)
+    (subst (λ (ps : List Part). MayClaim b c ps v.granted) (sym same) may)
+
+-- what is answered to a core that stops so
+pub parked : (b : BoardValue) (v w : Values) (c : ℕ) (o : Outcome) (parts : List Part)
+    → w ≡ with_phase c Away v → parts ≡ off_parts b v c
+    → o ≡ stops_with (message_for w Down c parts) → o ≡ stops_with (off_message b v c)
+parked b v w c o parts e same is =
+    is ∙ ap (λ (x : Values). stops_with (message_for x Down c parts)) e
+    ∙ ap (λ (ps : List Part). stops_with (message_for v Down c ps)) same
+
+rest_away : (v : Values) (c : ℕ) → with_rest c going_off v ≡ with_phase c Away v
+rest_away v c = same_values _ _ (record {
+  life = refl;
+  halting = refl;
+  mode = refl;
+  known = λ k. refl;
+  status = λ k. refl;
+  phase = λ k. refl;
+  opening = updated_same v.opening c (option_or None (v.opening c)) refl;
+  granted = λ l p. refl;
+  outstanding = λ slot. refl;
+})
+
+pub off_answered : (b : BoardValue) (v w u : Values) (c : ℕ) (o : Outcome) (parts : List Part)
+    → w ≡ with_phase c Away v → parts ≡ leaving_claim b (view b w) c w.mode
+    → o ≡ stops_with (message_for w Down c parts)
+    → u ≡ with_claim b (message_for w Down c parts) w
+    → IsAnswered b v c requests.CpuOff o u
+off_answered b v w u c o parts e is answer left =
+    let same = leaving_off b v w c parts e is in
+    let stopped = parked b v w c o parts e same answer in
+    record {
+      answer = stopped;
+      after = left
+          ∙ ap (λ (x : Values). with_claim b (message_for x Down c parts) x) e
+          ∙ ap (λ (ps : List Part). with_claim b (message_for v Down c ps) (with_phase c Away v))
+          same
+          ∙ ap (with_claim b (off_message b v c)) (sym (rest_away v c))
+          ∙ ap (λ (x : Outcome). change b (function_effect b c requests.CpuOff x.act x.message) v)
+          (sym stopped);
+    }
+
+-- Suspended -------------------------------------------------------------------------------------
+
+-- a running core that goes on changes nothing
+pub goes_on : (v : Values) (c : ℕ) → v.phase c ≡ Running → v ≡ with_phase c Running v
+goes_on v c e = same_values _ _ (record {
+  life = refl;
+  halting = refl;
+  mode = refl;
+  known = λ k. refl;
+  status = λ k. refl;
+  phase = λ k.
+      sym (updated_same v.phase c (unless_pending (v.phase c) Running)
+      (ap (λ (p : Phase). unless_pending p Running) e ∙ sym e) k);
+  opening = λ k. refl;
+  granted = λ l p. refl;
+  outstanding = λ slot. refl;
+})
+
+module _ (b : BoardValue) (v : Values) (c word : ℕ) (opening : Opening) (ask : List ℕ)
+    (running : v.phase c ≡ Running) (named : ask_named b word ≡ Ok ask) where
+  slept_after : (x : Result (List Part) Osi)
+      → slept_by b v c (suspended opening ask) (sleeps v c x).message
+      ≡ change b (function_effect b c (requests.CpuSuspend word opening.address opening.context)
+      (sleeps v c x).act (sleeps v c x).message) v
+  slept_after (Ok parts) =
+      ap (λ (n : Result (List ℕ) BadState).
+      with_claim b (message_for v Down c parts) (with_rest c (rest_named opening n) v))
+      (sym named)
+  slept_after (Err reason) = goes_on v c running
+
+  pub suspended_answered : (o : Outcome) (w : Values)
+      → (is_deep ask && not (may_enter b opening.address)) ≡ false → (v.known c ≡ b.starts → ⊥)
+      → o ≡ sleeps v c (suspend_parts b v c ask)
+      → w ≡ slept_by b v c (suspended opening ask) o.message
+      → IsAnswered b v c (requests.CpuSuspend word opening.address opening.context) o w
+  suspended_answered o w may low is left =
+      let other : (v.known c == b.starts) ≡ false = grind arith in
+      let asked : suspend_asked b v c opening.address (Ok ask)
+      ≡ sleeps v c (suspend_parts b v c ask) = rw (may, other) refl in
+      record {
+        answer = is ∙ sym (ap (suspend_asked b v c opening.address) named ∙ asked);
+        after = left ∙ ap (λ (x : Outcome). slept_by b v c (suspended opening ask) x.message) is
+            ∙ slept_after (suspend_parts b v c ask)
+            ∙ ap (λ (x : Outcome). change b (function_effect b c
+            (requests.CpuSuspend word opening.address opening.context) x.act x.message) v) (sym is);
+      }
+
+-- Entering --------------------------------------------------------------------------------------
+
+in_life_again : (b : BoardValue) (life : ℕ) (v : Values)
+    → in_life b life (in_life b life v) ≡ in_life b life v
+in_life_again b life v = by (life == v.life) refl
+  where
+    by : (t : Bool) → (life == v.life) ≡ t
+        → in_life b life (cond t v (start_of_life b life)) ≡ cond t v (start_of_life b life)
+    by true e = rw e refl
+    by false e = let same : (life == life) ≡ true = grind arith in rw same refl
+
+arrival_again : (b : BoardValue) (v w : Values) (c : ℕ) (s : Start) → w ≡ in_life b s.life v
+    → with_arrival b c s w ≡ with_arrival b c s v
+arrival_again b v w c s e =
+    ap (λ (x : Values). arrived b c s (in_life b s.life x)) e
+    ∙ ap (arrived b c s) (in_life_again b s.life v)
+
+pub arrived_away : (b : BoardValue) (v w u : Values) (c : ℕ) (s : Start) → w ≡ in_life b s.life v
+    → u ≡ with_phase c Away (with_arrival b c s w)
+    → u ≡ with_phase c Away (with_arrival b c s v)
+arrived_away b v w u c s e is = is ∙ ap (with_phase c Away) (arrival_again b v w c s e)
+
+pub fault_inside : (b : BoardValue) (v : Values) (c : ℕ) (s : Start)
+    → enter_fault b v c s ≡ None → c < cores b
+fault_inside b v c s e = by (nat_lt c (cores b)) refl
+  where
+    by : (t : Bool) → nat_lt c (cores b) ≡ t → c < cores b
+    by true f = ltb-true c (cores b) f
+    by false f =
+        let x : ◌≡◌ {A = Option FwFault} (Some NoCore) None = rw f at e in cc
+
+pub halted_outcome : (b : BoardValue) (v : Values) (c : ℕ) (s : Start)
+    → (in_life b s.life v).halting ≡ true → stops ≡ enter_outcome b v c s
+unfolding enter_outcome
+halted_outcome b v c s e =
+    let found = in_life b s.life v in
+    sym (ap (λ (t : Bool).
+    cond t stops (outcome_at b found (with_arrival b c s v) c s (found.opening c))) e)
+
+-- Where a core goes on --------------------------------------------------------------------------
+
+way_is : (b : BoardValue) (found then : Values) (c : ℕ) (s : Start) (act : Act) (o : Option Opening)
+    → way_by found c s o ≡ Some act
+    → record { act = act; message = None } ≡ outcome_at b found then c s o
+way_is b found then c s act (Some o) e = cc
+way_is b found then c s act None e = by (resumes found c s) e
+  where
+    by : (t : Bool) → ◌≡◌ {A = Option Act} (cond t (Some Resume) None) (Some act)
+        → ◌≡◌ {A = Outcome} (record { act = act; message = None })
+        (cond t (record { act = Resume; message = None }) (stops_with (off_message b then c)))
+    by true f = cc
+    by false f = cc
+
+pub way_outcome : (b : BoardValue) (v : Values) (c : ℕ) (s : Start) (act : Act)
+    → (in_life b s.life v).halting ≡ false → way_on (in_life b s.life v) c s ≡ Some act
+    → record { act = act; message = None } ≡ enter_outcome b v c s
+unfolding enter_outcome
+way_outcome b v c s act awake e =
+    let found = in_life b s.life v in
+    way_is b found (with_arrival b c s v) c s act (found.opening c) e
+    ∙ sym (ap (λ (t : Bool).
+    cond t stops (outcome_at b found (with_arrival b c s v) c s (found.opening c))) awake)
+
+opening_by : (found : Values) (c : ℕ) (s : Start) (o : Option Opening)
+    → way_by found c s o ≡ None → o ≡ None
+opening_by found c s (Some o) e = cc
+opening_by found c s None e = refl
+
+pub no_opening : (found : Values) (c : ℕ) (s : Start) → way_on found c s ≡ None
+    → found.opening c ≡ None
+no_opening found c s e = opening_by found c s (found.opening c) e
+
+resume_by : (found : Values) (c : ℕ) (s : Start) (o : Option Opening) → way_by found c s o ≡ None
+    → resumes found c s ≡ false
+resume_by found c s (Some o) e = cc
+resume_by found c s None e = by (resumes found c s) e
+  where
+    by : (t : Bool) → ◌≡◌ {A = Option Act} (cond t (Some Resume) None) None → t ≡ false
+    by true f = cc
+    by false f = refl
+
+pub no_resume : (found : Values) (c : ℕ) (s : Start) → way_on found c s ≡ None
+    → resumes found c s ≡ false
+no_resume found c s e = resume_by found c s (found.opening c) e

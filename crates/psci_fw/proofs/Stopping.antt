@@ -1,0 +1,187 @@
+-- The claims of cores that stop may be granted: nothing is granted on their paths, and what the
+-- values then grant falls upwards.
+use Rattle.std.proofs.Common.{◌≡◌, ℕ, zero, suc, ◌+◌, ◌<◌, ◌≤◌, ◌==◌, ◌&&◌, Bool, true, false, cond}
+use Rattle.std.proofs.Common.{not, List, length, None, Some, Ok, refl}
+use Rattle.std.proofs.Common.{subst, ◌∙◌, ap, arith, add-one, nat_le}
+use Rattle.psci_abi.specs.declared.request.Request.{Request}
+use Rattle.psci_abi.specs.declared.request.Request.TheVariants as requests
+use Rattle.psci_board.specs.Board.{BoardValue, cores, height, may_enter, up}
+use Rattle.psci_board.specs.Laws.{PathLaws}
+use Rattle.psci_coord.specs.declared.part.Part.{Part}
+use Rattle.psci_coord.specs.Claim.{off_wish, own_wish}
+use Rattle.psci_coord.specs.Claim.{least_wish, platform_claim}
+use Rattle.psci_coord.specs.Laws.{ClaimLaws, LastCoreLaws}
+use Rattle.psci_coord.specs.View.{PowerView}
+use Rattle.psci_link.specs.declared.kind.Kind.TheVariants.{Down}
+use Rattle.psci_link.specs.Message.{MessageValue}
+use Rattle.psci_state.specs.Ask.{deepest_of, is_deep}
+use Rattle.psci_fw_model.specs.declared.mode.SuspendMode.{SuspendMode}
+use Rattle.psci_fw_model.specs.declared.mode.SuspendMode.TheVariants.{Platform, OsInitiated}
+use Rattle.psci_fw_model.specs.declared.outcome.Act.TheVariants.{Resume, Stop}
+use Rattle.psci_fw_model.specs.declared.outcome.Outcome.{Outcome}
+use Rattle.psci_ctl_model.specs.declared.start.Start.{Start}
+use Rattle.psci_fw_model.specs.After.{change}
+use Rattle.psci_fw_model.specs.Calls.{function_outcome, outcome_of}
+use Rattle.psci_fw_model.specs.Changes.{Rest, with_arrival, with_phase}
+use Rattle.psci_fw_model.specs.Claims.{leaving_claim, off_parts, suspend_claim, suspend_parts}
+use Rattle.psci_fw_model.specs.CpuOff.{off_message}
+use Rattle.psci_fw_model.specs.CpuSuspend.{ask_named, sleeps, suspend_asked}
+use Rattle.psci_fw_model.specs.Effects.{Effect, Rests, enter_effect, function_effect}
+use Rattle.psci_fw_model.specs.Entering.{enter_outcome, outcome_at, resumes}
+use Rattle.psci_fw_model.specs.Invariant.{AreValues}
+use Rattle.psci_fw_model.specs.Lives.{in_life}
+use Rattle.psci_fw_model.specs.Outcomes.{message_for, stops, stops_with}
+use Rattle.psci_fw_model.specs.Paths.{cleared, laid}
+use Rattle.psci_fw_model.specs.Phases.{Away, Phase, Running, activity_of}
+use Rattle.psci_fw_model.specs.SystemCalls.{all_others, is_off_status}
+use Rattle.psci_fw_model.specs.Values.{Values}
+use Rattle.psci_fw_model.specs.Views.{ask, view}
+use Rattle.psci_tree.specs.Recount.{asks}
+
+-- Nothing is granted on the path ----------------------------------------------------------------
+
+-- a running core asks nothing of itself
+asks_none : (b : BoardValue) (v : Values) (c : ℕ) → v.phase c ≡ Running → ask b v c 0 ≡ 0
+asks_none b v c e = rw e (by (nat_le 0 (height b)))
+  where
+    by : (t : Bool) → ◌≡◌ {A = ℕ} (cond t (asks (activity_of Running) 0) 0) 0
+    by true = refl
+    by false = refl
+
+pub running_free : (b : BoardValue) (v : Values) (c : ℕ) → PathLaws b → c < cores b → AreValues b v
+    → v.phase c ≡ Running → (level : ℕ) → level ≤ height b → v.granted level (up b level c) ≡ 0
+running_free b v c paths inside are running zero h =
+    ap (v.granted 0) (paths.core c) ∙ omega (arith, are.asked c inside, asks_none b v c running)
+running_free b v c paths inside are running (suc level) h =
+    let below = running_free b v c paths inside are running level (omega arith) in
+    let step : v.granted (suc level) (up b (suc level) c) ≤ v.granted level (up b level c) =
+    rw add-one at (are.nested c level inside (omega arith)) in
+    omega arith
+
+pub arrived_free : (b : BoardValue) (c : ℕ) (granted : ℕ → ℕ → ℕ) (level : ℕ)
+    → cleared b c granted level (up b level c) ≡ 0
+arrived_free b c granted level =
+    let on : (up b level c == up b level c) ≡ true = grind arith in rw on refl
+
+-- Claims have a part for each level at most -----------------------------------------------------
+
+few_leaving : (b : BoardValue) (w : PowerView) (c : ℕ) (mode : SuspendMode)
+    → ((wanted : ℕ → ℕ) → ClaimLaws b w c wanted) → length (leaving_claim b w c mode) ≤ height b + 1
+few_leaving b w c Platform laws = (laws (least_wish b w c)).few
+few_leaving b w c OsInitiated laws = (laws (off_wish b w c)).few
+
+pub few_off : (b : BoardValue) (v : Values) (c : ℕ)
+    → ((w : PowerView) (wanted : ℕ → ℕ) → ClaimLaws b w c wanted)
+    → length (off_parts b v c) ≤ height b + 1
+unfolding off_parts
+few_off b v c laws = few_leaving b _ c v.mode (laws _)
+
+few_by : (b : BoardValue) (v : Values) (c : ℕ) (asked : List ℕ) (mode : SuspendMode)
+    (parts : List Part) → ((w : PowerView) (wanted : ℕ → ℕ) → ClaimLaws b w c wanted)
+    → LastCoreLaws b (view b v) c asked → suspend_claim b v c asked mode ≡ Ok parts
+    → length parts ≤ height b + 1
+few_by b v c asked Platform parts laws last e =
+    let w : PowerView = view b (with_phase c (Rattle.psci_fw_model.specs.Phases.Suspended asked) v) in
+    let same : platform_claim b w c ≡ parts = cc in
+    omega (arith, ap length same, (laws w (least_wish b w c)).few)
+few_by b v c asked OsInitiated parts laws last e =
+    omega (arith, ap length (last.parts parts e), (laws (view b v) (own_wish asked)).few)
+
+pub few_suspended : (b : BoardValue) (v : Values) (c : ℕ) (asked : List ℕ) (parts : List Part)
+    → ((w : PowerView) (wanted : ℕ → ℕ) → ClaimLaws b w c wanted)
+    → LastCoreLaws b (view b v) c asked → suspend_parts b v c asked ≡ Ok parts
+    → length parts ≤ height b + 1
+unfolding suspend_parts
+few_suspended b v c asked parts laws last e = few_by b v c asked v.mode parts laws last e
+
+-- What is granted then --------------------------------------------------------------------------
+
+-- what a function that stops its caller leaves is nested
+pub nested_after : (b : BoardValue) (v : Values) (c : ℕ) (r : Request) (o : Outcome) (rest : Rest)
+    (parts : List Part) → AreValues b (change b (function_effect b c r o.act o.message) v)
+    → o ≡ stops_with (message_for v Down c parts)
+    → function_effect b c r Stop (Some (message_for v Down c parts))
+    ≡ Rests c rest (message_for v Down c parts)
+    → (core level : ℕ) → core < cores b → level < height b
+    → laid b c parts v.granted (level + 1) (up b (level + 1) core)
+    ≤ laid b c parts v.granted level (up b level core)
+nested_after b v c r o rest parts are is effect =
+    let by_outcome = subst (λ (x : Outcome).
+    AreValues b (change b (function_effect b c r x.act x.message) v)) is are in
+    let by_effect = subst (λ (e : Effect). AreValues b (change b e v)) effect by_outcome in
+    by_effect.nested
+
+-- Outcomes --------------------------------------------------------------------------------------
+
+awake_outcome : (b : BoardValue) (v : Values) (c : ℕ) (r : Request) → v.halting ≡ false
+    → outcome_of b v c r ≡ function_outcome b v c r
+unfolding outcome_of
+awake_outcome b v c r e = rw e refl
+
+pub off_outcome : (b : BoardValue) (v : Values) (c : ℕ) → v.halting ≡ false
+    → outcome_of b v c requests.CpuOff ≡ stops_with (message_for v Down c (off_parts b v c))
+off_outcome b v c e = awake_outcome b v c requests.CpuOff e
+
+other_number : (x y : ℕ) → (x ≡ y → ⊥) → (x == y) ≡ false
+other_number x y n = grind arith
+
+pub suspend_outcome : (b : BoardValue) (v : Values) (c word entry context : ℕ) (asked : List ℕ)
+    (parts : List Part) → v.halting ≡ false → ask_named b word ≡ Ok asked
+    → (is_deep asked && not (may_enter b entry)) ≡ false → (v.known c ≡ b.starts → ⊥)
+    → suspend_parts b v c asked ≡ Ok parts
+    → outcome_of b v c (requests.CpuSuspend word entry context)
+    ≡ stops_with (message_for v Down c parts)
+suspend_outcome b v c word entry context asked parts e named may low is =
+    awake_outcome b v c (requests.CpuSuspend word entry context) e
+    ∙ ap (suspend_asked b v c entry) named
+    ∙ asked_outcome
+  where
+    asked_outcome : suspend_asked b v c entry (Ok asked) ≡ stops_with (message_for v Down c parts)
+    asked_outcome =
+        let other = other_number (v.known c) b.starts low in
+        rw (may, other) (ap (sleeps v c) is)
+
+pub system_outcome : (b : BoardValue) (v : Values) (c entry context : ℕ) (parts : List Part)
+    → v.halting ≡ false → may_enter b entry ≡ true
+    → all_others b c (λ k. is_off_status (v.status k)) ≡ true → (v.known c ≡ b.starts → ⊥)
+    → suspend_parts b v c (deepest_of (height b)) ≡ Ok parts
+    → outcome_of b v c (requests.SystemSuspend entry context)
+    ≡ stops_with (message_for v Down c parts)
+system_outcome b v c entry context parts e may off low is =
+    let other = other_number (v.known c) b.starts low in
+    awake_outcome b v c (requests.SystemSuspend entry context) e
+    ∙ (rw (may, off, other) (ap (sleeps v c) is))
+
+pub suspend_effect : (b : BoardValue) (c word entry context : ℕ) (m : MessageValue)
+    → (rest : Rest) × (function_effect b c (requests.CpuSuspend word entry context) Stop (Some m)
+    ≡ Rests c rest m)
+suspend_effect b c word entry context m = (_, refl)
+
+-- Parked ----------------------------------------------------------------------------------------
+
+pub park_outcome : (b : BoardValue) (v : Values) (c : ℕ) (s : Start)
+    → (in_life b s.life v).halting ≡ false → (in_life b s.life v).opening c ≡ None
+    → resumes (in_life b s.life v) c s ≡ false
+    → enter_outcome b v c s ≡ stops_with (off_message b (with_arrival b c s v) c)
+unfolding enter_outcome
+park_outcome b v c s awake none parks =
+    let found = in_life b s.life v in
+    let arrived = with_arrival b c s v in
+    ap (λ (t : Bool). cond t stops (outcome_at b found arrived c s (found.opening c))) awake
+    ∙ ap (outcome_at b found arrived c s) none
+    ∙ ap (λ (t : Bool).
+    cond t (record { act = Resume; message = None }) (stops_with (off_message b arrived c)))
+    parks
+
+pub nested_parked : (b : BoardValue) (v : Values) (c : ℕ) (s : Start) (o : Outcome)
+    → AreValues b (change b (enter_effect c s o.act o.message) v)
+    → o ≡ stops_with (off_message b (with_arrival b c s v) c)
+    → (core level : ℕ) → core < cores b → level < height b
+    → laid b c (off_parts b (with_arrival b c s v) c) (with_arrival b c s v).granted (level + 1)
+    (up b (level + 1) core)
+    ≤ laid b c (off_parts b (with_arrival b c s v) c) (with_arrival b c s v).granted level
+    (up b level core)
+nested_parked b v c s o are is =
+    let parked = subst (λ (x : Outcome).
+    AreValues b (change b (enter_effect c s x.act x.message) v)) is are in
+    parked.nested
