@@ -1,6 +1,6 @@
 -- What a power controller keeps after each change is such as one keeps.
-use Rattle.std.proofs.Common.{◌≡◌, ℕ, ◌+◌, ◌<◌, ◌≤◌, ◌^◌, List, length, Option, Some}
-use Rattle.std.proofs.Common.{sym, ◌∙◌, subst, arith, ap, cond, refl}
+use Rattle.std.proofs.Common.{◌≡◌, ℕ, ◌+◌, ◌<◌, ◌≤◌, List, length, Option, Some}
+use Rattle.std.proofs.Common.{sym, ◌∙◌, subst, ap, cond, refl}
 use Rattle.std.specs.Prelude.{nat_lt}
 use Rattle.std.proofs.Common.{Bool, true, false, ◌==◌, ◌&&◌, [], get_or}
 use Rattle.std.proofs.lemmas.Bool.{and_parts, eq-eqb, eqb-true, lt-ltb}
@@ -55,11 +55,6 @@ begun_kept b life cs ds board are count shape sums values = record {
   values = subst (AreValues b) (sym (values (Some life))) are;
   sums = λ l e. sums;
 }
-
--- each core has fewer starts than a register holds
-pub few_starts : (b : BoardValue) (v : Values) → IsBoard b → AreValues b v → (k : ℕ)
-    → v.starts k < 2 ^ 32
-few_starts b v board are k = omega (arith, are.starts k, board.starts)
 
 -- a started core has one start more
 pub next_number : (b : BoardValue) (v : Values) (c : ℕ) (cause : Cause)

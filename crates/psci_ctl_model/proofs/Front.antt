@@ -7,7 +7,7 @@ use Rattle.std.specs.List.{list_all, prefix_len, range_with_len}
 use Rattle.std.proofs.lemmas.Bool.{and_parts, cases_Bool, eqb-true, leb-true, true≢false}
 use Rattle.std.proofs.lemmas.List.FromFn.{get_or-range_with_len, length-range_with_len}
 use Rattle.std.proofs.lemmas.List.Folds.{list_all_at}
-use Rattle.std.proofs.lemmas.List.Sums.{prefix_len-le-length, prefix_len_passes}
+use Rattle.std.proofs.lemmas.List.Sums.{prefix_len_passes}
 use Rattle.std.proofs.lemmas.Option.{get_or_from_slice_get, none-some, slice_get_within}
 use Rattle.psci_board.specs.Board.{BoardValue, children_at, cores, first_child, height, up}
 use Rattle.psci_board.specs.Laws.{ChildLaws}
@@ -85,10 +85,6 @@ applied_at b v c ps k p e =
     let at : slice_get ps k ≡ Some p = take_get ps n k p e in
     ap (is_applied b v c ps) (sym (get_or_from_slice_get ps k p p at))
     ∙ prefix_len_passes (is_applied b v c ps) ps k p (take_lt ps n k p e)
-
-applied_few : (b : BoardValue) (v : Values) (c : ℕ) (ps : List Part) → applied b v c ps ≤ length ps
-unfolding applied
-applied_few b v c ps = prefix_len-le-length (is_applied b v c ps) ps
 
 take_length : (xs : List Part) (n : ℕ) → length (take n xs) ≤ length xs
 take_length xs zero = omega arith

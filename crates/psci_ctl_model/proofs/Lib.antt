@@ -1,3 +1,4 @@
+pub mod Acknowledged
 pub mod Depths
 mod EdgeRows
 pub mod Follows

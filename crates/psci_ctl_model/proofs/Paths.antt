@@ -1,7 +1,7 @@
 -- Which domains are on the path of a core.
 use Rattle.std.proofs.Common.{◌≡◌, ℕ, ◌≤◌, true, false, refl}
 use Rattle.std.specs.Prelude.{nat_le}
-use Rattle.std.proofs.lemmas.Bool.{and_parts, eqb-true, eq-eqb, le-leb, leb-true, true≢false}
+use Rattle.std.proofs.lemmas.Bool.{and_parts, eqb-true, eq-eqb, le-leb, true≢false}
 use Rattle.psci_board.specs.Board.{BoardValue, height, up}
 use Rattle.psci_ctl_model.specs.Values.{is_on_path}
 
@@ -12,10 +12,6 @@ on_path b c level place low e = rw (le-leb level (height b) low, eq-eqb (up b le
 pub path_place : (b : BoardValue) (c level place : ℕ) → is_on_path b c level place ≡ true
     → up b level c ≡ place
 path_place b c level place e = eqb-true _ _ (and_parts (nat_le level (height b)) _ e).1
-
-pub path_level : (b : BoardValue) (c level place : ℕ) → is_on_path b c level place ≡ true
-    → level ≤ height b
-path_level b c level place e = leb-true _ _ (and_parts (nat_le level (height b)) _ e).0
 
 pub off_path : (b : BoardValue) (c level place : ℕ) → is_on_path b c level place ≡ false
     → level ≤ height b → up b level c ≡ place → ⊥

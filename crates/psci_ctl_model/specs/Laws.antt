@@ -1,9 +1,13 @@
 -- What holds of the values: facts that upper layers build on.
-use Rattle.std.specs.Prelude.{◌≡◌, ℕ, ◌+◌, ◌*◌, ◌<◌, ◌≤◌, false, if◌then◌else◌}
+use Rattle.std.specs.Prelude.{◌≡◌, ℕ, ◌+◌, ◌*◌, ◌<◌, ◌≤◌, true, false, if◌then◌else◌, List, length}
+use Rattle.std.specs.Prelude.{slice_get, Some}
 use Rattle.psci_board.specs.declared.node.Node.{Node}
 use Rattle.psci_board.specs.Board.{BoardValue, cores, height, up}
+use Rattle.psci_coord.specs.declared.part.Part.{Part}
+use Rattle.psci_coord.specs.View.{domain_of}
 use Rattle.psci_ctl_model.specs.declared.start.Cause.{Cause}
 use Rattle.psci_ctl_model.specs.Changes.{one_more, with_start}
+use Rattle.psci_ctl_model.specs.Parts.{applied, is_stale}
 use Rattle.psci_ctl_model.specs.Values.{Values, is_on_path, starts_below}
 
 -- Generations ----------------------------------------------------------------------------------
@@ -44,3 +48,17 @@ pub record StartLaws (b : BoardValue) (v : Values) (c : ℕ) (cause : Cause) : T
   pub generation : (level place : ℕ) → level ≤ height b → is_on_path b c level place ≡ false
       → starts_below b (with_start b c cause v).starts (record { level = level; place = place })
       ≡ starts_below b v.starts (record { level = level; place = place })
+
+-- Acknowledgements -----------------------------------------------------------------------------
+
+-- What the acknowledgement of a Down says.
+pub record AckLaws (b : BoardValue) (v : Values) (c : ℕ) (ps : List Part) : Type 0 where
+  -- no more parts are applied than there are
+  pub few : applied b v c ps ≤ length ps
+  -- it is stale exactly where a part was left, and the first one left is not live
+  pub stale : is_stale b v c ps ≡ true
+      → (p : Part) × (slice_get ps (applied b v c ps) ≡ Some p)
+      × (p.generation ≡ starts_below b v.starts (domain_of b c p.level) → ⊥)
+  pub waits : is_stale b v c ps ≡ false → (p : Part)
+      → slice_get ps (applied b v c ps) ≡ Some p
+      → p.generation ≡ starts_below b v.starts (domain_of b c p.level)

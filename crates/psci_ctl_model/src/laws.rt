@@ -3,6 +3,7 @@
 ghost use Rattle.std.specs.Prelude.{◌≡◌, ◌⊎◌, ◌<◌, ◌≤◌, ℕ, List, [], ◌∷◌, ◌++◌, map, Some};
 ghost use Rattle.psci_board.specs.Board.{BoardValue, IsBoard, cores, height};
 ghost use Rattle.psci_board.specs.declared.node.Node.{Node};
+ghost use Rattle.psci_coord.specs.declared.part.Part.{Part};
 ghost use Rattle.psci_ctl_model.specs.declared.call.CtlCall.{CtlCall};
 ghost use Rattle.psci_ctl_model.specs.declared.start.Cause.{Cause};
 ghost use Rattle.psci_ctl_model.specs.Changes.{after, change};
@@ -12,7 +13,7 @@ ghost use Rattle.psci_ctl_model.specs.Follows.{AreValues, MayFollow};
 ghost use Rattle.psci_ctl_model.specs.History.{depth, life, values_of};
 ghost use Rattle.psci_ctl_model.specs.Lasting.{IsApplied, IsFirst, IsLive, IsNested};
 ghost use Rattle.psci_ctl_model.specs.Lasting.{NeverShallower, OnlyDeepens};
-ghost use Rattle.psci_ctl_model.specs.Laws.{StartLaws, SumLaws};
+ghost use Rattle.psci_ctl_model.specs.Laws.{AckLaws, StartLaws, SumLaws};
 ghost use Rattle.psci_ctl_model.specs.Legal.{AreCalls, IsCall, IsLegal, legal_history};
 ghost use Rattle.psci_ctl_model.specs.Replies.{reply};
 ghost use Rattle.psci_ctl_model.specs.Values.{Values, start_of_life};
@@ -51,6 +52,12 @@ pub fn law_replies()
     law_children();
     law_parts();
 }
+
+/// No more parts of a Down are acknowledged than it has, and it is stale exactly where a part was
+/// left and the first one left is not live.
+pub fn law_acknowledgements()
+    ensures { (b : BoardValue) (v : Values) (c : ℕ) (ps : List Part) → AckLaws b v c ps }
+{}
 
 /// No core is ever started beyond the start limit, no life begins beyond the last, without a life
 /// all starts are 0, and no domain is deeper than power-down.

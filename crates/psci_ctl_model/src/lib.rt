@@ -20,8 +20,8 @@ pub use call::CtlCall;
 pub use delivery::Delivery;
 pub use kick::Kick;
 pub use laws::{
-    law_depths, law_generations, law_limits, law_nesting, law_one_reply, law_past, law_replies,
-    law_start, law_values,
+    law_acknowledgements, law_depths, law_generations, law_limits, law_nesting, law_one_reply,
+    law_past, law_replies, law_start, law_values,
 };
 pub use reply::CtlReply;
 pub use start::{Cause, Start};
