@@ -293,7 +293,7 @@ pub record AreAnswered (b : BoardValue) (rows : List Row) : Type 0 where
   pub history : by_history b (map (λ r. r.step) rows) ≡ map (λ r. r.reply) rows
   pub values : by_values b (start_of_life b 0) (map (λ r. r.step) rows) ≡ map (λ r. r.reply) rows
 
--- the values after a history, by looking backwards and by keeping them from call to call
+-- the values that are kept from call to call, after the calls and replies of a history
 abbrev pub kept_after : BoardValue → List Entry → Values
 kept_after b [] = start_of_life b 0
 kept_after b (e ∷ h) = after b e.core e.call e.reply (kept_after b h)
