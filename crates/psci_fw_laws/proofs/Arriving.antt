@@ -1,9 +1,9 @@
 -- A core enters: what it finds, what its arrival leaves, and what it does then.
-use Rattle.std.proofs.Common.{◌≡◌, ℕ, ◌<◌, ◌≤◌, inl, inr, Bool, true, false, cond, ◌==◌, List, [], ◌∷◌}
-use Rattle.std.proofs.Common.{Option, None, Some, refl, arith, subst, ap, sym, ◌∙◌}
+use Rattle.std.proofs.Common.{◌≡◌, ℕ, ◌<◌, ◌≤◌, Bool, false, ◌==◌, List}
+use Rattle.std.proofs.Common.{None, Some, refl, arith, ap, sym, ◌∙◌}
 use Rattle.std.specs.Prelude.{slice_get}
 use Rattle.std.proofs.lemmas.Bool.{cond_both, cond-true, eq-eqb, eqb-true, eqb-false}
-use Rattle.psci_board.specs.Board.{BoardValue, cores, up}
+use Rattle.psci_board.specs.Board.{BoardValue}
 use Rattle.psci_board.specs.Laws.{PathLaws}
 use Rattle.psci_link.specs.Message.{MessageValue}
 use Rattle.psci_link.specs.Slots.{OfCore}
@@ -12,27 +12,18 @@ use Rattle.psci_fw_model.specs.declared.status.Status.TheVariants as statuses
 use Rattle.psci_fw_model.specs.AffinityInfo.{is_on}
 use Rattle.psci_fw_model.specs.Changes.{with_arrival, with_phase, with_running}
 use Rattle.psci_fw_model.specs.Lives.{first_phase, first_status, in_life, start_of_life}
-use Rattle.psci_fw_model.specs.Phases.{Phase, Pending, Running, Away, unless_pending}
+use Rattle.psci_fw_model.specs.Phases.{Phase, Running, unless_pending}
 use Rattle.psci_fw_model.specs.Values.{Values, updated}
-use Rattle.psci_fw_laws.specs.Claims.{AreApart, IsFromMessage}
+use Rattle.psci_fw_laws.specs.Allowed.{IsEntering}
+use Rattle.psci_fw_laws.specs.Claims.{AreApart}
 use Rattle.psci_fw_laws.specs.Messages.{AreSent}
 use Rattle.psci_fw_laws.proofs.Claiming.{quiet_arrival, quiet_life, quiet_phase}
 use Rattle.psci_fw_laws.proofs.Granting.{granted_arrival, granted_life, granted_phase}
-use Rattle.psci_fw_laws.proofs.Kept.{Holds, Kept}
+use Rattle.psci_fw_laws.specs.Kept.{Holds}
 use Rattle.psci_fw_laws.proofs.Older.{NoneCurrent, none_arrived}
-use Rattle.psci_fw_laws.proofs.Parts.{part_has, updated_at, updated_here, updated_there}
+use Rattle.psci_fw_laws.proofs.Parts.{part_has, updated_at, updated_here}
 use Rattle.psci_fw_laws.proofs.Sending.{sent_arrival, sent_life, sent_phase}
 use Rattle.psci_fw_laws.proofs.Slots.{outstanding_arrival, outstanding_none, outstanding_phase}
-
--- A core of the board that enters by a start that is not over.
-pub record IsEntering (b : BoardValue) (v : Values) (c : ℕ) (s : Start) : Type 0 where
-  pub core : c < cores b
-  pub begun : 1 ≤ s.life
-  pub lives : s.life ≤ b.lives
-  pub life : v.life ≤ s.life
-  pub some : 0 < s.number
-  pub most : s.number ≤ b.starts
-  pub later : s.life ≡ v.life → v.known c < s.number
 
 -- The start of a life -------------------------------------------------------------------------
 

@@ -1,6 +1,6 @@
 -- Claims of one domain stay apart, and below a current one no core runs.
-use Rattle.std.proofs.Common.{◌≡◌, ℕ, zero, suc, ◌<◌, ◌≤◌, inl, inr, Bool, true, false, List, [], ◌∷◌}
-use Rattle.std.proofs.Common.{Option, None, Some, refl, arith, subst, ap, sym, ◌∙◌}
+use Rattle.std.proofs.Common.{◌≡◌, ℕ, zero, suc, ◌<◌, inl, inr, Bool, false, List, [], ◌∷◌}
+use Rattle.std.proofs.Common.{Some, refl, arith, subst, ap, sym, ◌∙◌}
 use Rattle.std.specs.Prelude.{slice_get}
 use Rattle.std.proofs.lemmas.Bool.{cases_eq}
 use Rattle.psci_board.specs.Board.{BoardValue, cores, up}
@@ -12,11 +12,11 @@ use Rattle.psci_fw_model.specs.Lives.{first_phase}
 use Rattle.psci_fw_model.specs.Phases.{Phase, Running, Pending, Away}
 use Rattle.psci_fw_model.specs.Values.{updated}
 use Rattle.psci_fw_laws.specs.KnownBelow.{known_below}
-use Rattle.psci_fw_laws.specs.Claims.{AreApart, AreQuiet, IsClaimOn, IsCurrent, IsFromMessage, part_for}
+use Rattle.psci_fw_laws.specs.Claims.{AreApart, AreQuiet, IsFromMessage, part_for}
 use Rattle.psci_fw_laws.specs.Messages.{AreSent, known_on}
-use Rattle.psci_fw_laws.proofs.Older.{NoneCurrent, claim_older, known_beside, none_arrived}
-use Rattle.psci_fw_laws.proofs.Parts.{HasPart, claim_before, claim_more, no_part, part_has, updated_at}
-use Rattle.psci_fw_laws.proofs.Sums.{known_less, known_none}
+use Rattle.psci_fw_laws.proofs.Older.{NoneCurrent, known_beside, none_arrived}
+use Rattle.psci_fw_laws.proofs.Parts.{claim_more, no_part, part_has, updated_at}
+use Rattle.psci_fw_laws.proofs.Sums.{known_less}
 
 -- A Down of a core, made beside these known starts.
 pub record IsNewDown (b : BoardValue) (life : ℕ) (known : ℕ → ℕ) (c : ℕ) (m : MessageValue)

@@ -1,15 +1,16 @@
 -- What a call, an entry or an acknowledgement is answered is allowed.
-use Rattle.std.proofs.Common.{◌≡◌, ℕ, ◌+◌, ◌<◌, ◌≤◌, Bool, true, false, cond, ◌==◌, ◌&&◌, ◌||◌, not, List, []}
+use Rattle.std.proofs.Common.{◌≡◌, ℕ, ◌<◌, ◌≤◌, Bool, true, false, cond, ◌==◌, ◌&&◌, ◌||◌, not}
 use Rattle.std.proofs.Common.{Option, None, Some, is_some, refl, arith, subst, ap, sym, ◌∙◌, inl, inr}
 use Rattle.std.specs.Prelude.{nat_le, nat_lt}
-use Rattle.std.proofs.lemmas.Bool.{cases_Bool, cond_both, eq-eqb, eqb-false, leb-false, ltb-false, ltb-true}
-use Rattle.std.proofs.lemmas.Bool.{and_cases, or_parts, not-false, not-true}
+use Rattle.std.proofs.lemmas.Bool.{cond_both, eqb-false, leb-false, ltb-false, ltb-true}
+use Rattle.std.proofs.lemmas.Bool.{and_cases, or_left, or_parts, or_right, not-false}
 use Rattle.psci_abi.specs.Calls.{request_of}
 use Rattle.psci_abi.specs.declared.registers.Regs.{Regs}
 use Rattle.psci_board.specs.Board.{BoardValue, cores}
-use Rattle.psci_link.specs.declared.kind.Kind.TheVariants as kinds
-use Rattle.psci_link.specs.declared.taken.Taken.{Taken}
 use Rattle.psci_link.specs.declared.taken.Taken.TheVariants as takens
+use Rattle.psci_link.specs.Message.{AckValue, MessageValue}
+use Rattle.psci_link.specs.Slots.{answers, slot_of, taken}
+use Rattle.psci_tree.specs.Recount.{asks}
 use Rattle.psci_fw_model.specs.declared.call.FwCall.{FwCall}
 use Rattle.psci_fw_model.specs.declared.call.FwCall.TheVariants.{Smc, Enter, Take}
 use Rattle.psci_fw_model.specs.declared.fault.FwFault.{FwFault}
@@ -18,28 +19,27 @@ use Rattle.psci_fw_model.specs.declared.opening.Opening.{Opening}
 use Rattle.psci_fw_model.specs.declared.outcome.Outcome.{Outcome}
 use Rattle.psci_fw_model.specs.declared.reply.FwReply.TheVariants as replies
 use Rattle.psci_fw_model.specs.declared.start.Start.{Start}
-use Rattle.psci_fw_model.specs.After.{change}
 use Rattle.psci_fw_model.specs.Answer.{answer, reply_or}
 use Rattle.psci_fw_model.specs.Calls.{call_fault, outcome_of}
 use Rattle.psci_fw_model.specs.Changes.{with_arrival, with_phase}
 use Rattle.psci_fw_model.specs.Claims.{off_parts}
 use Rattle.psci_fw_model.specs.CpuOff.{off_message}
-use Rattle.psci_fw_model.specs.Effects.{Effect, Parks, effect_of, enter_effect}
+use Rattle.psci_fw_model.specs.Effects.{Parks, effect_of, enter_effect}
 use Rattle.psci_fw_model.specs.Entering.{enter_fault, enter_outcome, is_old, outcome_at, resumes}
-use Rattle.psci_fw_model.specs.Entering.{without_opening}
 use Rattle.psci_fw_model.specs.Invariant.{AreValues, is_expected}
 use Rattle.psci_fw_model.specs.Lives.{in_life, start_of_life}
-use Rattle.psci_fw_model.specs.Outcomes.{message_for, stops, stops_with}
+use Rattle.psci_fw_model.specs.Outcomes.{stops, stops_with}
 use Rattle.psci_fw_model.specs.Phases.{Phase, Away, Pending, Running, Suspended, is_running}
-use Rattle.psci_fw_model.specs.Phases.{unless_pending}
-use Rattle.psci_fw_model.specs.Taking.{taken_by}
-use Rattle.psci_fw_model.specs.Values.{Values, updated}
-use Rattle.psci_fw_laws.proofs.Allowed.{Allows, IsAllowed, IsCalling, IsParking, IsReady}
-use Rattle.psci_fw_laws.proofs.Arriving.{IsEntering, found_life}
+use Rattle.psci_fw_model.specs.Phases.{activity_of, unless_pending}
+use Rattle.psci_fw_model.specs.Values.{Values}
+use Rattle.psci_fw_laws.specs.Allowed.{IsCalling}
+use Rattle.psci_fw_laws.proofs.Allowing.{Allows, IsReady}
+use Rattle.psci_fw_laws.specs.Allowed.{IsEntering}
+use Rattle.psci_fw_laws.proofs.Arriving.{found_life}
 use Rattle.psci_fw_laws.proofs.Functions.{call_allowed}
 use Rattle.psci_fw_laws.proofs.Lower.{LowerLaws}
 use Rattle.psci_fw_laws.proofs.Made.{new_claim, off_made}
-use Rattle.psci_fw_laws.proofs.Parts.{updated_at, updated_here}
+use Rattle.psci_fw_laws.proofs.Parts.{updated_here}
 
 -- Calls ---------------------------------------------------------------------------------------
 
@@ -158,45 +158,63 @@ parks_allowed b v c s laws ready enters awake none are =
     let known : w.known c ≡ s.number = updated_here found.known c s.number in
     let left : w.phase c ≡ unless_pending (found.phase c) Away =
     updated_here found.phase c (unless_pending (found.phase c) Away) in
+    let stays : w.phase c ≡ Away =
+    left ∙ stays_away (found.phase c) waits in
+    let claim = laws.parks v c s enters.core ready.values awake none in
     record {
       enters = enters;
+      awake = awake;
+      none = none;
       core = refl;
       claim = new_claim b w c (off_parts b arrived c) laws enters.core
           (omega (arith, found_life b v s.life, enters.begun)) (omega (arith, known, enters.some))
           (omega (arith, known, enters.most)) awake
-          (λ e. stays_away (found.phase c) waits (sym left ∙ e))
-          (laws.parks v c s enters.core ready.values awake none) (off_made b arrived c laws) are;
+          (λ e. let no : Away ≡ Pending = sym stays ∙ e in absurd (cc)) claim
+          (off_made b arrived c laws)
+          (λ level p e. subst (λ x. p.depth ≤ asks (activity_of x) level) (sym stays)
+          ((laws.parts (off_parts b arrived c) claim).deepest level p e)) are;
     }
   where
-    stays_away : (p : Phase) → (p ≡ Pending → ⊥) → unless_pending p Away ≡ Pending → ⊥
-    stays_away Pending ne e = ne refl
-    stays_away Running ne e = absurd (cc)
-    stays_away (Suspended ask) ne e = absurd (cc)
-    stays_away Away ne e = absurd (cc)
+    stays_away : (p : Phase) → (p ≡ Pending → ⊥) → unless_pending p Away ≡ Away
+    stays_away Pending ne = absurd (ne refl)
+    stays_away Running ne = refl
+    stays_away (Suspended ask) ne = refl
+    stays_away Away ne = refl
 
 arrival_allowed : (b : BoardValue) (v : Values) (c : ℕ) (s : Start) (o : Option Opening)
     → LowerLaws b → IsReady b v → IsEntering b v c s → (in_life b s.life v).halting ≡ false
     → (in_life b s.life v).opening c ≡ o → let found = in_life b s.life v in
     let outcome = outcome_at b found (with_arrival b c s v) c s o in
     Allows b v (enter_effect c s outcome.act outcome.message)
-arrival_allowed b v c s (Some o) laws ready enters awake e = λ are. enters
+arrival_allowed b v c s (Some o) laws ready enters awake e = λ are. record {
+  enters = enters;
+  awake = awake;
+  asked = or_left _ (resumes (in_life b s.life v) c s) (ap is_some e);
+}
 arrival_allowed b v c s None laws ready enters awake e =
-    by_test (resumes (in_life b s.life v) c s)
+    by_test (resumes (in_life b s.life v) c s) refl
   where
     outcome : Bool → Outcome
     outcome t = cond t
         (record { act = Rattle.psci_fw_model.specs.declared.outcome.Act.TheVariants.Resume; message = None })
         (stops_with (off_message b (with_arrival b c s v) c))
-    by_test : (t : Bool) → Allows b v (enter_effect c s (outcome t).act (outcome t).message)
-    by_test true = λ are. enters
-    by_test false = parks_allowed b v c s laws ready enters awake e
+
+    by_test : (t : Bool) → resumes (in_life b s.life v) c s ≡ t
+        → Allows b v (enter_effect c s (outcome t).act (outcome t).message)
+    by_test true r = λ are. record {
+      enters = enters;
+      awake = awake;
+      asked = or_right (is_some ((in_life b s.life v).opening c)) _ r;
+    }
+    by_test false r = parks_allowed b v c s laws ready enters awake e
 
 outcome_allowed : (b : BoardValue) (v : Values) (c : ℕ) (s : Start) (t : Bool) → LowerLaws b
     → IsReady b v → IsEntering b v c s → (in_life b s.life v).halting ≡ t
     → let found = in_life b s.life v in
     let outcome = cond t stops (outcome_at b found (with_arrival b c s v) c s (found.opening c)) in
     Allows b v (enter_effect c s outcome.act outcome.message)
-outcome_allowed b v c s true laws ready enters e = λ are. enters
+outcome_allowed b v c s true laws ready enters e =
+    λ are. record { enters = enters; halting = e }
 outcome_allowed b v c s false laws ready enters e =
     arrival_allowed b v c s ((in_life b s.life v).opening c) laws ready enters e refl
 
@@ -208,6 +226,20 @@ enter_allowed b v c s (Some f) laws ready e = λ are. tt
 enter_allowed b v c s None laws ready e =
     outcome_allowed b v c s (in_life b s.life v).halting laws ready (entering b v c s e) refl
 
+-- Acknowledgements ----------------------------------------------------------------------------
+
+taken_if : (b : BoardValue) (v : Values) (c : ℕ) (a : AckValue) (m : MessageValue) (t : Bool)
+    → v.outstanding (slot_of a.kind a.core) ≡ Some m → answers a m ≡ t
+    → Allows b v (effect_of b c (Take a) (replies.Taken (cond t takens.Used takens.Old)))
+taken_if b v c a m true at e = λ are. record { message = m; at = at; answers = e }
+taken_if b v c a m false at e = λ are. tt
+
+take_allowed : (b : BoardValue) (v : Values) (c : ℕ) (a : AckValue) (o : Option MessageValue)
+    → v.outstanding (slot_of a.kind a.core) ≡ o
+    → Allows b v (effect_of b c (Take a) (replies.Taken (taken a o)))
+take_allowed b v c a None at = λ are. tt
+take_allowed b v c a (Some m) at = taken_if b v c a m (answers a m) at refl
+
 -- All calls -----------------------------------------------------------------------------------
 
 pub answer_allowed : (b : BoardValue) (v : Values) (c : ℕ) (call : FwCall) → LowerLaws b
@@ -217,8 +249,5 @@ answer_allowed b v c (Smc regs) laws ready =
     smc_allowed b v c regs (call_fault b v c) laws ready refl
 answer_allowed b v c (Enter s) laws ready =
     enter_allowed b v c s (enter_fault b v c s) laws ready refl
-answer_allowed b v c (Take a) laws ready = by_taken (taken_by v a)
-  where
-    by_taken : (t : Taken) → Allows b v (effect_of b c (Take a) (replies.Taken t))
-    by_taken takens.Used = λ are. tt
-    by_taken takens.Old = λ are. tt
+answer_allowed b v c (Take a) laws ready =
+    take_allowed b v c a (v.outstanding (slot_of a.kind a.core)) refl

@@ -1,9 +1,9 @@
 -- What is granted is what current claims say, after each change.
-use Rattle.std.proofs.Common.{◌≡◌, ℕ, zero, suc, ◌<◌, ◌≤◌, inl, inr, Bool, true, false, List, [], ◌∷◌}
-use Rattle.std.proofs.Common.{◌==◌, ◌&&◌, not, cond, Option, None, Some, refl, arith, subst, ap, sym, ◌∙◌}
+use Rattle.std.proofs.Common.{◌≡◌, ℕ, ◌<◌, inl, inr, Bool, true, false, List, ◌∷◌}
+use Rattle.std.proofs.Common.{◌==◌, ◌&&◌, not, cond, Option, None, Some, refl, arith, ap, sym, ◌∙◌}
 use Rattle.std.specs.Prelude.{slice_get}
-use Rattle.std.proofs.lemmas.Bool.{and_from, and_parts, cases_eq, cond_both, eq-eqb, eqb-false, eqb-true}
-use Rattle.std.proofs.lemmas.Bool.{cond-true, cond-false, ne_eqb, not-true, not_from_false}
+use Rattle.std.proofs.lemmas.Bool.{and_from, and_parts, cases_eq, cond_both, eqb-false, eqb-true}
+use Rattle.std.proofs.lemmas.Bool.{cond-true, not-true, not_from_false}
 use Rattle.psci_board.specs.Board.{BoardValue, cores, has_node, up}
 use Rattle.psci_coord.specs.declared.part.Part.{Part}
 use Rattle.psci_link.specs.declared.kind.Kind.TheVariants.{Down}
@@ -11,15 +11,15 @@ use Rattle.psci_link.specs.Message.{MessageValue}
 use Rattle.psci_link.specs.Slots.{is_kind}
 use Rattle.psci_fw_model.specs.Lives.{first_granted}
 use Rattle.psci_fw_model.specs.Paths.{cleared, depth_by, is_on_path, laid}
-use Rattle.psci_fw_model.specs.Phases.{Phase, Running, Pending, Away}
+use Rattle.psci_fw_model.specs.Phases.{Phase, Pending}
 use Rattle.psci_fw_model.specs.Values.{updated}
 use Rattle.psci_fw_laws.specs.KnownBelow.{known_below}
-use Rattle.psci_fw_laws.specs.Claims.{IsClaimOn, IsCurrent, IsFromMessage, IsFromStart, part_for}
-use Rattle.psci_fw_laws.specs.Granted.{AreGranted, HasCurrent, NonePending}
-use Rattle.psci_fw_laws.specs.Messages.{AreSent, known_on}
+use Rattle.psci_fw_laws.specs.Claims.{IsFromMessage}
+use Rattle.psci_fw_laws.specs.Granted.{AreGranted, HasCurrent}
+use Rattle.psci_fw_laws.specs.Messages.{AreSent}
 use Rattle.psci_fw_laws.proofs.Claiming.{IsNewDown}
-use Rattle.psci_fw_laws.proofs.Older.{NoneCurrent, claim_older, known_beside, none_arrived}
-use Rattle.psci_fw_laws.proofs.Parts.{HasPart, claim_before, claim_more, claim_new, claim_old, part_from}
+use Rattle.psci_fw_laws.proofs.Older.{NoneCurrent, known_beside, none_arrived}
+use Rattle.psci_fw_laws.proofs.Parts.{claim_before, claim_more, claim_new, claim_old, part_from}
 use Rattle.psci_fw_laws.proofs.Parts.{part_has, updated_at, updated_here, updated_there}
 use Rattle.psci_fw_laws.proofs.Sums.{known_none}
 
@@ -155,6 +155,7 @@ granted_claim b life known phase granted sent c m down new none are = record {
           current = has.current;
           deep = has.deep;
         }
+
     claimed_here : (level place : ℕ) → place ≡ up b level c → (o : Option Part)
         → slice_get m.parts level ≡ o → 0 < depth_by o (granted level place)
         → HasCurrent b life known level place (depth_by o (granted level place)) (m ∷ sent)

@@ -1,8 +1,7 @@
 -- After every legal history the firmware keeps what it keeps.
-use Rattle.std.proofs.Common.{◌≡◌, ℕ, zero, suc, ◌+◌, ◌<◌, ◌≤◌, Bool, true, false, List, [], ◌∷◌, ◌++◌}
-use Rattle.std.proofs.Common.{Option, None, Some, refl, arith, subst, ap, sym, ◌∙◌}
-use Rattle.psci_board.specs.Board.{BoardValue, cores, up}
-use Rattle.psci_link.specs.declared.kind.Kind.TheVariants.{Down}
+use Rattle.std.proofs.Common.{◌≡◌, ℕ, true, false, List, [], ◌∷◌, ◌++◌}
+use Rattle.std.proofs.Common.{refl, arith, subst, sym, ◌∙◌}
+use Rattle.psci_board.specs.Board.{BoardValue}
 use Rattle.psci_link.specs.Message.{MessageValue}
 use Rattle.psci_fw_model.specs.declared.call.FwCall.{FwCall}
 use Rattle.psci_fw_model.specs.declared.reply.FwReply.{FwReply}
@@ -14,21 +13,22 @@ use Rattle.psci_fw_model.specs.Answer.{answer}
 use Rattle.psci_fw_model.specs.Changes.{with_arrival, with_mode, with_phase, with_rest}
 use Rattle.psci_fw_model.specs.Effects.{Effect, Nothing, GoesOn, SetsMode, AsksOn, Rests, Halts}
 use Rattle.psci_fw_model.specs.Effects.{Leaves, Enters, Parks, Ceases, Acknowledges, effect_of}
-use Rattle.psci_fw_model.specs.Entry.{Entry}
+use Rattle.psci_fw_model.specs.Entry.{Entry, effect}
 use Rattle.psci_fw_model.specs.History.{values_of}
 use Rattle.psci_fw_model.specs.Invariant.{AreValues, agrees}
 use Rattle.psci_fw_model.specs.Legal.{IsLegal}
 use Rattle.psci_fw_model.specs.Lives.{first_phase, start_of_life}
-use Rattle.psci_fw_model.specs.Phases.{Phase, Away, Pending, Running}
+use Rattle.psci_fw_model.specs.Phases.{Away, Running}
 use Rattle.psci_fw_model.specs.Said.{listed, sent}
 use Rattle.psci_fw_model.specs.Sent.{sent_messages}
 use Rattle.psci_fw_model.specs.Values.{Values}
-use Rattle.psci_fw_laws.proofs.Allowed.{IsAllowed, IsReady}
-use Rattle.psci_fw_laws.proofs.Arriving.{IsNew, arrived_new, arrives, first_not_on, runs, stays}
+use Rattle.psci_fw_laws.specs.Allowed.{IsAllowed}
+use Rattle.psci_fw_laws.proofs.Allowing.{IsReady}
+use Rattle.psci_fw_laws.proofs.Arriving.{arrived_new, arrives, first_not_on, runs, stays}
 use Rattle.psci_fw_laws.proofs.Claiming.{apart_none, quiet_life}
 use Rattle.psci_fw_laws.proofs.Entries.{answer_allowed}
 use Rattle.psci_fw_laws.proofs.Granting.{granted_life}
-use Rattle.psci_fw_laws.proofs.Kept.{Holds, Kept}
+use Rattle.psci_fw_laws.specs.Kept.{Holds}
 use Rattle.psci_fw_laws.proofs.Lower.{LowerLaws}
 use Rattle.psci_fw_laws.proofs.Older.{NoneCurrent, none_running}
 use Rattle.psci_fw_laws.proofs.Resting.{claims, rests}
@@ -59,9 +59,9 @@ after_effect : (b : BoardValue) (v : Values) (messages : List MessageValue) (e :
     → Holds b (change b e v) (listed (sent e) ++ messages)
 after_effect b v messages Nothing laws allowed holds = holds
 after_effect b v messages (GoesOn c) laws allowed holds =
-    subst (λ w. Holds b w messages) (sym (laws.goes_on v c allowed)) holds
+    subst (λ w. Holds b w messages) (sym (laws.goes_on v c allowed.runs)) holds
 after_effect b v messages (SetsMode c mode) laws allowed holds =
-    subst (λ w. Holds b w messages) (sym (laws.goes_on (with_mode mode v) c allowed)) holds
+    subst (λ w. Holds b w messages) (sym (laws.goes_on (with_mode mode v) c allowed.runs)) holds
 after_effect b v messages (AsksOn c asked) laws allowed holds =
     subst (λ w. Holds b w (asked.message ∷ messages))
     (sym (laws.asks_on v c asked allowed.calls.runs))
@@ -90,11 +90,11 @@ after_effect b v messages (Halts c m) laws allowed holds =
     (rests b v messages c Away laws.paths laws.spans allowed.calls.core allowed.calls.runs
     (λ e. cc) (λ e. cc) holds)
 after_effect b v messages (Leaves c) laws allowed holds =
-    rests b v messages c Away laws.paths laws.spans allowed.core allowed.runs (λ e. cc) (λ e. cc)
-    holds
+    rests b v messages c Away laws.paths laws.spans allowed.calls.core allowed.calls.runs (λ e. cc)
+    (λ e. cc) holds
 after_effect b v messages (Enters c s) laws allowed holds =
-    runs b (with_arrival b c s v) messages c (arrived_new b v messages c s allowed holds)
-    (arrives b v messages c s laws.paths allowed holds)
+    runs b (with_arrival b c s v) messages c (arrived_new b v messages c s allowed.enters holds)
+    (arrives b v messages c s laws.paths allowed.enters holds)
 after_effect b v messages (Parks c s m) laws allowed holds =
     let new = arrived_new b v messages c s allowed.enters holds in
     let w : Values = with_arrival b c s v in
@@ -102,8 +102,8 @@ after_effect b v messages (Parks c s m) laws allowed holds =
     (subst (NoneCurrent b w.life w.known messages) (sym allowed.core) new.none)
     (stays b w messages c Away new (arrives b v messages c s laws.paths allowed.enters holds))
 after_effect b v messages (Ceases c s) laws allowed holds =
-    stays b (with_arrival b c s v) messages c Away (arrived_new b v messages c s allowed holds)
-    (arrives b v messages c s laws.paths allowed holds)
+    stays b (with_arrival b c s v) messages c Away (arrived_new b v messages c s allowed.enters holds)
+    (arrives b v messages c s laws.paths allowed.enters holds)
 after_effect b v messages (Acknowledges a) laws allowed holds = takes b v messages a holds
 
 -- Histories -----------------------------------------------------------------------------------
@@ -126,6 +126,30 @@ pub record HistoryLaws (b : BoardValue) : Type 0 where
   pub more : (e : Entry) (h : List Entry)
       → values_of b (e ∷ h) ≡ after b e.core e.call e.reply (values_of b h)
   pub legal : (h : List Entry) → IsLegal b h → AreValues b (values_of b h)
+
+-- the effect of a legal reply is allowed
+pub legal_allowed : (b : BoardValue) (e : Entry) (h : List Entry) → LowerLaws b → HistoryLaws b
+    → Holds b (values_of b h) (sent_messages b h) → IsLegal b (e ∷ h)
+    → IsAllowed b (values_of b h) (effect b e)
+unfolding after
+legal_allowed b e h laws said holds legal =
+    let v : Values = values_of b h in
+    let then = subst (AreValues b) (said.more e h) (said.legal (e ∷ h) legal) in
+    let moved = subst (λ r. AreValues b (change b (effect_of b e.core e.call r) v)) legal.0 then in
+    subst (λ r. IsAllowed b v (effect_of b e.core e.call r)) (sym legal.0)
+    (answer_allowed b v e.core e.call laws
+    (ready b v (sent_messages b h) (said.legal h legal.1) holds) moved)
+
+-- what an entry leaves of the values, and what it adds to the messages
+pub by_effect : (b : BoardValue) (e : Entry) (h : List Entry) → HistoryLaws b
+    → values_of b (e ∷ h) ≡ change b (effect b e) (values_of b h)
+unfolding after
+by_effect b e h said = said.more e h
+
+pub sent_more : (b : BoardValue) (e : Entry) (h : List Entry)
+    → sent_messages b (e ∷ h) ≡ listed (sent (effect b e)) ++ sent_messages b h
+unfolding sent_messages
+sent_more b e h = refl
 
 by_answer : (b : BoardValue) (v : Values) (messages : List MessageValue) (c : ℕ) (call : FwCall)
     → LowerLaws b → AreValues b v → Holds b v messages → let e = effect_of b c call (answer b v c call) in

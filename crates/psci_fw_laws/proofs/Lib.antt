@@ -1,11 +1,11 @@
-pub mod Allowed
+pub mod Allowing
 pub mod Arriving
 pub mod Claiming
+pub mod Consequences
 pub mod Entries
 pub mod Functions
 pub mod Granting
 pub mod Histories
-pub mod Kept
 pub mod Lower
 pub mod Made
 pub mod Older

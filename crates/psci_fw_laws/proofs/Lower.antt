@@ -3,7 +3,7 @@ use Rattle.std.proofs.Common.{◌≡◌, ℕ, ◌<◌, false, List, None, Ok}
 use Rattle.psci_board.specs.Board.{BoardValue, cores}
 use Rattle.psci_board.specs.Laws.{PathLaws, SpanLaws, WordLaws}
 use Rattle.psci_coord.specs.declared.part.Part.{Part}
-use Rattle.psci_coord.specs.Laws.{ClaimLaws, LastCoreLaws}
+use Rattle.psci_coord.specs.Laws.{BelowLaws, ClaimLaws, LastCoreLaws, PlatformLaws}
 use Rattle.psci_coord.specs.View.{PowerView}
 use Rattle.psci_link.specs.Message.{IsClaim, PartByPart}
 use Rattle.psci_state.specs.Ask.{IsAsk}
@@ -24,6 +24,8 @@ pub record LowerLaws (b : BoardValue) : Type 0 where
   pub words : WordLaws b
   pub claims : (w : PowerView) (c : ℕ) (wanted : ℕ → ℕ) → ClaimLaws b w c wanted
   pub last_core : (w : PowerView) (c : ℕ) (ask : List ℕ) → c < cores b → LastCoreLaws b w c ask
+  pub platform : (w : PowerView) (c : ℕ) → c < cores b → PlatformLaws b w c
+  pub below : (w : PowerView) (c level : ℕ) → BelowLaws b w c level
   pub parts : (ps : List Part) → IsClaim ps → PartByPart ps
   pub first : (life : ℕ) → AreValues b (start_of_life b life)
   pub off : (v : Values) (c : ℕ) → c < cores b → AreValues b v → v.phase c ≡ Running

@@ -1,18 +1,17 @@
 -- What a core that stops sends.
-use Rattle.std.proofs.Common.{◌≡◌, ℕ, zero, suc, ◌+◌, ◌<◌, ◌≤◌, Bool, true, false, cond, ◌==◌, List, length}
-use Rattle.std.proofs.Common.{Option, None, Some, Ok, refl, arith, subst, ap, sym, ◌∙◌}
-use Rattle.std.specs.Prelude.{Result, nat_le, slice_get}
-use Rattle.std.proofs.lemmas.Bool.{cond-true, eq-eqb, le-leb}
+use Rattle.std.proofs.Common.{◌≡◌, ℕ, zero, suc, ◌+◌, ◌<◌, ◌≤◌, false, ◌==◌, List, length}
+use Rattle.std.proofs.Common.{Some, Ok, refl, arith, subst, ap, sym, ◌∙◌}
+use Rattle.std.specs.Prelude.{nat_le, slice_get, slice_index}
+use Rattle.std.proofs.lemmas.Bool.{cond-true, cond_both, eq-eqb, le-leb}
 use Rattle.std.proofs.lemmas.Option.{slice_get_within}
 use Rattle.psci_board.specs.Board.{BoardValue, cores, height, up}
-use Rattle.psci_board.specs.Laws.{PathLaws, SpanLaws}
-use Rattle.psci_coord.specs.Claim.{claim_of, least_wish, off_wish, own_wish}
-use Rattle.psci_coord.specs.declared.osi.Osi.{Osi}
+use Rattle.psci_board.specs.Laws.{PathLaws}
+use Rattle.psci_coord.specs.Claim.{claim_of, least_wish, off_wish, own_wish, platform_claim}
 use Rattle.psci_coord.specs.declared.part.Part.{Part}
 use Rattle.psci_coord.specs.Laws.{ClaimLaws}
-use Rattle.psci_coord.specs.View.{PowerView, domain_of, generation}
-use Rattle.psci_link.specs.declared.kind.Kind.TheVariants.{Down, Start}
-use Rattle.psci_link.specs.Message.{IsClaim, MessageValue, PartByPart}
+use Rattle.psci_coord.specs.View.{domain_of, generation}
+use Rattle.psci_link.specs.declared.kind.Kind.TheVariants.{Down}
+use Rattle.psci_link.specs.Message.{IsClaim, MessageValue}
 use Rattle.psci_tree.specs.Recount.{asks}
 use Rattle.psci_fw_model.specs.declared.mode.SuspendMode.{SuspendMode}
 use Rattle.psci_fw_model.specs.declared.mode.SuspendMode.TheVariants.{Platform, OsInitiated}
@@ -21,16 +20,16 @@ use Rattle.psci_fw_model.specs.Claims.{leaving_claim, off_parts, suspend_claim, 
 use Rattle.psci_fw_model.specs.Invariant.{AreValues}
 use Rattle.psci_fw_model.specs.Outcomes.{message_for}
 use Rattle.psci_fw_model.specs.Paths.{depth_by}
-use Rattle.psci_fw_model.specs.Phases.{Away, Pending, Phase, Running, Suspended, activity_of}
+use Rattle.psci_fw_model.specs.Phases.{Away, Pending, Running, Suspended, activity_of}
+use Rattle.psci_fw_model.specs.Phases.{unless_pending}
 use Rattle.psci_fw_model.specs.Values.{Values}
 use Rattle.psci_fw_model.specs.Views.{ask, view}
 use Rattle.psci_fw_laws.specs.KnownBelow.{known_below}
-use Rattle.psci_fw_laws.specs.Claims.{part_for}
-use Rattle.psci_fw_laws.specs.Messages.{IsSound, known_on}
+use Rattle.psci_fw_laws.specs.Messages.{known_on}
 use Rattle.psci_fw_laws.proofs.Lower.{LowerLaws}
-use Rattle.psci_fw_laws.proofs.Parts.{HasPart, part_has}
-use Rattle.psci_fw_laws.proofs.Resting.{IsNewClaim}
-use Rattle.psci_fw_laws.proofs.Sums.{known_own, known_rises}
+use Rattle.psci_fw_laws.proofs.Parts.{part_has, updated_here}
+use Rattle.psci_fw_laws.specs.Allowed.{IsNewClaim}
+use Rattle.psci_fw_laws.proofs.Sums.{known_most, known_own, known_rises}
 
 -- The parts of a claim: no more than there are levels, each of its domain's generation.
 pub record AreMade (b : BoardValue) (known : ℕ → ℕ) (c : ℕ) (parts : List Part) : Type 0 where
@@ -42,6 +41,10 @@ view_known : (b : BoardValue) (v : Values) (c level : ℕ)
     → generation b (view b v) (domain_of b c level) ≡ known_on b v.known c level
 unfolding generation view known_below
 view_known b v c level = refl
+
+view_ask : (b : BoardValue) (v : Values) (c level : ℕ) → (view b v).ask c level ≡ ask b v c level
+unfolding view
+view_ask b v c level = refl
 
 claim_made : (b : BoardValue) (v : Values) (c : ℕ) (wanted : ℕ → ℕ)
     → ClaimLaws b (view b v) c wanted → AreMade b v.known c (claim_of b (view b v) c wanted)
@@ -56,6 +59,12 @@ leaving_made b v c Platform laws =
     claim_made b v c (least_wish b (view b v) c) (laws.claims (view b v) c _)
 leaving_made b v c OsInitiated laws =
     claim_made b v c (off_wish b (view b v) c) (laws.claims (view b v) c _)
+
+ask_most : (b : BoardValue) (v : Values) (c level : ℕ)
+    → ask b v c level ≤ asks (activity_of (v.phase c)) level
+ask_most b v c level =
+    cond_both (nat_le level (height b)) (asks (activity_of (v.phase c)) level) 0
+    (λ d. d ≤ asks (activity_of (v.phase c)) level) (λ e. omega arith) (λ e. omega arith)
 
 -- of a core that goes off
 pub off_made : (b : BoardValue) (v : Values) (c : ℕ) → LowerLaws b
@@ -83,6 +92,38 @@ pub suspend_made : (b : BoardValue) (v : Values) (c : ℕ) (ask : List ℕ) (par
 unfolding suspend_parts
 suspend_made b v c ask parts laws on e = suspend_made_by b v c ask parts v.mode laws on e
 
+-- no part is deeper than what its sender asks of the domain
+suspend_own_by : (b : BoardValue) (v : Values) (c : ℕ) (ask : List ℕ) (parts : List Part)
+    (mode : SuspendMode) → LowerLaws b → c < cores b → v.phase c ≡ Running
+    → suspend_claim b v c ask mode ≡ Ok parts → (level : ℕ) (p : Part)
+    → slice_get parts level ≡ Some p → p.depth ≤ slice_index ask level
+unfolding view
+suspend_own_by b v c ask parts Platform laws on runs e level p part =
+    let w : Values = with_phase c (Suspended ask) v in
+    let same : parts ≡ platform_claim b (view b w) c = cc in
+    let at = ap (λ ps. slice_get ps level) (sym same) ∙ part in
+    let low = (laws.platform (view b w) c on).asked level c p at on refl in
+    let left : w.phase c ≡ Suspended ask =
+    updated_here v.phase c (unless_pending (v.phase c) (Suspended ask))
+    ∙ ap (λ x. unless_pending x (Suspended ask)) runs in
+    let most = ask_most b w c level in
+    let asked : asks (activity_of (w.phase c)) level ≡ slice_index ask level =
+    ap (λ x. asks (activity_of x) level) left in
+    omega (arith, low, most, asked)
+suspend_own_by b v c ask parts OsInitiated laws on runs e level p part =
+    let same : parts ≡ claim_of b (view b v) c (own_wish ask) =
+    (laws.last_core (view b v) c ask on).parts parts e in
+    let at = ap (λ ps. slice_get ps level) (sym same) ∙ part in
+    let deep = (laws.claims (view b v) c (own_wish ask)).depth level p at in
+    omega (arith, deep)
+
+pub suspend_own : (b : BoardValue) (v : Values) (c : ℕ) (ask : List ℕ) (parts : List Part)
+    → LowerLaws b → c < cores b → v.phase c ≡ Running → suspend_parts b v c ask ≡ Ok parts
+    → (level : ℕ) (p : Part) → slice_get parts level ≡ Some p → p.depth ≤ slice_index ask level
+unfolding suspend_parts
+suspend_own b v c ask parts laws on runs e =
+    suspend_own_by b v c ask parts v.mode laws on runs e
+
 -- The Down that is made of them ---------------------------------------------------------------
 
 -- no domain is granted more than a core below it asks of itself
@@ -96,11 +137,15 @@ granted_below b v (suc level) c paths are on high =
     let nested = rw next at step in
     omega (arith, nested, granted_below b v level c paths are on (omega arith))
 
+pub ask_within : (b : BoardValue) (v : Values) (c level : ℕ) → level ≤ height b
+    → ask b v c level ≡ asks (activity_of (v.phase c)) level
+ask_within b v c level high =
+    cond-true (nat_le level (height b)) (asks (activity_of (v.phase c)) level) 0
+    (le-leb level (height b) high)
+
 pub ask_own : (b : BoardValue) (v : Values) (c : ℕ)
     → ask b v c 0 ≡ asks (activity_of (v.phase c)) 0
-ask_own b v c =
-    cond-true (nat_le 0 (height b)) (asks (activity_of (v.phase c)) 0) 0
-    (le-leb 0 (height b) (omega arith))
+ask_own b v c = ask_within b v c 0 (omega arith)
 
 ask_running : (b : BoardValue) (v : Values) (c : ℕ) → v.phase c ≡ Running → ask b v c 0 ≡ 0
 ask_running b v c runs = ask_own b v c ∙ ap (λ p. asks (activity_of p) 0) runs
@@ -118,9 +163,12 @@ laid_at b v m level place p on part =
 pub new_claim : (b : BoardValue) (v : Values) (c : ℕ) (parts : List Part) → LowerLaws b
     → c < cores b → 0 < v.life → 0 < v.known c → v.known c ≤ b.starts → v.halting ≡ false
     → (v.phase c ≡ Pending → ⊥) → IsClaim parts → AreMade b v.known c parts
+    → ((level : ℕ) (p : Part) → slice_get parts level ≡ Some p
+    → p.depth ≤ asks (activity_of (v.phase c)) level)
     → AreValues b (with_claim b (message_for v Down c parts) v)
     → IsNewClaim b v (message_for v Down c parts)
-new_claim b v c parts laws on begun entered most awake rests claim made are =
+new_claim b v c parts laws on begun entered most awake rests claim made own are =
+    let after : Values = with_claim b (message_for v Down c parts) v in
     let m : MessageValue = message_for v Down c parts in
     let each = laws.parts parts claim in
     let first = λ (p : Part) (e : slice_get parts 0 ≡ Some p). made.current 0 p e
@@ -135,6 +183,11 @@ new_claim b v c parts laws on begun entered most awake rests claim made are =
         room = λ s. absurd (cc);
         entered = λ d. entered;
         first = first;
+        most = λ level p e. omega (
+          arith,
+          made.current level p e,
+          known_most b v.known level (up b level c) b.starts are.known,
+        );
         rises = λ level p q e f. omega (
           arith,
           made.current level p e,
@@ -154,8 +207,25 @@ new_claim b v c parts laws on begun entered most awake rests claim made are =
           let has = part_has b v.life level place m p e in
           let given = laid_at b v m level place p has.on has.part in
           let low = granted_below b (with_claim b m v) level x laws.paths are inside
-          (omega (arith, slice_get_within parts level p has.part, made.few)) in
+          (within level p has.part) in
           let some = each.least level p has.part in
           let none = ask_running b (with_claim b m v) x runs in
           omega (arith, given, low, some, none, ap ((with_claim b m v).granted level) at);
+      fair = record {
+        own = λ level p e.
+            let inside = within level p e in
+            omega (arith, own level p e, ask_within b v c level inside);
+        below = λ level x p e i at.
+            let given = laid_at b v m level (up b level c) p refl e in
+            let low = granted_below b after level x laws.paths are i (within level p e) in
+            omega (arith, given, low, ap (after.granted level) at);
+        least = λ platform level x p e i at.
+            let given = laid_at b v m level (up b level c) p refl e in
+            let least = (are.awake awake).least platform c level on (within level p e) in
+            let low = (laws.below (view b after) c level).below x i at in
+            omega (arith, given, least, low, view_ask b after x level);
+      };
     }
+  where
+    within : (level : ℕ) (p : Part) → slice_get parts level ≡ Some p → level ≤ height b
+    within level p e = omega (arith, slice_get_within parts level p e, made.few)

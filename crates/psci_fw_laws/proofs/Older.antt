@@ -1,15 +1,14 @@
 -- No claim is above the known starts below its domain.
-use Rattle.std.proofs.Common.{◌≡◌, ℕ, ◌<◌, ◌≤◌, ◌⊎◌, inl, inr, Bool, List, Some, arith, subst, ap, sym, ◌∙◌}
-use Rattle.std.specs.Prelude.{slice_get}
+use Rattle.std.proofs.Common.{◌≡◌, ℕ, ◌<◌, ◌≤◌, inl, inr, Bool, List, arith, subst, ap, sym, ◌∙◌}
 use Rattle.psci_board.specs.Board.{BoardValue, cores, up}
 use Rattle.psci_coord.specs.declared.part.Part.{Part}
 use Rattle.psci_link.specs.Message.{MessageValue}
 use Rattle.psci_fw_model.specs.Phases.{Phase, Running}
 use Rattle.psci_fw_model.specs.Values.{updated}
 use Rattle.psci_fw_laws.specs.KnownBelow.{known_below}
-use Rattle.psci_fw_laws.specs.Claims.{AreQuiet, IsClaimOn, IsFromMessage, IsFromStart, part_for}
-use Rattle.psci_fw_laws.specs.Messages.{AreSent, IsSent, IsPresent}
-use Rattle.psci_fw_laws.proofs.Parts.{HasPart, part_has, updated_at, updated_here, updated_there}
+use Rattle.psci_fw_laws.specs.Claims.{AreQuiet, IsClaimOn, IsFromMessage}
+use Rattle.psci_fw_laws.specs.Messages.{AreSent}
+use Rattle.psci_fw_laws.proofs.Parts.{part_has, updated_at, updated_here, updated_there}
 use Rattle.psci_fw_laws.proofs.Sums.{known_less, known_same}
 
 from_older : (b : BoardValue) (life : ℕ) (halting : Bool) (known : ℕ → ℕ) (phase : ℕ → Phase)

@@ -1,7 +1,7 @@
 -- Which messages claim something of a domain.
-use Rattle.std.proofs.Common.{◌≡◌, ℕ, zero, suc, ◌+◌, ◌<◌, ◌≤◌, ◌⊎◌, inl, inr, Bool, true, false}
-use Rattle.std.proofs.Common.{◌==◌, ◌&&◌, cond, List, [], ◌∷◌, Option, None, Some, refl, sym, ◌∙◌, ap}
-use Rattle.std.proofs.Common.{subst, arith}
+use Rattle.std.proofs.Common.{◌≡◌, ℕ, zero, suc, ◌⊎◌, inl, inr, Bool, true, false}
+use Rattle.std.proofs.Common.{◌==◌, ◌&&◌, cond, List, ◌∷◌, Option, None, Some, refl, ap}
+use Rattle.std.proofs.Common.{subst}
 use Rattle.std.specs.Prelude.{slice_get}
 use Rattle.std.proofs.lemmas.Bool.{and_from, and_parts, cond_both, eq-eqb, eqb-false, eqb-true}
 use Rattle.psci_board.specs.Board.{BoardValue, up}
@@ -11,7 +11,7 @@ use Rattle.psci_link.specs.declared.kind.Kind.TheVariants.{Down, Start, Off, Res
 use Rattle.psci_link.specs.Message.{MessageValue}
 use Rattle.psci_link.specs.Slots.{is_kind}
 use Rattle.psci_fw_model.specs.Values.{updated}
-use Rattle.psci_fw_laws.specs.Claims.{IsClaimOn, IsFromMessage, IsFromStart, part_for}
+use Rattle.psci_fw_laws.specs.Claims.{IsClaimOn, IsFromMessage, part_for}
 
 -- A function updated at one core ---------------------------------------------------------------
 

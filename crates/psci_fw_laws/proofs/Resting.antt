@@ -1,5 +1,5 @@
 -- A core that runs stops, and sends what it claims.
-use Rattle.std.proofs.Common.{◌≡◌, ℕ, ◌+◌, ◌<◌, ◌≤◌, inl, inr, Bool, true, false, List, ◌∷◌, Some, refl}
+use Rattle.std.proofs.Common.{◌≡◌, ℕ, ◌+◌, ◌<◌, inr, true, List, ◌∷◌, Some, refl}
 use Rattle.std.proofs.Common.{arith, subst, ap, sym, ◌∙◌}
 use Rattle.std.specs.Prelude.{slice_get}
 use Rattle.psci_board.specs.Board.{BoardValue, cores, up}
@@ -9,19 +9,18 @@ use Rattle.psci_link.specs.declared.kind.Kind.{Kind}
 use Rattle.psci_link.specs.declared.kind.Kind.TheVariants.{Down, Start}
 use Rattle.psci_link.specs.Message.{MessageValue}
 use Rattle.psci_link.specs.Slots.{slot_of}
-use Rattle.psci_tree.specs.Recount.{asks}
 use Rattle.psci_fw_model.specs.Changes.{with_claim, with_phase}
-use Rattle.psci_fw_model.specs.Phases.{Phase, Pending, Running, activity_of, unless_pending}
+use Rattle.psci_fw_model.specs.Phases.{Phase, Pending, Running, unless_pending}
 use Rattle.psci_fw_model.specs.Values.{Values}
+use Rattle.psci_fw_laws.specs.Allowed.{IsNewClaim}
 use Rattle.psci_fw_laws.specs.KnownBelow.{known_below}
-use Rattle.psci_fw_laws.specs.Claims.{AreQuiet, part_for}
-use Rattle.psci_fw_laws.specs.Messages.{AreSent, IsPresent, IsSent, IsSound, is_system, known_on}
+use Rattle.psci_fw_laws.specs.Messages.{IsSent, is_system}
 use Rattle.psci_fw_laws.proofs.Claiming.{IsNewDown, above_down, apart_new, quiet_new, quiet_phase}
 use Rattle.psci_fw_laws.proofs.Granting.{granted_claim, granted_phase}
-use Rattle.psci_fw_laws.proofs.Kept.{Holds, Kept}
+use Rattle.psci_fw_laws.specs.Kept.{Holds}
 use Rattle.psci_fw_laws.proofs.Older.{NoneCurrent}
 use Rattle.psci_fw_laws.proofs.Parts.{part_from}
-use Rattle.psci_fw_laws.proofs.Sending.{IsFit, sent_new, sent_phase}
+use Rattle.psci_fw_laws.proofs.Sending.{sent_new, sent_phase}
 use Rattle.psci_fw_laws.proofs.Slots.{AreAt, outstanding_phase, outstanding_put, outstanding_sent}
 use Rattle.psci_fw_laws.proofs.Sums.{known_own}
 
@@ -75,24 +74,12 @@ rests b v sent c left paths spans on runs not_running not_pending holds =
           (λ e. absurd (waits e)) holds.grants;
       entered = holds.entered;
       slots = outstanding_phase v.life v.known v.phase sent v.outstanding c new
-          (λ m e. (λ s. absurd (waits ((holds.slots.core c m e).start s)),
-            λ d n. not_pending (sym is ∙ n)))
+          (λ m e. (
+            λ s. absurd (waits ((holds.slots.core c m e).start s)),
+            λ d n. not_pending (sym is ∙ n),
+          ))
           holds.slots;
     }
-
--- A Down that a core sends when it has stopped.
-pub record IsNewClaim (b : BoardValue) (v : Values) (m : MessageValue) : Type 0 where
-  pub sound : IsSound b m
-  pub kind : m.kind ≡ Down
-  pub present : m.life ≡ v.life
-  pub number : m.number ≡ v.known m.core.number
-  pub current : (level : ℕ) (p : Part) → slice_get m.parts level ≡ Some p
-      → p.generation ≡ known_on b v.known m.core.number level
-  pub rests : v.phase m.core.number ≡ Pending → ⊥
-  pub asked : (p : Part) → slice_get m.parts 0 ≡ Some p
-      → p.depth ≡ asks (activity_of (v.phase m.core.number)) 0
-  pub quiet : (level place : ℕ) (p : Part) → part_for b v.life level place m ≡ Some p → (c : ℕ)
-      → c < cores b → up b level c ≡ place → v.phase c ≡ Running → ⊥
 
 no_system : (k : Kind) → k ≡ Down → is_system k ≡ true → ⊥
 no_system k e s = let no : is_system Down ≡ true = ap is_system (sym e) ∙ s in absurd (cc)

@@ -1,8 +1,7 @@
 -- What is said of each message stays so.
-use Rattle.std.proofs.Common.{◌≡◌, ℕ, zero, suc, ◌+◌, ◌<◌, ◌≤◌, inl, inr, Bool, true, false, List, ◌∷◌}
-use Rattle.std.proofs.Common.{Some, refl, arith, subst, ap, sym, ◌∙◌}
+use Rattle.std.proofs.Common.{◌≡◌, ℕ, zero, suc, ◌<◌, ◌≤◌, Bool, true, List, ◌∷◌}
+use Rattle.std.proofs.Common.{Some, refl, arith, subst, ap, ◌∙◌}
 use Rattle.std.specs.Prelude.{slice_get}
-use Rattle.std.proofs.lemmas.Bool.{cases_eq}
 use Rattle.psci_board.specs.Board.{BoardValue, up}
 use Rattle.psci_board.specs.Laws.{PathLaws}
 use Rattle.psci_coord.specs.declared.part.Part.{Part}
@@ -11,9 +10,8 @@ use Rattle.psci_link.specs.Message.{MessageValue}
 use Rattle.psci_tree.specs.Recount.{asks}
 use Rattle.psci_fw_model.specs.Phases.{Phase, Pending, activity_of}
 use Rattle.psci_fw_model.specs.Values.{updated}
-use Rattle.psci_fw_laws.specs.KnownBelow.{known_below}
-use Rattle.psci_fw_laws.specs.Messages.{AreSent, IsPresent, IsSent, IsSound, known_on}
-use Rattle.psci_fw_laws.proofs.Parts.{updated_at, updated_here, updated_there}
+use Rattle.psci_fw_laws.specs.Messages.{AreSent, IsSent}
+use Rattle.psci_fw_laws.proofs.Parts.{updated_at}
 use Rattle.psci_fw_laws.proofs.Sums.{known_gap, known_le}
 
 -- one more message

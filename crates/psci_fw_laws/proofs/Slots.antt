@@ -1,18 +1,16 @@
 -- What is outstanding, after each change.
-use Rattle.std.proofs.Common.{◌≡◌, ℕ, zero, suc, ◌<◌, ◌≤◌, inl, inr, Bool, true, false, List, [], ◌∷◌}
-use Rattle.std.proofs.Common.{◌==◌, cond, Option, None, Some, refl, arith, subst, ap, sym, ◌∙◌}
-use Rattle.std.specs.Prelude.{slice_get}
-use Rattle.std.proofs.lemmas.Bool.{cases_eq, cond_both, eqb-true, eqb-false}
-use Rattle.psci_link.specs.declared.kind.Kind.{Kind}
-use Rattle.psci_link.specs.declared.kind.Kind.TheVariants.{Down, Start, Off, Reset}
+use Rattle.std.proofs.Common.{◌≡◌, ℕ, suc, true, false, List, ◌∷◌}
+use Rattle.std.proofs.Common.{◌==◌, Option, None, Some, refl, subst, ap, sym, ◌∙◌}
+use Rattle.std.proofs.lemmas.Bool.{cond_both, eqb-true, eqb-false}
+use Rattle.psci_link.specs.declared.kind.Kind.TheVariants.{Down, Start}
 use Rattle.psci_link.specs.Message.{AckValue, MessageValue}
-use Rattle.psci_link.specs.Slots.{Acknowledge, Clear, Put, OfCore, OfSystem, Slot, answers, changed}
-use Rattle.psci_link.specs.Slots.{is_done, is_slot, left_by, slot_of}
-use Rattle.psci_fw_model.specs.Phases.{Phase, Running, Pending, Away}
+use Rattle.psci_link.specs.Slots.{Acknowledge, Clear, Put, OfCore, OfSystem, Slot, changed}
+use Rattle.psci_link.specs.Slots.{is_slot, left_by, slot_of}
+use Rattle.psci_fw_model.specs.Phases.{Phase, Pending}
 use Rattle.psci_fw_model.specs.Values.{updated}
 use Rattle.psci_fw_laws.specs.Messages.{is_system}
 use Rattle.psci_fw_laws.specs.Outstanding.{AreOutstanding, IsOfCore, IsOfLife}
-use Rattle.psci_fw_laws.proofs.Parts.{updated_at, updated_here, updated_there}
+use Rattle.psci_fw_laws.proofs.Parts.{updated_at, updated_there}
 
 of_life_more : (life : ℕ) (sent : List MessageValue) (m n : MessageValue) → IsOfLife life sent n
     → IsOfLife life (m ∷ sent) n
@@ -130,8 +128,10 @@ outstanding_asked life known phase sent outstanding c m slot_is_c is are =
   where
     new : ℕ → Phase
     new = updated phase c Pending
+
     at_c : AreAt life known new sent (OfCore c) (Some m)
     at_c = λ n e. let same : m ≡ n = cc in subst (IsOfCore life known new sent c) same is
+
     beside : (slot : Slot) → is_slot (OfCore c) slot ≡ false
         → AreAt life known new sent slot (outstanding slot)
     beside (OfCore x) there = λ n e.

@@ -1,40 +1,30 @@
 -- A core is asked on, the system is asked to go off, an acknowledgement is taken.
-use Rattle.std.proofs.Common.{◌≡◌, ℕ, ◌<◌, ◌≤◌, inl, inr, Bool, true, false, cond, List, [], ◌∷◌}
-use Rattle.std.proofs.Common.{None, Some, refl, arith, subst, ap, sym, ◌∙◌}
+use Rattle.std.proofs.Common.{◌≡◌, ℕ, ◌<◌, Bool, true, false, cond, List, [], ◌∷◌}
+use Rattle.std.proofs.Common.{Some, refl, arith, subst, ap, sym, ◌∙◌}
 use Rattle.std.specs.Prelude.{slice_get}
 use Rattle.std.proofs.lemmas.Bool.{cond_both}
-use Rattle.psci_board.specs.Board.{BoardValue, cores, up}
+use Rattle.psci_board.specs.Board.{BoardValue}
 use Rattle.psci_coord.specs.declared.part.Part.{Part}
 use Rattle.psci_link.specs.declared.kind.Kind.{Kind}
 use Rattle.psci_link.specs.declared.kind.Kind.TheVariants.{Down, Start, Off, Reset}
 use Rattle.psci_link.specs.Message.{AckValue, ArePartsOf, MessageValue}
 use Rattle.psci_link.specs.Slots.{OfSystem, is_kind, slot_of}
-use Rattle.psci_fw_model.specs.declared.status.Status.{Status}
 use Rattle.psci_fw_model.specs.declared.status.Status.TheVariants as statuses
 use Rattle.psci_fw_model.specs.AffinityInfo.{is_on}
-use Rattle.psci_fw_model.specs.Changes.{PowerOn, target, turns_off, with_acknowledgement, with_halt}
+use Rattle.psci_fw_model.specs.Changes.{PowerOn, turns_off, with_acknowledgement, with_halt}
 use Rattle.psci_fw_model.specs.Changes.{with_pending}
-use Rattle.psci_fw_model.specs.Phases.{Phase, Pending, Running}
+use Rattle.psci_fw_model.specs.Phases.{Phase, Pending}
 use Rattle.psci_fw_model.specs.Values.{Values, updated}
-use Rattle.psci_fw_laws.specs.Messages.{IsPresent, IsSent, IsSound, is_system}
-use Rattle.psci_fw_laws.specs.Outstanding.{IsOfCore, IsOfLife}
+use Rattle.psci_fw_laws.specs.Allowed.{IsPlain}
+use Rattle.psci_fw_laws.specs.Messages.{IsSent, IsSound, is_system}
+use Rattle.psci_fw_laws.specs.Outstanding.{IsOfLife}
 use Rattle.psci_fw_laws.proofs.Claiming.{above_other, apart_new, quiet_other, quiet_phase}
 use Rattle.psci_fw_laws.proofs.Granting.{granted_other, granted_pending}
-use Rattle.psci_fw_laws.proofs.Kept.{Holds, Kept}
+use Rattle.psci_fw_laws.specs.Kept.{Holds}
 use Rattle.psci_fw_laws.proofs.Parts.{updated_at, updated_here}
 use Rattle.psci_fw_laws.proofs.Sending.{sent_halting, sent_new, sent_phase}
 use Rattle.psci_fw_laws.proofs.Slots.{AreAt, outstanding_asked, outstanding_put, outstanding_sent}
 use Rattle.psci_fw_laws.proofs.Slots.{outstanding_taken}
-
--- A message without parts: a Start, an Off or a Reset.
-pub record IsPlain (b : BoardValue) (v : Values) (m : MessageValue) : Type 0 where
-  pub life : 1 ≤ v.life
-  pub present : m.life ≡ v.life
-  pub core : m.core.number < cores b
-  pub number : m.number ≡ v.known m.core.number
-  pub limit : v.known m.core.number ≤ b.starts
-  pub parts : m.parts ≡ []
-  pub other : is_kind m.kind Down ≡ false
 
 no_parts : (ps : List Part) (k : ℕ) (p : Part) → ps ≡ [] → slice_get ps k ≡ Some p → ⊥
 no_parts ps k p e i =
@@ -61,6 +51,7 @@ plain_sound b v m plain room = record {
   room = room;
   entered = λ d. absurd (not_down m.kind plain.other d);
   first = λ p i. absurd (no_parts m.parts 0 p plain.parts i);
+  most = λ l p i. absurd (no_parts m.parts l p plain.parts i);
   rises = λ l p q i. absurd (no_parts m.parts l p plain.parts i);
 }
 
@@ -159,10 +150,9 @@ halts b v sent m plain system holds = record {
   slots = outstanding_put v.life v.known v.phase (m ∷ sent) v.outstanding m
       (subst (λ s. AreAt v.life v.known v.phase (m ∷ sent) s (Some m))
       (sym (system_slot m.kind m.core system)) (λ n e.
-      let same : m ≡ n = cc in
-      (
+      let same : m ≡ n = cc in (
         subst (IsOfLife v.life (m ∷ sent)) same
-        (record { index = 0; at = refl; present = plain.present }),
+            (record { index = 0; at = refl; present = plain.present }),
         ap (λ (x : MessageValue). is_system x.kind) (sym same) ∙ system,
       )))
       (outstanding_sent v.life v.known v.phase sent v.outstanding m holds.slots);

@@ -1,5 +1,5 @@
 -- Granted depths and claims.
-use Rattle.std.specs.Prelude.{◌≡◌, ◌<◌, ℕ, List}
+use Rattle.std.specs.Prelude.{◌≡◌, ◌<◌, ◌≤◌, ℕ, List}
 use Rattle.psci_board.specs.Board.{BoardValue, cores, up}
 use Rattle.psci_coord.specs.declared.part.Part.{Part}
 use Rattle.psci_link.specs.Message.{MessageValue}
@@ -29,3 +29,11 @@ pub record AreGranted (b : BoardValue) (life : ℕ) (known : ℕ → ℕ) (phase
   pub held : (level place : ℕ) (p : Part) → IsClaimOn b life level place p sent
       → IsCurrent b known level place p → NonePending b phase level place
       → granted level place ≡ p.depth
+
+-- A current claim of this depth or deeper on the domain of this level and place.
+pub record HasDeeper (b : BoardValue) (life : ℕ) (known : ℕ → ℕ) (level place depth : ℕ)
+    (sent : List MessageValue) : Type 0 where
+  pub part : Part
+  pub claim : IsClaimOn b life level place part sent
+  pub current : IsCurrent b known level place part
+  pub deep : depth ≤ part.depth

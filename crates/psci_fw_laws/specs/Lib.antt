@@ -1,6 +1,10 @@
+pub mod Allowed
+pub mod Asked
 pub mod Claims
+pub mod Entered
 pub mod Granted
+pub mod Kept
 pub mod KnownBelow
 pub mod Messages
-pub mod Numbers
 pub mod Outstanding
+pub mod Within

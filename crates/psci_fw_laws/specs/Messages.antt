@@ -1,5 +1,5 @@
 -- What holds of every message that was sent.
-use Rattle.std.specs.Prelude.{◌≡◌, ◌<◌, ◌≤◌, ℕ, ◌+◌, Bool, true, false, List, length, slice_get, Some}
+use Rattle.std.specs.Prelude.{◌≡◌, ◌<◌, ◌≤◌, ℕ, ◌+◌, ◌*◌, Bool, true, false, List, length, slice_get, Some}
 use Rattle.psci_board.specs.Board.{BoardValue, cores, height, up}
 use Rattle.psci_coord.specs.declared.part.Part.{Part}
 use Rattle.psci_link.specs.declared.kind.Kind.{Kind}
@@ -35,6 +35,9 @@ pub record IsSound (b : BoardValue) (m : MessageValue) : Type 0 where
   -- the sender of a Down has entered, and its first generation is its number
   pub entered : m.kind ≡ Down → 0 < m.number
   pub first : (p : Part) → slice_get m.parts 0 ≡ Some p → p.generation ≡ m.number
+  -- no generation is above what all cores together can be started
+  pub most : (level : ℕ) (p : Part) → slice_get m.parts level ≡ Some p
+      → p.generation ≤ cores b * b.starts
   -- no generation is below that of the level below
   pub rises : (level : ℕ) (p q : Part) → slice_get m.parts level ≡ Some p
       → slice_get m.parts (level + 1) ≡ Some q

@@ -1,0 +1,22 @@
+-- What was asked when a Down was sent.
+use Rattle.std.specs.Prelude.{◌≡◌, ◌<◌, ◌≤◌, ℕ, slice_get, Some}
+use Rattle.psci_board.specs.Board.{BoardValue, cores, up}
+use Rattle.psci_coord.specs.declared.part.Part.{Part}
+use Rattle.psci_link.specs.Message.{MessageValue}
+use Rattle.psci_fw_model.specs.declared.mode.SuspendMode.TheVariants.{Platform}
+use Rattle.psci_fw_model.specs.Values.{Values}
+use Rattle.psci_fw_model.specs.Views.{ask}
+
+-- No part of a Down is deeper than what the cores ask once its sender has stopped.
+pub record IsAskedFor (b : BoardValue) (v : Values) (m : MessageValue) : Type 0 where
+  -- its sender asks as much of the domain
+  pub own : (level : ℕ) (p : Part) → slice_get m.parts level ≡ Some p
+      → p.depth ≤ ask b v m.core.number level
+  -- each core below the domain asks as much of itself
+  pub below : (level c : ℕ) (p : Part) → slice_get m.parts level ≡ Some p → c < cores b
+      → up b level c ≡ up b level m.core.number
+      → p.depth ≤ ask b v c 0
+  -- and in platform-coordinated mode of the domain
+  pub least : v.mode ≡ Platform → (level c : ℕ) (p : Part) → slice_get m.parts level ≡ Some p
+      → c < cores b → up b level c ≡ up b level m.core.number
+      → p.depth ≤ ask b v c level
