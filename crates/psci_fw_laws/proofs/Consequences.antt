@@ -27,8 +27,8 @@ use Rattle.psci_fw_laws.specs.KnownBelow.{KnownLaws, known_below}
 use Rattle.psci_fw_laws.specs.Within.{AreWithin}
 use Rattle.psci_fw_laws.proofs.Made.{ask_own, granted_below}
 use Rattle.psci_fw_laws.proofs.Parts.{part_from, part_has}
-use Rattle.psci_fw_laws.proofs.Sums.{known_gap, known_le, known_less, known_most, known_own, known_rises}
-use Rattle.psci_fw_laws.proofs.Sums.{known_same}
+use Rattle.psci_fw_laws.proofs.Sums.{known_gap, known_le, known_less, known_most, known_own}
+use Rattle.psci_fw_laws.proofs.Sums.{known_rises, known_same}
 
 -- Claims --------------------------------------------------------------------------------------
 

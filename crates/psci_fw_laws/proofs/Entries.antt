@@ -1,6 +1,7 @@
 -- What a call, an entry or an acknowledgement is answered is allowed.
 use Rattle.std.proofs.Common.{◌≡◌, ℕ, ◌<◌, ◌≤◌, Bool, true, false, cond, ◌==◌, ◌&&◌, ◌||◌, not}
-use Rattle.std.proofs.Common.{Option, None, Some, is_some, refl, arith, subst, ap, sym, ◌∙◌, inl, inr}
+use Rattle.std.proofs.Common.{Option, None, Some, is_some, refl, arith, subst, ap, sym, ◌∙◌}
+use Rattle.std.proofs.Common.{inl, inr}
 use Rattle.std.specs.Prelude.{nat_le, nat_lt}
 use Rattle.std.proofs.lemmas.Bool.{cond_both, eqb-false, leb-false, ltb-false, ltb-true}
 use Rattle.std.proofs.lemmas.Bool.{and_cases, or_left, or_parts, or_right, not-false}
@@ -16,6 +17,7 @@ use Rattle.psci_fw_model.specs.declared.call.FwCall.TheVariants.{Smc, Enter, Tak
 use Rattle.psci_fw_model.specs.declared.fault.FwFault.{FwFault}
 use Rattle.psci_fw_model.specs.declared.fault.FwFault.TheVariants as faults
 use Rattle.psci_fw_model.specs.declared.opening.Opening.{Opening}
+use Rattle.psci_fw_model.specs.declared.outcome.Act.TheVariants as acts
 use Rattle.psci_fw_model.specs.declared.outcome.Outcome.{Outcome}
 use Rattle.psci_fw_model.specs.declared.reply.FwReply.TheVariants as replies
 use Rattle.psci_fw_model.specs.declared.start.Start.{Start}
@@ -196,7 +198,7 @@ arrival_allowed b v c s None laws ready enters awake e =
   where
     outcome : Bool → Outcome
     outcome t = cond t
-        (record { act = Rattle.psci_fw_model.specs.declared.outcome.Act.TheVariants.Resume; message = None })
+        (record { act = acts.Resume; message = None })
         (stops_with (off_message b (with_arrival b c s v) c))
 
     by_test : (t : Bool) → resumes (in_life b s.life v) c s ≡ t

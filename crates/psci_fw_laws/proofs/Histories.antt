@@ -1,24 +1,21 @@
 -- After every legal history the firmware keeps what it keeps.
-use Rattle.std.proofs.Common.{◌≡◌, ℕ, true, false, List, [], ◌∷◌, ◌++◌}
-use Rattle.std.proofs.Common.{refl, arith, subst, sym, ◌∙◌}
+use Rattle.std.proofs.Common.{◌≡◌, ℕ, List, [], ◌∷◌, ◌++◌}
+use Rattle.std.proofs.Common.{refl, arith, subst, sym}
 use Rattle.psci_board.specs.Board.{BoardValue}
 use Rattle.psci_link.specs.Message.{MessageValue}
 use Rattle.psci_fw_model.specs.declared.call.FwCall.{FwCall}
 use Rattle.psci_fw_model.specs.declared.reply.FwReply.{FwReply}
-use Rattle.psci_fw_model.specs.declared.status.Status.{Status}
-use Rattle.psci_fw_model.specs.declared.status.Status.TheVariants as statuses
 use Rattle.psci_fw_model.specs.After.{after, change}
-use Rattle.psci_fw_model.specs.AffinityInfo.{is_on}
 use Rattle.psci_fw_model.specs.Answer.{answer}
 use Rattle.psci_fw_model.specs.Changes.{with_arrival, with_mode, with_phase, with_rest}
 use Rattle.psci_fw_model.specs.Effects.{Effect, Nothing, GoesOn, SetsMode, AsksOn, Rests, Halts}
 use Rattle.psci_fw_model.specs.Effects.{Leaves, Enters, Parks, Ceases, Acknowledges, effect_of}
 use Rattle.psci_fw_model.specs.Entry.{Entry, effect}
 use Rattle.psci_fw_model.specs.History.{values_of}
-use Rattle.psci_fw_model.specs.Invariant.{AreValues, agrees}
+use Rattle.psci_fw_model.specs.Invariant.{AreValues}
 use Rattle.psci_fw_model.specs.Legal.{IsLegal}
 use Rattle.psci_fw_model.specs.Lives.{first_phase, start_of_life}
-use Rattle.psci_fw_model.specs.Phases.{Away, Running}
+use Rattle.psci_fw_model.specs.Phases.{Away}
 use Rattle.psci_fw_model.specs.Said.{listed, sent}
 use Rattle.psci_fw_model.specs.Sent.{sent_messages}
 use Rattle.psci_fw_model.specs.Values.{Values}
@@ -26,6 +23,7 @@ use Rattle.psci_fw_laws.specs.Allowed.{IsAllowed}
 use Rattle.psci_fw_laws.proofs.Allowing.{IsReady}
 use Rattle.psci_fw_laws.proofs.Arriving.{arrived_new, arrives, first_not_on, runs, stays}
 use Rattle.psci_fw_laws.proofs.Claiming.{apart_none, quiet_life}
+use Rattle.psci_fw_laws.proofs.Consequences.{entered}
 use Rattle.psci_fw_laws.proofs.Entries.{answer_allowed}
 use Rattle.psci_fw_laws.proofs.Granting.{granted_life}
 use Rattle.psci_fw_laws.specs.Kept.{Holds}
@@ -37,22 +35,10 @@ use Rattle.psci_fw_laws.proofs.Started.{asks_on, halts, takes}
 
 -- One change ----------------------------------------------------------------------------------
 
-on_where_runs : (s : Status) → agrees s Running ≡ true → is_on s ≡ true
-on_where_runs statuses.On e = refl
-on_where_runs statuses.Off e = absurd (cc)
-on_where_runs statuses.Pending e = absurd (cc)
-
 ready : (b : BoardValue) (v : Values) (messages : List MessageValue) → AreValues b v
     → Holds b v messages → IsReady b v
-ready b v messages are holds = record {
-  values = are;
-  entered = λ c runs.
-      let on = on_where_runs (v.status c) (subst (λ p. agrees (v.status c) p ≡ true) runs
-      (are.agree c)) in
-      let other : v.known c ≡ 0 → ⊥ =
-      λ e. let no : false ≡ true = sym (holds.entered c e) ∙ on in absurd (cc) in
-      omega (arith, other);
-}
+ready b v messages are holds =
+    record { values = are; entered = (entered b v messages are holds).runs }
 
 after_effect : (b : BoardValue) (v : Values) (messages : List MessageValue) (e : Effect)
     → LowerLaws b → IsAllowed b v e → Holds b v messages
@@ -102,7 +88,8 @@ after_effect b v messages (Parks c s m) laws allowed holds =
     (subst (NoneCurrent b w.life w.known messages) (sym allowed.core) new.none)
     (stays b w messages c Away new (arrives b v messages c s laws.paths allowed.enters holds))
 after_effect b v messages (Ceases c s) laws allowed holds =
-    stays b (with_arrival b c s v) messages c Away (arrived_new b v messages c s allowed.enters holds)
+    stays b (with_arrival b c s v) messages c Away
+    (arrived_new b v messages c s allowed.enters holds)
     (arrives b v messages c s laws.paths allowed.enters holds)
 after_effect b v messages (Acknowledges a) laws allowed holds = takes b v messages a holds
 
@@ -152,7 +139,8 @@ unfolding sent_messages
 sent_more b e h = refl
 
 by_answer : (b : BoardValue) (v : Values) (messages : List MessageValue) (c : ℕ) (call : FwCall)
-    → LowerLaws b → AreValues b v → Holds b v messages → let e = effect_of b c call (answer b v c call) in
+    → LowerLaws b → AreValues b v → Holds b v messages
+    → let e = effect_of b c call (answer b v c call) in
     AreValues b (change b e v) → Holds b (change b e v) (listed (sent e) ++ messages)
 by_answer b v messages c call laws are holds then =
     after_effect b v messages (effect_of b c call (answer b v c call)) laws
@@ -167,7 +155,8 @@ by_entry b v w messages c call reply laws are then holds e f =
     let g : AreValues b (change b (effect_of b c call reply) v) = subst (AreValues b) f then in
     subst (λ x. Holds b x (listed (sent (effect_of b c call reply)) ++ messages)) (sym f)
     (subst (λ r. AreValues b (change b (effect_of b c call r) v)
-    → Holds b (change b (effect_of b c call r) v) (listed (sent (effect_of b c call r)) ++ messages))
+    → Holds b (change b (effect_of b c call r) v)
+    (listed (sent (effect_of b c call r)) ++ messages))
     (sym e) (by_answer b v messages c call laws are holds) g)
 
 pub legal_holds : (b : BoardValue) (h : List Entry) → LowerLaws b → HistoryLaws b → IsLegal b h

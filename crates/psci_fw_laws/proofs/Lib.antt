@@ -1,5 +1,7 @@
 pub mod Allowing
 pub mod Arriving
+pub mod Calls
+pub mod ClaimRows
 pub mod Claiming
 pub mod Consequences
 pub mod Entries
@@ -11,7 +13,11 @@ pub mod Made
 pub mod Older
 pub mod Parts
 pub mod Resting
+pub mod Returning
 pub mod Sending
 pub mod Slots
 pub mod Started
+pub mod Stopping
 pub mod Sums
+pub mod Targets
+pub mod ValueRows

@@ -36,7 +36,8 @@ kind_is Off e = absurd (cc)
 kind_is Reset e = absurd (cc)
 
 -- What it means that a message has a part for a domain.
-pub record HasPart (b : BoardValue) (life level place : ℕ) (m : MessageValue) (p : Part) : Type 0 where
+pub record HasPart (b : BoardValue) (life level place : ℕ) (m : MessageValue) (p : Part)
+    : Type 0 where
   pub kind : m.kind ≡ Down
   pub present : m.life ≡ life
   pub on : place ≡ up b level m.core.number
@@ -50,7 +51,8 @@ some_if false o p e = absurd (cc)
 pub part_has : (b : BoardValue) (life level place : ℕ) (m : MessageValue) (p : Part)
     → part_for b life level place m ≡ Some p → HasPart b life level place m p
 part_has b life level place m p e =
-    let both = some_if (is_kind m.kind Down && (m.life == life && (place == up b level m.core.number)))
+    let both =
+    some_if (is_kind m.kind Down && (m.life == life && (place == up b level m.core.number)))
     (slice_get m.parts level) p e in
     let kind = and_parts (is_kind m.kind Down) _ both.0 in
     let rest = and_parts (m.life == life) _ kind.1 in

@@ -15,6 +15,7 @@ use Rattle.psci_fw_model.specs.Values.{Values}
 use Rattle.psci_fw_laws.specs.Allowed.{IsNewClaim}
 use Rattle.psci_fw_laws.specs.KnownBelow.{known_below}
 use Rattle.psci_fw_laws.specs.Messages.{IsSent, is_system}
+use Rattle.psci_fw_laws.specs.Outstanding.{IsOfCore}
 use Rattle.psci_fw_laws.proofs.Claiming.{IsNewDown, above_down, apart_new, quiet_new, quiet_phase}
 use Rattle.psci_fw_laws.proofs.Granting.{granted_claim, granted_phase}
 use Rattle.psci_fw_laws.specs.Kept.{Holds}
@@ -55,7 +56,8 @@ pub rests : (b : BoardValue) (v : Values) (sent : List MessageValue) (c : ℕ) (
 rests b v sent c left paths spans on runs not_running not_pending holds =
     let new : Phase = unless_pending (v.phase c) left in
     let is : new ≡ left = ap (λ p. unless_pending p left) runs in
-    let waits : v.phase c ≡ Pending → ⊥ = λ e. let no : Running ≡ Pending = sym runs ∙ e in absurd (cc) in
+    let waits : v.phase c ≡ Pending → ⊥ =
+    λ e. let no : Running ≡ Pending = sym runs ∙ e in absurd (cc) in
     record {
       lives = holds.lives;
       messages = sent_phase b v.life v.halting v.known v.phase sent c new
@@ -121,7 +123,7 @@ claims b v sent m new none holds =
           (subst (λ k. AreAt v.life v.known v.phase (m ∷ sent) (slot_of k m.core) (Some m))
           (sym new.kind) (λ n e.
           let same : m ≡ n = cc in
-          subst (λ (x : MessageValue). Rattle.psci_fw_laws.specs.Outstanding.IsOfCore v.life v.known v.phase (m ∷ sent)
+          subst (λ (x : MessageValue). IsOfCore v.life v.known v.phase (m ∷ sent)
           m.core.number x) same (record {
             listed = record { index = 0; at = refl; present = new.present };
             core = refl;

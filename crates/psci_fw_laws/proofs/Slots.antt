@@ -64,7 +64,8 @@ outstanding_phase life known phase sent outstanding c new fits are = record {
 }
 
 -- what a core's slot may hold in place of what it holds
-abbrev pub AreAt : ℕ → (ℕ → ℕ) → (ℕ → Phase) → List MessageValue → Slot → Option MessageValue → Type 0
+abbrev pub AreAt : ℕ → (ℕ → ℕ) → (ℕ → Phase) → List MessageValue → Slot → Option MessageValue
+    → Type 0
 AreAt life known phase sent (OfCore c) o =
     (m : MessageValue) → o ≡ Some m → IsOfCore life known phase sent c m
 AreAt life known phase sent OfSystem o =

@@ -32,7 +32,8 @@ no_parts ps k p e i =
     absurd (cc)
 
 not_down : (k : Kind) → is_kind k Down ≡ false → k ≡ Down → ⊥
-not_down k e s = let no : is_kind Down Down ≡ false = ap (λ x. is_kind x Down) (sym s) ∙ e in absurd (cc)
+not_down k e s =
+    let no : is_kind Down Down ≡ false = ap (λ x. is_kind x Down) (sym s) ∙ e in absurd (cc)
 
 plain_parts : (k : Kind) (ps : List Part) → is_kind k Down ≡ false → ps ≡ [] → ArePartsOf k ps
 plain_parts Down ps e i = absurd (cc)

@@ -159,7 +159,8 @@ pub known_own : (b : BoardValue) (f : ℕ → ℕ) (c : ℕ) → SpanLaws b.leve
     → known_below b f 0 c ≡ f c
 unfolding known_below
 known_own b f c spans h =
-    let laws = spans.cores (record { level = 0; place = c }) (record { level = omega arith; place = h }) in
+    let laws = spans.cores (record { level = 0; place = c })
+    (record { level = omega arith; place = h }) in
     let one : (span b.levels (record { level = 0; place = c })).count ≡ 1 =
     ap (λ (s : Rattle.psci_board.specs.declared.span.CoreSpan.CoreSpan). s.count) (spans.core c) in
     let alone : below b (record { level = 0; place = c }) ≡ c ∷ [] =

@@ -1,6 +1,7 @@
 -- What an answer comes down to: what holds of the effect of each legal reply, beside the values
 -- before it.
-use Rattle.std.specs.Prelude.{◌≡◌, ◌<◌, ◌≤◌, ◌||◌, ℕ, true, false, [], slice_get, None, Some, is_some}
+use Rattle.std.specs.Prelude.{◌≡◌, ◌<◌, ◌≤◌, ◌||◌, ℕ, true, false, [], slice_get, None, Some}
+use Rattle.std.specs.Prelude.{is_some}
 use Rattle.psci_board.specs.Board.{BoardValue, cores, up}
 use Rattle.psci_coord.specs.declared.part.Part.{Part}
 use Rattle.psci_link.specs.declared.kind.Kind.TheVariants.{Down, Start}

@@ -1,6 +1,6 @@
 -- Claims: what has been asked of a domain in a life, by all messages that were sent.
-use Rattle.std.specs.Prelude.{◌≡◌, ◌<◌, ℕ, true, false, ◌⊎◌, ◌&&◌, ◌==◌, if◌then◌else◌, List, slice_get}
-use Rattle.std.specs.Prelude.{Option, None, Some}
+use Rattle.std.specs.Prelude.{◌≡◌, ◌<◌, ℕ, true, false, ◌⊎◌, ◌&&◌, ◌==◌, if◌then◌else◌, List}
+use Rattle.std.specs.Prelude.{slice_get, Option, None, Some}
 use Rattle.psci_board.specs.Board.{BoardValue, cores, has_node, up}
 use Rattle.psci_coord.specs.declared.part.Part.{Part}
 use Rattle.psci_link.specs.declared.kind.Kind.TheVariants.{Down}

@@ -17,9 +17,9 @@ abbrev pub AreNotOn : (ℕ → ℕ) → (ℕ → Status) → Type 0
 AreNotOn known status = (c : ℕ) → known c ≡ 0 → is_on (status c) ≡ false
 
 -- What is kept, said of the fields that it reads: a change of others leaves it as it is.
-pub record AreKept (b : BoardValue) (life : ℕ) (halting : Bool) (known : ℕ → ℕ) (status : ℕ → Status)
-    (phase : ℕ → Phase) (granted : ℕ → ℕ → ℕ) (outstanding : Slot → Option MessageValue)
-    (sent : List MessageValue) : Type 0 where
+pub record AreKept (b : BoardValue) (life : ℕ) (halting : Bool) (known : ℕ → ℕ)
+    (status : ℕ → Status) (phase : ℕ → Phase) (granted : ℕ → ℕ → ℕ)
+    (outstanding : Slot → Option MessageValue) (sent : List MessageValue) : Type 0 where
   -- no life is above the board's
   pub lives : life ≤ b.lives
   -- messages, claims, granted depths

@@ -1,0 +1,48 @@
+-- A function that returns changes nothing but the mode.
+use Rattle.std.proofs.Common.{ℕ, Bool, true, false, cond}
+use Rattle.std.proofs.Common.{None, Some}
+use Rattle.std.specs.Ordering.{int_eq}
+use Rattle.psci_abi.specs.Codes.{success}
+use Rattle.psci_abi.specs.declared.code.Code.{Code}
+use Rattle.psci_abi.specs.declared.request.Request.{Request}
+use Rattle.psci_abi.specs.declared.request.Request.TheVariants as requests
+use Rattle.psci_board.specs.Board.{BoardValue}
+use Rattle.psci_fw_model.specs.declared.outcome.Act.TheVariants as acts
+use Rattle.psci_fw_model.specs.declared.outcome.Outcome.{Outcome}
+use Rattle.psci_fw_model.specs.Effects.{Effect, GoesOn, function_effect}
+use Rattle.psci_fw_model.specs.Effects.{mode_effect}
+use Rattle.psci_fw_model.specs.SuspendMode.{mode_of}
+use Rattle.psci_fw_model.specs.Values.{Values}
+use Rattle.psci_fw_laws.specs.Allowed.{IsAllowed, IsCalling}
+use Rattle.psci_fw_laws.proofs.Allowing.{Allows}
+
+-- what a function comes down to that ended so
+abbrev pub outcome_effect : BoardValue → ℕ → Request → Outcome → Effect
+outcome_effect b c r o = function_effect b c r o.act o.message
+
+-- Functions that return ------------------------------------------------------------------------
+
+mode_allowed : (b : BoardValue) (v : Values) (c number : ℕ) (t : Bool) → IsCalling b v c
+    → Allows b v (cond t (mode_effect c (mode_of number)) (GoesOn c))
+mode_allowed b v c number true calls are = by_mode (mode_of number)
+  where
+    by_mode : (o : _) → IsAllowed b v (mode_effect c o)
+    by_mode None = calls
+    by_mode (Some mode) = calls
+mode_allowed b v c number false calls are = calls
+
+pub returned : (b : BoardValue) (v : Values) (c : ℕ) (r : Request) (code : Code) → IsCalling b v c
+    → Allows b v (function_effect b c r (acts.Return code) None)
+returned b v c requests.Version code calls are = calls
+returned b v c (requests.CpuSuspend state entry_point context) code calls are = calls
+returned b v c requests.CpuOff code calls are = calls
+returned b v c (requests.CpuOn target entry_point context) code calls are = calls
+returned b v c (requests.AffinityInfo target level) code calls are = calls
+returned b v c requests.MigrateInfoType code calls are = calls
+returned b v c requests.SystemOff code calls are = calls
+returned b v c requests.SystemReset code calls are = calls
+returned b v c (requests.Features word) code calls are = calls
+returned b v c (requests.SystemSuspend entry_point context) code calls are = calls
+returned b v c (requests.SetSuspendMode number) code calls are =
+    mode_allowed b v c number (int_eq code.0 success.0) calls are
+returned b v c requests.Unknown code calls are = calls

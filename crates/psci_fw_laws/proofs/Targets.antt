@@ -1,0 +1,98 @@
+-- The target of an accepted CPU_ON is a core of the board that is off.
+use Rattle.std.proofs.Common.{◌≡◌, ℕ, Bool, true, false, cond, ◌==◌}
+use Rattle.std.proofs.Common.{Option, None, Some, Ok, Err, refl, arith, subst}
+use Rattle.std.specs.Prelude.{Result}
+use Rattle.std.proofs.lemmas.Bool.{eqb-false}
+use Rattle.psci_abi.specs.declared.code.Code.{Code}
+use Rattle.psci_abi.specs.declared.request.Request.TheVariants as requests
+use Rattle.psci_board.specs.Board.{BoardValue, core_of, may_enter}
+use Rattle.psci_board.specs.declared.node.Core.{Core}
+use Rattle.psci_fw_model.specs.declared.status.Status.{Status}
+use Rattle.psci_fw_model.specs.declared.status.Status.TheVariants as statuses
+use Rattle.psci_fw_model.specs.CpuOn.{off_target, started, target_among, target_of}
+use Rattle.psci_fw_model.specs.Invariant.{agrees}
+use Rattle.psci_fw_model.specs.Phases.{Phase, Away, Pending, Running, Suspended}
+use Rattle.psci_fw_model.specs.Values.{Values}
+use Rattle.psci_fw_laws.specs.Allowed.{IsCalling}
+use Rattle.psci_fw_laws.proofs.Allowing.{Allows, IsReady}
+use Rattle.psci_fw_laws.proofs.Lower.{LowerLaws}
+use Rattle.psci_fw_laws.proofs.Returning.{outcome_effect, returned}
+
+-- CPU_ON --------------------------------------------------------------------------------------
+
+-- The core that an accepted CPU_ON starts.
+record IsTarget (b : BoardValue) (v : Values) (word : ℕ) (t : Core) : Type 0 where
+  pub named : core_of b word ≡ Some t
+  pub off : v.status t.number ≡ statuses.Off
+  pub room : (v.known t.number == b.starts) ≡ false
+
+target_if : (b : BoardValue) (v : Values) (word : ℕ) (code : Code) (k t : Core) (full : Bool)
+    → core_of b word ≡ Some k → v.status k.number ≡ statuses.Off
+    → (v.known k.number == b.starts) ≡ full
+    → cond full (Err code) (Ok k) ≡ Ok t → IsTarget b v word t
+target_if b v word code k t true named off room e = absurd (cc)
+target_if b v word code k t false named off room e =
+    let same : k ≡ t = cc in
+    subst (IsTarget b v word) same (record { named = named; off = off; room = room })
+
+target_by : (b : BoardValue) (v : Values) (word : ℕ) (k t : Core) (s : Status)
+    → core_of b word ≡ Some k → v.status k.number ≡ s → off_target b v k s ≡ Ok t
+    → IsTarget b v word t
+target_by b v word k t statuses.On named is e = absurd (cc)
+target_by b v word k t statuses.Pending named is e = absurd (cc)
+target_by b v word k t statuses.Off named is e =
+    target_if b v word _ k t (v.known k.number == b.starts) named is refl e
+
+target_may : (b : BoardValue) (v : Values) (word : ℕ) (k t : Core) (code : Code) (may : Bool)
+    → core_of b word ≡ Some k
+    → cond may (off_target b v k (v.status k.number)) (Err code) ≡ Ok t → IsTarget b v word t
+target_may b v word k t code true named e = target_by b v word k t (v.status k.number) named refl e
+target_may b v word k t code false named e = absurd (cc)
+
+target_is : (b : BoardValue) (v : Values) (word entry_point : ℕ) (t : Core) (o : Option Core)
+    → core_of b word ≡ o → target_among b v entry_point o ≡ Ok t → IsTarget b v word t
+target_is b v word entry_point t None named e = absurd (cc)
+target_is b v word entry_point t (Some k) named e =
+    target_may b v word k t _ (may_enter b entry_point) named e
+
+target_found : (b : BoardValue) (v : Values) (word entry_point : ℕ) (t : Core)
+    → target_of b v word entry_point ≡ Ok t → IsTarget b v word t
+unfolding target_of
+target_found b v word entry_point t e =
+    target_is b v word entry_point t (core_of b word) refl e
+
+off_is_away : (s : Status) (p : Phase) → agrees s p ≡ true → s ≡ statuses.Off → p ≡ Away
+off_is_away statuses.On p e f = absurd (cc)
+off_is_away statuses.Pending p e f = absurd (cc)
+off_is_away statuses.Off Pending e f = absurd (cc)
+off_is_away statuses.Off Running e f = absurd (cc)
+off_is_away statuses.Off (Suspended ask) e f = absurd (cc)
+off_is_away statuses.Off Away e f = refl
+
+pub on_allowed : (b : BoardValue) (v : Values) (c word entry_point context : ℕ)
+    (r : Result Core Code) → LowerLaws b → IsReady b v → IsCalling b v c → v.halting ≡ false
+    → target_of b v word entry_point ≡ r
+    → Allows b v (outcome_effect b c (requests.CpuOn word entry_point context) (started v r))
+on_allowed b v c word entry_point context (Err code) laws ready calls awake e are =
+    returned b v c (requests.CpuOn word entry_point context) code calls are
+on_allowed b v c word entry_point context (Ok t) laws ready calls awake e are =
+    let target = target_found b v word entry_point t e in
+    let limit = ready.values.known t.number in
+    record {
+      calls = calls;
+      awake = awake;
+      off = target.off;
+      away = off_is_away (v.status t.number) (v.phase t.number) (ready.values.agree t.number)
+          target.off;
+      plain = record {
+        life = calls.begun;
+        present = refl;
+        core = laws.words.core word t target.named;
+        number = refl;
+        limit = limit;
+        parts = refl;
+        other = refl;
+      };
+      kind = refl;
+      room = omega (arith, limit, eqb-false _ _ target.room);
+    }

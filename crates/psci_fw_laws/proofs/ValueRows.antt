@@ -1,0 +1,121 @@
+-- Worked examples: granted depths, pending cores, what is outstanding, and limits.
+use Rattle.std.proofs.Common.{◌≡◌, List, [], ◌∷◌, true, None, Some, refl}
+use Rattle.psci_board.specs.Board.{core_of, up}
+use Rattle.psci_coord.specs.Claim.{claim_of}
+use Rattle.psci_coord.specs.View.{generation, least_ask}
+use Rattle.psci_link.specs.declared.kind.Kind.TheVariants.{Down, Start, Off}
+use Rattle.psci_link.specs.Outstanding.{changes_since, last_message, outstanding}
+use Rattle.psci_link.specs.Slots.{OfCore, OfSystem}
+use Rattle.psci_fw_model.specs.declared.status.Status.TheVariants as statuses
+use Rattle.psci_fw_model.specs.Answer.{answer}
+use Rattle.psci_fw_model.specs.Calls.{outcome_of}
+use Rattle.psci_fw_model.specs.Claims.{off_parts}
+use Rattle.psci_fw_model.specs.CpuOn.{target_of}
+use Rattle.psci_fw_model.specs.Entering.{enter_outcome}
+use Rattle.psci_fw_model.specs.History.{values_of}
+use Rattle.psci_fw_model.specs.Phases.{Pending, Away}
+use Rattle.psci_fw_model.specs.Values.{Values}
+use Rattle.psci_fw_model.specs.Views.{view}
+use Rattle.psci_fw_laws.specs.KnownBelow.{known_below}
+use Rattle.psci_fw_laws.proofs.Calls.{Step, board, enter, history_of, message, off, on_3, part, smc}
+use Rattle.psci_fw_laws.proofs.Calls.{take}
+
+-- the values after these calls
+abbrev after_calls : List Step → Values
+after_calls steps = values_of board (history_of board steps)
+
+-- Granted depths ------------------------------------------------------------------------------
+
+-- core 3 goes off: its cluster, the other core of which was never started, is granted power-down
+cluster_granted : (after_calls (enter 0 1 1 ∷ on_3 ∷ enter 3 1 1 ∷ off 3 ∷ [])).granted 1 1 ≡ 3
+unfolding answer values_of outcome_of enter_outcome target_of core_of off_parts view up claim_of
+    least_ask generation outstanding last_message changes_since
+cluster_granted = refl
+
+-- it is asked on again: the claim is current still, and nothing is granted
+abbrev asked_again : List Step
+asked_again = enter 0 1 1 ∷ on_3 ∷ enter 3 1 1 ∷ off 3 ∷ take Down 3 1 1 2 ∷ on_3 ∷ []
+
+again_current : known_below board (after_calls asked_again).known 1 1 ≡ 1
+unfolding answer values_of outcome_of enter_outcome target_of core_of off_parts view up claim_of
+    least_ask generation outstanding last_message changes_since known_below
+again_current = refl
+
+again_not_granted : (after_calls asked_again).granted 1 1 ≡ 0
+unfolding answer values_of outcome_of enter_outcome target_of core_of off_parts view up claim_of
+    least_ask generation outstanding last_message changes_since
+again_not_granted = refl
+
+again_pending : (after_calls asked_again).phase 3 ≡ Pending
+unfolding answer values_of outcome_of enter_outcome target_of core_of off_parts view up claim_of
+    least_ask generation outstanding last_message changes_since
+again_pending = refl
+
+-- Cores that have not entered -----------------------------------------------------------------
+
+-- a core that was asked on has no known start before it enters, and one that was not is away
+asked_unknown : (after_calls (enter 0 1 1 ∷ on_3 ∷ [])).known 3 ≡ 0
+unfolding answer values_of outcome_of enter_outcome target_of core_of outstanding last_message
+    changes_since
+asked_unknown = refl
+
+asked_not_on : (after_calls (enter 0 1 1 ∷ on_3 ∷ [])).status 3 ≡ statuses.Pending
+unfolding answer values_of outcome_of enter_outcome target_of core_of outstanding last_message
+    changes_since
+asked_not_on = refl
+
+beside_away : (after_calls (enter 0 1 1 ∷ on_3 ∷ [])).phase 2 ≡ Away
+unfolding answer values_of outcome_of enter_outcome target_of core_of outstanding last_message
+    changes_since
+beside_away = refl
+
+-- Outstanding ---------------------------------------------------------------------------------
+
+-- a Start while the core is pending, nothing once it has entered, a Down when it has stopped
+start_waits : (after_calls (enter 0 1 1 ∷ on_3 ∷ [])).outstanding (OfCore 3)
+    ≡ Some (message Start 3 1 0 [])
+unfolding answer values_of outcome_of enter_outcome target_of core_of outstanding last_message
+    changes_since
+start_waits = refl
+
+entered_waits : (after_calls (enter 0 1 1 ∷ on_3 ∷ enter 3 1 1 ∷ [])).outstanding (OfCore 3) ≡ None
+unfolding answer values_of outcome_of enter_outcome target_of core_of outstanding last_message
+    changes_since
+entered_waits = refl
+
+down_waits : (after_calls (enter 0 1 1 ∷ on_3 ∷ enter 3 1 1 ∷ off 3 ∷ [])).outstanding (OfCore 3)
+    ≡ Some (message Down 3 1 1 (part 0 3 1 ∷ part 1 3 1 ∷ []))
+unfolding answer values_of outcome_of enter_outcome target_of core_of off_parts view up claim_of
+    least_ask generation outstanding last_message changes_since
+down_waits = refl
+
+-- an Off for the system, in a life that is halting then
+off_waits : (after_calls (enter 0 1 1 ∷ smc 0 0x84000008 0 0 0 ∷ [])).outstanding OfSystem
+    ≡ Some (message Off 0 1 1 [])
+unfolding answer values_of outcome_of enter_outcome outstanding last_message changes_since
+off_waits = refl
+
+off_halts : (after_calls (enter 0 1 1 ∷ smc 0 0x84000008 0 0 0 ∷ [])).halting ≡ true
+unfolding answer values_of outcome_of enter_outcome outstanding last_message changes_since
+off_halts = refl
+
+-- Later lives ---------------------------------------------------------------------------------
+
+-- core 3 has gone off in the first life; the boot core's next life knows nothing of it
+abbrev next_life : List Step
+next_life = enter 0 1 1 ∷ on_3 ∷ enter 3 1 1 ∷ off 3 ∷ enter 0 2 1 ∷ []
+
+next_unknown : (after_calls next_life).known 3 ≡ 0
+unfolding answer values_of outcome_of enter_outcome target_of core_of off_parts view up claim_of
+    least_ask generation outstanding last_message changes_since
+next_unknown = refl
+
+next_nothing_waits : (after_calls next_life).outstanding (OfCore 3) ≡ None
+unfolding answer values_of outcome_of enter_outcome target_of core_of off_parts view up claim_of
+    least_ask generation outstanding last_message changes_since
+next_nothing_waits = refl
+
+next_granted : (after_calls next_life).granted 1 1 ≡ 3
+unfolding answer values_of outcome_of enter_outcome target_of core_of off_parts view up claim_of
+    least_ask generation outstanding last_message changes_since
+next_granted = refl
