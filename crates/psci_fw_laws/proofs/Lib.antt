@@ -10,6 +10,7 @@ pub mod Granting
 pub mod Histories
 pub mod Lower
 pub mod Made
+pub mod Moments
 pub mod Older
 pub mod Parts
 pub mod Resting

@@ -31,7 +31,7 @@ no_parts ps k p e i =
     let no : slice_get {X = Part} [] k ≡ Some p = ap (λ xs. slice_get xs k) (sym e) ∙ i in
     absurd (cc)
 
-not_down : (k : Kind) → is_kind k Down ≡ false → k ≡ Down → ⊥
+pub not_down : (k : Kind) → is_kind k Down ≡ false → k ≡ Down → ⊥
 not_down k e s =
     let no : is_kind Down Down ≡ false = ap (λ x. is_kind x Down) (sym s) ∙ e in absurd (cc)
 

@@ -1,9 +1,13 @@
 -- What was asked when a Down was sent.
-use Rattle.std.specs.Prelude.{◌≡◌, ◌<◌, ◌≤◌, ℕ, slice_get, Some}
+use Rattle.std.specs.Prelude.{◌≡◌, ◌<◌, ◌≤◌, ◌++◌, ℕ, List, ◌∷◌, slice_get, Some}
 use Rattle.psci_board.specs.Board.{BoardValue, cores, up}
 use Rattle.psci_coord.specs.declared.part.Part.{Part}
 use Rattle.psci_link.specs.Message.{MessageValue}
 use Rattle.psci_fw_model.specs.declared.mode.SuspendMode.TheVariants.{Platform}
+use Rattle.psci_fw_model.specs.Entry.{Entry, effect}
+use Rattle.psci_fw_model.specs.History.{values_of}
+use Rattle.psci_fw_model.specs.Legal.{IsLegal}
+use Rattle.psci_fw_model.specs.Said.{sent}
 use Rattle.psci_fw_model.specs.Values.{Values}
 use Rattle.psci_fw_model.specs.Views.{ask}
 
@@ -20,3 +24,14 @@ pub record IsAskedFor (b : BoardValue) (v : Values) (m : MessageValue) : Type 0 
   pub least : v.mode ≡ Platform → (level c : ℕ) (p : Part) → slice_get m.parts level ≡ Some p
       → c < cores b → up b level c ≡ up b level m.core.number
       → p.depth ≤ ask b v c level
+
+-- A Down of a history was asked for when it was sent.
+pub record WasAsked (b : BoardValue) (h : List Entry) (m : MessageValue) : Type 0 where
+  -- the entry that sent it, with those since then and those before
+  pub since : List Entry
+  pub entry : Entry
+  pub before : List Entry
+  pub parts : since ++ (entry ∷ before) ≡ h
+  pub legal : IsLegal b (entry ∷ before)
+  pub sent : sent (effect b entry) ≡ Some m
+  pub asked : IsAskedFor b (values_of b (entry ∷ before)) m

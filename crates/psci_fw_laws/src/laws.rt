@@ -16,6 +16,7 @@ ghost use Rattle.psci_fw_model.specs.Phases.{Pending, Running};
 ghost use Rattle.psci_fw_model.specs.Sent.{sent_messages};
 ghost use Rattle.psci_fw_model.specs.Values.{Values};
 ghost use Rattle.psci_fw_model.specs.Views.{ask, view};
+ghost use Rattle.psci_fw_laws.specs.Asked.{WasAsked};
 ghost use Rattle.psci_fw_laws.specs.Claims.{AreApart, AreQuiet, IsClaimOn, IsCurrent, part_for};
 ghost use Rattle.psci_fw_laws.specs.Entered.{AreEntered};
 ghost use Rattle.psci_fw_laws.specs.Granted.{AreGranted, HasDeeper, NonePending};
@@ -62,6 +63,17 @@ pub fn law_claimed()
         → p.generation ≤ known_below b v.known level place }
     ensures quiet { (b : BoardValue) (h : List Entry) → IsBoard b → IsLegal b h
         → let v = values_of b h in AreQuiet b v.life v.known v.phase (sent_messages b h) }
+{
+    law_kept();
+}
+
+/// When a Down was sent, no part of it was deeper than what its sender then asked of the domain,
+/// nor than what each core below asked of itself, nor, in platform-coordinated mode, than what each
+/// core below asked of the domain.
+pub fn law_asked()
+    ensures { (b : BoardValue) (h : List Entry) → IsBoard b → IsLegal b h
+        → (k : ℕ) (m : MessageValue) → slice_get (sent_messages b h) k ≡ Some m → m.kind ≡ Down
+        → WasAsked b h m }
 {
     law_kept();
 }
