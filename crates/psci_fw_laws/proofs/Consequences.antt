@@ -187,7 +187,7 @@ pub same_generation : (b : BoardValue) (v : Values) (n : Node)
 unfolding generation view known_below
 same_generation b v n = refl
 
-equal_each : (b : BoardValue) (f g : ℕ → ℕ) (level place c : ℕ)
+pub equal_each : (b : BoardValue) (f g : ℕ → ℕ) (level place c : ℕ)
     → ((x : ℕ) → x < cores b → up b level x ≡ place → f x ≤ g x)
     → known_below b f level place ≡ known_below b g level place → c < cores b
     → up b level c ≡ place → f c ≡ g c

@@ -8,6 +8,7 @@ pub mod Entries
 pub mod Functions
 pub mod Granting
 pub mod Histories
+pub mod Living
 pub mod Lower
 pub mod Made
 pub mod Moments

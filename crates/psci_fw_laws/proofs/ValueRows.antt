@@ -2,23 +2,25 @@
 use Rattle.std.proofs.Common.{◌≡◌, List, [], ◌∷◌, true, None, Some, refl}
 use Rattle.psci_board.specs.Board.{core_of, up}
 use Rattle.psci_coord.specs.Claim.{claim_of}
-use Rattle.psci_coord.specs.View.{generation, least_ask}
+use Rattle.psci_coord.specs.LastCore.{last_core_check, refusal, shallow, shallow_at}
+use Rattle.psci_coord.specs.View.{generation, is_idle, least_ask}
+use Rattle.psci_fw_model.specs.Claims.{off_parts, suspend_parts}
+use Rattle.psci_fw_model.specs.Views.{ask, view}
 use Rattle.psci_link.specs.declared.kind.Kind.TheVariants.{Down, Start, Off}
 use Rattle.psci_link.specs.Outstanding.{changes_since, last_message, outstanding}
 use Rattle.psci_link.specs.Slots.{OfCore, OfSystem}
 use Rattle.psci_fw_model.specs.declared.status.Status.TheVariants as statuses
 use Rattle.psci_fw_model.specs.Answer.{answer}
 use Rattle.psci_fw_model.specs.Calls.{outcome_of}
-use Rattle.psci_fw_model.specs.Claims.{off_parts}
 use Rattle.psci_fw_model.specs.CpuOn.{target_of}
 use Rattle.psci_fw_model.specs.Entering.{enter_outcome}
 use Rattle.psci_fw_model.specs.History.{values_of}
 use Rattle.psci_fw_model.specs.Phases.{Pending, Away}
 use Rattle.psci_fw_model.specs.Values.{Values}
-use Rattle.psci_fw_model.specs.Views.{view}
 use Rattle.psci_fw_laws.specs.KnownBelow.{known_below}
 use Rattle.psci_fw_laws.proofs.Calls.{Step, board, enter, history_of, message, off, on_3, part, smc}
 use Rattle.psci_fw_laws.proofs.Calls.{take}
+use Rattle.psci_fw_laws.proofs.Calls.{suspend}
 
 -- the values after these calls
 abbrev after_calls : List Step → Values
@@ -119,3 +121,48 @@ next_granted : (after_calls next_life).granted 1 1 ≡ 3
 unfolding answer values_of outcome_of enter_outcome target_of core_of off_parts view up claim_of
     least_ask generation outstanding last_message changes_since
 next_granted = refl
+
+-- Where a law has an exception -----------------------------------------------------------------
+
+-- in a halting life a core that enters and stops has no opening left, and is pending still
+abbrev ceased : List Step
+ceased = enter 0 1 1 ∷ on_3 ∷ smc 0 0x84000008 0 0 0 ∷ enter 3 1 1 ∷ []
+
+ceased_pending : (after_calls ceased).phase 3 ≡ Pending
+unfolding answer values_of outcome_of enter_outcome target_of core_of outstanding last_message
+    changes_since
+ceased_pending = refl
+
+ceased_without_opening : (after_calls ceased).opening 3 ≡ None
+unfolding answer values_of outcome_of enter_outcome target_of core_of outstanding last_message
+    changes_since
+ceased_without_opening = refl
+
+-- a core that was asked on again asks nothing, although its last Down has its known start
+again_asks_nothing : ask board (after_calls asked_again) 3 0 ≡ 0
+unfolding answer values_of outcome_of enter_outcome target_of core_of off_parts view up claim_of
+    least_ask generation outstanding last_message changes_since
+again_asks_nothing = refl
+
+-- in OS-initiated mode core 2 asks nothing of its cluster, and core 3 takes the cluster down
+abbrev last_core : List Step
+last_core = enter 0 1 1 ∷ smc 0 0x8400000f 1 0 0 ∷ smc 0 0xc4000003 0x100 0x40002000 0 ∷ on_3
+    ∷ enter 2 1 1 ∷ enter 3 1 1 ∷ smc 2 0xc4000001 0x00010003 0x40000100 0 ∷ suspend 3 ∷ []
+
+last_core_granted : (after_calls last_core).granted 1 1 ≡ 3
+unfolding answer values_of outcome_of enter_outcome target_of core_of suspend_parts view up
+    claim_of last_core_check refusal shallow shallow_at is_idle generation outstanding
+    last_message changes_since
+last_core_granted = refl
+
+last_core_beside : ask board (after_calls last_core) 2 1 ≡ 0
+unfolding answer values_of outcome_of enter_outcome target_of core_of suspend_parts view up
+    claim_of last_core_check refusal shallow shallow_at is_idle generation outstanding
+    last_message changes_since
+last_core_beside = refl
+
+last_core_beside_itself : ask board (after_calls last_core) 2 0 ≡ 3
+unfolding answer values_of outcome_of enter_outcome target_of core_of suspend_parts view up
+    claim_of last_core_check refusal shallow shallow_at is_idle generation outstanding
+    last_message changes_since
+last_core_beside_itself = refl

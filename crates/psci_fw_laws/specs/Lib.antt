@@ -5,6 +5,7 @@ pub mod Entered
 pub mod Granted
 pub mod Kept
 pub mod KnownBelow
+pub mod Live
 pub mod Messages
 pub mod Outstanding
 pub mod Within

@@ -21,6 +21,7 @@ ghost use Rattle.psci_fw_laws.specs.Claims.{AreApart, AreQuiet, IsClaimOn, IsCur
 ghost use Rattle.psci_fw_laws.specs.Entered.{AreEntered};
 ghost use Rattle.psci_fw_laws.specs.Granted.{AreGranted, HasDeeper, NonePending};
 ghost use Rattle.psci_fw_laws.specs.KnownBelow.{KnownLaws, known_below};
+ghost use Rattle.psci_fw_laws.specs.Live.{AreLive};
 ghost use Rattle.psci_fw_laws.specs.Messages.{AreSent};
 ghost use Rattle.psci_fw_laws.specs.Outstanding.{AreOutstanding};
 ghost use Rattle.psci_fw_laws.specs.Within.{AreWithin};
@@ -65,6 +66,18 @@ pub fn law_claimed()
         → let v = values_of b h in AreQuiet b v.life v.known v.phase (sent_messages b h) }
 {
     law_kept();
+}
+
+/// A claim whose generation is the sum of the starts below, of which the firmware may not know all
+/// yet, is current: each core below has entered by its last start, and none runs. Where a part of a
+/// message has that generation, so has the part below it.
+pub fn law_live()
+    ensures { (b : BoardValue) (h : List Entry) → IsBoard b → IsLegal b h
+        → let v = values_of b h in (starts : ℕ → ℕ) → ((c : ℕ) → v.known c ≤ starts c)
+        → AreLive b v.life v.known v.phase (sent_messages b h) starts }
+{
+    law_kept();
+    law_paths();
 }
 
 /// When a Down was sent, no part of it was deeper than what its sender then asked of the domain,

@@ -13,6 +13,6 @@ mod laws;
 
 pub use kept::law_kept;
 pub use laws::{
-    law_asked, law_claimed, law_entered, law_granted, law_known_below, law_messages, law_numbers,
-    law_openings, law_outstanding,
+    law_asked, law_claimed, law_entered, law_granted, law_known_below, law_live, law_messages,
+    law_numbers, law_openings, law_outstanding,
 };
