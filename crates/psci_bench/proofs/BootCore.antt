@@ -53,7 +53,8 @@ pub record Laws : Type 0 where
       → (after b c (calls.Enter s) (Out o) v).life ≡ s.life
   -- the values are such as a firmware keeps
   pub start_values : (b : BoardValue) (life : ℕ) → IsBoard b → AreValues b (start_of_life b life)
-  pub answer_values : (b : BoardValue) (v : Values) (c : ℕ) (call : FwCall) → IsBoard b → AreValues b v
+  pub answer_values : (b : BoardValue) (v : Values) (c : ℕ) (call : FwCall) → IsBoard b
+      → AreValues b v
       → AreValues b (after b c call (answer b v c call) v)
 
 -- the boot core runs, in a life, and the values are such as a firmware keeps

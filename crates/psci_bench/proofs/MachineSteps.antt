@@ -134,7 +134,8 @@ count_small : (m : Option MessageValue) → count_of m ≤ 1
 count_small None = omega arith
 count_small (Some m) = omega arith
 
-message_kept : (n : ℕ) (m : Option MessageValue) → option_map (λ (s : Sent). s.message) (sent_as n m) ≡ m
+message_kept : (n : ℕ) (m : Option MessageValue)
+    → option_map (λ (s : Sent). s.message) (sent_as n m) ≡ m
 message_kept n None = refl
 message_kept n (Some m) = refl
 

@@ -85,7 +85,8 @@ first_is_on : (b : BoardValue) (c : ℕ) → nat_lt c (cores b) ≡ true → 0 �
 first_is_on b c on e = let on_board : c < cores b = grind (arith, nat_tests) in omega (arith, e)
 
 called_at : Laws → (b : BoardValue) (past : List Record) (c : ℕ) (regs : Regs) → IsBoard b
-    → Settled b past → nat_lt c (cores b) ≡ true → happens (place past c) (Call c regs) ≡ true → 0 ≡ c
+    → Settled b past → nat_lt c (cores b) ≡ true → happens (place past c) (Call c regs) ≡ true
+    → 0 ≡ c
     → Answered b c (Call c regs) (values_of b (history past))
 called_at laws b past c regs board s on h e =
     subst (λ (k : ℕ). Answered b k (Call k regs) (values_of b (history past))) e

@@ -67,7 +67,7 @@ pub last_core_off_ignored_absent : transcript legal
     (text (board ∷ codes "enter 0" ∷ codes "call 0 0x84000002" ∷ codes "call 3 0x84000000" ∷
     codes "enter 3" ∷ codes "enter 9" ∷ []))
     ≡ record {
-      text = text (codes "1 enter 0x40000000 0x0" ∷ 
+      text = text (codes "1 enter 0x40000000 0x0" ∷
           codes "2 stop #0 down 0 life 1 number 1 parts 0:3:1 1:3:1 2:3:1" ∷ codes "3 ignored" ∷
           codes "4 ignored" ∷ codes "5 absent" ∷ []);
       end = Ok (record { lines = 6; events = 5 });

@@ -166,7 +166,8 @@ impl Controller {
     #[tactic(auto, unfolding(psci_ctl_model::specs::Changes::after, psci_ctl_model::specs::Effects::effect_of, psci_ctl_model::specs::Replies::reply, psci_ctl_model::specs::Replies::reset_of))]
     pub fn reset(&mut self, core: Core) -> Kick
         requires { core.number < cores self.old.board }
-        ensures reply { replies.Kick result ≡ reply self.old.board (seen self.old) (calls.Reset core) }
+        ensures reply { replies.Kick result
+            ≡ reply self.old.board (seen self.old) (calls.Reset core) }
         ensures after { seen self.new ≡ after self.old.board (calls.Reset core)
             (replies.Kick result) (seen self.old) }
         ensures board { self.new.board ≡ self.old.board }

@@ -44,7 +44,8 @@ kick_effect c cause kicks.Ignored = Nothing
 
 -- what a call with this reply comes down to
 unfoldable pub effect_of : BoardValue → CtlCall → CtlReply → Effect
-effect_of b (calls.Deliver m) (replies.Delivery (deliveries.Applied a)) = message_effect b m a m.kind
+effect_of b (calls.Deliver m) (replies.Delivery (deliveries.Applied a)) =
+    message_effect b m a m.kind
 effect_of b (calls.Deliver m) (replies.Delivery deliveries.Ignored) = Nothing
 effect_of b (calls.Deliver m) (replies.Kick k) = Nothing
 effect_of b (calls.Wake core halted) (replies.Delivery d) = Nothing

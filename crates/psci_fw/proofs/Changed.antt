@@ -17,7 +17,8 @@ use Rattle.psci_fw_model.specs.Phases as phases
 use Rattle.psci_fw_model.specs.Values.{Values, updated}
 use Rattle.psci_fw.specs.declared.row.CoreRow.{CoreRow}
 use Rattle.psci_fw.specs.Rows.{off_row, row_at}
-use Rattle.psci_fw.specs.Seen.{IsState, IsStateOf, StateValue, is_pending_phase, phase_by, values_in}
+use Rattle.psci_fw.specs.Seen.{IsState, IsStateOf, StateValue, is_pending_phase, phase_by}
+use Rattle.psci_fw.specs.Seen.{values_in}
 
 -- Equal values ----------------------------------------------------------------------------------
 

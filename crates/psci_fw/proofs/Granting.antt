@@ -1,10 +1,12 @@
 -- Parts are granted one after another, from the core up.
 use Rattle.std.proofs.Common.{◌≡◌, ℕ, ◌+◌, ◌-◌, ◌<◌, ◌≤◌, ◌==◌, ◌&&◌, Bool, true, false, cond}
-use Rattle.std.proofs.Common.{List, length, drop, get_or, slice_get, Some, Option, refl, sym, subst, ◌∙◌}
+use Rattle.std.proofs.Common.{List, length, drop, get_or, slice_get, Some, Option}
+use Rattle.std.proofs.Common.{refl, sym, subst, ◌∙◌}
 use Rattle.std.proofs.Common.{ap, arith, inl, inr, add-one}
 use Rattle.std.proofs.lemmas.Bool.{cases_lt}
 use Rattle.std.proofs.lemmas.Option.{get_or_from_slice_get, slice_get_past}
-use Rattle.psci_board.specs.Board.{BoardValue, HasNodeIn, cores, height, path, place_above, size_below}
+use Rattle.psci_board.specs.Board.{BoardValue, HasNodeIn, cores, height, path, place_above}
+use Rattle.psci_board.specs.Board.{size_below}
 use Rattle.psci_board.specs.Board.{up}
 use Rattle.psci_board.specs.Laws.{PathLaws}
 use Rattle.psci_board.specs.declared.node.Node.{Node}

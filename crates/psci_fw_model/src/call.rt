@@ -2,8 +2,8 @@
 
 ghost use Rattle.std.specs.Prelude.{◌≡◌};
 
-use psci_ctl_model::Start;
 use psci_abi::Regs;
+use psci_ctl_model::Start;
 use psci_link::Ack;
 
 /// What is asked of the firmware.
