@@ -17,7 +17,8 @@ use Rattle.psci_fw_model.specs.Phases as phases
 use Rattle.psci_fw_model.specs.Values.{Values, updated}
 use Rattle.psci_fw.specs.declared.row.CoreRow.{CoreRow}
 use Rattle.psci_fw.specs.Rows.{off_row, row_at}
-use Rattle.psci_fw.specs.Seen.{IsState, IsStateOf, StateValue, is_pending_phase, phase_by, values_in}
+use Rattle.psci_fw.specs.Seen.{IsState, IsStateOf, StateValue, is_pending_phase, phase_by}
+use Rattle.psci_fw.specs.Seen.{values_in}
 
 -- Equal values ----------------------------------------------------------------------------------
 
@@ -105,7 +106,8 @@ row_set rows c r inside = record {
 }
 
 -- a function of a core's state and row
-pub both_set : {A B C : Type 0} (f : A → B → C) (a a' : ℕ → A) (b b' : ℕ → B) (c : ℕ) (x : A) (y : B)
+pub both_set : {A B C : Type 0} (f : A → B → C) (a a' : ℕ → A) (b b' : ℕ → B) (c : ℕ) (x : A)
+    (y : B)
     → Set a a' c x → Set b b' c y → Set (λ k. f (a k) (b k)) (λ k. f (a' k) (b' k)) c (f x y)
 both_set f a a' b b' c x y s t = record {
   here = rw (s.here, t.here) refl;

@@ -71,8 +71,8 @@ impl Firmware {
         Ok(dispatch(&self.board, &mut self.state, core, read(regs)))
     }
 
-    /// A core enters by this start: it goes on at its opening, resumes after a suspend in standby or
-    /// retention that the very next start wakes it from, or parks. In a halting life it stops. A
+    /// A core enters by this start: it goes on at its opening, resumes after a suspend in standby
+    /// or retention that the very next start wakes it from, or parks. In a halting life it stops. A
     /// start of a later life than the firmware's begins that life first.
     ///
     /// Refused with NoCore where the board has no such core, NoLife where it has no such life, and

@@ -50,7 +50,8 @@ impl Model for State {
 ghost use Rattle.std.specs.Prelude.{◌≡◌, IfOk, option_map};
 ghost use Rattle.psci_fw_model.specs.Lives.{start_of_life};
 ghost use Rattle.psci_fw_model.specs.Phases.{is_away, is_light, is_running, is_waiting};
-ghost use Rattle.psci_fw.specs.Seen.{IsState, IsStateOf, is_pending_phase, message_shown, values_in};
+ghost use Rattle.psci_fw.specs.Seen.{IsState, IsStateOf, is_pending_phase, message_shown};
+ghost use Rattle.psci_fw.specs.Seen.{values_in};
 
 impl State {
     /// The state of this board's firmware before any core has entered.
