@@ -198,7 +198,8 @@ pub none_in : (n : ℕ) (slot : Slot) → message_in (no_messages n) slot ≡ No
 none_in n OfSystem = refl
 none_in n (OfCore c) = elim (cases_lt c n) [
   | inl h ↦ get_or-replicate n c None None h
-  | inr h ↦ get_or_past (replicate n None) c None (omega (arith, length-replicate {A = Option MessageValue} n None))
+  | inr h ↦ get_or_past (replicate n None) c None
+      (omega (arith, length-replicate {A = Option MessageValue} n None))
 ]
 
 -- a life that is not the firmware's begins

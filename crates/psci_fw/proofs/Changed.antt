@@ -106,7 +106,8 @@ row_set rows c r inside = record {
 }
 
 -- a function of a core's state and row
-pub both_set : {A B C : Type 0} (f : A → B → C) (a a' : ℕ → A) (b b' : ℕ → B) (c : ℕ) (x : A) (y : B)
+pub both_set : {A B C : Type 0} (f : A → B → C) (a a' : ℕ → A) (b b' : ℕ → B) (c : ℕ) (x : A)
+    (y : B)
     → Set a a' c x → Set b b' c y → Set (λ k. f (a k) (b k)) (λ k. f (a' k) (b' k)) c (f x y)
 both_set f a a' b b' c x y s t = record {
   here = rw (s.here, t.here) refl;

@@ -1,7 +1,7 @@
 -- Parts are granted one after another, from the core up.
 use Rattle.std.proofs.Common.{◌≡◌, ℕ, ◌+◌, ◌-◌, ◌<◌, ◌≤◌, ◌==◌, ◌&&◌, Bool, true, false, cond}
-use Rattle.std.proofs.Common.{List, length, drop, get_or, slice_get, Some, Option}
-use Rattle.std.proofs.Common.{refl, sym, subst, ◌∙◌}
+use Rattle.std.proofs.Common.{List, length, drop, get_or, slice_get, Some, Option, refl, sym}
+use Rattle.std.proofs.Common.{subst, ◌∙◌}
 use Rattle.std.proofs.Common.{ap, arith, inl, inr, add-one}
 use Rattle.std.proofs.lemmas.Bool.{cases_lt}
 use Rattle.std.proofs.lemmas.Option.{get_or_from_slice_get, slice_get_past}
@@ -144,6 +144,8 @@ laid_all b c parts before t n long so_far l p = elim (cases_lt l n) [
   | inr h ↦ so_far.high l p h ∙ sym (beyond (p == up b l c) h)
 ]
   where
-    beyond : (on : Bool) → n ≤ l → cond on (depth_by (slice_get parts l) (before l p)) (before l p) ≡ before l p
-    beyond true h = ap (λ (o : Option Part). depth_by o (before l p)) (slice_get_past parts l (omega arith))
+    beyond : (on : Bool) → n ≤ l
+        → cond on (depth_by (slice_get parts l) (before l p)) (before l p) ≡ before l p
+    beyond true h =
+        ap (λ (o : Option Part). depth_by o (before l p)) (slice_get_past parts l (omega arith))
     beyond false h = refl

@@ -32,7 +32,7 @@ use Rattle.psci_fw_model.specs.Invariant.{AreValues}
 use Rattle.psci_fw_model.specs.Lives.{in_life}
 use Rattle.psci_fw_model.specs.Outcomes.{message_for, stops, stops_with}
 use Rattle.psci_fw_model.specs.Paths.{cleared, laid}
-use Rattle.psci_fw_model.specs.Phases.{Away, Phase, Running, activity_of}
+use Rattle.psci_fw_model.specs.Phases.{Away, Running, Suspended, activity_of}
 use Rattle.psci_fw_model.specs.SystemCalls.{all_others, is_off_status}
 use Rattle.psci_fw_model.specs.Values.{Values}
 use Rattle.psci_fw_model.specs.Views.{ask, view}
@@ -81,7 +81,7 @@ few_by : (b : BoardValue) (v : Values) (c : ℕ) (asked : List ℕ) (mode : Susp
     → LastCoreLaws b (view b v) c asked → suspend_claim b v c asked mode ≡ Ok parts
     → length parts ≤ height b + 1
 few_by b v c asked Platform parts laws last e =
-    let w : PowerView = view b (with_phase c (Rattle.psci_fw_model.specs.Phases.Suspended asked) v) in
+    let w : PowerView = view b (with_phase c (Suspended asked) v) in
     let same : platform_claim b w c ≡ parts = cc in
     omega (arith, ap length same, (laws w (least_wish b w c)).few)
 few_by b v c asked OsInitiated parts laws last e =

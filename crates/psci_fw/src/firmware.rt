@@ -72,8 +72,8 @@ impl Firmware {
     }
 
     /// A core enters by this start: it goes on at its opening, resumes after a suspend in standby
-    /// or retention that the very next start wakes it from, or parks. In a halting life it stops.
-    /// A start of a later life than the firmware's begins that life first.
+    /// or retention that the very next start wakes it from, or parks. In a halting life it stops. A
+    /// start of a later life than the firmware's begins that life first.
     ///
     /// Refused with NoCore where the board has no such core, NoLife where it has no such life, and
     /// OldStart where the start is over or can't be: its life is an earlier one than the

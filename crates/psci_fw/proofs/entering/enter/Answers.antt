@@ -46,7 +46,8 @@ send_down-requires-clause-may c =
     let none : way_on (in_life b s.life v) core s ≡ None =
     sym (ap (λ (x : Values). way_on x core s) found) ∙ sym c.way_on.ensures ∙ c.in-None.is in
     let away = arrived_away b v _ _ core s found c.arrive_away-in-None.ensures.after in
-    let same = leaving_off b (with_arrival b core s v) _ core _ away c.leaving_parts-parts.ensures in
+    let same = leaving_off b (with_arrival b core s v) _ core _ away
+    c.leaving_parts-parts.ensures in
     left_may b (with_arrival b core s v) _ core _ _ away same
     (c.law_may_claim.ensures.parks b v core s c.requires.state.board
     (fault_inside b v core s c.requires.fault) c.requires.values c.requires.fault awake
@@ -73,7 +74,8 @@ returns-in-None-clause-answer c =
     let none : way_on (in_life b s.life v) core s ≡ None =
     sym (ap (λ (x : Values). way_on x core s) found) ∙ sym c.way_on.ensures ∙ c.in-None.is in
     let away = arrived_away b v _ _ core s found c.arrive_away-in-None.ensures.after in
-    let same = leaving_off b (with_arrival b core s v) _ core _ away c.leaving_parts-parts.ensures in
+    let same = leaving_off b (with_arrival b core s v) _ core _ away
+    c.leaving_parts-parts.ensures in
     parked b (with_arrival b core s v) _ core _ _ away same c.send_down.ensures.answer
     ∙ sym (park_outcome b v core s awake (no_opening (in_life b s.life v) core s none)
     (no_resume (in_life b s.life v) core s none))

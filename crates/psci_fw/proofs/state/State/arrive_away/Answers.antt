@@ -34,4 +34,5 @@ returns-clause-after c =
     (in_rows _ _ _ _ c.self.view_is c.self.invariant c.requires.state c.requires.inside)))
     (path_cleared c.args.board.now s c.stop.new.tree c.args.core.number of.levels
     c.stop.ensures.granted)
-    (λ slot. rw c.clear.ensures.slots (c.law_slots.ensures.changed s.slots (Clear c.args.core) tt slot))
+    (λ slot. rw c.clear.ensures.slots
+        (c.law_slots.ensures.changed s.slots (Clear c.args.core) tt slot))

@@ -32,4 +32,5 @@ returns-clause-after c =
     (path_cleared c.args.board.now s c.set_start.new.self c.args.core.number of.levels
     (λ l p. rw c.set_start.ensures.value
     (c.law_granted.ensures.started s.tree c.args.core.number c.args.start.number l p)))
-    (λ slot. rw c.clear.ensures.slots (c.law_slots.ensures.changed s.slots (Clear c.args.core) tt slot))
+    (λ slot. rw c.clear.ensures.slots
+        (c.law_slots.ensures.changed s.slots (Clear c.args.core) tt slot))

@@ -40,7 +40,8 @@ returns-clause-after c =
     ap (λ (n : MessageValue). n.kind) c.message.view_is ∙ c.requires.start in
     let slot_inside : m.core.number < length s.slots.cores =
     subst (λ k. m.core.number < k) (sym c.self.invariant.slots) inside in
-    let has_slot : IsOfCores (length s.slots.cores) (slot_of m.kind m.core) = rw start slot_inside in
+    let has_slot : IsOfCores (length s.slots.cores) (slot_of m.kind m.core) =
+    rw start slot_inside in
     let rows = rows_set c.self.inside.rows c.deref_mut.result.now c.set_row.new.rows
     m.core.number (record { status = statuses.Pending; opening = Some c.args.opening })
     c.deref_mut.ensures.value c.set_row.ensures in
