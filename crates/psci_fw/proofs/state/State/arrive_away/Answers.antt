@@ -35,4 +35,4 @@ returns-clause-after c =
     (path_cleared c.args.board.now s c.stop.new.tree c.args.core.number of.levels
     c.stop.ensures.granted)
     (λ slot. rw c.clear.ensures.slots
-        (c.law_slots.ensures.changed s.slots (Clear c.args.core) tt slot))
+    (c.law_slots.ensures.changed s.slots (Clear c.args.core) tt slot))

@@ -33,4 +33,4 @@ returns-clause-after c =
     (λ l p. rw c.set_start.ensures.value
     (c.law_granted.ensures.started s.tree c.args.core.number c.args.start.number l p)))
     (λ slot. rw c.clear.ensures.slots
-        (c.law_slots.ensures.changed s.slots (Clear c.args.core) tt slot))
+    (c.law_slots.ensures.changed s.slots (Clear c.args.core) tt slot))
