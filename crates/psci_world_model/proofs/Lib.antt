@@ -1,0 +1,6 @@
+mod EntryRows
+mod ModeRows
+mod OffRows
+mod Scripts
+mod SuspendRows
+mod SystemRows

@@ -1,0 +1,88 @@
+-- Worked examples are stated so: events in turn, and what is said of each.
+use Rattle.std.proofs.Common.{◌≡◌, ℕ, ℤ, Bool, List, [], ◌∷◌, map, reverse, Option, None, Some}
+use Rattle.psci_abi.specs.declared.code.Code.{Code}
+use Rattle.psci_board.specs.Board.{BoardValue}
+use Rattle.psci_coord.specs.declared.part.Part.{Part}
+use Rattle.psci_ctl_model.specs.declared.start.Cause.{Cause}
+use Rattle.psci_fw_model.specs.declared.outcome.Act.TheVariants as acts
+use Rattle.psci_link.specs.declared.kind.Kind.{Kind}
+use Rattle.psci_link.specs.declared.taken.Taken.TheVariants as takens
+use Rattle.psci_world_model.specs.declared.event.Event.{Event}
+use Rattle.psci_world_model.specs.declared.event.Event.TheVariants.{Call}
+use Rattle.psci_world_model.specs.declared.said.Said.{Said}
+use Rattle.psci_world_model.specs.declared.said.Said.TheVariants.{Fw, Kick, Acked, Taken}
+use Rattle.psci_world_model.specs.declared.said.Sent.{Sent}
+use Rattle.psci_world_model.specs.Legal.{run_from}
+
+-- two clusters of two cores
+abbrev pub board : BoardValue
+board = record {
+  levels = (2 ∷ 2 ∷ []) ∷ (2 ∷ []) ∷ [];
+  ranges = record { start = 0x40000000; end = 0x40100000 } ∷ [];
+  boot = 0x40000000;
+  starts = 1000;
+  lives = 3;
+}
+
+-- a core calls with these registers
+abbrev pub call : ℕ → ℕ → ℕ → ℕ → ℕ → Event
+call c x0 x1 x2 x3 = Call c (record { x0 = x0; x1 = x1; x2 = x2; x3 = x3 })
+
+-- a part: level, depth, generation
+abbrev pub part : ℕ → ℕ → ℕ → Part
+part level depth generation = record { level = level; depth = depth; generation = generation }
+
+-- no message
+abbrev pub nothing : Option Sent
+nothing = None
+
+-- a message: its number, kind, core, life, number of its start, parts
+abbrev pub sends : ℕ → Kind → ℕ → ℕ → ℕ → List Part → Option Sent
+sends index kind c life number parts = Some (record {
+  index = index;
+  message = record {
+    kind = kind;
+    core = record { number = c };
+    life = life;
+    number = number;
+    parts = parts;
+  };
+})
+
+-- outcomes
+abbrev pub returns : ℤ → Option Sent → Said
+returns code sent = Fw (acts.Return (record { 0 = code })) sent
+
+abbrev pub stops : Option Sent → Said
+stops sent = Fw acts.Stop sent
+
+abbrev pub enters : ℕ → ℕ → Said
+enters address context = Fw (acts.Enter address context) None
+
+abbrev pub resumes : Said
+resumes = Fw acts.Resume None
+
+-- a start: life, number, cause
+abbrev pub started : ℕ → ℕ → Cause → Said
+started life number cause = Kick (record { life = life; number = number; cause = cause })
+
+-- an acknowledgement: its number, kind, core, life, number, how much was applied, whether stale
+abbrev pub acked : ℕ → Kind → ℕ → ℕ → ℕ → ℕ → Bool → Said
+acked index kind c life number applied stale = Acked index (record {
+  kind = kind;
+  core = record { number = c };
+  life = life;
+  number = number;
+  applied = applied;
+  stale = stale;
+})
+
+abbrev pub used : Said
+used = Taken takens.Used
+
+abbrev pub old : Said
+old = Taken takens.Old
+
+-- of these events this is said, each after the events before it
+abbrev pub IsSaid : BoardValue → List Event → List Said → Type 0
+IsSaid b events said = reverse (map (λ r. r.said) (run_from b [] events)) ≡ said
