@@ -1,18 +1,46 @@
 -- Worked examples are stated so: events in turn, and what is said of each.
 use Rattle.std.proofs.Common.{◌≡◌, ℕ, ℤ, Bool, List, [], ◌∷◌, map, reverse, Option, None, Some}
 use Rattle.psci_abi.specs.declared.code.Code.{Code}
-use Rattle.psci_board.specs.Board.{BoardValue}
+use Rattle.psci_board.specs.Board.{BoardValue, core_of, node_of, up}
 use Rattle.psci_coord.specs.declared.part.Part.{Part}
+use Rattle.psci_coord.specs.Claim.{claim_of}
+use Rattle.psci_coord.specs.LastCore.{last_core_check, refusal, shallow, shallow_at}
+use Rattle.psci_coord.specs.View.{generation, is_all_off, is_idle, least_ask}
 use Rattle.psci_ctl_model.specs.declared.start.Cause.{Cause}
+use Rattle.psci_ctl_model.specs.Effects.{effect_of}
+use Rattle.psci_ctl_model.specs.History as controls
+use Rattle.psci_ctl_model.specs.Parts.{applied, is_stale}
+use Rattle.psci_ctl_model.specs.Replies.{delivery_of, reply, reset_of, wake_of}
+use Rattle.psci_ctl_model.specs.Values.{starts_below}
 use Rattle.psci_fw_model.specs.declared.outcome.Act.TheVariants as acts
+use Rattle.psci_fw_model.specs.AffinityInfo.{node_status}
+use Rattle.psci_fw_model.specs.Answer.{answer}
+use Rattle.psci_fw_model.specs.Calls.{outcome_of}
+use Rattle.psci_fw_model.specs.Claims.{off_parts, suspend_parts}
+use Rattle.psci_fw_model.specs.CpuOn.{target_of}
+use Rattle.psci_fw_model.specs.Entering.{enter_outcome}
+use Rattle.psci_fw_model.specs.History as remembers
+use Rattle.psci_fw_model.specs.Views.{view}
 use Rattle.psci_link.specs.declared.kind.Kind.{Kind}
 use Rattle.psci_link.specs.declared.taken.Taken.TheVariants as takens
+use Rattle.psci_link.specs.Outstanding.{changes_since, last_message, outstanding}
 use Rattle.psci_world_model.specs.declared.event.Event.{Event}
 use Rattle.psci_world_model.specs.declared.event.Event.TheVariants.{Call}
 use Rattle.psci_world_model.specs.declared.said.Said.{Said}
 use Rattle.psci_world_model.specs.declared.said.Said.TheVariants.{Fw, Kick, Acked, Taken}
 use Rattle.psci_world_model.specs.declared.said.Sent.{Sent}
-use Rattle.psci_world_model.specs.Legal.{run_from}
+use Rattle.psci_world_model.specs.Histories.{acks, controller_history, firmware_history, sent}
+use Rattle.psci_world_model.specs.Legal.{legal, run_from}
+use Rattle.psci_world_model.specs.Places.{place}
+
+-- what an example unfolds to compute what is said of events that are written out
+unfoldable pub computing : Unit {0}
+unfolding run_from legal place sent acks controller_history firmware_history remembers.values_of
+    controls.values_of answer outcome_of enter_outcome target_of core_of node_of node_status
+    off_parts suspend_parts view up claim_of least_ask generation is_all_off is_idle
+    last_core_check refusal shallow shallow_at outstanding last_message changes_since effect_of
+    reply delivery_of wake_of reset_of applied is_stale starts_below
+computing = tt
 
 -- two clusters of two cores
 abbrev pub board : BoardValue
@@ -23,6 +51,18 @@ board = record {
   starts = 1000;
   lives = 3;
 }
+
+-- the same with other limits: of starts, of lives
+abbrev pub limited : ℕ → ℕ → BoardValue
+limited starts lives = record board { starts = starts; lives = lives }
+
+-- one core
+abbrev pub one_core : BoardValue
+one_core = record board { levels = (1 ∷ []) ∷ [] }
+
+-- two groups of two clusters of one core
+abbrev pub tall : BoardValue
+tall = record board { levels = (1 ∷ 1 ∷ 1 ∷ 1 ∷ []) ∷ (2 ∷ 2 ∷ []) ∷ (2 ∷ []) ∷ [] }
 
 -- a core calls with these registers
 abbrev pub call : ℕ → ℕ → ℕ → ℕ → ℕ → Event
