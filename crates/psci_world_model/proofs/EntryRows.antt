@@ -9,8 +9,9 @@ use Rattle.psci_world_model.proofs.Scripts.{IsSaid, acked, board, call, computin
 use Rattle.psci_world_model.proofs.Scripts.{nothing, part, resumes, returns, sends, started, stops}
 use Rattle.psci_world_model.proofs.Scripts.{used}
 
--- the same core asked on three times: it is pending until it enters, also once the Start was carried out,
--- and on after that; a word that names no core, and an entry point that is not on an instruction
+-- the same core asked on three times: it is pending until it enters, also once the Start was
+-- carried out, and on after that; a word that names no core, and an entry point that is no multiple
+-- of 4
 cpu_on_three_ways : IsSaid board
     (Enter 0 ∷ call 0 0xc4000003 0x101 0x40001000 0x7 ∷ call 0 0xc4000003 0x101 0x40001000 0x7
     ∷ Deliver 0 ∷ call 0 0xc4000003 0x101 0x40001000 0x7 ∷ Enter 3
@@ -23,8 +24,8 @@ cpu_on_three_ways : IsSaid board
 unfolding computing
 cpu_on_three_ways = refl
 
--- a core that is reset while it runs has no entry point: it stays ON, and parks when it enters; its Down
--- of the new start turns it OFF
+-- a core that is reset while it runs has no entry point: it stays ON, and parks when it enters; its
+-- Down of the new start turns it OFF
 reset_core_parks : IsSaid board
     (Enter 0 ∷ call 0 0xc4000003 0x101 0x40001000 0x7 ∷ call 0 0xc4000004 0x101 0 0 ∷ Deliver 0
     ∷ Enter 3 ∷ Reset 3 ∷ call 0 0xc4000004 0x101 0 0 ∷ Enter 3 ∷ call 0 0xc4000004 0x101 0 0
@@ -36,8 +37,8 @@ reset_core_parks : IsSaid board
 unfolding computing
 reset_core_parks = refl
 
--- two resets of a core that was started and has not entered: its entry point waits, and the third start
--- enters there
+-- two resets of a core that was started and has not entered: its entry point waits, and the third
+-- start enters there
 resets_before_entry : IsSaid board
     (Enter 0 ∷ call 0 0xc4000003 0x101 0x40001000 0x7 ∷ Deliver 0 ∷ Reset 3 ∷ Reset 3 ∷ Enter 3
     ∷ call 3 0x84000002 0 0 0 ∷ Deliver 1 ∷ [])
@@ -61,8 +62,8 @@ retention_resumes_on_wake_only : IsSaid board
 unfolding computing
 retention_resumes_on_wake_only = refl
 
--- at the start limit of two starts CPU_SUSPEND returns at once, CPU_ON fails, and a wake-up event and a
--- reset are ignored
+-- at the start limit of two starts CPU_SUSPEND returns at once, CPU_ON fails, and a wake-up event
+-- and a reset are ignored
 start_limit : IsSaid (limited 2 3)
     (Enter 0 ∷ call 0 0xc4000003 0x101 0x40001000 0x7 ∷ Deliver 0 ∷ Enter 3
     ∷ call 3 0x84000002 0 0 0 ∷ Deliver 1 ∷ Take 1 ∷ call 0 0xc4000003 0x101 0x40001000 0x7
@@ -94,8 +95,8 @@ start_second_core : IsSaid board
 unfolding computing
 start_second_core = refl
 
--- AFFINITY_INFO of a cluster that is off, of one in which a core is pending, of the whole system, and of
--- a level that the board does not have
+-- AFFINITY_INFO of a cluster that is off, of one in which a core is pending, of the whole system,
+-- and of a level that the board does not have
 affinity_of_clusters : IsSaid board
     (Enter 0 ∷ call 0 0xc4000004 0x100 1 0 ∷ call 0 0xc4000003 0x101 0x40001000 0x7
     ∷ call 0 0xc4000004 0x100 1 0 ∷ call 0 0xc4000004 0 2 0 ∷ call 0 0xc4000004 0 3 0 ∷ [])
@@ -104,8 +105,8 @@ affinity_of_clusters : IsSaid board
 unfolding computing
 affinity_of_clusters = refl
 
--- before the boot core has entered: no message, no acknowledgement, no such core; a started core is not
--- woken, but it is reset, and enters all the same
+-- before the boot core has entered: no message, no acknowledgement, no such core; a started core is
+-- not woken, but it is reset, and enters all the same
 absent_and_ignored_first : IsSaid board
     (Deliver 0 ∷ Take 0 ∷ Wake 9 ∷ Wake 0 ∷ Reset 0 ∷ Enter 0 ∷ [])
     (Absent ∷ Absent ∷ Absent ∷ Ignored ∷ started 1 2 causes.Reset ∷ enters 0x40000000 0x0 ∷ [])

@@ -15,8 +15,8 @@ os_initiated_system_down : IsSaid board
 unfolding computing
 os_initiated_system_down = refl
 
--- the last-core check: denied while a core runs elsewhere, and invalid where the others sleep less deeply
--- than is asked
+-- the last-core check: denied while a core runs elsewhere, and invalid where the others sleep less
+-- deeply than is asked
 os_initiated_last_core : IsSaid board
     (Enter 0 ∷ call 0 0x8400000f 1 0 0 ∷ call 0 0xc4000003 0x101 0x40001000 0x7 ∷ Deliver 0
     ∷ Enter 3 ∷ call 0 0xc4000001 0x02010333 0x40000100 0

@@ -19,8 +19,8 @@ core_off_acknowledged : IsSaid board
 unfolding computing
 core_off_acknowledged = refl
 
--- a core that was woken before its Down arrived: the Down is stale, its acknowledgement is old, and the
--- core parks with a Down of the new start
+-- a core that was woken before its Down arrived: the Down is stale, its acknowledgement is old, and
+-- the core parks with a Down of the new start
 stale_down_after_wake : IsSaid board
     (Enter 0 ∷ call 0 0xc4000003 0x101 0x40001000 0x7 ∷ call 0 0xc4000004 0x101 0 0 ∷ Deliver 0
     ∷ Enter 3 ∷ call 3 0x84000002 0 0 0 ∷ Wake 3 ∷ Enter 3 ∷ Deliver 1 ∷ Take 1 ∷ Deliver 2
@@ -65,8 +65,8 @@ repeated_start : IsSaid board
 unfolding computing
 repeated_start = refl
 
--- the last core takes its whole path down; a core that is stopped neither calls nor enters, and a core
--- that the board does not have is absent
+-- the last core takes its whole path down; a core that is stopped neither calls nor enters, and a
+-- core that the board does not have is absent
 last_core_off_ignored_absent : IsSaid board
     (Enter 0 ∷ call 0 0x84000002 0 0 0 ∷ call 3 0x84000000 0 0 0 ∷ Enter 3 ∷ Enter 9 ∷ [])
     (enters 0x40000000 0x0

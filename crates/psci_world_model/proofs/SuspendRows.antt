@@ -16,7 +16,7 @@ one_core_suspend_and_wake : IsSaid one_core
 unfolding computing
 one_core_suspend_and_wake = refl
 
--- a cluster goes as deep as the least that its cores ask; its Down waits until the other core is down
+-- a cluster goes as deep as the least that its cores ask, once both of them are down
 cluster_retention_by_least_ask : IsSaid board
     (Enter 0 ∷ call 0 0xc4000003 0x100 0x40002000 0 ∷ call 0 0xc4000003 0x101 0x40001000 0x7
     ∷ Deliver 0 ∷ Deliver 1 ∷ Enter 2 ∷ Enter 3 ∷ call 2 0xc4000001 0x01010033 0x40003000 1

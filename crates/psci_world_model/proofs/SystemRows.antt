@@ -33,8 +33,8 @@ system_suspend_at_start_limit : IsSaid (limited 1 3)
 unfolding computing
 system_suspend_at_start_limit = refl
 
--- a system reset: no core but the boot core is started in the next life, a message of the life before is
--- ignored, and its acknowledgement is old
+-- a system reset: no core but the boot core is started in the next life, a message of the life
+-- before is ignored, and an acknowledgement of it is old
 system_reset_next_life : IsSaid board
     (Enter 0 ∷ call 0 0xc4000003 0x101 0x40001000 0x7 ∷ call 0 0xc4000004 0x101 0 0 ∷ Deliver 0
     ∷ Enter 3 ∷ call 3 0xc4000001 0x1 0 0 ∷ Wake 3 ∷ Enter 3 ∷ call 0 0x84000009 0 0 0
@@ -48,8 +48,8 @@ system_reset_next_life : IsSaid board
 unfolding computing
 system_reset_next_life = refl
 
--- after an applied SYSTEM_OFF wake-ups, entries and deliveries are ignored; a message that was never sent
--- is absent all the same
+-- after an applied SYSTEM_OFF wake-ups, entries and deliveries are ignored; a message that was
+-- never sent is absent all the same
 system_off : IsSaid board
     (Enter 0 ∷ call 0 0x84000008 0 0 0 ∷ Deliver 0 ∷ Wake 0 ∷ Enter 0 ∷ Deliver 0 ∷ Deliver 9 ∷ [])
     (enters 0x40000000 0x0 ∷ stops (sends 0 Off 0 1 1 []) ∷ acked 0 Off 0 1 1 1 false ∷ Ignored

@@ -1,5 +1,5 @@
 -- The two histories of the records: what the firmware was asked and replied, and what the power
--- controller was. A past has its newest record first, and every definition looks backwards along it.
+-- controller was. A past has its newest record first; every definition looks backwards along it.
 use Rattle.std.specs.Prelude.{ℕ, List, [], ◌∷◌, ◌++◌, Option, None, Some, option_map}
 use Rattle.psci_board.specs.Board.{BoardValue}
 use Rattle.psci_ctl_model.specs.declared.call.CtlCall.{CtlCall}

@@ -1,6 +1,6 @@
 -- What is said of an event, by the records before it; legal records and runs.
-use Rattle.std.specs.Prelude.{◌≡◌, ℕ, Bool, true, false, nat_lt, if◌then◌else◌, List, [], ◌∷◌, length}
-use Rattle.std.specs.Prelude.{Option, None, Some, option_map, ⊤}
+use Rattle.std.specs.Prelude.{◌≡◌, ℕ, nat_lt, if◌then◌else◌, List, [], ◌∷◌, length}
+use Rattle.std.specs.Prelude.{Option, None, Some, option_map}
 use Rattle.psci_board.specs.Board.{BoardValue, cores}
 use Rattle.psci_ctl_model.specs.declared.call.CtlCall.{CtlCall}
 use Rattle.psci_ctl_model.specs.declared.call.CtlCall.TheVariants as asked
@@ -9,6 +9,8 @@ use Rattle.psci_ctl_model.specs.declared.kick.Kick.TheVariants as kicks
 use Rattle.psci_ctl_model.specs.declared.reply.CtlReply.{CtlReply}
 use Rattle.psci_ctl_model.specs.declared.reply.CtlReply.TheVariants as replied
 use Rattle.psci_ctl_model.specs.declared.start.Start.{Start}
+use Rattle.psci_ctl_model.specs.Entry as controller
+use Rattle.psci_ctl_model.specs.History as controls
 use Rattle.psci_ctl_model.specs.Replies.{last_start, reply}
 use Rattle.psci_fw_model.specs.declared.call.FwCall.{FwCall}
 use Rattle.psci_fw_model.specs.declared.call.FwCall.TheVariants as calls
@@ -36,7 +38,7 @@ use Rattle.psci_world_model.specs.Places.{place}
 abbrev pub sent_as : ℕ → Option MessageValue → Option Sent
 sent_as index message = option_map (λ m. record { index = index; message = m }) message
 
--- the firmware's reply, as it is said; a core at its place is never refused
+-- the firmware's reply, as it is said; a refusal has no word of its own
 abbrev pub said_of : ℕ → FwReply → Said
 said_of index (replies.Out o) = Fw o.act (sent_as index o.message)
 said_of index (replies.Taken taken) = Took taken
@@ -112,7 +114,7 @@ legal b past (Take k) = take b past (numbered (acks past) k)
 
 -- records of each of which that is said which is legal after the records before it
 abbrev pub IsLegalPast : BoardValue → List Record → Type 0
-IsLegalPast b [] = ⊤
+IsLegalPast b [] = Unit {0}
 IsLegalPast b (r ∷ past) = (r.said ≡ legal b past r.event) × IsLegalPast b past
 
 -- an event with what is legal to say of it
@@ -123,3 +125,10 @@ legal_record b past event = record { event = event; said = legal b past event }
 unfoldable pub run_from : BoardValue → List Record → List Event → List Record
 run_from b past [] = past
 run_from b past (event ∷ events) = run_from b (legal_record b past event ∷ past) events
+
+-- a history of the power controller in which every reply is the one reply after the entries before
+-- it, whatever was delivered
+abbrev pub IsAnswered : BoardValue → List controller.Entry → Type 0
+IsAnswered b [] = Unit {0}
+IsAnswered b (e ∷ h) =
+    (e.reply ≡ reply b (controls.values_of b h) e.call) × IsAnswered b h

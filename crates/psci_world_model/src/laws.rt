@@ -1,13 +1,12 @@
 //! What holds of the definitions alone: each law is the contract of a function that does nothing.
 
-ghost use Rattle.std.specs.Prelude.{◌≡◌, List, [], ◌∷◌, ◌++◌, map, reverse};
+ghost use Rattle.std.specs.Prelude.{◌≡◌, List, [], ◌++◌, map, reverse};
 ghost use Rattle.psci_board.specs.Board.{BoardValue};
-ghost use Rattle.psci_ctl_model.specs.Legal as controls;
 ghost use Rattle.psci_fw_model.specs.Legal as answers;
 ghost use Rattle.psci_world_model.specs.declared.event.Event.{Event};
 ghost use Rattle.psci_world_model.specs.declared.said.Record.{Record};
 ghost use Rattle.psci_world_model.specs.Histories.{controller_history, firmware_history};
-ghost use Rattle.psci_world_model.specs.Legal.{IsLegalPast, run_from};
+ghost use Rattle.psci_world_model.specs.Legal.{IsAnswered, IsLegalPast, run_from};
 
 /// To each list of events there is exactly one legal run: what `run_from` gives is legal and has
 /// these events, newest first, and of the same events no other past is legal.

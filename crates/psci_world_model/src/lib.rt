@@ -7,14 +7,16 @@
 //! - The *firmware's history* and the *controller's history* are the calls of each with their
 //!   replies, as the records have them.
 //! - The *place* of a core is where it is: started and not yet entered, running, or stopped.
-//! - Messages are *sent* and acknowledgements *made* for ever: a message that is lost is one that no
-//!   event delivers, one that is repeated is delivered by two.
+//! - Messages are *sent* and acknowledgements *made* for ever: a message that is lost is one that
+//!   no event delivers, one that is repeated is delivered by two.
 #![tactic(auto)]
 
 mod event;
+mod laws;
 mod place;
 mod said;
 
 pub use event::Event;
+pub use laws::{law_histories, law_runs};
 pub use place::Place;
 pub use said::{Record, Said, Sent};
