@@ -11,7 +11,6 @@ use Rattle.psci_ctl_model.specs.declared.kick.Kick.TheVariants as kicks
 use Rattle.psci_ctl_model.specs.declared.reply.CtlReply.{CtlReply}
 use Rattle.psci_ctl_model.specs.declared.reply.CtlReply.TheVariants as replied
 use Rattle.psci_ctl_model.specs.declared.start.Start.{Start}
-use Rattle.psci_ctl_model.specs.Entry as controller
 use Rattle.psci_ctl_model.specs.Replies.{last_start, reply}
 use Rattle.psci_fw_model.specs.declared.call.FwCall.{FwCall}
 use Rattle.psci_fw_model.specs.declared.call.FwCall.TheVariants as calls
@@ -19,7 +18,6 @@ use Rattle.psci_fw_model.specs.declared.outcome.Outcome.{Outcome}
 use Rattle.psci_fw_model.specs.declared.reply.FwReply.{FwReply}
 use Rattle.psci_fw_model.specs.declared.reply.FwReply.TheVariants as replies
 use Rattle.psci_fw_model.specs.Answer.{answer}
-use Rattle.psci_fw_model.specs.Entry as firmware
 use Rattle.psci_fw_model.specs.Legal.{IsLegal}
 use Rattle.psci_link.specs.Message.{AckValue, MessageValue}
 use Rattle.psci_world_model.specs.declared.event.Event.{Event}
@@ -29,7 +27,7 @@ use Rattle.psci_world_model.specs.declared.place.Place.{Place}
 use Rattle.psci_world_model.specs.declared.place.Place.TheVariants.{Started, Running, Stopped}
 use Rattle.psci_world_model.specs.declared.said.Record.{Record}
 use Rattle.psci_world_model.specs.declared.said.Said.{Said}
-use Rattle.psci_world_model.specs.declared.said.Said.TheVariants.{Absent, Ignored}
+use Rattle.psci_world_model.specs.declared.said.Said.TheVariants.{Absent}
 use Rattle.psci_world_model.specs.Histories.{acks, call, control, controller_history}
 use Rattle.psci_world_model.specs.Histories.{controller_values, delivered, entered, firmware_history}
 use Rattle.psci_world_model.specs.Histories.{firmware_values, outcome_in, sent, took}

@@ -112,4 +112,3 @@ absent_and_ignored_first : IsSaid board
     (Absent ∷ Absent ∷ Absent ∷ Ignored ∷ started 1 2 causes.Reset ∷ enters 0x40000000 0x0 ∷ [])
 unfolding computing
 absent_and_ignored_first = refl
-

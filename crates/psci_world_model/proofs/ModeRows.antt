@@ -55,4 +55,3 @@ features : IsSaid board
     ∷ returns (negsuc 0) nothing ∷ returns (negsuc 0) nothing ∷ returns (pos 2) nothing ∷ [])
 unfolding computing
 features = refl
-

@@ -98,4 +98,3 @@ pending_core_in_cluster : IsSaid board
     ∷ stops (sends 1 Down 0 1 1 (part 0 3 1 ∷ [])) ∷ [])
 unfolding computing
 pending_core_in_cluster = refl
-

@@ -1,6 +1,7 @@
 -- Worked examples are stated so: events in turn, and what is said of each.
-use Rattle.std.proofs.Common.{◌≡◌, ℕ, ℤ, Bool, List, [], ◌∷◌, map, reverse, Option, None, Some}
-use Rattle.psci_abi.specs.declared.code.Code.{Code}
+use Rattle.std.proofs.Common.{◌≡◌, ℕ, ℤ, Bool, List, [], ◌∷◌, length, map, reverse, Option, None}
+use Rattle.std.proofs.Common.{Some}
+use Rattle.std.specs.List.{range_with_len}
 use Rattle.psci_board.specs.Board.{BoardValue, core_of, node_of, up}
 use Rattle.psci_coord.specs.declared.part.Part.{Part}
 use Rattle.psci_coord.specs.Claim.{claim_of}
@@ -26,6 +27,7 @@ use Rattle.psci_link.specs.declared.taken.Taken.TheVariants as takens
 use Rattle.psci_link.specs.Outstanding.{changes_since, last_message, outstanding}
 use Rattle.psci_world_model.specs.declared.event.Event.{Event}
 use Rattle.psci_world_model.specs.declared.event.Event.TheVariants.{Call}
+use Rattle.psci_world_model.specs.declared.place.Place.{Place}
 use Rattle.psci_world_model.specs.declared.said.Said.{Said}
 use Rattle.psci_world_model.specs.declared.said.Said.TheVariants.{Fw, Kick, Acked, Taken}
 use Rattle.psci_world_model.specs.declared.said.Sent.{Sent}
@@ -67,6 +69,32 @@ tall = record board { levels = (1 ∷ 1 ∷ 1 ∷ 1 ∷ []) ∷ (2 ∷ 2 ∷ [])
 -- a core calls with these registers
 abbrev pub call : ℕ → ℕ → ℕ → ℕ → ℕ → Event
 call c x0 x1 x2 x3 = Call c (record { x0 = x0; x1 = x1; x2 = x2; x3 = x3 })
+
+-- PSCI_VERSION by a core
+abbrev pub version : ℕ → Event
+version c = call c 0x84000000 0 0 0
+
+-- the boot core asks core 3 on
+abbrev pub on_3 : Event
+on_3 = call 0 0xc4000003 0x101 0x40001000 7
+
+-- the boot core asks for the status of core 3
+abbrev pub status_3 : Event
+status_3 = call 0 0xc4000004 0x101 0 0
+
+-- a core asks for retention of itself alone
+abbrev pub retention : ℕ → Event
+retention c = call c 0xc4000001 0x2 0 0
+
+-- CPU_OFF, SYSTEM_OFF and SYSTEM_RESET by a core
+abbrev pub off : ℕ → Event
+off c = call c 0x84000002 0 0 0
+
+abbrev pub system_off : ℕ → Event
+system_off c = call c 0x84000008 0 0 0
+
+abbrev pub system_reset : ℕ → Event
+system_reset c = call c 0x84000009 0 0 0
 
 -- a part: level, depth, generation
 abbrev pub part : ℕ → ℕ → ℕ → Part
@@ -126,3 +154,8 @@ old = Taken takens.Old
 -- of these events this is said, each after the events before it
 abbrev pub IsSaid : BoardValue → List Event → List Said → Type 0
 IsSaid b events said = reverse (map (λ r. r.said) (run_from b [] events)) ≡ said
+
+-- after these events the cores are at these places, the boot core first
+abbrev pub ArePlaced : BoardValue → List Event → List Place → Type 0
+ArePlaced b events places =
+    map (λ c. place b (run_from b [] events) c) (range_with_len 0 (length places)) ≡ places

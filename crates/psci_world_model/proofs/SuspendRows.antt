@@ -85,4 +85,3 @@ faulty_power_states : IsSaid board
     ∷ returns (negsuc 1) nothing ∷ returns (negsuc 1) nothing ∷ returns (negsuc 8) nothing ∷ [])
 unfolding computing
 faulty_power_states = refl
-

@@ -76,4 +76,3 @@ halting_life : IsSaid board
     ∷ Ignored ∷ [])
 unfolding computing
 halting_life = refl
-
