@@ -29,8 +29,8 @@ use Rattle.psci_world_model.specs.declared.said.Record.{Record}
 use Rattle.psci_world_model.specs.declared.said.Said.{Said}
 use Rattle.psci_world_model.specs.declared.said.Said.TheVariants.{Absent}
 use Rattle.psci_world_model.specs.Histories.{acks, call, control, controller_history}
-use Rattle.psci_world_model.specs.Histories.{controller_values, delivered, entered, firmware_history}
-use Rattle.psci_world_model.specs.Histories.{firmware_values, outcome_in, sent, took}
+use Rattle.psci_world_model.specs.Histories.{controller_values, delivered, entered}
+use Rattle.psci_world_model.specs.Histories.{firmware_history, firmware_values, outcome_in, sent, took}
 use Rattle.psci_world_model.specs.Legal.{IsAnswered, IsLegalPast, deliver, if_running, if_started}
 use Rattle.psci_world_model.specs.Legal.{if_stopped, legal, said_by, said_of, sent_as, take}
 use Rattle.psci_world_model.specs.Lists.{numbered}
@@ -157,8 +157,8 @@ WithControl b past event said =
 abbrev reply_to : BoardValue → List Record → CtlCall → CtlReply
 reply_to b past asks = reply b (controller_values b past) asks
 
-delivery_answered : (b : BoardValue) (past : List Record) (n k : ℕ) (m : MessageValue) (r : CtlReply)
-    → numbered (sent past) k ≡ Some m → r ≡ reply_to b past (asked.Deliver m)
+delivery_answered : (b : BoardValue) (past : List Record) (n k : ℕ) (m : MessageValue)
+    (r : CtlReply) → numbered (sent past) k ≡ Some m → r ≡ reply_to b past (asked.Deliver m)
     → IsAnswered b (controller_history b past) → WithControl b past (Deliver k) (said_by n r)
 delivery_answered b past n k m (replied.Delivery (deliveries.Applied ack)) sends e h =
     subst (λ (x : Option MessageValue). IsAnswered b (delivered x ack ++ controller_history b past))

@@ -2,7 +2,8 @@
 use Rattle.std.proofs.Common.{[], ◌∷◌, pos, true, false, refl}
 use Rattle.psci_ctl_model.specs.declared.start.Cause.TheVariants as causes
 use Rattle.psci_link.specs.declared.kind.Kind.TheVariants.{Down, Start, Reset as Restart}
-use Rattle.psci_world_model.specs.declared.event.Event.TheVariants.{Enter, Wake, Reset, Deliver, Take}
+use Rattle.psci_world_model.specs.declared.event.Event.TheVariants.{Enter, Wake, Reset, Deliver}
+use Rattle.psci_world_model.specs.declared.event.Event.TheVariants.{Take}
 use Rattle.psci_world_model.specs.declared.said.Said.TheVariants.{Ignored, Absent}
 use Rattle.psci_world_model.proofs.Scripts.{IsSaid, acked, board, computing, enters}
 use Rattle.psci_world_model.proofs.Scripts.{nothing, off, old, on_3, part, returns, sends, started}
@@ -20,8 +21,8 @@ repeated_down : IsSaid board
 unfolding computing
 repeated_down = refl
 
--- a Start that is lost is asked for by nobody: the core stays pending, and a wake-up event starts it
--- all the same
+-- a Start that is lost: the core stays pending, and a wake-up event starts it all the same; the Start
+-- is stale then
 lost_start : IsSaid board
     (Enter 0 ∷ on_3 ∷ status_3 ∷ Wake 3 ∷ Enter 3 ∷ status_3 ∷ Deliver 0 ∷ Take 0 ∷ [])
     (enters 0x40000000 0 ∷ returns (pos 0) (sends 0 Start 3 1 0 []) ∷ returns (pos 2) nothing
@@ -45,8 +46,8 @@ acknowledgements_turned = refl
 ignored_in_between : IsSaid board
     (Enter 0 ∷ on_3 ∷ system_reset 0 ∷ Deliver 1 ∷ Deliver 0 ∷ Enter 0 ∷ Deliver 0 ∷ on_3
     ∷ Take 1 ∷ Deliver 2 ∷ Take 0 ∷ Take 1 ∷ Deliver 3 ∷ [])
-    (enters 0x40000000 0 ∷ returns (pos 0) (sends 0 Start 3 1 0 []) ∷ stops (sends 1 Restart 0 1 1 [])
-    ∷ acked 0 Restart 0 1 1 1 false ∷ Ignored ∷ enters 0x40000000 0 ∷ Ignored
+    (enters 0x40000000 0 ∷ returns (pos 0) (sends 0 Start 3 1 0 [])
+    ∷ stops (sends 1 Restart 0 1 1 []) ∷ acked 0 Restart 0 1 1 1 false ∷ Ignored ∷ enters 0x40000000 0 ∷ Ignored
     ∷ returns (pos 0) (sends 2 Start 3 2 0 []) ∷ Absent ∷ acked 1 Start 3 2 0 1 false ∷ old ∷ used
     ∷ Absent ∷ [])
 unfolding computing
@@ -66,7 +67,8 @@ unfolding computing
 three_lives = refl
 
 -- a core that was never started in a life is woken by its start 0, whatever it did in the life
--- before; here it opens the new life, parks, and the boot core enters at the boot address all the same
+-- before; here it opens the new life and parks, and the boot core enters at the boot address all the
+-- same
 woken_in_the_next_life : IsSaid board
     (Enter 0 ∷ Wake 3 ∷ Enter 3 ∷ Wake 3 ∷ system_reset 0 ∷ Deliver 1 ∷ Enter 3 ∷ Wake 3 ∷ Enter 3
     ∷ Enter 0 ∷ Deliver 0 ∷ Deliver 2 ∷ [])

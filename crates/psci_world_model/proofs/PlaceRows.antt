@@ -2,7 +2,8 @@
 use Rattle.std.proofs.Common.{[], ◌∷◌, pos, false, refl}
 use Rattle.psci_ctl_model.specs.declared.start.Cause.TheVariants as causes
 use Rattle.psci_link.specs.declared.kind.Kind.TheVariants.{Down, Off}
-use Rattle.psci_world_model.specs.declared.event.Event.TheVariants.{Enter, Wake, Reset, Deliver, Take}
+use Rattle.psci_world_model.specs.declared.event.Event.TheVariants.{Enter, Wake, Reset, Deliver}
+use Rattle.psci_world_model.specs.declared.event.Event.TheVariants.{Take}
 use Rattle.psci_world_model.specs.declared.place.Place.TheVariants.{Started, Running, Stopped}
 use Rattle.psci_world_model.specs.declared.said.Said.TheVariants.{Ignored, Absent}
 use Rattle.psci_world_model.proofs.Scripts.{ArePlaced, IsSaid, acked, board, computing, enters}
@@ -38,7 +39,8 @@ started_and_running : IsSaid board
 unfolding computing
 started_and_running = refl
 
--- a stopped core is woken, and neither calls nor enters; once it has stopped again it is woken again
+-- a stopped core is woken, and neither calls nor enters; once it has stopped again it is woken
+-- again
 stopped : IsSaid board
     (Enter 0 ∷ version 3 ∷ Enter 3 ∷ Wake 3 ∷ Wake 3 ∷ Enter 3 ∷ version 3 ∷ Enter 3 ∷ Wake 3 ∷ [])
     (enters 0x40000000 0 ∷ Ignored ∷ Ignored ∷ started 1 1 causes.Wake ∷ Ignored
@@ -57,7 +59,8 @@ reset_anywhere : IsSaid board
 unfolding computing
 reset_anywhere = refl
 
--- at the start limit a reset is ignored and the core stays where it is; each core has its own starts
+-- at the start limit a reset is ignored and the core stays where it is; each core has its own
+-- starts
 reset_at_start_limit : IsSaid (limited 1 3)
     (Reset 0 ∷ Reset 3 ∷ Reset 3 ∷ Enter 0 ∷ Reset 0 ∷ version 0 ∷ [])
     (Ignored ∷ started 1 1 causes.Reset ∷ Ignored ∷ enters 0x40000000 0 ∷ Ignored
