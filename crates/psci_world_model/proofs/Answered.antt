@@ -30,7 +30,8 @@ use Rattle.psci_world_model.specs.declared.said.Said.{Said}
 use Rattle.psci_world_model.specs.declared.said.Said.TheVariants.{Absent}
 use Rattle.psci_world_model.specs.Histories.{acks, call, control, controller_history}
 use Rattle.psci_world_model.specs.Histories.{controller_values, delivered, entered}
-use Rattle.psci_world_model.specs.Histories.{firmware_history, firmware_values, outcome_in, sent, took}
+use Rattle.psci_world_model.specs.Histories.{firmware_history, firmware_values, outcome_in}
+use Rattle.psci_world_model.specs.Histories.{sent, took}
 use Rattle.psci_world_model.specs.Legal.{IsAnswered, IsLegalPast, deliver, if_running, if_started}
 use Rattle.psci_world_model.specs.Legal.{if_stopped, legal, said_by, said_of, sent_as, take}
 use Rattle.psci_world_model.specs.Lists.{numbered}

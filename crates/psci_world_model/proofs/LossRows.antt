@@ -21,8 +21,8 @@ repeated_down : IsSaid board
 unfolding computing
 repeated_down = refl
 
--- a Start that is lost: the core stays pending, and a wake-up event starts it all the same; the Start
--- is stale then
+-- a Start that is lost: the core stays pending, and a wake-up event starts it all the same; the
+-- Start is stale then
 lost_start : IsSaid board
     (Enter 0 ∷ on_3 ∷ status_3 ∷ Wake 3 ∷ Enter 3 ∷ status_3 ∷ Deliver 0 ∷ Take 0 ∷ [])
     (enters 0x40000000 0 ∷ returns (pos 0) (sends 0 Start 3 1 0 []) ∷ returns (pos 2) nothing
@@ -47,7 +47,8 @@ ignored_in_between : IsSaid board
     (Enter 0 ∷ on_3 ∷ system_reset 0 ∷ Deliver 1 ∷ Deliver 0 ∷ Enter 0 ∷ Deliver 0 ∷ on_3
     ∷ Take 1 ∷ Deliver 2 ∷ Take 0 ∷ Take 1 ∷ Deliver 3 ∷ [])
     (enters 0x40000000 0 ∷ returns (pos 0) (sends 0 Start 3 1 0 [])
-    ∷ stops (sends 1 Restart 0 1 1 []) ∷ acked 0 Restart 0 1 1 1 false ∷ Ignored ∷ enters 0x40000000 0 ∷ Ignored
+    ∷ stops (sends 1 Restart 0 1 1 []) ∷ acked 0 Restart 0 1 1 1 false ∷ Ignored
+    ∷ enters 0x40000000 0 ∷ Ignored
     ∷ returns (pos 0) (sends 2 Start 3 2 0 []) ∷ Absent ∷ acked 1 Start 3 2 0 1 false ∷ old ∷ used
     ∷ Absent ∷ [])
 unfolding computing
@@ -67,8 +68,8 @@ unfolding computing
 three_lives = refl
 
 -- a core that was never started in a life is woken by its start 0, whatever it did in the life
--- before; here it opens the new life and parks, and the boot core enters at the boot address all the
--- same
+-- before; here it opens the new life and parks, and the boot core enters at the boot address all
+-- the same
 woken_in_the_next_life : IsSaid board
     (Enter 0 ∷ Wake 3 ∷ Enter 3 ∷ Wake 3 ∷ system_reset 0 ∷ Deliver 1 ∷ Enter 3 ∷ Wake 3 ∷ Enter 3
     ∷ Enter 0 ∷ Deliver 0 ∷ Deliver 2 ∷ [])
