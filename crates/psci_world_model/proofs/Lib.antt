@@ -1,0 +1,10 @@
+pub mod Answered
+mod EntryRows
+mod LossRows
+mod ModeRows
+mod OffRows
+mod PlaceRows
+pub mod Runs
+mod Scripts
+mod SuspendRows
+mod SystemRows
