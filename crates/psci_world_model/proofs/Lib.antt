@@ -5,6 +5,6 @@ mod ModeRows
 mod OffRows
 mod PlaceRows
 pub mod Runs
-mod Scripts
+pub mod Scripts
 mod SuspendRows
 mod SystemRows
