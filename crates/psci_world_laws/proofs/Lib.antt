@@ -1,0 +1,11 @@
+pub mod Agreed
+pub mod Agreeing
+pub mod Controlling
+pub mod Happening
+pub mod Making
+pub mod Moving
+pub mod Numbering
+pub mod Outcomes
+pub mod Placing
+pub mod Refusing
+pub mod Sending

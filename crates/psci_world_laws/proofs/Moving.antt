@@ -1,0 +1,275 @@
+-- What calls, entries and acknowledgements leave of known starts and of who runs.
+use Rattle.std.proofs.Common.{◌≡◌, ℕ, Bool, true, false, cond, Option, None, Some}
+use Rattle.std.proofs.Common.{refl, subst, ap, sym, ◌∙◌}
+use Rattle.std.specs.Ordering.{int_eq}
+use Rattle.psci_abi.specs.Codes.{success}
+use Rattle.psci_abi.specs.declared.code.Code.{Code}
+use Rattle.psci_abi.specs.declared.request.Request.{Request}
+use Rattle.psci_abi.specs.declared.request.Request.TheVariants as requests
+use Rattle.psci_board.specs.Board.{BoardValue}
+use Rattle.psci_ctl_model.specs.declared.start.Start.{Start}
+use Rattle.psci_link.specs.Message.{MessageValue}
+use Rattle.psci_fw_model.specs.declared.mode.SuspendMode.{SuspendMode}
+use Rattle.psci_fw_model.specs.declared.outcome.Act.{Act}
+use Rattle.psci_fw_model.specs.declared.outcome.Act.TheVariants as acts
+use Rattle.psci_fw_model.specs.After.{change}
+use Rattle.psci_fw_model.specs.Changes.{PowerOn, target, with_mode, with_pending}
+use Rattle.psci_fw_model.specs.Effects.{Effect, Nothing, GoesOn, SetsMode, AsksOn, Rests, Halts}
+use Rattle.psci_fw_model.specs.Effects.{Leaves, Enters, Parks, Ceases, Acknowledges}
+use Rattle.psci_fw_model.specs.Effects.{enter_effect, function_effect, mode_effect}
+use Rattle.psci_fw_model.specs.Lives.{in_life}
+use Rattle.psci_fw_model.specs.Outcomes.{goes_on}
+use Rattle.psci_fw_model.specs.Phases.{Phase, Away, Pending, Running, Suspended, is_running}
+use Rattle.psci_fw_model.specs.Phases.{unless_pending}
+use Rattle.psci_fw_model.specs.SuspendMode.{mode_of}
+use Rattle.psci_fw_model.specs.Values.{Values, updated}
+use Rattle.psci_fw_laws.specs.Allowed.{IsAllowed}
+use Rattle.psci_fw_laws.proofs.Parts.{updated_at, updated_here, updated_there}
+
+-- What is left where one core did something: its known start, and whether it runs.
+pub record IsMoved (v w : Values) (c n : ℕ) (t : Bool) : Type 0 where
+  pub life : w.life ≡ v.life
+  pub number : w.known c ≡ n
+  pub known : (x : ℕ) → (x ≡ c → ⊥) → w.known x ≡ v.known x
+  pub here : is_running (w.phase c) ≡ t
+  pub others : (x : ℕ) → (x ≡ c → ⊥) → is_running (w.phase x) ≡ is_running (v.phase x)
+
+-- Calls ----------------------------------------------------------------------------------------
+
+-- whether an effect is one of a call
+abbrev pub is_call : Effect → Bool
+is_call Nothing = false
+is_call (GoesOn c) = true
+is_call (SetsMode c mode) = true
+is_call (AsksOn c asked) = true
+is_call (Rests c rest m) = true
+is_call (Halts c m) = true
+is_call (Leaves c) = true
+is_call (Enters c s) = false
+is_call (Parks c s m) = false
+is_call (Ceases c s) = false
+is_call (Acknowledges a) = false
+
+-- the core that called
+abbrev pub caller : Effect → ℕ
+caller (GoesOn c) = c
+caller (SetsMode c mode) = c
+caller (AsksOn c asked) = c
+caller (Rests c rest m) = c
+caller (Halts c m) = c
+caller (Leaves c) = c
+caller e = 0
+
+-- and whether it goes on
+abbrev pub runs_on : Effect → Bool
+runs_on (GoesOn c) = true
+runs_on (SetsMode c mode) = true
+runs_on (AsksOn c asked) = true
+runs_on e = false
+
+-- An effect of a call of this core, which goes on or does not.
+pub record IsCallOf (e : Effect) (c : ℕ) (t : Bool) : Type 0 where
+  pub is : is_call e ≡ true
+  pub core : caller e ≡ c
+  pub runs : runs_on e ≡ t
+
+goes : (c : ℕ) → IsCallOf (GoesOn c) c true
+goes c = record { is = refl; core = refl; runs = refl }
+
+mode_call : (c number : ℕ) (t : Bool)
+    → IsCallOf (cond t (mode_effect c (mode_of number)) (GoesOn c)) c true
+mode_call c number false = goes c
+mode_call c number true = by_mode (mode_of number)
+  where
+    by_mode : (o : Option SuspendMode) → IsCallOf (mode_effect c o) c true
+    by_mode None = goes c
+    by_mode (Some mode) = record { is = refl; core = refl; runs = refl }
+
+return_call : (b : BoardValue) (c : ℕ) (r : Request) (code : Code)
+    → IsCallOf (function_effect b c r (acts.Return code) None) c true
+return_call b c requests.Version code = goes c
+return_call b c (requests.CpuSuspend state entry_point context) code = goes c
+return_call b c requests.CpuOff code = goes c
+return_call b c (requests.CpuOn target entry_point context) code = goes c
+return_call b c (requests.AffinityInfo target level) code = goes c
+return_call b c requests.MigrateInfoType code = goes c
+return_call b c requests.SystemOff code = goes c
+return_call b c requests.SystemReset code = goes c
+return_call b c (requests.Features word) code = goes c
+return_call b c (requests.SystemSuspend entry_point context) code = goes c
+return_call b c (requests.SetSuspendMode number) code =
+    mode_call c number (int_eq code.0 success.0)
+return_call b c requests.Unknown code = goes c
+
+sent_call : (b : BoardValue) (c : ℕ) (r : Request) (code : Code) (m : MessageValue)
+    → IsCallOf (function_effect b c r (acts.Return code) (Some m)) c true
+sent_call b c requests.Version code m = goes c
+sent_call b c (requests.CpuSuspend state entry_point context) code m = goes c
+sent_call b c requests.CpuOff code m = goes c
+sent_call b c (requests.CpuOn target entry_point context) code m =
+    record { is = refl; core = refl; runs = refl }
+sent_call b c (requests.AffinityInfo target level) code m = goes c
+sent_call b c requests.MigrateInfoType code m = goes c
+sent_call b c requests.SystemOff code m = goes c
+sent_call b c requests.SystemReset code m = goes c
+sent_call b c (requests.Features word) code m = goes c
+sent_call b c (requests.SystemSuspend entry_point context) code m = goes c
+sent_call b c (requests.SetSuspendMode number) code m = goes c
+sent_call b c requests.Unknown code m = goes c
+
+stop_call : (b : BoardValue) (c : ℕ) (r : Request) (m : MessageValue)
+    → IsCallOf (function_effect b c r acts.Stop (Some m)) c false
+stop_call b c requests.Version m = record { is = refl; core = refl; runs = refl }
+stop_call b c (requests.CpuSuspend state entry_point context) m =
+    record { is = refl; core = refl; runs = refl }
+stop_call b c requests.CpuOff m = record { is = refl; core = refl; runs = refl }
+stop_call b c (requests.CpuOn target entry_point context) m =
+    record { is = refl; core = refl; runs = refl }
+stop_call b c (requests.AffinityInfo target level) m =
+    record { is = refl; core = refl; runs = refl }
+stop_call b c requests.MigrateInfoType m = record { is = refl; core = refl; runs = refl }
+stop_call b c requests.SystemOff m = record { is = refl; core = refl; runs = refl }
+stop_call b c requests.SystemReset m = record { is = refl; core = refl; runs = refl }
+stop_call b c (requests.Features word) m = record { is = refl; core = refl; runs = refl }
+stop_call b c (requests.SystemSuspend entry_point context) m =
+    record { is = refl; core = refl; runs = refl }
+stop_call b c (requests.SetSuspendMode number) m =
+    record { is = refl; core = refl; runs = refl }
+stop_call b c requests.Unknown m = record { is = refl; core = refl; runs = refl }
+
+-- what a function comes down to is of its caller, which goes on where the outcome says so
+pub function_call : (b : BoardValue) (c : ℕ) (r : Request) (act : Act) (o : Option MessageValue)
+    → IsCallOf (function_effect b c r act o) c (goes_on act)
+function_call b c r (acts.Return code) None = return_call b c r code
+function_call b c r (acts.Return code) (Some m) = sent_call b c r code m
+function_call b c r acts.Stop None = record { is = refl; core = refl; runs = refl }
+function_call b c r acts.Stop (Some m) = stop_call b c r m
+function_call b c r (acts.Enter address context) o = goes c
+function_call b c r acts.Resume o = goes c
+
+-- What is left ---------------------------------------------------------------------------------
+
+-- where nothing but other fields was changed
+still : (v w : Values) (c : ℕ) → w.life ≡ v.life → w.known ≡ v.known
+    → ((x : ℕ) → is_running (w.phase x) ≡ is_running (v.phase x)) → v.phase c ≡ Running
+    → IsMoved v w c (v.known c) true
+still v w c life known phase runs = record {
+  life = life;
+  number = ap (λ (f : ℕ → ℕ). f c) known;
+  known = λ x ne. ap (λ (f : ℕ → ℕ). f x) known;
+  here = phase c ∙ ap is_running runs;
+  others = λ x ne. phase x;
+}
+
+-- where one core's phase was changed
+put : (v w : Values) (c : ℕ) (p : Phase) (runs : Bool) → w.life ≡ v.life → w.known ≡ v.known
+    → w.phase ≡ updated v.phase c p → is_running p ≡ runs → IsMoved v w c (v.known c) runs
+put v w c p runs life known phase is = record {
+  life = life;
+  number = ap (λ (f : ℕ → ℕ). f c) known;
+  known = λ x ne. ap (λ (f : ℕ → ℕ). f x) known;
+  here = ap (λ (f : ℕ → Phase). is_running (f c)) phase
+      ∙ ap is_running (updated_here v.phase c p) ∙ is;
+  others = λ x ne. ap (λ (f : ℕ → Phase). is_running (f x)) phase
+      ∙ ap is_running (updated_there v.phase c p x ne);
+}
+
+-- a phase that is not Running stays so where a pending core stays pending
+rests : (p left : Phase) → (left ≡ Running → ⊥) → is_running (unless_pending p left) ≡ false
+rests p left ne = by_phase p
+  where
+    left_rests : (q : Phase) → (q ≡ Running → ⊥) → is_running q ≡ false
+    left_rests Pending f = refl
+    left_rests Running f = absurd (f refl)
+    left_rests (Suspended ask) f = refl
+    left_rests Away f = refl
+
+    by_phase : (q : Phase) → is_running (unless_pending q left) ≡ false
+    by_phase Pending = refl
+    by_phase Running = left_rests left ne
+    by_phase (Suspended ask) = left_rests left ne
+    by_phase Away = left_rests left ne
+
+-- the target of an accepted CPU_ON did not run, and does not yet
+pending : (v : Values) (asked : PowerOn) → v.phase (target asked) ≡ Away → (x : ℕ)
+    → is_running (updated v.phase (target asked) Pending x) ≡ is_running (v.phase x)
+pending v asked away x =
+    updated_at (λ p. is_running p ≡ is_running (v.phase x)) v.phase (target asked) Pending x
+    (λ e. sym (ap is_running (ap v.phase e ∙ away))) (λ ne. refl)
+
+-- what the model's laws say of callers that go on
+pub record CallerLaws (b : BoardValue) : Type 0 where
+  pub goes_on : (v : Values) (c : ℕ) → v.phase c ≡ Running → change b (GoesOn c) v ≡ v
+  pub asks_on : (v : Values) (c : ℕ) (asked : PowerOn) → v.phase c ≡ Running
+      → change b (AsksOn c asked) v ≡ with_pending b asked v
+
+-- the effect of a call
+pub call_moves : (b : BoardValue) (v : Values) (e : Effect) → CallerLaws b → is_call e ≡ true
+    → IsAllowed b v e → IsMoved v (change b e v) (caller e) (v.known (caller e)) (runs_on e)
+call_moves b v Nothing laws is allowed = absurd (cc)
+call_moves b v (GoesOn c) laws is allowed =
+    subst (λ w. IsMoved v w c (v.known c) true) (sym (laws.goes_on v c allowed.runs))
+    (still v v c refl refl (λ x. refl) allowed.runs)
+call_moves b v (SetsMode c mode) laws is allowed =
+    subst (λ w. IsMoved v w c (v.known c) true)
+    (sym (laws.goes_on (with_mode mode v) c allowed.runs))
+    (still v (with_mode mode v) c refl refl (λ x. refl) allowed.runs)
+call_moves b v (AsksOn c asked) laws is allowed =
+    subst (λ w. IsMoved v w c (v.known c) true) (sym (laws.asks_on v c asked allowed.calls.runs))
+    (still v (with_pending b asked v) c refl refl (pending v asked allowed.away)
+    allowed.calls.runs)
+call_moves b v (Rests c rest m) laws is allowed =
+    put v (change b (Rests c rest m) v) c (unless_pending (v.phase c) rest.phase) false refl refl
+    refl (rests (v.phase c) rest.phase allowed.stops)
+call_moves b v (Halts c m) laws is allowed =
+    put v (change b (Halts c m) v) c (unless_pending (v.phase c) Away) false refl refl refl
+    (rests (v.phase c) Away (λ e. cc))
+call_moves b v (Leaves c) laws is allowed =
+    put v (change b (Leaves c) v) c (unless_pending (v.phase c) Away) false refl refl refl
+    (rests (v.phase c) Away (λ e. cc))
+call_moves b v (Enters c s) laws is allowed = absurd (cc)
+call_moves b v (Parks c s m) laws is allowed = absurd (cc)
+call_moves b v (Ceases c s) laws is allowed = absurd (cc)
+call_moves b v (Acknowledges a) laws is allowed = absurd (cc)
+
+-- Entries --------------------------------------------------------------------------------------
+
+-- a core entered, and its phase was changed
+arrived : (found w : Values) (c number : ℕ) (p : Phase) (runs : Bool) → w.life ≡ found.life
+    → w.known ≡ updated found.known c number → w.phase ≡ updated found.phase c p
+    → is_running p ≡ runs → IsMoved found w c number runs
+arrived found w c number p runs life known phase is = record {
+  life = life;
+  number = ap (λ (f : ℕ → ℕ). f c) known ∙ updated_here found.known c number;
+  known = λ x ne. ap (λ (f : ℕ → ℕ). f x) known ∙ updated_there found.known c number x ne;
+  here = ap (λ (f : ℕ → Phase). is_running (f c)) phase
+      ∙ ap is_running (updated_here found.phase c p) ∙ is;
+  others = λ x ne. ap (λ (f : ℕ → Phase). is_running (f x)) phase
+      ∙ ap is_running (updated_there found.phase c p x ne);
+}
+
+goes_in : (b : BoardValue) (v : Values) (c : ℕ) (s : Start)
+    → IsMoved (in_life b s.life v) (change b (Enters c s) v) c s.number true
+goes_in b v c s =
+    arrived (in_life b s.life v) (change b (Enters c s) v) c s.number Running true refl refl refl
+    refl
+
+stops_in : (b : BoardValue) (v : Values) (c : ℕ) (s : Start) (o : Option MessageValue)
+    → IsMoved (in_life b s.life v) (change b (enter_effect c s acts.Stop o) v) c s.number false
+stops_in b v c s None =
+    let found : Values = in_life b s.life v in
+    arrived found (change b (Ceases c s) v) c s.number (unless_pending (found.phase c) Away) false
+    refl refl refl (rests (found.phase c) Away (λ e. cc))
+stops_in b v c s (Some m) =
+    let found : Values = in_life b s.life v in
+    arrived found (change b (Parks c s m) v) c s.number (unless_pending (found.phase c) Away) false
+    refl refl refl (rests (found.phase c) Away (λ e. cc))
+
+-- the effect of an entry
+pub entry_moves : (b : BoardValue) (v : Values) (c : ℕ) (s : Start) (act : Act)
+    (o : Option MessageValue)
+    → IsMoved (in_life b s.life v) (change b (enter_effect c s act o) v) c s.number (goes_on act)
+entry_moves b v c s (acts.Return code) o = goes_in b v c s
+entry_moves b v c s acts.Stop o = stops_in b v c s o
+entry_moves b v c s (acts.Enter address context) o = goes_in b v c s
+entry_moves b v c s acts.Resume o = goes_in b v c s

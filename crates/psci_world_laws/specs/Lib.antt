@@ -1,0 +1,3 @@
+pub mod Acknowledged
+pub mod Agreement
+pub mod Refusals
