@@ -1,0 +1,52 @@
+-- What passes at each number of a range, or at each item of a list, and the other way round.
+use Rattle.std.proofs.Common.{◌≡◌, ◌+◌, ◌≤◌, ◌<◌, ◌||◌, ℕ, zero, suc, Bool, true, false}
+use Rattle.std.proofs.Common.{not, List, [], ◌∷◌, slice_get, Some, refl, sym, ap, ◌∙◌}
+use Rattle.std.proofs.Common.{arith, inl, inr}
+use Rattle.std.specs.List.{list_all, range_with_len}
+use Rattle.std.proofs.lemmas.Bool.{and_from, and_parts, cases_eq, true≢false}
+
+-- Numbers -------------------------------------------------------------------------------------
+
+pub each_in : (p : ℕ → Bool) (a n k : ℕ) → list_all p (range_with_len a n) ≡ true → a ≤ k
+    → k < a + n → p k ≡ true
+each_in p a zero k e low high = absurd (omega arith)
+each_in p a (suc n) k e low high =
+    let parts = and_parts (p a) (list_all p (range_with_len (a + 1) n)) e in
+    elim (cases_eq a k) [
+      | inl same ↦ ap p (sym same) ∙ parts.0
+      | inr other ↦ each_in p (a + 1) n k parts.1 (omega (arith, other)) (omega arith)
+    ]
+
+pub all_in : (p : ℕ → Bool) (a n : ℕ) → ((k : ℕ) → a ≤ k → k < a + n → p k ≡ true)
+    → list_all p (range_with_len a n) ≡ true
+all_in p a zero h = refl
+all_in p a (suc n) h =
+    and_from (p a) (list_all p (range_with_len (a + 1) n)) (h a (omega arith) (omega arith))
+    (all_in p (a + 1) n (λ k low high. h k (omega arith) (omega arith)))
+
+-- Items ---------------------------------------------------------------------------------------
+
+pub each_item : {A : Type 0} (p : A → Bool) (xs : List A) (k : ℕ) (x : A)
+    → list_all p xs ≡ true → slice_get xs k ≡ Some x → p x ≡ true
+each_item p [] k x e at = absurd (cc)
+each_item p (y ∷ ys) zero x e at =
+    let same : y ≡ x = cc in
+    ap p (sym same) ∙ (and_parts (p y) (list_all p ys) e).0
+each_item p (y ∷ ys) (suc k) x e at =
+    each_item p ys k x (and_parts (p y) (list_all p ys) e).1 at
+
+pub all_items : {A : Type 0} (p : A → Bool) (xs : List A)
+    → ((k : ℕ) (x : A) → slice_get xs k ≡ Some x → p x ≡ true) → list_all p xs ≡ true
+all_items p [] h = refl
+all_items p (y ∷ ys) h =
+    and_from (p y) (list_all p ys) (h 0 y refl) (all_items p ys (λ k x at. h (suc k) x at))
+
+-- One test where another holds ----------------------------------------------------------------
+
+pub where_holds : (x y : Bool) → (not x || y) ≡ true → x ≡ true → y ≡ true
+where_holds true y e h = e
+where_holds false y e h = absurd (true≢false (sym h))
+
+pub if_holds : (x y : Bool) → (x ≡ true → y ≡ true) → (not x || y) ≡ true
+if_holds true y h = h refl
+if_holds false y h = refl

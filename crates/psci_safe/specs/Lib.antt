@@ -1,0 +1,5 @@
+pub mod Claims
+pub mod Moments
+pub mod Openings
+pub mod Safe
+pub mod Test

@@ -1,0 +1,67 @@
+-- Moments: what is so after all records so far, and what was so at some moment before.
+use Rattle.std.specs.Prelude.{ℕ, Bool, true, false, ◌==◌, ◌&&◌, ◌||◌, not, List, [], ◌∷◌}
+use Rattle.std.specs.Prelude.{nat_lt}
+use Rattle.psci_board.specs.Board.{BoardValue}
+use Rattle.psci_ctl_model.specs.Replies.{is_present}
+use Rattle.psci_fw_model.specs.declared.outcome.Act.{Act}
+use Rattle.psci_fw_model.specs.declared.outcome.Act.TheVariants as acts
+use Rattle.psci_fw_model.specs.declared.status.Status.{Status}
+use Rattle.psci_fw_model.specs.declared.status.Status.TheVariants.{On, Off, Pending}
+use Rattle.psci_world_model.specs.declared.event.Event.{Event}
+use Rattle.psci_world_model.specs.declared.event.Event.TheVariants.{Call, Enter}
+use Rattle.psci_world_model.specs.declared.place.Place.{Place}
+use Rattle.psci_world_model.specs.declared.place.Place.TheVariants.{Started, Running, Stopped}
+use Rattle.psci_world_model.specs.declared.said.Record.{Record}
+use Rattle.psci_world_model.specs.declared.said.Said.{Said}
+use Rattle.psci_world_model.specs.declared.said.Said.TheVariants.{Fw}
+use Rattle.psci_world_model.specs.Histories.{controller_values, firmware_values}
+use Rattle.psci_world_model.specs.Places.{place}
+
+-- a core executes while it is started or running
+abbrev pub executes : Place → Bool
+executes Started = true
+executes Running = true
+executes Stopped = false
+
+-- how deep the domain of a level and place is
+abbrev pub depth_at : BoardValue → List Record → ℕ → ℕ → ℕ
+depth_at b past level place = (controller_values b past).depth level place
+
+-- Reported OFF ---------------------------------------------------------------------------------
+
+-- OFF, not ON and not ON_PENDING
+abbrev pub is_off : Status → Bool
+is_off On = false
+is_off Off = true
+is_off Pending = false
+
+-- a core has entered in some life, and in the last one such AFFINITY_INFO says OFF of this core
+abbrev pub is_reported_off : BoardValue → List Record → ℕ → Bool
+is_reported_off b past c =
+    let v = firmware_values b past in nat_lt 0 v.life && is_off (v.status c)
+
+-- in this life of the power controller, the core is powered down
+abbrev pub is_asleep : BoardValue → ℕ → List Record → ℕ → Bool
+is_asleep b life past c =
+    is_present (controller_values b past).life life && depth_at b past 0 c == 3
+
+-- a core goes on as one that entered: at an opening, or after its suspend
+abbrev pub goes_on_by : Act → Bool
+goes_on_by (acts.Return code) = false
+goes_on_by acts.Stop = false
+goes_on_by (acts.Enter address context) = true
+goes_on_by acts.Resume = true
+
+-- this core entered and goes on, or a function told it to, as none shall
+abbrev pub goes_on : ℕ → Event → Said → Bool
+goes_on c (Enter d) (Fw act sent) = c == d && goes_on_by act
+goes_on c (Call d regs) (Fw act sent) = c == d && goes_on_by act
+goes_on c event said = false
+
+-- at some moment of a life the core was powered down, and it has not gone on since in that life
+unfoldable pub has_slept : BoardValue → ℕ → List Record → ℕ → Bool
+has_slept b life [] c = is_asleep b life [] c
+has_slept b life (r ∷ past) c =
+    is_asleep b life (r ∷ past) c
+    || (not (goes_on c r.event r.said && (firmware_values b (r ∷ past)).life == life)
+    && has_slept b life past c)
