@@ -1,0 +1,197 @@
+-- Cores that are reported OFF were powered down, after every legal past.
+use Rattle.std.proofs.Common.{◌≡◌, ℕ, ◌<◌, inl, inr, Bool, true, false}
+use Rattle.std.proofs.Common.{◌==◌, cond, List, [], ◌∷◌, Some, refl, subst, ap}
+use Rattle.std.proofs.Common.{sym, ◌∙◌, arith}
+use Rattle.std.specs.Prelude.{nat_le, slice_get}
+use Rattle.std.proofs.lemmas.Bool.{and_parts, eqb-false, eqb-true, ne_eqb, and_right}
+use Rattle.psci_board.specs.Board.{BoardValue, height, up}
+use Rattle.psci_ctl_model.specs.History as controls
+use Rattle.psci_ctl_model.specs.Values as controlled
+use Rattle.psci_fw_model.specs.declared.status.Status.TheVariants as statuses
+use Rattle.psci_fw_model.specs.History as remembers
+use Rattle.psci_fw_model.specs.Values.{Values}
+use Rattle.psci_link.specs.declared.kind.Kind.TheVariants.{Down}
+use Rattle.psci_link.specs.Message.{AckValue, MessageValue}
+use Rattle.psci_link.specs.Slots.{OfCore, is_kind, slot_of}
+use Rattle.psci_fw_laws.specs.Allowed.{IsAllowed, IsAnswered}
+use Rattle.psci_fw_laws.specs.Kept.{Holds}
+use Rattle.psci_world_model.specs.declared.said.Record.{Record}
+use Rattle.psci_world_model.specs.Histories.{ack_in, acks, controller_history}
+use Rattle.psci_world_model.specs.Histories.{controller_values, firmware_history, firmware_values}
+use Rattle.psci_world_model.specs.Histories.{sent}
+use Rattle.psci_world_model.specs.Legal.{IsLegalPast}
+use Rattle.psci_world_model.proofs.Answered.{firmware_legal}
+use Rattle.psci_world_laws.specs.Agreement.{Agree}
+use Rattle.psci_safe.specs.Moments.{has_slept, is_reported_off}
+use Rattle.psci_headline.specs.Asleep.{AreDown}
+use Rattle.psci_headline.proofs.Acknowledging.{CoreLaws}
+use Rattle.psci_headline.proofs.CoreSteps.{IsStep, TurnsOff, step}
+use Rattle.psci_headline.proofs.Deliveries.{life_before}
+use Rattle.psci_headline.proofs.Nexts.{IsNext, acks_more, by_ack, goes_running}
+use Rattle.psci_headline.proofs.Moves.{FirmwareLaws, Moves, moves}
+use Rattle.psci_headline.proofs.Slept.{asleep_from, report, reported, slept_now, slept_still}
+
+-- Lives that the firmware does not know of -----------------------------------------------------
+
+first_deep : (b : BoardValue) (c : ℕ) → CoreLaws b → (c ≡ 0 → ⊥) → controlled.first_depth b 0 c ≡ 3
+first_deep b c laws other =
+    let apart : (up b 0 0 == c) ≡ false =
+    ne_eqb (up b 0 0) c (λ e. other (sym e ∙ laws.own 0)) in
+    ap (λ t. cond t 0 3) (and_right (nat_le 0 (height b)) (up b 0 0 == c) apart)
+
+fresh_next : (b : BoardValue) (r : Record) (past : List Record) (life c : ℕ) → CoreLaws b
+    → IsNext b r past → AreDown b past → (controller_values b (r ∷ past)).life ≡ Some life
+    → ((firmware_values b (r ∷ past)).life ≡ life → ⊥) → (c ≡ 0 → ⊥)
+    → has_slept b life (r ∷ past) c ≡ true
+fresh_next b r past life c laws next are now unknown other =
+    elim (life_before b r past life now) [
+      | inl before ↦
+          let low = (next.step c).life in
+          let high = next.begun life now in
+          slept_still b life r past c
+          (are.fresh life c before (λ e. unknown (omega (arith, low, high, e))) other)
+          (λ goes. unknown)
+      | inr first ↦
+          slept_now b life (r ∷ past) c
+          (asleep_from b life (r ∷ past) c now
+          (ap (λ (f : ℕ → ℕ → ℕ). f 0 c) first ∙ first_deep b c laws other))
+    ]
+
+-- Reports --------------------------------------------------------------------------------------
+
+-- What an acknowledgement has in common with the message that it answers.
+record IsOfKnown (v : Values) (a : AckValue) : Type 0 where
+  pub life : a.life ≡ v.life
+  pub number : a.number ≡ v.known a.core.number
+
+-- an acknowledgement of an outstanding Down is of the present life and the known start
+answers_known : (v : Values) (messages : List MessageValue) (b : BoardValue) (a : AckValue)
+    → Holds b v messages → IsAnswered v a → a.kind ≡ Down → IsOfKnown v a
+answers_known v messages b a holds is kind =
+    let m = is.message in
+    let c = a.core.number in
+    let slot : v.outstanding (OfCore c) ≡ Some m =
+    ap (λ k. v.outstanding (slot_of k a.core)) (sym kind) ∙ is.at in
+    let of = holds.slots.core c m slot in
+    let all = and_parts (is_kind a.kind m.kind) _ is.answers in
+    let rest = and_parts (c == m.core.number) _ all.1 in
+    let last = and_parts (a.life == m.life) (a.number == m.number) rest.1 in
+    record {
+      life = eqb-true a.life m.life last.0 ∙ of.listed.present;
+      number = eqb-true a.number m.number last.1 ∙ of.number;
+    }
+
+-- a core that an acknowledgement turns off was powered down
+turned_off : (b : BoardValue) (r : Record) (past : List Record) (c : ℕ)
+    → (next : IsNext b r past) → AreDown b past
+    → TurnsOff (firmware_values b past) c next.moves.effect
+    → has_slept b (firmware_values b past).life past c ≡ true
+turned_off b r past c next are t =
+    let v : Values = firmware_values b past in
+    let made = next.moves.says.takes t.ack t.is in
+    let down = are.acked made.index t.ack made.at t.kind t.some in
+    let known = answers_known v (sent past) b t.ack next.holds
+    (subst (IsAllowed b v) t.is next.moves.allowed) t.kind in
+    subst (λ x. has_slept b v.life past x ≡ true) t.core
+    (down.slept known.life known.number (ap v.phase t.core ∙ t.away))
+
+-- a core that is reported OFF was powered down in the firmware's life, also where that is new
+was_down : (b : BoardValue) (r : Record) (past : List Record) (c : ℕ) (t : Bool) → IsNext b r past
+    → AreDown b past
+    → ((firmware_values b (r ∷ past)).life == (firmware_values b past).life) ≡ t
+    → 0 < (firmware_values b (r ∷ past)).life
+    → (firmware_values b (r ∷ past)).status c ≡ statuses.Off
+    → has_slept b (firmware_values b (r ∷ past)).life past c ≡ true
+was_down b r past c true next are test begun off =
+    let v : Values = firmware_values b past in
+    let w : Values = firmware_values b (r ∷ past) in
+    let same : w.life ≡ v.life = eqb-true w.life v.life test in
+    subst (λ l. has_slept b l past c ≡ true) (sym same)
+    (elim ((next.step c).off same off) [
+      | inl was ↦ are.off c (report b past c (omega arith) was)
+      | inr turns ↦ turned_off b r past c next are turns
+    ])
+was_down b r past c false next are test begun off =
+    let v : Values = firmware_values b past in
+    let w : Values = firmware_values b (r ∷ past) in
+    let other = eqb-false w.life v.life test in
+    let s = next.step c in
+    let starts = s.begins other in
+    let present = next.moves.says.starts starts.arrival starts.is in
+    are.fresh w.life c (present ∙ ap (λ x. Some x) starts.new) (λ e. other (sym e))
+    (s.boot other off)
+
+off_next : (b : BoardValue) (r : Record) (past : List Record) (c : ℕ) → IsNext b r past
+    → AreDown b past → is_reported_off b (r ∷ past) c ≡ true
+    → has_slept b (firmware_values b (r ∷ past)).life (r ∷ past) c ≡ true
+off_next b r past c next are e =
+    let v : Values = firmware_values b past in
+    let w : Values = firmware_values b (r ∷ past) in
+    let is = reported b (r ∷ past) c e in
+    slept_still b w.life r past c (was_down b r past c (w.life == v.life) next are refl is.0 is.1)
+    (λ goes same.
+    let on : statuses.On ≡ statuses.Off = sym (goes_running b r past c next goes).1 ∙ is.1 in
+    absurd (cc))
+
+-- All pasts ------------------------------------------------------------------------------------
+
+-- What the laws below say of a board and of its legal pasts.
+pub record DownLaws (b : BoardValue) : Type 0 where
+  pub cores : CoreLaws b
+  pub firmware : FirmwareLaws b
+  pub holds : (past : List Record) → IsLegalPast b past
+      → let v = firmware_values b past in Holds b v (sent past)
+  pub agree : (past : List Record) → IsLegalPast b past → Agree b past
+
+next_of : (b : BoardValue) (r : Record) (past : List Record) → DownLaws b
+    → IsLegalPast b (r ∷ past) → IsNext b r past
+next_of b r past laws is =
+    let m : Moves b r past =
+    moves b r past laws.firmware is.0 (firmware_legal b (r ∷ past) is) in
+    let v : Values = firmware_values b past in
+    record {
+      moves = m;
+      step = λ c. subst (λ w. IsStep v w c m.effect) (sym m.values) (step b v c m.effect m.allowed);
+      holds = laws.holds past is.1;
+      said = is.0;
+      begun = (laws.agree (r ∷ past) is).begun;
+    }
+
+first_life : (b : BoardValue) → (firmware_values b []).life ≡ 0
+unfolding firmware_history Rattle.psci_fw_model.specs.History.values_of
+first_life b = refl
+
+no_acks : (k : ℕ) (a : AckValue) → slice_get (acks []) k ≡ Some a → ⊥
+unfolding acks
+no_acks k a e = absurd (cc)
+
+first_controlled : (b : BoardValue) → controller_values b [] ≡ controlled.start_of_life b
+unfolding controller_history Rattle.psci_ctl_model.specs.History.values_of
+first_controlled b = refl
+
+first_down : (b : BoardValue) → CoreLaws b → AreDown b []
+first_down b laws = record {
+  off = λ c e.
+      let is = reported b [] c e in
+      absurd (omega (arith, is.0, first_life b));
+  acked = λ k a at. absurd (no_acks k a at);
+  fresh = λ life c now unknown other.
+      slept_now b life [] c
+      (asleep_from b life [] c now
+      (ap (λ (v : controlled.Values). v.depth 0 c) (first_controlled b)
+      ∙ first_deep b c laws other));
+}
+
+pub all_down : (b : BoardValue) (past : List Record) → DownLaws b → IsLegalPast b past
+    → AreDown b past
+all_down b [] laws is = first_down b laws.cores
+all_down b (r ∷ past) laws is =
+    let next : IsNext b r past = next_of b r past laws is in
+    let are : AreDown b past = all_down b past laws is.1 in
+    record {
+      off = λ c. off_next b r past c next are;
+      acked = λ k a at.
+          by_ack b r past (ack_in r.said) k a laws.cores next are refl
+          (ap (λ xs. slice_get xs k) (sym (acks_more r past)) ∙ at);
+      fresh = λ life c. fresh_next b r past life c laws.cores next are;
+    }

@@ -1,0 +1,98 @@
+-- Different claims on one domain in one life have different generations.
+use Rattle.std.proofs.Common.{◌≡◌, ℕ, zero, suc, ◌<◌, inl, inr, Bool, true, false, cond, List}
+use Rattle.std.proofs.Common.{[], ◌∷◌, ◌++◌, Option, None, Some, option_map, refl, ap, sym, ◌∙◌}
+use Rattle.std.proofs.Common.{arith}
+use Rattle.std.specs.Prelude.{slice_get}
+use Rattle.psci_board.specs.Board.{BoardValue, HasNode}
+use Rattle.psci_board.specs.declared.node.Node.{Node}
+use Rattle.psci_coord.specs.declared.part.Part.{Part}
+use Rattle.psci_link.specs.Message.{MessageValue}
+use Rattle.psci_ctl_model.specs.Values.{is_on_path}
+use Rattle.psci_fw_model.specs.Said.{listed}
+use Rattle.psci_fw_model.specs.Values.{Values}
+use Rattle.psci_fw_laws.specs.Claims.{AreApart, part_for}
+use Rattle.psci_world_model.specs.declared.said.Record.{Record}
+use Rattle.psci_world_model.specs.Histories.{firmware_values, sent, sent_in}
+use Rattle.psci_safe.specs.Claims.{Claim, claim_by, claims}
+use Rattle.psci_headline.proofs.Claiming.{HasSource, source, with_claim_of}
+
+-- Lists of claims ------------------------------------------------------------------------------
+
+-- no two claims of a list have the same generation
+abbrev pub AreDistinct : List Claim → Type 0
+AreDistinct list = (j k : ℕ) (p q : Claim) → slice_get list j ≡ Some p → slice_get list k ≡ Some q
+    → p.generation ≡ q.generation → j ≡ k
+
+distinct_none : AreDistinct []
+distinct_none j k p q at to same = absurd (cc)
+
+-- one more claim, of another generation than the older ones
+distinct_more : (x : Claim) (old : List Claim)
+    → ((k : ℕ) (y : Claim) → slice_get old k ≡ Some y → y.generation ≡ x.generation → ⊥)
+    → AreDistinct old → AreDistinct (x ∷ old)
+distinct_more x old new are zero zero p q at to same = refl
+distinct_more x old new are zero (suc k) p q at to same =
+    let is : p ≡ x = cc in
+    absurd (new k q to (sym same ∙ ap (λ (c : Claim). c.generation) is))
+distinct_more x old new are (suc j) zero p q at to same =
+    let is : q ≡ x = cc in
+    absurd (new j p at (same ∙ ap (λ (c : Claim). c.generation) is))
+distinct_more x old new are (suc j) (suc k) p q at to same = ap suc (are j k p q at to same)
+
+first_distinct : (first : Claim) (t : Bool) → AreDistinct (cond t [] (first ∷ []))
+first_distinct first true = distinct_none
+first_distinct first false = distinct_more first [] (λ k y at. absurd (cc)) distinct_none
+
+-- All claims -----------------------------------------------------------------------------------
+
+apart_before : (b : BoardValue) (o : Option MessageValue) (messages : List MessageValue)
+    → AreApart b (listed o ++ messages) → AreApart b messages
+apart_before b None messages are = are
+apart_before b (Some m) messages are = record {
+  later = λ life level place j k m n p q h i g.
+      are.later life level place (suc j) (suc k) m n p q (omega arith) i g;
+  start = λ life level place k m p i. are.start life level place (suc k) m p i;
+}
+
+module _ (b : BoardValue) (life : ℕ) (v : Values) (n : Node) (messages : List MessageValue)
+    (old : List Claim)
+    (sources : (k : ℕ) (x : Claim) → slice_get old k ≡ Some x → HasSource b life n messages x)
+  where
+    -- the claim of a new message has another generation than each older one
+    newer : (m : MessageValue) (p : Part) (k : ℕ) (y : Claim) → AreApart b (m ∷ messages)
+        → part_for b life n.level n.place m ≡ Some p → slice_get old k ≡ Some y
+        → y.generation ≡ p.generation → ⊥
+    newer m p k y are e at same =
+        let s = sources k y at in
+        let some : 0 < p.generation = are.start life n.level n.place 0 m p refl e in
+        elim s.from [
+          | inl start ↦
+              let none = ap (λ (x : Part). x.generation) start.is in
+              omega (arith, some, none, s.generation, same)
+          | inr f ↦
+              let less = are.later life n.level n.place 0 (suc f.index) m f.message p s.part
+              (omega arith) refl f.at e f.part in
+              omega (arith, less, s.generation, same)
+        ]
+
+    part_distinct : (m : MessageValue) (o : Option Part) → part_for b life n.level n.place m ≡ o
+        → AreApart b (m ∷ messages) → AreDistinct old
+        → AreDistinct (listed (option_map (λ p. claim_by b v n m.core.number p) o) ++ old)
+    part_distinct m None is are distinct = distinct
+    part_distinct m (Some p) is are distinct =
+        distinct_more (claim_by b v n m.core.number p) old (λ k y. newer m p k y are is) distinct
+
+    with_distinct : (o : Option MessageValue) → AreApart b (listed o ++ messages)
+        → AreDistinct old → AreDistinct (with_claim_of b life v n o old)
+    with_distinct None are distinct = distinct
+    with_distinct (Some m) are distinct =
+        part_distinct m (part_for b life n.level n.place m) refl are distinct
+
+pub distinct : (b : BoardValue) (life : ℕ) (n : Node) (past : List Record) → HasNode b n
+    → AreApart b (sent past) → AreDistinct (claims b life n past)
+unfolding claims sent
+distinct b life n [] has are = first_distinct _ (is_on_path b 0 n.level n.place)
+distinct b life n (r ∷ past) has are =
+    with_distinct b life (firmware_values b (r ∷ past)) n (sent past) (claims b life n past)
+    (λ k x. source b life n past k x has) (sent_in r.said) are
+    (distinct b life n past has (apart_before b (sent_in r.said) (sent past) are))

@@ -1,0 +1,132 @@
+-- Each claim of a list was asked for when it was made.
+use Rattle.std.proofs.Common.{◌≡◌, ℕ, zero, suc, ◌+◌, ◌<◌, ◌≤◌, Bool, true, false, ◌==◌, cond}
+use Rattle.std.proofs.Common.{List, [], ◌∷◌, filter, Some, refl, ap, sym, ◌∙◌}
+use Rattle.std.proofs.Common.{subst, arith}
+use Rattle.std.specs.Prelude.{nat_le, slice_get}
+use Rattle.std.specs.List.{list_all, range_with_len}
+use Rattle.std.proofs.lemmas.Bool.{and_from, cond_both, cond-true, eq-eqb, eqb-true, le-leb}
+use Rattle.psci_board.specs.Board.{BoardValue, HasNode, below, cores, height, size_below, up}
+use Rattle.psci_board.specs.declared.node.Node.{Node}
+use Rattle.psci_coord.specs.declared.part.Part.{Part}
+use Rattle.psci_link.specs.Message.{MessageValue}
+use Rattle.psci_tree.specs.Recount.{asks}
+use Rattle.psci_ctl_model.specs.Values.{is_on_path}
+use Rattle.psci_fw_model.specs.declared.mode.SuspendMode.{SuspendMode}
+use Rattle.psci_fw_model.specs.declared.mode.SuspendMode.TheVariants.{Platform, OsInitiated}
+use Rattle.psci_fw_model.specs.Lives.{first_phase, start_of_life}
+use Rattle.psci_fw_model.specs.Phases.{Away, Pending, Phase, activity_of}
+use Rattle.psci_fw_model.specs.Values.{Values}
+use Rattle.psci_fw_model.specs.Views.{ask}
+use Rattle.psci_fw_laws.specs.Asked.{IsAskedFor}
+use Rattle.psci_fw_laws.specs.Claims.{part_for}
+use Rattle.psci_fw_laws.proofs.Parts.{HasPart, part_has}
+use Rattle.psci_world_model.specs.declared.said.Record.{Record}
+use Rattle.psci_world_model.specs.Histories.{firmware_values, sent_in}
+use Rattle.psci_safe.specs.Claims.{Claim, all_ask, asks_by, claim_by, claims}
+use Rattle.psci_headline.proofs.Claiming.{by_claim}
+
+-- All cores below a domain ---------------------------------------------------------------------
+
+kept_head : (p : ℕ → Bool) (t : Bool) (a : ℕ) (xs : List ℕ) → (t ≡ true → p a ≡ true)
+    → list_all p xs ≡ true → list_all p (cond t (a ∷ xs) xs) ≡ true
+kept_head p true a xs here there = and_from _ _ (here refl) there
+kept_head p false a xs here there = there
+
+all_kept : (p test : ℕ → Bool) (a n : ℕ)
+    → ((c : ℕ) → a ≤ c → c < a + n → test c ≡ true → p c ≡ true)
+    → list_all p (filter test (range_with_len a n)) ≡ true
+all_kept p test a zero each = refl
+all_kept p test a (suc n) each =
+    kept_head p (test a) a (filter test (range_with_len (a + 1) n))
+    (each a (omega arith) (omega arith))
+    (all_kept p test (a + 1) n (λ c low high. each c (omega arith) (omega arith)))
+
+all_below : (b : BoardValue) (n : Node) (p : ℕ → Bool)
+    → ((c : ℕ) → c < cores b → up b n.level c ≡ n.place → p c ≡ true)
+    → list_all p (below b n) ≡ true
+unfolding up
+all_below b n p each =
+    all_kept p (λ c. up b n.level c == n.place) 0 (size_below b.levels)
+    (λ c low high e. each c (omega arith) (eqb-true _ _ e))
+
+-- The claim of a message -----------------------------------------------------------------------
+
+asked_in : (b : BoardValue) (v : Values) (n : Node) (m : MessageValue) (p : Part) (life : ℕ)
+    (mode : SuspendMode) → v.mode ≡ mode → IsAskedFor b v m
+    → HasPart b life n.level n.place m p → asks_by mode b v n m.core.number p.depth ≡ true
+asked_in b v n m p life Platform is fair has =
+    all_below b n (λ c. nat_le p.depth (ask b v c n.level))
+    (λ c on at. le-leb _ _ (fair.least is n.level c p has.part on (at ∙ has.on)))
+asked_in b v n m p life OsInitiated is fair has =
+    and_from (nat_le p.depth (ask b v m.core.number n.level)) _
+    (le-leb _ _ (fair.own n.level p has.part))
+    (all_below b n (λ c. nat_le p.depth (ask b v c 0))
+    (λ c on at. le-leb _ _ (fair.below n.level c p has.part on (at ∙ has.on))))
+
+asked_by : (b : BoardValue) (life : ℕ) (v : Values) (n : Node) (m : MessageValue) (p : Part)
+    → IsAskedFor b v m → part_for b life n.level n.place m ≡ Some p
+    → (claim_by b v n m.core.number p).asked ≡ true
+asked_by b life v n m p fair e =
+    asked_in b v n m p life v.mode refl fair (part_has b life n.level n.place m p e)
+
+-- The start of a life --------------------------------------------------------------------------
+
+-- a core that is away asks for power-down of its domains
+away_asks : (b : BoardValue) (level c : ℕ) (phase : Phase) → level ≤ height b → phase ≡ Away
+    → nat_le 3 (cond (nat_le level (height b)) (asks (activity_of phase) level) 0) ≡ true
+away_asks b level c phase low away =
+    le-leb 3 _ (subst (λ d. 3 ≤ d)
+    (sym (cond-true (nat_le level (height b)) (asks (activity_of phase) level) 0 (le-leb _ _ low)
+    ∙ ap (λ (x : Phase). asks (activity_of x) level) away))
+    (omega arith))
+
+-- a core that the boot core's path does not lead to is away
+away_first : (b : BoardValue) (n : Node) (c : ℕ) → HasNode b n
+    → is_on_path b 0 n.level n.place ≡ false → up b n.level c ≡ n.place → first_phase c ≡ Away
+away_first b n c has off at =
+    cond_both (c == 0) Pending Away (λ x. x ≡ Away)
+    (λ e.
+    let zero : c ≡ 0 = eqb-true _ _ e in
+    let on : is_on_path b 0 n.level n.place ≡ true =
+    and_from (nat_le n.level (height b)) (up b n.level 0 == n.place) (le-leb _ _ has.level)
+    (eq-eqb _ _ (ap (up b n.level) (sym zero) ∙ at)) in
+    absurd (cc))
+    (λ e. refl)
+
+start_asked : (b : BoardValue) (life : ℕ) (n : Node) → HasNode b n
+    → is_on_path b 0 n.level n.place ≡ false
+    → all_ask b (start_of_life b life) n 3 n.level ≡ true
+start_asked b life n has off =
+    all_below b n (λ c. nat_le 3 (ask b (start_of_life b life) c n.level))
+    (λ c on at. away_asks b n.level c (first_phase c) has.level (away_first b n c has off at))
+
+first_asked : (first : Claim) (t : Bool) (k : ℕ) (x : Claim) → (t ≡ false → first.asked ≡ true)
+    → slice_get (cond t [] (first ∷ [])) k ≡ Some x → x.asked ≡ true
+first_asked first true k x asked at = absurd (cc)
+first_asked first false zero x asked at =
+    let same : first ≡ x = cc in
+    ap (λ (c : Claim). c.asked) (sym same) ∙ asked refl
+first_asked first false (suc k) x asked at = absurd (cc)
+
+-- All claims -----------------------------------------------------------------------------------
+
+-- each part that a record's message has for a domain was asked for by then
+abbrev pub WereAsked : BoardValue → List Record → Type 0
+WereAsked b [] = Unit {0}
+WereAsked b (r ∷ past) =
+    ((m : MessageValue) (life level place : ℕ) (p : Part) → sent_in r.said ≡ Some m
+    → part_for b life level place m ≡ Some p → IsAskedFor b (firmware_values b (r ∷ past)) m)
+    × WereAsked b past
+
+pub asked : (b : BoardValue) (life : ℕ) (n : Node) (past : List Record) (k : ℕ) (x : Claim)
+    → HasNode b n → WereAsked b past → slice_get (claims b life n past) k ≡ Some x
+    → x.asked ≡ true
+unfolding claims
+asked b life n [] k x has were at =
+    first_asked _ (is_on_path b 0 n.level n.place) k x (start_asked b life n has) at
+asked b life n (r ∷ past) k x has were at =
+    by_claim b life (firmware_values b (r ∷ past)) n (λ c. c.asked ≡ true) (claims b life n past)
+    (sent_in r.said) k x
+    (λ m p is e. asked_by b life (firmware_values b (r ∷ past)) n m p
+    (were.0 m life n.level n.place p is e) e)
+    (λ j e. asked b life n past j x has were.1 e) at

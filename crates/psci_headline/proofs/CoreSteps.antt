@@ -1,0 +1,265 @@
+-- What one effect does to the firmware's life, and to the known start, phase and status of a core.
+use Rattle.std.proofs.Common.{◌≡◌, ℕ, ◌<◌, ◌≤◌, ◌⊎◌, inl, inr, Bool, true, false, ◌==◌, cond, Some}
+use Rattle.std.proofs.Common.{refl, arith, subst, ap, sym, ◌∙◌, ◌&&◌}
+use Rattle.std.specs.Prelude.{nat_lt}
+use Rattle.std.proofs.lemmas.Bool.{and_parts, cond_both, eqb-false, eqb-true, ltb-true}
+use Rattle.psci_board.specs.Board.{BoardValue}
+use Rattle.psci_link.specs.declared.kind.Kind.{Kind}
+use Rattle.psci_link.specs.declared.kind.Kind.TheVariants.{Down, Start, Off, Reset}
+use Rattle.psci_link.specs.Message.{AckValue}
+use Rattle.psci_link.specs.Slots.{is_kind}
+use Rattle.psci_ctl_model.specs.declared.start.Start as starts
+use Rattle.psci_fw_model.specs.declared.status.Status.TheVariants as statuses
+use Rattle.psci_fw_model.specs.After.{change}
+use Rattle.psci_fw_model.specs.Changes.{target, turns_off}
+use Rattle.psci_fw_model.specs.Effects.{Effect, Nothing, GoesOn, SetsMode, AsksOn, Rests, Halts}
+use Rattle.psci_fw_model.specs.Effects.{Leaves, Enters, Parks, Ceases, Acknowledges}
+use Rattle.psci_fw_model.specs.Lives.{first_status, in_life, start_of_life}
+use Rattle.psci_fw_model.specs.Phases.{Phase, Away, Pending, Running, Suspended, is_away}
+use Rattle.psci_fw_model.specs.Said.{Arrival, arrived}
+use Rattle.psci_fw_model.specs.Values.{Values, updated}
+use Rattle.psci_fw_laws.specs.Allowed.{IsAllowed, IsEntering}
+use Rattle.psci_fw_laws.proofs.Parts.{updated_at}
+
+-- An effect says that a core is off: an acknowledgement of its Down was taken.
+pub record TurnsOff (v : Values) (c : ℕ) (e : Effect) : Type 0 where
+  pub ack : AckValue
+  pub is : e ≡ Acknowledges ack
+  pub core : ack.core.number ≡ c
+  pub kind : ack.kind ≡ Down
+  pub some : 0 < ack.applied
+  pub away : v.phase c ≡ Away
+
+-- A core entered by a start of this life.
+pub record Begins (life : ℕ) (e : Effect) : Type 0 where
+  pub arrival : Arrival
+  pub is : arrived e ≡ Some arrival
+  pub new : arrival.start.life ≡ life
+
+-- What an effect makes of these values, for one core.
+pub record IsStep (v w : Values) (c : ℕ) (e : Effect) : Type 0 where
+  -- no life follows a later one, and no known start of the life a later one
+  pub life : v.life ≤ w.life
+  pub known : w.life ≡ v.life → v.known c ≤ w.known c
+  -- without a new known start a core runs only if it ran, and is away only if it ran or was away
+  pub runs : w.life ≡ v.life → w.known c ≡ v.known c → w.phase c ≡ Running → v.phase c ≡ Running
+  pub away : w.life ≡ v.life → w.known c ≡ v.known c → w.phase c ≡ Away
+      → (v.phase c ≡ Away) ⊎ (v.phase c ≡ Running)
+  -- it is OFF only if it was, or is told to be
+  pub off : w.life ≡ v.life → w.status c ≡ statuses.Off
+      → (v.status c ≡ statuses.Off) ⊎ TurnsOff v c e
+  -- another life begins by an entry, and the boot core is not OFF then
+  pub begins : (w.life ≡ v.life → ⊥) → Begins w.life e
+  pub boot : (w.life ≡ v.life → ⊥) → w.status c ≡ statuses.Off → c ≡ 0 → ⊥
+
+-- Calls ---------------------------------------------------------------------------------------
+
+-- the life and the known start stay
+within : (v w : Values) (c : ℕ) (e : Effect) → w.life ≡ v.life → w.known c ≡ v.known c
+    → (w.phase c ≡ Running → v.phase c ≡ Running)
+    → (w.phase c ≡ Away → (v.phase c ≡ Away) ⊎ (v.phase c ≡ Running))
+    → (w.status c ≡ statuses.Off → (v.status c ≡ statuses.Off) ⊎ TurnsOff v c e)
+    → IsStep v w c e
+within v w c e life known runs away off = record {
+  life = omega (arith, life);
+  known = λ l. omega (arith, known);
+  runs = λ l k. runs;
+  away = λ l k. away;
+  off = λ l. off;
+  begins = λ other. absurd (other life);
+  boot = λ other. absurd (other life);
+}
+
+-- a running core called, and is now of this phase
+called : (v w : Values) (c d : ℕ) (e : Effect) (p : Phase) → v.phase d ≡ Running
+    → w.life ≡ v.life → w.known c ≡ v.known c → w.phase c ≡ updated v.phase d p c
+    → w.status c ≡ v.status c → IsStep v w c e
+called v w c d e p ran life known phase status =
+    within v w c e life known
+    (λ now. updated_at (λ x. x ≡ Running → v.phase c ≡ Running) v.phase d p c
+    (λ here x. ap v.phase here ∙ ran) (λ there x. x) (sym phase ∙ now))
+    (λ now. updated_at (λ x. x ≡ Away → (v.phase c ≡ Away) ⊎ (v.phase c ≡ Running)) v.phase d p c
+    (λ here x. inr (ap v.phase here ∙ ran)) (λ there x. inl x) (sym phase ∙ now))
+    (λ now. inl (sym status ∙ now))
+
+-- a running core asked another one on
+asked : (v w : Values) (c d t : ℕ) (e : Effect) (p : Phase) → v.phase d ≡ Running
+    → w.life ≡ v.life → w.known c ≡ v.known c
+    → w.phase c ≡ updated (updated v.phase t Pending) d p c
+    → w.status c ≡ updated v.status t statuses.Pending c → IsStep v w c e
+asked v w c d t e p ran life known phase status =
+    within v w c e life known
+    (λ now. updated_at (λ x. x ≡ Running → v.phase c ≡ Running) (updated v.phase t Pending) d p c
+    (λ here x. ap v.phase here ∙ ran)
+    (λ there. updated_at (λ x. x ≡ Running → v.phase c ≡ Running) v.phase t Pending c
+    (λ here x. absurd (cc)) (λ there x. x)) (sym phase ∙ now))
+    (λ now. updated_at (λ x. x ≡ Away → (v.phase c ≡ Away) ⊎ (v.phase c ≡ Running))
+    (updated v.phase t Pending) d p c
+    (λ here x. inr (ap v.phase here ∙ ran))
+    (λ there. updated_at (λ x. x ≡ Away → (v.phase c ≡ Away) ⊎ (v.phase c ≡ Running)) v.phase t
+    Pending c (λ here x. absurd (cc)) (λ there x. inl x)) (sym phase ∙ now))
+    (λ now. updated_at (λ x. x ≡ statuses.Off → (v.status c ≡ statuses.Off) ⊎ TurnsOff v c e)
+    v.status t statuses.Pending c (λ here x. absurd (cc)) (λ there x. inl x) (sym status ∙ now))
+
+-- Entries -------------------------------------------------------------------------------------
+
+-- What an arrival leaves, for one core, beside what the core found that entered.
+record IsArrived (found w : Values) (c d number : ℕ) : Type 0 where
+  pub life : w.life ≡ found.life
+  pub known : w.known c ≡ updated found.known d number c
+  pub phase : (c ≡ d → ⊥) → w.phase c ≡ found.phase c
+  pub status : w.status c ≡ statuses.Off → found.status c ≡ statuses.Off
+
+-- a core entered in the firmware's life
+in_present : (v w : Values) (c d number : ℕ) (e : Effect) → v.known d < number
+    → IsArrived v w c d number → IsStep v w c e
+in_present v w c d number e later is = record {
+  life = omega (arith, is.life);
+  known = λ l. subst (λ n. v.known c ≤ n) (sym is.known)
+      (updated_at (λ n. v.known c ≤ n) v.known d number c
+      (λ here. let same = ap v.known here in omega arith) (λ there. omega arith));
+  runs = λ l k now. sym (is.phase (other k)) ∙ now;
+  away = λ l k now. inl (sym (is.phase (other k)) ∙ now);
+  off = λ l now. inl (is.status now);
+  begins = λ new. absurd (new is.life);
+  boot = λ new. absurd (new is.life);
+}
+  where
+    other : w.known c ≡ v.known c → c ≡ d → ⊥
+    other same here =
+        let now : w.known c ≡ number = is.known ∙ updated_at (λ n. n ≡ number) v.known d number c
+        (λ h. refl) (λ there. absurd (there here)) in
+        let was = ap v.known here in
+        omega arith
+
+not_boot : (c : ℕ) → first_status c ≡ statuses.Off → c ≡ 0 → ⊥
+not_boot c e zero =
+    let off : first_status 0 ≡ statuses.Off = subst (λ k. first_status k ≡ statuses.Off) zero e in
+    absurd (cc)
+
+-- a core entered in another life
+in_another : (b : BoardValue) (v w : Values) (c d number life : ℕ) (e : Effect) → v.life ≤ life
+    → (life ≡ v.life → ⊥) → Begins life e → IsArrived (start_of_life b life) w c d number
+    → IsStep v w c e
+in_another b v w c d number life e later other begins is = record {
+  life = omega (arith, is.life);
+  known = λ l. absurd (other (sym is.life ∙ l));
+  runs = λ l. absurd (other (sym is.life ∙ l));
+  away = λ l. absurd (other (sym is.life ∙ l));
+  off = λ l. absurd (other (sym is.life ∙ l));
+  begins = λ new. subst (λ n. Begins n e) (sym is.life) begins;
+  boot = λ new off. not_boot c (is.status off);
+}
+
+by_life : (b : BoardValue) (v w : Values) (c d number life : ℕ) (e : Effect) (t : Bool)
+    → v.life ≤ life → (life ≡ v.life → v.known d < number) → Begins life e
+    → (life == v.life) ≡ t → IsArrived (cond t v (start_of_life b life)) w c d number
+    → IsStep v w c e
+by_life b v w c d number life e true low later begins same is =
+    in_present v w c d number e (later (eqb-true life v.life same)) is
+by_life b v w c d number life e false low later begins same is =
+    in_another b v w c d number life e low (eqb-false life v.life same) begins is
+
+enters : (b : BoardValue) (v w : Values) (c d : ℕ) (s : starts.Start) (e : Effect)
+    → IsEntering b v d s → Begins s.life e → IsArrived (in_life b s.life v) w c d s.number
+    → IsStep v w c e
+enters b v w c d s e entering begins is =
+    by_life b v w c d s.number s.life e (s.life == v.life) entering.life entering.later begins refl
+    is
+
+-- Acknowledgements ----------------------------------------------------------------------------
+
+kind_down : (k : Kind) → is_kind k Down ≡ true → k ≡ Down
+kind_down Down e = refl
+kind_down Start e = absurd (cc)
+kind_down Off e = absurd (cc)
+kind_down Reset e = absurd (cc)
+
+phase_away : (p : Phase) → is_away p ≡ true → p ≡ Away
+phase_away Pending e = absurd (cc)
+phase_away Running e = absurd (cc)
+phase_away (Suspended ask) e = absurd (cc)
+phase_away Away e = refl
+
+turned : (v : Values) (c : ℕ) (a : AckValue) → c ≡ a.core.number → turns_off v a ≡ true
+    → TurnsOff v c (Acknowledges a)
+turned v c a here e =
+    let c_away = is_away (v.phase a.core.number) in
+    let both = and_parts (is_kind a.kind Down && nat_lt 0 a.applied) c_away e in
+    let first = and_parts (is_kind a.kind Down) (nat_lt 0 a.applied) both.0 in
+    record {
+      ack = a;
+      is = refl;
+      core = sym here;
+      kind = kind_down a.kind first.0;
+      some = ltb-true 0 a.applied first.1;
+      away = ap v.phase here ∙ phase_away (v.phase a.core.number) both.1;
+    }
+
+taken : (b : BoardValue) (v : Values) (c : ℕ) (a : AckValue)
+    → IsStep v (change b (Acknowledges a) v) c (Acknowledges a)
+taken b v c a =
+    within v (change b (Acknowledges a) v) c (Acknowledges a) refl refl (λ e. e) (λ e. inl e)
+    (λ now. updated_at
+    (λ x. x ≡ statuses.Off → (v.status c ≡ statuses.Off) ⊎ TurnsOff v c (Acknowledges a)) v.status
+    a.core.number (cond (turns_off v a) statuses.Off (v.status a.core.number)) c
+    (λ here. cond_both (turns_off v a) statuses.Off (v.status a.core.number)
+    (λ x. x ≡ statuses.Off → (v.status c ≡ statuses.Off) ⊎ TurnsOff v c (Acknowledges a))
+    (λ t x. inr (turned v c a here t)) (λ t x. inl (ap v.status here ∙ x)))
+    (λ there x. inl x) now)
+
+-- All -----------------------------------------------------------------------------------------
+
+pub step : (b : BoardValue) (v : Values) (c : ℕ) (e : Effect) → IsAllowed b v e
+    → IsStep v (change b e v) c e
+step b v c Nothing allowed =
+    within v v c Nothing refl refl (λ e. e) (λ e. inl e) (λ e. inl e)
+step b v c (GoesOn d) allowed =
+    called v (change b (GoesOn d) v) c d (GoesOn d) _ allowed.runs refl refl refl refl
+step b v c (SetsMode d mode) allowed =
+    called v (change b (SetsMode d mode) v) c d (SetsMode d mode) _ allowed.runs refl refl refl refl
+step b v c (AsksOn d on) allowed =
+    asked v (change b (AsksOn d on) v) c d (target on) (AsksOn d on) _ allowed.calls.runs refl refl
+    refl refl
+step b v c (Rests d rest m) allowed =
+    called v (change b (Rests d rest m) v) c d (Rests d rest m) _ allowed.calls.runs refl refl refl
+    refl
+step b v c (Halts d m) allowed =
+    called v (change b (Halts d m) v) c d (Halts d m) _ allowed.calls.runs refl refl refl refl
+step b v c (Leaves d) allowed =
+    called v (change b (Leaves d) v) c d (Leaves d) _ allowed.calls.runs refl refl refl refl
+step b v c (Enters d s) allowed =
+    let found : Values = in_life b s.life v in
+    enters b v (change b (Enters d s) v) c d s (Enters d s) allowed.enters
+    (record { arrival = record { core = d; start = s }; is = refl; new = refl })
+    (record {
+      life = refl;
+      known = refl;
+      phase = λ ne. updated_at (λ x. x ≡ found.phase c) found.phase d Running c
+          (λ here. absurd (ne here)) (λ there. refl);
+      status = updated_at (λ x. x ≡ statuses.Off → found.status c ≡ statuses.Off) found.status d
+          statuses.On c (λ here e. absurd (cc)) (λ there e. e);
+    })
+step b v c (Parks d s m) allowed =
+    let found : Values = in_life b s.life v in
+    enters b v (change b (Parks d s m) v) c d s (Parks d s m) allowed.enters
+    (record { arrival = record { core = d; start = s }; is = refl; new = refl })
+    (record {
+      life = refl;
+      known = refl;
+      phase = λ ne. updated_at (λ x. x ≡ found.phase c) found.phase d _ c
+          (λ here. absurd (ne here)) (λ there. refl);
+      status = λ e. e;
+    })
+step b v c (Ceases d s) allowed =
+    let found : Values = in_life b s.life v in
+    enters b v (change b (Ceases d s) v) c d s (Ceases d s) allowed.enters
+    (record { arrival = record { core = d; start = s }; is = refl; new = refl })
+    (record {
+      life = refl;
+      known = refl;
+      phase = λ ne. updated_at (λ x. x ≡ found.phase c) found.phase d _ c
+          (λ here. absurd (ne here)) (λ there. refl);
+      status = λ e. e;
+    })
+step b v c (Acknowledges a) allowed = taken b v c a

@@ -1,0 +1,266 @@
+-- After every legal history each entry has taken up an opening of its own.
+use Rattle.std.proofs.Common.{◌≡◌, ℕ, suc, ◌≤◌, Bool, true, false, ◌==◌, cond, List, [], ◌∷◌}
+use Rattle.std.proofs.Common.{◌++◌, length, Option, None, Some, option_map, refl, ap, sym, ◌∙◌}
+use Rattle.std.proofs.Common.{subst, arith}
+use Rattle.std.specs.Option.{option_or}
+use Rattle.std.proofs.lemmas.Bool.{eqb-false, eqb-true}
+use Rattle.psci_board.specs.Board.{BoardValue}
+use Rattle.psci_ctl_model.specs.declared.start.Start.{Start}
+use Rattle.psci_link.specs.Message.{MessageValue}
+use Rattle.psci_fw_model.specs.declared.call.FwCall.{FwCall}
+use Rattle.psci_fw_model.specs.declared.call.FwCall.TheVariants as calls
+use Rattle.psci_fw_model.specs.declared.fault.FwFault.{FwFault}
+use Rattle.psci_fw_model.specs.declared.opening.Opening.{Opening}
+use Rattle.psci_fw_model.specs.declared.outcome.Act.{Act}
+use Rattle.psci_fw_model.specs.declared.outcome.Act.TheVariants as acts
+use Rattle.psci_fw_model.specs.declared.outcome.Outcome.{Outcome}
+use Rattle.psci_fw_model.specs.declared.reply.FwReply.{FwReply}
+use Rattle.psci_fw_model.specs.declared.reply.FwReply.TheVariants as replies
+use Rattle.psci_fw_model.specs.After.{change}
+use Rattle.psci_fw_model.specs.Answer.{answer, reply_or}
+use Rattle.psci_fw_model.specs.Changes.{with_arrival}
+use Rattle.psci_fw_model.specs.CpuOff.{off_message}
+use Rattle.psci_fw_model.specs.Effects.{Effect, Nothing, GoesOn, SetsMode, AsksOn, Rests, Halts}
+use Rattle.psci_fw_model.specs.Effects.{Leaves, Enters, Parks, Ceases, Acknowledges, effect_of}
+use Rattle.psci_fw_model.specs.Effects.{enter_effect}
+use Rattle.psci_fw_model.specs.Entering.{enter_fault, enter_outcome, outcome_at, resumes}
+use Rattle.psci_fw_model.specs.Entry.{Entry, effect}
+use Rattle.psci_fw_model.specs.History.{life, values_of}
+use Rattle.psci_fw_model.specs.Legal.{IsLegal}
+use Rattle.psci_fw_model.specs.Lives.{in_life, start_of_life}
+use Rattle.psci_fw_model.specs.Outcomes.{stops, stops_with}
+use Rattle.psci_fw_model.specs.Said.{arrived, listed}
+use Rattle.psci_fw_model.specs.Values.{Values, updated}
+use Rattle.psci_fw_laws.specs.Allowed.{IsAllowed}
+use Rattle.psci_fw_laws.proofs.Parts.{updated_at}
+use Rattle.psci_safe.specs.Moments.{goes_on_by}
+use Rattle.psci_safe.specs.Openings.{AreTakenUp, EnteredAt, Made, TakenUp, entered_by, entered_to}
+use Rattle.psci_safe.specs.Openings.{made_at, made_for_boot, openings, taken_up}
+use Rattle.psci_safe.specs.Openings.{OfCall, OfLife}
+use Rattle.psci_headline.proofs.Functions.{call_ends}
+use Rattle.psci_headline.proofs.Naming.{AreNamed, made_in, names_target, same_made}
+use Rattle.psci_headline.proofs.TakingUp.{taken_up_by, taking}
+use Rattle.psci_headline.proofs.Waiting.{AreWaiting, begun, called, fewer, none_waiting, one_more}
+use Rattle.psci_headline.proofs.Waiting as waiting
+
+-- What an answer says of an entry --------------------------------------------------------------
+
+-- A core entered at its opening, as it found it in the life of its start.
+record HasEntered (b : BoardValue) (v : Values) (f : Effect) (x : EnteredAt) : Type 0 where
+  start : Start
+  is : f ≡ Enters x.core start
+  of_life : x.life ≡ start.life
+  opening : (in_life b start.life v).opening x.core ≡ Some x.opening
+
+-- a core is answered an entry point only where it has that opening
+module _ (b : BoardValue) (found after : Values) (c : ℕ) (s : Start) (a k : ℕ) where
+  resumed : (t : Bool)
+      → acts.Enter a k ≡ (cond t (record { act = acts.Resume; message = None })
+      (stops_with (off_message b after c))).act → ⊥
+  resumed true e = absurd (cc)
+  resumed false e = absurd (cc)
+
+  opened : (o : Option Opening) → acts.Enter a k ≡ (outcome_at b found after c s o).act
+      → o ≡ Some (record { address = a; context = k })
+  opened (Some o) e =
+      let address : o.address ≡ a = cc in
+      let context : o.context ≡ k = cc in
+      λ i. Some (record { address = address i; context = context i })
+  opened None e = absurd (resumed (resumes found c s) e)
+
+  opened_unless : (t : Bool) (o : Option Opening)
+      → acts.Enter a k ≡ (cond t stops (outcome_at b found after c s o)).act
+      → o ≡ Some (record { address = a; context = k })
+  opened_unless true o e = absurd (cc)
+  opened_unless false o e = opened o e
+
+answered : (act : Act) (m : Option MessageValue) (fault : Option FwFault) (o : Outcome)
+    → replies.Out (record { act = act; message = m }) ≡ reply_or fault o → act ≡ o.act
+answered act m (Some f) o e = absurd (cc)
+answered act m None o e =
+    let same : (record { act = act; message = m }) ≡ o = cc in
+    ap (λ (x : Outcome). x.act) same
+
+entered_at : (b : BoardValue) (v : Values) (c : ℕ) (s : Start) (act : Act)
+    (m : Option MessageValue) (x : EnteredAt)
+    → replies.Out (record { act = act; message = m }) ≡ answer b v c (calls.Enter s)
+    → entered_to c s.life act ≡ Some x → HasEntered b v (enter_effect c s act m) x
+unfolding answer enter_outcome
+entered_at b v c s (acts.Enter a k) m x e is =
+    let now : EnteredAt = record {
+      core = c;
+      life = s.life;
+      opening = record { address = a; context = k };
+    } in
+    let same : now ≡ x = cc in
+    let found = in_life b s.life v in
+    let act = answered (acts.Enter a k) m (enter_fault b v c s) _ e in
+    subst (HasEntered b v (Enters c s)) same (record {
+      start = s;
+      is = refl;
+      of_life = refl;
+      opening = opened_unless b found (with_arrival b c s v) c s a k found.halting (found.opening c)
+          act;
+    })
+entered_at b v c s (acts.Return code) m x e is = absurd (cc)
+entered_at b v c s acts.Stop m x e is = absurd (cc)
+entered_at b v c s acts.Resume m x e is = absurd (cc)
+
+-- a core that is not told to enter does not
+no_entry : (c before : ℕ) (act : Act) (x : EnteredAt) → goes_on_by act ≡ false
+    → entered_to c before act ≡ Some x → ⊥
+no_entry c before (acts.Enter address context) x ends is = absurd (cc)
+no_entry c before (acts.Return code) x ends is = absurd (cc)
+no_entry c before acts.Stop x ends is = absurd (cc)
+no_entry c before acts.Resume x ends is = absurd (cc)
+
+has_entered : (b : BoardValue) (v : Values) (before c : ℕ) (call : FwCall) (reply : FwReply)
+    (x : EnteredAt) → reply ≡ answer b v c call → entered_by before c call reply ≡ Some x
+    → HasEntered b v (effect_of b c call reply) x
+has_entered b v before c (calls.Smc regs) (replies.Out o) x e is =
+    absurd (no_entry c before o.act x (call_ends b v c regs o e) is)
+has_entered b v before c (calls.Smc regs) (replies.Taken t) x e is = absurd (cc)
+has_entered b v before c (calls.Smc regs) (replies.Fault f) x e is = absurd (cc)
+has_entered b v before c (calls.Take a) reply x e is = absurd (cc)
+has_entered b v before c (calls.Enter s) (replies.Out o) x e is =
+    entered_at b v c s o.act o.message x e is
+has_entered b v before c (calls.Enter s) (replies.Taken t) x e is = absurd (cc)
+has_entered b v before c (calls.Enter s) (replies.Fault f) x e is = absurd (cc)
+
+-- What an effect leaves ------------------------------------------------------------------------
+
+-- the openings that were made, with those that an effect makes after so many entries
+abbrev made_with : BoardValue → ℕ → ℕ → Effect → List Made → List Made
+made_with b n life f made =
+    listed (made_in n life f) ++ (listed (made_for_boot b life (arrived f)) ++ made)
+
+-- what holds after an effect, if no core entered at an opening
+abbrev IsLeft : BoardValue → ℕ → Values → Effect → List Made → List TakenUp → Type 0
+IsLeft b n v f made taken =
+    AreWaiting (suc n) (change b f v).life (change b f v).opening (made_with b n v.life f made)
+    taken
+
+module _ (b : BoardValue) (n : ℕ) (v : Values) (made : List Made) (taken : List TakenUp)
+    (are : AreWaiting n v.life v.opening made taken) where
+  -- what a core finds that enters, where its life has begun or not
+  found_waits : (c : ℕ) (s : Start) (t : Bool) → (s.life == v.life) ≡ t → v.life ≤ s.life
+      → AreWaiting n (cond t v (start_of_life b s.life)).life
+      (cond t v (start_of_life b s.life)).opening
+      (listed (cond t None (made_at (OfLife s.life) 0 s.life
+      (Some (record { address = b.boot; context = 0 })))) ++ made) taken
+  found_waits c s true is low = are
+  found_waits c s false is low =
+      begun n v.life v.opening made taken are b s.life
+      (let other = eqb-false s.life v.life is in omega (arith, other))
+
+  rested : (c : ℕ) (o : Option Opening)
+      → AreWaiting (suc n) v.life (updated v.opening c (option_or o (v.opening c)))
+      (listed (made_at (OfCall n) c v.life o) ++ made) taken
+  rested c None =
+      fewer (suc n) v.life v.opening made taken (one_more n v.life v.opening made taken are)
+      (updated v.opening c (v.opening c))
+      (λ x o. updated_at (λ q. q ≡ Some o → v.opening x ≡ Some o) v.opening c (v.opening c) x
+      (λ here e. ap v.opening here ∙ e) (λ there e. e))
+  rested c (Some o) = called n v.life v.opening made taken are c o
+
+  arrives : (c : ℕ) (s : Start) → v.life ≤ s.life
+      → AreWaiting (suc n) (in_life b s.life v).life
+      (updated (in_life b s.life v).opening c None)
+      (listed (made_for_boot b v.life (Some (record { core = c; start = s }))) ++ made) taken
+  arrives c s low =
+      let found = found_waits c s (s.life == v.life) refl low in
+      waiting.one_more _ _ _ _ _ (waiting.arrived _ _ _ _ _ found c)
+
+  leaves : (f : Effect) → IsAllowed b v f → IsLeft b n v f made taken
+  leaves (AsksOn c asked) allowed = rested _ (Some asked.opening)
+  leaves (Rests c rest m) allowed = rested c rest.opening
+  leaves (Enters c s) allowed = arrives c s allowed.enters.life
+  leaves (Parks c s m) allowed = arrives c s allowed.enters.life
+  leaves (Ceases c s) allowed = arrives c s allowed.enters.life
+  leaves Nothing allowed = one_more n v.life v.opening made taken are
+  leaves (GoesOn c) allowed = one_more n v.life v.opening made taken are
+  leaves (SetsMode c mode) allowed = one_more n v.life v.opening made taken are
+  leaves (Halts c m) allowed = one_more n v.life v.opening made taken are
+  leaves (Leaves c) allowed = one_more n v.life v.opening made taken are
+  leaves (Acknowledges a) allowed = one_more n v.life v.opening made taken are
+
+  found_life : (s : Start) (t : Bool) → (s.life == v.life) ≡ t
+      → (cond t v (start_of_life b s.life)).life ≡ s.life
+  found_life s true is = sym (eqb-true s.life v.life is)
+  found_life s false is = refl
+
+  -- a core entered at its opening
+  takes : (x : EnteredAt) (s : Start) → IsAllowed b v (Enters x.core s) → x.life ≡ s.life
+      → (in_life b s.life v).opening x.core ≡ Some x.opening
+      → AreWaiting (suc n) (in_life b s.life v).life
+      (updated (in_life b s.life v).opening x.core None)
+      (made_with b n v.life (Enters x.core s) made)
+      (taking x (made_with b n v.life (Enters x.core s) made) ∷ taken)
+  takes x s allowed here at =
+      let same = found_life s (s.life == v.life) refl in
+      let found = found_waits x.core s (s.life == v.life) refl allowed.enters.life in
+      waiting.one_more _ _ _ _ _ (taken_up_by _ _ _ _ _ found x
+      (omega (arith, same, allowed.enters.begun)) (here ∙ sym same) at)
+
+  -- what holds after an effect, with the entry that it was
+  abbrev AreLeft : Effect → Option EnteredAt → Type 0
+  AreLeft f o =
+      AreWaiting (suc n) (change b f v).life (change b f v).opening (made_with b n v.life f made)
+      (listed (option_map (λ x. taking x (made_with b n v.life f made)) o) ++ taken)
+
+  stays : (f : Effect) (o : Option EnteredAt) → IsAllowed b v f
+      → ((x : EnteredAt) → o ≡ Some x → HasEntered b v f x) → AreLeft f o
+  stays f None allowed has = leaves f allowed
+  stays f (Some x) allowed has =
+      let is = has x refl in
+      subst (λ g. AreLeft g (Some x)) (sym is.is)
+      (takes x is.start (subst (IsAllowed b v) is.is allowed) is.of_life is.opening)
+
+-- Histories ------------------------------------------------------------------------------------
+
+-- What is known of one more entry.
+pub record IsStep (b : BoardValue) (e : Entry) (h : List Entry) : Type 0 where
+  pub allowed : IsAllowed b (values_of b h) (effect b e)
+  pub values : values_of b (e ∷ h) ≡ change b (effect b e) (values_of b h)
+
+-- what holds after a history
+abbrev AreAfter : BoardValue → List Entry → Values → Type 0
+AreAfter b h v = AreWaiting (length h) v.life v.opening (openings b h) (taken_up b h)
+
+first_after : (b : BoardValue) → AreAfter b [] (values_of b [])
+unfolding values_of openings taken_up
+first_after b = none_waiting b
+
+more_after : (b : BoardValue) (e : Entry) (h : List Entry) → AreNamed b → IsStep b e h
+    → IsLegal b (e ∷ h) → AreAfter b h (values_of b h)
+    → AreAfter b (e ∷ h) (change b (effect b e) (values_of b h))
+unfolding values_of openings taken_up
+more_after b e h law step legal are =
+    let v : Values = values_of b h in
+    let w : Values = change b (effect b e) v in
+    let to : Option EnteredAt = entered_by v.life e.core e.call e.reply in
+    let before : List Made =
+    listed (made_for_boot b v.life (arrived (effect b e))) ++ openings b h in
+    let names = names_target b v e.core e.call e.reply law legal.0 in
+    subst (λ (made : Option Made). AreWaiting (suc (length h)) w.life w.opening
+    (listed made ++ before)
+    (listed (option_map (λ x. taking x (listed made ++ before)) to) ++ taken_up b h))
+    (sym (same_made b (length h) v.life e.call (effect b e) names))
+    (stays b (length h) v (openings b h) (taken_up b h) are (effect b e) to step.allowed
+    (λ x is. has_entered b v v.life e.core e.call e.reply x legal.0 is))
+
+are_waiting : (b : BoardValue) (h : List Entry) → AreNamed b
+    → ((e : Entry) (g : List Entry) → IsLegal b (e ∷ g) → IsStep b e g) → IsLegal b h
+    → AreAfter b h (values_of b h)
+are_waiting b [] law steps legal = first_after b
+are_waiting b (e ∷ h) law steps legal =
+    let step = steps e h legal in
+    subst (AreAfter b (e ∷ h)) (sym step.values)
+    (more_after b e h law step legal (are_waiting b h law steps legal.1))
+
+pub are_taken_up : (b : BoardValue) (h : List Entry) → AreNamed b
+    → ((e : Entry) (g : List Entry) → IsLegal b (e ∷ g) → IsStep b e g) → IsLegal b h
+    → AreTakenUp b h
+are_taken_up b h law steps legal =
+    let are = are_waiting b h law steps legal in
+    record { each = are.each; once = are.once }

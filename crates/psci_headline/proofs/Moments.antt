@@ -1,0 +1,153 @@
+-- A message was asked for by the values of its own record.
+use Rattle.std.proofs.Common.{◌≡◌, ℕ, suc, ◌⊎◌, inl, inr, List, [], ◌∷◌, ◌++◌, Option, None}
+use Rattle.std.proofs.Common.{Some, refl, ap, sym, ◌∙◌, subst, arith}
+use Rattle.std.specs.Prelude.{slice_get}
+use Rattle.psci_board.specs.Board.{BoardValue}
+use Rattle.psci_coord.specs.declared.part.Part.{Part}
+use Rattle.psci_ctl_model.specs.declared.start.Start.{Start}
+use Rattle.psci_ctl_model.specs.Replies.{last_start}
+use Rattle.psci_ctl_model.specs.Values as controlled
+use Rattle.psci_link.specs.declared.kind.Kind.TheVariants.{Down}
+use Rattle.psci_link.specs.declared.taken.Taken.{Taken}
+use Rattle.psci_link.specs.Message.{AckValue, MessageValue}
+use Rattle.psci_fw_model.specs.declared.outcome.Outcome.{Outcome}
+use Rattle.psci_fw_model.specs.Entry.{Entry, effect}
+use Rattle.psci_fw_model.specs.History.{values_of}
+use Rattle.psci_fw_model.specs.Said as says
+use Rattle.psci_fw_model.specs.Said.{listed}
+use Rattle.psci_fw_model.specs.Sent.{sent_messages}
+use Rattle.psci_fw_laws.specs.Asked.{IsAskedFor, WasAsked}
+use Rattle.psci_fw_laws.specs.Claims.{AreApart, part_for}
+use Rattle.psci_fw_laws.proofs.Parts.{part_has}
+use Rattle.psci_world_model.specs.declared.event.Event.{Event}
+use Rattle.psci_world_model.specs.declared.event.Event.TheVariants.{Call, Enter, Take}
+use Rattle.psci_world_model.specs.declared.said.Record.{Record}
+use Rattle.psci_world_model.specs.declared.said.Said.{Said}
+use Rattle.psci_world_model.specs.declared.said.Said.TheVariants.{Fw, Taken as Took}
+use Rattle.psci_world_model.specs.Histories.{acks, call, controller_values, entered}
+use Rattle.psci_world_model.specs.Histories.{firmware_history, firmware_values, outcome_in, sent}
+use Rattle.psci_world_model.specs.Histories.{sent_in, took}
+use Rattle.psci_world_model.specs.Legal.{IsLegalPast}
+use Rattle.psci_world_model.specs.Lists.{numbered}
+use Rattle.psci_headline.proofs.Asking.{WereAsked}
+
+-- Records --------------------------------------------------------------------------------------
+
+-- one entry of the firmware, or none
+abbrev OneOrNone : List Entry → Type 0
+OneOrNone list = (list ≡ []) ⊎ ((e : Entry) × (list ≡ e ∷ []))
+
+entered_one : (c : ℕ) (s : Option Start) (o : Outcome) → OneOrNone (entered c s o)
+entered_one c None o = inl refl
+entered_one c (Some s) o = inr (_, refl)
+
+took_one : (a : Option AckValue) (t : Taken) → OneOrNone (took a t)
+took_one None t = inl refl
+took_one (Some a) t = inr (_, refl)
+
+-- a record adds one entry at most to the firmware's history
+adds_one : (v : controlled.Values) (made : List AckValue) (event : Event) (said : Said)
+    → OneOrNone (call v made event said)
+adds_one v made (Call c regs) (Fw act sends) = inr (_, refl)
+adds_one v made (Enter c) (Fw act sends) = entered_one c (last_start v c) (outcome_in act sends)
+adds_one v made (Take k) (Took taken) = took_one (numbered made k) taken
+adds_one v made event said = inl refl
+
+more_calls : (b : BoardValue) (r : Record) (past : List Record)
+    → firmware_history b (r ∷ past)
+    ≡ call (controller_values b past) (acks past) r.event r.said ++ firmware_history b past
+unfolding firmware_history
+more_calls b r past = refl
+
+more_sent : (r : Record) (past : List Record)
+    → sent (r ∷ past) ≡ listed (sent_in r.said) ++ sent past
+unfolding sent
+more_sent r past = refl
+
+-- The entry that sent a message ----------------------------------------------------------------
+
+sent_later : (m : MessageValue) (o : Option MessageValue) (messages : List MessageValue)
+    → (k : ℕ) × (slice_get messages k ≡ Some m)
+    → (k : ℕ) × (slice_get (listed o ++ messages) k ≡ Some m)
+sent_later m None messages at = at
+sent_later m (Some x) messages (k, at) = (suc k, at)
+
+sent_now : (m : MessageValue) (o : Option MessageValue) (messages : List MessageValue)
+    → o ≡ Some m → (k : ℕ) × (slice_get (listed o ++ messages) k ≡ Some m)
+sent_now m None messages is = absurd (cc)
+sent_now m (Some x) messages is = (0, is)
+
+-- what an entry sent is among the messages
+sent_at : (b : BoardValue) (since : List Entry) (e : Entry) (before : List Entry)
+    (m : MessageValue) → says.sent (effect b e) ≡ Some m
+    → (k : ℕ) × (slice_get (sent_messages b (since ++ (e ∷ before))) k ≡ Some m)
+unfolding sent_messages
+sent_at b [] e before m is = sent_now m (says.sent (effect b e)) (sent_messages b before) is
+sent_at b (s ∷ since) e before m is =
+    sent_later m (says.sent (effect b s)) (sent_messages b (since ++ (e ∷ before)))
+    (sent_at b since e before m is)
+
+-- a message that no entry before these sent was asked for by the last of them
+by_since : (b : BoardValue) (m : MessageValue) (new h : List Entry) (since : List Entry)
+    (e : Entry) (before : List Entry) → OneOrNone new
+    → ((k : ℕ) → slice_get (sent_messages b h) k ≡ Some m → ⊥)
+    → since ++ (e ∷ before) ≡ new ++ h → says.sent (effect b e) ≡ Some m
+    → IsAskedFor b (values_of b (e ∷ before)) m → IsAskedFor b (values_of b (new ++ h)) m
+by_since b m new h [] e before one fresh parts is fair =
+    subst (λ xs. IsAskedFor b (values_of b xs) m) parts fair
+by_since b m new h (s ∷ since) e before one fresh parts is fair = elim one [
+  | inl none ↦
+      let same : (s ∷ since) ++ (e ∷ before) ≡ h = parts ∙ ap (λ xs. xs ++ h) none in
+      let old = sent_at b (s ∷ since) e before m is in
+      absurd (fresh old.0
+      (subst (λ xs. slice_get (sent_messages b xs) old.0 ≡ Some m) same old.1))
+  | inr some ↦
+      let both : s ∷ (since ++ (e ∷ before)) ≡ some.0 ∷ h = parts ∙ ap (λ xs. xs ++ h) some.1 in
+      let same : since ++ (e ∷ before) ≡ h = cc in
+      let old = sent_at b since e before m is in
+      absurd (fresh old.0
+      (subst (λ xs. slice_get (sent_messages b xs) old.0 ≡ Some m) same old.1))
+]
+
+-- Legal runs -----------------------------------------------------------------------------------
+
+-- a message that claims something is sent once
+sent_once : (b : BoardValue) (messages : List MessageValue) (m : MessageValue)
+    (life level place k : ℕ) (p : Part) → AreApart b (m ∷ messages)
+    → part_for b life level place m ≡ Some p → slice_get messages k ≡ Some m → ⊥
+sent_once b messages m life level place k p are e at =
+    let less = are.later life level place 0 (suc k) m m p p (omega arith) refl at e e in
+    omega (arith, less)
+
+-- What the laws say of a legal past.
+pub record IsKnown (b : BoardValue) (past : List Record) : Type 0 where
+  pub same : sent past ≡ sent_messages b (firmware_history b past)
+  pub apart : AreApart b (sent past)
+  pub asked : (k : ℕ) (m : MessageValue)
+      → slice_get (sent_messages b (firmware_history b past)) k ≡ Some m → m.kind ≡ Down
+      → WasAsked b (firmware_history b past) m
+
+asked_now : (b : BoardValue) (r : Record) (past : List Record) → IsKnown b (r ∷ past)
+    → IsKnown b past → (m : MessageValue) (life level place : ℕ) (p : Part)
+    → sent_in r.said ≡ Some m → part_for b life level place m ≡ Some p
+    → IsAskedFor b (firmware_values b (r ∷ past)) m
+asked_now b r past now before m life level place p is e =
+    let all : sent (r ∷ past) ≡ m ∷ sent past =
+    more_sent r past ∙ ap (λ o. listed o ++ sent past) is in
+    let first = subst (λ ms. slice_get ms 0 ≡ Some m) (sym all ∙ now.same) refl in
+    let was = now.asked 0 m first (part_has b life level place m p e).kind in
+    subst (λ h. IsAskedFor b (values_of b h) m) (sym (more_calls b r past))
+    (by_since b m _ (firmware_history b past) was.since was.entry was.before
+    (adds_one (controller_values b past) (acks past) r.event r.said)
+    (λ k at. sent_once b (sent past) m life level place k p (subst (AreApart b) all now.apart) e
+    (subst (λ ms. slice_get ms k ≡ Some m) (sym before.same) at))
+    (was.parts ∙ more_calls b r past) was.sent was.asked)
+
+pub were_asked : (b : BoardValue) (past : List Record)
+    → ((some : List Record) → IsLegalPast b some → IsKnown b some) → IsLegalPast b past
+    → WereAsked b past
+were_asked b [] known legal = tt
+were_asked b (r ∷ past) known legal = (
+  asked_now b r past (known (r ∷ past) legal) (known past legal.1),
+  were_asked b past known legal.1,
+)

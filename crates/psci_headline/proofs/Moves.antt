@@ -1,0 +1,157 @@
+-- What a legal record leaves of the firmware's values.
+use Rattle.std.proofs.Common.{◌≡◌, ℕ, Bool, true, false, ◌==◌, cond, List, [], ◌∷◌}
+use Rattle.std.proofs.Common.{◌++◌, Option, None, Some, refl, subst, ap, sym, ◌∙◌}
+use Rattle.std.specs.Prelude.{nat_lt}
+use Rattle.std.proofs.lemmas.Bool.{and_parts, eqb-true, true≢false}
+use Rattle.psci_board.specs.Board.{BoardValue, cores}
+use Rattle.psci_ctl_model.specs.declared.start.Start.{Start}
+use Rattle.psci_ctl_model.specs.Replies.{last_start}
+use Rattle.psci_fw_model.specs.declared.outcome.Act.{Act}
+use Rattle.psci_fw_model.specs.declared.outcome.Act.TheVariants as acts
+use Rattle.psci_fw_model.specs.After.{change}
+use Rattle.psci_fw_model.specs.Effects.{Effect, Nothing, Enters, enter_effect}
+use Rattle.psci_fw_model.specs.Entry.{Entry, effect}
+use Rattle.psci_fw_model.specs.History.{values_of}
+use Rattle.psci_fw_model.specs.Legal.{IsLegal}
+use Rattle.psci_link.specs.Message.{MessageValue}
+use Rattle.psci_fw_laws.specs.Allowed.{IsAllowed}
+use Rattle.psci_world_model.specs.declared.event.Event.{Event}
+use Rattle.psci_world_model.specs.declared.event.Event.TheVariants.{Call, Enter}
+use Rattle.psci_world_model.specs.declared.place.Place.{Place}
+use Rattle.psci_world_model.specs.declared.place.Place.TheVariants.{Started, Running, Stopped}
+use Rattle.psci_world_model.specs.declared.said.Record.{Record}
+use Rattle.psci_world_model.specs.declared.said.Said.{Said}
+use Rattle.psci_world_model.specs.declared.said.Said.TheVariants.{Fw, Absent}
+use Rattle.psci_world_model.specs.declared.said.Sent.{Sent}
+use Rattle.psci_world_model.specs.Histories.{acks, call, controller_values, entered}
+use Rattle.psci_world_model.specs.Histories.{firmware_history, firmware_values, outcome_in}
+use Rattle.psci_world_model.specs.Legal.{if_started, legal, on_board}
+use Rattle.psci_world_model.specs.Places.{place}
+use Rattle.psci_safe.specs.Moments.{goes_on, goes_on_by}
+use Rattle.psci_headline.proofs.Functions.{call_ends}
+use Rattle.psci_headline.proofs.Records.{IsAdded, IsOfRecord, added}
+
+-- Going on ------------------------------------------------------------------------------------
+
+-- A core entered and goes on: the added entry says so.
+record GoesOn (b : BoardValue) (c : ℕ) (es : List Entry) : Type 0 where
+  pub start : Start
+  pub entry : Entry
+  pub adds : es ≡ entry ∷ []
+  pub enters : effect b entry ≡ Enters c start
+
+enters_by : (c : ℕ) (s : Start) (act : Act) (m : Option MessageValue) → goes_on_by act ≡ true
+    → enter_effect c s act m ≡ Enters c s
+enters_by c s (acts.Return code) m e = absurd (cc)
+enters_by c s acts.Stop m e = absurd (cc)
+enters_by c s (acts.Enter address context) m e = refl
+enters_by c s acts.Resume m e = refl
+
+-- without a start nothing is said of an entry
+not_started : (b : BoardValue) (past : List Record) (c : ℕ) (p : Place) (act : Act)
+    (m : Option Sent) (t : Bool) → Fw act m ≡ cond t (if_started b past c p None) Absent → ⊥
+not_started b past c Started act m true e = absurd (cc)
+not_started b past c Running act m true e = absurd (cc)
+not_started b past c Stopped act m true e = absurd (cc)
+not_started b past c p act m false e = absurd (cc)
+
+goes_at : (b : BoardValue) (past : List Record) (c : ℕ) (act : Act) (m : Option Sent)
+    (s : Option Start) → Fw act m ≡ on_board b c (if_started b past c (place b past c) s)
+    → goes_on_by act ≡ true → GoesOn b c (entered c s (outcome_in act m))
+goes_at b past c act m None is by =
+    absurd (not_started b past c (place b past c) act m (nat_lt c (cores b)) is)
+goes_at b past c act m (Some s) is by = record {
+  start = s;
+  entry = _;
+  adds = refl;
+  enters = enters_by c s act (outcome_in act m).message by;
+}
+
+-- the history after a record, whose event says this
+abbrev after_call : BoardValue → List Record → Event → Said → List Entry
+after_call b past event s =
+    call (controller_values b past) (acks past) event s ++ firmware_history b past
+
+goes : (b : BoardValue) (past : List Record) (c : ℕ) (event : Event) (said : Said)
+    → said ≡ legal b past event → IsLegal b (after_call b past event said)
+    → goes_on c event said ≡ true
+    → GoesOn b c (call (controller_values b past) (acks past) event said)
+unfolding legal
+goes b past c (Enter d) (Fw act m) is valid by =
+    let both = and_parts (c == d) (goes_on_by act) by in
+    let v = controller_values b past in
+    subst (λ x. GoesOn b x (entered d (last_start v d) (outcome_in act m)))
+    (sym (eqb-true c d both.0))
+    (goes_at b past d act m (last_start v d) is both.1)
+goes b past c (Call d regs) (Fw act m) is valid by =
+    let both = and_parts (c == d) (goes_on_by act) by in
+    let ends = call_ends b (firmware_values b past) d regs (outcome_in act m) valid.0 in
+    absurd (true≢false (sym both.1 ∙ ends))
+goes b past c event said is valid by = absurd (cc)
+
+-- Values --------------------------------------------------------------------------------------
+
+-- What a record leaves of the firmware's values.
+pub record Moves (b : BoardValue) (r : Record) (past : List Record) : Type 0 where
+  pub effect : Effect
+  pub allowed : IsAllowed b (firmware_values b past) effect
+  pub values : firmware_values b (r ∷ past) ≡ change b effect (firmware_values b past)
+  pub says : IsOfRecord (controller_values b past) (acks past) effect
+  -- a core that goes on enters by it
+  pub goes : (c : ℕ) → goes_on c r.event r.said ≡ true → (s : Start) × (effect ≡ Enters c s)
+
+-- What the firmware's laws say of its histories.
+pub record FirmwareLaws (b : BoardValue) : Type 0 where
+  pub allowed : (e : Entry) (h : List Entry) → IsLegal b (e ∷ h)
+      → IsAllowed b (values_of b h) (effect b e)
+  pub values : (e : Entry) (h : List Entry)
+      → values_of b (e ∷ h) ≡ change b (effect b e) (values_of b h)
+
+-- the entries that a record adds
+abbrev added_by : BoardValue → Record → List Record → List Entry
+added_by b r past = call (controller_values b past) (acks past) r.event r.said
+
+history_more : (b : BoardValue) (r : Record) (past : List Record)
+    → firmware_history b (r ∷ past) ≡ added_by b r past ++ firmware_history b past
+unfolding firmware_history
+history_more b r past = refl
+
+by_added : (b : BoardValue) (r : Record) (past : List Record) (es : List Entry) → FirmwareLaws b
+    → r.said ≡ legal b past r.event → IsLegal b (firmware_history b (r ∷ past))
+    → added_by b r past ≡ es → IsAdded b (controller_values b past) (acks past) es
+    → Moves b r past
+by_added b r past [] laws is valid adds says = record {
+  effect = Nothing;
+  allowed = tt;
+  values = ap (values_of b) (history_more b r past
+      ∙ ap (λ (es : List Entry). es ++ firmware_history b past) adds);
+  says = record { starts = λ a e. absurd (cc); takes = λ a e. absurd (cc) };
+  goes = λ c by.
+      let on = goes b past c r.event r.said is (subst (IsLegal b) (history_more b r past) valid)
+      by in
+      let no : on.entry ∷ [] ≡ [] = sym on.adds ∙ adds in
+      absurd (cc);
+}
+by_added b r past (e ∷ []) laws is valid adds says =
+    let h = firmware_history b past in
+    let more : firmware_history b (r ∷ past) ≡ e ∷ h =
+    history_more b r past ∙ ap (λ (es : List Entry). es ++ h) adds in
+    record {
+      effect = effect b e;
+      allowed = laws.allowed e h (subst (IsLegal b) more valid);
+      values = ap (values_of b) more ∙ laws.values e h;
+      says = says;
+      goes = λ c by.
+          let on = goes b past c r.event r.said is
+          (subst (IsLegal b) (history_more b r past) valid) by in
+          let same : on.entry ∷ [] ≡ e ∷ [] = sym on.adds ∙ adds in
+          let one : on.entry ≡ e = cc in
+          (on.start, ap (effect b) (sym one) ∙ on.enters);
+    }
+by_added b r past (e ∷ f ∷ es) laws is valid adds says = absurd says
+
+pub moves : (b : BoardValue) (r : Record) (past : List Record) → FirmwareLaws b
+    → r.said ≡ legal b past r.event → IsLegal b (firmware_history b (r ∷ past)) → Moves b r past
+moves b r past laws is valid =
+    by_added b r past (added_by b r past) laws is valid refl
+    (added b (controller_values b past) (acks past) r.event r.said)

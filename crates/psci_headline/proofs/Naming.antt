@@ -1,0 +1,86 @@
+-- In a legal history an accepted CPU_ON asks on the core that it named.
+use Rattle.std.proofs.Common.{◌≡◌, ℕ, Option, None, Some, option_map, ap, sym, ◌∙◌, refl}
+use Rattle.std.specs.Prelude.{option_and_then}
+use Rattle.psci_abi.specs.Calls.{request_of}
+use Rattle.psci_abi.specs.declared.registers.Regs.{Regs}
+use Rattle.psci_abi.specs.declared.request.Request.TheVariants.{CpuOn}
+use Rattle.psci_board.specs.Board.{BoardValue, core_of}
+use Rattle.psci_board.specs.declared.node.Core.{Core}
+use Rattle.psci_ctl_model.specs.declared.start.Start.{Start}
+use Rattle.psci_link.specs.declared.taken.Taken.TheVariants.{Used, Old}
+use Rattle.psci_link.specs.Message.{MessageValue}
+use Rattle.psci_fw_model.specs.declared.call.FwCall.{FwCall}
+use Rattle.psci_fw_model.specs.declared.call.FwCall.TheVariants as calls
+use Rattle.psci_fw_model.specs.declared.outcome.Act.{Act}
+use Rattle.psci_fw_model.specs.declared.outcome.Act.TheVariants as acts
+use Rattle.psci_fw_model.specs.declared.reply.FwReply.{FwReply}
+use Rattle.psci_fw_model.specs.declared.reply.FwReply.TheVariants as replies
+use Rattle.psci_fw_model.specs.Answer.{answer}
+use Rattle.psci_fw_model.specs.Changes.{PowerOn, target}
+use Rattle.psci_fw_model.specs.Effects.{Effect, Nothing, GoesOn, SetsMode, AsksOn, Rests, Halts}
+use Rattle.psci_fw_model.specs.Effects.{Leaves, Enters, Parks, Ceases, Acknowledges, effect_of}
+use Rattle.psci_fw_model.specs.Effects.{enter_effect}
+use Rattle.psci_fw_model.specs.Values.{Values}
+use Rattle.psci_safe.specs.Openings.{Made, OfCall, made_at, made_by, named, named_in}
+
+-- Which core a call named ----------------------------------------------------------------------
+
+-- the firmware's law of accepted CPU_ONs: their targets are the cores that they name
+abbrev pub AreNamed : BoardValue → Type 0
+AreNamed b = (v : Values) (c caller : ℕ) (regs : Regs) (asked : PowerOn)
+    → effect_of b c (calls.Smc regs) (answer b v c (calls.Smc regs)) ≡ AsksOn caller asked
+    → (word : ℕ) × (core_of b word ≡ Some asked.message.core)
+    × (request_of regs ≡ CpuOn word asked.opening.address asked.opening.context)
+
+-- if a call came down to this, it named the core that was asked on
+abbrev pub NamesTarget : BoardValue → FwCall → Effect → Type 0
+NamesTarget b call f = (caller : ℕ) (asked : PowerOn) → f ≡ AsksOn caller asked
+    → named b call ≡ Some (target asked)
+
+enters_none : (c : ℕ) (s : Start) (act : Act) (m : Option MessageValue) (caller : ℕ)
+    (asked : PowerOn) → enter_effect c s act m ≡ AsksOn caller asked → ⊥
+enters_none c s acts.Stop (Some m) caller asked e = absurd (cc)
+enters_none c s acts.Stop None caller asked e = absurd (cc)
+enters_none c s (acts.Return code) m caller asked e = absurd (cc)
+enters_none c s (acts.Enter address context) m caller asked e = absurd (cc)
+enters_none c s acts.Resume m caller asked e = absurd (cc)
+
+pub names_target : (b : BoardValue) (v : Values) (c : ℕ) (call : FwCall) (reply : FwReply)
+    → AreNamed b → reply ≡ answer b v c call → NamesTarget b call (effect_of b c call reply)
+names_target b v c (calls.Smc regs) reply law e caller asked is =
+    let by = law v c caller regs asked (ap (effect_of b c (calls.Smc regs)) (sym e) ∙ is) in
+    ap (named_in b) by.2 ∙ ap (option_map (λ (x : Core). x.number)) by.1
+names_target b v c (calls.Enter s) (replies.Out o) law e caller asked is =
+    absurd (enters_none c s o.act o.message caller asked is)
+names_target b v c (calls.Enter s) (replies.Taken t) law e caller asked is = absurd (cc)
+names_target b v c (calls.Enter s) (replies.Fault f) law e caller asked is = absurd (cc)
+names_target b v c (calls.Take a) (replies.Taken Used) law e caller asked is = absurd (cc)
+names_target b v c (calls.Take a) (replies.Taken Old) law e caller asked is = absurd (cc)
+names_target b v c (calls.Take a) (replies.Out o) law e caller asked is = absurd (cc)
+names_target b v c (calls.Take a) (replies.Fault f) law e caller asked is = absurd (cc)
+
+-- What a call made -----------------------------------------------------------------------------
+
+-- the opening that an effect made in a life, after so many entries: of a core that was asked on, it
+-- is that of the effect
+abbrev pub made_in : ℕ → ℕ → Effect → Option Made
+made_in n life (AsksOn c asked) = made_at (OfCall n) (target asked) life (Some asked.opening)
+made_in n life (Rests c rest m) = made_at (OfCall n) c life rest.opening
+made_in n life f = None
+
+-- it is the opening that the call made
+pub same_made : (b : BoardValue) (n life : ℕ) (call : FwCall) (f : Effect) → NamesTarget b call f
+    → made_by b n life call f ≡ made_in n life f
+same_made b n life call (AsksOn c asked) names =
+    ap (option_and_then (λ t. made_at (OfCall n) t life (Some asked.opening)))
+    (names c asked refl)
+same_made b n life call (Rests c rest m) names = refl
+same_made b n life call Nothing names = refl
+same_made b n life call (GoesOn c) names = refl
+same_made b n life call (SetsMode c mode) names = refl
+same_made b n life call (Halts c m) names = refl
+same_made b n life call (Leaves c) names = refl
+same_made b n life call (Enters c s) names = refl
+same_made b n life call (Parks c s m) names = refl
+same_made b n life call (Ceases c s) names = refl
+same_made b n life call (Acknowledges a) names = refl

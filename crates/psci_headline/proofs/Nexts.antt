@@ -1,0 +1,140 @@
+-- What is known after a legal record: cores that go on, and what acknowledgements say.
+use Rattle.std.proofs.Common.{◌≡◌, ℕ, zero, suc, ◌<◌, ◌≤◌, inl, inr, true}
+use Rattle.std.proofs.Common.{List, ◌∷◌, ◌++◌, Option, None, Some, refl, subst, ap}
+use Rattle.std.proofs.Common.{sym, ◌∙◌, arith}
+use Rattle.std.specs.Prelude.{slice_get}
+use Rattle.psci_board.specs.Board.{BoardValue}
+use Rattle.psci_fw_model.specs.declared.status.Status.TheVariants as statuses
+use Rattle.psci_fw_model.specs.After.{change}
+use Rattle.psci_fw_model.specs.Effects.{Enters}
+use Rattle.psci_fw_model.specs.History as remembers
+use Rattle.psci_fw_model.specs.Lives.{in_life}
+use Rattle.psci_fw_model.specs.Phases.{Away, Running}
+use Rattle.psci_fw_model.specs.Said.{listed}
+use Rattle.psci_fw_model.specs.Values.{Values}
+use Rattle.psci_link.specs.declared.kind.Kind.TheVariants.{Down}
+use Rattle.psci_link.specs.Message.{AckValue}
+use Rattle.psci_fw_laws.specs.Kept.{Holds}
+use Rattle.psci_fw_laws.proofs.Parts.{updated_here}
+use Rattle.psci_world_model.specs.declared.event.Event.TheVariants.{Deliver}
+use Rattle.psci_world_model.specs.declared.said.Record.{Record}
+use Rattle.psci_world_model.specs.Histories.{ack_in, acks, call}
+use Rattle.psci_world_model.specs.Histories.{controller_values, firmware_history, firmware_values}
+use Rattle.psci_world_model.specs.Histories.{sent}
+use Rattle.psci_world_model.specs.Legal.{legal}
+use Rattle.psci_safe.specs.Moments.{goes_on, has_slept}
+use Rattle.psci_headline.specs.Asleep.{AreDown, IsDownBy}
+use Rattle.psci_headline.proofs.Acknowledging.{CoreLaws, new_is_down}
+use Rattle.psci_headline.proofs.CoreSteps.{IsStep}
+use Rattle.psci_headline.proofs.Deliveries.{IsNew, new_ack}
+use Rattle.psci_headline.proofs.Moves.{Moves}
+use Rattle.psci_headline.proofs.Slept.{slept_still}
+
+-- What is known after a legal record -----------------------------------------------------------
+
+-- What is known of a legal record, of the records before it and after it.
+pub record IsNext (b : BoardValue) (r : Record) (past : List Record) : Type 0 where
+  pub moves : Moves b r past
+  pub step : (c : ℕ) → IsStep (firmware_values b past) (firmware_values b (r ∷ past)) c moves.effect
+  pub holds : let v = firmware_values b past in Holds b v (sent past)
+  pub said : r.said ≡ legal b past r.event
+  -- the firmware's life is none that has not begun
+  pub begun : (life : ℕ) → (controller_values b (r ∷ past)).life ≡ Some life
+      → (firmware_values b (r ∷ past)).life ≤ life
+
+-- a core that goes on runs, and is ON
+pub goes_running : (b : BoardValue) (r : Record) (past : List Record) (c : ℕ) → IsNext b r past
+    → goes_on c r.event r.said ≡ true
+    → ((firmware_values b (r ∷ past)).phase c ≡ Running)
+    × ((firmware_values b (r ∷ past)).status c ≡ statuses.On)
+goes_running b r past c next by =
+    let went = next.moves.goes c by in
+    let v : Values = firmware_values b past in
+    let is : firmware_values b (r ∷ past) ≡ change b (Enters c went.0) v =
+    next.moves.values ∙ ap (λ e. change b e v) went.1 in
+    let found : Values = in_life b went.0.life v in (
+      ap (λ (w : Values). w.phase c) is ∙ updated_here found.phase c Running,
+      ap (λ (w : Values). w.status c) is ∙ updated_here found.status c statuses.On,
+    )
+
+-- Acknowledgements -----------------------------------------------------------------------------
+
+-- what an older acknowledgement says of its core it says still
+still_down : (b : BoardValue) (r : Record) (past : List Record) (a : AckValue) → IsNext b r past
+    → IsDownBy b past (firmware_values b past) a
+    → IsDownBy b (r ∷ past) (firmware_values b (r ∷ past)) a
+still_down b r past a next was = record {
+  begun = omega (arith, was.begun, s.life);
+  number = λ life. omega (arith, was.number (before life), s.known (same life));
+  rests = λ life number now.
+      was.rests (before life) (old life number) (s.runs (same life) (unknown life number) now);
+  slept = λ life number now.
+      elim (s.away (same life) (unknown life number) now) [
+        | inl away ↦
+            slept_still b w.life r past c
+            (subst (λ l. has_slept b l past c ≡ true) (sym (same life))
+            (was.slept (before life) (old life number) away))
+            (λ goes. absurd (not_both now (goes_running b r past c next goes).0))
+        | inr ran ↦ absurd (was.rests (before life) (old life number) ran)
+      ];
+}
+  where
+    v : Values
+    v = firmware_values b past
+
+    w : Values
+    w = firmware_values b (r ∷ past)
+
+    c : ℕ
+    c = a.core.number
+
+    s : IsStep v w c next.moves.effect
+    s = next.step c
+
+    same : a.life ≡ w.life → w.life ≡ v.life
+    same life = omega (arith, was.begun, s.life)
+
+    before : a.life ≡ w.life → a.life ≡ v.life
+    before life = life ∙ same life
+
+    old : a.life ≡ w.life → a.number ≡ w.known c → a.number ≡ v.known c
+    old life number = omega (arith, was.number (before life), s.known (same life))
+
+    unknown : a.life ≡ w.life → a.number ≡ w.known c → w.known c ≡ v.known c
+    unknown life number = sym number ∙ old life number
+
+    not_both : w.phase c ≡ Away → w.phase c ≡ Running → ⊥
+    not_both away runs = let no : Away ≡ Running = sym away ∙ runs in absurd (cc)
+
+pub acks_more : (r : Record) (past : List Record)
+    → acks (r ∷ past) ≡ listed (ack_in r.said) ++ acks past
+unfolding acks
+acks_more r past = refl
+
+-- a delivery asks the firmware nothing
+asks_nothing : (b : BoardValue) (r : Record) (past : List Record) (k : ℕ) → r.event ≡ Deliver k
+    → firmware_values b (r ∷ past) ≡ firmware_values b past
+unfolding firmware_history
+asks_nothing b r past k e =
+    ap (λ x. remembers.values_of b (call (controller_values b past) (acks past) x r.said
+    ++ firmware_history b past)) e
+
+new_down : (b : BoardValue) (r : Record) (past : List Record) (a : AckValue) → CoreLaws b
+    → IsNext b r past → ack_in r.said ≡ Some a → a.kind ≡ Down → 0 < a.applied
+    → IsDownBy b (r ∷ past) (firmware_values b (r ∷ past)) a
+new_down b r past a laws next made kind some =
+    let new : IsNew b r past a = new_ack b r past a next.said made in
+    subst (λ v. IsDownBy b (r ∷ past) v a) (sym (asks_nothing b r past new.event.0 new.event.1))
+    (new_is_down b r past a laws next.holds new kind some)
+
+pub by_ack : (b : BoardValue) (r : Record) (past : List Record) (o : Option AckValue) (k : ℕ)
+    (a : AckValue) → CoreLaws b → IsNext b r past → AreDown b past → ack_in r.said ≡ o
+    → slice_get (listed o ++ acks past) k ≡ Some a → a.kind ≡ Down → 0 < a.applied
+    → IsDownBy b (r ∷ past) (firmware_values b (r ∷ past)) a
+by_ack b r past None k a laws next are made at kind some =
+    still_down b r past a next (are.acked k a at kind some)
+by_ack b r past (Some x) zero a laws next are made at kind some =
+    let same : x ≡ a = cc in
+    new_down b r past a laws next (made ∙ ap (λ y. Some y) same) kind some
+by_ack b r past (Some x) (suc k) a laws next are made at kind some =
+    still_down b r past a next (are.acked k a at kind some)

@@ -1,0 +1,74 @@
+-- Below a domain with a live claim no core executes.
+use Rattle.std.proofs.Common.{◌≡◌, ℕ, ◌<◌, ◌≤◌, true, ◌==◌, List, refl, arith}
+use Rattle.std.proofs.Common.{sym, ◌∙◌, subst}
+use Rattle.std.proofs.lemmas.Bool.{cond_both, eqb-false, false≢true}
+use Rattle.psci_board.specs.Board.{BoardValue, cores}
+use Rattle.psci_board.specs.Laws.{PathLaws}
+use Rattle.psci_link.specs.Message.{MessageValue}
+use Rattle.psci_ctl_model.specs.Follows.{AreValues}
+use Rattle.psci_fw_model.specs.Lives.{in_life, start_of_life}
+use Rattle.psci_fw_model.specs.Phases as phases
+use Rattle.psci_fw_model.specs.Sent.{sent_messages}
+use Rattle.psci_fw_model.specs.Values.{Values}
+use Rattle.psci_fw_laws.specs.Claims.{IsClaimOn}
+use Rattle.psci_fw_laws.specs.Kept.{Holds}
+use Rattle.psci_fw_laws.specs.Live.{AreLive}
+use Rattle.psci_fw_laws.proofs.Arriving.{first_holds, found_life}
+use Rattle.psci_fw_laws.proofs.Living.{live_laws}
+use Rattle.psci_world_model.specs.declared.place.Place.{Place}
+use Rattle.psci_world_model.specs.declared.place.Place.TheVariants.{Started, Running, Stopped}
+use Rattle.psci_world_model.specs.declared.said.Record.{Record}
+use Rattle.psci_world_model.specs.Histories.{controller_values, firmware_history, firmware_values}
+use Rattle.psci_world_model.specs.Histories.{sent}
+use Rattle.psci_world_model.specs.Places.{place}
+use Rattle.psci_world_laws.specs.Agreement.{Agree, AgreeIn}
+use Rattle.psci_safe.specs.Moments.{executes}
+use Rattle.psci_headline.specs.Live.{NoneExecutes}
+use Rattle.psci_headline.proofs.Claiming.{source}
+use Rattle.psci_headline.proofs.LiveClaims.{same_sum}
+use Rattle.psci_headline.proofs.LiveOnes.{is_live_one}
+
+-- Values in a life ----------------------------------------------------------------------------
+
+-- what the firmware keeps true holds in each life that is its own or a later one
+in_life_holds : (b : BoardValue) (v : Values) (ms : List MessageValue) (life : ℕ)
+    → v.life ≤ life → life ≤ b.lives → Holds b v ms → Holds b (in_life b life v) ms
+in_life_holds b v ms life begun last holds =
+    cond_both (life == v.life) v (start_of_life b life) (λ w. Holds b w ms) (λ e. holds)
+    (λ e.
+    let other = eqb-false life v.life e in
+    first_holds b v.life v.halting v.known v.phase ms life last (omega (arith, begun, other))
+    holds.apart holds.messages)
+
+-- Places --------------------------------------------------------------------------------------
+
+-- what is so of a core below a live claim
+at_rest : (b : BoardValue) (starts : ℕ → ℕ) (places : ℕ → Place) (v : Values) (c : ℕ) (p : Place)
+    → AgreeIn b starts places v → c < cores b → v.known c ≡ starts c
+    → (v.phase c ≡ phases.Running → ⊥) → places c ≡ p → executes p ≡ true → ⊥
+at_rest b starts places v c Started agree on known rests e x =
+    omega (arith, agree.waits c on e, known)
+at_rest b starts places v c Running agree on known rests e x = rests (agree.runs c on e)
+at_rest b starts places v c Stopped agree on known rests e x = false≢true x
+
+pub none_executes : (b : BoardValue) (past : List Record) → PathLaws b
+    → AreValues b (controller_values b past)
+    → Holds b (firmware_values b past) (sent_messages b (firmware_history b past))
+    → sent past ≡ sent_messages b (firmware_history b past) → Agree b past → NoneExecutes b past
+none_executes b past paths are holds_all same_sent agree n c k p has on at here x =
+    let one = is_live_one b past n k p here in
+    let starts = (controller_values b past).starts in
+    let v = in_life b one.life (firmware_values b past) in
+    let made = source b one.life n past one.index p has one.at in
+    let agrees = agree.present one.life one.present in
+    let holds = subst (Holds b (firmware_values b past)) (sym same_sent) holds_all in
+    let kept = in_life_holds b (firmware_values b past) (sent past) one.life
+    (agree.begun one.life one.present) (are.last one.life one.present) holds in
+    let live : AreLive b v.life v.known v.phase (sent past) starts =
+    live_laws b v (sent past) starts paths kept agrees.known in
+    let same : one.life ≡ v.life = sym (found_life b (firmware_values b past) one.life) in
+    let claim = subst (λ l. IsClaimOn b l n.level n.place made.part (sent past)) same made.from in
+    let sum = sym made.generation ∙ one.live ∙ same_sum b starts n in
+    at_rest b starts (place b past) v c (place b past c) agrees on
+    (live.entered n.level n.place c made.part claim sum on at)
+    (live.rests n.level n.place c made.part claim sum on at) refl x

@@ -1,0 +1,185 @@
+-- What a record adds to the firmware's history, and what it says.
+use Rattle.std.proofs.Common.{◌≡◌, ℕ, Bool, true, false, ◌==◌}
+use Rattle.std.proofs.Common.{cond, List, [], ◌∷◌, Option, None, Some, refl, subst, ap}
+use Rattle.std.proofs.Common.{◌∙◌}
+use Rattle.std.specs.Ordering.{int_eq}
+use Rattle.psci_abi.specs.Calls.{request_of}
+use Rattle.psci_abi.specs.Codes.{success}
+use Rattle.psci_abi.specs.declared.code.Code.{Code}
+use Rattle.psci_abi.specs.declared.request.Request.{Request}
+use Rattle.psci_abi.specs.declared.request.Request.TheVariants as requests
+use Rattle.psci_board.specs.Board.{BoardValue}
+use Rattle.psci_ctl_model.specs.declared.start.Cause.{Cause}
+use Rattle.psci_ctl_model.specs.declared.start.Start.{Start}
+use Rattle.psci_ctl_model.specs.Replies.{last_start, start_shown}
+use Rattle.psci_ctl_model.specs.Values as controlled
+use Rattle.psci_fw_model.specs.declared.mode.SuspendMode.{SuspendMode}
+use Rattle.psci_fw_model.specs.declared.outcome.Act.{Act}
+use Rattle.psci_fw_model.specs.declared.outcome.Act.TheVariants as acts
+use Rattle.psci_fw_model.specs.Effects.{Effect, Nothing, GoesOn, SetsMode, AsksOn, Rests, Halts}
+use Rattle.psci_fw_model.specs.Effects.{Leaves, Enters, Parks, Ceases, Acknowledges, enter_effect}
+use Rattle.psci_fw_model.specs.Effects.{function_effect, mode_effect}
+use Rattle.psci_fw_model.specs.Entry.{Entry, effect}
+use Rattle.psci_fw_model.specs.Said.{Arrival, arrived}
+use Rattle.psci_fw_model.specs.SuspendMode.{mode_of}
+use Rattle.psci_link.specs.declared.taken.Taken.{Taken}
+use Rattle.psci_link.specs.declared.taken.Taken.TheVariants as takens
+use Rattle.psci_link.specs.Message.{AckValue, MessageValue}
+use Rattle.psci_world_model.specs.declared.event.Event.{Event}
+use Rattle.psci_world_model.specs.declared.event.Event.TheVariants.{Call, Enter}
+use Rattle.psci_world_model.specs.declared.event.Event.TheVariants.{Take}
+use Rattle.psci_world_model.specs.declared.said.Said.{Said}
+use Rattle.psci_world_model.specs.declared.said.Said.TheVariants.{Fw}
+use Rattle.psci_world_model.specs.declared.said.Said.TheVariants.{Taken as Took}
+use Rattle.psci_world_model.specs.declared.said.Sent.{Sent}
+use Rattle.psci_world_model.specs.Histories.{call, entered, outcome_in, took}
+use Rattle.psci_world_model.specs.Lists.{numbered}
+use Rattle.psci_headline.proofs.Numbered.{IsListed, listed_from}
+
+-- Functions that were called -------------------------------------------------------------------
+
+-- an effect is neither an arrival nor an acknowledgement
+abbrev is_of_caller : Effect → Bool
+is_of_caller Nothing = true
+is_of_caller (GoesOn c) = true
+is_of_caller (SetsMode c mode) = true
+is_of_caller (AsksOn c asked) = true
+is_of_caller (Rests c rest m) = true
+is_of_caller (Halts c m) = true
+is_of_caller (Leaves c) = true
+is_of_caller (Enters c s) = false
+is_of_caller (Parks c s m) = false
+is_of_caller (Ceases c s) = false
+is_of_caller (Acknowledges a) = false
+
+mode_of_caller : (c : ℕ) (o : Option SuspendMode) → is_of_caller (mode_effect c o) ≡ true
+mode_of_caller c None = refl
+mode_of_caller c (Some mode) = refl
+
+set_of_caller : (c number : ℕ) (t : Bool)
+    → is_of_caller (cond t (mode_effect c (mode_of number)) (GoesOn c)) ≡ true
+set_of_caller c number true = mode_of_caller c (mode_of number)
+set_of_caller c number false = refl
+
+returned_by_caller : (b : BoardValue) (c : ℕ) (r : Request) (code : Code)
+    → is_of_caller (function_effect b c r (acts.Return code) None) ≡ true
+returned_by_caller b c (requests.SetSuspendMode number) code =
+    set_of_caller c number (int_eq code.0 success.0)
+returned_by_caller b c r code = refl
+
+stopped_by_caller : (b : BoardValue) (c : ℕ) (r : Request) (m : MessageValue)
+    → is_of_caller (function_effect b c r acts.Stop (Some m)) ≡ true
+stopped_by_caller b c requests.SystemOff m = refl
+stopped_by_caller b c requests.SystemReset m = refl
+stopped_by_caller b c r m = refl
+
+sent_by_caller : (b : BoardValue) (c : ℕ) (r : Request) (code : Code) (m : MessageValue)
+    → is_of_caller (function_effect b c r (acts.Return code) (Some m)) ≡ true
+sent_by_caller b c (requests.CpuOn target entry_point context) code m = refl
+sent_by_caller b c r code m = refl
+
+by_caller : (b : BoardValue) (c : ℕ) (r : Request) (act : Act) (m : Option MessageValue)
+    → is_of_caller (function_effect b c r act m) ≡ true
+by_caller b c r (acts.Return code) None = returned_by_caller b c r code
+by_caller b c r (acts.Return code) (Some m) = sent_by_caller b c r code m
+by_caller b c r acts.Stop None = refl
+by_caller b c r acts.Stop (Some m) = stopped_by_caller b c r m
+by_caller b c r (acts.Enter address context) m = refl
+by_caller b c r acts.Resume m = refl
+
+-- What an effect says -------------------------------------------------------------------------
+
+-- What the effect of an added entry says: a core enters by a start of the power controller's life,
+-- and an acknowledgement was made before.
+pub record IsOfRecord (v : controlled.Values) (made : List AckValue) (e : Effect) : Type 0 where
+  pub starts : (a : Arrival) → arrived e ≡ Some a → v.life ≡ Some a.start.life
+  pub takes : (a : AckValue) → e ≡ Acknowledges a → IsListed made a
+
+of_caller : (v : controlled.Values) (made : List AckValue) (e : Effect) → is_of_caller e ≡ true
+    → IsOfRecord v made e
+of_caller v made Nothing of = record { starts = λ a e. absurd (cc); takes = λ a e. absurd (cc) }
+of_caller v made (GoesOn c) of = record { starts = λ a e. absurd (cc); takes = λ a e. absurd (cc) }
+of_caller v made (SetsMode c mode) of =
+    record { starts = λ a e. absurd (cc); takes = λ a e. absurd (cc) }
+of_caller v made (AsksOn c asked) of =
+    record { starts = λ a e. absurd (cc); takes = λ a e. absurd (cc) }
+of_caller v made (Rests c rest m) of =
+    record { starts = λ a e. absurd (cc); takes = λ a e. absurd (cc) }
+of_caller v made (Halts c m) of = record { starts = λ a e. absurd (cc); takes = λ a e. absurd (cc) }
+of_caller v made (Leaves c) of = record { starts = λ a e. absurd (cc); takes = λ a e. absurd (cc) }
+of_caller v made (Enters c s) of = absurd (cc)
+of_caller v made (Parks c s m) of = absurd (cc)
+of_caller v made (Ceases c s) of = absurd (cc)
+of_caller v made (Acknowledges a) of = absurd (cc)
+
+-- the start that a core is shown is of the power controller's life
+shown_life : (life : Option ℕ) (n : ℕ) (cause : Cause) (s : Start)
+    → start_shown life n cause ≡ Some s → life ≡ Some s.life
+shown_life None n cause s e = absurd (cc)
+shown_life (Some life) n cause s e = by_number (n == 0) e
+  where
+    by_number : (t : Bool)
+        → cond t None (Some (record { life = life; number = n; cause = cause })) ≡ Some s
+        → Some life ≡ Some s.life
+    by_number true e = absurd (cc)
+    by_number false e =
+        let same : record { life = life; number = n; cause = cause } ≡ s = cc in
+        ap (λ (x : Start). Some x.life) same
+
+of_entry : (v : controlled.Values) (made : List AckValue) (c : ℕ) (s : Start) (act : Act)
+    (m : Option MessageValue) → v.life ≡ Some s.life → IsOfRecord v made (enter_effect c s act m)
+of_entry v made c s acts.Stop (Some m) life = record {
+  starts = λ a e.
+      let same : record { core = c; start = s } ≡ a = cc in
+      life ∙ ap (λ (x : Arrival). Some x.start.life) same;
+  takes = λ a e. absurd (cc);
+}
+of_entry v made c s acts.Stop None life = record {
+  starts = λ a e.
+      let same : record { core = c; start = s } ≡ a = cc in
+      life ∙ ap (λ (x : Arrival). Some x.start.life) same;
+  takes = λ a e. absurd (cc);
+}
+of_entry v made c s act m life = record {
+  starts = λ a e.
+      let same : record { core = c; start = s } ≡ a = cc in
+      life ∙ ap (λ (x : Arrival). Some x.start.life) same;
+  takes = λ a e. absurd (cc);
+}
+
+-- What a record adds --------------------------------------------------------------------------
+
+-- at most one entry, which says that
+abbrev pub IsAdded : BoardValue → controlled.Values → List AckValue → List Entry → Type 0
+IsAdded b v made [] = Unit {0}
+IsAdded b v made (e ∷ []) = IsOfRecord v made (effect b e)
+IsAdded b v made (e ∷ f ∷ es) = ⊥
+
+added_entered : (b : BoardValue) (v : controlled.Values) (made : List AckValue) (c : ℕ)
+    (s : Option Start) (act : Act) (m : Option Sent) → last_start v c ≡ s
+    → IsAdded b v made (entered c s (outcome_in act m))
+added_entered b v made c None act m last = tt
+added_entered b v made c (Some s) act m last =
+    of_entry v made c s act (outcome_in act m).message
+    (shown_life v.life (v.starts c) (v.cause c) s last)
+
+added_took : (b : BoardValue) (v : controlled.Values) (made : List AckValue) (k : ℕ)
+    (a : Option AckValue) (t : Taken) → numbered made k ≡ a → IsAdded b v made (took a t)
+added_took b v made k None t at = tt
+added_took b v made k (Some a) takens.Used at = record {
+  starts = λ x e. absurd (cc);
+  takes = λ x e. let same : a ≡ x = cc in subst (IsListed made) same (listed_from made k a at);
+}
+added_took b v made k (Some a) takens.Old at = record {
+  starts = λ x e. absurd (cc);
+  takes = λ x e. absurd (cc);
+}
+
+pub added : (b : BoardValue) (v : controlled.Values) (made : List AckValue) (event : Event)
+    (said : Said) → IsAdded b v made (call v made event said)
+added b v made (Call c regs) (Fw act m) =
+    of_caller v made (function_effect b c (request_of regs) act (outcome_in act m).message)
+    (by_caller b c (request_of regs) act (outcome_in act m).message)
+added b v made (Enter c) (Fw act m) = added_entered b v made c (last_start v c) act m refl
+added b v made (Take k) (Took t) = added_took b v made k (numbered made k) t refl
+added b v made event said = tt

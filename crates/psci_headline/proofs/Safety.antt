@@ -1,0 +1,12 @@
+-- A run is safe at every moment.
+use Rattle.std.proofs.Common.{ℕ, List, [], ◌∷◌}
+use Rattle.psci_board.specs.Board.{BoardValue}
+use Rattle.psci_world_model.specs.declared.said.Record.{Record}
+use Rattle.psci_world_model.specs.Legal.{IsLegalPast}
+use Rattle.psci_safe.specs.Safe.{AlwaysSafe, Safe}
+
+-- at every moment, where it is so after each legal past
+pub always : (b : BoardValue) → ((past : List Record) → IsLegalPast b past → Safe b past)
+    → (past : List Record) → IsLegalPast b past → AlwaysSafe b past
+always b safe [] legal = safe [] legal
+always b safe (r ∷ past) legal = (safe (r ∷ past) legal, always b safe past legal.1)

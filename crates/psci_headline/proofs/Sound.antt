@@ -1,0 +1,66 @@
+-- What the live claims say makes a run safe: no core below a sleeping domain, and no domain deeper
+-- than asked.
+use Rattle.std.proofs.Common.{◌≡◌, ℕ, ◌<◌, true, List, Option, None, Some, refl, arith}
+use Rattle.std.proofs.Common.{ap, sym, ◌∙◌}
+use Rattle.std.specs.Prelude.{IsSome}
+use Rattle.std.proofs.lemmas.Bool.{and_from, eq-eqb, false≢true}
+use Rattle.psci_board.specs.Board.{BoardValue, HasNode, cores, up}
+use Rattle.psci_board.specs.Laws.{PathLaws}
+use Rattle.psci_board.specs.declared.node.Node.{Node}
+use Rattle.psci_world_model.specs.declared.place.Place.TheVariants.{Stopped}
+use Rattle.psci_world_model.specs.declared.said.Record.{Record}
+use Rattle.psci_world_model.specs.Histories.{controller_values}
+use Rattle.psci_world_model.specs.Places.{place}
+use Rattle.psci_safe.specs.Claims.{live_claims}
+use Rattle.psci_safe.specs.Moments.{depth_at, executes}
+use Rattle.psci_safe.specs.Safe.{NoDeeperThanAsked, NoneBelowSleeping}
+use Rattle.psci_headline.specs.Live.{AreAsked, AreClaimed, NoneExecutes}
+use Rattle.psci_headline.proofs.LiveOnes.{is_live_one}
+use Rattle.psci_headline.proofs.Picked.{any_passes}
+
+-- No core below a sleeping domain -------------------------------------------------------------
+
+-- without a life no core executes
+abbrev pub NoneWithoutLife : BoardValue → List Record → Type 0
+NoneWithoutLife b past = (controller_values b past).life ≡ None → (c : ℕ)
+    → executes (place b past c) ≡ true → ⊥
+
+pub none_without_life : (b : BoardValue) (past : List Record)
+    → ((controller_values b past).life ≡ None → (c : ℕ) → place b past c ≡ Stopped)
+    → NoneWithoutLife b past
+none_without_life b past stopped none c x =
+    false≢true (sym (ap executes (stopped none c)) ∙ x)
+
+awake_at : (b : BoardValue) (past : List Record) (n : Node) (c : ℕ) (o : Option ℕ)
+    → AreClaimed b past → NoneExecutes b past → NoneWithoutLife b past → HasNode b n → c < cores b
+    → up b n.level c ≡ n.place → executes (place b past c) ≡ true
+    → (controller_values b past).life ≡ o → 0 < depth_at b past n.level n.place → ⊥
+awake_at b past n c None claimed none over has on at x e some = over e c x
+awake_at b past n c (Some life) claimed none over has on at x e some =
+    let live = claimed life n has e some in
+    none n c live.index live.claim has on at live.at x
+
+pub none_below_sleeping : (b : BoardValue) (past : List Record) → PathLaws b → AreClaimed b past
+    → NoneExecutes b past → NoneWithoutLife b past → NoneBelowSleeping b past
+none_below_sleeping b past paths claimed none over c level on low x =
+    let n : Node = record { level = level; place = up b level c } in
+    let inside : HasNode b n = record { level = low; place = paths.inside c level on low } in
+    let not_deep = awake_at b past n c (controller_values b past).life claimed none over inside on
+    refl x refl in
+    omega (arith, not_deep)
+
+-- No deeper than asked ------------------------------------------------------------------------
+
+present_life : (o : Option ℕ) → IsSome o → (life : ℕ) × (o ≡ Some life)
+present_life None some = absurd (false≢true some)
+present_life (Some life) some = (life, refl)
+
+pub no_deeper : (b : BoardValue) (past : List Record) → AreClaimed b past → AreAsked b past
+    → NoDeeperThanAsked b past
+no_deeper b past claimed asked n has some deep =
+    let life = present_life (controller_values b past).life some in
+    let live = claimed life.0 n has life.1 deep in
+    let one = is_live_one b past n live.index live.claim live.at in
+    any_passes _ (live_claims b past n) live.index live.claim live.at
+    (and_from _ _ (eq-eqb live.claim.depth (depth_at b past n.level n.place) live.deep)
+    (asked one.life n one.index live.claim has one.at))

@@ -1,0 +1,19 @@
+-- Claims were asked for.
+use Rattle.std.proofs.Common.{subst, sym}
+use Rattle.psci_fw_laws.specs.Claims.{AreApart}
+use Rattle.psci_world_model.specs.Histories.{firmware_history}
+use Rattle.psci_headline.proofs.Asking.{asked}
+use Rattle.psci_headline.proofs.Moments.{were_asked}
+use Rattle.psci_headline.proofs.live.law_asked_claims.Goals as goal
+
+pub returns : goal.returns
+returns c = λ b past board legal life n k p has.
+    asked b life n past k p has (were_asked b past (λ some is.
+    let firmware = c.law_histories.ensures.firmware b some is in
+    let same = c.law_sent.ensures b some is in
+    let apart = c.law_claimed.ensures.apart b (firmware_history b some) board firmware in
+    record {
+      same = same;
+      apart = subst (AreApart b) (sym same) apart;
+      asked = c.law_asked.ensures b (firmware_history b some) board firmware;
+    }) legal)

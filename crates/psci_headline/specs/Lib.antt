@@ -1,0 +1,2 @@
+pub mod Asleep
+pub mod Live

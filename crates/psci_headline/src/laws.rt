@@ -1,0 +1,33 @@
+//! Every legal run is safe. The law is the contract of a function that does nothing.
+
+ghost use Rattle.std.specs.Prelude.{List};
+ghost use Rattle.psci_board.specs.Board.{BoardValue, IsBoard};
+ghost use Rattle.psci_safe.specs.Safe.{AlwaysSafe};
+ghost use Rattle.psci_world_model.specs.declared.said.Record.{Record};
+ghost use Rattle.psci_world_model.specs.Legal.{IsLegalPast};
+
+use crate::live::{law_asked_claims, law_claimed_depths, law_live_claims, law_none_executes};
+use crate::openings::law_one_entry;
+use crate::sleep::law_off_is_down;
+use psci_board::law_paths;
+use psci_world_laws::law_agreement;
+use psci_world_model::law_histories;
+
+/// A legal run is safe at every moment: no core that executes stands below a domain that is not
+/// fully on, and a core reported OFF was powered down since it last went on; each domain has at
+/// most one live claim; no domain is deeper than its cores asked; and each entry takes up one
+/// opening.
+pub fn law_safe()
+    ensures { (b : BoardValue) (past : List Record) → IsBoard b → IsLegalPast b past
+        → AlwaysSafe b past }
+{
+    law_paths();
+    law_histories();
+    law_agreement();
+    law_live_claims();
+    law_asked_claims();
+    law_claimed_depths();
+    law_none_executes();
+    law_one_entry();
+    law_off_is_down();
+}

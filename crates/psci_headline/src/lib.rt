@@ -1,0 +1,13 @@
+//! The headline: every legal run of the world is safe at every moment. The words and definitions
+//! are those of `psci_safe`; here are the laws, and the facts that carry them.
+#![tactic(auto)]
+
+mod laws;
+mod live;
+mod openings;
+mod sleep;
+
+pub use laws::law_safe;
+pub use live::{law_asked_claims, law_claimed_depths, law_live_claims, law_none_executes};
+pub use openings::law_one_entry;
+pub use sleep::law_off_is_down;

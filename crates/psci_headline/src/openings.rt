@@ -1,0 +1,20 @@
+//! Entries and openings: the law is the contract of a function that does nothing.
+
+ghost use Rattle.std.specs.Prelude.{List};
+ghost use Rattle.psci_board.specs.Board.{BoardValue, IsBoard};
+ghost use Rattle.psci_fw_model.specs.Entry.{Entry};
+ghost use Rattle.psci_fw_model.specs.Legal.{IsLegal};
+ghost use Rattle.psci_safe.specs.Openings.{AreTakenUp};
+
+use psci_fw_laws::law_kept;
+use psci_fw_model::law_power_on;
+
+/// In a legal history of the firmware each entry takes up one opening that was made for its core in
+/// its life, with its address and context id, and no two take up the same one. So an accepted
+/// CPU_ON leads to at most one entry.
+pub fn law_one_entry()
+    ensures { (b : BoardValue) (h : List Entry) → IsBoard b → IsLegal b h → AreTakenUp b h }
+{
+    law_kept();
+    law_power_on();
+}

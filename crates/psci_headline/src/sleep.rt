@@ -1,0 +1,26 @@
+//! Cores that are reported OFF: the law is the contract of a function that does nothing.
+
+ghost use Rattle.std.specs.Prelude.{List};
+ghost use Rattle.psci_board.specs.Board.{BoardValue, IsBoard};
+ghost use Rattle.psci_safe.specs.Safe.{OffIsDown};
+ghost use Rattle.psci_world_model.specs.declared.said.Record.{Record};
+ghost use Rattle.psci_world_model.specs.Legal.{IsLegalPast};
+
+use psci_board::law_paths;
+use psci_fw_laws::{law_kept, law_known_below};
+use psci_fw_model::law_invariant;
+use psci_world_laws::{law_agreement, law_sent};
+
+/// In a legal run a core that is reported OFF does not run, and was powered down since it last went
+/// on.
+pub fn law_off_is_down()
+    ensures { (b : BoardValue) (past : List Record) → IsBoard b → IsLegalPast b past
+        → OffIsDown b past }
+{
+    law_paths();
+    law_invariant();
+    law_kept();
+    law_known_below();
+    law_sent();
+    law_agreement();
+}
