@@ -1,0 +1,83 @@
+-- Worked examples of how the world settles, by computation.
+use Rattle.std.proofs.Common.{◌≡◌, ◌++◌, ℕ, List, [], ◌∷◌, true, false, map, reverse, refl}
+use Rattle.psci_board.specs.Board.{BoardValue}
+use Rattle.psci_world_model.specs.declared.event.Event.{Event}
+use Rattle.psci_world_model.specs.declared.event.Event.TheVariants.{Enter, Reset, Deliver, Take}
+use Rattle.psci_world_model.specs.declared.said.Record.{Record}
+use Rattle.psci_world_model.specs.Legal.{run_from}
+use Rattle.psci_world_model.proofs.Scripts as scripts
+use Rattle.psci_world_model.proofs.Scripts.{board, call, off, on_3, system_off, system_reset}
+use Rattle.psci_settle.specs.Drained.{deliveries}
+use Rattle.psci_settle.specs.Settling.{begun, is_halting, is_waiting, round, rounds, settled}
+
+unfoldable computing : Unit {0}
+unfolding scripts.computing settled begun round is_waiting rounds
+computing = tt
+
+-- the records after these events
+abbrev after : List Event → List Record
+after events = run_from board [] events
+
+-- these events happen as the world settles after those, in so many rounds
+record SettlesBy (first more : List Event) (count : ℕ) : Type 0 where
+  pub events : reverse (map (λ r. r.event) (settled board (after first)).past) ≡ first ++ more
+  pub times : (settled board (after first)).rounds ≡ count
+
+-- core 3 and then core 0 are suspended with all their domains, and nothing was delivered
+abbrev both_sleep : List Event
+both_sleep = Enter 0 ∷ on_3 ∷ call 0 0xc4000004 0x101 0 0 ∷ Deliver 0 ∷ Enter 3
+    ∷ call 3 0xc4000001 0x02010333 0x40004000 2 ∷ call 0 0xc4000001 0x02010333 0x40000100 0 ∷ []
+
+-- the system waits for the cluster, so it takes two rounds
+two_rounds : SettlesBy both_sleep
+    (Deliver 2 ∷ Take 1 ∷ Deliver 1 ∷ Take 2 ∷ Deliver 2 ∷ Take 3 ∷ []) 2
+unfolding computing
+two_rounds = record { events = refl; times = refl }
+
+-- the boot core enters, and nothing waits
+new_world : SettlesBy [] (Enter 0 ∷ []) 0
+unfolding computing
+new_world = record { events = refl; times = refl }
+
+-- a Start is answered once, and the core that it started enters
+start_waits : SettlesBy (Enter 0 ∷ on_3 ∷ []) (Deliver 0 ∷ Take 0 ∷ Enter 3 ∷ []) 0
+unfolding computing
+start_waits = record { events = refl; times = refl }
+
+-- the last core's Down is answered too
+last_core : SettlesBy (Enter 0 ∷ on_3 ∷ Deliver 0 ∷ Enter 3 ∷ off 3 ∷ [])
+    (Deliver 1 ∷ Take 1 ∷ []) 1
+unfolding computing
+last_core = record { events = refl; times = refl }
+
+-- a core that was reset enters and parks first, and then its new Down is answered
+reset_core : SettlesBy (Enter 0 ∷ on_3 ∷ Deliver 0 ∷ Enter 3 ∷ Reset 3 ∷ [])
+    (Enter 3 ∷ Deliver 1 ∷ Take 1 ∷ []) 1
+unfolding computing
+reset_core = record { events = refl; times = refl }
+
+-- Halting ---------------------------------------------------------------------------------------
+
+resets : is_halting board (after (Enter 0 ∷ system_reset 0 ∷ [])) ≡ true
+unfolding computing
+resets = refl
+
+-- the next life has begun, and is not halting
+was_reset : is_halting board (after (Enter 0 ∷ system_reset 0 ∷ Deliver 0 ∷ [])) ≡ false
+unfolding computing
+was_reset = refl
+
+went_off : is_halting board (after (Enter 0 ∷ system_off 0 ∷ Deliver 0 ∷ [])) ≡ true
+unfolding computing
+went_off = refl
+
+-- Deliveries ------------------------------------------------------------------------------------
+
+-- message 2 is delivered twice, message 1 once
+twice : deliveries 2 (settled board (after both_sleep)).past ≡ 2
+unfolding computing
+twice = refl
+
+once : deliveries 1 (settled board (after both_sleep)).past ≡ 1
+unfolding computing
+once = refl
