@@ -77,6 +77,13 @@ impl Controller {
         })
     }
 
+    /// The board.
+    pub fn board(&self) -> &Board
+        ensures { result.now ≡ self.now.board }
+    {
+        &self.board
+    }
+
     /// The present life, counted from 1; None once the system is off.
     pub fn life(&self) -> Option<u32>
         ensures { result ≡ (seen self.now).life }

@@ -1,0 +1,190 @@
+-- What is said of an event by the machine's values is what is legal after the records.
+use Rattle.std.proofs.Common.{◌≡◌, ℕ, ◌<◌, Bool, true, false, List, Option, None, Some, cond}
+use Rattle.std.proofs.Common.{length, refl, ap, ◌∙◌, reverse}
+use Rattle.std.specs.Prelude.{nat_lt, slice_get}
+use Rattle.std.proofs.lemmas.Bool.{ltb-true}
+use Rattle.psci_abi.specs.declared.registers.Regs.{Regs}
+use Rattle.psci_board.specs.Board.{BoardValue, cores}
+use Rattle.psci_ctl.specs.Seen.{seen as seen_controller}
+use Rattle.psci_ctl_model.specs.declared.call.CtlCall.TheVariants as asked
+use Rattle.psci_ctl_model.specs.declared.start.Start.{Start}
+use Rattle.psci_ctl_model.specs.Replies.{last_start, reply}
+use Rattle.psci_ctl_model.specs.Values as controlled
+use Rattle.psci_fw.specs.Seen.{seen as seen_firmware}
+use Rattle.psci_fw_model.specs.declared.call.FwCall.{FwCall}
+use Rattle.psci_fw_model.specs.declared.call.FwCall.TheVariants as calls
+use Rattle.psci_fw_model.specs.Answer.{answer}
+use Rattle.psci_fw_model.specs.Values as kept
+use Rattle.psci_link.specs.Message.{AckValue, MessageValue}
+use Rattle.psci_world_model.specs.declared.event.Event.TheVariants.{Call, Enter, Wake, Reset}
+use Rattle.psci_world_model.specs.declared.event.Event.TheVariants.{Deliver, Take}
+use Rattle.psci_world_model.specs.declared.place.Place.{Place}
+use Rattle.psci_world_model.specs.declared.place.Place.TheVariants.{Started, Running, Stopped}
+use Rattle.psci_world_model.specs.declared.said.Record.{Record}
+use Rattle.psci_world_model.specs.declared.said.Said.{Said}
+use Rattle.psci_world_model.specs.declared.said.Said.TheVariants.{Absent}
+use Rattle.psci_world_model.specs.Histories.{acks, controller_values, firmware_values, sent}
+use Rattle.psci_world_model.specs.Legal.{deliver, if_running, if_started, if_stopped, legal}
+use Rattle.psci_world_model.specs.Legal.{on_board, said_by, said_of, take}
+use Rattle.psci_world_model.specs.Lists.{numbered}
+use Rattle.psci_world_model.specs.Places.{place}
+use Rattle.psci_world.specs.Next.{if_entering, if_there}
+use Rattle.psci_world.specs.Seen.{IsAfter, MachineValue, board_of, place_in}
+
+-- Parts ----------------------------------------------------------------------------------------
+
+board_test : (t : Bool) (x y : Said) → (t ≡ true → x ≡ y) → cond t x Absent ≡ cond t y Absent
+board_test true x y same = same refl
+board_test false x y same = refl
+
+-- what is said of a core that is there need only be the same there
+same_there : (b : BoardValue) (c : ℕ) (x y : Said) → (c < cores b → x ≡ y)
+    → on_board b c x ≡ on_board b c y
+same_there b c x y same = board_test (nat_lt c (cores b)) x y (λ t. same (ltb-true _ _ t))
+
+-- the firmware's answer, by a machine's values
+answer_same : (b : BoardValue) (past : List Record) (m : MachineValue) (c : ℕ) (asks : FwCall)
+    → IsAfter b past m
+    → answer (board_of m) (seen_firmware m.firmware) c asks
+    ≡ answer b (firmware_values b past) c asks
+answer_same b past m c asks is =
+    ap (λ (x : BoardValue). answer x (seen_firmware m.firmware) c asks) is.board
+    ∙ ap (λ (x : kept.Values). answer b x c asks) is.firmware
+
+entering_same : (b : BoardValue) (past : List Record) (c n : ℕ) (p : Place) (s : Option Start)
+    → n ≡ length (sent past)
+    → if_entering p s (λ start. said_of n
+    (answer b (firmware_values b past) c (calls.Enter start))) ≡ if_started b past c p s
+entering_same b past c n Started (Some start) count =
+    ap (λ (k : ℕ). said_of k (answer b (firmware_values b past) c (calls.Enter start))) count
+entering_same b past c n Started None count = refl
+entering_same b past c n Running (Some start) count = refl
+entering_same b past c n Running None count = refl
+entering_same b past c n Stopped (Some start) count = refl
+entering_same b past c n Stopped None count = refl
+
+-- a list is looked at in the same way from its other end
+same_number : {A : Type 0} → (xs ys : List A) (k : ℕ) → xs ≡ reverse ys
+    → slice_get xs k ≡ numbered ys k
+same_number xs ys k e = ap (λ l. slice_get l k) e
+
+-- Events ---------------------------------------------------------------------------------------
+
+pub call_legal : (b : BoardValue) (past : List Record) (m : MachineValue) (c n : ℕ) (regs : Regs)
+    → IsAfter b past m → n ≡ length (sent past)
+    → on_board (board_of m) c (if_running (place_in m.places c)
+    (said_of n (answer (board_of m) (seen_firmware m.firmware) c (calls.Smc regs))))
+    ≡ legal b past (Call c regs)
+unfolding legal
+call_legal b past m c n regs is count =
+    ap (λ (x : BoardValue). on_board x c (if_running (place_in m.places c)
+    (said_of n (answer (board_of m) (seen_firmware m.firmware) c (calls.Smc regs))))) is.board
+    ∙ same_there b c _ _ (λ inside.
+    ap (λ (p : Place). if_running p
+    (said_of n (answer (board_of m) (seen_firmware m.firmware) c (calls.Smc regs))))
+    (is.places c inside)
+    ∙ ap (λ (k : ℕ). if_running (place b past c)
+    (said_of k (answer (board_of m) (seen_firmware m.firmware) c (calls.Smc regs)))) count
+    ∙ ap (λ r. if_running (place b past c) (said_of (length (sent past)) r))
+    (answer_same b past m c (calls.Smc regs) is))
+
+pub enter_legal : (b : BoardValue) (past : List Record) (m : MachineValue) (c n : ℕ)
+    → IsAfter b past m → n ≡ length (sent past)
+    → on_board (board_of m) c (if_entering (place_in m.places c)
+    (last_start (seen_controller m.controller) c) (λ start. said_of n
+    (answer (board_of m) (seen_firmware m.firmware) c (calls.Enter start))))
+    ≡ legal b past (Enter c)
+unfolding legal
+enter_legal b past m c n is count =
+    ap (λ (x : BoardValue). on_board x c (if_entering (place_in m.places c)
+    (last_start (seen_controller m.controller) c) (λ start. said_of n
+    (answer x (seen_firmware m.firmware) c (calls.Enter start))))) is.board
+    ∙ same_there b c _ _ (λ inside.
+    ap (λ (p : Place). if_entering p
+    (last_start (seen_controller m.controller) c) (λ start. said_of n
+    (answer b (seen_firmware m.firmware) c (calls.Enter start)))) (is.places c inside)
+    ∙ ap (λ (v : controlled.Values). if_entering (place b past c)
+    (last_start v c) (λ start. said_of n
+    (answer b (seen_firmware m.firmware) c (calls.Enter start)))) is.controller
+    ∙ ap (λ (v : kept.Values). if_entering (place b past c)
+    (last_start (controller_values b past) c) (λ start. said_of n
+    (answer b v c (calls.Enter start)))) is.firmware
+    ∙ entering_same b past c n (place b past c) (last_start (controller_values b past) c) count)
+
+pub wake_legal : (b : BoardValue) (past : List Record) (m : MachineValue) (c : ℕ)
+    → IsAfter b past m
+    → on_board (board_of m) c (if_stopped (place_in m.places c) (said_by (length (acks past))
+    (reply (board_of m) (seen_controller m.controller)
+    (asked.Wake (record { number = c }) ((seen_controller m.controller).starts c)))))
+    ≡ legal b past (Wake c)
+unfolding legal
+wake_legal b past m c is =
+    ap (λ (x : BoardValue). on_board x c (if_stopped (place_in m.places c)
+    (said_by (length (acks past)) (reply x (seen_controller m.controller)
+    (asked.Wake (record { number = c }) ((seen_controller m.controller).starts c)))))) is.board
+    ∙ same_there b c _ _ (λ inside.
+    ap (λ (p : Place). if_stopped p
+    (said_by (length (acks past)) (reply b (seen_controller m.controller)
+    (asked.Wake (record { number = c }) ((seen_controller m.controller).starts c)))))
+    (is.places c inside)
+    ∙ ap (λ (v : controlled.Values). if_stopped (place b past c)
+    (said_by (length (acks past)) (reply b v
+    (asked.Wake (record { number = c }) (v.starts c))))) is.controller)
+
+pub reset_legal : (b : BoardValue) (past : List Record) (m : MachineValue) (c : ℕ)
+    → IsAfter b past m
+    → on_board (board_of m) c (said_by (length (acks past))
+    (reply (board_of m) (seen_controller m.controller) (asked.Reset (record { number = c }))))
+    ≡ legal b past (Reset c)
+unfolding legal
+reset_legal b past m c is =
+    ap (λ (x : BoardValue). on_board x c (said_by (length (acks past))
+    (reply x (seen_controller m.controller) (asked.Reset (record { number = c }))))) is.board
+    ∙ ap (λ (v : controlled.Values). on_board b c (said_by (length (acks past))
+    (reply b v (asked.Reset (record { number = c }))))) is.controller
+
+deliver_any : (b : BoardValue) (past : List Record) (n : ℕ) (message : Option MessageValue)
+    → n ≡ length (acks past)
+    → if_there message (λ m. said_by n (reply b (controller_values b past) (asked.Deliver m)))
+    ≡ deliver b past message
+deliver_any b past n None count = refl
+deliver_any b past n (Some m) count =
+    ap (λ (k : ℕ). said_by k (reply b (controller_values b past) (asked.Deliver m))) count
+
+pub deliver_legal : (b : BoardValue) (past : List Record) (m : MachineValue)
+    (messages : List MessageValue) (k n : ℕ) → IsAfter b past m
+    → messages ≡ reverse (sent past) → n ≡ length (acks past)
+    → if_there (slice_get messages k) (λ x. said_by n
+    (reply (board_of m) (seen_controller m.controller) (asked.Deliver x)))
+    ≡ legal b past (Deliver k)
+unfolding legal
+deliver_legal b past m messages k n is sends count =
+    ap (λ (y : BoardValue). if_there (slice_get messages k) (λ x. said_by n
+    (reply y (seen_controller m.controller) (asked.Deliver x)))) is.board
+    ∙ ap (λ (v : controlled.Values). if_there (slice_get messages k) (λ x. said_by n
+    (reply b v (asked.Deliver x)))) is.controller
+    ∙ ap (λ (o : Option MessageValue). if_there o (λ x. said_by n
+    (reply b (controller_values b past) (asked.Deliver x))))
+    (same_number messages (sent past) k sends)
+    ∙ deliver_any b past n (numbered (sent past) k) count
+
+take_any : (b : BoardValue) (past : List Record) (ack : Option AckValue)
+    → if_there ack (λ a. said_of (length (sent past))
+    (answer b (firmware_values b past) 0 (calls.Take a))) ≡ take b past ack
+take_any b past None = refl
+take_any b past (Some a) = refl
+
+pub take_legal : (b : BoardValue) (past : List Record) (m : MachineValue)
+    (made : List AckValue) (k : ℕ) → IsAfter b past m → made ≡ reverse (acks past)
+    → if_there (slice_get made k) (λ a. said_of (length (sent past))
+    (answer (board_of m) (seen_firmware m.firmware) 0 (calls.Take a)))
+    ≡ legal b past (Take k)
+unfolding legal
+take_legal b past m made k is makes =
+    ap (λ (y : BoardValue). if_there (slice_get made k) (λ a. said_of (length (sent past))
+    (answer y (seen_firmware m.firmware) 0 (calls.Take a)))) is.board
+    ∙ ap (λ (v : kept.Values). if_there (slice_get made k) (λ a. said_of (length (sent past))
+    (answer b v 0 (calls.Take a)))) is.firmware
+    ∙ ap (λ (o : Option AckValue). if_there o (λ a. said_of (length (sent past))
+    (answer b (firmware_values b past) 0 (calls.Take a)))) (same_number made (acks past) k makes)
+    ∙ take_any b past (numbered (acks past) k)

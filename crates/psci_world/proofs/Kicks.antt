@@ -1,0 +1,286 @@
+-- What a wake-up or a reset of a core says and leaves, and a message that is delivered.
+use Rattle.std.proofs.Common.{◌≡◌, ℕ, ◌<◌, ◌==◌, Bool, true, false, List, Option, None}
+use Rattle.std.proofs.Common.{Some, cond, reverse, refl, ap, sym, ◌∙◌, subst}
+use Rattle.std.specs.Prelude.{is_some, nat_lt, slice_get, unwrap_or}
+use Rattle.std.proofs.lemmas.List.{reverse-reverse}
+use Rattle.psci_board.specs.Board.{BoardValue, cores}
+use Rattle.psci_board.specs.declared.node.Core.{Core}
+use Rattle.psci_ctl.specs.Seen.{ControllerValue, seen}
+use Rattle.psci_ctl_model.specs.declared.call.CtlCall.{CtlCall}
+use Rattle.psci_ctl_model.specs.declared.call.CtlCall.TheVariants as calls
+use Rattle.psci_ctl_model.specs.declared.delivery.Delivery.TheVariants as deliveries
+use Rattle.psci_ctl_model.specs.declared.kick.Kick.{Kick}
+use Rattle.psci_ctl_model.specs.declared.kick.Kick.TheVariants as kicks
+use Rattle.psci_ctl_model.specs.declared.reply.CtlReply.TheVariants as replies
+use Rattle.psci_ctl_model.specs.Changes.{after, change, next_life}
+use Rattle.psci_ctl_model.specs.Effects.{Begins, Ends, effect_of, message_effect}
+use Rattle.psci_ctl_model.specs.Replies.{ack_by, delivery_of, is_present, reply}
+use Rattle.psci_ctl_model.specs.Values.{Values}
+use Rattle.psci_fw.specs.Seen as firmware
+use Rattle.psci_fw.specs.Seen.{FirmwareValue}
+use Rattle.psci_link.specs.declared.kind.Kind.{Kind}
+use Rattle.psci_link.specs.declared.kind.Kind.TheVariants as kinds
+use Rattle.psci_link.specs.Message.{AckValue, MessageValue}
+use Rattle.psci_world_model.specs.declared.event.Event.TheVariants.{Wake, Reset, Deliver}
+use Rattle.psci_world_model.specs.declared.place.Place.{Place}
+use Rattle.psci_world_model.specs.declared.place.Place.TheVariants.{Started, Stopped}
+use Rattle.psci_world_model.specs.declared.said.Said.{Said}
+use Rattle.psci_world_model.specs.declared.said.Said.TheVariants.{Absent, Acked}
+use Rattle.psci_world_model.specs.Histories.{delivered}
+use Rattle.psci_world_model.specs.Legal.{if_stopped, on_board, said_by}
+use Rattle.psci_world_model.specs.Lists.{numbered}
+use Rattle.psci_world_model.specs.Places.{place_by, place_controlled}
+use Rattle.psci_world.specs.Next.{IsNext, controlled_after, place_kicked}
+use Rattle.psci_world.specs.Seen.{MachineValue, board_of, place_in}
+
+-- Wake-ups and resets --------------------------------------------------------------------------
+
+-- the place of a core after a start of some core
+started_place : (t : Bool) (before : Place)
+    → cond t Started before ≡ unwrap_or (cond t (Some Started) None) before
+started_place true before = refl
+started_place false before = refl
+
+-- What a call that may start a core leaves of the machine.
+pub record IsKicked (call : CtlCall) (number : ℕ) (kick : Kick) (old new : MachineValue)
+    : Type 0 where
+  pub board : board_of new ≡ board_of old
+  pub firmware : firmware.seen new.firmware ≡ firmware.seen old.firmware
+  pub after : seen new.controller
+      ≡ after (board_of old) call (replies.Kick kick) (seen old.controller)
+  pub ignored : kick ≡ kicks.Ignored → seen new.controller ≡ seen old.controller
+  pub places : (c : ℕ) → place_in new.places c
+      ≡ place_kicked number kick c (place_in old.places c)
+
+wake_by : (messages : List MessageValue) (made : List AckValue) (old new : MachineValue)
+    (number : ℕ) (kick : Kick)
+    → IsKicked (calls.Wake (record { number = number }) ((seen old.controller).starts number))
+    number kick old new
+    → IsNext messages made old (Wake number) (said_by 0 (replies.Kick kick)) new
+unfolding effect_of
+wake_by messages made old new number (kicks.Started start) is = record {
+  board = is.board;
+  firmware = is.firmware;
+  controller = is.after;
+  places = λ c inside. is.places c ∙ started_place (c == number) (place_in old.places c);
+}
+wake_by messages made old new number kicks.Ignored is = record {
+  board = is.board;
+  firmware = is.firmware;
+  controller = is.ignored refl;
+  places = λ c inside. is.places c;
+}
+
+pub wake_next : (messages : List MessageValue) (made : List AckValue) (old new : MachineValue)
+    (number : ℕ) (kick : Kick) (said : Said) → said ≡ said_by 0 (replies.Kick kick)
+    → IsKicked (calls.Wake (record { number = number }) ((seen old.controller).starts number))
+    number kick old new
+    → IsNext messages made old (Wake number) said new
+wake_next messages made old new number kick said e is =
+    subst (λ (s : Said). IsNext messages made old (Wake number) s new) (sym e)
+    (wake_by messages made old new number kick is)
+
+reset_by : (messages : List MessageValue) (made : List AckValue) (old new : MachineValue)
+    (number : ℕ) (kick : Kick)
+    → IsKicked (calls.Reset (record { number = number })) number kick old new
+    → IsNext messages made old (Reset number) (said_by 0 (replies.Kick kick)) new
+unfolding effect_of
+reset_by messages made old new number (kicks.Started start) is = record {
+  board = is.board;
+  firmware = is.firmware;
+  controller = is.after;
+  places = λ c inside. is.places c ∙ started_place (c == number) (place_in old.places c);
+}
+reset_by messages made old new number kicks.Ignored is = record {
+  board = is.board;
+  firmware = is.firmware;
+  controller = is.ignored refl;
+  places = λ c inside. is.places c;
+}
+
+pub reset_next : (messages : List MessageValue) (made : List AckValue) (old new : MachineValue)
+    (number : ℕ) (kick : Kick) (said : Said) → said ≡ said_by 0 (replies.Kick kick)
+    → IsKicked (calls.Reset (record { number = number })) number kick old new
+    → IsNext messages made old (Reset number) said new
+reset_next messages made old new number kick said e is =
+    subst (λ (s : Said). IsNext messages made old (Reset number) s new) (sym e)
+    (reset_by messages made old new number kick is)
+
+-- a machine, by its parts
+abbrev pub machine_of : FirmwareValue → ControllerValue → List Place → MachineValue
+machine_of fw ctl places = record { firmware = fw; controller = ctl; places = places }
+
+-- a machine's parts, when a call of the power controller has changed it and the places
+pub kicked_by : (old new : MachineValue) (fw : FirmwareValue) (ctl mid : ControllerValue)
+    (places : List Place) (call called : CtlCall) (at number : ℕ) (kick : Kick)
+    → machine_of fw ctl places ≡ old
+    → ctl.board ≡ fw.board → called ≡ call → at ≡ number
+    → seen mid ≡ after ctl.board called (replies.Kick kick) (seen ctl)
+    → (kick ≡ kicks.Ignored → mid ≡ ctl)
+    → ((c : ℕ) → place_in new.places c ≡ place_kicked at kick c (place_in places c))
+    → new.firmware ≡ fw → new.controller ≡ mid → IsKicked call number kick old new
+kicked_by old new fw ctl mid places call called at number kick e same named here is ignored goes
+    kept put =
+    subst (λ (o : MachineValue). IsKicked call number kick o new) e (record {
+      board = ap (λ (f : FirmwareValue). f.board) kept;
+      firmware = ap firmware.seen kept;
+      after = ap seen put ∙ is
+          ∙ ap (λ (b : BoardValue). after b called (replies.Kick kick) (seen ctl)) same
+          ∙ ap (λ (x : CtlCall). after fw.board x (replies.Kick kick) (seen ctl)) named;
+      ignored = λ none. ap seen put ∙ ap seen (ignored none);
+      places = λ c. goes c
+          ∙ ap (λ (x : ℕ). place_kicked x kick c (place_in places c)) here;
+    })
+
+-- a core that was found is the one of this number, and the board has it
+found_by : (t : Bool) (number : ℕ) (core : Core)
+    → cond t (Some (record { number = number })) None ≡ Some core
+    → (t ≡ true) × (record { number = number } ≡ core)
+found_by true number core e = (refl, cc)
+found_by false number core e = cc
+
+pub found : (b : BoardValue) (number : ℕ) (core : Core) (o : Option Core)
+    → o ≡ cond (nat_lt number (cores b)) (Some (record { number = number })) None
+    → o ≡ Some core → (nat_lt number (cores b) ≡ true) × (record { number = number } ≡ core)
+found b number core o e is = found_by (nat_lt number (cores b)) number core (sym e ∙ is)
+
+-- the power controller is asked to wake this core, by its own values
+pub wake_asked : (v : Values) (number halted : ℕ) (core : Core)
+    → record { number = number } ≡ core → halted ≡ v.starts core.number
+    → calls.Wake core halted ≡ calls.Wake (record { number = number }) (v.starts number)
+wake_asked v number halted core e is =
+    ap (calls.Wake core) is
+    ∙ ap (λ (x : Core). calls.Wake x (v.starts x.number)) (sym e)
+
+-- this is said of a core that is there
+pub said_there : (b : BoardValue) (c : ℕ) (x : Said) → nat_lt c (cores b) ≡ true
+    → x ≡ on_board b c x
+said_there b c x there = ap (λ (t : Bool). cond t x Absent) (sym there)
+
+-- this is said of a core that is stopped
+pub said_stopped : (p : Place) (x : Said) → p ≡ Stopped → x ≡ if_stopped p x
+said_stopped p x e = ap (λ (q : Place). if_stopped q x) (sym e)
+
+-- what a wake-up of a stopped core is answered, by the machine's own values
+pub woken : (old : MachineValue) (fw : FirmwareValue) (ctl : ControllerValue)
+    (places : List Place) (number n halted : ℕ) (core : Core) → machine_of fw ctl places ≡ old
+    → ctl.board ≡ fw.board → nat_lt number (cores (board_of old)) ≡ true
+    → record { number = number } ≡ core → halted ≡ (seen ctl).starts core.number
+    → place_in old.places core.number ≡ Stopped
+    → said_by n (reply ctl.board (seen ctl) (calls.Wake core halted))
+    ≡ on_board (board_of old) number (if_stopped (place_in old.places number) (said_by n
+    (reply (board_of old) (seen old.controller)
+    (calls.Wake (record { number = number }) ((seen old.controller).starts number)))))
+woken old fw ctl places number n halted core e same there named is stops =
+    let says : MachineValue → Said = λ m. said_by n (reply (board_of m) (seen m.controller)
+    (calls.Wake (record { number = number }) ((seen m.controller).starts number))) in
+    let here : place_in old.places number ≡ Stopped =
+    ap (λ (x : Core). place_in old.places x.number) named ∙ stops in
+    ap (λ (b : BoardValue). said_by n (reply b (seen ctl) (calls.Wake core halted))) same
+    ∙ ap (λ (x : CtlCall). said_by n (reply fw.board (seen ctl) x))
+    (wake_asked (seen ctl) number halted core named is)
+    ∙ ap says e ∙ said_stopped (place_in old.places number) (says old) here
+    ∙ said_there (board_of old) number (if_stopped (place_in old.places number) (says old)) there
+
+-- what a reset of a core is answered, by the machine's own values
+pub reset_said : (old : MachineValue) (fw : FirmwareValue) (ctl : ControllerValue)
+    (places : List Place) (number n : ℕ) (core : Core) → machine_of fw ctl places ≡ old
+    → ctl.board ≡ fw.board → nat_lt number (cores (board_of old)) ≡ true
+    → record { number = number } ≡ core
+    → said_by n (reply ctl.board (seen ctl) (calls.Reset core))
+    ≡ on_board (board_of old) number (said_by n
+    (reply (board_of old) (seen old.controller) (calls.Reset (record { number = number }))))
+reset_said old fw ctl places number n core e same there named =
+    let says : MachineValue → Said = λ m. said_by n (reply (board_of m) (seen m.controller)
+    (calls.Reset (record { number = number }))) in
+    ap (λ (b : BoardValue). said_by n (reply b (seen ctl) (calls.Reset core))) same
+    ∙ ap (λ (x : Core). said_by n (reply fw.board (seen ctl) (calls.Reset x))) (sym named)
+    ∙ ap says e ∙ said_there (board_of old) number (says old) there
+
+-- Messages -------------------------------------------------------------------------------------
+
+-- What the delivery of a message leaves of the machine.
+pub record IsDelivered (message : MessageValue) (ack : AckValue) (old new : MachineValue)
+    : Type 0 where
+  pub board : board_of new ≡ board_of old
+  pub firmware : firmware.seen new.firmware ≡ firmware.seen old.firmware
+  pub after : seen new.controller ≡ after (board_of old) (calls.Deliver message)
+      (replies.Delivery (deliveries.Applied ack)) (seen old.controller)
+  pub places : (c : ℕ) → c < cores (board_of old) → place_in new.places c
+      ≡ unwrap_or (place_by c (message_effect (board_of old) message ack message.kind))
+      (place_in old.places c)
+
+pub delivery_next : (messages : List MessageValue) (made : List AckValue)
+    (old new : MachineValue) (k index : ℕ) (message : MessageValue) (ack : AckValue)
+    → slice_get messages k ≡ Some message → IsDelivered message ack old new
+    → IsNext messages made old (Deliver k) (Acked index ack) new
+unfolding effect_of
+delivery_next messages made old new k index message ack at is =
+    let b = board_of old in
+    let v = seen old.controller in
+    let sent : numbered (reverse messages) k ≡ Some message =
+    ap (λ (l : List MessageValue). slice_get l k) (reverse-reverse messages) ∙ at in
+    record {
+      board = is.board;
+      firmware = is.firmware;
+      controller = is.after
+          ∙ ap (λ (o : Option MessageValue). controlled_after b (delivered o ack) v) (sym sent);
+      places = λ c inside. is.places c inside
+          ∙ ap (λ (o : Option MessageValue).
+          unwrap_or (place_controlled b c (delivered o ack)) (place_in old.places c)) (sym sent);
+    }
+
+-- a machine's parts, when the power controller got a message and the places were noted
+pub delivered_by : (old new : MachineValue) (fw : FirmwareValue) (ctl mid : ControllerValue)
+    (places : List Place) (message : MessageValue) (ack : AckValue)
+    → machine_of fw ctl places ≡ old → ctl.board ≡ fw.board
+    → seen mid ≡ after ctl.board (calls.Deliver message)
+    (replies.Delivery (deliveries.Applied ack)) (seen ctl)
+    → ((c : ℕ) → c < cores fw.board → place_in new.places c
+    ≡ unwrap_or (place_by c (message_effect fw.board message ack message.kind))
+    (place_in places c))
+    → new.firmware ≡ fw → new.controller ≡ mid → IsDelivered message ack old new
+delivered_by old new fw ctl mid places message ack e same is goes kept put =
+    subst (λ (o : MachineValue). IsDelivered message ack o new) e (record {
+      board = ap (λ (f : FirmwareValue). f.board) kept;
+      firmware = ap firmware.seen kept;
+      after = ap seen put ∙ is
+          ∙ ap (λ (b : BoardValue). after b (calls.Deliver message)
+          (replies.Delivery (deliveries.Applied ack)) (seen ctl)) same;
+      places = goes;
+    })
+
+-- The life after a Reset -----------------------------------------------------------------------
+
+life_of_next : (t : Bool) (life : Option ℕ) (x : ℕ) → is_present life x ≡ true
+    → is_some (cond t (next_life life) None) ≡ t
+life_of_next true None x present = cc
+life_of_next true (Some l) x present = refl
+life_of_next false life x present = refl
+
+-- a message that is acknowledged is of the present life
+acknowledged : (t : Bool) (ack given : AckValue)
+    → replies.Delivery (deliveries.Applied ack)
+    ≡ replies.Delivery (cond t (deliveries.Applied given) deliveries.Ignored)
+    → t ≡ true
+acknowledged true ack given e = refl
+acknowledged false ack given e = cc
+
+life_after : (b : BoardValue) (t : Bool) (v : Values)
+    → (change b (cond t Begins Ends) v).life ≡ cond t (next_life v.life) None
+life_after b true v = refl
+life_after b false v = refl
+
+-- after a Reset there is a life if its own was not the last
+pub reset_life : (b : BoardValue) (v w : Values) (m : MessageValue) (ack : AckValue)
+    → replies.Delivery (deliveries.Applied ack) ≡ reply b v (calls.Deliver m)
+    → w ≡ after b (calls.Deliver m) (replies.Delivery (deliveries.Applied ack)) v
+    → m.kind ≡ kinds.Reset → is_some w.life ≡ nat_lt m.life b.lives
+unfolding reply delivery_of after effect_of
+reset_life b v w m ack answered is kind =
+    let t = nat_lt m.life b.lives in
+    ap (λ (x : Values). is_some x.life) is
+    ∙ ap (λ (k : Kind). is_some (change b (message_effect b m ack k) v).life) kind
+    ∙ ap (λ (l : Option ℕ). is_some l) (life_after b t v)
+    ∙ life_of_next t v.life m.life
+    (acknowledged (is_present v.life m.life) ack (ack_by b v m m.kind) answered)

@@ -1,0 +1,3 @@
+pub mod Next
+pub mod Seen
+pub mod Settles

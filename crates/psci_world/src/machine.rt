@@ -1,0 +1,116 @@
+//! The machine: what an event changes beside the lists.
+
+use crate::place::first_places;
+use psci_board::{Board, Core, Memory};
+use psci_ctl::Controller;
+use psci_ctl_model as controls;
+use psci_fw::Firmware;
+use psci_fw_model::law_values;
+use psci_link::{Ack, Message};
+use psci_world_model::{Event, Place, Said};
+use std::alloc::Global;
+use std::marker::Model;
+
+/// The firmware and the power controller of one board, and where each core is. No event takes
+/// memory of it.
+#[derive(Drop)]
+pub struct Machine {
+    pub(crate) firmware: Firmware,
+    pub(crate) controller: Controller,
+    /// In the order of the numbers of the cores.
+    pub(crate) places: Vec<Place>,
+}
+
+impl Model for Machine {
+    ghost use Rattle.psci_world.specs.Seen.{IsMachine, MachineValue};
+
+    ghost Value = { MachineValue };
+
+    ghost view = { λ m. record {
+      firmware = m.firmware;
+      controller = m.controller;
+      places = m.places.items;
+    } };
+
+    ghost invariant = { λ m. IsMachine (record {
+      firmware = m.firmware;
+      controller = m.controller;
+      places = m.places.items;
+    }) };
+}
+
+ghost use Rattle.std.specs.Prelude.{◌≡◌, ◌<◌, ℕ, List, IfOk, [], reverse, slice_get, Some};
+ghost use Rattle.psci_board.specs.Board.{BoardValue, cores};
+ghost use Rattle.psci_link.specs.Message.{MessageValue};
+ghost use Rattle.psci_ctl_model.specs.Legal.{IsOfBoard};
+ghost use Rattle.psci_world_model.specs.declared.said.Record.{Record};
+ghost use Rattle.psci_world_model.specs.Histories.{acks, sent};
+ghost use Rattle.psci_world_model.specs.Legal.{legal};
+ghost use Rattle.psci_world.specs.Next.{IsNext};
+ghost use Rattle.psci_world.specs.Seen.{IsAfter, IsMachine, board_of, place_in};
+
+impl Machine {
+    /// The machine of this board, before any event.
+    pub fn new(alloc: Global, board: &Board) -> Result<Machine, Memory>
+        ensures board { IfOk result (λ m. board_of m ≡ board.now) }
+        ensures after { IfOk result (λ m. IsAfter board.now [] m) }
+    {
+        law_values();
+        controls::law_values();
+        Ok(Machine {
+            firmware: Firmware::new(alloc, board)?,
+            controller: Controller::new(alloc, board)?,
+            places: first_places(alloc, board.cores())?,
+        })
+    }
+
+    /// The firmware.
+    pub fn firmware(&self) -> &Firmware
+        ensures { result.now ≡ self.now.firmware }
+    {
+        &self.firmware
+    }
+
+    /// The power controller.
+    pub fn controller(&self) -> &Controller
+        ensures values { result.now ≡ self.now.controller }
+        ensures board { result.now.board ≡ board_of self.now }
+    {
+        &self.controller
+    }
+
+    /// Where a core is.
+    pub fn place(&self, core: Core) -> Place
+        requires { core.number < cores (board_of self.now) }
+        ensures { result ≡ place_in self.now.places core.number }
+    {
+        self.places[core.number as usize]
+    }
+
+    /// What holds of every machine, for proofs: it does nothing.
+    pub fn law(&self)
+        ensures { IsMachine self.now }
+    {
+        let _places = &self.places;
+    }
+
+    /// Makes the event happen, after which these messages and acknowledgements are those so far,
+    /// the oldest first, and says what came of it.
+    pub fn step(&mut self, event: Event, messages: &[Message], made: &[Ack]) -> Said
+        requires { (k : ℕ) (m : MessageValue) → slice_get messages.now k ≡ Some m
+            → IsOfBoard (board_of self.old) m }
+        ensures said { (b : BoardValue) (past : List Record) → IsAfter b past self.old
+            → messages.now ≡ reverse (sent past) → made.now ≡ reverse (acks past)
+            → result ≡ legal b past event }
+        ensures next { IsNext messages.now made.now self.old event result self.new }
+    {
+        match event {
+            Event::Call(number, regs) => self.call(number, regs, messages.len()),
+            Event::Enter(number) => self.enter(number, messages.len()),
+            Event::Wake(number) => self.wake(number),
+            Event::Reset(number) => self.reset(number),
+            Event::Deliver(number) => self.deliver(messages, number, made.len()),
+            Event::Take(number) => self.take(made, number),
+        }
+    }
+}

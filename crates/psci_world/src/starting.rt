@@ -1,0 +1,147 @@
+//! The power controller is asked: wake-ups, resets, and messages that it gets.
+
+ghost use Rattle.std.specs.Prelude.{◌≡◌, ◌<◌, ◌==◌, ℕ, List, Some, if◌then◌else◌, nat_lt};
+ghost use Rattle.std.specs.Prelude.{is_some, slice_get, unwrap_or};
+ghost use Rattle.psci_board.specs.Board.{cores};
+ghost use Rattle.psci_ctl.specs.Seen.{seen};
+ghost use Rattle.psci_ctl_model.specs.declared.call.CtlCall.TheVariants as calls;
+ghost use Rattle.psci_ctl_model.specs.declared.kick.Kick.TheVariants as kicks;
+ghost use Rattle.psci_ctl_model.specs.declared.reply.CtlReply.TheVariants as replies;
+ghost use Rattle.psci_ctl_model.specs.Effects.{message_effect};
+ghost use Rattle.psci_ctl_model.specs.Legal.{IsOfBoard};
+ghost use Rattle.psci_ctl_model.specs.Replies.{reply};
+ghost use Rattle.psci_link.specs.declared.kind.Kind.TheVariants as kinds;
+ghost use Rattle.psci_link.specs.Message.{AckValue, MessageValue};
+ghost use Rattle.psci_world_model.specs.declared.event.Event.TheVariants as events;
+ghost use Rattle.psci_world_model.specs.declared.place.Place.TheVariants.{Started};
+ghost use Rattle.psci_world_model.specs.declared.said.Said.TheVariants as says;
+ghost use Rattle.psci_world_model.specs.Legal.{if_stopped, on_board, said_by};
+ghost use Rattle.psci_world_model.specs.Places.{place_by};
+ghost use Rattle.psci_world.specs.Next.{IsNext, if_there, place_kicked};
+ghost use Rattle.psci_world.specs.Seen.{board_of, place_in};
+
+use crate::machine::Machine;
+use crate::place::{begin_life, end_life};
+use psci_board::Core;
+use psci_ctl_model::{Delivery, Kick};
+use psci_link::{Ack, Kind, Message};
+use psci_world_model::{Place, Said};
+
+impl Machine {
+    /// A core has a wake-up event: if it is stopped, the power controller may start it.
+    pub(crate) fn wake(&mut self, number: u64) -> Said
+        ensures said { (n : ℕ) → result ≡ on_board (board_of self.old) number
+            (if_stopped (place_in self.old.places number) (said_by n
+            (reply (board_of self.old) (seen self.old.controller)
+            (calls.Wake (record { number = number })
+            ((seen self.old.controller).starts number))))) }
+        ensures next { (messages : List MessageValue) (made : List AckValue)
+            → IsNext messages made self.old (events.Wake number) result self.new }
+    {
+        let Some(core) = self.core(number) else {
+            return Said::Absent;
+        };
+        let Place::Stopped = self.place(core) else {
+            return Said::Ignored;
+        };
+        let halted = self.controller.starts(core);
+        let kick = self.controller.wake(core, halted);
+        self.note_kick(core, kick)
+    }
+
+    /// A core is reset by itself: the power controller may start it.
+    pub(crate) fn reset(&mut self, number: u64) -> Said
+        ensures said { (n : ℕ) → result ≡ on_board (board_of self.old) number (said_by n
+            (reply (board_of self.old) (seen self.old.controller)
+            (calls.Reset (record { number = number })))) }
+        ensures next { (messages : List MessageValue) (made : List AckValue)
+            → IsNext messages made self.old (events.Reset number) result self.new }
+    {
+        let Some(core) = self.core(number) else {
+            return Said::Absent;
+        };
+        let kick = self.controller.reset(core);
+        self.note_kick(core, kick)
+    }
+
+    /// The power controller gets the message of this number, if there is one, after so many
+    /// acknowledgements.
+    pub(crate) fn deliver(&mut self, messages: &[Message], number: u64, made: usize) -> Said
+        requires { (k : ℕ) (m : MessageValue) → slice_get messages.now k ≡ Some m
+            → IsOfBoard (board_of self.old) m }
+        ensures said { result ≡ if_there (slice_get messages.now number) (λ m. said_by made
+            (reply (board_of self.old) (seen self.old.controller) (calls.Deliver m))) }
+        ensures next { (acks : List AckValue)
+            → IsNext messages.now acks self.old (events.Deliver number) result self.new }
+    {
+        let Ok(at) = usize::try_from(number) else {
+            return Said::Absent;
+        };
+        let Some(message) = messages.get(at) else {
+            return Said::Absent;
+        };
+        self.carry(message, made)
+    }
+
+    /// The power controller gets this message, after so many acknowledgements.
+    fn carry(&mut self, message: &Message, made: usize) -> Said
+        requires { IsOfBoard (board_of self.old) message.now }
+        ensures said { result ≡ said_by made (reply (board_of self.old)
+            (seen self.old.controller) (calls.Deliver message.now)) }
+        ensures next { (messages : List MessageValue) (acks : List AckValue) (k : ℕ)
+            → slice_get messages k ≡ Some message.now
+            → IsNext messages acks self.old (events.Deliver k) result self.new }
+    {
+        let Delivery::Applied(ack) = self.controller.deliver(message) else {
+            return Said::Ignored;
+        };
+        self.note_ack(message, &ack);
+        Said::Acked {
+            index: made as u64,
+            ack,
+        }
+    }
+
+    /// Notes that a core is started, if it is.
+    fn note_kick(&mut self, core: Core, kick: Kick) -> Said
+        requires { core.number < cores (board_of self.old) }
+        ensures said { (n : ℕ) → result ≡ said_by n (replies.Kick kick) }
+        ensures places { (c : ℕ) → place_in self.new.places c
+            ≡ place_kicked core.number kick c (place_in self.old.places c) }
+        ensures firmware { self.new.firmware ≡ self.old.firmware }
+        ensures controller { self.new.controller ≡ self.old.controller }
+    {
+        let Kick::Started(start) = kick else {
+            return Said::Ignored;
+        };
+        self.places[core.number as usize] = Place::Started;
+        Said::Kick(start)
+    }
+
+    /// Notes where cores are once this message was carried out: a Reset ends the life if no other
+    /// follows.
+    fn note_ack(&mut self, message: &Message, ack: &Ack)
+        requires core { message.now.core.number < cores (board_of self.old) }
+        requires life { message.now.kind ≡ kinds.Reset → is_some (seen self.old.controller).life
+            ≡ nat_lt message.now.life (board_of self.old).lives }
+        ensures places { (c : ℕ) → c < cores (board_of self.old) → place_in self.new.places c
+            ≡ unwrap_or (place_by c (message_effect (board_of self.old) message.now ack.now
+            message.now.kind)) (place_in self.old.places c) }
+        ensures firmware { self.new.firmware ≡ self.old.firmware }
+        ensures controller { self.new.controller ≡ self.old.controller }
+    {
+        match message.kind {
+            Kind::Down => {}
+            Kind::Start => {
+                if ack.applied != 0 {
+                    self.places[message.core.number as usize] = Place::Started;
+                }
+            }
+            Kind::Off => end_life(&mut self.places),
+            Kind::Reset => match self.controller.life() {
+                Some(_) => begin_life(&mut self.places),
+                None => end_life(&mut self.places),
+            },
+        }
+    }
+}

@@ -1,0 +1,179 @@
+//! The world of one board.
+
+use crate::kept::{keep_ack, keep_message};
+use crate::machine::Machine;
+use psci_board::{Board, Core, Memory};
+use psci_ctl::Controller;
+use psci_ctl_model as controls;
+use psci_fw::Firmware;
+use psci_fw_laws::law_messages;
+use psci_fw_model::law_values;
+use psci_headline::law_safe;
+use psci_link::{Ack, Message};
+use psci_world_model::{Event, Place, Record, law_histories};
+use std::alloc::Global;
+use std::marker::Model;
+
+/// The world of one board, after some events. Contracts see the board and the records, the newest
+/// first.
+#[derive(Drop)]
+pub struct World {
+    machine: Machine,
+    /// The oldest first, as are messages and acknowledgements.
+    records: Vec<Record>,
+    messages: Vec<Message>,
+    acks: Vec<Ack>,
+}
+
+impl Model for World {
+    ghost use Rattle.std.specs.Prelude.{reverse};
+    ghost use Rattle.psci_world.specs.Seen.{IsWorld, WorldValue};
+
+    ghost Value = { WorldValue };
+
+    ghost view = { λ w. record {
+      board = w.machine.firmware.board;
+      past = reverse w.records.items;
+    } };
+
+    ghost invariant = { λ w. IsWorld w.machine w.records.items w.messages.items w.acks.items };
+}
+
+ghost use Rattle.std.specs.Prelude.{◌≡◌, ◌<◌, [], ◌∷◌, IfOk, OnErr, option_map, reverse};
+ghost use Rattle.psci_board.specs.Board.{IsBoard, cores};
+ghost use Rattle.psci_ctl.specs.Seen as controller;
+ghost use Rattle.psci_fw.specs.Seen as firmware;
+ghost use Rattle.psci_world_model.specs.Histories.{acks, controller_values, firmware_values, sent};
+ghost use Rattle.psci_safe.specs.Safe.{AlwaysSafe};
+ghost use Rattle.psci_world_model.specs.Legal.{IsLegalPast, legal_record};
+ghost use Rattle.psci_world_model.specs.Lists.{numbered};
+ghost use Rattle.psci_world_model.specs.Places.{place};
+
+impl World {
+    /// The world of this board, before any event: the power controller is in its first life, the
+    /// boot core is started, and the firmware is in no life.
+    pub fn new(alloc: Global, board: &Board) -> Result<World, Memory>
+        ensures board { IfOk result (λ w. w.board ≡ board.now) }
+        ensures past { IfOk result (λ w. w.past ≡ []) }
+    {
+        Ok(World {
+            machine: Machine::new(alloc, board)?,
+            records: Vec::new(alloc),
+            messages: Vec::new(alloc),
+            acks: Vec::new(alloc),
+        })
+    }
+
+    /// Makes the event happen, and says what came of it; or is out of memory, and nothing happens.
+    pub fn step(&mut self, event: Event) -> Result<Record, Memory>
+        ensures ok { IfOk result (λ r. (r ≡ legal_record self.old.board self.old.past event)
+            × (self.new.past ≡ r ∷ self.old.past)) }
+        ensures board { self.new.board ≡ self.old.board }
+        ensures memory { OnErr result (self.new ≡ self.old) }
+        ensures legal { IsLegalPast self.new.board self.new.past }
+        ensures safe { AlwaysSafe self.new.board self.new.past }
+    {
+        self.machine.law();
+        law_safe();
+        law_histories();
+        law_messages();
+        law_values();
+        controls::law_values();
+        self.records.reserve(1)?;
+        self.messages.reserve(1)?;
+        self.acks.reserve(1)?;
+        let said = self.machine.step(event, &self.messages, &self.acks);
+        keep_message(&mut self.messages, &said)?;
+        keep_ack(&mut self.acks, &said)?;
+        let record = Record { event, said };
+        self.records.push(record.copy())?;
+        Ok(record)
+    }
+
+    /// What holds of every world: each record is the legal one after those before it, and the world
+    /// was safe at every moment. It does nothing.
+    pub fn law(&self)
+        ensures board { IsBoard self.now.board }
+        ensures legal { IsLegalPast self.now.board self.now.past }
+        ensures safe { AlwaysSafe self.now.board self.now.past }
+    {
+        self.machine.law();
+        law_safe();
+    }
+
+    /// All records so far, the oldest first.
+    pub fn records(&self) -> &[Record]
+        ensures { result.now ≡ reverse self.now.past }
+    {
+        &self.records
+    }
+
+    /// All messages sent so far, the oldest first.
+    pub fn messages(&self) -> &[Message]
+        ensures { result.now ≡ reverse (sent self.now.past) }
+    {
+        &self.messages
+    }
+
+    /// All acknowledgements made so far, the oldest first.
+    pub fn acks(&self) -> &[Ack]
+        ensures { result.now ≡ reverse (acks self.now.past) }
+    {
+        &self.acks
+    }
+
+    /// The board.
+    pub fn board(&self) -> &Board
+        ensures { result.now ≡ self.now.board }
+    {
+        self.machine.controller().board()
+    }
+
+    /// The message of this number, counted from 0 as they were sent.
+    pub fn message(&self, number: u64) -> Option<&Message>
+        ensures { option_map (λ message. message.now) result
+            ≡ numbered (sent self.now.past) number }
+    {
+        self.messages.get(usize::try_from(number).ok()?)
+    }
+
+    /// The acknowledgement of this number, counted from 0 as they were made.
+    pub fn ack(&self, number: u64) -> Option<Ack>
+        ensures { result ≡ numbered (acks self.now.past) number }
+    {
+        let ack = self.acks.get(usize::try_from(number).ok()?)?;
+        Some(ack.copy())
+    }
+
+    /// Where a core is.
+    pub fn place(&self, core: Core) -> Place
+        requires { core.number < cores self.now.board }
+        ensures { result ≡ place self.now.board self.now.past core.number }
+    {
+        self.machine.place(core)
+    }
+
+    /// The power controller.
+    pub fn controller(&self) -> &Controller
+        ensures board { result.now.board ≡ self.now.board }
+        ensures values { controller.seen result.now
+            ≡ controller_values self.now.board self.now.past }
+    {
+        self.machine.controller()
+    }
+
+    /// The firmware.
+    pub fn firmware(&self) -> &Firmware
+        ensures board { result.now.board ≡ self.now.board }
+        ensures values { firmware.seen result.now ≡ firmware_values self.now.board self.now.past }
+    {
+        self.machine.firmware()
+    }
+
+    /// All records, the oldest first; the rest of the world is given up.
+    pub fn into_records(self) -> Vec<Record>
+        ensures { result.items ≡ reverse self.past }
+    {
+        self.records
+    }
+}
