@@ -7,6 +7,8 @@ use Rattle.std.specs.Io.KnownBytes.{Appends, Consumes, IsAtEnd}
 use Rattle.psci_board.specs.Board.{BoardValue}
 use Rattle.psci_board.specs.Verdict.{board_of}
 use Rattle.psci_board.specs.declared.fault.BoardFault.{BoardFault}
+use Rattle.psci_world_model.specs.declared.said.Record.{Record}
+use Rattle.psci_world.specs.Seen.{WorldValue}
 use Rattle.psci_bench.specs.declared.fault.Replayed.{Replayed}
 use Rattle.psci_bench.specs.declared.fault.ScriptFault.{ScriptFault}
 use Rattle.psci_bench.specs.declared.fault.ScriptFault.TheVariants.{NoBoard, Long}
@@ -17,12 +19,12 @@ use Rattle.psci_bench.specs.Answered.{Answered}
 use Rattle.psci_bench.specs.Block.{ReadAhead}
 use Rattle.psci_bench.specs.Lines.{lines, has_line_feed}
 use Rattle.psci_bench.specs.Progress.{Progress, progress, Ahead, WriteFailed, IsLine}
-use Rattle.psci_bench.specs.Script.{Saying, Transcript, after_line, transcript, transcript_of_rest}
+use Rattle.psci_bench.specs.Script.{Transcript, after_line, transcript, transcript_of_rest}
 use Rattle.psci_bench.specs.Script.{transcript_of_first, transcript_of_board, transcript_of_lines}
 use Rattle.psci_bench.specs.Script.{board_line, ok_or, ends}
 use Rattle.psci_text.specs.Reading.{literal_at}
 use Rattle.std.specs.Prelude.{codes}
-use Rattle.psci_bench.specs.Run.{LinesAnswered, Ended, CutShort, Unwritten}
+use Rattle.psci_bench.specs.Run.{LinesAnswered, Ended, CutShort, Unwritten, IsUnderWay}
 use Rattle.psci_bench.proofs.Known.{appends_more}
 use Rattle.psci_bench.proofs.Split.{lines_none}
 use Rattle.psci_bench.proofs.Transcripts.{line_first, skipped, is_lt, whole_line}
@@ -56,45 +58,45 @@ fresh_ahead first before s a = record {
   events = a.events;
 }
 
-pub transcript_is : (says : Saying) (bytes : List ℕ) → transcript says bytes
-    ≡ transcript_of_lines says (lines bytes)
+pub transcript_is : (bytes : List ℕ) → transcript bytes
+    ≡ transcript_of_lines (lines bytes)
 unfolding transcript
-transcript_is says bytes = refl
+transcript_is bytes = refl
 
-fresh_ends : (says : Saying) (first before : Option (List ℕ)) (s : Progress)
+fresh_ends : (first before : Option (List ℕ)) (s : Progress)
     (end : Result Replayed ReplayFault) → Fresh first before s
     → ((rest : List ℕ) → (s.block.ended ≡ true → rest ≡ [])
-    → transcript_of_lines says (lines (s.block.unread ++ rest)) ≡ ends end)
-    → Ended says end first before s
-fresh_ends says first before s end k h = record {
+    → transcript_of_lines (lines (s.block.unread ++ rest)) ≡ ends end)
+    → Ended end first before s
+fresh_ends first before s end k h = record {
   read = s.block.unread;
   from = k.from;
   at_end = k.at_end;
   written = k.written;
   to = k.to;
-  transcript = λ rest f. transcript_is says (s.block.unread ++ rest) ∙ h rest f
+  transcript = λ rest f. transcript_is (s.block.unread ++ rest) ∙ h rest f
       ∙ ap (λ (x : List ℕ). let r : Transcript = record { text = x; end = end } in r) (sym k.none);
 }
 
-pub fresh_none : (says : Saying) (first before : Option (List ℕ)) (s : Progress)
+pub fresh_none : (first before : Option (List ℕ)) (s : Progress)
     → Fresh first before s
     → s.block.unread ≡ [] → s.block.ended ≡ true
-    → Ended says (Err (Script 1 NoBoard)) first before s
-fresh_none says first before s k u e = fresh_ends says first before s (Err (Script 1 NoBoard)) k
-    (λ rest f. ap (transcript_of_lines says) (ap lines (ap (λ (x : List ℕ). x ++ rest) u ∙ f e)
+    → Ended (Err (Script 1 NoBoard)) first before s
+fresh_none first before s k u e = fresh_ends first before s (Err (Script 1 NoBoard)) k
+    (λ rest f. ap (transcript_of_lines) (ap lines (ap (λ (x : List ℕ). x ++ rest) u ∙ f e)
     ∙ lines_none))
 
-pub fresh_long : (says : Saying) (first before : Option (List ℕ)) (s : Progress)
+pub fresh_long : (first before : Option (List ℕ)) (s : Progress)
     → Fresh first before s
     → 256 < length s.block.unread → has_line_feed (take 257 s.block.unread) ≡ false
-    → Ended says (Err (Script 1 Long)) first before s
-fresh_long says first before s k h f =
+    → Ended (Err (Script 1 Long)) first before s
+fresh_long first before s k h f =
     let l : length (take 257 s.block.unread) ≡ 257 =
     length-take-le 257 s.block.unread (omega arith) in
-    fresh_ends says first before s (Err (Script 1 Long)) k
+    fresh_ends first before s (Err (Script 1 Long)) k
     (λ rest g. let c = cut_front 256 s.block.unread rest h f in
-    ap (transcript_of_lines says) c.is
-    ∙ ap (λ (t : Bool). transcript_of_first says (cond t (Err Long)
+    ap (transcript_of_lines) c.is
+    ∙ ap (λ (t : Bool). transcript_of_first (cond t (Err Long)
     (ok_or (literal_at (codes "board ") c.first) NoBoard)) c.others)
     (is_lt 256 (length c.first) (let m : length (take 257 s.block.unread) ≤ length c.first =
     c.long in omega arith)))
@@ -109,29 +111,29 @@ first_is s e rest i f =
     ∙ line_first e s.block (drop e.taken s.block.unread ++ rest) i
     (follows_whole (skipped s.block e) rest f)
 
-pub fresh_script : (says : Saying) (first before : Option (List ℕ)) (s : Progress) (e : Extent)
+pub fresh_script : (first before : Option (List ℕ)) (s : Progress) (e : Extent)
     (fault : ScriptFault) → Fresh first before s → IsLine e s.block
     → board_line (take e.line s.block.unread) ≡ Err fault
-    → Ended says (Err (Script 1 fault)) first before s
-fresh_script says first before s e fault k i b =
-    fresh_ends says first before s (Err (Script 1 fault)) k
-    (λ rest f. ap (transcript_of_lines says) (first_is s e rest i f)
-    ∙ ap (λ r. transcript_of_first says r (lines (drop e.taken s.block.unread ++ rest))) b)
+    → Ended (Err (Script 1 fault)) first before s
+fresh_script first before s e fault k i b =
+    fresh_ends first before s (Err (Script 1 fault)) k
+    (λ rest f. ap (transcript_of_lines) (first_is s e rest i f)
+    ∙ ap (λ r. transcript_of_first r (lines (drop e.taken s.block.unread ++ rest))) b)
 
-pub fresh_board : (says : Saying) (first before : Option (List ℕ)) (s : Progress) (e : Extent)
+pub fresh_board : (first before : Option (List ℕ)) (s : Progress) (e : Extent)
     (fault : BoardFault) (text : List ℕ) → Fresh first before s → IsLine e s.block
     → board_line (take e.line s.block.unread) ≡ Ok text → board_of text ≡ Err fault
-    → Ended says (Err (Board fault)) first before s
-fresh_board says first before s e fault text k i b v =
-    fresh_ends says first before s (Err (Board fault)) k
-    (λ rest f. ap (transcript_of_lines says) (first_is s e rest i f)
-    ∙ ap (λ r. transcript_of_first says r (lines (drop e.taken s.block.unread ++ rest))) b
-    ∙ ap (λ r. transcript_of_board says r (lines (drop e.taken s.block.unread ++ rest))) v)
+    → Ended (Err (Board fault)) first before s
+fresh_board first before s e fault text k i b v =
+    fresh_ends first before s (Err (Board fault)) k
+    (λ rest f. ap (transcript_of_lines) (first_is s e rest i f)
+    ∙ ap (λ r. transcript_of_first r (lines (drop e.taken s.block.unread ++ rest))) b
+    ∙ ap (λ r. transcript_of_board r (lines (drop e.taken s.block.unread ++ rest))) v)
 
-pub fresh_stopped : (says : Saying) (Rest : ℕ → List ℕ → Type 0) (first before : Option (List ℕ))
+pub fresh_stopped : (Rest : ℕ → List ℕ → Type 0) (first before : Option (List ℕ))
     (s : Progress) → Fresh first before s → Rest 1 s.block.unread
-    → CutShort says Rest first before s
-fresh_stopped says Rest first before s k h = record {
+    → CutShort Rest first before s
+fresh_stopped Rest first before s k h = record {
   whole = [];
   lines = inl refl;
   count = 0;
@@ -143,11 +145,11 @@ fresh_stopped says Rest first before s k h = record {
   written = k.written;
   to = k.to;
   more = λ rest f. (
-    (transcript says (s.block.unread ++ rest)).text,
-    ap (λ (x : List ℕ). x ++ (transcript says (s.block.unread ++ rest)).text) (sym k.none),
+    (transcript (s.block.unread ++ rest)).text,
+    ap (λ (x : List ℕ). x ++ (transcript (s.block.unread ++ rest)).text) (sym k.none),
   );
-  transcript = ap (λ (r : Transcript). r.text) (transcript_is says [] ∙ ap
-      (transcript_of_lines says) lines_none) ∙ sym k.none;
+  transcript = ap (λ (r : Transcript). r.text) (transcript_is [] ∙ ap
+      (transcript_of_lines) lines_none) ∙ sym k.none;
 }
 
 nothing_first : (x y : List ℕ) → x ++ y ≡ [] → x ≡ []
@@ -164,9 +166,9 @@ take_nothing n y e = ap (λ (x : List ℕ). take n x) e ∙ none_of n where
   none_of zero = refl
   none_of (suc m) = refl
 
-pub fresh_failed : (says : Saying) (first before : Option (List ℕ)) (t : Progress)
-    → WriteFailed (opened first before) t → Unwritten says first before t.left t.taken
-fresh_failed says first before t d =
+pub fresh_failed : (first before : Option (List ℕ)) (t : Progress)
+    → WriteFailed (opened first before) t → Unwritten first before t.left t.taken
+fresh_failed first before t d =
     let m = d.before in
     let k = fresh_ahead first before m d.ahead in
     let w : (k.written ++ take d.count m.answered.waiting) ≡ [] =
@@ -182,17 +184,17 @@ fresh_failed says first before t d =
       to = appends_more before m.taken t.taken k.written
           (take d.count m.answered.waiting) k.to d.to;
       transcript = λ rest f. (
-        (transcript says (m.block.unread ++ rest)).text,
-        ap (λ (x : List ℕ). x ++ (transcript says (m.block.unread ++ rest)).text) (sym w),
+        (transcript (m.block.unread ++ rest)).text,
+        ap (λ (x : List ℕ). x ++ (transcript (m.block.unread ++ rest)).text) (sym w),
       );
     }
 
-pub begun : (says : Saying) (b : BoardValue) (first before : Option (List ℕ)) (block : ReadAhead)
+begun : (b : BoardValue) (first before : Option (List ℕ)) (block : ReadAhead)
     (left taken : Option (List ℕ)) (answered : Answered) (e : Extent) (text : List ℕ)
     → Fresh first before (progress block left answered taken) → IsLine e block
     → board_line (take e.line block.unread) ≡ Ok text → board_of text ≡ Ok b
-    → LinesAnswered says b [] 1 first before (progress (skipped block e) left answered taken)
-begun says b first before block left taken answered e text k i l v = record {
+    → LinesAnswered b [] 1 first before (progress (skipped block e) left answered taken)
+begun b first before block left taken answered e text k i l v = record {
   whole = take e.taken block.unread;
   from = subst (λ (x : List ℕ). Consumes first left x)
       (sym (take-append-drop e.taken block.unread)) k.from;
@@ -200,15 +202,34 @@ begun says b first before block left taken answered e text k i l v = record {
   written = k.written;
   to = k.to;
   answers = λ rest f.
-      transcript_is says (take e.taken block.unread ++ rest)
-      ∙ ap (transcript_of_lines says) (line_first e block rest i f)
-      ∙ ap (λ r. transcript_of_first says r (lines rest)) l
-      ∙ ap (λ r. transcript_of_board says r (lines rest)) v
-      ∙ ap (λ (x : List ℕ). after_line x (transcript_of_rest says b [] 1 (lines rest)))
+      transcript_is (take e.taken block.unread ++ rest)
+      ∙ ap (transcript_of_lines) (line_first e block rest i f)
+      ∙ ap (λ r. transcript_of_first r (lines rest)) l
+      ∙ ap (λ r. transcript_of_board r (lines rest)) v
+      ∙ ap (λ (x : List ℕ). after_line x (transcript_of_rest b [] 1 (lines rest)))
       (sym k.none);
   events = k.events;
   lines = λ f. whole_line [] e block i f;
 }
+
+-- the world of the board, before any event
+abbrev first_world : BoardValue → WorldValue
+first_world b = record { board = b; past = [] }
+
+pub is_under_way : (w : WorldValue) (b : BoardValue) (first before : Option (List ℕ))
+    (block : ReadAhead) (left taken : Option (List ℕ)) (answered : Answered) (e : Extent)
+    (text : List ℕ) → w.board ≡ b → w.past ≡ []
+    → Fresh first before (progress block left answered taken) → IsLine e block
+    → board_line (take e.line block.unread) ≡ Ok text → board_of text ≡ Ok b
+    → IsUnderWay w 1 first before (progress (skipped block e) left answered taken)
+is_under_way w b first before block left taken answered e text same none k i l v =
+    let s = progress (skipped block e) left answered taken in
+    let is : w ≡ first_world b =
+    ap (λ (past : List Record). let r : WorldValue = record { board = w.board; past = past } in r)
+    none
+    ∙ ap first_world same in
+    subst (λ (y : WorldValue). IsUnderWay y 1 first before s) (sym is)
+    (omega arith, begun b first before block left taken answered e text k i l v)
 
 -- the bytes that wait have room in the block
 pub room_of : {x y : List ℕ} → x ≡ y → length x ≤ 65536 → length y ≤ 65536

@@ -6,6 +6,7 @@ use Rattle.std.proofs.Math.Seq.{take-length}
 use Rattle.std.proofs.lemmas.List.{take-append-drop, length-take-le}
 use Rattle.std.specs.Io.KnownBytes.{Consumes, IsAtEnd}
 use Rattle.psci_board.specs.Board.{BoardValue}
+use Rattle.psci_world_model.specs.declared.said.Record.{Record}
 use Rattle.psci_bench.specs.declared.fault.Replayed.{Replayed}
 use Rattle.psci_bench.specs.declared.fault.ScriptFault.{ScriptFault}
 use Rattle.psci_bench.specs.declared.fault.ScriptFault.TheVariants.{NoBoard, Line, Long, TooMany}
@@ -13,11 +14,10 @@ use Rattle.psci_bench.specs.declared.fault.ReplayFault.{ReplayFault}
 use Rattle.psci_bench.specs.declared.fault.ReplayFault.TheVariants.{Script}
 use Rattle.psci_bench.specs.declared.lines.Extent.{Extent}
 use Rattle.psci_bench.specs.Block.{ReadAhead}
-use Rattle.psci_bench.specs.declared.said.Record.{Record}
 use Rattle.psci_bench.specs.Line.{line_of}
 use Rattle.psci_bench.specs.Lines.{lines, has_line_feed}
 use Rattle.psci_bench.specs.Progress.{Progress, WriteFailed, IsLine, FaultyLine}
-use Rattle.psci_bench.specs.Script.{Saying, Transcript, after_line, transcript, transcript_of_rest}
+use Rattle.psci_bench.specs.Script.{Transcript, after_line, transcript, transcript_of_rest}
 use Rattle.psci_bench.specs.Script.{line_said, ok_or, ends}
 use Rattle.psci_bench.specs.Run.{Follows, LinesAnswered, Ended, CutShort, Unwritten}
 use Rattle.psci_bench.proofs.Known.{appends_more}
@@ -34,45 +34,45 @@ follows_whole block rest f = λ t. (
 )
 
 -- what was read, and what follows it, comes to this end
-pub ended_by : (says : Saying) (b : BoardValue) (past : List Record) (n : ℕ)
+pub ended_by : (b : BoardValue) (past : List Record) (n : ℕ)
     (first before : Option (List ℕ)) (s : Progress) (end : Result Replayed ReplayFault)
-    → LinesAnswered says b past n first before s
+    → LinesAnswered b past n first before s
     → ((rest : List ℕ) → (s.block.ended ≡ true → rest ≡ [])
-    → transcript_of_rest says b past n (lines (s.block.unread ++ rest)) ≡ ends end)
-    → Ended says end first before s
-ended_by says b past n first before s end k h = record {
+    → transcript_of_rest b past n (lines (s.block.unread ++ rest)) ≡ ends end)
+    → Ended end first before s
+ended_by b past n first before s end k h = record {
   read = k.whole ++ s.block.unread;
   from = k.from;
   at_end = k.at_end;
   written = k.written;
   to = k.to;
   transcript = λ rest f.
-      ap (transcript says) (append_assoc k.whole s.block.unread rest)
+      ap (transcript) (append_assoc k.whole s.block.unread rest)
       ∙ k.answers (s.block.unread ++ rest) (follows_whole s.block rest f)
       ∙ ap (after_line (k.written ++ s.answered.waiting)) (h rest f)
       ∙ ap (λ (x : List ℕ). let r : Transcript = record { text = x; end = end } in r)
       (append-nil (k.written ++ s.answered.waiting));
 }
 
-pub ends_well : (says : Saying) (b : BoardValue) (past : List Record) (n : ℕ)
-    (first before : Option (List ℕ)) (s : Progress) → LinesAnswered says b past n first before s
+pub ends_well : (b : BoardValue) (past : List Record) (n : ℕ)
+    (first before : Option (List ℕ)) (s : Progress) → LinesAnswered b past n first before s
     → s.block.unread ≡ [] → s.block.ended ≡ true
-    → Ended says (Ok (record { lines = n; events = s.answered.events })) first before s
-ends_well says b past n first before s k u e =
-    ended_by says b past n first before s (Ok (record { lines = n; events = s.answered.events })) k
-    (λ rest f. ap (transcript_of_rest says b past n) (ap lines (ap (λ (x : List ℕ). x ++ rest) u
+    → Ended (Ok (record { lines = n; events = s.answered.events })) first before s
+ends_well b past n first before s k u e =
+    ended_by b past n first before s (Ok (record { lines = n; events = s.answered.events })) k
+    (λ rest f. ap (transcript_of_rest b past n) (ap lines (ap (λ (x : List ℕ). x ++ rest) u
     ∙ f e)
     ∙ lines_none)
-    ∙ no_rest_is says b past n
+    ∙ no_rest_is b past n
     ∙ ap (λ (m : ℕ). ends (Ok (record { lines = n; events = m }))) (sym k.events))
 
-faulty_long : (says : Saying) (b : BoardValue) (past : List Record) (n : ℕ) (u rest front : List ℕ)
+faulty_long : (b : BoardValue) (past : List Record) (n : ℕ) (u rest front : List ℕ)
     (fault : ScriptFault) → Longer front (lines (u ++ rest))
     → ((l : List ℕ) → length front ≤ length l → line_said (n + 1) l ≡ Err fault)
-    → transcript_of_rest says b past n (lines (u ++ rest)) ≡ ends (Err (Script (n + 1) fault))
-faulty_long says b past n u rest front fault h k =
-    ap (transcript_of_rest says b past n) h.is
-    ∙ fault_transcript says b past n h.first h.others fault (k h.first h.long)
+    → transcript_of_rest b past n (lines (u ++ rest)) ≡ ends (Err (Script (n + 1) fault))
+faulty_long b past n u rest front fault h k =
+    ap (transcript_of_rest b past n) h.is
+    ∙ fault_transcript b past n h.first h.others fault (k h.first h.long)
 
 pub cut_front : (n : ℕ) (u rest : List ℕ) → n < length u → has_line_feed (take (suc n) u) ≡ false
     → Longer (take (suc n) u) (lines (u ++ rest))
@@ -87,57 +87,57 @@ any_front : (u rest : List ℕ) → 0 < length u → Longer [] (lines (u ++ rest
 any_front [] rest h = absurd (omega arith)
 any_front (b ∷ bs) rest h = lines_some b (bs ++ rest)
 
-pub ends_faulty : (says : Saying) (b : BoardValue) (past : List Record) (n : ℕ)
+pub ends_faulty : (b : BoardValue) (past : List Record) (n : ℕ)
     (first before : Option (List ℕ)) (s : Progress) (fault : ScriptFault)
-    → LinesAnswered says b past n first before s → FaultyLine (n + 1) fault s
-    → Ended says (Err (Script (n + 1) fault)) first before s
-ends_faulty says b past n first before s TooMany k h =
-    ended_by says b past n first before s (Err (Script (n + 1) TooMany)) k
-    (λ rest f. faulty_long says b past n s.block.unread rest [] TooMany
+    → LinesAnswered b past n first before s → FaultyLine (n + 1) fault s
+    → Ended (Err (Script (n + 1) fault)) first before s
+ends_faulty b past n first before s TooMany k h =
+    ended_by b past n first before s (Err (Script (n + 1) TooMany)) k
+    (λ rest f. faulty_long b past n s.block.unread rest [] TooMany
     (any_front s.block.unread rest h.1) (λ l _. line_many (n + 1) l h.0))
-ends_faulty says b past n first before s Long k h =
+ends_faulty b past n first before s Long k h =
     let l : length (take 257 s.block.unread) ≡ 257 =
     length-take-le 257 s.block.unread (omega arith) in
-    ended_by says b past n first before s (Err (Script (n + 1) Long)) k
-    (λ rest f. faulty_long says b past n s.block.unread rest (take 257 s.block.unread) Long
+    ended_by b past n first before s (Err (Script (n + 1) Long)) k
+    (λ rest f. faulty_long b past n s.block.unread rest (take 257 s.block.unread) Long
     (cut_front 256 s.block.unread rest h.1 h.2) (λ x m. line_long (n + 1) x h.0
     (let r : 256 < length x = omega arith in r)))
-ends_faulty says b past n first before s Line k h = absurd h
-ends_faulty says b past n first before s NoBoard k h = absurd h
+ends_faulty b past n first before s Line k h = absurd h
+ends_faulty b past n first before s NoBoard k h = absurd h
 
 -- a line outside the grammar
-pub ends_line : (says : Saying) (b : BoardValue) (past : List Record) (n : ℕ)
+pub ends_line : (b : BoardValue) (past : List Record) (n : ℕ)
     (first before : Option (List ℕ)) (s : Progress) (e : Extent)
-    → LinesAnswered says b past n first before s
+    → LinesAnswered b past n first before s
     → IsLine e s.block → n + 1 ≤ 1000000 → length (take e.line s.block.unread) ≤ 256
     → line_of (take e.line s.block.unread) ≡ None
-    → Ended says (Err (Script (n + 1) Line)) first before s
-ends_line says b past n first before s e k i h few o =
-    ended_by says b past n first before s (Err (Script (n + 1) Line)) k
-    (λ rest f. ap (transcript_of_rest says b past n)
+    → Ended (Err (Script (n + 1) Line)) first before s
+ends_line b past n first before s e k i h few o =
+    ended_by b past n first before s (Err (Script (n + 1) Line)) k
+    (λ rest f. ap (transcript_of_rest b past n)
     (ap lines (ap (λ (x : List ℕ). x ++ rest) (sym (take-append-drop e.taken s.block.unread))
     ∙ append_assoc (take e.taken s.block.unread) (drop e.taken s.block.unread) rest)
     ∙ line_first e s.block (drop e.taken s.block.unread ++ rest) i
     (follows_whole (skipped s.block e) rest f))
-    ∙ fault_transcript says b past n (take e.line s.block.unread)
+    ∙ fault_transcript b past n (take e.line s.block.unread)
     (lines (drop e.taken s.block.unread ++ rest)) Line
     (line_read (n + 1) (take e.line s.block.unread) h few ∙ ap (λ x. ok_or x Line) o))
 
-pub stopped : (says : Saying) (Rest : ℕ → List ℕ → Type 0) (b : BoardValue) (past : List Record)
+pub stopped : (Rest : ℕ → List ℕ → Type 0) (b : BoardValue) (past : List Record)
     (n : ℕ) (first before : Option (List ℕ)) (s : Progress)
-    → LinesAnswered says b past n first before s
+    → LinesAnswered b past n first before s
     → (s.block.ended ≡ true → 0 < length s.block.unread) → Rest (n + 1) s.block.unread
-    → CutShort says Rest first before s
-stopped says Rest b past n first before s k f h = record {
+    → CutShort Rest first before s
+stopped Rest b past n first before s k f h = record {
   whole = k.whole;
   lines = k.lines f;
   count = n;
   sound = inr (
     length past,
-    ap (λ (x : List ℕ). (transcript says x).end) (sym (append-nil k.whole))
+    ap (λ (x : List ℕ). (transcript x).end) (sym (append-nil k.whole))
         ∙ ap (λ (r : Transcript). r.end) (k.answers [] (λ t. (0, refl)))
-        ∙ ap (λ (x : List (List ℕ)). (transcript_of_rest says b past n x).end) lines_none
-        ∙ ap (λ (r : Transcript). r.end) (no_rest_is says b past n),
+        ∙ ap (λ (x : List (List ℕ)). (transcript_of_rest b past n x).end) lines_none
+        ∙ ap (λ (r : Transcript). r.end) (no_rest_is b past n),
   );
   part = s.block.unread;
   fits = h;
@@ -146,28 +146,28 @@ stopped says Rest b past n first before s k f h = record {
   written = k.written;
   to = k.to;
   more = λ rest f. (
-    (transcript_of_rest says b past n (lines (s.block.unread ++ rest))).text,
-    ap (λ (x : List ℕ). (transcript says x).text) (append_assoc k.whole s.block.unread rest)
+    (transcript_of_rest b past n (lines (s.block.unread ++ rest))).text,
+    ap (λ (x : List ℕ). (transcript x).text) (append_assoc k.whole s.block.unread rest)
         ∙ ap (λ (r : Transcript). r.text) (k.answers (s.block.unread ++ rest)
         (follows_whole s.block rest f)),
   );
   transcript =
-      ap (λ (x : List ℕ). (transcript says x).text) (sym (append-nil k.whole))
+      ap (λ (x : List ℕ). (transcript x).text) (sym (append-nil k.whole))
       ∙ ap (λ (r : Transcript). r.text) (k.answers [] (λ t. (0, refl)))
       ∙ ap (λ (x : List (List ℕ)).
-      (k.written ++ s.answered.waiting) ++ (transcript_of_rest says b past n x).text) lines_none
+      (k.written ++ s.answered.waiting) ++ (transcript_of_rest b past n x).text) lines_none
       ∙ ap (λ (r : Transcript). (k.written ++ s.answered.waiting) ++ r.text)
-      (no_rest_is says b past n)
+      (no_rest_is b past n)
       ∙ append-nil (k.written ++ s.answered.waiting);
 }
 
-pub failed : (says : Saying) (b : BoardValue) (past : List Record) (n : ℕ)
+pub failed : (b : BoardValue) (past : List Record) (n : ℕ)
     (first before : Option (List ℕ)) (s t : Progress)
-    → LinesAnswered says b past n first before s → WriteFailed s t
-    → Unwritten says first before t.left t.taken
-failed says b past n first before s t k d =
+    → LinesAnswered b past n first before s → WriteFailed s t
+    → Unwritten first before t.left t.taken
+failed b past n first before s t k d =
     let m = d.before in
-    let j = answered_ahead says b past n first before s m d.ahead k in
+    let j = answered_ahead b past n first before s m d.ahead k in
     record {
       read = j.whole ++ m.block.unread;
       from = subst (λ (x : Option (List ℕ)). Consumes first x (j.whole ++ m.block.unread))
@@ -178,14 +178,14 @@ failed says b past n first before s t k d =
       to = appends_more before m.taken t.taken j.written
           (take d.count m.answered.waiting) j.to d.to;
       transcript = λ rest f. (
-        drop d.count m.answered.waiting ++ (transcript_of_rest says b past n
+        drop d.count m.answered.waiting ++ (transcript_of_rest b past n
             (lines (m.block.unread ++ rest))).text,
-        ap (λ (x : List ℕ). (transcript says x).text) (append_assoc j.whole m.block.unread rest)
+        ap (λ (x : List ℕ). (transcript x).text) (append_assoc j.whole m.block.unread rest)
             ∙ ap (λ (r : Transcript). r.text) (j.answers (m.block.unread ++ rest)
             (follows_whole m.block rest f))
             ∙ part_text j.written (take d.count m.answered.waiting)
             (drop d.count m.answered.waiting) m.answered.waiting
-            (transcript_of_rest says b past n (lines (m.block.unread ++ rest))).text
+            (transcript_of_rest b past n (lines (m.block.unread ++ rest))).text
             (take-append-drop d.count m.answered.waiting),
       );
     } where

@@ -1,101 +1,27 @@
--- Event lines are read as they are spelled, and in no other way.
+-- Event lines are read in no other way than they are spelled.
 use Rattle.std.proofs.Common.{◌≡◌, ℕ, zero, suc, ◌<◌, ◌≤◌, Bool, true, false, cond, eqb, eqb-true}
 use Rattle.std.proofs.Common.{List, [], ◌∷◌, ◌++◌, length, Option, Some, None, refl, ap, sym, ◌∙◌}
 use Rattle.std.proofs.Common.{arith, subst}
 use Rattle.std.specs.Prelude.{codes, option_map, unwrap_or}
 use Rattle.std.specs.Fmt.{decimal}
 use Rattle.std.proofs.lemmas.List.{append-nil, nil_from_length}
-use Rattle.std.proofs.lemmas.Option.{cond_some, none-some, option_and_then_some}
+use Rattle.std.proofs.lemmas.Option.{cond_some, none-some, option_and_then_some, same_Some}
 use Rattle.psci_text.specs.Spelling.{TextLaws, IsNumber}
 use Rattle.psci_text.specs.Reading.{literal_at, number_at, spaced_at}
-use Rattle.psci_bench.specs.declared.event.Event.{Event}
-use Rattle.psci_bench.specs.declared.event.Event.TheVariants.{Call, Enter}
+use Rattle.psci_world_model.specs.declared.event.Event.{Event}
+use Rattle.psci_world_model.specs.declared.event.Event.TheVariants.{Call}
 use Rattle.psci_bench.specs.declared.grammar.Line.TheVariants.{Blank, Event as Says}
-use Rattle.psci_bench.specs.Line.{line_of, event_at, after_word, call_at, enter_at, register_at}
-use Rattle.psci_bench.specs.Line.{optional_register_at}
+use Rattle.psci_bench.specs.Line.{line_of, event_at, after_word, call_at, alone_at, numbered_at}
+use Rattle.psci_bench.specs.Line.{register_at, optional_register_at}
 use Rattle.psci_bench.specs.EventText.{EventText, RegisterText, register_text, register_value}
-use Rattle.psci_bench.specs.EventText.{registers_text, event_text, value_at, event_of}
-use Rattle.psci_bench.specs.EventText.{AreRegisterTexts, IsRegisterText, IsEventText}
-use Rattle.psci_bench.specs.EventText.{ReadsAsSpelled, SpellsWhatItSays}
-use Rattle.psci_bench.specs.EventText.EventText.{EnterText, CallText}
-use Rattle.psci_bench.proofs.Words.{IsEnd, IsRegister, number_again}
-use Rattle.psci_bench.proofs.Words.{register_again, register_takes}
-
--- What is spelled is read -----------------------------------------------------------------------
-
-registers_end : (rs : List RegisterText) → IsEnd (registers_text rs)
-registers_end [] = tt
-registers_end (r ∷ rs) = refl
-
-spaced_again : (w : TextLaws) (r : RegisterText) (rs : List RegisterText) → IsRegisterText r
-    → spaced_at register_at (registers_text (r ∷ rs)) ≡ Some (register_value r, registers_text rs)
-unfolding spaced_at literal_at
-spaced_again w r rs h = register_again w r (registers_text rs) h (registers_end rs)
-
-optional_again : (w : TextLaws) (r : RegisterText) (rs : List RegisterText) → IsRegisterText r
-    → optional_register_at (registers_text (r ∷ rs)) ≡ (register_value r, registers_text rs)
-unfolding optional_register_at
-optional_again w r rs h = ap (λ (o : Option (ℕ × List ℕ)). unwrap_or o
-    (0, registers_text (r ∷ rs))) (spaced_again w r rs h)
-
-optional_none : optional_register_at [] ≡ (0, [])
-unfolding optional_register_at spaced_at literal_at
-optional_none = refl
-
-call_again : (w : TextLaws) (core : ℕ) (x0 : RegisterText) (rs : List RegisterText) → IsNumber core
-    → IsRegisterText x0 → AreRegisterTexts rs → length rs ≤ 3
-    → call_at (decimal core ++ registers_text (x0 ∷ rs)) ≡ Some (event_of (CallText core x0 rs))
-unfolding call_at
-call_again w core x0 [] c h a l =
-    rw (
-      number_again w core (registers_text (x0 ∷ [])) c refl,
-      spaced_again w x0 [] h,
-      optional_none,
-      optional_none,
-      optional_none,
-    ) refl
-call_again w core x0 (r ∷ []) c h a l =
-    rw (
-      number_again w core (registers_text (x0 ∷ r ∷ [])) c refl,
-      spaced_again w x0 (r ∷ []) h,
-      optional_again w r [] a.0,
-      optional_none,
-      optional_none,
-    ) refl
-call_again w core x0 (r ∷ s ∷ []) c h a l =
-    rw (
-      number_again w core (registers_text (x0 ∷ r ∷ s ∷ [])) c refl,
-      spaced_again w x0 (r ∷ s ∷ []) h,
-      optional_again w r (s ∷ []) a.0,
-      optional_again w s [] a.1.0,
-      optional_none,
-    ) refl
-call_again w core x0 (r ∷ s ∷ t ∷ []) c h a l =
-    rw (
-      number_again w core (registers_text (x0 ∷ r ∷ s ∷ t ∷ [])) c refl,
-      spaced_again w x0 (r ∷ s ∷ t ∷ []) h,
-      optional_again w r (s ∷ t ∷ []) a.0,
-      optional_again w s (t ∷ []) a.1.0,
-      optional_again w t [] a.1.1.0,
-    ) refl
-call_again w core x0 (r ∷ s ∷ t ∷ u ∷ rs) c h a l = absurd (omega (arith, l))
-
-enter_again : (w : TextLaws) (core : ℕ) → IsNumber core
-    → enter_at (decimal core) ≡ Some (Enter core)
-unfolding enter_at
-enter_again w core c =
-    let number : number_at (decimal core) ≡ Some (core, []) =
-    subst (λ (ds : List ℕ). number_at ds ≡ Some (core, [])) (append-nil (decimal core))
-    (number_again w core [] c tt) in
-    rw number refl
-
-pub line_again : TextLaws → ReadsAsSpelled
-unfolding line_of literal_at
-line_again w (EnterText core) h = ap (option_map Says) (enter_again w core h)
-line_again w (CallText core x0 rs) h =
-    ap (option_map Says) (call_again w core x0 rs h.0 h.1.0 h.1.1 h.2)
-
--- What is read is spelled -----------------------------------------------------------------------
+use Rattle.psci_bench.specs.EventText.{registers_text, event_text, value_at, event_of, Word}
+use Rattle.psci_bench.specs.EventText.{word_text, word_event}
+use Rattle.psci_bench.specs.EventText.{AreRegisterTexts, IsEventText}
+use Rattle.psci_bench.specs.EventText.{SpellsWhatItSays}
+use Rattle.psci_bench.specs.EventText.EventText.{CallText, NumberText}
+use Rattle.psci_bench.specs.EventText.Word.{EnterWord, WakeWord, ResetWord, DeliverWord, TakeWord}
+use Rattle.psci_bench.proofs.Words.{IsRegister}
+use Rattle.psci_bench.proofs.Words.{register_takes}
 
 -- the bytes after so many registers that may be missing
 abbrev after : ℕ → List ℕ → List ℕ
@@ -228,29 +154,65 @@ call_takes w bytes rest event b e =
     (follow w 3 x.1 (nil_from_length (after 3 x.1) (eqb-true (length (after 3 x.1)) 0 end.0)))
     end.1))
 
-enter_takes : (w : TextLaws) (bytes rest : List ℕ) (event : Event) → bytes ≡ codes "enter " ++ rest
-    → enter_at rest ≡ Some event → Spells bytes event
-unfolding enter_at
-enter_takes w bytes rest event b e =
-    option_and_then_some _ (number_at rest) event e (λ c n e1.
-    let end = cond_some (eqb (length c.1) 0) (Enter c.0) event e1 in
-    let core = w.numbers.takes rest c n in
+-- a number alone, to the end of the line
+alone_takes : (w : TextLaws) (rest : List ℕ) (n : ℕ) → alone_at rest ≡ Some n
+    → IsNumber n × (rest ≡ decimal n)
+unfolding alone_at
+alone_takes w rest n e =
+    option_and_then_some _ (number_at rest) n e (λ c m e1.
+    let end = cond_some (eqb (length c.1) 0) c.0 n e1 in
+    let core = w.numbers.takes rest c m in
     let none : c.1 ≡ [] = nil_from_length c.1 (eqb-true (length c.1) 0 end.0) in (
-      EnterText c.0,
-      core.0,
-      b ∙ ap (λ (l : List ℕ). codes "enter " ++ l) (core.1
-          ∙ ap (λ (l : List ℕ). decimal c.0 ++ l) none ∙ append-nil (decimal c.0)),
-      sym end.1,
+      subst IsNumber end.1 core.0,
+      core.1 ∙ ap (λ (l : List ℕ). decimal c.0 ++ l) none ∙ append-nil (decimal c.0)
+          ∙ ap decimal end.1,
     ))
 
-event_by : (w : TextLaws) (bytes : List ℕ) (event : Event) (call enter : Option (List ℕ))
-    → literal_at (codes "call ") bytes ≡ call → literal_at (codes "enter ") bytes ≡ enter
-    → after_word call call_at (after_word enter enter_at None) ≡ Some event → Spells bytes event
-event_by w bytes event (Some rest) enter l m e =
+number_by : (make : ℕ → Event) (event : Event) (o : Option ℕ) → option_map make o ≡ Some event
+    → (n : ℕ) × (o ≡ Some n) × (make n ≡ event)
+number_by make event None e = absurd (none-some event e)
+number_by make event (Some n) e = (n, refl, same_Some (make n) event e)
+
+word_takes : (w : TextLaws) (word : Word) (bytes rest : List ℕ) (event : Event)
+    → literal_at (word_text word) bytes ≡ Some rest
+    → numbered_at (word_event word) rest ≡ Some event → Spells bytes event
+word_takes w word bytes rest event l e =
+    let found = number_by (word_event word) event (alone_at rest) e in
+    let alone = alone_takes w rest found.0 found.1 in (
+      NumberText word found.0,
+      alone.0,
+      w.word_takes (word_text word) bytes rest l
+          ∙ ap (λ (x : List ℕ). word_text word ++ x) alone.1,
+      sym found.2,
+    )
+
+-- one word more: it stands there, or the words after it are looked for
+word_or : (w : TextLaws) (word : Word) (bytes : List ℕ) (event : Event) (o : Option (List ℕ))
+    (other : Option Event) → literal_at (word_text word) bytes ≡ o
+    → (other ≡ Some event → Spells bytes event)
+    → after_word o (numbered_at (word_event word)) other ≡ Some event → Spells bytes event
+word_or w word bytes event None other l more e = more e
+word_or w word bytes event (Some rest) other l more e = word_takes w word bytes rest event l e
+
+call_or : (w : TextLaws) (bytes : List ℕ) (event : Event) (o : Option (List ℕ))
+    (other : Option Event) → literal_at (codes "call ") bytes ≡ o
+    → (other ≡ Some event → Spells bytes event)
+    → after_word o call_at other ≡ Some event → Spells bytes event
+call_or w bytes event None other l more e = more e
+call_or w bytes event (Some rest) other l more e =
     call_takes w bytes rest event (w.word_takes (codes "call ") bytes rest l) e
-event_by w bytes event None (Some rest) l m e =
-    enter_takes w bytes rest event (w.word_takes (codes "enter ") bytes rest m) e
-event_by w bytes event None None l m e = absurd (none-some event e)
+
+event_takes : (w : TextLaws) (bytes : List ℕ) (event : Event) → event_at bytes ≡ Some event
+    → Spells bytes event
+unfolding event_at
+event_takes w bytes event =
+    call_or w bytes event (literal_at (codes "call ") bytes) _ refl
+    (word_or w EnterWord bytes event (literal_at (codes "enter ") bytes) _ refl
+    (word_or w DeliverWord bytes event (literal_at (codes "deliver ") bytes) _ refl
+    (word_or w TakeWord bytes event (literal_at (codes "take ") bytes) _ refl
+    (word_or w WakeWord bytes event (literal_at (codes "wake ") bytes) _ refl
+    (word_or w ResetWord bytes event (literal_at (codes "reset ") bytes) None refl
+    (λ e. absurd (none-some event e)))))))
 
 says_event : (t : Bool) (o : Option Event) (event : Event)
     → cond t (Some Blank) (option_map Says o) ≡ Some (Says event) → o ≡ Some event
@@ -262,6 +224,4 @@ pub line_takes : TextLaws → SpellsWhatItSays
 unfolding line_of
 line_takes w [] event e = absurd (cc)
 line_takes w (b ∷ bs) event e =
-    event_by w (b ∷ bs) event (literal_at (codes "call ") (b ∷ bs))
-    (literal_at (codes "enter ") (b ∷ bs)) refl refl
-    (says_event (eqb b 35) (event_at (b ∷ bs)) event e)
+    event_takes w (b ∷ bs) event (says_event (eqb b 35) (event_at (b ∷ bs)) event e)

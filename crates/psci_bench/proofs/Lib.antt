@@ -1,23 +1,25 @@
 pub mod Ahead
 pub mod Beginning
-pub mod BootCore
 pub mod Cutting
 pub mod Ends
 pub mod EventLines
-pub mod FaultRows
+mod FaultRows
 pub mod Finding
 pub mod Finish
 pub mod Known
-pub mod LimitRows
-pub mod LineRows
-pub mod MachineSteps
+mod LimitRows
+mod LineRows
 pub mod Moved
+mod NumberRows
 pub mod PartLines
-pub mod PlaceRows
-pub mod Places
-pub mod ScriptRows
+mod RunRows
+mod ScriptRows
+pub mod ScriptRuns
+mod Scripts
+pub mod SpelledLines
 pub mod Split
 pub mod Steps
-pub mod TextRows
+mod SystemRows
+mod TextRows
 pub mod Transcripts
 pub mod Words

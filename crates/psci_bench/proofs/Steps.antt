@@ -4,6 +4,9 @@ use Rattle.std.proofs.Common.{◌∙◌, arith, append-nil, subst, Option, Some,
 use Rattle.std.proofs.Common.{IsErr, IsErrAnd, IfErr, inl, inr}
 use Rattle.std.proofs.lemmas.List.{length-take-le}
 use Rattle.psci_board.specs.Board.{BoardValue}
+use Rattle.psci_world_model.specs.declared.said.Record.{Record}
+use Rattle.psci_world_model.specs.Legal.{legal, legal_record}
+use Rattle.psci_world.specs.Seen.{WorldValue}
 use Rattle.psci_bench.specs.declared.grammar.Line.{Line as LineSays}
 use Rattle.psci_bench.specs.declared.grammar.Line.TheVariants.{Blank, Event as Says}
 use Rattle.psci_bench.specs.declared.fault.Replayed.{Replayed}
@@ -15,11 +18,9 @@ use Rattle.psci_bench.specs.declared.fault.ReplayFault.TheVariants.{Memory}
 use Rattle.psci_bench.specs.declared.lines.Extent.{Extent}
 use Rattle.psci_bench.specs.Answered.{Answered}
 use Rattle.psci_bench.specs.Block.{ReadAhead}
-use Rattle.psci_bench.specs.declared.said.Record.{Record}
 use Rattle.psci_bench.specs.Line.{line_of}
 use Rattle.psci_bench.specs.Progress.{Progress, progress, IsLine, IsLineFront, FailsLine}
 use Rattle.psci_bench.specs.Progress.{FaultyLine, FindsLine}
-use Rattle.psci_bench.specs.Script.{Saying}
 use Rattle.psci_bench.specs.Text.{answer_line}
 use Rattle.psci_bench.specs.Run.{LinesAnswered, Ended, EndsBy, IsWithinBlock, Runs, IsUnderWay}
 use Rattle.psci_bench.specs.Run.{BoardRead, LineLeaves, LineRefused}
@@ -29,46 +30,46 @@ use Rattle.psci_bench.proofs.Ends.{ends_faulty, ends_line, stopped, failed}
 use Rattle.psci_bench.proofs.Beginning.{Fresh, opened, fresh_ahead, fresh_long, fresh_script}
 use Rattle.psci_bench.proofs.Beginning.{fresh_board, fresh_stopped, fresh_failed}
 
-pub ends_so : {X : Type 0} (r : Result X ReplayFault) (e : ReplayFault) (says : Saying)
+pub ends_so : {X : Type 0} (r : Result X ReplayFault) (e : ReplayFault)
     (first before : Option (List ℕ)) (t : Progress) → IsErr r × IsErrAnd r (λ f. f ≡ e)
-    → EndsBy says e first before t → IfErr r (λ f. EndsBy says f first before t)
-ends_so (Ok x) e says first before t h k = tt
-ends_so (Err f) e says first before t h k =
-    subst (λ (x : ReplayFault). EndsBy says x first before t) (sym h.1) k
+    → EndsBy e first before t → IfErr r (λ f. EndsBy f first before t)
+ends_so (Ok x) e first before t h k = tt
+ends_so (Err f) e first before t h k =
+    subst (λ (x : ReplayFault). EndsBy x first before t) (sym h.1) k
 
 -- The first line ------------------------------------------------------------------------------
 
-first_faulty : (l : ℕ) (fault : ScriptFault) (says : Saying) (first before : Option (List ℕ))
+first_faulty : (l : ℕ) (fault : ScriptFault) (first before : Option (List ℕ))
     (t : Progress) → Fresh first before t → l ≡ 1 → FaultyLine 1 fault t
-    → Ended says (Err (Script l fault)) first before t
-first_faulty l TooMany says first before t k e h = absurd (let r : 1000000 < 1 = h.0 in omega arith)
-first_faulty l Long says first before t k e h =
-    subst (λ (n : ℕ). Ended says (Err (Script n Long)) first before t) (sym e)
-    (fresh_long says first before t k h.1 h.2)
-first_faulty l Line says first before t k e h = absurd h
-first_faulty l NoBoard says first before t k e h = absurd h
+    → Ended (Err (Script l fault)) first before t
+first_faulty l TooMany first before t k e h = absurd (let r : 1000000 < 1 = h.0 in omega arith)
+first_faulty l Long first before t k e h =
+    subst (λ (n : ℕ). Ended (Err (Script n Long)) first before t) (sym e)
+    (fresh_long first before t k h.1 h.2)
+first_faulty l Line first before t k e h = absurd h
+first_faulty l NoBoard first before t k e h = absurd h
 
-pub begins_not : (e : ReplayFault) (says : Saying) (first before : Option (List ℕ)) (t : Progress)
-    → FailsLine 1 e (opened first before) t → EndsBy says e first before t
-begins_not (Script l fault) says first before t h =
-    first_faulty l fault says first before t (fresh_ahead first before t h.0) h.1 h.2
-begins_not (Board b) says first before t h = absurd h
-begins_not Read says first before t h =
-    fresh_stopped says IsLineFront first before t (fresh_ahead first before t h.0.ahead) h.1
-begins_not Write says first before t h = fresh_failed says first before t h
-begins_not Memory says first before t h = absurd h
+pub begins_not : (e : ReplayFault) (first before : Option (List ℕ)) (t : Progress)
+    → FailsLine 1 e (opened first before) t → EndsBy e first before t
+begins_not (Script l fault) first before t h =
+    first_faulty l fault first before t (fresh_ahead first before t h.0) h.1 h.2
+begins_not (Board b) first before t h = absurd h
+begins_not Read first before t h =
+    fresh_stopped IsLineFront first before t (fresh_ahead first before t h.0.ahead) h.1
+begins_not Write first before t h = fresh_failed first before t h
+begins_not Memory first before t h = absurd h
 
-pub board_not : (e : ReplayFault) (says : Saying) (first before : Option (List ℕ)) (t : Progress)
+pub board_not : (e : ReplayFault) (first before : Option (List ℕ)) (t : Progress)
     (x : Extent) → length t.block.unread ≤ 65536 → Fresh first before t → IsLine x t.block
-    → BoardRead (Err e) (take x.line t.block.unread) → EndsBy says e first before t
-board_not (Script l fault) says first before t x m k i h =
-    subst (λ (n : ℕ). Ended says (Err (Script n fault)) first before t) (sym h.0)
-    (fresh_script says first before t x fault k i h.1)
-board_not (Board fault) says first before t x m k i h =
-    fresh_board says first before t x fault h.0 k i h.1 h.2
-board_not Read says first before t x m k i h = absurd h
-board_not Write says first before t x m k i h = absurd h
-board_not Memory says first before t x m k i h = fresh_stopped says IsWithinBlock first before t k m
+    → BoardRead (Err e) (take x.line t.block.unread) → EndsBy e first before t
+board_not (Script l fault) first before t x m k i h =
+    subst (λ (n : ℕ). Ended (Err (Script n fault)) first before t) (sym h.0)
+    (fresh_script first before t x fault k i h.1)
+board_not (Board fault) first before t x m k i h =
+    fresh_board first before t x fault h.0 k i h.1 h.2
+board_not Read first before t x m k i h = absurd h
+board_not Write first before t x m k i h = absurd h
+board_not Memory first before t x m k i h = fresh_stopped IsWithinBlock first before t k m
 
 -- A later line --------------------------------------------------------------------------------
 
@@ -81,126 +82,113 @@ line_some : (e : Extent) (block : ReadAhead) → IsLine e block → 0 < length b
 line_some e block (few, feeds, inl w) = omega (arith, w.1)
 line_some e block (few, feeds, inr w) = omega (arith, w.1, w.2)
 
-same_answers : (says : Saying) (b : BoardValue) (past : List Record) (n : ℕ)
+same_answers : (b : BoardValue) (past : List Record) (n : ℕ)
     (first before : Option (List ℕ)) (block : ReadAhead) (left taken : Option (List ℕ))
-    (old new : Answered) → new ≡ old → LinesAnswered says b past n first before
+    (old new : Answered) → new ≡ old → LinesAnswered b past n first before
     (progress block left old taken)
-    → LinesAnswered says b past n first before (progress block left new taken)
-same_answers says b past n first before block left taken old new e k =
-    subst (λ (a : Answered). LinesAnswered says b past n first before
+    → LinesAnswered b past n first before (progress block left new taken)
+same_answers b past n first before block left taken old new e k =
+    subst (λ (a : Answered). LinesAnswered b past n first before
     (progress block left a taken)) (sym e) k
 
-pub line_not : (f : ReplayFault) (says : Saying) (b : BoardValue) (past : List Record) (n : ℕ)
+pub line_not : (f : ReplayFault) (b : BoardValue) (past : List Record) (n : ℕ)
     (first before : Option (List ℕ)) (block : ReadAhead) (left taken : Option (List ℕ))
     (old new : Answered) (e : Extent) → length block.unread ≤ 65536 → n < 1000000 → IsLine e block
-    → LinesAnswered says b past n first before (progress block left old taken)
+    → LinesAnswered b past n first before (progress block left old taken)
     → LineRefused f (n + 1) (line_of (take e.line block.unread)) → new ≡ old
-    → EndsBy says f first before (progress block left new taken)
-line_not (Script l fault) says b past n first before block left taken old new e m h i k x a =
-    subst (λ (w : ℕ). Ended says (Err (Script w fault)) first before
+    → EndsBy f first before (progress block left new taken)
+line_not (Script l fault) b past n first before block left taken old new e m h i k x a =
+    subst (λ (w : ℕ). Ended (Err (Script w fault)) first before
     (progress block left new taken))
     (sym x.0)
-    (subst (λ (y : ScriptFault). Ended says (Err (Script (n + 1) y)) first before
+    (subst (λ (y : ScriptFault). Ended (Err (Script (n + 1) y)) first before
     (progress block left new taken)) (sym x.1)
-    (ends_line says b past n first before (progress block left new taken) e
-    (same_answers says b past n first before block left taken old new a k) i (omega arith)
+    (ends_line b past n first before (progress block left new taken) e
+    (same_answers b past n first before block left taken old new a k) i (omega arith)
     (line_short e block i) x.2))
-line_not (Board fault) says b past n first before block left taken old new e m h i k x a = absurd x
-line_not Read says b past n first before block left taken old new e m h i k x a = absurd x
-line_not Write says b past n first before block left taken old new e m h i k x a = absurd x
-line_not Memory says b past n first before block left taken old new e m h i k x a =
-    stopped says IsWithinBlock b past n first before (progress block left new taken)
-    (same_answers says b past n first before block left taken old new a k)
+line_not (Board fault) b past n first before block left taken old new e m h i k x a = absurd x
+line_not Read b past n first before block left taken old new e m h i k x a = absurd x
+line_not Write b past n first before block left taken old new e m h i k x a = absurd x
+line_not Memory b past n first before block left taken old new e m h i k x a =
+    stopped IsWithinBlock b past n first before (progress block left new taken)
+    (same_answers b past n first before block left taken old new a k)
     (λ t. line_some e block i) m
 
-line_said_goes : (o : Option LineSays) (says : Saying) (is_after : BoardValue → List Record
-    → Type 0)
-    (b : BoardValue) (past : List Record) (n : ℕ) (first before : Option (List ℕ))
+said_goes : (o : Option LineSays) (w v : WorldValue) (n : ℕ) (first before : Option (List ℕ))
     (block : ReadAhead) (left taken : Option (List ℕ)) (old new : Answered) (e : Extent)
-    → line_of (take e.line block.unread) ≡ o → n < 1000000 → length past ≤ n → IsLine e block
-    → LinesAnswered says b past n first before (progress block left old taken)
-    → LineLeaves says is_after b past o old new
-    → IsUnderWay says is_after (n + 1) first before (progress (skipped block e) left new taken)
-line_said_goes None says is_after b past n first before block left taken old new e o h m i k x =
-    absurd x
-line_said_goes (Some Blank) says is_after b past n first before block left taken old new e o h m i k
-    x = (
-      b,
-      past,
-      x.0,
+    → line_of (take e.line block.unread) ≡ o → n < 1000000 → length w.past ≤ n → IsLine e block
+    → LinesAnswered w.board w.past n first before (progress block left old taken)
+    → LineLeaves o w v old new
+    → IsUnderWay v (n + 1) first before (progress (skipped block e) left new taken)
+said_goes None w v n first before block left taken old new e o h m i k x = absurd x
+said_goes (Some Blank) w v n first before block left taken old new e o h m i k x =
+    subst (λ (y : WorldValue). IsUnderWay y (n + 1) first before
+    (progress (skipped block e) left new taken)) (sym x.0) (
       omega arith,
-      answered_line says b past past n first before block left taken old new e [] i k
-          (λ ls. blank_transcript says b past n (take e.line block.unread) ls (omega arith)
+      answered_line w.board w.past w.past n first before block left taken old new e [] i k
+          (λ ls. blank_transcript w.board w.past n (take e.line block.unread) ls (omega arith)
           (line_short e block i) o)
           (ap (λ (a : Answered). a.waiting) x.1 ∙ sym (append-nil old.waiting))
           (ap (λ (a : Answered). a.events) x.1 ∙ k.events),
     )
-line_said_goes (Some (Says event)) says is_after b past n first before block left taken old new e o
-    h m i k x = (
-      b,
-      record { event = event; said = says b past event } ∷ past,
-      x.0,
-      omega arith,
-      answered_line says b past (record {
-        event = event;
-        said = says b past event;
-      } ∷ past) n first before block left taken old new e
-          (answer_line (length past + 1) (says b past event)) i k
-          (λ ls. event_transcript says b past n (take e.line block.unread) ls event (omega arith)
-          (line_short e block i) o)
+said_goes (Some (Says event)) w v n first before block left taken old new e o h m i k x =
+    let later : List Record = legal_record w.board w.past event ∷ w.past in
+    let more : length w.past + 1 ≡ length later = omega arith in
+    subst (λ (y : WorldValue). IsUnderWay y (n + 1) first before
+    (progress (skipped block e) left new taken)) (sym x.0) (
+      omega (arith, more),
+      answered_line w.board w.past later n first before block left taken old new e
+          (answer_line (length w.past + 1) (legal w.board w.past event)) i k
+          (λ ls. event_transcript w.board w.past n (take e.line block.unread) ls event
+          (omega arith) (line_short e block i) o)
           (ap (λ (a : Answered). a.waiting) x.1)
-          (ap (λ (a : Answered). a.events) x.1
-          ∙ (let z : length past + 1 ≡ length (record {
-            event = event;
-            said = says b past event;
-          } ∷ past) = omega arith in z)),
+          (ap (λ (a : Answered). a.events) x.1 ∙ more),
     )
 
-pub line_goes : (says : Saying) (is_after : BoardValue → List Record → Type 0) (b : BoardValue)
-    (past : List Record) (n : ℕ) (first before : Option (List ℕ)) (block : ReadAhead)
-    (left taken : Option (List ℕ)) (old new : Answered) (e : Extent) → n < 1000000 → length past ≤ n
-    → IsLine e block → LinesAnswered says b past n first before (progress block left old taken)
-    → LineLeaves says is_after b past (line_of (take e.line block.unread)) old new
-    → IsUnderWay says is_after (n + 1) first before (progress (skipped block e) left new taken)
-line_goes says is_after b past n first before block left taken old new e h m i k x =
-    line_said_goes (line_of
-    (take e.line block.unread)) says is_after b past n first before block left
-    taken old new e refl h m i k x
+pub line_goes : (w v : WorldValue) (n : ℕ) (first before : Option (List ℕ)) (block : ReadAhead)
+    (left taken : Option (List ℕ)) (old new : Answered) (e : Extent) → n < 1000000
+    → length w.past ≤ n
+    → IsLine e block → LinesAnswered w.board w.past n first before (progress block left old taken)
+    → LineLeaves (line_of (take e.line block.unread)) w v old new
+    → IsUnderWay v (n + 1) first before (progress (skipped block e) left new taken)
+line_goes w v n first before block left taken old new e h m i k x =
+    said_goes (line_of (take e.line block.unread)) w v n first before block left taken old new e
+    refl h m i k x
 
 -- A call for the next line that found none
-later_faulty : (l : ℕ) (says : Saying) (b : BoardValue) (past : List Record) (n : ℕ)
+later_faulty : (l : ℕ) (b : BoardValue) (past : List Record) (n : ℕ)
     (first before : Option (List ℕ)) (t : Progress) (fault : ScriptFault)
-    → LinesAnswered says b past n first before t → l ≡ n + 1 → FaultyLine (n + 1) fault t
-    → Ended says (Err (Script l fault)) first before t
-later_faulty l says b past n first before t fault k e h =
-    subst (λ (w : ℕ). Ended says (Err (Script w fault)) first before t) (sym e)
-    (ends_faulty says b past n first before t fault k h)
+    → LinesAnswered b past n first before t → l ≡ n + 1 → FaultyLine (n + 1) fault t
+    → Ended (Err (Script l fault)) first before t
+later_faulty l b past n first before t fault k e h =
+    subst (λ (w : ℕ). Ended (Err (Script w fault)) first before t) (sym e)
+    (ends_faulty b past n first before t fault k h)
 
-pub goes_not : (f : ReplayFault) (says : Saying) (b : BoardValue) (past : List Record) (n : ℕ)
-    (first before : Option (List ℕ)) (s t : Progress) → LinesAnswered says b past n first before s
-    → FailsLine (n + 1) f s t → EndsBy says f first before t
-goes_not (Script l fault) says b past n first before s t k h =
-    later_faulty l says b past n first before t fault
-    (answered_ahead says b past n first before s t h.0 k) h.1 h.2
-goes_not (Board fault) says b past n first before s t k h = absurd h
-goes_not Read says b past n first before s t k h =
-    stopped says IsLineFront b past n first before t
-    (answered_ahead says b past n first before s t h.0.ahead k)
+pub goes_not : (f : ReplayFault) (b : BoardValue) (past : List Record) (n : ℕ)
+    (first before : Option (List ℕ)) (s t : Progress) → LinesAnswered b past n first before s
+    → FailsLine (n + 1) f s t → EndsBy f first before t
+goes_not (Script l fault) b past n first before s t k h =
+    later_faulty l b past n first before t fault
+    (answered_ahead b past n first before s t h.0 k) h.1 h.2
+goes_not (Board fault) b past n first before s t k h = absurd h
+goes_not Read b past n first before s t k h =
+    stopped IsLineFront b past n first before t
+    (answered_ahead b past n first before s t h.0.ahead k)
     (λ e. absurd (let g = h.0.going in cc)) h.1
-goes_not Write says b past n first before s t k h = failed says b past n first before s t k h
-goes_not Memory says b past n first before s t k h = absurd h
+goes_not Write b past n first before s t k h = failed b past n first before s t k h
+goes_not Memory b past n first before s t k h = absurd h
 
 pub if_err_so : {X : Type 0} (r : Result X ReplayFault) (e : ReplayFault) (P : ReplayFault → Type 0)
     → IsErr r × IsErrAnd r (λ f. f ≡ e) → P e → IfErr r P
 if_err_so (Ok x) e P h k = tt
 if_err_so (Err f) e P h k = subst P (sym h.1) k
 
-pub runs_so : (r : Result Replayed ReplayFault) (e : ReplayFault) (says : Saying)
+pub runs_so : (r : Result Replayed ReplayFault) (e : ReplayFault)
     (first before : Option (List ℕ)) (t : Progress) → IsErr r × IsErrAnd r (λ f. f ≡ e)
-    → EndsBy says e first before t → Runs says r first before t
-runs_so (Ok x) e says first before t h k = absurd (h.1)
-runs_so (Err f) e says first before t h k =
-    subst (λ (x : ReplayFault). EndsBy says x first before t) (sym h.1) k
+    → EndsBy e first before t → Runs r first before t
+runs_so (Ok x) e first before t h k = absurd (h.1)
+runs_so (Err f) e first before t h k =
+    subst (λ (x : ReplayFault). EndsBy x first before t) (sym h.1) k
 
 pub finds_as : (o p : Option Extent) (n : ℕ) (s t : Progress) → o ≡ p → FindsLine n (Ok o) s t
     → FindsLine n (Ok p) s t

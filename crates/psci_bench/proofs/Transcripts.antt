@@ -7,7 +7,9 @@ use Rattle.std.proofs.lemmas.List.{take_all, take-append-drop, length-take-le}
 use Rattle.std.proofs.lemmas.Bool.Decides.{nat_tests}
 use Rattle.std.specs.Io.KnownBytes.{Consumes}
 use Rattle.psci_board.specs.Board.{BoardValue}
-use Rattle.psci_bench.specs.declared.event.Event.{Event}
+use Rattle.psci_world_model.specs.declared.event.Event.{Event}
+use Rattle.psci_world_model.specs.declared.said.Record.{Record}
+use Rattle.psci_world_model.specs.Legal.{legal, legal_record}
 use Rattle.psci_bench.specs.declared.grammar.Line.{Line as LineSays}
 use Rattle.psci_bench.specs.declared.grammar.Line.TheVariants.{Blank, Event as Says}
 use Rattle.psci_bench.specs.declared.fault.ScriptFault.{ScriptFault}
@@ -16,11 +18,10 @@ use Rattle.psci_bench.specs.declared.fault.ReplayFault.TheVariants.{Script}
 use Rattle.psci_bench.specs.declared.lines.Extent.{Extent}
 use Rattle.psci_bench.specs.Answered.{Answered}
 use Rattle.psci_bench.specs.Block.{ReadAhead}
-use Rattle.psci_bench.specs.declared.said.Record.{Record}
 use Rattle.psci_bench.specs.Line.{line_of}
 use Rattle.psci_bench.specs.Lines.{lines, has_line_feed, AreWhole}
 use Rattle.psci_bench.specs.Progress.{Progress, progress, Ahead, IsLine}
-use Rattle.psci_bench.specs.Script.{Saying, Transcript, after_line, transcript, transcript_of_rest}
+use Rattle.psci_bench.specs.Script.{Transcript, after_line, transcript, transcript_of_rest}
 use Rattle.psci_bench.specs.Script.{transcript_of_line, line_said, ok_or, ends}
 use Rattle.psci_bench.specs.Text.{answer_line}
 use Rattle.psci_bench.specs.Run.{Follows, LinesAnswered}
@@ -29,17 +30,17 @@ use Rattle.psci_bench.proofs.Split.{lines_whole, lines_last, lines_none}
 
 -- Lines ---------------------------------------------------------------------------------------
 
-pub rest_is : (says : Saying) (b : BoardValue) (past : List Record) (n : ℕ) (l : List ℕ)
-    (ls : List (List ℕ)) → transcript_of_rest says b past n (l ∷ ls)
-    ≡ transcript_of_line says b past (n + 1)
-    (line_said (n + 1) l) (λ records. transcript_of_rest says b records (n + 1) ls)
+pub rest_is : (b : BoardValue) (past : List Record) (n : ℕ) (l : List ℕ)
+    (ls : List (List ℕ)) → transcript_of_rest b past n (l ∷ ls)
+    ≡ transcript_of_line b past (n + 1)
+    (line_said (n + 1) l) (λ records. transcript_of_rest b records (n + 1) ls)
 unfolding transcript_of_rest
-rest_is says b past n l ls = refl
+rest_is b past n l ls = refl
 
-pub no_rest_is : (says : Saying) (b : BoardValue) (past : List Record) (n : ℕ)
-    → transcript_of_rest says b past n [] ≡ ends (Ok (record { lines = n; events = length past }))
+pub no_rest_is : (b : BoardValue) (past : List Record) (n : ℕ)
+    → transcript_of_rest b past n [] ≡ ends (Ok (record { lines = n; events = length past }))
 unfolding transcript_of_rest
-no_rest_is says b past n = refl
+no_rest_is b past n = refl
 
 not_lt : (m n : ℕ) → n ≤ m → nat_lt m n ≡ false
 not_lt m n h = grind (arith, nat_tests)
@@ -66,38 +67,35 @@ line_many n l h =
     (ok_or (line_of l) Line))) (is_lt 1000000 n h)
 
 -- a blank line, an event, and a fault
-pub blank_transcript : (says : Saying) (b : BoardValue) (past : List Record) (n : ℕ) (l : List ℕ)
+pub blank_transcript : (b : BoardValue) (past : List Record) (n : ℕ) (l : List ℕ)
     (ls : List (List ℕ)) → n + 1 ≤ 1000000 → length l ≤ 256 → line_of l ≡ Some Blank
-    → transcript_of_rest says b past n (l ∷ ls) ≡ after_line [] (transcript_of_rest says b past
+    → transcript_of_rest b past n (l ∷ ls) ≡ after_line [] (transcript_of_rest b past
     (n + 1) ls)
-blank_transcript says b past n l ls h k e =
-    rest_is says b past n l ls
-    ∙ ap (λ (r : Result LineSays ScriptFault). transcript_of_line says b past (n + 1) r
-    (λ records. transcript_of_rest says b records (n + 1) ls)) (line_read (n + 1) l h k
+blank_transcript b past n l ls h k e =
+    rest_is b past n l ls
+    ∙ ap (λ (r : Result LineSays ScriptFault). transcript_of_line b past (n + 1) r
+    (λ records. transcript_of_rest b records (n + 1) ls)) (line_read (n + 1) l h k
     ∙ ap (λ (o : Option LineSays). ok_or o Line) e)
 
-abbrev recorded : Saying → BoardValue → List Record → Event → List Record
-recorded says b past event = record { event = event; said = says b past event } ∷ past
-
-pub event_transcript : (says : Saying) (b : BoardValue) (past : List Record) (n : ℕ) (l : List ℕ)
+pub event_transcript : (b : BoardValue) (past : List Record) (n : ℕ) (l : List ℕ)
     (ls : List (List ℕ)) (event : Event) → n + 1 ≤ 1000000 → length l ≤ 256
     → line_of l ≡ Some (Says event)
-    → transcript_of_rest says b past n (l ∷ ls) ≡ after_line
-    (answer_line (length past + 1) (says b past event))
-    (transcript_of_rest says b (recorded says b past event) (n + 1) ls)
-event_transcript says b past n l ls event h k e =
-    rest_is says b past n l ls
-    ∙ ap (λ (r : Result LineSays ScriptFault). transcript_of_line says b past (n + 1) r
-    (λ records. transcript_of_rest says b records (n + 1) ls)) (line_read (n + 1) l h k
+    → transcript_of_rest b past n (l ∷ ls) ≡ after_line
+    (answer_line (length past + 1) (legal b past event))
+    (transcript_of_rest b (legal_record b past event ∷ past) (n + 1) ls)
+event_transcript b past n l ls event h k e =
+    rest_is b past n l ls
+    ∙ ap (λ (r : Result LineSays ScriptFault). transcript_of_line b past (n + 1) r
+    (λ records. transcript_of_rest b records (n + 1) ls)) (line_read (n + 1) l h k
     ∙ ap (λ (o : Option LineSays). ok_or o Line) e)
 
-pub fault_transcript : (says : Saying) (b : BoardValue) (past : List Record) (n : ℕ) (l : List ℕ)
+pub fault_transcript : (b : BoardValue) (past : List Record) (n : ℕ) (l : List ℕ)
     (ls : List (List ℕ)) (fault : ScriptFault) → line_said (n + 1) l ≡ Err fault
-    → transcript_of_rest says b past n (l ∷ ls) ≡ ends (Err (Script (n + 1) fault))
-fault_transcript says b past n l ls fault e =
-    rest_is says b past n l ls
-    ∙ ap (λ (r : Result LineSays ScriptFault). transcript_of_line says b past (n + 1) r
-    (λ records. transcript_of_rest says b records (n + 1) ls)) e
+    → transcript_of_rest b past n (l ∷ ls) ≡ ends (Err (Script (n + 1) fault))
+fault_transcript b past n l ls fault e =
+    rest_is b past n l ls
+    ∙ ap (λ (r : Result LineSays ScriptFault). transcript_of_line b past (n + 1) r
+    (λ records. transcript_of_rest b records (n + 1) ls)) e
 
 -- Reading ahead -------------------------------------------------------------------------------
 
@@ -115,11 +113,11 @@ still_some : (s t : Progress) → Ahead s t → s.block.ended ≡ true → 0 < l
     → 0 < length s.block.unread
 still_some s t a e h = omega (arith, h, ap length (same_front s t a e))
 
-pub answered_ahead : (says : Saying) (b : BoardValue) (past : List Record) (n : ℕ)
+pub answered_ahead : (b : BoardValue) (past : List Record) (n : ℕ)
     (first before : Option (List ℕ)) (s t : Progress) → Ahead s t
-    → LinesAnswered says b past n first before s
-    → LinesAnswered says b past n first before t
-answered_ahead says b past n first before s t a k = record {
+    → LinesAnswered b past n first before s
+    → LinesAnswered b past n first before t
+answered_ahead b past n first before s t a k = record {
   whole = k.whole;
   from = subst (λ (x : List ℕ). Consumes first t.left x)
       (append_assoc k.whole s.block.unread a.bytes
@@ -129,7 +127,7 @@ answered_ahead says b past n first before s t a k = record {
   written = k.written ++ a.written;
   to = appends_more before s.taken t.taken k.written a.written k.to a.to;
   answers = λ rest f. k.answers rest (follows_ahead s t rest a f)
-      ∙ ap (λ (x : List ℕ). after_line x (transcript_of_rest says b past n (lines rest)))
+      ∙ ap (λ (x : List ℕ). after_line x (transcript_of_rest b past n (lines rest)))
       (ap (λ (x : List ℕ). k.written ++ x) a.waits
       ∙ sym (append_assoc k.written a.written t.answered.waiting));
   events = a.events ∙ k.events;
@@ -216,15 +214,15 @@ pub taken_within : (e : Extent) (block : ReadAhead) → IsLine e block → e.tak
 taken_within e block (few, feeds, inl w) = omega (arith, w.0, w.1)
 taken_within e block (few, feeds, inr w) = omega (arith, w.0, w.1)
 
-pub answered_line : (says : Saying) (b : BoardValue) (past later : List Record) (n : ℕ)
+pub answered_line : (b : BoardValue) (past later : List Record) (n : ℕ)
     (first before : Option (List ℕ)) (block : ReadAhead) (left taken : Option (List ℕ))
     (old new : Answered) (e : Extent) (t : List ℕ) → IsLine e block
-    → LinesAnswered says b past n first before (progress block left old taken)
-    → ((ls : List (List ℕ)) → transcript_of_rest says b past n
-    (take e.line block.unread ∷ ls) ≡ after_line t (transcript_of_rest says b later (n + 1) ls))
+    → LinesAnswered b past n first before (progress block left old taken)
+    → ((ls : List (List ℕ)) → transcript_of_rest b past n
+    (take e.line block.unread ∷ ls) ≡ after_line t (transcript_of_rest b later (n + 1) ls))
     → new.waiting ≡ old.waiting ++ t → new.events ≡ length later
-    → LinesAnswered says b later (n + 1) first before (progress (skipped block e) left new taken)
-answered_line says b past later n first before block left taken old new e t i k line w ev = record {
+    → LinesAnswered b later (n + 1) first before (progress (skipped block e) left new taken)
+answered_line b past later n first before block left taken old new e t i k line w ev = record {
   whole = k.whole ++ take e.taken block.unread;
   from = subst (λ (x : List ℕ). Consumes first left x)
       (ap (λ (x : List ℕ). k.whole ++ x) (sym (take-append-drop e.taken block.unread))
@@ -234,15 +232,15 @@ answered_line says b past later n first before block left taken old new e t i k 
   written = k.written;
   to = k.to;
   answers = λ rest f.
-      ap (transcript says) (append_assoc k.whole (take e.taken block.unread) rest)
+      ap (transcript) (append_assoc k.whole (take e.taken block.unread) rest)
       ∙ k.answers (take e.taken block.unread ++ rest)
       (line_follows e block rest (taken_within e block i) f)
       ∙ ap (λ (x : List (List ℕ)). after_line (k.written ++ old.waiting)
-      (transcript_of_rest says b past n x)) (line_first e block rest i f)
+      (transcript_of_rest b past n x)) (line_first e block rest i f)
       ∙ ap (after_line (k.written ++ old.waiting)) (line (lines rest))
-      ∙ after_both (k.written ++ old.waiting) t (transcript_of_rest says b later (n + 1)
+      ∙ after_both (k.written ++ old.waiting) t (transcript_of_rest b later (n + 1)
       (lines rest))
-      ∙ ap (λ (x : List ℕ). after_line x (transcript_of_rest says b later (n + 1) (lines rest)))
+      ∙ ap (λ (x : List ℕ). after_line x (transcript_of_rest b later (n + 1) (lines rest)))
       (append_assoc k.written old.waiting t ∙ ap (λ (x : List ℕ). k.written ++ x) (sym w));
   events = ev;
   lines = λ f. whole_line k.whole e block i f;

@@ -2,12 +2,11 @@ pub mod Answered
 pub mod Block
 pub mod Device
 pub mod EventText
-pub mod Legal
 pub mod Limits
 pub mod Line
 pub mod Lines
-pub mod MachineAfter
 pub mod Progress
 pub mod Run
 pub mod Script
+pub mod ScriptRun
 pub mod Text

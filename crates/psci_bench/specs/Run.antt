@@ -4,6 +4,9 @@ use Rattle.std.specs.Prelude.{◌<◌, ◌≤◌, ◌⊎◌, Option, None, Some,
 use Rattle.std.specs.Io.KnownBytes.{Appends, Consumes, IsAtEnd}
 use Rattle.psci_board.specs.Board.{BoardValue}
 use Rattle.psci_board.specs.Verdict.{board_of}
+use Rattle.psci_world_model.specs.declared.said.Record.{Record}
+use Rattle.psci_world_model.specs.Legal.{legal, legal_record}
+use Rattle.psci_world.specs.Seen.{WorldValue}
 use Rattle.psci_bench.specs.declared.fault.Replayed.{Replayed}
 use Rattle.psci_bench.specs.declared.fault.ReplayFault.{ReplayFault}
 use Rattle.psci_bench.specs.declared.fault.ReplayFault.TheVariants.{Script, Board, Read, Write}
@@ -14,11 +17,10 @@ use Rattle.psci_bench.specs.declared.grammar.Line.TheVariants.{Blank, Event as S
 use Rattle.psci_bench.specs.Answered.{Answered}
 use Rattle.psci_bench.specs.Block.{ReadAhead}
 use Rattle.psci_bench.specs.Text.{answer_line}
-use Rattle.psci_bench.specs.declared.said.Record.{Record}
 use Rattle.psci_bench.specs.Limits.{block_room}
 use Rattle.psci_bench.specs.Lines.{lines, AreWhole}
 use Rattle.psci_bench.specs.Progress.{Progress, IsLineFront}
-use Rattle.psci_bench.specs.Script.{Saying, after_line, transcript, transcript_of_rest, board_line}
+use Rattle.psci_bench.specs.Script.{after_line, transcript, transcript_of_rest, board_line}
 
 -- what may follow the lines that were taken: anything, but after the end only what was read
 abbrev pub Follows : ReadAhead → List ℕ → Type 0
@@ -26,7 +28,7 @@ Follows block rest = block.ended ≡ true → (n : ℕ) × (rest ≡ take n bloc
 
 -- So many lines were taken, and answered by these records: whatever follows is answered as the
 -- lines that are left, after what was answered.
-pub record LinesAnswered (says : Saying) (b : BoardValue) (past : List Record) (count : ℕ)
+pub record LinesAnswered (b : BoardValue) (past : List Record) (count : ℕ)
     (first : Option (List ℕ)) (before : Option (List ℕ)) (s : Progress) : Type 0 where
   -- the bytes of the lines that were taken
   pub whole : List ℕ
@@ -36,14 +38,14 @@ pub record LinesAnswered (says : Saying) (b : BoardValue) (past : List Record) (
   pub written : List ℕ
   pub to : Appends before s.taken written
   pub answers : (rest : List ℕ) → Follows s.block rest
-      → transcript says (whole ++ rest) ≡ after_line (written ++ s.answered.waiting)
-      (transcript_of_rest says b past count (lines rest))
+      → transcript (whole ++ rest) ≡ after_line (written ++ s.answered.waiting)
+      (transcript_of_rest b past count (lines rest))
   pub events : s.answered.events ≡ length past
   -- only the last line of a script may have no line feed
   pub lines : (s.block.ended ≡ true → 0 < length s.block.unread) → AreWhole whole
 
 -- The script came to an end, or to its first fault.
-pub record Ended (says : Saying) (end : Result Replayed ReplayFault)
+pub record Ended (end : Result Replayed ReplayFault)
     (first before : Option (List ℕ)) (s : Progress) : Type 0 where
   -- the bytes that were read
   pub read : List ℕ
@@ -52,26 +54,26 @@ pub record Ended (says : Saying) (end : Result Replayed ReplayFault)
   pub written : List ℕ
   pub to : Appends before s.taken written
   pub transcript : (rest : List ℕ) → (s.block.ended ≡ true → rest ≡ [])
-      → transcript says (read ++ rest) ≡ record { text = written ++ s.answered.waiting; end = end }
+      → transcript (read ++ rest) ≡ record { text = written ++ s.answered.waiting; end = end }
 
 -- there are so many lines, and none is at fault
-abbrev pub AreSound : Saying → ℕ → List ℕ → Type 0
-AreSound says count bytes =
+abbrev pub AreSound : ℕ → List ℕ → Type 0
+AreSound count bytes =
     ((count ≡ 0) × (bytes ≡ []))
     ⊎ ((events : ℕ)
-    × ((transcript says bytes).end ≡ Ok (record { lines = count; events = events })))
+    × ((transcript bytes).end ≡ Ok (record { lines = count; events = events })))
 
 -- what was read ahead after the lines before that of number n: one block at most
 abbrev pub IsWithinBlock : ℕ → List ℕ → Type 0
 IsWithinBlock n part = length part ≤ block_room
 
 -- A read failed or memory ran out after whole lines, which are answered.
-pub record CutShort (says : Saying) (Rest : ℕ → List ℕ → Type 0) (first before : Option (List ℕ))
+pub record CutShort (Rest : ℕ → List ℕ → Type 0) (first before : Option (List ℕ))
     (s : Progress) : Type 0 where
   pub whole : List ℕ
   pub lines : AreWhole whole
   pub count : ℕ
-  pub sound : AreSound says count whole
+  pub sound : AreSound count whole
   -- what was read after them
   pub part : List ℕ
   pub fits : Rest (count + 1) part
@@ -81,11 +83,11 @@ pub record CutShort (says : Saying) (Rest : ℕ → List ℕ → Type 0) (first 
   pub to : Appends before s.taken written
   -- whatever follows is answered after them
   pub more : (rest : List ℕ) → (s.block.ended ≡ true → rest ≡ []) → (text : List ℕ)
-      × ((transcript says ((whole ++ part) ++ rest)).text ≡ (written ++ s.answered.waiting) ++ text)
-  pub transcript : (transcript says whole).text ≡ written ++ s.answered.waiting
+      × ((transcript ((whole ++ part) ++ rest)).text ≡ (written ++ s.answered.waiting) ++ text)
+  pub transcript : (transcript whole).text ≡ written ++ s.answered.waiting
 
 -- A write failed: a front part of the answers was written.
-pub record Unwritten (says : Saying) (first before : Option (List ℕ))
+pub record Unwritten (first before : Option (List ℕ))
     (left taken : Option (List ℕ)) : Type 0 where
   pub read : List ℕ
   pub from : Consumes first left read
@@ -94,29 +96,27 @@ pub record Unwritten (says : Saying) (first before : Option (List ℕ))
   pub written : List ℕ
   pub to : Appends before taken written
   pub transcript : (rest : List ℕ) → (ended ≡ true → rest ≡ [])
-      → (more : List ℕ) × ((transcript says (read ++ rest)).text ≡ written ++ more)
+      → (more : List ℕ) × ((transcript (read ++ rest)).text ≡ written ++ more)
 
 -- what a run leaves that ended early
-abbrev pub EndsBy : Saying → ReplayFault → Option (List ℕ) → Option (List ℕ) → Progress → Type 0
-EndsBy says (Script line fault) first before s = Ended says (Err (Script line fault)) first before s
-EndsBy says (Board fault) first before s = Ended says (Err (Board fault)) first before s
-EndsBy says Read first before s = CutShort says IsLineFront first before s
-EndsBy says Memory first before s = CutShort says IsWithinBlock first before s
-EndsBy says Write first before s = Unwritten says first before s.left s.taken
+abbrev pub EndsBy : ReplayFault → Option (List ℕ) → Option (List ℕ) → Progress → Type 0
+EndsBy (Script line fault) first before s = Ended (Err (Script line fault)) first before s
+EndsBy (Board fault) first before s = Ended (Err (Board fault)) first before s
+EndsBy Read first before s = CutShort IsLineFront first before s
+EndsBy Memory first before s = CutShort IsWithinBlock first before s
+EndsBy Write first before s = Unwritten first before s.left s.taken
 
 -- what a run leaves, by how it ended
-abbrev pub Runs : Saying → Result Replayed ReplayFault → Option (List ℕ) → Option (List ℕ)
+abbrev pub Runs : Result Replayed ReplayFault → Option (List ℕ) → Option (List ℕ)
     → Progress
     → Type 0
-Runs says (Ok replayed) first before s = Ended says (Ok replayed) first before s
-Runs says (Err fault) first before s = EndsBy says fault first before s
+Runs (Ok replayed) first before s = Ended (Ok replayed) first before s
+Runs (Err fault) first before s = EndsBy fault first before s
 
--- a run goes on, on a machine that stands where so many lines have left it
-abbrev pub IsUnderWay : Saying → (BoardValue → List Record → Type 0) → ℕ → Option (List ℕ)
-    → Option (List ℕ) → Progress → Type 0
-IsUnderWay says is_after count first before s =
-    (b : BoardValue) × (past : List Record) × is_after b past × (length past ≤ count)
-    × LinesAnswered says b past count first before s
+-- a run goes on, in a world that so many lines have left
+abbrev pub IsUnderWay : WorldValue → ℕ → Option (List ℕ) → Option (List ℕ) → Progress → Type 0
+IsUnderWay w count first before s =
+    (length w.past ≤ count) × LinesAnswered w.board w.past count first before s
 
 -- a write failed
 abbrev pub is_write_fault : Result Replayed ReplayFault → Bool
@@ -130,42 +130,42 @@ is_write_fault (Err Memory) = false
 -- Of a replay ---------------------------------------------------------------------------------
 
 -- the answer text of the script was written, which ends so
-abbrev pub Answers : Saying → Result Replayed ReplayFault → Option (List ℕ) → Option (List ℕ)
+abbrev pub Answers : Result Replayed ReplayFault → Option (List ℕ) → Option (List ℕ)
     → Option (List ℕ) → Type 0
-Answers says end first before after = IfSome first (λ bytes.
-    ((transcript says bytes).end ≡ end) × Appends before after (transcript says bytes).text)
+Answers end first before after = IfSome first (λ bytes.
+    ((transcript bytes).end ≡ end) × Appends before after (transcript bytes).text)
 
 -- Whole lines were read, none of them at fault, and exactly these are answered.
-pub record AnswersLines (says : Saying) (Rest : ℕ → List ℕ → Type 0)
+pub record AnswersLines (Rest : ℕ → List ℕ → Type 0)
     (first left before after : Option (List ℕ)) : Type 0 where
   pub whole : List ℕ
   pub lines : AreWhole whole
   pub count : ℕ
-  pub sound : AreSound says count whole
+  pub sound : AreSound count whole
   -- what was read after them
   pub part : List ℕ
   pub fits : Rest (count + 1) part
   pub from : Consumes first left (whole ++ part)
-  pub to : Appends before after (transcript says whole).text
+  pub to : Appends before after (transcript whole).text
 
 -- a front part of the answer text was written
-abbrev pub AnswersPart : Saying → Option (List ℕ) → Option (List ℕ) → Option (List ℕ) → Type 0
-AnswersPart says first before after = IfSome first (λ bytes.
-    (n : ℕ) × Appends before after (take n (transcript says bytes).text))
+abbrev pub AnswersPart : Option (List ℕ) → Option (List ℕ) → Option (List ℕ) → Type 0
+AnswersPart first before after = IfSome first (λ bytes.
+    (n : ℕ) × Appends before after (take n (transcript bytes).text))
 
 -- what a replay leaves, by its answer
-abbrev pub Replays : Saying → Result Replayed ReplayFault → Option (List ℕ) → Option (List ℕ)
+abbrev pub Replays : Result Replayed ReplayFault → Option (List ℕ) → Option (List ℕ)
     → Option (List ℕ) → Option (List ℕ) → Type 0
-Replays says (Ok replayed) first left before after = Answers says (Ok replayed) first before after
-Replays says (Err (Script line fault)) first left before after =
-    Answers says (Err (Script line fault)) first before after
-Replays says (Err (Board fault)) first left before after =
-    Answers says (Err (Board fault)) first before after
-Replays says (Err Read) first left before after =
-    AnswersLines says IsLineFront first left before after
-Replays says (Err Memory) first left before after =
-    AnswersLines says IsWithinBlock first left before after
-Replays says (Err Write) first left before after = AnswersPart says first before after
+Replays (Ok replayed) first left before after = Answers (Ok replayed) first before after
+Replays (Err (Script line fault)) first left before after =
+    Answers (Err (Script line fault)) first before after
+Replays (Err (Board fault)) first left before after =
+    Answers (Err (Board fault)) first before after
+Replays (Err Read) first left before after =
+    AnswersLines IsLineFront first left before after
+Replays (Err Memory) first left before after =
+    AnswersLines IsWithinBlock first left before after
+Replays (Err Write) first left before after = AnswersPart first before after
 
 -- the board of a first line, or what is wrong with it
 abbrev pub BoardRead : Result BoardValue ReplayFault → List ℕ → Type 0
@@ -177,22 +177,15 @@ BoardRead (Err Memory) line = Unit {0}
 BoardRead (Err Read) line = ⊥
 BoardRead (Err Write) line = ⊥
 
--- what the first line leaves
-abbrev pub HasBegun : Saying → (BoardValue → List Record → Type 0) → Option (List ℕ)
-    → Option (List ℕ) → Progress → Type 0
-HasBegun says is_after first before s =
-    (b : BoardValue) × is_after b [] × LinesAnswered says b [] 1 first before s
-
--- what a line leaves that is answered, by what it says
-abbrev pub LineLeaves : Saying → (BoardValue → List Record → Type 0) → BoardValue → List Record
-    → Option LineSays → Answered → Answered → Type 0
-LineLeaves says is_after b past None old new = ⊥
-LineLeaves says is_after b past (Some Blank) old new = is_after b past × (new ≡ old)
-LineLeaves says is_after b past (Some (Says event)) old new =
-    is_after b (record { event = event; said = says b past event } ∷ past)
+-- what a line leaves that is answered, by what it says: the world and the answers before and after
+abbrev pub LineLeaves : Option LineSays → WorldValue → WorldValue → Answered → Answered → Type 0
+LineLeaves None w v old new = ⊥
+LineLeaves (Some Blank) w v old new = (v ≡ w) × (new ≡ old)
+LineLeaves (Some (Says event)) w v old new =
+    (v ≡ record { board = w.board; past = legal_record w.board w.past event ∷ w.past })
     × (new ≡ record {
-      waiting = old.waiting ++ answer_line (length past + 1) (says b past event);
-      events = length past + 1;
+      waiting = old.waiting ++ answer_line (length w.past + 1) (legal w.board w.past event);
+      events = length w.past + 1;
     })
 
 -- why a line is not answered: it is outside the grammar, or memory ran out

@@ -5,8 +5,8 @@ use Rattle.psci_board.specs.Board.{BoardValue}
 use Rattle.psci_text.specs.Reading.{literal_at}
 use Rattle.psci_board.specs.Verdict.{board_of}
 use Rattle.psci_board.specs.declared.fault.BoardFault.{BoardFault}
-use Rattle.psci_bench.specs.declared.event.Event.{Event}
-use Rattle.psci_bench.specs.declared.said.Said.{Said}
+use Rattle.psci_world_model.specs.declared.said.Record.{Record}
+use Rattle.psci_world_model.specs.Legal.{legal, legal_record}
 use Rattle.psci_bench.specs.declared.grammar.Line.{Line as LineSays}
 use Rattle.psci_bench.specs.declared.grammar.Line.TheVariants.{Blank, Event as Says}
 use Rattle.psci_bench.specs.declared.fault.Replayed.{Replayed}
@@ -14,15 +14,10 @@ use Rattle.psci_bench.specs.declared.fault.ScriptFault.{ScriptFault}
 use Rattle.psci_bench.specs.declared.fault.ScriptFault.TheVariants.{NoBoard, Line, Long, TooMany}
 use Rattle.psci_bench.specs.declared.fault.ReplayFault.{ReplayFault}
 use Rattle.psci_bench.specs.declared.fault.ReplayFault.TheVariants.{Script, Board}
-use Rattle.psci_bench.specs.declared.said.Record.{Record}
 use Rattle.psci_bench.specs.Limits.{longest_line, most_lines}
 use Rattle.psci_bench.specs.Line.{line_of}
 use Rattle.psci_bench.specs.Lines.{lines}
 use Rattle.psci_bench.specs.Text.{answer_line}
-
--- what is said of an event of this board after these records, the newest first
-abbrev pub Saying : Type 0
-Saying = BoardValue → List Record → Event → Said
 
 -- what a script is answered
 pub record Transcript : Type 0 where
@@ -62,39 +57,40 @@ board_line line = sized 1 line (ok_or (literal_at (codes "board ") line) NoBoard
 
 -- All lines -------------------------------------------------------------------------------------
 
--- What the line of this number is answered, with the lines after it: where it is an event, after
--- its own answer line, whose number is that of the records with it.
-abbrev pub transcript_of_line : Saying → BoardValue → List Record → ℕ → Result LineSays ScriptFault
+-- What the line of this number is answered after these records, the newest first, with the lines
+-- after it. Of an event that is said which is legal after the records, in an answer line whose
+-- number is that of the records with it.
+abbrev pub transcript_of_line : BoardValue → List Record → ℕ → Result LineSays ScriptFault
     → (List Record → Transcript) → Transcript
-transcript_of_line says b past number (Err fault) rest = ends (Err (Script number fault))
-transcript_of_line says b past number (Ok Blank) rest = rest past
-transcript_of_line says b past number (Ok (Says event)) rest =
-    after_line (answer_line (length past + 1) (says b past event))
-    (rest (record { event = event; said = says b past event } ∷ past))
+transcript_of_line b past number (Err fault) rest = ends (Err (Script number fault))
+transcript_of_line b past number (Ok Blank) rest = rest past
+transcript_of_line b past number (Ok (Says event)) rest =
+    after_line (answer_line (length past + 1) (legal b past event))
+    (rest (legal_record b past event ∷ past))
 
 -- what the lines after the first so many ones are answered
-unfoldable pub transcript_of_rest : Saying → BoardValue → List Record → ℕ → List (List ℕ)
+unfoldable pub transcript_of_rest : BoardValue → List Record → ℕ → List (List ℕ)
     → Transcript
-transcript_of_rest says b past count [] = ends (Ok (record { lines = count; events = length past }))
-transcript_of_rest says b past count (l ∷ ls) =
-    transcript_of_line says b past (count + 1) (line_said (count + 1) l)
-    (λ records. transcript_of_rest says b records (count + 1) ls)
+transcript_of_rest b past count [] = ends (Ok (record { lines = count; events = length past }))
+transcript_of_rest b past count (l ∷ ls) =
+    transcript_of_line b past (count + 1) (line_said (count + 1) l)
+    (λ records. transcript_of_rest b records (count + 1) ls)
 
 -- what the lines after the board line are answered, by its board
-abbrev pub transcript_of_board : Saying → Result BoardValue BoardFault → List (List ℕ) → Transcript
-transcript_of_board says (Err fault) ls = ends (Err (Board fault))
-transcript_of_board says (Ok b) ls = transcript_of_rest says b [] 1 ls
+abbrev pub transcript_of_board : Result BoardValue BoardFault → List (List ℕ) → Transcript
+transcript_of_board (Err fault) ls = ends (Err (Board fault))
+transcript_of_board (Ok b) ls = transcript_of_rest b [] 1 ls
 
 -- what all lines are answered, by the board text of the first, and the lines after it
-abbrev pub transcript_of_first : Saying → Result (List ℕ) ScriptFault → List (List ℕ) → Transcript
-transcript_of_first says (Err fault) ls = ends (Err (Script 1 fault))
-transcript_of_first says (Ok text) ls = transcript_of_board says (board_of text) ls
+abbrev pub transcript_of_first : Result (List ℕ) ScriptFault → List (List ℕ) → Transcript
+transcript_of_first (Err fault) ls = ends (Err (Script 1 fault))
+transcript_of_first (Ok text) ls = transcript_of_board (board_of text) ls
 
 -- what these lines are answered
-abbrev pub transcript_of_lines : Saying → List (List ℕ) → Transcript
-transcript_of_lines says [] = ends (Err (Script 1 NoBoard))
-transcript_of_lines says (l ∷ ls) = transcript_of_first says (board_line l) ls
+abbrev pub transcript_of_lines : List (List ℕ) → Transcript
+transcript_of_lines [] = ends (Err (Script 1 NoBoard))
+transcript_of_lines (l ∷ ls) = transcript_of_first (board_line l) ls
 
 -- what the bytes of a script are answered
-unfoldable pub transcript : Saying → List ℕ → Transcript
-transcript says bytes = transcript_of_lines says (lines bytes)
+unfoldable pub transcript : List ℕ → Transcript
+transcript bytes = transcript_of_lines (lines bytes)

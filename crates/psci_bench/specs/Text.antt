@@ -1,14 +1,19 @@
 -- The answer line of an event.
-use Rattle.std.specs.Prelude.{ℕ, false, List, ◌++◌, ◌∷◌, [], Option, Some, None, codes, flat_map}
+use Rattle.std.specs.Prelude.{ℕ, Bool, true, false, List, ◌++◌, ◌∷◌, [], Option, Some, None}
+use Rattle.std.specs.Prelude.{codes, flat_map}
 use Rattle.std.specs.Fmt.{decimal, signed_decimal, digits}
 use Rattle.psci_fw_model.specs.declared.outcome.Act.{Act}
 use Rattle.psci_fw_model.specs.declared.outcome.Act.TheVariants.{Return, Stop, Enter, Resume}
 use Rattle.psci_coord.specs.declared.part.Part.{Part}
 use Rattle.psci_link.specs.declared.kind.Kind.{Kind}
 use Rattle.psci_link.specs.declared.kind.Kind.TheVariants.{Down, Start, Off, Reset}
-use Rattle.psci_bench.specs.declared.said.Sent.{Sent}
-use Rattle.psci_bench.specs.declared.said.Said.{Said}
-use Rattle.psci_bench.specs.declared.said.Said.TheVariants.{Fw, Ignored, Absent}
+use Rattle.psci_link.specs.declared.taken.Taken.{Taken}
+use Rattle.psci_link.specs.declared.taken.Taken.TheVariants.{Used, Old}
+use Rattle.psci_link.specs.Message.{AckValue}
+use Rattle.psci_world_model.specs.declared.said.Sent.{Sent}
+use Rattle.psci_world_model.specs.declared.said.Said.{Said}
+use Rattle.psci_world_model.specs.declared.said.Said.TheVariants.{Fw, Kick, Acked, Ignored, Absent}
+use Rattle.psci_world_model.specs.declared.said.Said.TheVariants.{Taken as Took}
 
 -- an address or a context id: lower-case hexadecimal digits without leading zeros
 abbrev pub hexadecimal : ℕ → List ℕ
@@ -52,9 +57,27 @@ abbrev pub message_text : Option Sent → List ℕ
 message_text None = []
 message_text (Some sent) = codes " " ++ sent_text sent
 
+-- after the parts that were applied, that the message meant nothing any more
+abbrev pub stale_text : Bool → List ℕ
+stale_text true = codes " stale"
+stale_text false = []
+
+-- what an acknowledgement says, after its number
+abbrev pub ack_text : AckValue → List ℕ
+ack_text ack = codes "applied " ++ (decimal ack.applied ++ stale_text ack.stale)
+
+-- what became of an acknowledgement
+abbrev pub taken_text : Taken → List ℕ
+taken_text Used = codes "used"
+taken_text Old = codes "old"
+
 -- what is said of an event
 abbrev pub said_text : Said → List ℕ
 said_text (Fw act sent) = act_text act ++ message_text sent
+said_text (Kick start) = codes "started " ++ decimal start.number
+said_text (Acked index ack) =
+    codes "ack #" ++ (decimal index ++ (codes " " ++ ack_text ack))
+said_text (Took taken) = taken_text taken
 said_text Ignored = codes "ignored"
 said_text Absent = codes "absent"
 

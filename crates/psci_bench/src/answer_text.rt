@@ -2,10 +2,10 @@
 
 ghost use Rattle.std.specs.Prelude.{Some};
 
-use crate::said::{Said, Sent};
 use psci_coord::Part;
 use psci_fw_model::Act;
-use psci_link::Kind;
+use psci_link::{Ack, Kind, Taken};
+use psci_world::{Said, Sent};
 use std::fmt;
 
 /// What was said of the event of this number, counted from 1.
@@ -32,6 +32,18 @@ struct PartText<'a>(&'a Part);
 /// The parts of a message, as an answer line has them after it.
 #[derive(Clone, Copy)]
 struct PartsText<'a>(&'a [Part]);
+
+/// A message with its number.
+#[derive(Clone, Copy)]
+struct SentText<'a>(&'a Sent);
+
+/// What an acknowledgement says, after its number.
+#[derive(Clone, Copy)]
+struct AckText<'a>(&'a Ack);
+
+/// What was said of an event.
+#[derive(Clone, Copy)]
+struct SaidText<'a>(&'a Said);
 
 impl fmt::Display for ActText<'_> {
     ghost use Rattle.std.specs.Prelude.{Some};
@@ -99,14 +111,14 @@ impl fmt::Display for PartsText<'_> {
     }
 }
 
-impl fmt::Display for Sent {
+impl fmt::Display for SentText<'_> {
     ghost use Rattle.std.specs.Prelude.{Some};
     ghost use Rattle.psci_bench.specs.Text.{sent_text};
 
-    ghost output = { λ sent. Some (sent_text sent) };
+    ghost output = { λ text. Some (sent_text text.0.now) };
 
     fn fmt<W: fmt::Write>(&self, f: &mut fmt::Formatter<W>) -> fmt::Result {
-        let message = &self.message;
+        let message = &self.0.message;
         let kind = KindText(message.kind);
         let core = message.core.number;
         let life = message.life;
@@ -115,24 +127,45 @@ impl fmt::Display for Sent {
         write!(
             f,
             "#{} {kind} {core} life {life} number {number}{parts}",
-            self.index
+            self.0.index
         )
     }
 }
 
-impl fmt::Display for Said {
+impl fmt::Display for AckText<'_> {
+    ghost use Rattle.std.specs.Prelude.{Some};
+    ghost use Rattle.psci_bench.specs.Text.{ack_text};
+
+    ghost output = { λ text. Some (ack_text text.0.now) };
+
+    fn fmt<W: fmt::Write>(&self, f: &mut fmt::Formatter<W>) -> fmt::Result {
+        let ack: &Ack = self.0;
+        let applied = ack.applied;
+        if ack.stale {
+            write!(f, "applied {applied} stale")
+        } else {
+            write!(f, "applied {applied}")
+        }
+    }
+}
+
+impl fmt::Display for SaidText<'_> {
     ghost use Rattle.std.specs.Prelude.{Some};
     ghost use Rattle.psci_bench.specs.Text.{said_text};
 
-    ghost output = { λ said. Some (said_text said) };
+    ghost output = { λ text. Some (said_text text.0.now) };
 
     fn fmt<W: fmt::Write>(&self, f: &mut fmt::Formatter<W>) -> fmt::Result {
-        match self {
+        match self.0 {
             Said::Fw { act, sent: None } => ActText(act).fmt(f),
             Said::Fw {
                 act,
                 sent: Some(sent),
-            } => write!(f, "{} {sent}", ActText(act)),
+            } => write!(f, "{} {}", ActText(act), SentText(sent)),
+            Said::Kick(start) => write!(f, "started {}", start.number),
+            Said::Acked { index, ack } => write!(f, "ack #{index} {}", AckText(ack)),
+            Said::Taken(Taken::Used) => write!(f, "used"),
+            Said::Taken(Taken::Old) => write!(f, "old"),
             Said::Ignored => write!(f, "ignored"),
             Said::Absent => write!(f, "absent"),
         }
@@ -146,6 +179,6 @@ impl fmt::Display for Answer<'_> {
     ghost output = { λ answer. Some (answer_line answer.number answer.said.now) };
 
     fn fmt<W: fmt::Write>(&self, f: &mut fmt::Formatter<W>) -> fmt::Result {
-        writeln!(f, "{} {}", self.number, self.said)
+        writeln!(f, "{} {}", self.number, SaidText(self.said))
     }
 }

@@ -10,8 +10,8 @@ ghost use Rattle.psci_bench.specs.Text.{answer_line};
 use crate::answer_text::Answer;
 use crate::device::Sink;
 use crate::fault::ReplayFault;
-use crate::said::Said;
 use crate::transfer::write_all;
+use psci_world::Said;
 use std::alloc::{AllocError, Global};
 use std::marker::Model;
 

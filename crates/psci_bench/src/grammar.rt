@@ -2,15 +2,15 @@
 
 ghost use Rattle.std.specs.Prelude.{◌≡◌, option_map};
 ghost use Rattle.psci_text.specs.Reading.{spaced_at};
-ghost use Rattle.psci_bench.specs.Line.{register_at, optional_register_at, call_at, enter_at};
-ghost use Rattle.psci_bench.specs.Line.{line_of};
+ghost use Rattle.psci_bench.specs.Line.{register_at, optional_register_at, call_at, alone_at};
+ghost use Rattle.psci_bench.specs.Line.{event_at, line_of};
 
-use crate::event::Event;
 use psci_abi::Regs;
 use psci_text::{hex, literal, number};
+use psci_world::Event;
 
 /// What a line says.
-#[derive(Clone, Copy, Debug, PartialEq, Eq)]
+#[derive(Clone, Copy, Debug, PartialEq)]
 pub enum Line {
     /// Nothing: it is empty, or a comment.
     Blank,
@@ -61,13 +61,36 @@ fn call(text: &[u8]) -> Option<Event>
         .then_some(Event::Call(core, Regs { x0, x1, x2, x3 }))
 }
 
-/// The entry after its first word.
-#[tactic(auto, unfolding(crate::specs::Line::enter_at))]
-fn enter(text: &[u8]) -> Option<Event>
-    ensures { result ≡ enter_at text.now }
+/// The number that stands alone.
+#[tactic(auto, unfolding(crate::specs::Line::alone_at))]
+fn alone(text: &[u8]) -> Option<u64>
+    ensures { result ≡ alone_at text.now }
 {
-    let (core, rest) = number(text)?;
-    rest.is_empty().then_some(Event::Enter(core))
+    let (found, rest) = number(text)?;
+    rest.is_empty().then_some(found)
+}
+
+/// The event, by its first word.
+#[tactic(auto, unfolding(crate::specs::Line::event_at))]
+fn event(text: &[u8]) -> Option<Event>
+    ensures { result ≡ event_at text.now }
+{
+    if let Some(rest) = literal(text, b"call ") {
+        return call(rest);
+    }
+    if let Some(rest) = literal(text, b"enter ") {
+        return alone(rest).map(Event::Enter);
+    }
+    if let Some(rest) = literal(text, b"deliver ") {
+        return alone(rest).map(Event::Deliver);
+    }
+    if let Some(rest) = literal(text, b"take ") {
+        return alone(rest).map(Event::Take);
+    }
+    if let Some(rest) = literal(text, b"wake ") {
+        return alone(rest).map(Event::Wake);
+    }
+    alone(literal(text, b"reset ")?).map(Event::Reset)
 }
 
 /// What the line says, or none where it is outside the grammar.
@@ -78,9 +101,5 @@ pub fn read_line(text: &[u8]) -> Option<Line>
     if let [] | [b'#', ..] = text {
         return Some(Line::Blank);
     }
-    let event = match literal(text, b"call ") {
-        Some(rest) => call(rest)?,
-        None => enter(literal(text, b"enter ")?)?,
-    };
-    Some(Line::Event(event))
+    event(text).map(Line::Event)
 }

@@ -1,22 +1,12 @@
 //! What holds of the definitions alone.
 
 ghost use Rattle.psci_bench.specs.EventText.{ReadsAsSpelled, SpellsWhatItSays};
-ghost use Rattle.psci_bench.specs.Legal.{AnswersAtPlace};
+ghost use Rattle.psci_bench.specs.ScriptRun.{AllSafe};
 
-use psci_fw_model::{law_caller, law_enters, law_first_start, law_invariant, law_values};
+use psci_board::law_boards;
+use psci_headline::law_safe;
 use psci_text::law_text;
-
-/// A core at its place is never refused by the firmware: the `Ignored` that is said of an event
-/// says that its core does not run, or was not started.
-pub fn law_places()
-    ensures { AnswersAtPlace }
-{
-    law_values();
-    law_caller();
-    law_first_start();
-    law_enters();
-    law_invariant();
-}
+use psci_world_model::law_runs;
 
 /// An event line is read as it is spelled, and in no other way.
 ///
@@ -28,4 +18,14 @@ pub fn law_event_lines()
     ensures spelled { SpellsWhatItSays }
 {
     law_text();
+}
+
+/// The answer text of every script is that of the legal run of its events, up to the first fault,
+/// and this run is safe at every moment.
+pub fn law_safe_scripts()
+    ensures { AllSafe }
+{
+    law_boards();
+    law_runs();
+    law_safe();
 }

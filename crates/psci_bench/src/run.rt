@@ -2,30 +2,27 @@
 
 ghost use Rattle.std.specs.Prelude.{◌≡◌, ◌+◌, ◌-◌, ◌^◌, ◌<◌, ◌≤◌, ℕ, List, length, false, Option};
 ghost use Rattle.std.specs.Prelude.{IfOk, IfErr, OnOk};
-ghost use Rattle.psci_board.specs.Board.{BoardValue};
 ghost use Rattle.psci_bench.specs.declared.fault.ReplayFault.TheVariants.{Read, Write};
-ghost use Rattle.psci_bench.specs.declared.said.Record.{Record};
 ghost use Rattle.psci_bench.specs.Device.{GaveUp};
-ghost use Rattle.psci_bench.specs.Legal.{legal, AnswersAtPlace};
 ghost use Rattle.psci_bench.specs.Limits.{longest_line, most_lines};
 ghost use Rattle.psci_bench.specs.Progress.{IsLine, SameDevices, StaySound, first_progress};
 ghost use Rattle.psci_bench.specs.Progress.{progress_of};
-ghost use Rattle.psci_bench.specs.Run.{LinesAnswered, BoardRead, HasBegun, IsUnderWay, EndsBy};
+ghost use Rattle.psci_bench.specs.Run.{BoardRead, IsUnderWay, EndsBy};
 ghost use Rattle.psci_bench.specs.Run.{Runs, Replays, LineLeaves, LineRefused, IsNoDevice};
 ghost use Rattle.psci_bench.specs.Run.{is_write_fault};
+ghost use Rattle.psci_bench.specs.ScriptRun.{Prints};
 
 use crate::answers::Answers;
 use crate::block::Block;
 use crate::device::{Sink, Source};
 use crate::fault::{ReplayFault, Replayed, ScriptFault};
-use crate::firmware_machine::FirmwareMachine;
 use crate::grammar::{Line, read_line};
-use crate::laws::law_places;
+use crate::laws::law_safe_scripts;
 use crate::lines::Extent;
-use crate::machine::Machine;
 use crate::progress::Progress;
 use psci_board::{Board, BoardFault};
 use psci_text::literal;
+use psci_world::World;
 use std::alloc::Global;
 
 /// The board of a first line.
@@ -44,16 +41,15 @@ fn read_board(alloc: Global, line: &[u8]) -> Result<Board, ReplayFault>
 }
 
 /// Makes the event happen that a line says, if it says one, and adds the answer.
-fn answer<M: Machine>(
-    machine: &mut M,
+fn answer(
+    world: &mut World,
     answers: &mut Answers,
     line: Option<Line>,
     number: u64,
 ) -> Result<(), ReplayFault>
     requires { answers.old.events < 2 ^ 64 - 1 }
-    ensures ok { OnOk result ((b : BoardValue) (past : List Record) → M.is_after machine.old b past
-        → length past < 2 ^ 64 - 1 → answers.old.events ≡ length past
-        → LineLeaves M.legal (M.is_after machine.new) b past line answers.old answers.new) }
+    ensures ok { OnOk result (answers.old.events ≡ length world.old.past
+        → LineLeaves line world.old world.new answers.old answers.new) }
     ensures err { IfErr result (λ fault. LineRefused fault number line
         × (answers.new ≡ answers.old)) }
 {
@@ -61,24 +57,24 @@ fn answer<M: Machine>(
         None => Err(ScriptFault::Line.at(number)),
         Some(Line::Blank) => Ok(()),
         Some(Line::Event(event)) => {
-            let said = machine.step(event)?;
-            answers.add(&said)?;
+            let record = world.step(event)?;
+            answers.add(&record.said)?;
             Ok(())
         }
     }
 }
 
 impl<S: Source, K: Sink> Progress<'_, '_, S, K> {
-    /// The machine of the board that the first line has.
-    fn begin<M: Machine>(&mut self, alloc: Global) -> Result<M, ReplayFault>
+    /// The world of the board that the first line has.
+    fn begin(&mut self, alloc: Global) -> Result<World, ReplayFault>
         requires { progress_of S.left K.taken self.old
             ≡ first_progress (S.left self.old.source.now) (K.taken self.old.sink.now) }
         ensures devices { SameDevices self.old self.new }
         ensures sound { OnOk result (StaySound S.failed K.failed self.old self.new) }
-        ensures ok { IfOk result (λ m. HasBegun M.legal (M.is_after m)
+        ensures ok { IfOk result (λ world. IsUnderWay world 1
             (S.left self.old.source.now) (K.taken self.old.sink.now)
             (progress_of S.left K.taken self.new)) }
-        ensures err { IfErr result (λ fault. EndsBy M.legal fault
+        ensures err { IfErr result (λ fault. EndsBy fault
             (S.left self.old.source.now) (K.taken self.old.sink.now)
             (progress_of S.left K.taken self.new)) }
         ensures read { IfErr result (λ fault. fault ≡ Read
@@ -90,15 +86,15 @@ impl<S: Source, K: Sink> Progress<'_, '_, S, K> {
             return Err(ScriptFault::NoBoard.at(1));
         };
         let board = read_board(alloc, &self.block.unread()[..extent.line])?;
-        let machine = M::new(alloc, board)?;
+        let world = World::new(alloc, &board)?;
         self.block.skip(extent.taken);
-        Ok(machine)
+        Ok(world)
     }
 
     /// Takes and answers a line, after so many others.
-    fn take_line<M: Machine>(
+    fn take_line(
         &mut self,
-        machine: &mut M,
+        world: &mut World,
         extent: Extent,
         count: u64,
     ) -> Result<(), ReplayFault>
@@ -107,32 +103,28 @@ impl<S: Source, K: Sink> Progress<'_, '_, S, K> {
         requires events { self.old.answers.now.events < 2 ^ 64 - 1 }
         ensures devices { SameDevices self.old self.new }
         ensures sound { StaySound S.failed K.failed self.old self.new }
-        ensures ok { OnOk result ((first before : Option (List ℕ)) (b : BoardValue)
-            (past : List Record) → M.is_after machine.old b past → length past ≤ count
-            → LinesAnswered M.legal b past count first before
-            (progress_of S.left K.taken self.old)
-            → IsUnderWay M.legal (M.is_after machine.new) (count + 1) first before
+        ensures ok { OnOk result ((first before : Option (List ℕ))
+            → IsUnderWay world.old count first before (progress_of S.left K.taken self.old)
+            → IsUnderWay world.new (count + 1) first before
             (progress_of S.left K.taken self.new)) }
-        ensures err { IfErr result (λ fault. (first before : Option (List ℕ)) (b : BoardValue)
-            (past : List Record)
-            → LinesAnswered M.legal b past count first before
-            (progress_of S.left K.taken self.old)
-            → EndsBy M.legal fault first before (progress_of S.left K.taken self.new)) }
+        ensures err { IfErr result (λ fault. (first before : Option (List ℕ))
+            → IsUnderWay world.old count first before (progress_of S.left K.taken self.old)
+            → EndsBy fault first before (progress_of S.left K.taken self.new)) }
         ensures fault { IfErr result (λ fault. IsNoDevice fault) }
     {
         let line = read_line(&self.block.unread()[..extent.line]);
-        answer(machine, self.answers, line, count + 1)?;
+        answer(world, self.answers, line, count + 1)?;
         self.block.skip(extent.taken);
         Ok(())
     }
 
     /// Answers each line of the script; the last answers may still wait to be written.
-    fn run<M: Machine>(&mut self, alloc: Global) -> Result<Replayed, ReplayFault>
+    fn run(&mut self, alloc: Global) -> Result<Replayed, ReplayFault>
         requires { progress_of S.left K.taken self.old
             ≡ first_progress (S.left self.old.source.now) (K.taken self.old.sink.now) }
         ensures devices { SameDevices self.old self.new }
         ensures sound { OnOk result (StaySound S.failed K.failed self.old self.new) }
-        ensures runs { Runs M.legal result
+        ensures runs { Runs result
             (S.left self.old.source.now) (K.taken self.old.sink.now)
             (progress_of S.left K.taken self.new) }
         ensures read { IfErr result (λ fault. fault ≡ Read
@@ -140,10 +132,10 @@ impl<S: Source, K: Sink> Progress<'_, '_, S, K> {
         ensures write { IfErr result (λ fault. fault ≡ Write
             → GaveUp (K.failed self.new.sink.now) (K.interruptions self.new.sink.now)) }
     {
-        let mut machine: M = self.begin(alloc)?;
+        let mut world = self.begin(alloc)?;
         let mut lines: u64 = 1;
         'lines: while let Some(extent) = self.next_line(lines + 1)? {
-            self.take_line(&mut machine, extent, lines)?;
+            self.take_line(&mut world, extent, lines)?;
             lines += 1;
         }
         Ok(Replayed {
@@ -153,12 +145,12 @@ impl<S: Source, K: Sink> Progress<'_, '_, S, K> {
     }
 
     /// Answers the script, and writes the last answers.
-    fn complete<M: Machine>(&mut self, alloc: Global) -> Result<Replayed, ReplayFault>
+    fn complete(&mut self, alloc: Global) -> Result<Replayed, ReplayFault>
         requires { progress_of S.left K.taken self.old
             ≡ first_progress (S.left self.old.source.now) (K.taken self.old.sink.now) }
         ensures devices { SameDevices self.old self.new }
         ensures sound { OnOk result (StaySound S.failed K.failed self.old self.new) }
-        ensures replays { Replays M.legal result
+        ensures replays { Replays result
             (S.left self.old.source.now) (S.left self.new.source.now)
             (K.taken self.old.sink.now) (K.taken self.new.sink.now) }
         ensures read { IfErr result (λ fault. fault ≡ Read
@@ -166,7 +158,7 @@ impl<S: Source, K: Sink> Progress<'_, '_, S, K> {
         ensures write { IfErr result (λ fault. fault ≡ Write
             → GaveUp (K.failed self.new.sink.now) (K.interruptions self.new.sink.now)) }
     {
-        let ended = self.run::<M>(alloc);
+        let ended = self.run(alloc);
         if is_write_fault(&ended) {
             return ended;
         }
@@ -175,8 +167,8 @@ impl<S: Source, K: Sink> Progress<'_, '_, S, K> {
     }
 }
 
-/// Answers the script that comes from the source into the sink, on a machine, as `replay` does.
-fn replay_on<S: Source, K: Sink, M: Machine>(
+/// Answers the script that comes from the source into the sink, as `replay` does.
+fn replay_lines<S: Source, K: Sink>(
     alloc: Global,
     source: &mut S,
     sink: &mut K,
@@ -184,7 +176,7 @@ fn replay_on<S: Source, K: Sink, M: Machine>(
     requires source { S.failed source.old ≡ false }
     requires sink { K.failed sink.old ≡ false }
     ensures sound { OnOk result ((S.failed source.new ≡ false) × (K.failed sink.new ≡ false)) }
-    ensures replays { Replays M.legal result (S.left source.old) (S.left source.new)
+    ensures replays { Replays result (S.left source.old) (S.left source.new)
         (K.taken sink.old) (K.taken sink.new) }
     ensures read { IfErr result (λ fault. fault ≡ Read
         → GaveUp (S.failed source.new) (S.interruptions source.new)) }
@@ -193,11 +185,11 @@ fn replay_on<S: Source, K: Sink, M: Machine>(
 {
     let mut block = Block::new(alloc)?;
     let mut answers = Answers::new(alloc)?;
-    Progress::new(source, sink, &mut block, &mut answers).complete::<M>(alloc)
+    Progress::new(source, sink, &mut block, &mut answers).complete(alloc)
 }
 
-/// Answers the script that comes from the source into the sink, on the firmware and a place per
-/// core.
+/// Answers the script that comes from the source into the sink: its events happen one after another
+/// in the world of its board.
 ///
 /// Where it ends well, or at a script or board fault, exactly the answer text of the script was
 /// written. At a read fault it is the answer text of all whole lines that were read, after which
@@ -206,6 +198,10 @@ fn replay_on<S: Source, K: Sink, M: Machine>(
 /// fault. At a write fault it is a front part of the answer text. A read or write fault is answered
 /// only where that device failed, took none of some bytes, or was interrupted 1,000 times in a row;
 /// where the replay ends well neither device has failed.
+///
+/// What is written is the answer text of a legal run, or a front part of it, and the world is safe at
+/// every moment of that run.
+#[tactic(auto, using(crate::proofs::ScriptRuns::prints))]
 pub fn replay<S: Source, K: Sink>(
     alloc: Global,
     source: &mut S,
@@ -214,16 +210,16 @@ pub fn replay<S: Source, K: Sink>(
     requires source { S.failed source.old ≡ false }
     requires sink { K.failed sink.old ≡ false }
     ensures sound { OnOk result ((S.failed source.new ≡ false) × (K.failed sink.new ≡ false)) }
-    ensures replays { Replays legal result (S.left source.old) (S.left source.new)
+    ensures replays { Replays result (S.left source.old) (S.left source.new)
         (K.taken sink.old) (K.taken sink.new) }
     ensures read { IfErr result (λ fault. fault ≡ Read
         → GaveUp (S.failed source.new) (S.interruptions source.new)) }
     ensures write { IfErr result (λ fault. fault ≡ Write
         → GaveUp (K.failed sink.new) (K.interruptions sink.new)) }
-    ensures places { AnswersAtPlace }
+    ensures safe { Prints result (S.left source.old) (K.taken sink.old) (K.taken sink.new) }
 {
-    law_places();
-    replay_on::<S, K, FirmwareMachine>(alloc, source, sink)
+    law_safe_scripts();
+    replay_lines(alloc, source, sink)
 }
 
 /// Whether a write failed.

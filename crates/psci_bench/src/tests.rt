@@ -3,6 +3,7 @@
 ghost use Rattle.std.specs.Prelude.{◌≡◌, false};
 
 mod devices;
+mod events;
 mod standard;
 mod whole;
 

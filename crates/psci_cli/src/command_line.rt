@@ -35,8 +35,10 @@ const ABOUT_REPLAY: &str =
     "Takes a script from standard input. Each event of it is answered by a line on standard output.
 
 The first line of a script is a board. Each later line is empty, or a comment that begins with #,
-or an event: `call CORE X0 [X1 [X2 [X3]]]` (an SMC of a core, with its registers), or `enter CORE`
-(a started core enters the firmware). A fault of the script is named on standard error, with its line.";
+or an event: `call CORE X0 [X1 [X2 [X3]]]` (an SMC of a core, with its registers), `enter CORE`
+(a started core enters the firmware), `wake CORE`, `reset CORE`, `deliver K` (the power controller
+gets message K) or `take K` (the firmware gets acknowledgement K). A fault of the script is named on
+standard error, with its line.";
 
 const EXAMPLE: &str = "Example:
   printf '%s\\n' 'board (2 2) exec 0x40000000-0x40100000 boot 0x40000000 starts 1000 lives 3' \\

@@ -13,7 +13,7 @@ use exit::Failure;
 use psci_bench::{Std, replay};
 use std::process::ExitCode;
 
-/// Replays the script on standard input against the firmware.
+/// Replays the script on standard input in a world of its own.
 fn replay_standard(rt: &HostRuntime) -> Result<(), Failure>
     ensures { IfErr result IsOfReplay }
 {

@@ -1,4 +1,5 @@
-use Rattle.psci_bench.proofs.EventLines.{line_again, line_takes}
+use Rattle.psci_bench.proofs.EventLines.{line_takes}
+use Rattle.psci_bench.proofs.SpelledLines.{line_again}
 use Rattle.psci_bench.proofs.laws.law_event_lines.Goals as goal
 
 pub returns : goal.returns

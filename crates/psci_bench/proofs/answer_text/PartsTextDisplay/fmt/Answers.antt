@@ -1,4 +1,4 @@
-use Rattle.std.proofs.Common.{refl, subst, arith, ◌≡◌, ◌++◌}
+use Rattle.std.proofs.Common.{refl, subst, arith}
 use Rattle.std.specs.Fmt.{HasWritten}
 use Rattle.std.proofs.lemmas.Grind.{put_two}
 use Rattle.psci_bench.proofs.PartLines.{parts_all, parts_more}

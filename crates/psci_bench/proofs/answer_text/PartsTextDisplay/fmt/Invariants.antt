@@ -1,4 +1,4 @@
-use Rattle.std.proofs.Common.{Some, ◌≡◌, ℕ, ◌+◌, ◌++◌, ◌≤◌, length, take}
+use Rattle.std.proofs.Common.{◌++◌, take}
 use Rattle.std.specs.Fmt.{HasWritten, IsPlainFormatter}
 use Rattle.std.specs.Prelude.{codes, flat_map}
 use Rattle.psci_bench.specs.Text.{part_text}

@@ -9,7 +9,7 @@ use Rattle.psci_bench.proofs.progress.Progress.complete.Goals as goal
 pub returns-then-is_write_fault-clause-replays : goal.returns-then-is_write_fault-clause-replays
 returns-then-is_write_fault-clause-replays g c =
     let s = progress_of g.S.Source.left g.K.Sink.taken c.run-ended.new.self in
-    finish_failed c.run-ended.result g.M.Machine.legal (g.S.Source.left c.args.self.now.source.now)
+    finish_failed c.run-ended.result (g.S.Source.left c.args.self.now.source.now)
     (g.K.Sink.taken c.args.self.now.sink.now) s
     (sym c.if-is_write_fault.ensures) c.run-ended.ensures.runs
 
@@ -21,17 +21,17 @@ returns-in_err-write_to-clause-replays g c =
     let after = g.K.Sink.taken c.write_to.new.sink in
     let left = s.left in
     let w = c.in_err-write_to.ensures {u = tt} in
-    replays_so c.from_residual.result c.in_err-write_to.field-0.0 g.M.Machine.legal
+    replays_so c.from_residual.result c.in_err-write_to.field-0.0
     first left before after c.from_residual.ensures
-    (subst (λ (e : ReplayFault). Replays g.M.Machine.legal (Err e) first left before after)
+    (subst (λ (e : ReplayFault). Replays (Err e) first left before after)
     (sym w.fault)
-    (finish_part c.run-ended.result g.M.Machine.legal first before after s w.front.0
+    (finish_part c.run-ended.result first before after s w.front.0
     (sym c.if-is_write_fault.ensures) c.run-ended.ensures.runs w.front.1))
 
 pub returns-clause-replays : goal.returns-clause-replays
 returns-clause-replays g c =
     let s = progress_of g.S.Source.left g.K.Sink.taken c.run-ended.new.self in
-    finish_done c.run-ended.result g.M.Machine.legal (g.S.Source.left c.args.self.now.source.now)
+    finish_done c.run-ended.result (g.S.Source.left c.args.self.now.source.now)
     (g.K.Sink.taken c.args.self.now.sink.now) (g.K.Sink.taken c.write_to.new.sink) s
     (sym c.if-is_write_fault.ensures) c.run-ended.ensures.runs
     (c.in_ok-write_to.ensures {u = tt}).written

@@ -11,9 +11,9 @@ pub returns-in_err-extent-clause-runs : goal.returns-in_err-extent-clause-runs
 returns-in_err-extent-clause-runs g c =
     let i = c.lines.invariant.goes in
     let e = c.in_err-extent.field-0.0 in
-    runs_so c.from_residual-in_err-extent.result e g.M.Machine.legal _ _ _
+    runs_so c.from_residual-in_err-extent.result e _ _ _
     c.from_residual-in_err-extent.ensures
-    (goes_not e g.M.Machine.legal i.0 i.1 c.lines.lines _ _ _ _ i.4
+    (goes_not e c.lines.world.board c.lines.world.past c.lines.lines _ _ _ _ i.1
     (c.in_err-extent.ensures {u = tt}).found)
 
 pub returns-in_err-take_line-clause-runs : goal.returns-in_err-take_line-clause-runs
@@ -22,10 +22,10 @@ returns-in_err-take_line-clause-runs g c =
     let e = c.in_err-take_line.field-0.0 in
     let f = finds_as c.in_ok-extent.field-0 (Some c.in-Some.extent)
     (c.lines.lines + 1) _ _ c.in-Some.is (c.in_ok-extent.ensures {u = tt}).found in
-    runs_so c.from_residual-in_err-take_line.result e g.M.Machine.legal _ _ _
+    runs_so c.from_residual-in_err-take_line.result e _ _ _
     c.from_residual-in_err-take_line.ensures
-    ((c.in_err-take_line.ensures {u = tt}).err _ _ i.0 i.1
-    (answered_ahead g.M.Machine.legal i.0 i.1 c.lines.lines _ _ _ _ f.0 i.4))
+    ((c.in_err-take_line.ensures {u = tt}).err _ _
+    (i.0, answered_ahead c.lines.world.board c.lines.world.past c.lines.lines _ _ _ _ f.0 i.1))
 
 pub lines-preserved : goal.lines-preserved
 lines-preserved g c =
@@ -38,8 +38,10 @@ lines-preserved g c =
           c.take_line.ensures.devices);
       sound = sound_more _ _ c.lines.invariant.sound (sound_more _ _
           (c.in_ok-extent.ensures {u = tt}).sound c.take_line.ensures.sound);
-      goes = (c.in_ok-take_line.ensures {u = tt}).ok _ _ i.0 i.1 i.2 i.3
-          (answered_ahead g.M.Machine.legal i.0 i.1 c.lines.lines _ _ _ _ f.0 i.4);
+      goes = (c.in_ok-take_line.ensures {u = tt}).ok _ _ (
+        i.0,
+        answered_ahead c.lines.world.board c.lines.world.past c.lines.lines _ _ _ _ f.0 i.1,
+      );
     }
 
 pub returns-clause-runs : goal.returns-clause-runs
@@ -48,8 +50,8 @@ returns-clause-runs g c =
     let t = progress_of g.S.Source.left g.K.Sink.taken c.next_line.new.self in
     let f = finds_as c.in_ok-extent.field-0 None (c.lines.lines + 1) _ t c.in_default.is
     (c.in_ok-extent.ensures {u = tt}).found in
-    subst (λ (m : ℕ). Ended g.M.Machine.legal (Ok (record { lines = c.lines.lines; events = m }))
+    subst (λ (m : ℕ). Ended (Ok (record { lines = c.lines.lines; events = m }))
     (g.S.Source.left c.args.self.now.source.now) (g.K.Sink.taken c.args.self.now.sink.now) t)
     (sym c.events.ensures)
-    (ends_well g.M.Machine.legal i.0 i.1 c.lines.lines _ _ t
-    (answered_ahead g.M.Machine.legal i.0 i.1 c.lines.lines _ _ _ t f.0 i.4) f.1 f.2)
+    (ends_well c.lines.world.board c.lines.world.past c.lines.lines _ _ t
+    (answered_ahead c.lines.world.board c.lines.world.past c.lines.lines _ _ _ t f.0 i.1) f.1 f.2)
