@@ -10,8 +10,8 @@ FUNCTIONS = {
     fw.VERSION: 1, fw.CPU_SUSPEND: 6, fw.CPU_ON: 9, fw.AFFINITY_INFO: 5, fw.MIGRATE_INFO_TYPE: 1,
     fw.FEATURES: 2, fw.SYSTEM_SUSPEND: 1, fw.SET_SUSPEND_MODE: 3,
 }
-# what ends a script without a power controller, or nearly
-LAST = (fw.CPU_OFF, fw.CPU_OFF, fw.SYSTEM_OFF, fw.SYSTEM_RESET)
+# what ends a life, or nearly
+LAST = (fw.CPU_OFF, fw.CPU_OFF, fw.SYSTEM_OFF, fw.SYSTEM_RESET, fw.SYSTEM_RESET, fw.SYSTEM_RESET)
 # functions that are left out, words of a width that a function lacks, and other services
 OTHERS = (0x84000005, 0x84000007, 0x8400000B, 0x8400000C, 0x8400000D, 0x84000010, 0x84000011,
           0x84000012, 0x84000013, 0x84000014, 0x80000000, 0x04000003, 0xC4000000, 0xC4000002,
@@ -89,11 +89,11 @@ class Draw(random.Random):
         upper = [self.rarely(0, self.getrandbits(32)) << 32 for _ in regs]
         return [it | bits for it, bits in zip(regs, upper)]
 
-    def call(self, world, controlled):
+    def call(self, world):
         alone = world.place.count("running") < 2
         if self.randrange(40) == 0:
             words = self.choice(LAST)
-        elif controlled and not alone and self.randrange(8) == 0:
+        elif not alone and self.randrange(8) == 0:
             words = fw.CPU_OFF
         elif self.randrange(12) == 0:
             words = (self.choice(OTHERS), self.getrandbits(32))
@@ -114,44 +114,48 @@ class Draw(random.Random):
 
     def index(self, many):
         """Mostly one of the last that there are."""
-        others = many - 2, many - 3, self.randrange(many + 1), many
+        others = many - 2, many - 3, self.randrange(many + 1), self.randrange(many + 1), many
         return max(0, self.choice((many - 1,) * 6 + others))
 
     def onward(self, world):
-        """What brings a core on that was started, asked on or suspended, if there is one."""
+        """What brings on the next life, or a core that was started, asked on or suspended."""
         cores, firmware = world.board.cores, world.firmware
         started, stopped, running = ([core for core in cores if world.place[core] == place]
                                      for place in ("started", "stopped", "running"))
         asked = [at for at, it in enumerate(world.sent)
                  if it.kind == "start" and firmware.slots.get(it.core) is it]
         asleep = [core for core in stopped if firmware.phase(core) == "suspended"]
+        ended = [at for at, it in enumerate(world.sent)
+                 if it.kind in ("off", "reset") and it.life == world.controller.life]
+        if ended and self.randrange(4):
+            return f"deliver {ended[-1]}"
         if started:
             return f"enter {self.choice(started)}"
         if asked and self.randrange(4):
             return f"deliver {self.choice(asked)}"
         if asleep and (not running or self.randrange(6) == 0):
             return f"wake {self.choice(asleep)}"
-        return self.call(world, True) if running else None
+        return self.call(world) if running else None
 
     def goes_on(self, world):
         """Whether some core is there that may call, or may come to it."""
         return any(world.place[core] != "stopped" or world.firmware.phase(core) != "away"
                    for core in world.board.cores)
 
-    def event(self, world, controlled):
-        onward = self.onward(world) if controlled and self.randrange(5) < 3 else None
+    def event(self, world):
+        onward = self.onward(world) if self.randrange(5) < 3 else None
         if onward:
             return onward
         word = self.choices(("call", "enter", "deliver", "take", "wake", "reset"),
-                            (10, 4, 5, 4, 3, 1) if controlled else (20, 1, 0, 0, 0, 0))[0]
+                            (10, 4, 5, 4, 3, 1))[0]
         if word == "call":
-            return self.call(world, controlled)
+            return self.call(world)
         if word in ("deliver", "take"):
             return f"{word} {self.index(len(world.sent if word == 'deliver' else world.acks))}"
         place = {"enter": "started", "wake": "stopped", "reset": "running"}[word]
         return f"{word} {self.core(world, place)}"
 
-    def script(self, controlled):
+    def script(self):
         lines = [f"board {self.board()}"]
         try:
             world = World(Board(lines[0][len("board "):]))
@@ -159,14 +163,14 @@ class Draw(random.Random):
             world = World(Board("2 exec 0x0-0x4 boot 0x0 starts 1 lives 1"))
         first = ["enter 0"] * self.choice((0, 1, 1, 1))
         first += ["call 0 0x8400000f 1"] * self.choice((0, 0, 1))
-        for at in range(self.choice((0, 3, 20, 60, 120 if controlled else 60))):
+        for at in range(self.choice((0, 3, 20, 60, 120))):
             # nobody is left to call; a few more lines are enough
             if at > 3 and not self.goes_on(world) and self.randrange(8) == 0:
                 break
             if self.randrange(12) == 0:
                 lines.append(self.choice(("", "#", "# " + "x" * 254)))
-            line = first[at] if at < len(first) else self.event(world, controlled)
-            answer(world, line, controlled)
+            line = first[at] if at < len(first) else self.event(world)
+            answer(world, line)
             lines.append(line)
         text = "\n".join(lines).encode() + self.choice((b"\n", b""))
         return text if self.randrange(8) else self.bent(bytearray(text))

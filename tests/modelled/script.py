@@ -92,7 +92,7 @@ def number(text, may_be_hex):
     return None
 
 
-def answer(world, line, controlled):
+def answer(world, line):
     """The answer of an event line, or None where it is no event line."""
     word, *words = line.split(" ")
     if not words:
@@ -104,15 +104,15 @@ def answer(world, line, controlled):
         return world.call(first, regs + [0] * (4 - len(regs)))
     if word == "enter" and not regs:
         return world.enter(first)
-    if controlled and not regs and word in ("wake", "reset", "deliver", "take"):
+    if not regs and word in ("wake", "reset", "deliver", "take"):
         return getattr(world, word)(first)
     return None
 
 
-def replay(script, controlled):
+def replay(script, world_of=World, look=lambda world: None):
     """What is written, what is said on standard error, and the exit status.
 
-    Lines of the power controller are lines only where the script is controlled."""
+    The world is made by `world_of`, and looked at after each event."""
     lines = script.split(b"\n")
     if lines[-1] == b"":
         lines.pop()
@@ -129,11 +129,12 @@ def replay(script, controlled):
             if at == 1:
                 if not text.startswith("board "):
                     raise Fault("line 1: script fault 1")
-                world = World(Board(text[len("board "):]))
+                world = world_of(Board(text[len("board "):]))
             elif text and text[0] != "#":
-                said = answer(world, text, controlled)
+                said = answer(world, text)
                 if said is None:
                     raise Fault(f"line {at}: script fault 2")
+                look(world)
                 events += 1
                 written.append(f"{events} {said}\n")
     except Fault as fault:
