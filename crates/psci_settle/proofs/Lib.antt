@@ -1,5 +1,4 @@
 pub mod Answering
-pub mod Applied
 pub mod Applying
 pub mod Arrivals
 pub mod Beginning

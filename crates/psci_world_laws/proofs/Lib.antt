@@ -1,5 +1,6 @@
 pub mod Agreed
 pub mod Agreeing
+pub mod Applied
 pub mod Controlling
 pub mod Happening
 pub mod Making
