@@ -9,9 +9,9 @@ use Rattle.psci_ctl_model.specs.Values.{is_on_path}
 use Rattle.psci_world_model.specs.declared.said.Record.{Record}
 use Rattle.psci_world_model.specs.Histories.{controller_history, controller_values}
 use Rattle.psci_world_model.specs.Legal.{IsAnswered}
+use Rattle.psci_world_laws.proofs.Applied.{was_sent}
 use Rattle.psci_safe.specs.Moments.{depth_at}
 use Rattle.psci_headline.specs.Live.{HasLive}
-use Rattle.psci_headline.proofs.Applied.{was_sent}
 use Rattle.psci_headline.proofs.Claiming.{part_in, start_in}
 use Rattle.psci_headline.proofs.LiveOnes.{has_live}
 

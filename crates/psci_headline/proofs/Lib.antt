@@ -1,7 +1,6 @@
 pub mod Acknowledging
 pub mod AllDown
 pub mod Apart
-pub mod Applied
 pub mod Asking
 pub mod Claiming
 pub mod CoreSteps

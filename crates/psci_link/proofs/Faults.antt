@@ -75,7 +75,7 @@ pub one-heading : (bytes : List ℕ) (h i : Heading) → HasHeading bytes h → 
 one-heading bytes h i has also = same_Some h i (sym has.kind ∙ also.kind)
 
 -- bytes without a fault have a heading
-pub heading-among : (b : BoardValue) (bytes : List ℕ) (o : Option Heading) → fault_at b bytes o ≡ None
-    → (h : Heading) × (o ≡ Some h) × (fault_of_kind b bytes h ≡ None)
+pub heading-among : (b : BoardValue) (bytes : List ℕ) (o : Option Heading)
+    → fault_at b bytes o ≡ None → (h : Heading) × (o ≡ Some h) × (fault_of_kind b bytes h ≡ None)
 heading-among b bytes None none = absurd (none-some _ (sym none))
 heading-among b bytes (Some h) none = (h, refl, none)

@@ -1,9 +1,9 @@
 -- The claims on a power domain in a life, each with whether its cores had asked for it.
-use Rattle.std.specs.Prelude.{ℕ, Bool, true, ◌&&◌, ◌==◌, nat_le, List, [], ◌∷◌, ◌++◌, filter}
+use Rattle.std.specs.Prelude.{ℕ, Bool, ◌&&◌, ◌==◌, nat_le, List, [], ◌∷◌, ◌++◌, filter}
 use Rattle.std.specs.Prelude.{Option, None, Some, option_and_then, option_map}
 use Rattle.std.specs.List.{list_all}
 use Rattle.std.specs.Prelude.{if◌then◌else◌}
-use Rattle.psci_board.specs.Board.{BoardValue, below, has_node}
+use Rattle.psci_board.specs.Board.{BoardValue, below}
 use Rattle.psci_board.specs.declared.node.Node.{Node}
 use Rattle.psci_coord.specs.declared.part.Part.{Part}
 use Rattle.psci_link.specs.Message.{MessageValue}

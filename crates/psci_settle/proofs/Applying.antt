@@ -20,7 +20,7 @@ use Rattle.psci_fw_laws.proofs.Sums.{known_same}
 use Rattle.psci_settle.specs.Waiting.{IsLivePart}
 use Rattle.psci_settle.proofs.Claimed.{AreDeep, AreFirst, claim_deep}
 use Rattle.psci_settle.proofs.Covering.{AreCovered, OthersDeep, applied_at_least}
-use Rattle.psci_settle.proofs.Pursuing.{part_claims}
+use Rattle.psci_settle.proofs.Unclaimed.{part_claims}
 use Rattle.psci_settle.proofs.Starting.{same_sum}
 use Rattle.psci_settle.proofs.Telling.{live_down}
 

@@ -1,6 +1,6 @@
 -- What waits, after each effect of the firmware's calls, entries and acknowledgements.
-use Rattle.std.proofs.Common.{◌≡◌, ℕ, ◌<◌, ◌≤◌, Bool, true, false, List, ◌∷◌, ◌++◌, Option, None}
-use Rattle.std.proofs.Common.{Some, refl, arith, subst, ap, sym, ◌∙◌}
+use Rattle.std.proofs.Common.{◌≡◌, ℕ, ◌<◌, true, false, List, ◌∷◌, ◌++◌, Option, None}
+use Rattle.std.proofs.Common.{Some, refl, subst, ap, sym, ◌∙◌}
 use Rattle.psci_board.specs.Board.{BoardValue, cores}
 use Rattle.psci_board.specs.declared.node.Core.{Core}
 use Rattle.psci_ctl_model.specs.declared.start.Start.{Start}
@@ -8,7 +8,7 @@ use Rattle.psci_ctl_model.specs.Values as controlled
 use Rattle.psci_link.specs.declared.kind.Kind.{Kind}
 use Rattle.psci_link.specs.declared.kind.Kind.TheVariants as kinds
 use Rattle.psci_link.specs.Message.{AckValue, MessageValue}
-use Rattle.psci_link.specs.Slots.{Clear, OfCore, OfSystem, Slot, changed, is_kind, slot_of}
+use Rattle.psci_link.specs.Slots.{Clear, OfCore, OfSystem, changed, is_kind, slot_of}
 use Rattle.psci_fw_model.specs.declared.outcome.Act.{Act}
 use Rattle.psci_fw_model.specs.declared.outcome.Act.TheVariants as acts
 use Rattle.psci_fw_model.specs.After.{change}
@@ -25,9 +25,9 @@ use Rattle.psci_fw_laws.specs.Messages.{is_system}
 use Rattle.psci_fw_laws.proofs.Parts.{updated_here}
 use Rattle.psci_world_laws.proofs.Moving.{CallerLaws, is_call}
 use Rattle.psci_settle.specs.Waiting.{WaitingIn}
-use Rattle.psci_settle.proofs.Pursuing.{none_live_running, none_live_started, waiting_arrival}
-use Rattle.psci_settle.proofs.Pursuing.{waiting_asked, waiting_core, waiting_halting}
-use Rattle.psci_settle.proofs.Pursuing.{waiting_phase, waiting_system}
+use Rattle.psci_settle.proofs.Pursuing.{waiting_arrival, waiting_asked, waiting_core}
+use Rattle.psci_settle.proofs.Pursuing.{waiting_halting, waiting_phase, waiting_system}
+use Rattle.psci_settle.proofs.Unclaimed.{none_live_running, none_live_started}
 
 -- Slots ----------------------------------------------------------------------------------------
 

@@ -1,11 +1,9 @@
 -- What waits, after one call of the power controller or of the firmware.
-use Rattle.std.proofs.Common.{zero, suc, ◌+◌}
-use Rattle.std.proofs.Common.{◌≡◌, ℕ, inl, inr, ◌<◌, ◌≤◌, Bool, true, false, ◌==◌, cond, List, ◌∷◌}
-use Rattle.std.proofs.Common.{◌++◌, Option, None, Some, option_map, refl, arith, subst, ap, sym, ◌∙◌}
+use Rattle.std.proofs.Common.{◌≡◌, ℕ, zero, suc, ◌+◌, inl, inr, ◌<◌, ◌≤◌, Bool, true, false, ◌==◌}
+use Rattle.std.proofs.Common.{cond, List, ◌∷◌, ◌++◌, Option, Some, refl, arith, subst, ap, sym, ◌∙◌}
 use Rattle.std.specs.Prelude.{nat_lt, slice_get}
 use Rattle.std.proofs.lemmas.Bool.{cases_eq, cond_both, eqb-false}
-use Rattle.psci_abi.specs.Calls.{request_of}
-use Rattle.psci_board.specs.Board.{BoardValue, IsBoard, cores}
+use Rattle.psci_board.specs.Board.{BoardValue, cores}
 use Rattle.psci_board.specs.Laws.{PathLaws}
 use Rattle.psci_coord.specs.declared.part.Part.{Part}
 use Rattle.psci_ctl_model.specs.declared.start.Cause.{Cause}
@@ -17,7 +15,7 @@ use Rattle.psci_ctl_model.specs.Effects as controlling_effects
 use Rattle.psci_ctl_model.specs.Effects.{Nothing, Starts, Deepens, Ends, Begins, message_effect}
 use Rattle.psci_ctl_model.specs.Follows.{MayFollow}
 use Rattle.psci_ctl_model.specs.Laws.{AckLaws, SumLaws}
-use Rattle.psci_ctl_model.specs.Replies.{ack_by, ack_of, last_start, may_follow}
+use Rattle.psci_ctl_model.specs.Replies.{ack_by, last_start, may_follow}
 use Rattle.psci_ctl_model.specs.Values as controlled
 use Rattle.psci_link.specs.declared.kind.Kind.{Kind}
 use Rattle.psci_link.specs.declared.kind.Kind.TheVariants as kinds
@@ -40,9 +38,8 @@ use Rattle.psci_fw_laws.proofs.Living.{live_laws}
 use Rattle.psci_fw_laws.proofs.Sums.{known_le}
 use Rattle.psci_world_model.specs.declared.place.Place.{Place}
 use Rattle.psci_world_model.specs.declared.place.Place.TheVariants as places
-use Rattle.psci_world_laws.specs.Agreement.{AgreeIn}
 use Rattle.psci_world_laws.proofs.Agreeing.{AreAgreed, found_other, found_own}
-use Rattle.psci_world_laws.proofs.Moving.{CallerLaws, IsCallOf, call_moves, entry_moves, is_call}
+use Rattle.psci_world_laws.proofs.Moving.{CallerLaws, IsCallOf, call_moves, entry_moves}
 use Rattle.psci_world_laws.proofs.Placing.{last_is, own_life}
 use Rattle.psci_settle.specs.Waiting.{IsNamed, WaitingIn}
 use Rattle.psci_settle.proofs.Calls.{call_waits, entry_waits}

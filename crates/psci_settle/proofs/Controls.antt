@@ -1,10 +1,9 @@
 -- What waits, after each effect of the power controller.
 use Rattle.std.proofs.Common.{◌≡◌, ℕ, zero, suc, inl, inr, ◌+◌, ◌<◌, ◌≤◌, Bool, true, false, ◌==◌}
-use Rattle.std.proofs.Common.{◌&&◌, cond, List, [], ◌∷◌, length, take, Option, None, Some, refl}
-use Rattle.std.proofs.Common.{arith, subst, ap, sym, ◌∙◌}
+use Rattle.std.proofs.Common.{cond, List, [], ◌∷◌, take, Some, refl, arith, subst, ap, sym, ◌∙◌}
 use Rattle.std.specs.Prelude.{nat_lt, slice_get}
-use Rattle.std.proofs.lemmas.Bool.{and_cases, and_from, and_parts, cond-false, cond-true}
-use Rattle.std.proofs.lemmas.Bool.{eq-eqb, eqb-false, eqb-true, leb-false, ltb-false}
+use Rattle.std.proofs.lemmas.Bool.{and_cases, and_parts, cond-true}
+use Rattle.std.proofs.lemmas.Bool.{eq-eqb, eqb-false, eqb-true, ltb-false}
 use Rattle.std.proofs.lemmas.Option.{none-some, slice_get_within}
 use Rattle.psci_board.specs.Board.{BoardValue, cores, height, up}
 use Rattle.psci_coord.specs.declared.part.Part.{Part}
@@ -12,12 +11,11 @@ use Rattle.psci_coord.specs.View.{domain_of}
 use Rattle.psci_ctl_model.specs.declared.start.Cause.{Cause}
 use Rattle.psci_ctl_model.specs.declared.start.Cause.TheVariants as causes
 use Rattle.psci_ctl_model.specs.Changes.{change, one_more}
-use Rattle.psci_ctl_model.specs.Effects.{Effect, Nothing, Starts, Deepens, Ends, Begins}
-use Rattle.psci_ctl_model.specs.Effects.{message_effect}
-use Rattle.psci_ctl_model.specs.Follows.{IsFront, MayFollow}
+use Rattle.psci_ctl_model.specs.Effects.{Nothing, Starts, Deepens}
+use Rattle.psci_ctl_model.specs.Follows.{IsFront}
 use Rattle.psci_ctl_model.specs.Laws.{AckLaws, SumLaws}
 use Rattle.psci_ctl_model.specs.Parts.{applied, is_stale}
-use Rattle.psci_ctl_model.specs.Replies.{ack_by, ack_of, may_follow}
+use Rattle.psci_ctl_model.specs.Replies.{ack_of, may_follow}
 use Rattle.psci_ctl_model.specs.Values as controlled
 use Rattle.psci_ctl_model.proofs.Front.{take_get}
 use Rattle.psci_link.specs.declared.kind.Kind.{Kind}
@@ -29,8 +27,8 @@ use Rattle.psci_fw_model.specs.Values.{Values}
 use Rattle.psci_fw_laws.specs.Claims.{AreApart}
 use Rattle.psci_fw_laws.specs.KnownBelow.{known_below}
 use Rattle.psci_fw_laws.specs.Live.{AreLive}
-use Rattle.psci_fw_laws.specs.Messages.{AreSent, IsSent, known_on}
-use Rattle.psci_settle.specs.Waiting.{AreWaiting, IsLivePart, IsNamed, IsTold, WaitingIn, WasTold}
+use Rattle.psci_fw_laws.specs.Messages.{AreSent, IsSent}
+use Rattle.psci_settle.specs.Waiting.{AreWaiting, IsNamed, IsTold, WaitingIn, WasTold}
 use Rattle.psci_settle.proofs.Deepening.{AreApplied, waiting_deepened}
 use Rattle.psci_settle.proofs.Starting.{same_sum, waiting_started}
 use Rattle.psci_settle.proofs.Taking.{named}
@@ -47,7 +45,8 @@ pub record IsKnown (b : BoardValue) (life : ℕ) (starts : ℕ → ℕ) (v : Val
   pub live : AreLive b life v.known v.phase sent starts
   pub le : (c : ℕ) → v.known c ≤ starts c
   -- sums of known starts are no larger than sums of starts
-  pub below : (level place : ℕ) → known_below b v.known level place ≤ known_below b starts level place
+  pub below : (level place : ℕ)
+      → known_below b v.known level place ≤ known_below b starts level place
 
 no_item : (ps : List Part) (level : ℕ) (p : Part) → ps ≡ [] → slice_get ps level ≡ Some p → ⊥
 no_item ps level p e at = none-some p (ap (λ qs. slice_get qs level) (sym e) ∙ at)

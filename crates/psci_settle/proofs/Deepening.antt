@@ -1,14 +1,13 @@
 -- What waits, after parts of a Down were applied.
-use Rattle.std.proofs.Common.{◌≡◌, ℕ, inl, inr, ◌+◌, ◌<◌, ◌≤◌, Bool, true, false, ◌==◌, ◌&&◌, cond}
-use Rattle.std.proofs.Common.{List, length, Option, None, Some, refl, arith, subst, ap, sym, ◌∙◌}
+use Rattle.std.proofs.Common.{◌≡◌, ℕ, inl, inr, Bool, true, false, ◌==◌, cond}
+use Rattle.std.proofs.Common.{List, Option, None, Some, refl, arith, ap, sym, ◌∙◌}
 use Rattle.std.specs.Prelude.{nat_le, slice_get}
-use Rattle.std.proofs.lemmas.Bool.{and_parts, cases_Bool, cond-true, cond-false, eqb-true}
+use Rattle.std.proofs.lemmas.Bool.{and_parts, eqb-true}
 use Rattle.std.proofs.lemmas.Option.{same_Some}
-use Rattle.psci_board.specs.Board.{BoardValue, HasNode, height, up}
-use Rattle.psci_board.specs.declared.node.Node.{Node}
+use Rattle.psci_board.specs.Board.{BoardValue, height, up}
 use Rattle.psci_coord.specs.declared.part.Part.{Part}
 use Rattle.psci_ctl_model.specs.Parts.{depth_or, laid}
-use Rattle.psci_ctl_model.specs.Values.{is_on_path, starts_below}
+use Rattle.psci_ctl_model.specs.Values.{is_on_path}
 use Rattle.psci_link.specs.declared.kind.Kind.TheVariants.{Down}
 use Rattle.psci_link.specs.Message.{AckValue, MessageValue}
 use Rattle.psci_link.specs.Slots.{Slot}
@@ -17,7 +16,7 @@ use Rattle.psci_fw_laws.specs.Claims.{AreApart}
 use Rattle.psci_fw_laws.specs.KnownBelow.{known_below}
 use Rattle.psci_fw_laws.proofs.Consequences.{once}
 use Rattle.psci_fw_laws.proofs.Parts.{part_from}
-use Rattle.psci_settle.specs.Waiting.{AreWaiting, IsLivePart, IsTold, WasTold}
+use Rattle.psci_settle.specs.Waiting.{AreWaiting, IsLivePart}
 use Rattle.psci_settle.proofs.Taking.{named}
 use Rattle.psci_settle.proofs.Starting.{same_sum}
 

@@ -1,12 +1,13 @@
 pub mod Answering
-pub mod Applied
 pub mod Applying
 pub mod Arrivals
 pub mod Beginning
+pub mod BoardLaws
 pub mod Bound
 pub mod Calls
 pub mod Carried
 pub mod Claimed
+pub mod ControllerSteps
 pub mod Controls
 pub mod Counting
 pub mod Covering
@@ -14,8 +15,10 @@ pub mod Deepening
 pub mod Downs
 pub mod Emptying
 pub mod Finding
+pub mod FirmwareSteps
 pub mod Folding
 pub mod Going
+pub mod Nexts
 pub mod Pursuing
 pub mod Resting
 pub mod Rounds
@@ -28,4 +31,5 @@ pub mod Starting
 pub mod Starts
 pub mod Taking
 pub mod Telling
+pub mod Unclaimed
 pub mod Waited

@@ -1,65 +1,18 @@
 -- What waits, after what the firmware's calls and entries change.
-use Rattle.std.proofs.Common.{◌≡◌, ℕ, zero, suc, ◌⊎◌, inl, inr, ◌<◌, Bool, true, false, List, ◌∷◌}
-use Rattle.std.proofs.Common.{Option, Some, refl, arith, subst, ap, sym, ◌∙◌}
+use Rattle.std.proofs.Common.{◌≡◌, ℕ, zero, suc, inl, inr, Bool, true, false, List, ◌∷◌}
+use Rattle.std.proofs.Common.{Option, Some, subst, ap, sym, ◌∙◌}
 use Rattle.std.specs.Prelude.{slice_get}
 use Rattle.std.proofs.lemmas.Bool.{cases_eq}
-use Rattle.psci_board.specs.Board.{BoardValue, cores, up}
-use Rattle.psci_coord.specs.declared.part.Part.{Part}
+use Rattle.psci_board.specs.Board.{BoardValue}
 use Rattle.psci_link.specs.declared.kind.Kind.TheVariants.{Down, Start}
 use Rattle.psci_link.specs.Message.{AckValue, MessageValue}
 use Rattle.psci_link.specs.Slots.{Clear, OfCore, OfSystem, Put, Slot, changed, slot_of}
-use Rattle.psci_fw_model.specs.Phases.{Phase, Pending, Running}
+use Rattle.psci_fw_model.specs.Phases.{Phase, Pending}
 use Rattle.psci_fw_model.specs.Values.{updated}
-use Rattle.psci_fw_laws.specs.Claims.{IsClaimOn}
-use Rattle.psci_fw_laws.specs.Live.{AreLive}
-use Rattle.psci_fw_laws.proofs.Parts.{part_from, updated_at, updated_here, updated_there}
-use Rattle.psci_settle.specs.Waiting.{AreWaiting, AwaitsStart, IsLivePart, IsNamed, IsPursued}
-use Rattle.psci_settle.specs.Waiting.{WasTold}
+use Rattle.psci_fw_laws.proofs.Parts.{updated_at, updated_here, updated_there}
+use Rattle.psci_settle.specs.Waiting.{AreWaiting, IsNamed, IsPursued, WasTold}
 use Rattle.psci_settle.proofs.Slots.{clear_there, put_here, put_system, put_there}
-
--- Cores without a live claim -------------------------------------------------------------------
-
--- no part of a Down of this core is live
-abbrev pub NoneLive : BoardValue → ℕ → (ℕ → ℕ) → List MessageValue → ℕ → Type 0
-NoneLive b life starts sent c = (k level : ℕ) (m : MessageValue) (p : Part)
-    → slice_get sent k ≡ Some m → m.life ≡ life → m.kind ≡ Down → m.core.number ≡ c
-    → slice_get m.parts level ≡ Some p → IsLivePart b starts m level p → ⊥
-
--- a part of a Down is a claim
-pub part_claims : (b : BoardValue) (life : ℕ) (sent : List MessageValue) (k level : ℕ)
-    (m : MessageValue) (p : Part) → slice_get sent k ≡ Some m → m.life ≡ life → m.kind ≡ Down
-    → slice_get m.parts level ≡ Some p
-    → IsClaimOn b life level (up b level m.core.number) p sent
-part_claims b life sent k level m p at present kind part = inr (record {
-  index = k;
-  message = m;
-  at = at;
-  part = part_from b life level (up b level m.core.number) m p
-      (record { kind = kind; present = present; on = refl; part = part });
-})
-
-pub none_live_running : (b : BoardValue) (life : ℕ) (known : ℕ → ℕ) (phase : ℕ → Phase)
-    (sent : List MessageValue) (starts : ℕ → ℕ) (c : ℕ)
-    → AreLive b life known phase sent starts → c < cores b → phase c ≡ Running
-    → NoneLive b life starts sent c
-none_live_running b life known phase sent starts c are on runs k level m p at present kind core
-    part live =
-    are.rests level (up b level m.core.number) c p
-    (part_claims b life sent k level m p at present kind part) live on (ap (up b level) (sym core))
-    runs
-
-pub none_live_started : (b : BoardValue) (life : ℕ) (known : ℕ → ℕ) (phase : ℕ → Phase)
-    (sent : List MessageValue) (starts : ℕ → ℕ) (c : ℕ)
-    → AreLive b life known phase sent starts → c < cores b → known c < starts c
-    → NoneLive b life starts sent c
-none_live_started b life known phase sent starts c are on later k level m p at present kind core
-    part live =
-    let same = are.entered level (up b level m.core.number) c p
-    (part_claims b life sent k level m p at present kind part) live on
-    (ap (up b level) (sym core)) in
-    omega (arith, later, same)
-
--- Changes --------------------------------------------------------------------------------------
+use Rattle.psci_settle.proofs.Unclaimed.{NoneLive}
 
 -- a core is of another phase, and as pending as before
 pub waiting_phase : (b : BoardValue) (life : ℕ) (starts : ℕ → ℕ) (depth : ℕ → ℕ → ℕ)

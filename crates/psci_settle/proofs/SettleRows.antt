@@ -1,6 +1,5 @@
 -- Worked examples of how the world settles, by computation.
 use Rattle.std.proofs.Common.{◌≡◌, ◌++◌, ℕ, List, [], ◌∷◌, true, false, map, reverse, refl}
-use Rattle.psci_board.specs.Board.{BoardValue}
 use Rattle.psci_world_model.specs.declared.event.Event.{Event}
 use Rattle.psci_world_model.specs.declared.event.Event.TheVariants.{Enter, Reset, Deliver, Take}
 use Rattle.psci_world_model.specs.declared.said.Record.{Record}

@@ -2,7 +2,8 @@
 use Rattle.std.proofs.Common.{◌≡◌, ℕ, ◌⊎◌, inl, inr, ◌<◌, Bool, true, false, ◌==◌, cond}
 use Rattle.std.proofs.Common.{List, Some, refl, arith, sym, ◌∙◌}
 use Rattle.std.specs.Prelude.{nat_le}
-use Rattle.std.proofs.lemmas.Bool.{and_cases, and_from, eqb-false, le-leb, leb-false, lt-ltb, ne_eqb}
+use Rattle.std.proofs.lemmas.Bool.{and_cases, and_from, eqb-false, le-leb, leb-false, lt-ltb}
+use Rattle.std.proofs.lemmas.Bool.{ne_eqb}
 use Rattle.psci_board.specs.Board.{BoardValue, HasNode, height, up}
 use Rattle.psci_board.specs.declared.node.Node.{Node}
 use Rattle.psci_ctl_model.specs.History as controls
@@ -13,7 +14,7 @@ use Rattle.psci_fw_laws.specs.Claims.{IsFromStart}
 use Rattle.psci_world_model.specs.declared.said.Record.{Record}
 use Rattle.psci_world_model.specs.Histories.{controller_history, controller_values}
 use Rattle.psci_world_model.specs.Legal.{IsAnswered}
-use Rattle.psci_settle.proofs.Applied.{was_sent}
+use Rattle.psci_world_laws.proofs.Applied.{was_sent}
 use Rattle.psci_settle.proofs.Standing.{HasLive}
 use Rattle.psci_settle.proofs.Starting.{same_sum}
 

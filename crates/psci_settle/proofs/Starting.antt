@@ -1,21 +1,19 @@
 -- What waits, after a core was started.
-use Rattle.std.proofs.Common.{◌≡◌, ℕ, suc, inl, inr, ◌+◌, ◌<◌, ◌≤◌, Bool, true, false, ◌==◌, cond}
-use Rattle.std.proofs.Common.{List, length, Option, Some, refl, arith, subst, ap, sym, ◌∙◌}
+use Rattle.std.proofs.Common.{◌≡◌, ℕ, inl, inr, ◌+◌, ◌≤◌, Bool, true, false, ◌==◌, cond}
+use Rattle.std.proofs.Common.{List, Option, Some, refl, arith, sym, ◌∙◌}
 use Rattle.std.specs.Prelude.{slice_get}
 use Rattle.std.proofs.lemmas.Bool.{cases_Bool, cases_eq, cond-true, cond-false, eq-eqb, ne_eqb}
-use Rattle.std.proofs.lemmas.Option.{slice_get_within}
-use Rattle.psci_board.specs.Board.{BoardValue, HasNode, cores, height, up}
+use Rattle.psci_board.specs.Board.{BoardValue, height, up}
 use Rattle.psci_board.specs.declared.node.Node.{Node}
 use Rattle.psci_coord.specs.declared.part.Part.{Part}
 use Rattle.psci_ctl_model.specs.Changes.{one_more, with_path_on}
 use Rattle.psci_ctl_model.specs.Values.{is_on_path, starts_below}
-use Rattle.psci_link.specs.declared.kind.Kind.TheVariants.{Down, Start}
 use Rattle.psci_link.specs.Message.{AckValue, MessageValue}
 use Rattle.psci_link.specs.Slots.{Slot}
 use Rattle.psci_fw_model.specs.Phases.{Phase}
 use Rattle.psci_fw_laws.specs.KnownBelow.{known_below}
 use Rattle.psci_fw_laws.specs.Messages.{known_on}
-use Rattle.psci_settle.specs.Waiting.{AreWaiting, IsLivePart, IsTold, WasTold}
+use Rattle.psci_settle.specs.Waiting.{AreWaiting, IsLivePart, IsTold}
 use Rattle.psci_settle.proofs.Taking.{named}
 
 -- Sums -----------------------------------------------------------------------------------------

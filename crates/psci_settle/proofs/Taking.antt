@@ -1,21 +1,19 @@
 -- What waits, after an acknowledgement was taken.
-use Rattle.std.proofs.Common.{◌≡◌, ℕ, ◌⊎◌, inl, inr, ◌<◌, ◌≤◌, Bool, true, false, ◌==◌, ◌&&◌, ◌||◌}
-use Rattle.std.proofs.Common.{not, cond, List, length, Option, None, Some, refl, arith, subst, ap}
-use Rattle.std.proofs.Common.{sym, ◌∙◌}
-use Rattle.std.specs.Prelude.{nat_le, slice_get}
+use Rattle.std.proofs.Common.{◌≡◌, ℕ, ◌⊎◌, inl, inr, Bool, true, false, ◌==◌, ◌&&◌, not, cond, List}
+use Rattle.std.proofs.Common.{length, Option, None, Some, refl, arith, subst, ap, sym, ◌∙◌}
+use Rattle.std.specs.Prelude.{slice_get}
 use Rattle.std.proofs.lemmas.Bool.{and_parts, cases_lt, eqb-true, leb-true, or_cases}
 use Rattle.std.proofs.lemmas.Option.{same_Some, slice_get_within}
-use Rattle.psci_board.specs.Board.{BoardValue, cores, up}
+use Rattle.psci_board.specs.Board.{BoardValue, up}
 use Rattle.psci_coord.specs.declared.part.Part.{Part}
 use Rattle.psci_link.specs.declared.kind.Kind.{Kind}
 use Rattle.psci_link.specs.declared.kind.Kind.TheVariants.{Down, Start, Off, Reset}
 use Rattle.psci_link.specs.Message.{AckValue, MessageValue}
 use Rattle.psci_link.specs.Slots.{Acknowledge, OfCore, Slot, answers, changed, is_done, is_kind}
-use Rattle.psci_link.specs.Slots.{is_slot, left_by, slot_of}
-use Rattle.psci_fw_model.specs.Phases.{Phase, Pending}
+use Rattle.psci_link.specs.Slots.{is_slot, slot_of}
+use Rattle.psci_fw_model.specs.Phases.{Phase}
 use Rattle.psci_fw_laws.specs.Outstanding.{AreOutstanding}
-use Rattle.psci_settle.specs.Waiting.{AreWaiting, AwaitsStart, IsLivePart, IsTold}
-use Rattle.psci_settle.specs.Waiting.{WasTold}
+use Rattle.psci_settle.specs.Waiting.{AreWaiting, AwaitsStart, IsLivePart, IsTold, WasTold}
 
 -- Names ----------------------------------------------------------------------------------------
 

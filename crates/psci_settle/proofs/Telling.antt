@@ -1,8 +1,7 @@
 -- What a new acknowledgement says, once its message was carried out.
-use Rattle.std.proofs.Common.{◌≡◌, ℕ, zero, suc, inl, inr, ◌+◌, ◌-◌, ◌<◌, ◌≤◌, Bool, true, false}
-use Rattle.std.proofs.Common.{◌==◌, ◌&&◌, cond, List, [], ◌∷◌, length, take, Some, refl, arith}
-use Rattle.std.proofs.Common.{subst, ap, sym, ◌∙◌}
-use Rattle.std.specs.Prelude.{nat_le, slice_get}
+use Rattle.std.proofs.Common.{◌≡◌, ℕ, zero, suc, ◌+◌, ◌-◌, ◌<◌, ◌≤◌, Bool, true, List, [], ◌∷◌}
+use Rattle.std.proofs.Common.{length, take, Some, refl, arith, subst, ap, sym, ◌∙◌}
+use Rattle.std.specs.Prelude.{slice_get}
 use Rattle.std.proofs.lemmas.Bool.{and_from, cond-true, eq-eqb, le-leb}
 use Rattle.std.proofs.lemmas.Option.{same_Some, slice_get_within}
 use Rattle.psci_board.specs.Board.{BoardValue, height, up}
@@ -15,7 +14,7 @@ use Rattle.psci_ctl_model.specs.Values.{Values, is_on_path, starts_below}
 use Rattle.psci_ctl_model.proofs.Front.{get_take}
 use Rattle.psci_link.specs.declared.kind.Kind.{Kind}
 use Rattle.psci_link.specs.declared.kind.Kind.TheVariants.{Down, Start, Off, Reset}
-use Rattle.psci_link.specs.Message.{AckValue, MessageValue}
+use Rattle.psci_link.specs.Message.{MessageValue}
 use Rattle.psci_link.specs.Slots.{answers, is_kind}
 use Rattle.psci_settle.specs.Waiting.{IsLivePart, IsTold}
 use Rattle.psci_settle.proofs.Starting.{same_sum}
@@ -27,7 +26,8 @@ own_kind Off = refl
 own_kind Reset = refl
 
 -- an acknowledgement has the name of its message
-pub own_name : (m : MessageValue) (count : ℕ) (stale : Bool) → answers (ack_of m count stale) m ≡ true
+pub own_name : (m : MessageValue) (count : ℕ) (stale : Bool)
+    → answers (ack_of m count stale) m ≡ true
 own_name m count stale =
     and_from _ _ (own_kind m.kind) (and_from _ _ (eq-eqb m.core.number m.core.number refl)
     (and_from _ _ (eq-eqb m.life m.life refl) (eq-eqb m.number m.number refl)))

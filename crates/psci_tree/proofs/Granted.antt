@@ -132,7 +132,8 @@ size_of_level [] (suc l) h = absurd (omega arith)
 size_of_level (w ∷ ws) zero h = refl
 size_of_level (w ∷ ws) (suc l) h = size_of_level ws l (omega arith)
 
-pub length_level_sizes : (levels : List (List ℕ)) → length (level_sizes levels) ≡ suc (length levels)
+pub length_level_sizes : (levels : List (List ℕ))
+    → length (level_sizes levels) ≡ suc (length levels)
 length_level_sizes [] = refl
 length_level_sizes (w ∷ ws) = ap suc (length_level_sizes ws)
 

@@ -8,7 +8,8 @@ use Rattle.psci_board.specs.declared.node.Node.{Node}
 use Rattle.psci_board.specs.Board.{IsTree, HasNodeIn, size_below, place_above}
 use Rattle.psci_tree.specs.Recount.{TreeValue, IsActivity, IsDomainTree, never_started}
 use Rattle.psci_tree.specs.Recount.{granted_at, level_sizes}
-use Rattle.psci_tree.specs.Changes.{with_path_cleared, with_grant, rows_with_depth, all_off, MayGrant}
+use Rattle.psci_tree.specs.Changes.{with_path_cleared, with_grant, rows_with_depth, all_off}
+use Rattle.psci_tree.specs.Changes.{MayGrant}
 use Rattle.psci_tree.specs.declared.state.CoreState.{CoreState}
 use Rattle.psci_tree.proofs.Granted.{zero_at, zero_lengths, same_up, place_lt, size_of_level}
 use Rattle.psci_tree.proofs.Granted.{row_lengths, grant_at, rows_at}
@@ -24,7 +25,8 @@ zero_both true c x y h e = omega arith
 zero_both false false x y h e = e
 zero_both false true x y h e = absurd (let no : false ≡ true = h refl in cc)
 
-pub path_valid : (t : TreeValue) (core : ℕ) → IsDomainTree t → IsDomainTree (with_path_cleared t core)
+pub path_valid : (t : TreeValue) (core : ℕ) → IsDomainTree t
+    → IsDomainTree (with_path_cleared t core)
 path_valid t core v = record {
   tree = v.tree;
   high = v.high;

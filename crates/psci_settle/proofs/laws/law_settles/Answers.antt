@@ -2,7 +2,7 @@
 use Rattle.std.proofs.Common.{subst, sym}
 use Rattle.psci_world_model.specs.Histories.{controller_history, firmware_history, firmware_values}
 use Rattle.psci_world_model.proofs.Answered.{controller_answered, firmware_legal}
-use Rattle.psci_fw_laws.specs.Kept.{Holds}
+use Rattle.psci_settle.proofs.BoardLaws.{BoardLaws, is_given}
 use Rattle.psci_settle.proofs.Settled.{settles}
 use Rattle.psci_settle.proofs.Sources.{live_depth}
 use Rattle.psci_settle.proofs.Standing.{IsDeeper}
@@ -10,9 +10,7 @@ use Rattle.psci_settle.proofs.laws.law_settles.Goals as goal
 
 pub returns : goal.returns
 returns c = λ b past board is awake.
-    let reached = settles b past (record {
-      some = (c.law_sizes.ensures b board).some 0;
-      kids = c.law_children.ensures b board;
+    let laws : BoardLaws b = record {
       runs = record {
         begins = c.law_values.ensures.first b;
         after = c.law_values.ensures.more b;
@@ -26,41 +24,34 @@ returns c = λ b past board is awake.
           asks_on = c.law_caller.ensures.asks_on b;
         };
       };
-      past = λ before legal.
-          let agree = c.law_agreement.ensures b before board legal in
-          let controls = c.law_controlled.ensures b before board legal in
-          let limits = c.law_limits.ensures.legal b (controller_history b before) board controls in
-          let calls = firmware_legal b before legal in
-          let same = sym (c.law_sent.ensures b before legal) in
-          record {
-            given = record {
-              sums = c.law_generations.ensures b;
-              parts = c.law_parts.ensures.parts;
-              paths = c.law_paths.ensures b board;
-              acks = λ u core ps. c.law_acknowledgements.ensures b u core ps;
-              callers = record {
-                goes_on = c.law_caller.ensures.goes_on b;
-                asks_on = c.law_caller.ensures.asks_on b;
-              };
-              agreed = record {
-                begun = agree.begun;
-                stopped = agree.stopped;
-                present = agree.present;
-              };
-              holds = subst (Holds b (firmware_values b before)) same
-                  (c.law_kept.ensures.kept b (firmware_history b before) board calls);
-              lives = limits.last;
-            };
-            values = limits;
-            waits = c.law_waiting.ensures b before board legal;
-            free = c.law_never_refused.ensures b before board legal;
-            deeper = subst (IsDeeper b (firmware_values b before)) same
-                (c.law_granted.ensures.deeper b (firmware_history b before) board calls);
-            claimed = λ life level place has present some.
-                live_depth b before life level place has (controller_answered b before legal)
-                (c.law_depths.ensures b (controller_history b before) level place life board
-                controls has.level)
-                present some;
-          };
+      sums = c.law_generations.ensures b;
+      parts = c.law_parts.ensures.parts;
+      paths = c.law_paths.ensures b board;
+      acks = λ u core ps. c.law_acknowledgements.ensures b u core ps;
+      agree = λ before legal. c.law_agreement.ensures b before board legal;
+      values = λ before legal. c.law_limits.ensures.legal b (controller_history b before) board
+          (c.law_controlled.ensures b before board legal);
+      sent = λ before legal. c.law_sent.ensures b before legal;
+      kept = λ before legal. c.law_kept.ensures.kept b (firmware_history b before) board
+          (firmware_legal b before legal);
+    } in
+    let reached = settles b past (record {
+      some = (c.law_sizes.ensures b board).some 0;
+      kids = c.law_children.ensures b board;
+      runs = laws.runs;
+      past = λ before legal. record {
+        given = is_given b before laws legal;
+        values = laws.values before legal;
+        waits = c.law_waiting.ensures b before board legal;
+        free = c.law_never_refused.ensures b before board legal;
+        deeper = subst (IsDeeper b (firmware_values b before)) (sym (laws.sent before legal))
+            (c.law_granted.ensures.deeper b (firmware_history b before) board
+            (firmware_legal b before legal));
+        claimed = λ life level place has present some.
+            live_depth b before life level place has (controller_answered b before legal)
+            (c.law_depths.ensures b (controller_history b before) level place life board
+            (laws.runs.controls before legal) has.level)
+            present some;
+      };
     }) is awake in
     (reached.added, reached.is, reached.settled)

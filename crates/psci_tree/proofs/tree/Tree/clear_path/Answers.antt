@@ -1,5 +1,5 @@
-use Rattle.std.proofs.Common.{◌≡◌, ◌<◌, ◌++◌, ◌∙◌, arith, ap, sym, subst, map, length, take, drop, ℕ}
-use Rattle.std.proofs.Common.{List}
+use Rattle.std.proofs.Common.{◌≡◌, ◌<◌, ◌++◌, ◌∙◌, arith, ap, sym, subst, map, length, take}
+use Rattle.std.proofs.Common.{drop, ℕ, List}
 use Rattle.std.proofs.lemmas.List.{with_items_is}
 use Rattle.psci_board.specs.declared.node.Node.{Node}
 use Rattle.psci_board.specs.Board.{HasNodeIn, size_below}
