@@ -1,5 +1,5 @@
 -- What the world is once all started cores have entered, and what the rounds lead to.
-use Rattle.std.proofs.Common.{◌≡◌, ◌<◌, ◌+◌, ◌-◌, ◌≤◌, ℕ, suc, zero, Bool, true, false, List, refl, ap}
+use Rattle.std.proofs.Common.{◌≡◌, ◌<◌, ◌+◌, ◌-◌, ℕ, suc, zero, true, false, List, refl, ap}
 use Rattle.std.proofs.Common.{sym, ◌∙◌, arith}
 use Rattle.psci_board.specs.Board.{BoardValue, height}
 use Rattle.psci_settle.specs.Settling.{Reached, all_cores, answered, begun, each_core, entering}

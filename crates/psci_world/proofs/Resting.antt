@@ -1,5 +1,5 @@
 -- A world that does not halt comes to rest.
-use Rattle.std.proofs.Common.{◌≡◌, ℕ, Bool, true, false, List, ◌++◌, Ok, Err, subst, sym, ◌∙◌}
+use Rattle.std.proofs.Common.{◌≡◌, List, ◌++◌, Ok, Err, ◌∙◌}
 use Rattle.std.specs.Prelude.{IfOk, Result}
 use Rattle.psci_board.specs.Board.{BoardValue}
 use Rattle.psci_board.specs.declared.fault.Memory.{Memory}

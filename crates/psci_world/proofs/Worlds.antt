@@ -10,9 +10,8 @@ use Rattle.psci_world_model.specs.declared.said.Record.{Record}
 use Rattle.psci_world_model.specs.declared.said.Said.{Said}
 use Rattle.psci_world_model.specs.Histories.{ack_in, acks, sent, sent_in}
 use Rattle.psci_world_model.specs.Legal.{IsLegalPast, legal}
-use Rattle.psci_world.specs.Next.{IsNext}
-use Rattle.psci_world.specs.Seen.{IsAfter, IsWorld, MachineValue, board_of}
-use Rattle.psci_world.proofs.Following.{HistoryLaws, follows}
+use Rattle.psci_machine.specs.Seen.{IsAfter, MachineValue, board_of}
+use Rattle.psci_world.specs.Seen.{IsWorld}
 
 -- a world of no records
 first_of : (b : BoardValue) (m : MachineValue) → board_of m ≡ b → IsAfter b [] m
@@ -52,31 +51,30 @@ record IsPast (b : BoardValue) (past : List Record) (m : MachineValue)
   pub messages : sends ≡ reverse (sent past)
   pub acks : made ≡ reverse (acks past)
 
-next_past : (past : List Record) (old new : MachineValue) (sends : List MessageValue)
-    (made : List AckValue) (event : Event) (said : Said) → HistoryLaws (board_of old)
-    → IsPast (board_of old) past old sends made
-    → said ≡ legal (board_of old) past event → IsNext sends made old event said new
-    → IsPast (board_of old) (record { event = event; said = said } ∷ past) new
+next_past : (b : BoardValue) (past : List Record) (old new : MachineValue)
+    (sends : List MessageValue) (made : List AckValue) (event : Event) (said : Said)
+    → IsPast b past old sends made → said ≡ legal b past event
+    → IsAfter b (record { event = event; said = said } ∷ past) new
+    → IsPast b (record { event = event; said = said } ∷ past) new
     (sends ++ listed (sent_in said)) (made ++ listed (ack_in said))
 unfolding sent acks
-next_past past old new sends made event said laws is says next = record {
+next_past b past old new sends made event said is says after = record {
   legal = (says, is.legal);
-  machine = follows (board_of old) past sends made old new event said laws is.machine is.messages
-      is.acks next;
+  machine = after;
   messages = one_more sends (sent past) (sent_in said) is.messages;
   acks = one_more made (acks past) (ack_in said) is.acks;
 }
 
 pub next_world : (old new : MachineValue) (records after : List Record)
     (sends sends_after : List MessageValue) (made made_after : List AckValue) (event : Event)
-    (said : Said) → HistoryLaws (board_of old) → IsWorld old records sends made
+    (said : Said) → IsWorld old records sends made
     → said ≡ legal (board_of old) (reverse records) event
-    → IsNext sends made old event said new
+    → IsAfter (board_of old) (record { event = event; said = said } ∷ reverse records) new
     → after ≡ records ++ (record { event = event; said = said } ∷ [])
     → sends_after ≡ sends ++ listed (sent_in said) → made_after ≡ made ++ listed (ack_in said)
     → IsWorld new after sends_after made_after
-next_world old new records after sends sends_after made made_after event said laws is says next
-    more more_sent more_made =
+next_world old new records after sends sends_after made made_after event said is says next more
+    more_sent more_made =
     let r : Record = record { event = event; said = said } in
     let whole : IsPast (board_of old) (reverse records) old sends made =
     record { legal = is.legal; machine = is.machine; messages = is.messages; acks = is.acks } in
@@ -84,7 +82,7 @@ next_world old new records after sends sends_after made made_after event said la
     (made ++ listed (ack_in said)) =
     subst (λ (b : BoardValue). IsPast b (r ∷ reverse records) new
     (sends ++ listed (sent_in said)) (made ++ listed (ack_in said))) (sym next.board)
-    (next_past (reverse records) old new sends made event said laws whole says next) in
+    (next_past (board_of old) (reverse records) old new sends made event said whole says next) in
     let turned : r ∷ reverse records ≡ reverse after =
     sym (reverse-append records (r ∷ [])) ∙ ap reverse (sym more) in
     let there : IsPast (board_of new) (reverse after) new (sends ++ listed (sent_in said))

@@ -1,19 +1,15 @@
 //! The world: the firmware, the power controller and the cores, in a run over a list of events.
 //! The words and the definitions are those of `psci_world_model`.
 //!
-//! - The *machine* is all that an event changes beside the lists: the firmware, the power
-//!   controller, and where each core is.
+//! - The *machine* of `psci_machine` is all that an event changes beside the lists: the firmware,
+//!   the power controller, and where each core is.
 //! - The *world* is the machine with all records, messages and acknowledgements so far.
 #![tactic(auto)]
 
-mod asking;
 mod kept;
-mod machine;
 mod outstanding;
-mod place;
 mod runs;
 mod settling;
-mod starting;
 mod world;
 
 pub use psci_abi::{Code, Regs};

@@ -1,15 +1,14 @@
 //! The world of one board.
 
 use crate::kept::{keep_ack, keep_message};
-use crate::machine::Machine;
 use psci_board::{Board, Core, Memory};
 use psci_ctl::Controller;
-use psci_ctl_model as controls;
 use psci_fw::Firmware;
 use psci_fw_laws::law_messages;
-use psci_fw_model::law_values;
 use psci_headline::law_safe;
 use psci_link::{Ack, Message};
+use psci_machine::Machine;
+use psci_world_laws::law_sent;
 use psci_world_model::{Event, Place, Record, law_histories};
 use std::alloc::Global;
 use std::marker::Model;
@@ -77,8 +76,7 @@ impl World {
         law_safe();
         law_histories();
         law_messages();
-        law_values();
-        controls::law_values();
+        law_sent();
         self.records.reserve(1)?;
         self.messages.reserve(1)?;
         self.acks.reserve(1)?;

@@ -1,5 +1,5 @@
 -- Core by core, until one has a message that is outstanding.
-use Rattle.std.proofs.Common.{◌≡◌, ◌∙◌, ◌<◌, ap, sym, arith}
+use Rattle.std.proofs.Common.{◌∙◌, ◌<◌, ap, sym, arith}
 use Rattle.std.specs.Prelude.{is_some}
 use Rattle.psci_board.specs.Board.{cores}
 use Rattle.psci_link.specs.Slots.{OfCore}

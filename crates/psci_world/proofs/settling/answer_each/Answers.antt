@@ -1,5 +1,5 @@
 -- Core by core, and as far as it went.
-use Rattle.std.proofs.Common.{◌≡◌, ◌∙◌, ◌<◌, ap, refl, rules, arith}
+use Rattle.std.proofs.Common.{◌∙◌, ◌<◌, ap, refl, arith}
 use Rattle.psci_board.specs.Board.{cores}
 use Rattle.psci_settle.specs.Settling.{answered, answering}
 use Rattle.psci_world.specs.Settles.{answers_kind}

@@ -2,8 +2,8 @@
 use Rattle.std.proofs.Common.{◌≡◌, ◌-◌}
 use Rattle.std.specs.List.{range_with_len}
 use Rattle.psci_board.specs.Board.{cores}
-use Rattle.psci_settle.specs.Settling.{all_cores, answered, each_core, entering}
-use Rattle.psci_world.specs.Settles.{SettlesBy, answers_kind}
+use Rattle.psci_settle.specs.Settling.{all_cores, each_core, entering}
+use Rattle.psci_world.specs.Settles.{SettlesBy}
 use Rattle.psci_world.proofs.settling.enter_started.Given as goal
 
 abbrev pub invariant-loop-number : goal.invariant-loop-number

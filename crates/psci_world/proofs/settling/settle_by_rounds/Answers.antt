@@ -1,6 +1,5 @@
 -- A halting world is as it was; any other settles.
-use Rattle.std.proofs.Common.{◌≡◌, ◌∙◌, ap, subst, sym}
-use Rattle.psci_settle.specs.Settling.{settled}
+use Rattle.std.proofs.Common.{ap}
 use Rattle.psci_world.specs.declared.settling.Settled.TheVariants.{Quiet}
 use Rattle.psci_world.proofs.Beginning.{all_settled}
 use Rattle.psci_world.proofs.Settles.{settles_both, settles_none}

@@ -1,12 +1,13 @@
 -- After an event the world has one record more.
 use Rattle.std.proofs.Common.{List, [], ◌∷◌, ◌++◌, reverse, ap, sym, ◌∙◌}
 use Rattle.psci_fw_model.specs.Said.{listed}
+use Rattle.psci_fw_model.specs.Sent.{sent_messages}
 use Rattle.psci_link.specs.Message.{AckValue, MessageValue}
+use Rattle.psci_machine.specs.Seen.{board_of}
 use Rattle.psci_world_model.specs.declared.said.Record.{Record}
-use Rattle.psci_world_model.specs.Histories.{ack_in, firmware_history, sent_in}
-use Rattle.psci_world.specs.Seen.{IsWorld, board_of}
+use Rattle.psci_world_model.specs.Histories.{ack_in, firmware_history, sent, sent_in}
+use Rattle.psci_world.specs.Seen.{IsWorld}
 use Rattle.psci_world.proofs.Booked.{sent_of_board}
-use Rattle.psci_world.proofs.Following.{HistoryLaws}
 use Rattle.psci_world.proofs.Worlds.{next_world}
 use Rattle.psci_world.proofs.world.World.step.Goals as goal
 
@@ -16,10 +17,6 @@ invariant_of-self-2 c =
     let b = board_of m in
     let records = c.self.inside.records.items in
     let said = c.step-said.result in
-    let laws : HistoryLaws b = record {
-      kept = c.law_values.ensures.more b;
-      controlled = c.law_values-2.ensures.more b;
-    } in
     let whole : IsWorld m records c.deref.result.now c.deref-2.result.now = record {
       legal = c.self.invariant.legal;
       machine = c.self.invariant.machine;
@@ -28,9 +25,9 @@ invariant_of-self-2 c =
     } in
     next_world m c.step-said.new.self records c.push.new.self.items c.deref.result.now
     c.keep_message.new.messages.items c.deref-2.result.now c.keep_ack.new.acks.items c.args.event
-    said laws whole
+    said whole
     (c.step-said.ensures.said b (reverse records) whole.machine whole.messages whole.acks)
-    c.step-said.ensures.next
+    (c.step-said.ensures.after b (reverse records) whole.machine whole.messages whole.acks)
     (c.in_ok-push.ensures.items
     ∙ ap (λ (l : List Record). l ++ (c.copy.result ∷ [])) c.reserve.ensures.items
     ∙ ap (λ (r : Record). records ++ (r ∷ [])) c.copy.ensures)
@@ -44,7 +41,8 @@ step-said-requires c =
     let b = board_of c.self.inside.machine in
     let past = reverse c.self.inside.records.items in
     let legal = c.self.invariant.legal in
-    sent_of_board b past c.deref.result.now legal
+    sent_of_board b (sent past) (sent_messages b (firmware_history b past)) c.deref.result.now
+    (c.law_sent.ensures b past legal)
     (λ k m e. (c.law_messages.ensures.sent b (firmware_history b past) c.law.ensures.board
     (c.law_histories.ensures.firmware b past legal) k m e).sound)
     (c.deref.ensures.value ∙ c.reserve-2.ensures.items ∙ c.self.invariant.messages)

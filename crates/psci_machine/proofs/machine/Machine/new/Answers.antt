@@ -2,7 +2,7 @@
 use Rattle.std.proofs.Common.{◌<◌, sym, subst, ◌∙◌}
 use Rattle.psci_world_model.specs.Histories.{controller_history, firmware_history}
 use Rattle.psci_world_model.specs.Places.{place}
-use Rattle.psci_world.proofs.machine.Machine.new.Goals as goal
+use Rattle.psci_machine.proofs.machine.Machine.new.Goals as goal
 
 pub returns-clause-after : goal.returns-clause-after
 unfolding firmware_history controller_history place

@@ -19,8 +19,8 @@ use Rattle.psci_world_model.specs.Histories.{acks, call, control, controller_his
 use Rattle.psci_world_model.specs.Histories.{controller_values, firmware_history}
 use Rattle.psci_world_model.specs.Histories.{sent}
 use Rattle.psci_world_model.specs.Places.{place}
-use Rattle.psci_world.specs.Next.{IsNext, controlled_after, kept_after, place_next}
-use Rattle.psci_world.specs.Seen.{IsAfter, MachineValue, board_of, place_in}
+use Rattle.psci_machine.specs.Next.{IsNext, controlled_after, kept_after, place_next}
+use Rattle.psci_machine.specs.Seen.{IsAfter, MachineValue, board_of, place_in}
 
 -- What histories say of one entry more, by the laws of the crates below.
 pub record HistoryLaws (b : BoardValue) : Type 0 where

@@ -8,8 +8,8 @@ use Rattle.psci_ctl_model.specs.declared.delivery.Delivery.TheVariants as delive
 use Rattle.psci_ctl_model.specs.declared.reply.CtlReply.TheVariants as replies
 use Rattle.psci_ctl_model.specs.Changes.{after}
 use Rattle.psci_ctl_model.specs.Replies.{reply}
-use Rattle.psci_world.proofs.Kicks.{delivered_by, delivery_next, reset_life}
-use Rattle.psci_world.proofs.machine.Machine.carry.Goals as goal
+use Rattle.psci_machine.proofs.Kicks.{delivered_by, delivery_next, reset_life}
+use Rattle.psci_machine.proofs.machine.Machine.carry.Goals as goal
 
 pub note_ack-requires-clause-life : goal.note_ack-requires-clause-life
 note_ack-requires-clause-life c =

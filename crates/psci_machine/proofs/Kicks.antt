@@ -30,8 +30,8 @@ use Rattle.psci_world_model.specs.Histories.{delivered}
 use Rattle.psci_world_model.specs.Legal.{if_stopped, on_board, said_by}
 use Rattle.psci_world_model.specs.Lists.{numbered}
 use Rattle.psci_world_model.specs.Places.{place_by, place_controlled}
-use Rattle.psci_world.specs.Next.{IsNext, controlled_after, place_kicked}
-use Rattle.psci_world.specs.Seen.{MachineValue, board_of, place_in}
+use Rattle.psci_machine.specs.Next.{IsNext, controlled_after, place_kicked}
+use Rattle.psci_machine.specs.Seen.{MachineValue, board_of, place_in}
 
 -- Wake-ups and resets --------------------------------------------------------------------------
 

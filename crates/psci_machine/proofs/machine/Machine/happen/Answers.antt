@@ -4,10 +4,10 @@ use Rattle.std.proofs.lemmas.List.{length-reverse}
 use Rattle.psci_world_model.specs.Histories.{acks, sent}
 use Rattle.psci_world_model.specs.Legal.{legal}
 use Rattle.psci_world_model.specs.declared.event.Event.{Event}
-use Rattle.psci_world.specs.Next.{IsNext}
-use Rattle.psci_world.proofs.Events.{call_legal, deliver_legal, enter_legal, reset_legal}
-use Rattle.psci_world.proofs.Events.{take_legal, wake_legal}
-use Rattle.psci_world.proofs.machine.Machine.step.Goals as goal
+use Rattle.psci_machine.specs.Next.{IsNext}
+use Rattle.psci_machine.proofs.Events.{call_legal, deliver_legal, enter_legal, reset_legal}
+use Rattle.psci_machine.proofs.Events.{take_legal, wake_legal}
+use Rattle.psci_machine.proofs.machine.Machine.happen.Goals as goal
 
 pub returns-in-Call-clause-said : goal.returns-in-Call-clause-said
 returns-in-Call-clause-said c = λ b past is sends makes.

@@ -22,7 +22,7 @@ use Rattle.psci_world_model.specs.declared.said.Said.{Said}
 use Rattle.psci_world_model.specs.declared.said.Said.TheVariants.{Ignored, Absent}
 use Rattle.psci_world_model.specs.Histories.{call, control}
 use Rattle.psci_world_model.specs.Places.{place_controlled, place_said}
-use Rattle.psci_world.specs.Seen.{MachineValue, board_of, place_in}
+use Rattle.psci_machine.specs.Seen.{MachineValue, board_of, place_in}
 
 -- What is said ---------------------------------------------------------------------------------
 

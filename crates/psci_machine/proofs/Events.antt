@@ -28,8 +28,8 @@ use Rattle.psci_world_model.specs.Legal.{deliver, if_running, if_started, if_sto
 use Rattle.psci_world_model.specs.Legal.{on_board, said_by, said_of, take}
 use Rattle.psci_world_model.specs.Lists.{numbered}
 use Rattle.psci_world_model.specs.Places.{place}
-use Rattle.psci_world.specs.Next.{if_entering, if_there}
-use Rattle.psci_world.specs.Seen.{IsAfter, MachineValue, board_of, place_in}
+use Rattle.psci_machine.specs.Next.{if_entering, if_there}
+use Rattle.psci_machine.specs.Seen.{IsAfter, MachineValue, board_of, place_in}
 
 -- Parts ----------------------------------------------------------------------------------------
 

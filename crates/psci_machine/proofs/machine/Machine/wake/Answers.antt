@@ -3,9 +3,9 @@ use Rattle.std.proofs.Common.{ap, sym, ◌∙◌}
 use Rattle.psci_ctl.specs.Seen.{seen}
 use Rattle.psci_ctl_model.specs.declared.call.CtlCall.TheVariants as calls
 use Rattle.psci_world_model.specs.Legal.{said_by}
-use Rattle.psci_world.specs.Seen.{MachineValue, board_of}
-use Rattle.psci_world.proofs.Kicks.{found, kicked_by, wake_asked, wake_next, woken}
-use Rattle.psci_world.proofs.machine.Machine.wake.Goals as goal
+use Rattle.psci_machine.specs.Seen.{MachineValue, board_of}
+use Rattle.psci_machine.proofs.Kicks.{found, kicked_by, wake_asked, wake_next, woken}
+use Rattle.psci_machine.proofs.machine.Machine.wake.Goals as goal
 
 pub returns-clause-said : goal.returns-clause-said
 returns-clause-said c =

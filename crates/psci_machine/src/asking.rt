@@ -13,8 +13,8 @@ ghost use Rattle.psci_link.specs.Message.{AckValue, MessageValue};
 ghost use Rattle.psci_world_model.specs.declared.event.Event.TheVariants as events;
 ghost use Rattle.psci_world_model.specs.Legal.{if_running, on_board, said_of};
 ghost use Rattle.psci_world_model.specs.Places.{place_after};
-ghost use Rattle.psci_world.specs.Next.{IsNext, if_entering, if_there};
-ghost use Rattle.psci_world.specs.Seen.{board_of, place_in};
+ghost use Rattle.psci_machine.specs.Next.{IsNext, if_entering, if_there};
+ghost use Rattle.psci_machine.specs.Seen.{board_of, place_in};
 
 use crate::machine::Machine;
 use crate::place::place_after;

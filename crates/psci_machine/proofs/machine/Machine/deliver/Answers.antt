@@ -7,9 +7,9 @@ use Rattle.psci_ctl_model.specs.declared.call.CtlCall.TheVariants as calls
 use Rattle.psci_ctl_model.specs.Replies.{reply}
 use Rattle.psci_link.specs.Message.{MessageValue}
 use Rattle.psci_world_model.specs.Legal.{said_by}
-use Rattle.psci_world.specs.Next.{if_there}
-use Rattle.psci_world.specs.Seen.{board_of}
-use Rattle.psci_world.proofs.machine.Machine.deliver.Goals as goal
+use Rattle.psci_machine.specs.Next.{if_there}
+use Rattle.psci_machine.specs.Seen.{board_of}
+use Rattle.psci_machine.proofs.machine.Machine.deliver.Goals as goal
 
 -- the message of this number
 message_at : (messages : List MessageValue) (number at : ℕ) (m : MessageValue) → at ≡ number

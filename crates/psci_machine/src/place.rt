@@ -3,7 +3,7 @@
 ghost use Rattle.std.specs.Prelude.{◌≡◌, ◌<◌, ℕ, length, replicate, IfOk, slice_set};
 ghost use Rattle.psci_world_model.specs.declared.place.Place.TheVariants.{Stopped};
 ghost use Rattle.psci_world_model.specs.Places.{first_place, place_after};
-ghost use Rattle.psci_world.specs.Seen.{place_in};
+ghost use Rattle.psci_machine.specs.Seen.{place_in};
 
 use psci_board::Memory;
 use psci_fw_model::Act;

@@ -1,4 +1,4 @@
-//! The machine: what an event changes beside the lists.
+//! The machine of one board.
 
 use crate::place::first_places;
 use psci_board::{Board, Core, Memory};
@@ -22,7 +22,7 @@ pub struct Machine {
 }
 
 impl Model for Machine {
-    ghost use Rattle.psci_world.specs.Seen.{IsMachine, MachineValue};
+    ghost use Rattle.psci_machine.specs.Seen.{IsMachine, MachineValue};
 
     ghost Value = { MachineValue };
 
@@ -39,15 +39,15 @@ impl Model for Machine {
     }) };
 }
 
-ghost use Rattle.std.specs.Prelude.{◌≡◌, ◌<◌, ℕ, List, IfOk, [], reverse, slice_get, Some};
+ghost use Rattle.std.specs.Prelude.{◌≡◌, ◌<◌, ℕ, List, [], ◌∷◌, IfOk, reverse, slice_get, Some};
 ghost use Rattle.psci_board.specs.Board.{BoardValue, cores};
 ghost use Rattle.psci_link.specs.Message.{MessageValue};
 ghost use Rattle.psci_ctl_model.specs.Legal.{IsOfBoard};
 ghost use Rattle.psci_world_model.specs.declared.said.Record.{Record};
 ghost use Rattle.psci_world_model.specs.Histories.{acks, sent};
 ghost use Rattle.psci_world_model.specs.Legal.{legal};
-ghost use Rattle.psci_world.specs.Next.{IsNext};
-ghost use Rattle.psci_world.specs.Seen.{IsAfter, IsMachine, board_of, place_in};
+ghost use Rattle.psci_machine.specs.Next.{IsNext};
+ghost use Rattle.psci_machine.specs.Seen.{IsAfter, IsMachine, board_of, place_in};
 
 impl Machine {
     /// The machine of this board, before any event.
@@ -94,9 +94,27 @@ impl Machine {
         let _places = &self.places;
     }
 
-    /// Makes the event happen, after which these messages and acknowledgements are those so far,
-    /// the oldest first, and says what came of it.
+    /// Makes the event happen, before which these messages and acknowledgements are those so far,
+    /// the oldest first, and says what came of it. Each message must be one that can be sent on the
+    /// board.
     pub fn step(&mut self, event: Event, messages: &[Message], made: &[Ack]) -> Said
+        requires { (k : ℕ) (m : MessageValue) → slice_get messages.now k ≡ Some m
+            → IsOfBoard (board_of self.old) m }
+        ensures said { (b : BoardValue) (past : List Record) → IsAfter b past self.old
+            → messages.now ≡ reverse (sent past) → made.now ≡ reverse (acks past)
+            → result ≡ legal b past event }
+        ensures after { (b : BoardValue) (past : List Record) → IsAfter b past self.old
+            → messages.now ≡ reverse (sent past) → made.now ≡ reverse (acks past)
+            → IsAfter b (record { event = event; said = result } ∷ past) self.new }
+        ensures next { IsNext messages.now made.now self.old event result self.new }
+    {
+        law_values();
+        controls::law_values();
+        self.happen(event, messages, made)
+    }
+
+    /// Makes the event happen, as `step` says.
+    fn happen(&mut self, event: Event, messages: &[Message], made: &[Ack]) -> Said
         requires { (k : ℕ) (m : MessageValue) → slice_get messages.now k ≡ Some m
             → IsOfBoard (board_of self.old) m }
         ensures said { (b : BoardValue) (past : List Record) → IsAfter b past self.old

@@ -17,8 +17,8 @@ ghost use Rattle.psci_world_model.specs.declared.place.Place.TheVariants.{Starte
 ghost use Rattle.psci_world_model.specs.declared.said.Said.TheVariants as says;
 ghost use Rattle.psci_world_model.specs.Legal.{if_stopped, on_board, said_by};
 ghost use Rattle.psci_world_model.specs.Places.{place_by};
-ghost use Rattle.psci_world.specs.Next.{IsNext, if_there, place_kicked};
-ghost use Rattle.psci_world.specs.Seen.{board_of, place_in};
+ghost use Rattle.psci_machine.specs.Next.{IsNext, if_there, place_kicked};
+ghost use Rattle.psci_machine.specs.Seen.{board_of, place_in};
 
 use crate::machine::Machine;
 use crate::place::{begin_life, end_life};

@@ -1,0 +1,3 @@
+mod Events
+mod Following
+mod Kicks
