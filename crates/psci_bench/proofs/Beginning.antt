@@ -9,19 +9,19 @@ use Rattle.psci_board.specs.Verdict.{board_of}
 use Rattle.psci_board.specs.declared.fault.BoardFault.{BoardFault}
 use Rattle.psci_world_model.specs.declared.said.Record.{Record}
 use Rattle.psci_world.specs.Seen.{WorldValue}
-use Rattle.psci_bench.specs.declared.fault.Replayed.{Replayed}
-use Rattle.psci_bench.specs.declared.fault.ScriptFault.{ScriptFault}
-use Rattle.psci_bench.specs.declared.fault.ScriptFault.TheVariants.{NoBoard, Long}
-use Rattle.psci_bench.specs.declared.fault.ReplayFault.{ReplayFault}
-use Rattle.psci_bench.specs.declared.fault.ReplayFault.TheVariants.{Script, Board}
-use Rattle.psci_bench.specs.declared.lines.Extent.{Extent}
+use Rattle.psci_script.specs.declared.fault.Replayed.{Replayed}
+use Rattle.psci_script.specs.declared.fault.ScriptFault.{ScriptFault}
+use Rattle.psci_script.specs.declared.fault.ScriptFault.TheVariants.{NoBoard, Long}
+use Rattle.psci_script.specs.declared.fault.ReplayFault.{ReplayFault}
+use Rattle.psci_script.specs.declared.fault.ReplayFault.TheVariants.{Script, Board}
+use Rattle.psci_script.specs.declared.lines.Extent.{Extent}
 use Rattle.psci_bench.specs.Answered.{Answered}
 use Rattle.psci_bench.specs.Block.{ReadAhead}
-use Rattle.psci_bench.specs.Lines.{lines, has_line_feed}
+use Rattle.psci_script.specs.Lines.{lines, has_line_feed}
 use Rattle.psci_bench.specs.Progress.{Progress, progress, Ahead, WriteFailed, IsLine}
-use Rattle.psci_bench.specs.Script.{Transcript, after_line, transcript, transcript_of_rest}
-use Rattle.psci_bench.specs.Script.{transcript_of_first, transcript_of_board, transcript_of_lines}
-use Rattle.psci_bench.specs.Script.{board_line, ok_or, ends}
+use Rattle.psci_script.specs.Script.{Transcript, after_line, transcript, transcript_of_rest}
+use Rattle.psci_script.specs.Script.{transcript_of_first, transcript_of_board, transcript_of_lines}
+use Rattle.psci_script.specs.Script.{board_line, ok_or, ends}
 use Rattle.psci_text.specs.Reading.{literal_at}
 use Rattle.std.specs.Prelude.{codes}
 use Rattle.psci_bench.specs.Run.{LinesAnswered, Ended, CutShort, Unwritten, IsUnderWay}

@@ -7,18 +7,18 @@ use Rattle.std.proofs.lemmas.List.{take-append-drop, length-take-le}
 use Rattle.std.specs.Io.KnownBytes.{Consumes, IsAtEnd}
 use Rattle.psci_board.specs.Board.{BoardValue}
 use Rattle.psci_world_model.specs.declared.said.Record.{Record}
-use Rattle.psci_bench.specs.declared.fault.Replayed.{Replayed}
-use Rattle.psci_bench.specs.declared.fault.ScriptFault.{ScriptFault}
-use Rattle.psci_bench.specs.declared.fault.ScriptFault.TheVariants.{NoBoard, Line, Long, TooMany}
-use Rattle.psci_bench.specs.declared.fault.ReplayFault.{ReplayFault}
-use Rattle.psci_bench.specs.declared.fault.ReplayFault.TheVariants.{Script}
-use Rattle.psci_bench.specs.declared.lines.Extent.{Extent}
+use Rattle.psci_script.specs.declared.fault.Replayed.{Replayed}
+use Rattle.psci_script.specs.declared.fault.ScriptFault.{ScriptFault}
+use Rattle.psci_script.specs.declared.fault.ScriptFault.TheVariants.{NoBoard, Line, Long, TooMany}
+use Rattle.psci_script.specs.declared.fault.ReplayFault.{ReplayFault}
+use Rattle.psci_script.specs.declared.fault.ReplayFault.TheVariants.{Script}
+use Rattle.psci_script.specs.declared.lines.Extent.{Extent}
 use Rattle.psci_bench.specs.Block.{ReadAhead}
-use Rattle.psci_bench.specs.Line.{line_of}
-use Rattle.psci_bench.specs.Lines.{lines, has_line_feed}
+use Rattle.psci_script.specs.Line.{line_of}
+use Rattle.psci_script.specs.Lines.{lines, has_line_feed}
 use Rattle.psci_bench.specs.Progress.{Progress, WriteFailed, IsLine, FaultyLine}
-use Rattle.psci_bench.specs.Script.{Transcript, after_line, transcript, transcript_of_rest}
-use Rattle.psci_bench.specs.Script.{line_said, ok_or, ends}
+use Rattle.psci_script.specs.Script.{Transcript, after_line, transcript, transcript_of_rest}
+use Rattle.psci_script.specs.Script.{line_said, ok_or, ends}
 use Rattle.psci_bench.specs.Run.{Follows, LinesAnswered, Ended, CutShort, Unwritten}
 use Rattle.psci_bench.proofs.Known.{appends_more}
 use Rattle.psci_bench.proofs.Split.{lines_long, lines_some, lines_none, Longer}

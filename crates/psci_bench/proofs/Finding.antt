@@ -4,11 +4,11 @@ use Rattle.std.proofs.Common.{sym, ◌∙◌, arith, Option, Some, None, Result,
 use Rattle.std.proofs.Common.{subst, nat_lt, cond, inr}
 use Rattle.std.proofs.lemmas.List.{take_all}
 use borrow.Author.Tests.{ltb-true, ltb-false}
-use Rattle.psci_bench.specs.declared.fault.ReplayFault.{ReplayFault}
-use Rattle.psci_bench.specs.declared.fault.ReplayFault.TheVariants.{Script, Board, Read, Write}
-use Rattle.psci_bench.specs.declared.fault.ReplayFault.TheVariants.{Memory}
-use Rattle.psci_bench.specs.declared.lines.Extent.{Extent}
-use Rattle.psci_bench.specs.Lines.{has_line_feed}
+use Rattle.psci_script.specs.declared.fault.ReplayFault.{ReplayFault}
+use Rattle.psci_script.specs.declared.fault.ReplayFault.TheVariants.{Script, Board, Read, Write}
+use Rattle.psci_script.specs.declared.fault.ReplayFault.TheVariants.{Memory}
+use Rattle.psci_script.specs.declared.lines.Extent.{Extent}
+use Rattle.psci_script.specs.Lines.{has_line_feed}
 use Rattle.psci_bench.specs.Progress.{Progress, Ahead, ReadsAhead, FailsAhead, FailsLine, FindsLine}
 use Rattle.psci_bench.specs.Progress.{IsLineFront}
 use Rattle.psci_bench.proofs.Ahead.{ahead_more, write_failed_more, read_failed_more}

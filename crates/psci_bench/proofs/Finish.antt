@@ -4,13 +4,13 @@ use Rattle.std.proofs.Common.{refl, ap, sym, ◌∙◌, append_assoc, append-nil
 use Rattle.std.proofs.Common.{None, Result, Ok, Err, IsErr, IsErrAnd, IfErr, inl}
 use Rattle.std.proofs.Math.Seq.{take-append_seam}
 use Rattle.std.specs.Io.KnownBytes.{Appends, Consumes, IsAtEnd}
-use Rattle.psci_bench.specs.declared.fault.Replayed.{Replayed}
-use Rattle.psci_bench.specs.declared.fault.ReplayFault.{ReplayFault}
-use Rattle.psci_bench.specs.declared.fault.ReplayFault.TheVariants.{Script, Board, Read, Write}
-use Rattle.psci_bench.specs.declared.fault.ReplayFault.TheVariants.{Memory}
+use Rattle.psci_script.specs.declared.fault.Replayed.{Replayed}
+use Rattle.psci_script.specs.declared.fault.ReplayFault.{ReplayFault}
+use Rattle.psci_script.specs.declared.fault.ReplayFault.TheVariants.{Script, Board, Read, Write}
+use Rattle.psci_script.specs.declared.fault.ReplayFault.TheVariants.{Memory}
 use Rattle.psci_bench.specs.Progress.{Progress, IsLineFront}
 use Rattle.std.proofs.lemmas.List.{take-append-drop}
-use Rattle.psci_bench.specs.Script.{Transcript, transcript, transcript_of_lines}
+use Rattle.psci_script.specs.Script.{Transcript, transcript, transcript_of_lines}
 use Rattle.psci_bench.specs.Run.{Ended, CutShort, Unwritten, Runs, Answers, AnswersLines}
 use Rattle.psci_bench.specs.Run.{AnswersPart, IsWithinBlock, Replays, is_write_fault}
 use Rattle.psci_bench.proofs.Known.{appends_more}

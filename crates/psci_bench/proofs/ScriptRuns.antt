@@ -1,5 +1,5 @@
 -- The answer text of a script is that of its run.
-use Rattle.std.proofs.Common.{◌≡◌, ℕ, ◌+◌, List, [], ◌∷◌, ◌++◌, length, Ok, Err, refl, ap, sym, ◌∙◌}
+use Rattle.std.proofs.Common.{◌≡◌, ℕ, ◌+◌, List, [], ◌∷◌, ◌++◌, length, Ok, Err, refl, sym, ◌∙◌}
 use Rattle.std.proofs.Common.{Option, None, Some}
 use Rattle.std.specs.Prelude.{IfSome, Result}
 use Rattle.std.proofs.lemmas.List.{append-nil, append_assoc}
@@ -10,21 +10,21 @@ use Rattle.psci_safe.specs.Safe.{AlwaysSafe}
 use Rattle.psci_world_model.specs.declared.event.Event.{Event}
 use Rattle.psci_world_model.specs.declared.said.Record.{Record}
 use Rattle.psci_world_model.specs.Legal.{IsLegalPast, legal, legal_record, run_from}
-use Rattle.psci_bench.specs.declared.fault.Replayed.{Replayed}
-use Rattle.psci_bench.specs.declared.fault.ReplayFault.{ReplayFault}
-use Rattle.psci_bench.specs.declared.fault.ReplayFault.TheVariants.{Script, Board, Read, Write}
-use Rattle.psci_bench.specs.declared.fault.ReplayFault.TheVariants.{Memory}
-use Rattle.psci_bench.specs.declared.fault.ScriptFault.{ScriptFault}
-use Rattle.psci_bench.specs.declared.grammar.Line.{Line as LineSays}
-use Rattle.psci_bench.specs.declared.grammar.Line.TheVariants.{Blank, Event as Says}
-use Rattle.psci_bench.specs.Lines.{lines}
-use Rattle.psci_bench.specs.Script.{board_line, line_said, transcript, transcript_of_board}
-use Rattle.psci_bench.specs.Script.{transcript_of_first, transcript_of_line, transcript_of_lines}
-use Rattle.psci_bench.specs.Script.{Transcript, transcript_of_rest}
+use Rattle.psci_script.specs.declared.fault.Replayed.{Replayed}
+use Rattle.psci_script.specs.declared.fault.ReplayFault.{ReplayFault}
+use Rattle.psci_script.specs.declared.fault.ReplayFault.TheVariants.{Script, Board, Read, Write}
+use Rattle.psci_script.specs.declared.fault.ReplayFault.TheVariants.{Memory}
+use Rattle.psci_script.specs.declared.fault.ScriptFault.{ScriptFault}
+use Rattle.psci_script.specs.declared.grammar.Line.{Line as LineSays}
+use Rattle.psci_script.specs.declared.grammar.Line.TheVariants.{Blank, Event as Says}
+use Rattle.psci_script.specs.Lines.{lines}
+use Rattle.psci_script.specs.Script.{board_line, line_said, transcript, transcript_of_board}
+use Rattle.psci_script.specs.Script.{transcript_of_first, transcript_of_line, transcript_of_lines}
+use Rattle.psci_script.specs.Script.{Transcript, transcript_of_rest}
 use Rattle.psci_bench.specs.Run.{Answers, AnswersPart, Replays}
 use Rattle.psci_bench.specs.ScriptRun.{AllSafe, Prints, SaysRun, WritesPart, WritesRun, events_of}
 use Rattle.psci_bench.specs.ScriptRun.{run_by, run_of_lines, run_on, text_of, with_event}
-use Rattle.psci_bench.specs.Text.{answer_line}
+use Rattle.psci_script.specs.Text.{answer_line}
 
 -- what a line says is answered as its event happens, and then the lines after it
 line_text : (b : BoardValue) (past : List Record) (number : ℕ)

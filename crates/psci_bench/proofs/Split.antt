@@ -1,7 +1,7 @@
 -- The lines of bytes that begin with a line.
 use Rattle.std.proofs.Common.{◌≡◌, ℕ, ◌≤◌, Bool, true, false, ◌||◌, ◌==◌, cond, List, [], ◌∷◌, ◌++◌}
 use Rattle.std.proofs.Common.{length, refl, ap, ◌∙◌, arith}
-use Rattle.psci_bench.specs.Lines.{lines, in_line, has_line_feed}
+use Rattle.psci_script.specs.Lines.{lines, in_line, has_line_feed}
 
 or_false : (a b : Bool) → (a || b) ≡ false → (a ≡ false) × (b ≡ false)
 or_false true b e = absurd (cc)

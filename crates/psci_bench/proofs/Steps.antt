@@ -7,21 +7,21 @@ use Rattle.psci_board.specs.Board.{BoardValue}
 use Rattle.psci_world_model.specs.declared.said.Record.{Record}
 use Rattle.psci_world_model.specs.Legal.{legal, legal_record}
 use Rattle.psci_world.specs.Seen.{WorldValue}
-use Rattle.psci_bench.specs.declared.grammar.Line.{Line as LineSays}
-use Rattle.psci_bench.specs.declared.grammar.Line.TheVariants.{Blank, Event as Says}
-use Rattle.psci_bench.specs.declared.fault.Replayed.{Replayed}
-use Rattle.psci_bench.specs.declared.fault.ScriptFault.{ScriptFault}
-use Rattle.psci_bench.specs.declared.fault.ScriptFault.TheVariants.{NoBoard, Line, Long, TooMany}
-use Rattle.psci_bench.specs.declared.fault.ReplayFault.{ReplayFault}
-use Rattle.psci_bench.specs.declared.fault.ReplayFault.TheVariants.{Script, Board, Read, Write}
-use Rattle.psci_bench.specs.declared.fault.ReplayFault.TheVariants.{Memory}
-use Rattle.psci_bench.specs.declared.lines.Extent.{Extent}
+use Rattle.psci_script.specs.declared.grammar.Line.{Line as LineSays}
+use Rattle.psci_script.specs.declared.grammar.Line.TheVariants.{Blank, Event as Says}
+use Rattle.psci_script.specs.declared.fault.Replayed.{Replayed}
+use Rattle.psci_script.specs.declared.fault.ScriptFault.{ScriptFault}
+use Rattle.psci_script.specs.declared.fault.ScriptFault.TheVariants.{NoBoard, Line, Long, TooMany}
+use Rattle.psci_script.specs.declared.fault.ReplayFault.{ReplayFault}
+use Rattle.psci_script.specs.declared.fault.ReplayFault.TheVariants.{Script, Board, Read, Write}
+use Rattle.psci_script.specs.declared.fault.ReplayFault.TheVariants.{Memory}
+use Rattle.psci_script.specs.declared.lines.Extent.{Extent}
 use Rattle.psci_bench.specs.Answered.{Answered}
 use Rattle.psci_bench.specs.Block.{ReadAhead}
-use Rattle.psci_bench.specs.Line.{line_of}
+use Rattle.psci_script.specs.Line.{line_of}
 use Rattle.psci_bench.specs.Progress.{Progress, progress, IsLine, IsLineFront, FailsLine}
 use Rattle.psci_bench.specs.Progress.{FaultyLine, FindsLine}
-use Rattle.psci_bench.specs.Text.{answer_line}
+use Rattle.psci_script.specs.Text.{answer_line}
 use Rattle.psci_bench.specs.Run.{LinesAnswered, Ended, EndsBy, IsWithinBlock, Runs, IsUnderWay}
 use Rattle.psci_bench.specs.Run.{BoardRead, LineLeaves, LineRefused}
 use Rattle.psci_bench.proofs.Transcripts.{answered_ahead, answered_line, blank_transcript}

@@ -10,20 +10,20 @@ use Rattle.psci_board.specs.Board.{BoardValue}
 use Rattle.psci_world_model.specs.declared.event.Event.{Event}
 use Rattle.psci_world_model.specs.declared.said.Record.{Record}
 use Rattle.psci_world_model.specs.Legal.{legal, legal_record}
-use Rattle.psci_bench.specs.declared.grammar.Line.{Line as LineSays}
-use Rattle.psci_bench.specs.declared.grammar.Line.TheVariants.{Blank, Event as Says}
-use Rattle.psci_bench.specs.declared.fault.ScriptFault.{ScriptFault}
-use Rattle.psci_bench.specs.declared.fault.ScriptFault.TheVariants.{Line, Long, TooMany}
-use Rattle.psci_bench.specs.declared.fault.ReplayFault.TheVariants.{Script}
-use Rattle.psci_bench.specs.declared.lines.Extent.{Extent}
+use Rattle.psci_script.specs.declared.grammar.Line.{Line as LineSays}
+use Rattle.psci_script.specs.declared.grammar.Line.TheVariants.{Blank, Event as Says}
+use Rattle.psci_script.specs.declared.fault.ScriptFault.{ScriptFault}
+use Rattle.psci_script.specs.declared.fault.ScriptFault.TheVariants.{Line, Long, TooMany}
+use Rattle.psci_script.specs.declared.fault.ReplayFault.TheVariants.{Script}
+use Rattle.psci_script.specs.declared.lines.Extent.{Extent}
 use Rattle.psci_bench.specs.Answered.{Answered}
 use Rattle.psci_bench.specs.Block.{ReadAhead}
-use Rattle.psci_bench.specs.Line.{line_of}
-use Rattle.psci_bench.specs.Lines.{lines, has_line_feed, AreWhole}
+use Rattle.psci_script.specs.Line.{line_of}
+use Rattle.psci_script.specs.Lines.{lines, has_line_feed, AreWhole}
 use Rattle.psci_bench.specs.Progress.{Progress, progress, Ahead, IsLine}
-use Rattle.psci_bench.specs.Script.{Transcript, after_line, transcript, transcript_of_rest}
-use Rattle.psci_bench.specs.Script.{transcript_of_line, line_said, ok_or, ends}
-use Rattle.psci_bench.specs.Text.{answer_line}
+use Rattle.psci_script.specs.Script.{Transcript, after_line, transcript, transcript_of_rest}
+use Rattle.psci_script.specs.Script.{transcript_of_line, line_said, ok_or, ends}
+use Rattle.psci_script.specs.Text.{answer_line}
 use Rattle.psci_bench.specs.Run.{Follows, LinesAnswered}
 use Rattle.psci_bench.proofs.Known.{appends_more, consumes_more}
 use Rattle.psci_bench.proofs.Split.{lines_whole, lines_last, lines_none}

@@ -1,12 +1,7 @@
 pub mod Answered
 pub mod Block
 pub mod Device
-pub mod EventText
 pub mod Limits
-pub mod Line
-pub mod Lines
 pub mod Progress
 pub mod Run
-pub mod Script
 pub mod ScriptRun
-pub mod Text

@@ -1,13 +1,5 @@
--- The limits of a script and of the devices that it goes through.
+-- The limits of the devices that a script goes through.
 use Rattle.std.specs.Prelude.{ℕ}
-
--- how many bytes a line may have before its line feed
-abbrev pub longest_line : ℕ
-longest_line = 256
-
--- how many lines a script may have
-abbrev pub most_lines : ℕ
-most_lines = 1000000
 
 -- how many interruptions in a row are a fault
 abbrev pub most_interruptions : ℕ

@@ -3,17 +3,17 @@
 use Rattle.std.specs.Prelude.{◌≡◌, ℕ, ◌+◌, ◌<◌, ◌≤◌, ◌⊎◌, Bool, true, false, List, [], ◌∷◌, ◌++◌}
 use Rattle.std.specs.Prelude.{length, take, drop, Option, None, Some, Result, Ok, Err}
 use Rattle.std.specs.Io.KnownBytes.{Appends, Consumes, IsAtEnd}
-use Rattle.psci_bench.specs.declared.fault.ScriptFault.{ScriptFault}
-use Rattle.psci_bench.specs.declared.fault.ScriptFault.TheVariants.{NoBoard, Line, Long, TooMany}
-use Rattle.psci_bench.specs.declared.fault.ReplayFault.{ReplayFault}
-use Rattle.psci_bench.specs.declared.fault.ReplayFault.TheVariants.{Script, Board, Read, Write}
-use Rattle.psci_bench.specs.declared.fault.ReplayFault.TheVariants.{Memory}
-use Rattle.psci_bench.specs.declared.lines.Extent.{Extent}
+use Rattle.psci_script.specs.declared.fault.ScriptFault.{ScriptFault}
+use Rattle.psci_script.specs.declared.fault.ScriptFault.TheVariants.{NoBoard, Line, Long, TooMany}
+use Rattle.psci_script.specs.declared.fault.ReplayFault.{ReplayFault}
+use Rattle.psci_script.specs.declared.fault.ReplayFault.TheVariants.{Script, Board, Read, Write}
+use Rattle.psci_script.specs.declared.fault.ReplayFault.TheVariants.{Memory}
+use Rattle.psci_script.specs.declared.lines.Extent.{Extent}
 use Rattle.psci_bench.specs.declared.progress.Progress.{Progress as Fields}
 use Rattle.psci_bench.specs.Answered.{Answered}
 use Rattle.psci_bench.specs.Block.{ReadAhead}
-use Rattle.psci_bench.specs.Limits.{longest_line, most_lines}
-use Rattle.psci_bench.specs.Lines.{has_line_feed}
+use Rattle.psci_script.specs.Limits.{longest_line, most_lines}
+use Rattle.psci_script.specs.Lines.{has_line_feed}
 
 -- how far a replay has come
 pub record Progress : Type 0 where

@@ -7,20 +7,20 @@ use Rattle.psci_board.specs.Verdict.{board_of}
 use Rattle.psci_world_model.specs.declared.said.Record.{Record}
 use Rattle.psci_world_model.specs.Legal.{legal, legal_record}
 use Rattle.psci_world.specs.Seen.{WorldValue}
-use Rattle.psci_bench.specs.declared.fault.Replayed.{Replayed}
-use Rattle.psci_bench.specs.declared.fault.ReplayFault.{ReplayFault}
-use Rattle.psci_bench.specs.declared.fault.ReplayFault.TheVariants.{Script, Board, Read, Write}
-use Rattle.psci_bench.specs.declared.fault.ReplayFault.TheVariants.{Memory}
-use Rattle.psci_bench.specs.declared.fault.ScriptFault.TheVariants.{Line}
-use Rattle.psci_bench.specs.declared.grammar.Line.{Line as LineSays}
-use Rattle.psci_bench.specs.declared.grammar.Line.TheVariants.{Blank, Event as Says}
+use Rattle.psci_script.specs.declared.fault.Replayed.{Replayed}
+use Rattle.psci_script.specs.declared.fault.ReplayFault.{ReplayFault}
+use Rattle.psci_script.specs.declared.fault.ReplayFault.TheVariants.{Script, Board, Read, Write}
+use Rattle.psci_script.specs.declared.fault.ReplayFault.TheVariants.{Memory}
+use Rattle.psci_script.specs.declared.fault.ScriptFault.TheVariants.{Line}
+use Rattle.psci_script.specs.declared.grammar.Line.{Line as LineSays}
+use Rattle.psci_script.specs.declared.grammar.Line.TheVariants.{Blank, Event as Says}
 use Rattle.psci_bench.specs.Answered.{Answered}
 use Rattle.psci_bench.specs.Block.{ReadAhead}
-use Rattle.psci_bench.specs.Text.{answer_line}
+use Rattle.psci_script.specs.Text.{answer_line}
 use Rattle.psci_bench.specs.Limits.{block_room}
-use Rattle.psci_bench.specs.Lines.{lines, AreWhole}
+use Rattle.psci_script.specs.Lines.{lines, AreWhole}
 use Rattle.psci_bench.specs.Progress.{Progress, IsLineFront}
-use Rattle.psci_bench.specs.Script.{after_line, transcript, transcript_of_rest, board_line}
+use Rattle.psci_script.specs.Script.{after_line, transcript, transcript_of_rest, board_line}
 
 -- what may follow the lines that were taken: anything, but after the end only what was read
 abbrev pub Follows : ReadAhead → List ℕ → Type 0

@@ -9,16 +9,16 @@ use Rattle.psci_safe.specs.Safe.{AlwaysSafe}
 use Rattle.psci_world_model.specs.declared.event.Event.{Event}
 use Rattle.psci_world_model.specs.declared.said.Record.{Record}
 use Rattle.psci_world_model.specs.Legal.{IsLegalPast, run_from}
-use Rattle.psci_bench.specs.declared.fault.Replayed.{Replayed}
-use Rattle.psci_bench.specs.declared.fault.ReplayFault.{ReplayFault}
-use Rattle.psci_bench.specs.declared.fault.ReplayFault.TheVariants.{Script, Board, Read, Write}
-use Rattle.psci_bench.specs.declared.fault.ReplayFault.TheVariants.{Memory}
-use Rattle.psci_bench.specs.declared.fault.ScriptFault.{ScriptFault}
-use Rattle.psci_bench.specs.declared.grammar.Line.{Line as LineSays}
-use Rattle.psci_bench.specs.declared.grammar.Line.TheVariants.{Blank, Event as Says}
-use Rattle.psci_bench.specs.Lines.{lines}
-use Rattle.psci_bench.specs.Script.{board_line, line_said, transcript}
-use Rattle.psci_bench.specs.Text.{answer_line}
+use Rattle.psci_script.specs.declared.fault.Replayed.{Replayed}
+use Rattle.psci_script.specs.declared.fault.ReplayFault.{ReplayFault}
+use Rattle.psci_script.specs.declared.fault.ReplayFault.TheVariants.{Script, Board, Read, Write}
+use Rattle.psci_script.specs.declared.fault.ReplayFault.TheVariants.{Memory}
+use Rattle.psci_script.specs.declared.fault.ScriptFault.{ScriptFault}
+use Rattle.psci_script.specs.declared.grammar.Line.{Line as LineSays}
+use Rattle.psci_script.specs.declared.grammar.Line.TheVariants.{Blank, Event as Says}
+use Rattle.psci_script.specs.Lines.{lines}
+use Rattle.psci_script.specs.Script.{board_line, line_said, transcript}
+use Rattle.psci_script.specs.Text.{answer_line}
 
 -- The run of a script: its board, and the records of its events, the newest first.
 pub record ScriptRun : Type 0 where

@@ -3,14 +3,13 @@
 ghost use Rattle.std.specs.Prelude.{◌≡◌, ℕ, ◌+◌, ◌-◌, ◌^◌, ◌<◌, [], length, ◌++◌, take, IfOk, OnOk};
 ghost use Rattle.std.specs.Prelude.{OnErr, IfErr};
 ghost use Rattle.std.specs.Io.KnownBytes.{Appends};
-ghost use Rattle.psci_bench.specs.declared.fault.ReplayFault.TheVariants.{Write};
+ghost use Rattle.psci_script.specs.declared.fault.ReplayFault.TheVariants.{Write};
 ghost use Rattle.psci_bench.specs.Device.{GaveUp};
-ghost use Rattle.psci_bench.specs.Text.{answer_line};
+ghost use Rattle.psci_script.specs.Text.{answer_line};
 
-use crate::answer_text::Answer;
 use crate::device::Sink;
-use crate::fault::ReplayFault;
 use crate::transfer::write_all;
+use psci_script::{Answer, ReplayFault};
 use psci_world::Said;
 use std::alloc::{AllocError, Global};
 use std::marker::Model;

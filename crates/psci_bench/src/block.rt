@@ -3,15 +3,15 @@
 ghost use Rattle.std.specs.Prelude.{◌≡◌, [], ◌<◌, ◌≤◌, length, drop, false, true, IfOk, OnOk};
 ghost use Rattle.std.specs.Prelude.{OnErr, IfErr};
 ghost use Rattle.std.specs.Io.KnownBytes.{Keeps};
-ghost use Rattle.psci_bench.specs.declared.fault.ReplayFault.TheVariants.{Read};
+ghost use Rattle.psci_script.specs.declared.fault.ReplayFault.TheVariants.{Read};
 ghost use Rattle.psci_bench.specs.Block.{Refills};
 ghost use Rattle.psci_bench.specs.Device.{GaveUp};
 ghost use Rattle.psci_bench.specs.Limits.{block_room};
 
 use crate::device::Source;
-use crate::fault::ReplayFault;
 use crate::limits::BLOCK_ROOM;
 use crate::transfer::read_some;
+use psci_script::ReplayFault;
 use std::alloc::{AllocError, Global};
 use std::marker::Model;
 

@@ -1,7 +1,7 @@
 //! How far a replay has come.
 
 ghost use Rattle.std.specs.Prelude.{◌≡◌, ◌<◌, length, IfErr, OnOk};
-ghost use Rattle.psci_bench.specs.declared.fault.ReplayFault.TheVariants.{Read, Write};
+ghost use Rattle.psci_script.specs.declared.fault.ReplayFault.TheVariants.{Read, Write};
 ghost use Rattle.psci_bench.specs.Device.{GaveUp};
 ghost use Rattle.psci_bench.specs.Limits.{block_room};
 ghost use Rattle.psci_bench.specs.Progress.{ReadsAhead, FindsLine, SameDevices, StaySound};
@@ -10,9 +10,7 @@ ghost use Rattle.psci_bench.specs.Progress.{progress, progress_of};
 use crate::answers::Answers;
 use crate::block::Block;
 use crate::device::{Sink, Source};
-use crate::fault::{ReplayFault, ScriptFault};
-use crate::limits::MOST_LINES;
-use crate::lines::{Extent, Front, cut, last_line};
+use psci_script::{Extent, Front, MOST_LINES, ReplayFault, ScriptFault, cut, last_line};
 
 /// A replay on its way: its devices, the bytes that were read ahead, and the answers so far.
 #[derive(Drop)]

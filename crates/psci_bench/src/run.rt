@@ -2,9 +2,9 @@
 
 ghost use Rattle.std.specs.Prelude.{◌≡◌, ◌+◌, ◌-◌, ◌^◌, ◌<◌, ◌≤◌, ℕ, List, length, false, Option};
 ghost use Rattle.std.specs.Prelude.{IfOk, IfErr, OnOk};
-ghost use Rattle.psci_bench.specs.declared.fault.ReplayFault.TheVariants.{Read, Write};
+ghost use Rattle.psci_script.specs.declared.fault.ReplayFault.TheVariants.{Read, Write};
 ghost use Rattle.psci_bench.specs.Device.{GaveUp};
-ghost use Rattle.psci_bench.specs.Limits.{longest_line, most_lines};
+ghost use Rattle.psci_script.specs.Limits.{longest_line, most_lines};
 ghost use Rattle.psci_bench.specs.Progress.{IsLine, SameDevices, StaySound, first_progress};
 ghost use Rattle.psci_bench.specs.Progress.{progress_of};
 ghost use Rattle.psci_bench.specs.Run.{BoardRead, IsUnderWay, EndsBy};
@@ -15,12 +15,10 @@ ghost use Rattle.psci_bench.specs.ScriptRun.{Prints};
 use crate::answers::Answers;
 use crate::block::Block;
 use crate::device::{Sink, Source};
-use crate::fault::{ReplayFault, Replayed, ScriptFault};
-use crate::grammar::{Line, read_line};
 use crate::laws::law_safe_scripts;
-use crate::lines::Extent;
 use crate::progress::Progress;
 use psci_board::{Board, BoardFault};
+use psci_script::{Extent, Line, ReplayFault, Replayed, ScriptFault, read_line};
 use psci_text::literal;
 use psci_world::World;
 use std::alloc::Global;

@@ -7,9 +7,9 @@ mod events;
 mod standard;
 mod whole;
 
-use crate::fault::{ReplayFault, Replayed};
 use crate::run;
 use devices::{Page, Script};
+use psci_script::{ReplayFault, Replayed};
 use std::alloc::Global;
 use std::process::Abort;
 

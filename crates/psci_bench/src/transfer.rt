@@ -3,12 +3,12 @@
 ghost use Rattle.std.specs.Prelude.{◌≡◌, ◌<◌, ◌≤◌, ◌⊎◌, ℕ, length, take, true, IfOk, OnOk, OnErr};
 ghost use Rattle.std.specs.Prelude.{IfErr};
 ghost use Rattle.std.specs.Io.KnownBytes.{Appends, Consumes, Keeps, IsAtEnd};
-ghost use Rattle.psci_bench.specs.declared.fault.ReplayFault.TheVariants.{Read, Write};
+ghost use Rattle.psci_script.specs.declared.fault.ReplayFault.TheVariants.{Read, Write};
 ghost use Rattle.psci_bench.specs.Device.{GaveUp};
 
 use crate::device::{Io, Sink, Source};
-use crate::fault::ReplayFault;
 use crate::limits::MOST_INTERRUPTIONS;
+use psci_script::ReplayFault;
 
 /// Reads bytes into the front of the buffer: how many came, none only at the end.
 ///

@@ -3,7 +3,7 @@ use Rattle.std.specs.Prelude.{◌≡◌, ◌⊎◌, true, codes}
 use Rattle.clap.specs.Simple.{App, new_app, new_shape, on_top, with_subcommand}
 use Rattle.clap.specs.declared.error.kind.ErrorKind.{ErrorKind}
 use Rattle.clap.specs.declared.error.kind.ErrorKind.TheVariants.{DisplayHelp, DisplayVersion}
-use Rattle.psci_bench.specs.declared.fault.ReplayFault.TheVariants as faults
+use Rattle.psci_script.specs.declared.fault.ReplayFault.TheVariants as faults
 use Rattle.psci_cli.specs.declared.exit.Failure.{Failure}
 use Rattle.psci_cli.specs.declared.exit.Failure.TheVariants.{CommandLine, Replay}
 

@@ -3,7 +3,7 @@
 ghost use Rattle.std.specs.Prelude.{◌≡◌, ◌⊎◌, IfOk, IfErr, map, string_bytes, Ok, Err};
 ghost use Rattle.clap.specs.Words.{FailsBy, app_of, fault_of, kind_of};
 ghost use Rattle.clap.specs.declared.error.kind.ErrorKind.TheVariants.{OutOfMemory};
-ghost use Rattle.psci_bench.specs.declared.fault.ReplayFault.TheVariants.{Memory, Write};
+ghost use Rattle.psci_script.specs.declared.fault.ReplayFault.TheVariants.{Memory, Write};
 ghost use Rattle.psci_cli.specs.declared.command_line.Request.TheVariants.{Replay, Nothing};
 ghost use Rattle.psci_cli.specs.declared.exit.Failure.TheVariants.{CommandLine};
 ghost use Rattle.psci_cli.specs.Commands.{AsksHelp, IsUnheard, IsWordless, program};

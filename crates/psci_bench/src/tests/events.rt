@@ -4,7 +4,7 @@ ghost use Rattle.std.specs.Prelude.{◌≡◌, false};
 
 use super::devices::{Page, Script};
 use super::expect;
-use crate::fault::{ReplayFault, Replayed, ScriptFault};
+use psci_script::{ReplayFault, Replayed, ScriptFault};
 
 /// The Down of a core that was woken since is stale, and its acknowledgement is old.
 const STALE: &[u8] = b"board (2 2) exec 0x40000000-0x40100000 boot 0x40000000 starts 1000 lives 3\n\

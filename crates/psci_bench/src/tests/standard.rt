@@ -3,9 +3,9 @@
 ghost use Rattle.std.specs.Prelude.{◌≡◌};
 
 use super::{SCRIPT, TEXT, WHOLE};
-use crate::fault::ReplayFault;
 use crate::run;
 use crate::standard::Std;
+use psci_script::ReplayFault;
 use std::alloc::Global;
 use std::io::{self, ErrorKind, Read, Write};
 

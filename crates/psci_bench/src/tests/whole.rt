@@ -4,8 +4,8 @@ ghost use Rattle.std.specs.Prelude.{◌≡◌, false};
 
 use super::devices::{Page, Script};
 use super::expect;
-use crate::fault::Replayed;
 use crate::run;
+use psci_script::Replayed;
 use std::alloc::AllocError;
 
 /// On a board of 64 cores five others are asked on, the last one among them.

@@ -1,5 +1,5 @@
 -- Where no memory is had for the first room, nothing was done.
-use Rattle.psci_bench.specs.declared.fault.ReplayFault.TheVariants.{Memory}
+use Rattle.psci_script.specs.declared.fault.ReplayFault.TheVariants.{Memory}
 use Rattle.psci_bench.proofs.Finish.{replays_so, nothing_done}
 use Rattle.psci_bench.proofs.run.replay_lines.Goals as goal
 

@@ -1,6 +1,6 @@
 use Rattle.std.proofs.Common.{ℕ, List, take, subst, sym, Some, None, Ok, Err}
-use Rattle.psci_bench.specs.declared.fault.ReplayFault.{ReplayFault}
-use Rattle.psci_bench.specs.declared.fault.ReplayFault.TheVariants.{Memory}
+use Rattle.psci_script.specs.declared.fault.ReplayFault.{ReplayFault}
+use Rattle.psci_script.specs.declared.fault.ReplayFault.TheVariants.{Memory}
 use Rattle.psci_bench.specs.Block.{ReadAhead}
 use Rattle.psci_bench.specs.Progress.{Progress, progress, progress_of, FailsLine, FindsLine}
 use Rattle.psci_bench.specs.Run.{EndsBy, BoardRead, IsUnderWay, IsWithinBlock}

@@ -1,6 +1,6 @@
 -- How a run ended is what the replay answers, once the last answers were written too.
 use Rattle.std.proofs.Common.{subst, sym, Err}
-use Rattle.psci_bench.specs.declared.fault.ReplayFault.{ReplayFault}
+use Rattle.psci_script.specs.declared.fault.ReplayFault.{ReplayFault}
 use Rattle.psci_bench.specs.Progress.{progress_of}
 use Rattle.psci_bench.specs.Run.{Replays}
 use Rattle.psci_bench.proofs.Finish.{finish_part, finish_done, finish_failed, replays_so}

@@ -1,6 +1,6 @@
 use Rattle.std.proofs.Common.{ap, refl, sym, ◌∙◌, ◌<◌, ◌≤◌, length, arith, false, true}
 use Rattle.std.proofs.lemmas.Bool.{eqb-true}
-use Rattle.psci_bench.specs.Lines.{has_line_feed}
+use Rattle.psci_script.specs.Lines.{has_line_feed}
 use Rattle.psci_bench.specs.Progress.{progress_of}
 use Rattle.psci_bench.proofs.Ahead.{ahead_none, ahead_more, same_more, sound_more}
 use Rattle.psci_bench.proofs.Finding.{finds_fault, finds_last, last_extent, reads_as}

@@ -1,7 +1,7 @@
 use Rattle.std.proofs.Common.{ℕ, List, take, ◌+◌, ◌∙◌, ap, subst, sym, Option}
-use Rattle.psci_bench.specs.declared.grammar.Line.{Line as LineSays}
+use Rattle.psci_script.specs.declared.grammar.Line.{Line as LineSays}
 use Rattle.psci_bench.specs.Block.{ReadAhead}
-use Rattle.psci_bench.specs.Line.{line_of}
+use Rattle.psci_script.specs.Line.{line_of}
 use Rattle.psci_bench.specs.Progress.{progress, progress_of}
 use Rattle.psci_bench.specs.Run.{LineRefused, LineLeaves, IsUnderWay}
 use Rattle.psci_bench.proofs.Beginning.{room_of}

@@ -1,9 +1,0 @@
-use Rattle.psci_bench.proofs.EventLines.{line_takes}
-use Rattle.psci_bench.proofs.SpelledLines.{line_again}
-use Rattle.psci_bench.proofs.laws.law_event_lines.Goals as goal
-
-pub returns : goal.returns
-returns c = record {
-  again = line_again c.law_text.ensures;
-  spelled = line_takes c.law_text.ensures;
-}

@@ -1,0 +1,14 @@
+use Rattle.std.proofs.Common.{sym}
+use Rattle.psci_script.proofs.Cutting.{whole_cut, part_cut, none_cut}
+use Rattle.psci_script.proofs.lines.cut.Goals as goal
+
+pub returns-in-Some : goal.returns-in-Some
+returns-in-Some c = whole_cut c.args.bytes.now c.in-Some.length (sym (c.in-Some.ensures {u = tt}))
+
+pub returns-in-None : goal.returns-in-None
+returns-in-None c =
+    (c.if-bytes-gt-LONGEST_LINE.true, none_cut c.args.bytes.now (sym (c.in-None.ensures {u = tt})))
+
+pub returns-in-None-2 : goal.returns-in-None-2
+returns-in-None-2 c =
+    part_cut c.args.bytes.now (sym (c.in-None.ensures {u = tt})) c.if-bytes-gt-LONGEST_LINE.false

@@ -1,0 +1,21 @@
+//! Scripts of events as texts: their lines, the grammar of a line, and the answer line of an event.
+//! What an event is, and what is said of it, are those of `psci_world_model`.
+//!
+//! - A *script* is a board line and then one line for each event, comment or empty line.
+//! - The *answer text* of a script has one line for each event before the first fault.
+#![tactic(auto)]
+
+mod answer_text;
+mod fault;
+mod grammar;
+mod laws;
+mod limits;
+mod lines;
+
+pub use answer_text::Answer;
+pub use fault::{ReplayFault, Replayed, ScriptFault};
+pub use grammar::{Line, read_line};
+pub use laws::law_event_lines;
+pub use limits::{LONGEST_LINE, MOST_LINES};
+pub use lines::{Extent, Front, cut, last_line};
+pub use psci_world_model::{Event, Said};
