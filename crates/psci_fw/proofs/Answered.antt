@@ -30,10 +30,10 @@ use Rattle.psci_fw_model.specs.Phases.{Away, Phase, Running, unless_pending}
 use Rattle.psci_fw_model.specs.Values.{Values}
 use Rattle.psci_fw_model.specs.Views.{view}
 use Rattle.psci_fw.specs.Calls.{IsAnswered}
-use Rattle.psci_fw.specs.Claims.{MayClaim, slept_by}
+use Rattle.psci_fw.specs.Sleeping.{slept_by}
 use Rattle.psci_fw.specs.Ways.{way_by, way_on}
-use Rattle.psci_fw.proofs.Changed.{same_values, updated_same}
-use Rattle.psci_fw.proofs.Moved.{arrived}
+use Rattle.psci_fw_state.specs.Claims.{MayClaim}
+use Rattle.psci_fw_state.proofs.Equal.{arrived, same_values, updated_same}
 
 -- Stopping --------------------------------------------------------------------------------------
 

@@ -1,9 +1,2 @@
-mod Acked
 mod Answered
-mod Begun
-mod Changed
-mod Granting
-mod Moved
-mod Spanned
 mod Stopping
-mod Viewed

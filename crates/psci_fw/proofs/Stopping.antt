@@ -32,7 +32,7 @@ use Rattle.psci_fw_model.specs.Invariant.{AreValues}
 use Rattle.psci_fw_model.specs.Lives.{in_life}
 use Rattle.psci_fw_model.specs.Outcomes.{message_for, stops, stops_with}
 use Rattle.psci_fw_model.specs.Paths.{cleared, laid}
-use Rattle.psci_fw_model.specs.Phases.{Away, Running, Suspended, activity_of}
+use Rattle.psci_fw_model.specs.Phases.{Running, Suspended, activity_of}
 use Rattle.psci_fw_model.specs.SystemCalls.{all_others, is_off_status}
 use Rattle.psci_fw_model.specs.Values.{Values}
 use Rattle.psci_fw_model.specs.Views.{ask, view}

@@ -9,7 +9,7 @@ use Rattle.psci_fw_model.specs.Effects.{function_effect}
 use Rattle.psci_fw_model.specs.Invariant.{AreValues}
 use Rattle.psci_fw_model.specs.Phases.{Running}
 use Rattle.psci_fw_model.specs.Values.{Values}
-use Rattle.psci_fw.specs.Seen.{IsStateOf, StateValue, values_in}
+use Rattle.psci_fw_state.specs.Seen.{IsStateOf, StateValue, values_in}
 
 -- a core may call a function: it is running, in a life that is not halting
 pub record MayCall (b : BoardValue) (s : StateValue) (c : ℕ) : Type 0 where

@@ -1,6 +1,5 @@
 pub mod Calls
-pub mod Claims
 pub mod Halts
-pub mod Rows
 pub mod Seen
+pub mod Sleeping
 pub mod Ways

@@ -6,14 +6,14 @@ ghost use Rattle.psci_fw_model.specs.After.{change};
 ghost use Rattle.psci_fw_model.specs.Effects.{enter_effect};
 ghost use Rattle.psci_fw_model.specs.Entering.{enter_fault, enter_outcome, is_old, resumes};
 ghost use Rattle.psci_fw_model.specs.Invariant.{AreValues};
-ghost use Rattle.psci_fw.specs.Seen.{IsStateOf, values_in};
+ghost use Rattle.psci_fw_state.specs.Seen.{IsStateOf, values_in};
 ghost use Rattle.psci_fw.specs.Ways.{way_on};
 
 use crate::laws::law_may_claim;
 use crate::off::send_down;
-use crate::state::State;
 use psci_board::{Board, Core};
 use psci_fw_model::{Act, Cause, FwFault, Opening, Outcome, Start, law_stops};
+use psci_fw_state::State;
 
 /// Whether a core may enter by this start, or the first reason why it may not.
 pub fn check_start(board: &Board, state: &State, core: Core, start: Start) -> Result<(), FwFault>

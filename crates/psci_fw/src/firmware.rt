@@ -1,9 +1,9 @@
 //! The firmware of one board.
 
-use crate::state::State;
 use psci_abi::{Regs, read};
 use psci_board::{Board, Core, Memory, Node};
 use psci_fw_model::{FwFault, Outcome, Start, Status};
+use psci_fw_state::State;
 use psci_link::{Ack, Message, Taken};
 use std::alloc::Global;
 use std::marker::Model;
@@ -32,7 +32,8 @@ ghost use Rattle.psci_fw_model.specs.After.{after};
 ghost use Rattle.psci_fw_model.specs.Answer.{answer, reply_of};
 ghost use Rattle.psci_fw_model.specs.Lives.{start_of_life};
 ghost use Rattle.psci_fw_model.specs.Phases.{is_running};
-ghost use Rattle.psci_fw.specs.Seen.{life_shown, message_shown, seen, status_shown};
+ghost use Rattle.psci_fw.specs.Seen.{life_shown, seen, status_shown};
+ghost use Rattle.psci_fw_state.specs.Seen.{message_shown};
 
 use crate::entering::{check_start, enter};
 use crate::smc::{check_caller, dispatch};

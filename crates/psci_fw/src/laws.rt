@@ -15,7 +15,7 @@ ghost use Rattle.psci_fw_model.specs.Lives.{in_life};
 ghost use Rattle.psci_fw_model.specs.Phases.{Running};
 ghost use Rattle.psci_fw_model.specs.SystemCalls.{all_others, is_off_status};
 ghost use Rattle.psci_fw_model.specs.Values.{Values};
-ghost use Rattle.psci_fw.specs.Claims.{MayClaim};
+ghost use Rattle.psci_fw_state.specs.Claims.{MayClaim};
 
 use psci_board::law_paths;
 use psci_coord::{law_claims, law_last_core};

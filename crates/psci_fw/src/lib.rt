@@ -8,18 +8,13 @@
 #![tactic(auto)]
 
 mod affinity;
-mod arrival;
-mod changes;
-mod claim;
 mod entering;
 mod firmware;
 mod laws;
 mod mode;
 mod off;
 mod on;
-mod row;
 mod smc;
-mod state;
 mod suspend;
 mod system;
 

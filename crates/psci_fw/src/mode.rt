@@ -8,12 +8,12 @@ ghost use Rattle.psci_fw_model.specs.Phases.{is_away, is_waiting};
 ghost use Rattle.psci_fw_model.specs.SuspendMode.{may_set, mode_of};
 ghost use Rattle.psci_fw_model.specs.SystemCalls.{all_others};
 ghost use Rattle.psci_fw.specs.Calls.{IsAnswered, MayCall};
-ghost use Rattle.psci_fw.specs.Seen.{IsStateOf, values_in};
+ghost use Rattle.psci_fw_state.specs.Seen.{IsStateOf, values_in};
 
-use crate::state::State;
 use psci_abi::Code;
 use psci_board::{Board, Core};
 use psci_fw_model::{Outcome, SuspendMode};
+use psci_fw_state::State;
 
 /// PSCI_SET_SUSPEND_MODE (DEN0022D): the mode of this number is set, if the other cores allow it.
 pub fn set_suspend_mode(board: &Board, state: &mut State, caller: Core, number: u32) -> Outcome

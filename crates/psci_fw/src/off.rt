@@ -7,15 +7,15 @@ ghost use Rattle.psci_link.specs.declared.kind.Kind.TheVariants as kinds;
 ghost use Rattle.psci_link.specs.Message.{IsClaim};
 ghost use Rattle.psci_fw_model.specs.Changes.{with_claim};
 ghost use Rattle.psci_fw_model.specs.Outcomes.{message_for, stops_with};
-ghost use Rattle.psci_fw.specs.Claims.{MayClaim};
+ghost use Rattle.psci_fw_state.specs.Claims.{MayClaim};
 ghost use Rattle.psci_fw.specs.Calls.{IsAnswered, MayCall};
-ghost use Rattle.psci_fw.specs.Seen.{IsStateOf, values_in};
+ghost use Rattle.psci_fw_state.specs.Seen.{IsStateOf, values_in};
 
 use crate::laws::law_may_claim;
-use crate::state::State;
 use psci_board::{Board, Core};
 use psci_coord::Parts;
 use psci_fw_model::{Act, Outcome, law_stops};
+use psci_fw_state::State;
 use psci_link::Kind;
 
 /// CPU_OFF (DEN0022D): the caller stops, and goes off.

@@ -5,13 +5,13 @@ ghost use Rattle.psci_abi.specs.declared.request.Request.TheVariants.{CpuOn};
 ghost use Rattle.psci_board.specs.Board.{cores};
 ghost use Rattle.psci_fw_model.specs.CpuOn.{target_of};
 ghost use Rattle.psci_fw.specs.Calls.{IsAnswered, MayCall};
-ghost use Rattle.psci_fw.specs.Seen.{IsStateOf, values_in};
+ghost use Rattle.psci_fw_state.specs.Seen.{IsStateOf, values_in};
 
-use crate::state::State;
 use psci_abi::Code;
 use psci_board::{Board, Core};
 use psci_coord::Parts;
 use psci_fw_model::{Act, Opening, Outcome, Status};
+use psci_fw_state::State;
 use psci_link::Kind;
 
 /// CPU_ON (DEN0022D): the core that `target` names is to be started, and will go on at the opening.

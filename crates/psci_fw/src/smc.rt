@@ -10,17 +10,18 @@ ghost use Rattle.psci_fw_model.specs.Effects.{function_effect};
 ghost use Rattle.psci_fw_model.specs.Invariant.{AreValues};
 ghost use Rattle.psci_fw_model.specs.Phases.{Running};
 ghost use Rattle.psci_fw.specs.Calls.{IsAnswered, MayCall};
-ghost use Rattle.psci_fw.specs.Seen.{IsStateOf, values_in};
+ghost use Rattle.psci_fw_state.specs.Seen.{IsStateOf, values_in};
 
+use crate::affinity::affinity_info;
 use crate::mode::set_suspend_mode;
 use crate::off::cpu_off;
 use crate::on::cpu_on;
-use crate::state::State;
 use crate::suspend::{FORMAT, cpu_suspend};
 use crate::system::{system_off, system_reset, system_suspend};
 use psci_abi::{Code, Request, features};
 use psci_board::{Board, Core};
 use psci_fw_model::{Act, FwFault, Opening, Outcome};
+use psci_fw_state::State;
 
 /// PSCI 1.1: the major version in bits 31:16, the minor one in bits 15:0.
 const VERSION: Code = Code(0x0001_0001);
@@ -94,7 +95,7 @@ fn function(board: &Board, state: &mut State, caller: Core, request: Request) ->
         Request::SetSuspendMode { mode } => set_suspend_mode(board, state, caller, mode),
         Request::Version => Outcome::returns(VERSION),
         Request::AffinityInfo { target, level } => {
-            Outcome::returns(state.affinity_info(board, target, level))
+            Outcome::returns(affinity_info(board, state, target, level))
         }
         Request::MigrateInfoType => Outcome::returns(NO_MIGRATION),
         Request::Features { word } => Outcome::returns(feature_code(word)),

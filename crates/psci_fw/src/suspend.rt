@@ -8,16 +8,16 @@ ghost use Rattle.psci_fw_model.specs.Claims.{suspend_parts};
 ghost use Rattle.psci_fw_model.specs.CpuSuspend.{osi_code, sleeps};
 ghost use Rattle.psci_fw_model.specs.Effects.{suspended};
 ghost use Rattle.psci_fw.specs.Calls.{IsAnswered, MayCall};
-ghost use Rattle.psci_fw.specs.Claims.{MaySleep, Slept};
-ghost use Rattle.psci_fw.specs.Seen.{IsStateOf, values_in};
+ghost use Rattle.psci_fw.specs.Sleeping.{MaySleep, Slept};
+ghost use Rattle.psci_fw_state.specs.Seen.{IsStateOf, values_in};
 
 use crate::laws::law_may_claim;
 use crate::off::send_down;
-use crate::state::State;
 use psci_abi::{Code, Format};
 use psci_board::{Board, Core};
 use psci_coord::Osi;
 use psci_fw_model::{Opening, Outcome, law_stops};
+use psci_fw_state::State;
 use psci_state::Ask;
 
 /// How every board writes its power state words.

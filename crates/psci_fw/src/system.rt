@@ -9,15 +9,15 @@ ghost use Rattle.psci_fw_model.specs.Phases.{Away};
 ghost use Rattle.psci_fw_model.specs.SystemCalls.{all_others, is_off_status, system_message};
 ghost use Rattle.psci_fw.specs.Calls.{IsAnswered, MayCall};
 ghost use Rattle.psci_fw.specs.Halts.{IsOfSystem};
-ghost use Rattle.psci_fw.specs.Seen.{IsStateOf, values_in};
+ghost use Rattle.psci_fw_state.specs.Seen.{IsStateOf, values_in};
 
 use crate::laws::law_may_claim;
-use crate::state::State;
 use crate::suspend::sleep;
 use psci_abi::Code;
 use psci_board::{Board, Core};
 use psci_coord::Parts;
 use psci_fw_model::{Act, Opening, Outcome, Status};
+use psci_fw_state::State;
 use psci_link::Kind;
 use psci_state::Ask;
 

@@ -3,7 +3,7 @@ use Rattle.psci_link.specs.Message.{IsClaim}
 use Rattle.psci_fw_model.specs.Changes.{with_arrival}
 use Rattle.psci_fw_model.specs.Lives.{in_life}
 use Rattle.psci_fw_model.specs.Values.{Values}
-use Rattle.psci_fw.specs.Seen.{values_in}
+use Rattle.psci_fw_state.specs.Seen.{values_in}
 use Rattle.psci_fw.specs.Ways.{way_on}
 use Rattle.psci_fw.proofs.Answered.{arrived_away, fault_inside, halted_outcome, left_may}
 use Rattle.psci_fw.proofs.Answered.{leaving_off, no_opening, no_resume, parked, way_outcome}

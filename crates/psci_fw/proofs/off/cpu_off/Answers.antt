@@ -1,6 +1,6 @@
 use Rattle.std.proofs.Common.{sym, subst}
 use Rattle.psci_link.specs.Message.{IsClaim}
-use Rattle.psci_fw.specs.Seen.{values_in}
+use Rattle.psci_fw_state.specs.Seen.{values_in}
 use Rattle.psci_fw.proofs.Answered.{leaving_off, left_may, off_answered}
 use Rattle.psci_fw.proofs.off.cpu_off.Goals as goal
 

@@ -1,0 +1,194 @@
+-- An acknowledgement is taken: what the values in the state are then.
+use Rattle.std.proofs.Common.{◌≡◌, ◌<◌, Bool, true, false, cond, List, length}
+use Rattle.std.proofs.Common.{None, Some, Option, refl, sym, ◌∙◌, ap, inl, inr}
+use Rattle.std.proofs.Common.{slice_index_or}
+use Rattle.std.proofs.lemmas.Bool.{and_parts, cases_lt, eqb-true}
+use Rattle.std.proofs.lemmas.List.{get_or_past}
+use Rattle.psci_link.specs.declared.kind.Kind.{Kind}
+use Rattle.psci_link.specs.declared.kind.Kind.TheVariants.{Down, Start, Off, Reset}
+use Rattle.psci_link.specs.declared.taken.Taken.TheVariants.{Used, Old}
+use Rattle.psci_link.specs.Message.{AckValue, MessageValue}
+use Rattle.psci_link.specs.Slots.{Slot, SlotsValue, answers, changed, is_kind, is_slot}
+use Rattle.psci_link.specs.Slots.{left_by, message_in, slot_of, taken}
+use Rattle.psci_link.specs.Slots.Slot.{OfCore, OfSystem}
+use Rattle.psci_link.specs.Slots.Change.{Acknowledge}
+use Rattle.psci_fw_model.specs.declared.status.Status.TheVariants as statuses
+use Rattle.psci_fw_model.specs.Changes.{turns_off, with_acknowledgement}
+use Rattle.psci_fw_model.specs.Phases.{is_away}
+use Rattle.psci_fw_model.specs.Values.{Values, updated}
+use Rattle.psci_tree.specs.Recount.{core_at}
+use Rattle.psci_tree.specs.declared.state.Activity.{Activity}
+use Rattle.psci_tree.specs.declared.state.Activity.TheVariants as activities
+use Rattle.psci_tree.specs.declared.state.CoreState.{CoreState}
+use Rattle.psci_fw_model.specs.declared.status.Status.{Status}
+use Rattle.psci_fw_state.specs.declared.row.CoreRow.{CoreRow}
+use Rattle.psci_fw_state.specs.Rows.{row_at}
+use Rattle.psci_fw_state.specs.Seen.{StateValue, phase_by, values_in}
+use Rattle.psci_fw_state.proofs.Changed.{Set, ap_set, both_set, same_set, stays, updated_is}
+use Rattle.psci_fw_state.proofs.Equal.{same_values, updated_same}
+
+-- Slots -----------------------------------------------------------------------------------------
+
+-- a Down that is used is of a core that has a slot
+down_at : (a : AckValue) (s : SlotsValue) (kind : Kind) → is_kind kind Down ≡ true
+    → taken a (message_in s (slot_of kind a.core)) ≡ Used → a.core.number < length s.cores
+down_at a s Start d e = cc
+down_at a s Off d e = cc
+down_at a s Reset d e = cc
+down_at a s Down d e = elim (cases_lt a.core.number (length s.cores)) [
+  | inl h ↦ h
+  | inr h ↦
+      let past : slice_index_or s.cores a.core.number None ≡ None =
+      get_or_past s.cores a.core.number None h in
+      let old : taken a None ≡ Used = rw past at e in cc
+]
+
+pub down_has_slot : (a : AckValue) (s : SlotsValue) (v : Values) → turns_off v a ≡ true
+    → taken a (message_in s (slot_of a.kind a.core)) ≡ Used → a.core.number < length s.cores
+down_has_slot a s v off used =
+    down_at a s a.kind (and_parts _ _ (and_parts _ _ off).0).0 used
+
+-- an old acknowledgement leaves what it finds
+left_old : (a : AckValue) (o : Option MessageValue) → taken a o ≡ Old → left_by a o ≡ o
+left_old a None e = refl
+left_old a (Some m) e = by (answers a m) refl
+  where
+    by : (t : Bool) → answers a m ≡ t → left_by a (Some m) ≡ Some m
+    by true f = let x : cond true Used Old ≡ Old = rw f at e in cc
+    by false f = rw f refl
+
+same_slot : (x y : Slot) → is_slot x y ≡ true → x ≡ y
+same_slot (OfCore c) (OfCore d) e = ap OfCore (eqb-true c d e)
+same_slot (OfCore c) OfSystem e = cc
+same_slot OfSystem (OfCore d) e = cc
+same_slot OfSystem OfSystem e = refl
+
+pub old_slot : (a : AckValue) (s : SlotsValue) (slot : Slot)
+    → taken a (message_in s (slot_of a.kind a.core)) ≡ Old
+    → changed slot (Acknowledge a) (message_in s slot) ≡ message_in s slot
+old_slot a s slot e = by (is_slot (slot_of a.kind a.core) slot) refl
+  where
+    by : (t : Bool) → is_slot (slot_of a.kind a.core) slot ≡ t
+        → cond t (left_by a (message_in s slot)) (message_in s slot) ≡ message_in s slot
+    by true f =
+        let here : slot_of a.kind a.core ≡ slot = same_slot _ slot f in
+        left_old a (message_in s slot) (rw (← here) e)
+    by false f = refl
+
+-- Values ----------------------------------------------------------------------------------------
+
+away_phase : (s t : Status) (a : Activity) → is_away (phase_by s a) ≡ true
+    → phase_by t a ≡ phase_by s a
+away_phase statuses.On t activities.Active e = cc
+away_phase statuses.Off t activities.Active e = cc
+away_phase statuses.Pending t activities.Active e = cc
+away_phase statuses.On t (activities.Suspended ask) e = cc
+away_phase statuses.Off t (activities.Suspended ask) e = cc
+away_phase statuses.Pending t (activities.Suspended ask) e = cc
+away_phase statuses.On statuses.On activities.Off e = refl
+away_phase statuses.On statuses.Off activities.Off e = refl
+away_phase statuses.On statuses.Pending activities.Off e = refl
+away_phase statuses.Off statuses.On activities.Off e = refl
+away_phase statuses.Off statuses.Off activities.Off e = refl
+away_phase statuses.Off statuses.Pending activities.Off e = refl
+away_phase statuses.Pending statuses.On activities.Off e = refl
+away_phase statuses.Pending statuses.Off activities.Off e = refl
+away_phase statuses.Pending statuses.Pending activities.Off e = refl
+
+-- the core of a used acknowledgement is off
+off_of : (s : StateValue) (rows : List CoreRow) (slots : SlotsValue) (a : AckValue)
+    → turns_off (values_in s) a ≡ true
+    → Set (row_at s.rows) (row_at rows) a.core.number (record {
+      status = statuses.Off;
+      opening = (row_at s.rows a.core.number).opening;
+    })
+    → ((slot : Slot) → message_in slots slot
+    ≡ changed slot (Acknowledge a) (message_in s.slots slot))
+    → values_in (record s { rows = rows; slots = slots }) ≡ with_acknowledgement a (values_in s)
+unfolding values_in
+off_of s rows slots a off row left =
+    let away : is_away ((values_in s).phase a.core.number) ≡ true = (and_parts _ _ off).1 in
+    same_values _ _ (record {
+      life = refl;
+      halting = refl;
+      mode = refl;
+      known = λ k. refl;
+      status = λ k.
+          updated_is (λ k. (row_at s.rows k).status) (λ k. (row_at rows k).status) a.core.number _
+          (ap_set (λ (r : CoreRow). r.status) _ _ _ _ row) k
+          ∙ ap (λ (t : Bool). updated (values_in s).status a.core.number
+          (cond t statuses.Off ((values_in s).status a.core.number)) k) (sym off);
+      phase = stays (values_in s).phase (values_in (record s { rows = rows; slots = slots })).phase
+          a.core.number _
+          (both_set (λ (r : CoreRow) (x : CoreState). phase_by r.status x.activity) (row_at s.rows)
+          (row_at rows) (core_at s.tree) (core_at s.tree) a.core.number _ _ row
+          (same_set (core_at s.tree) a.core.number))
+          (away_phase (row_at s.rows a.core.number).status statuses.Off
+          (core_at s.tree a.core.number).activity away);
+      opening = stays (λ k. (row_at s.rows k).opening) (λ k. (row_at rows k).opening)
+          a.core.number _ (ap_set (λ (r : CoreRow). r.opening) _ _ _ _ row) refl;
+      granted = λ l p. refl;
+      outstanding = left;
+    })
+
+pub off_changed : (s now : StateValue) (rows : List CoreRow) (slots : SlotsValue) (a : AckValue)
+    → s ≡ now → turns_off (values_in now) a ≡ true
+    → Set (row_at s.rows) (row_at rows) a.core.number (record {
+      status = statuses.Off;
+      opening = (row_at s.rows a.core.number).opening;
+    })
+    → ((slot : Slot) → message_in slots slot
+    ≡ changed slot (Acknowledge a) (message_in s.slots slot))
+    → values_in (record s { rows = rows; slots = slots }) ≡ with_acknowledgement a (values_in now)
+off_changed s now rows slots a e off row left =
+    rw (← e) (off_of s rows slots a (rw e off) row left)
+
+-- a used acknowledgement that turns no core off
+used_of : (s : StateValue) (slots : SlotsValue) (a : AckValue) → turns_off (values_in s) a ≡ false
+    → ((slot : Slot) → message_in slots slot
+    ≡ changed slot (Acknowledge a) (message_in s.slots slot))
+    → values_in (record s { slots = slots }) ≡ with_acknowledgement a (values_in s)
+unfolding values_in
+used_of s slots a off left = same_values _ _ (record {
+  life = refl;
+  halting = refl;
+  mode = refl;
+  known = λ k. refl;
+  status = λ k.
+      sym (updated_same (values_in s).status a.core.number
+      (cond (turns_off (values_in s) a) statuses.Off ((values_in s).status a.core.number))
+      (rw off refl) k);
+  phase = λ k. refl;
+  opening = λ k. refl;
+  granted = λ l p. refl;
+  outstanding = left;
+})
+
+pub used_changed : (s now : StateValue) (slots : SlotsValue) (a : AckValue) → s ≡ now
+    → turns_off (values_in now) a ≡ false
+    → ((slot : Slot) → message_in slots slot
+    ≡ changed slot (Acknowledge a) (message_in s.slots slot))
+    → values_in (record s { slots = slots }) ≡ with_acknowledgement a (values_in now)
+used_changed s now slots a e off left = rw (← e) (used_of s slots a (rw e off) left)
+
+-- an old acknowledgement
+old_of : (s : StateValue) (slots : SlotsValue)
+    → ((slot : Slot) → message_in slots slot ≡ message_in s.slots slot)
+    → values_in (record s { slots = slots }) ≡ values_in s
+unfolding values_in
+old_of s slots left = same_values _ _ (record {
+  life = refl;
+  halting = refl;
+  mode = refl;
+  known = λ k. refl;
+  status = λ k. refl;
+  phase = λ k. refl;
+  opening = λ k. refl;
+  granted = λ l p. refl;
+  outstanding = left;
+})
+
+pub old_changed : (s now : StateValue) (slots : SlotsValue) → s ≡ now
+    → ((slot : Slot) → message_in slots slot ≡ message_in s.slots slot)
+    → values_in (record s { slots = slots }) ≡ values_in now
+old_changed s now slots e left = rw (← e) (old_of s slots left)

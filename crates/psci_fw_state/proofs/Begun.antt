@@ -1,0 +1,221 @@
+-- A life begins: what the values in the state are then.
+use Rattle.std.proofs.Common.{◌≡◌, ℕ, zero, suc, ◌+◌, ◌<◌, ◌≤◌, ◌==◌, ◌&&◌, Bool, true, false, cond}
+use Rattle.std.proofs.Common.{List, [], ◌∷◌, length, sum, drop, map, get_or, leb, ltb, not}
+use Rattle.std.proofs.Common.{None, Option, refl, sym, subst, ◌∙◌, ap, arith, inl, inr}
+use Rattle.std.specs.List.{AllPass}
+use Rattle.std.proofs.lemmas.Bool.{and_parts, cases_lt, ltb-true, leb-true}
+use Rattle.std.proofs.lemmas.List.{get_or-replicate, get_or_past, length-replicate}
+use Rattle.std.proofs.Math.ListN.{replicate}
+use Rattle.std.proofs.lemmas.List.Sums.{sum_by-cons}
+use Rattle.psci_board.specs.Board.{BoardValue, IsBoard, IsTree, is_width, size_below, cores, height}
+use Rattle.psci_board.specs.Board.{nodes, place_above, up}
+use Rattle.psci_link.specs.Message.{MessageValue}
+use Rattle.psci_link.specs.Slots.{Slot, SlotsValue, message_in, no_messages}
+use Rattle.psci_link.specs.Slots.Slot.{OfCore, OfSystem}
+use Rattle.psci_tree.specs.declared.state.Activity.TheVariants as activities
+use Rattle.psci_tree.specs.declared.state.CoreState.{CoreState}
+use Rattle.psci_tree.specs.Recount.{IsDomainTree, TreeValue, core_at, granted_at, level_sizes}
+use Rattle.psci_tree.specs.Recount.{never_started}
+use Rattle.psci_fw_model.specs.declared.mode.SuspendMode.TheVariants.{Platform}
+use Rattle.psci_fw_model.specs.declared.status.Status.TheVariants as statuses
+use Rattle.psci_fw_model.specs.Lives.{first_granted, first_phase, first_status, in_life}
+use Rattle.psci_fw_model.specs.Lives.{start_of_life}
+use Rattle.psci_fw_model.specs.Phases as phases
+use Rattle.psci_fw_model.specs.Values.{Values}
+use Rattle.psci_fw_state.specs.declared.row.CoreRow.{CoreRow}
+use Rattle.psci_fw_state.specs.Rows.{AreFirst, first_row, off_row, row_at}
+use Rattle.psci_fw_state.specs.Seen.{StateValue, phase_by, values_in}
+use Rattle.psci_fw_state.proofs.Equal.{same_values}
+
+-- Every board has a core ------------------------------------------------------------------------
+
+some_in : (w : List ℕ) → AllPass is_width w → 0 < length w → 0 < sum w
+some_in [] all some = absurd (omega arith)
+some_in (n ∷ ns) all some =
+    let wide : 0 < n = ltb-true 0 n (and_parts _ _ (all 0 0 (omega arith))).0 in
+    omega (arith, sum_by-cons (λ x. x) n ns)
+
+pub some_below : (ws : List (List ℕ)) → IsTree ws → 0 < size_below ws
+some_below [] t = omega arith
+some_below (w ∷ ws) t = some_in w t.2 (omega (arith, t.0, some_below ws t.3))
+
+-- Rows ------------------------------------------------------------------------------------------
+
+beyond : (b : BoardValue) (k : ℕ) → 0 < k → off_row ≡ first_row b k
+beyond b k h = let other : (k == 0) ≡ false = grind arith in rw other refl
+
+pub each_first : (b : BoardValue) (rows : List CoreRow) → IsBoard b → AreFirst b rows
+    → (k : ℕ) → row_at rows k ≡ first_row b k
+each_first b rows is first k = elim (cases_lt k (cores b)) [
+  | inl h ↦ first.each k h
+  | inr h ↦ get_or_past rows k off_row (omega (arith, first.count))
+      ∙ beyond b k (omega (arith, some_below b.levels is.tree))
+]
+
+-- Domains that are not there --------------------------------------------------------------------
+
+sizes_length : (ws : List (List ℕ)) → length (level_sizes ws) ≡ length ws + 1
+sizes_length [] = refl
+sizes_length (w ∷ ws) = omega (arith, sizes_length ws)
+
+sizes_at : (ws : List (List ℕ)) (l : ℕ) → l ≤ length ws
+    → get_or (level_sizes ws) l 0 ≡ size_below (drop l ws)
+sizes_at [] zero h = refl
+sizes_at [] (suc l) h = absurd (omega arith)
+sizes_at (w ∷ ws) zero h = refl
+sizes_at (w ∷ ws) (suc l) h = sizes_at ws l (omega arith)
+
+lengths_at : (g : List (List ℕ)) (l : ℕ) → get_or (map length g) l 0 ≡ length (get_or g l [])
+lengths_at [] zero = refl
+lengths_at [] (suc l) = refl
+lengths_at (x ∷ g) zero = refl
+lengths_at (x ∷ g) (suc l) = lengths_at g l
+
+length_mapped : (g : List (List ℕ)) → length (map length g) ≡ length g
+length_mapped [] = refl
+length_mapped (x ∷ g) = ap suc (length_mapped g)
+
+-- nothing is granted to a domain that is not there
+pub granted_beyond : (t : TreeValue) (l p : ℕ) → IsDomainTree t
+    → (l ≤ length t.levels → p < size_below (drop l t.levels) → ⊥) → granted_at t l p ≡ 0
+granted_beyond t l p is n = elim (cases_lt (length t.levels) l) [
+  | inl h ↦
+      let none : get_or t.granted l [] ≡ [] =
+      get_or_past t.granted l [] (omega (
+        arith,
+        length_mapped t.granted,
+        ap length is.granted,
+        sizes_length t.levels,
+      )) in
+      rw none refl
+  | inr h ↦ elim (cases_lt p (size_below (drop l t.levels))) [
+    | inl k ↦ absurd (n h k)
+    | inr k ↦
+        let long : length (get_or t.granted l []) ≡ size_below (drop l t.levels) =
+        sym (lengths_at t.granted l) ∙ ap (λ xs. get_or xs l 0) is.granted
+        ∙ sizes_at t.levels l h in
+        get_or_past (get_or t.granted l []) p 0 (omega arith)
+  ]
+]
+
+-- The values ------------------------------------------------------------------------------------
+
+eqb_swap : (x y : ℕ) → (x == y) ≡ (y == x)
+eqb_swap x y = grind arith
+
+-- the state of a core at the start of a life
+abbrev first_core : ℕ → CoreState
+first_core c = cond (0 == c) (record { activity = activities.Active; known = 0 }) never_started
+
+first_known : (c : ℕ) → (first_core c).known ≡ 0
+first_known c = by (0 == c) refl
+  where
+    by : (t : Bool) → (0 == c) ≡ t → (cond t (record {
+      activity = activities.Active;
+      known = 0;
+    }) never_started).known ≡ 0
+    by true e = refl
+    by false e = refl
+
+first_is : (c : ℕ) → phase_by (first_status c) (first_core c).activity ≡ first_phase c
+first_is c = rw (eqb_swap 0 c) (by (c == 0) refl)
+  where
+    by : (t : Bool) → (c == 0) ≡ t
+        → phase_by (cond t statuses.Pending statuses.Off)
+        (cond t (record { activity = activities.Active; known = 0 }) never_started).activity
+        ≡ cond t phases.Pending phases.Away
+    by true e = refl
+    by false e = refl
+
+-- what is granted at the start of a life, by whether the domain is on the boot core's path
+abbrev depth : Bool → ℕ
+depth on_path = cond on_path 0 3
+
+granted_first : (b : BoardValue) (u : TreeValue) (l p : ℕ) → IsDomainTree u → u.levels ≡ b.levels
+    → (l ≤ height b → p < nodes b l
+    → granted_at u l p ≡ cond (place_above b.levels l 0 == p) 0 3)
+    → granted_at u l p ≡ first_granted b l p
+unfolding up
+granted_first b u l p is e law =
+    by (leb l (height b)) (ltb p (nodes b l)) refl refl
+  where
+    apart : (x y : Bool) → leb l (height b) ≡ x → ltb p (nodes b l) ≡ y → (x && y) ≡ false
+        → l ≤ height b → p < nodes b l → ⊥
+    apart x y f g h i j = grind arith
+
+    none : (l ≤ height b → p < nodes b l → ⊥) → granted_at u l p ≡ 0
+    none n =
+        granted_beyond u l p is
+        (subst (λ (ws : List (List ℕ)). l ≤ length ws → p < size_below (drop l ws) → ⊥) (sym e) n)
+
+    by : (x y : Bool) → leb l (height b) ≡ x → ltb p (nodes b l) ≡ y
+        → granted_at u l p ≡ cond ((x && y) && not (p == place_above b.levels l 0)) 3 0
+    by false y f g = none (apart false y f g refl)
+    by true false f g = none (apart true false f g refl)
+    by true true f g =
+        law (leb-true _ _ f) (ltb-true _ _ g)
+        ∙ ap depth (eqb_swap (place_above b.levels l 0) p)
+        ∙ flip (p == place_above b.levels l 0)
+      where
+        flip : (t : Bool) → ◌≡◌ {A = ℕ} (cond t 0 3) (cond (not t) 3 0)
+        flip true = refl
+        flip false = refl
+
+pub at_start : (b : BoardValue) (life : ℕ) (u : TreeValue) (rows : List CoreRow)
+    (slots : SlotsValue) → IsBoard b → IsDomainTree u → u.levels ≡ b.levels
+    → ((c : ℕ) → core_at u c ≡ first_core c)
+    → ((l p : ℕ) → l ≤ height b → p < nodes b l
+    → granted_at u l p ≡ cond (place_above b.levels l 0 == p) 0 3)
+    → AreFirst b rows → ((slot : Slot) → message_in slots slot ≡ None)
+    → values_in (record {
+      life = life;
+      halting = false;
+      mode = Platform;
+      tree = u;
+      rows = rows;
+      slots = slots;
+    }) ≡ start_of_life b life
+unfolding values_in
+at_start b life u rows slots is tree levels cores_are granted first empty =
+    let each : (k : ℕ) → row_at rows k ≡ first_row b k = each_first b rows is first in
+    same_values _ _ (record {
+      life = refl;
+      halting = refl;
+      mode = refl;
+      known = λ c. ap (λ (x : CoreState). x.known) (cores_are c) ∙ first_known c;
+      status = λ c. ap (λ (r : CoreRow). r.status) (each c);
+      phase = λ c.
+          ap (λ (r : CoreRow). phase_by r.status (core_at u c).activity) (each c)
+          ∙ ap (λ (x : CoreState). phase_by (first_status c) x.activity) (cores_are c)
+          ∙ first_is c;
+      opening = λ c. ap (λ (r : CoreRow). r.opening) (each c);
+      granted = λ l p. granted_first b u l p tree levels (granted l p);
+      outstanding = empty;
+    })
+
+-- at first no slot holds a message
+pub none_in : (n : ℕ) (slot : Slot) → message_in (no_messages n) slot ≡ None
+none_in n OfSystem = refl
+none_in n (OfCore c) = elim (cases_lt c n) [
+  | inl h ↦ get_or-replicate n c None None h
+  | inr h ↦ get_or_past (replicate n None) c None
+      (omega (arith, length-replicate {A = Option MessageValue} n None))
+]
+
+-- a life that is not the firmware's begins
+pub begun : (b : BoardValue) (life : ℕ) (now : Values) (w : Values) → (life ≡ now.life → ⊥)
+    → w ≡ start_of_life b life → w ≡ in_life b life now
+begun b life now w other e = let new : (life == now.life) ≡ false = grind arith in rw new e
+
+pub life_is : (s now : StateValue) → s ≡ now → (values_in now).life ≡ s.life
+unfolding values_in
+life_is s now e = ap (λ (x : StateValue). x.life) (sym e)
+
+pub granted_shown : (b : BoardValue) (s now : StateValue) (l p : ℕ) → s ≡ now
+    → IsDomainTree s.tree → s.tree.levels ≡ b.levels → (l ≤ height b → p < nodes b l → ⊥)
+    → 0 ≡ (values_in now).granted l p
+unfolding values_in
+granted_shown b s now l p e tree levels n =
+    sym (granted_beyond s.tree l p tree
+    (subst (λ (ws : List (List ℕ)). l ≤ length ws → p < size_below (drop l ws) → ⊥) (sym levels) n))
+    ∙ ap (λ (x : StateValue). granted_at x.tree l p) e

@@ -1,0 +1,151 @@
+-- Parts are granted one after another, from the core up.
+use Rattle.std.proofs.Common.{◌≡◌, ℕ, ◌+◌, ◌-◌, ◌<◌, ◌≤◌, ◌==◌, ◌&&◌, Bool, true, false, cond}
+use Rattle.std.proofs.Common.{List, length, drop, get_or, slice_get, Some, Option, refl, sym}
+use Rattle.std.proofs.Common.{subst, ◌∙◌}
+use Rattle.std.proofs.Common.{ap, arith, inl, inr, add-one}
+use Rattle.std.proofs.lemmas.Bool.{cases_lt}
+use Rattle.std.proofs.lemmas.Option.{get_or_from_slice_get, slice_get_past}
+use Rattle.psci_board.specs.Board.{BoardValue, HasNodeIn, cores, height, path, place_above}
+use Rattle.psci_board.specs.Board.{size_below}
+use Rattle.psci_board.specs.Board.{up}
+use Rattle.psci_board.specs.Laws.{PathLaws}
+use Rattle.psci_board.specs.declared.node.Node.{Node}
+use Rattle.psci_coord.specs.declared.part.Part.{Part}
+use Rattle.psci_link.specs.Message.{PartByPart}
+use Rattle.psci_tree.specs.Changes.{MayGrant}
+use Rattle.psci_tree.specs.Recount.{TreeValue, granted_at}
+use Rattle.psci_fw_model.specs.Paths.{depth_by, laid}
+use Rattle.psci_fw_state.specs.Claims.{MayClaim}
+
+-- below this level the tree grants what the parts say, and from it up what it granted before
+pub record IsLaid (b : BoardValue) (c : ℕ) (parts : List Part) (before : ℕ → ℕ → ℕ) (t : TreeValue)
+    (n : ℕ) : Type 0 where
+  pub low : (l p : ℕ) → l < n → granted_at t l p ≡ laid b c parts before l p
+  pub high : (l p : ℕ) → n ≤ l → granted_at t l p ≡ before l p
+
+eqb_swap : (x y : ℕ) → (x == y) ≡ (y == x)
+eqb_swap x y = grind arith
+
+-- the node of a level on a core's path
+pub path_at : (b : BoardValue) (core level : ℕ) (nodes : List Node) (other : Node) → PathLaws b
+    → nodes ≡ path b core → level ≤ height b
+    → get_or nodes level other ≡ record { level = level; place = up b level core }
+path_at b core level nodes other laws e h =
+    ap (λ (ns : List Node). get_or ns level other) e
+    ∙ get_or_from_slice_get (path b core) level (record { level = level; place = up b level core })
+    other (laws.node core level h)
+
+pub on_path : (b : BoardValue) (ws : List (List ℕ)) (core level : ℕ) → PathLaws b → ws ≡ b.levels
+    → core < cores b → level ≤ height b
+    → HasNodeIn ws (record { level = level; place = up b level core })
+on_path b ws core level laws e inside h = record {
+  level = omega (arith, ap length e);
+  place = subst (λ (vs : List (List ℕ)). up b level core < size_below (drop level vs)) (sym e)
+      (laws.inside core level inside h);
+}
+
+-- what the parts grant on the path, and beside it
+laid_on : (b : BoardValue) (c : ℕ) (parts : List Part) (before : ℕ → ℕ → ℕ) (l p : ℕ)
+    → p ≡ up b l c → laid b c parts before l p ≡ depth_by (slice_get parts l) (before l p)
+laid_on b c parts before l p e = let on : (p == up b l c) ≡ true = grind arith in rw on refl
+
+pub laid_part : (b : BoardValue) (c : ℕ) (parts : List Part) (before : ℕ → ℕ → ℕ) (l p : ℕ)
+    (part : Part) → p ≡ up b l c → slice_get parts l ≡ Some part
+    → laid b c parts before l p ≡ part.depth
+laid_part b c parts before l p part e is =
+    laid_on b c parts before l p e
+    ∙ ap (λ (o : Option Part). depth_by o (before l p)) is
+
+-- nothing is laid before the first part
+pub laid_none : (b : BoardValue) (c : ℕ) (parts : List Part) (t : TreeValue)
+    → IsLaid b c parts (granted_at t) t 0
+laid_none b c parts t = record {
+  low = λ l p h. absurd (omega arith);
+  high = λ l p h. refl;
+}
+
+-- one part more
+module _ (b : BoardValue) (c : ℕ) (parts : List Part) (before : ℕ → ℕ → ℕ) (t u : TreeValue)
+    (n : ℕ) (part : Part) (is : slice_get parts n ≡ Some part)
+    (law : (l p : ℕ) → granted_at u l p
+    ≡ cond ((n == l) && (up b n c == p)) part.depth (granted_at t l p))
+    (so_far : IsLaid b c parts before t n) where
+  other : (l p : ℕ) → (n ≡ l → ⊥) → granted_at u l p ≡ granted_at t l p
+  other l p ne = let no : (n == l) ≡ false = apart in law l p ∙ (rw no refl)
+    where
+      apart : (n == l) ≡ false
+      apart = grind arith
+
+  here : (p : ℕ) → granted_at u n p ≡ laid b c parts before n p
+  here p =
+      let yes : (n == n) ≡ true = grind arith in
+      law n p ∙ (rw (yes, is, eqb_swap (up b n c) p, so_far.high n p (omega arith)) refl)
+
+  more_low : (l p : ℕ) → l < n + 1 → granted_at u l p ≡ laid b c parts before l p
+  more_low l p h = elim (cases_lt l n) [
+    | inl k ↦ other l p (λ e. absurd (omega arith)) ∙ so_far.low l p k
+    | inr k ↦
+        let same : l ≡ n = omega arith in rw same (here p)
+  ]
+
+  pub laid_more : IsLaid b c parts before u (n + 1)
+  laid_more = record {
+    low = more_low;
+    high = λ l p h. other l p (λ e. absurd (omega arith)) ∙ so_far.high l p (omega arith);
+  }
+
+-- the next part may be granted
+module _ (b : BoardValue) (c : ℕ) (parts : List Part) (before : ℕ → ℕ → ℕ) (t : TreeValue) (n : ℕ)
+    (part : Part) (is : slice_get parts n ≡ Some part) (paths : PathLaws b)
+    (may : MayClaim b c parts before) (claim : PartByPart parts) (levels : t.levels ≡ b.levels)
+    (inside : n ≤ height b) (so_far : IsLaid b c parts before t n) where
+  to_up : (l core : ℕ) → place_above t.levels l core ≡ up b l core
+  unfolding up
+  to_up l core = ap (λ (ws : List (List ℕ)). place_above ws l core) levels
+
+  child : (core : ℕ) → core < size_below t.levels → 0 < n → place_above t.levels n core ≡ up b n c
+      → part.depth ≤ granted_at t (n - 1) (place_above t.levels (n - 1) core)
+  child core h some e =
+      let there : core < cores b = subst (λ (ws : List (List ℕ)). core < size_below ws) levels h in
+      let on : up b n core ≡ up b n c = sym (to_up n core) ∙ e in
+      let back : n - 1 + 1 ≡ n = omega arith in
+      let step = may.nested core (n - 1) there (omega arith) in
+      let depth = laid_part b c parts before n (up b n core) part on is in
+      let found : granted_at t (n - 1) (place_above t.levels (n - 1) core)
+      ≡ laid b c parts before (n - 1) (up b (n - 1) core) =
+      ap (granted_at t (n - 1)) (to_up (n - 1) core) ∙ so_far.low (n - 1) _ (omega arith) in
+      omega (arith, rw back at step)
+
+  above : (core : ℕ) → core < size_below t.levels → n < length t.levels
+      → place_above t.levels n core ≡ up b n c
+      → granted_at t (n + 1) (place_above t.levels (n + 1) core) ≤ part.depth
+  above core h low e =
+      let on : up b n core ≡ up b n c = sym (to_up n core) ∙ e in
+      let joined : up b (n + 1) core ≡ up b (n + 1) c = rw add-one (paths.joined core c n on) in
+      let high : n + 1 ≤ height b = omega (arith, ap length levels) in
+      let none : granted_at t (n + 1) (place_above t.levels (n + 1) core) ≡ 0 =
+      ap (granted_at t (n + 1)) (to_up (n + 1) core ∙ joined)
+      ∙ so_far.high (n + 1) _ (omega arith) ∙ may.free (n + 1) high in
+      omega arith
+
+  pub may_grant : MayGrant t (record { level = n; place = up b n c }) part.depth
+  may_grant = record {
+    deepest = claim.deepest n part is;
+    children = child;
+    parent = above;
+  }
+
+-- the whole claim
+pub laid_all : (b : BoardValue) (c : ℕ) (parts : List Part) (before : ℕ → ℕ → ℕ) (t : TreeValue)
+    (n : ℕ) → length parts ≤ n → IsLaid b c parts before t n → (l p : ℕ)
+    → granted_at t l p ≡ laid b c parts before l p
+laid_all b c parts before t n long so_far l p = elim (cases_lt l n) [
+  | inl h ↦ so_far.low l p h
+  | inr h ↦ so_far.high l p h ∙ sym (beyond (p == up b l c) h)
+]
+  where
+    beyond : (on : Bool) → n ≤ l
+        → cond on (depth_by (slice_get parts l) (before l p)) (before l p) ≡ before l p
+    beyond true h =
+        ap (λ (o : Option Part). depth_by o (before l p)) (slice_get_past parts l (omega arith))
+    beyond false h = refl

@@ -1,0 +1,292 @@
+-- A core is suspended, asked on, or arrives: what the values in the state are then.
+use Rattle.std.proofs.Common.{◌≡◌, ℕ, ◌==◌, Bool, true, false, cond, List, length}
+use Rattle.std.proofs.Common.{None, Some, Option, Vec, refl, sym, ◌∙◌, ap, arith}
+use Rattle.std.proofs.Math.ListN.{set}
+use Rattle.std.proofs.lemmas.List.{length-set, with_items_is}
+use Rattle.std.specs.Option.{option_or}
+use Rattle.std.specs.Vec.{with_items}
+use Rattle.psci_board.specs.Board.{BoardValue, place_above, up}
+use Rattle.psci_link.specs.Message.{MessageValue}
+use Rattle.psci_link.specs.Slots.{Slot, SlotsValue, changed, message_in}
+use Rattle.psci_link.specs.Slots.Change.{Put, Clear}
+use Rattle.psci_state.specs.Ask.{is_deep}
+use Rattle.psci_tree.specs.declared.state.Activity.{Activity}
+use Rattle.psci_tree.specs.declared.state.Activity.TheVariants as activities
+use Rattle.psci_tree.specs.declared.state.CoreState.{CoreState}
+use Rattle.psci_tree.specs.Recount.{TreeValue, core_at, granted_at, known_at}
+use Rattle.psci_fw_model.specs.declared.opening.Opening.{Opening}
+use Rattle.psci_ctl_model.specs.declared.start.Start.{Start}
+use Rattle.psci_fw_model.specs.declared.status.Status.{Status}
+use Rattle.psci_fw_model.specs.declared.status.Status.TheVariants as statuses
+use Rattle.psci_fw_model.specs.Changes.{with_arrival, with_pending, with_phase, with_rest}
+use Rattle.psci_fw_model.specs.Changes.{with_running}
+use Rattle.psci_fw_model.specs.Effects.{suspended}
+use Rattle.psci_fw_model.specs.Lives.{in_life}
+use Rattle.psci_fw_model.specs.Paths.{cleared}
+use Rattle.psci_fw_model.specs.Phases.{Phase, unless_pending}
+use Rattle.psci_fw_model.specs.Phases as phases
+use Rattle.psci_fw_model.specs.Values.{Values, updated}
+use Rattle.psci_fw_state.specs.declared.row.CoreRow.{CoreRow}
+use Rattle.psci_fw_state.specs.Rows.{row_at}
+use Rattle.psci_fw_state.specs.Seen.{StateValue, is_pending_phase, phase_by, stopped, values_in}
+use Rattle.psci_fw_state.proofs.Changed.{Set, ap_set, both_set, core_set}
+use Rattle.psci_fw_state.proofs.Changed.{stays, suspended_is}
+use Rattle.psci_fw_state.proofs.Changed.{updated_is}
+use Rattle.psci_fw_state.proofs.Equal.{arrived, same_values}
+
+-- the rows in memory, one of them set
+pub rows_set : {Z : Type 0} (old : Vec CoreRow Z) (mid new : List CoreRow) (c : ℕ) (r : CoreRow)
+    → mid ≡ old.items → new ≡ set mid c r → (with_items old new).items ≡ set old.items c r
+rows_set old mid new c r e f =
+    let long : length new ≡ old.len =
+    ap length f ∙ length-set mid c r ∙ ap length e ∙ sym old.ok.0 in
+    with_items_is old new long ∙ f ∙ ap (λ rows. set rows c r) e
+
+-- Suspended -------------------------------------------------------------------------------------
+
+pub suspended_of : (s : StateValue) (u : TreeValue) (rows : List CoreRow) (c : ℕ) (ask : List ℕ)
+    (o : Option Opening) → (values_in s).phase c ≡ phases.Running
+    → Set (core_at s.tree) (core_at u) c (record {
+      activity = activities.Suspended ask;
+      known = known_at s.tree c;
+    })
+    → Set (row_at s.rows) (row_at rows) c (record {
+      status = (row_at s.rows c).status;
+      opening = option_or o (row_at s.rows c).opening;
+    })
+    → ((l p : ℕ) → granted_at u l p ≡ granted_at s.tree l p)
+    → values_in (record s { tree = u; rows = rows })
+    ≡ with_rest c (record { phase = phases.Suspended ask; opening = o }) (values_in s)
+unfolding values_in
+suspended_of s u rows c ask o running at row granted = same_values _ _ (record {
+  life = refl;
+  halting = refl;
+  mode = refl;
+  known = stays (known_at s.tree) (known_at u) c _ (ap_set (λ (x : CoreState). x.known) _ _ _ _ at)
+      refl;
+  status = stays (λ k. (row_at s.rows k).status) (λ k. (row_at rows k).status) c _
+      (ap_set (λ (r : CoreRow). r.status) _ _ _ _ row) refl;
+  phase = λ k.
+      updated_is (values_in s).phase (values_in (record s { tree = u; rows = rows })).phase c _
+      (both_set (λ (r : CoreRow) (x : CoreState). phase_by r.status x.activity) (row_at s.rows)
+      (row_at rows) (core_at s.tree) (core_at u) c _ _ row at) k
+      ∙ ap (λ (p : Phase). updated (values_in s).phase c p k)
+      (suspended_is (row_at s.rows c).status ask
+      ∙ sym (ap (λ (p : Phase). unless_pending p (phases.Suspended ask)) running));
+  opening = updated_is (λ k. (row_at s.rows k).opening) (λ k. (row_at rows k).opening) c _
+      (ap_set (λ (r : CoreRow). r.opening) _ _ _ _ row);
+  granted = granted;
+  outstanding = λ slot. refl;
+})
+
+pub suspended_changed : (s now : StateValue) (u : TreeValue) (rows : List CoreRow) (c : ℕ)
+    (ask : List ℕ) (opening : Opening) (o : Option Opening) → s ≡ now
+    → (values_in now).phase c ≡ phases.Running
+    → ((k : ℕ) → core_at u k
+    ≡ cond (c == k) (record { activity = activities.Suspended ask; known = known_at s.tree c })
+    (core_at s.tree k))
+    → Set (row_at s.rows) (row_at rows) c (record {
+      status = (row_at s.rows c).status;
+      opening = option_or o (row_at s.rows c).opening;
+    })
+    → ((l p : ℕ) → granted_at u l p ≡ granted_at s.tree l p)
+    → cond (is_deep ask) (Some opening) None ≡ o
+    → values_in (record s { tree = u; rows = rows })
+    ≡ with_rest c (suspended opening ask) (values_in now)
+suspended_changed s now u rows c ask opening o e running at row granted is =
+    rw (← e, is)
+    (suspended_of s u rows c ask o (rw e running) (core_set s.tree u c _ at) row granted)
+
+-- Paths -----------------------------------------------------------------------------------------
+
+eqb_swap : (x y : ℕ) → (x == y) ≡ (y == x)
+eqb_swap x y = grind arith
+
+-- nothing is granted on the path of a core, as the tree says it and as the values do
+pub path_cleared : (b : BoardValue) (s : StateValue) (u : TreeValue) (c : ℕ)
+    → s.tree.levels ≡ b.levels
+    → ((l p : ℕ) → granted_at u l p
+    ≡ cond (place_above s.tree.levels l c == p) 0 (granted_at s.tree l p))
+    → (l p : ℕ) → granted_at u l p ≡ cleared b c (granted_at s.tree) l p
+unfolding up
+path_cleared b s u c e law l p =
+    law l p
+    ∙ ap (λ (ws : List (List ℕ)). cond (place_above ws l c == p) 0 (granted_at s.tree l p)) e
+    ∙ ap (λ (t : Bool). cond t 0 (granted_at s.tree l p)) (eqb_swap (place_above b.levels l c) p)
+
+-- Asked on --------------------------------------------------------------------------------------
+
+pub pending_of : (b : BoardValue) (s : StateValue) (u : TreeValue) (rows : List CoreRow)
+    (slots : SlotsValue) (m : MessageValue) (o : Opening)
+    → Set (core_at s.tree) (core_at u) m.core.number (record {
+      activity = activities.Active;
+      known = known_at s.tree m.core.number;
+    })
+    → Set (row_at s.rows) (row_at rows) m.core.number (record {
+      status = statuses.Pending;
+      opening = Some o;
+    })
+    → ((l p : ℕ) → granted_at u l p ≡ cleared b m.core.number (granted_at s.tree) l p)
+    → ((slot : Slot) → message_in slots slot ≡ changed slot (Put m) (message_in s.slots slot))
+    → values_in (record s { tree = u; rows = rows; slots = slots })
+    ≡ with_pending b (record { message = m; opening = o }) (values_in s)
+unfolding values_in
+pending_of b s u rows slots m o at row granted sent = same_values _ _ (record {
+  life = refl;
+  halting = refl;
+  mode = refl;
+  known = stays (known_at s.tree) (known_at u) m.core.number _
+      (ap_set (λ (x : CoreState). x.known) _ _ _ _ at) refl;
+  status = updated_is (λ k. (row_at s.rows k).status) (λ k. (row_at rows k).status) m.core.number _
+      (ap_set (λ (r : CoreRow). r.status) _ _ _ _ row);
+  phase = updated_is (values_in s).phase
+      (values_in (record s { tree = u; rows = rows; slots = slots })).phase m.core.number _
+      (both_set (λ (r : CoreRow) (x : CoreState). phase_by r.status x.activity) (row_at s.rows)
+      (row_at rows) (core_at s.tree) (core_at u) m.core.number _ _ row at);
+  opening = updated_is (λ k. (row_at s.rows k).opening) (λ k. (row_at rows k).opening)
+      m.core.number _ (ap_set (λ (r : CoreRow). r.opening) _ _ _ _ row);
+  granted = granted;
+  outstanding = sent;
+})
+
+-- Arrived ---------------------------------------------------------------------------------------
+
+in_this : (b : BoardValue) (life : ℕ) (v : Values) → v.life ≡ life → in_life b life v ≡ v
+in_this b life v e = let same : (life == v.life) ≡ true = grind arith in rw same refl
+
+arrived_in : (b : BoardValue) (c : ℕ) (s : Start) (v found : Values) → found ≡ v
+    → arrived b c s found ≡ arrived b c s v
+arrived_in b c s v found e = ap (arrived b c s) e
+
+pub arrives : (b : BoardValue) (c : ℕ) (s : Start) (v : Values) → v.life ≡ s.life
+    → with_arrival b c s v ≡ arrived b c s v
+arrives b c s v e = arrived_in b c s v (in_life b s.life v) (in_this b s.life v e)
+
+running_of : (b : BoardValue) (s : StateValue) (u : TreeValue) (rows : List CoreRow)
+    (slots : SlotsValue) (c : ℕ) (start : Start)
+    → Set (core_at s.tree) (core_at u) c (record {
+      activity = activities.Active;
+      known = start.number;
+    })
+    → Set (row_at s.rows) (row_at rows) c (record { status = statuses.On; opening = None })
+    → ((l p : ℕ) → granted_at u l p ≡ cleared b c (granted_at s.tree) l p)
+    → ((slot : Slot) → message_in slots slot
+    ≡ changed slot (Clear (record { number = c })) (message_in s.slots slot))
+    → values_in (record s { tree = u; rows = rows; slots = slots })
+    ≡ with_running c (arrived b c start (values_in s))
+unfolding values_in
+running_of b s u rows slots c start at row granted empty = same_values _ _ (record {
+  life = refl;
+  halting = refl;
+  mode = refl;
+  known = updated_is (known_at s.tree) (known_at u) c _
+      (ap_set (λ (x : CoreState). x.known) _ _ _ _ at);
+  status = updated_is (λ k. (row_at s.rows k).status) (λ k. (row_at rows k).status) c _
+      (ap_set (λ (r : CoreRow). r.status) _ _ _ _ row);
+  phase = updated_is (values_in s).phase
+      (values_in (record s { tree = u; rows = rows; slots = slots })).phase c _
+      (both_set (λ (r : CoreRow) (x : CoreState). phase_by r.status x.activity) (row_at s.rows)
+      (row_at rows) (core_at s.tree) (core_at u) c _ _ row at);
+  opening = updated_is (λ k. (row_at s.rows k).opening) (λ k. (row_at rows k).opening) c _
+      (ap_set (λ (r : CoreRow). r.opening) _ _ _ _ row);
+  granted = granted;
+  outstanding = empty;
+})
+
+pub running_changed : (b : BoardValue) (s now : StateValue) (u : TreeValue) (rows : List CoreRow)
+    (slots : SlotsValue) (c : ℕ) (start : Start) → s ≡ now → (values_in now).life ≡ start.life
+    → ((k : ℕ) → core_at u k
+    ≡ cond (c == k) (record { activity = activities.Active; known = start.number })
+    (core_at s.tree k))
+    → Set (row_at s.rows) (row_at rows) c (record { status = statuses.On; opening = None })
+    → ((l p : ℕ) → granted_at u l p ≡ cleared b c (granted_at s.tree) l p)
+    → ((slot : Slot) → message_in slots slot
+    ≡ changed slot (Clear (record { number = c })) (message_in s.slots slot))
+    → values_in (record s { tree = u; rows = rows; slots = slots })
+    ≡ with_running c (with_arrival b c start (values_in now))
+running_changed b s now u rows slots c start e life at row granted empty =
+    rw (← e)
+    (running_of b s u rows slots c start (core_set s.tree u c _ at) row granted empty
+    ∙ ap (with_running c) (sym (arrives b c start (values_in s) (rw e life))))
+
+-- the phase of a core that stops, by whether it was pending
+stopped_phase : (s : Status) (a : Activity) (pending : Bool)
+    → is_pending_phase (phase_by s a) ≡ pending
+    → phase_by s (stopped pending) ≡ unless_pending (phase_by s a) phases.Away
+stopped_phase statuses.On activities.Active true e = cc
+stopped_phase statuses.On activities.Active false e = refl
+stopped_phase statuses.Off activities.Active true e = cc
+stopped_phase statuses.Off activities.Active false e = refl
+stopped_phase statuses.Pending activities.Active true e = refl
+stopped_phase statuses.Pending activities.Active false e = cc
+stopped_phase statuses.On (activities.Suspended ask) true e = cc
+stopped_phase statuses.On (activities.Suspended ask) false e = refl
+stopped_phase statuses.Off (activities.Suspended ask) true e = cc
+stopped_phase statuses.Off (activities.Suspended ask) false e = refl
+stopped_phase statuses.Pending (activities.Suspended ask) true e = cc
+stopped_phase statuses.Pending (activities.Suspended ask) false e = refl
+stopped_phase statuses.On activities.Off true e = cc
+stopped_phase statuses.On activities.Off false e = refl
+stopped_phase statuses.Off activities.Off true e = cc
+stopped_phase statuses.Off activities.Off false e = refl
+stopped_phase statuses.Pending activities.Off true e = cc
+stopped_phase statuses.Pending activities.Off false e = refl
+
+stopped_of : (b : BoardValue) (s : StateValue) (u : TreeValue) (rows : List CoreRow)
+    (slots : SlotsValue) (c : ℕ) (start : Start) (pending : Bool)
+    → is_pending_phase ((values_in s).phase c) ≡ pending
+    → Set (core_at s.tree) (core_at u) c (record {
+      activity = stopped pending;
+      known = start.number;
+    })
+    → Set (row_at s.rows) (row_at rows) c (record {
+      status = (row_at s.rows c).status;
+      opening = None;
+    })
+    → ((l p : ℕ) → granted_at u l p ≡ cleared b c (granted_at s.tree) l p)
+    → ((slot : Slot) → message_in slots slot
+    ≡ changed slot (Clear (record { number = c })) (message_in s.slots slot))
+    → values_in (record s { tree = u; rows = rows; slots = slots })
+    ≡ with_phase c phases.Away (arrived b c start (values_in s))
+unfolding values_in
+stopped_of b s u rows slots c start pending was at row granted empty = same_values _ _ (record {
+  life = refl;
+  halting = refl;
+  mode = refl;
+  known = updated_is (known_at s.tree) (known_at u) c _
+      (ap_set (λ (x : CoreState). x.known) _ _ _ _ at);
+  status = stays (λ k. (row_at s.rows k).status) (λ k. (row_at rows k).status) c _
+      (ap_set (λ (r : CoreRow). r.status) _ _ _ _ row) refl;
+  phase = λ k.
+      updated_is (values_in s).phase
+      (values_in (record s { tree = u; rows = rows; slots = slots })).phase c _
+      (both_set (λ (r : CoreRow) (x : CoreState). phase_by r.status x.activity) (row_at s.rows)
+      (row_at rows) (core_at s.tree) (core_at u) c _ _ row at) k
+      ∙ ap (λ (p : Phase). updated (values_in s).phase c p k)
+      (stopped_phase (row_at s.rows c).status (core_at s.tree c).activity pending was);
+  opening = updated_is (λ k. (row_at s.rows k).opening) (λ k. (row_at rows k).opening) c _
+      (ap_set (λ (r : CoreRow). r.opening) _ _ _ _ row);
+  granted = granted;
+  outstanding = empty;
+})
+
+pub stopped_changed : (b : BoardValue) (s now : StateValue) (u : TreeValue) (rows : List CoreRow)
+    (slots : SlotsValue) (c : ℕ) (start : Start) (pending : Bool) → s ≡ now
+    → (values_in now).life ≡ start.life → pending ≡ is_pending_phase ((values_in now).phase c)
+    → ((k : ℕ) → core_at u k
+    ≡ cond (c == k) (record { activity = stopped pending; known = start.number })
+    (core_at s.tree k))
+    → Set (row_at s.rows) (row_at rows) c (record {
+      status = (row_at s.rows c).status;
+      opening = None;
+    })
+    → ((l p : ℕ) → granted_at u l p ≡ cleared b c (granted_at s.tree) l p)
+    → ((slot : Slot) → message_in slots slot
+    ≡ changed slot (Clear (record { number = c })) (message_in s.slots slot))
+    → values_in (record s { tree = u; rows = rows; slots = slots })
+    ≡ with_phase c phases.Away (with_arrival b c start (values_in now))
+stopped_changed b s now u rows slots c start pending e life was at row granted empty =
+    rw (← e)
+    (stopped_of b s u rows slots c start pending (rw e (sym was)) (core_set s.tree u c _ at) row
+    granted empty
+    ∙ ap (with_phase c phases.Away) (sym (arrives b c start (values_in s) (rw e life))))

@@ -1,0 +1,69 @@
+-- What claims are made from is what the tree holds.
+use Rattle.std.proofs.Common.{◌≡◌, ℕ, refl, ap, length, sym, ◌∙◌, List, Ok}
+use Rattle.std.specs.Prelude.{nat_le, if◌then◌else◌}
+use Rattle.psci_board.specs.Board.{BoardValue}
+use Rattle.psci_coord.specs.Claim.{platform_claim}
+use Rattle.psci_coord.specs.LastCore.{last_core_check}
+use Rattle.psci_coord.specs.Looked.{view_of}
+use Rattle.psci_tree.specs.declared.state.Activity.{Activity}
+use Rattle.psci_tree.specs.declared.state.Activity.TheVariants as activities
+use Rattle.psci_tree.specs.Recount.{asks, core_at, is_active, is_off}
+use Rattle.psci_fw_model.specs.declared.status.Status.{Status}
+use Rattle.psci_fw_model.specs.declared.status.Status.TheVariants as statuses
+use Rattle.psci_fw_model.specs.declared.mode.SuspendMode.TheVariants.{Platform, OsInitiated}
+use Rattle.psci_fw_model.specs.declared.opening.Opening.{Opening}
+use Rattle.psci_fw_model.specs.Changes.{with_rest}
+use Rattle.psci_fw_model.specs.Claims.{suspend_claim, suspend_parts}
+use Rattle.psci_fw_model.specs.Effects.{suspended}
+use Rattle.psci_fw_model.specs.Phases.{activity_of}
+use Rattle.psci_fw_model.specs.Values.{Values}
+use Rattle.psci_fw_model.specs.Views.{view}
+use Rattle.psci_fw_state.specs.Rows.{row_at}
+use Rattle.psci_fw_state.specs.Seen.{StateValue, phase_by, values_in}
+
+back : (s : Status) (a : Activity) → activity_of (phase_by s a) ≡ a
+back statuses.On activities.Active = refl
+back statuses.Off activities.Active = refl
+back statuses.Pending activities.Active = refl
+back statuses.On (activities.Suspended ask) = refl
+back statuses.Off (activities.Suspended ask) = refl
+back statuses.Pending (activities.Suspended ask) = refl
+back statuses.On activities.Off = refl
+back statuses.Off activities.Off = refl
+back statuses.Pending activities.Off = refl
+
+viewed : (b : BoardValue) (s : StateValue) → s.tree.levels ≡ b.levels
+    → view_of s.tree ≡ view b (values_in s)
+unfolding view values_in
+viewed b s e =
+    let at : (c : ℕ) → (core_at s.tree c).activity
+    ≡ activity_of (phase_by (row_at s.rows c).status (core_at s.tree c).activity) =
+    λ c. sym (back (row_at s.rows c).status (core_at s.tree c).activity) in
+    λ i. record {
+      ask = λ c level.
+          if nat_le level (length (e i)) then asks (at c i) level else 0;
+      known = (view_of s.tree).known;
+      is_active = λ c. is_active (at c i);
+      is_off = λ c. is_off (at c i);
+      granted = (view_of s.tree).granted;
+    }
+
+pub view_is : (b : BoardValue) (s now : StateValue) → s ≡ now → s.tree.levels ≡ b.levels
+    → view_of s.tree ≡ view b (values_in now)
+view_is b s now e levels = viewed b s levels ∙ ap (λ (x : StateValue). view b (values_in x)) e
+
+-- Suspended -------------------------------------------------------------------------------------
+
+-- where a core goes on is nothing to its domains
+pub platform_parts : (b : BoardValue) (v w : Values) (c : ℕ) (ask : List ℕ) (opening : Opening)
+    → v.mode ≡ Platform → w ≡ with_rest c (suspended opening ask) v
+    → Ok (platform_claim b (view b w) c) ≡ suspend_parts b v c ask
+unfolding suspend_parts view
+platform_parts b v w c ask opening e is =
+    ap (λ (x : Values). Ok (platform_claim b (view b x) c)) is
+    ∙ ap (suspend_claim b v c ask) (sym e)
+
+pub checked : (b : BoardValue) (v : Values) (c : ℕ) (ask : List ℕ) → v.mode ≡ OsInitiated
+    → last_core_check b (view b v) c ask ≡ suspend_parts b v c ask
+unfolding suspend_parts
+checked b v c ask e = ap (suspend_claim b v c ask) (sym e)

@@ -1,0 +1,65 @@
+use Rattle.std.proofs.Common.{◌≤◌, arith, ◌∙◌}
+use Rattle.std.proofs.lemmas.Option.{slice_get-get_or}
+use Rattle.psci_board.specs.Board.{height}
+use Rattle.psci_coord.specs.declared.part.Part.{Part}
+use Rattle.psci_tree.specs.Recount.{granted_at}
+use Rattle.psci_fw_state.proofs.Granting.{laid_all, laid_more, may_grant, on_path, path_at}
+use Rattle.psci_fw_state.proofs.claim.grant_parts.Goals as goal
+
+pub grant-requires-clause-domain : goal.grant-requires-clause-domain
+grant-requires-clause-domain c =
+    let b = c.args.board.now in
+    let laws = c.law_paths.ensures b c.requires.board in
+    let low : c.loop-level.level ≤ height b =
+    omega (arith, c.loop-level-test.true, c.requires.few) in
+    let node = path_at b c.args.core.number c.loop-level.level c.deref.result.now
+    (record { level = 0; place = 0 }) laws (c.deref.ensures.0 ∙ c.path-path.ensures) low in
+    let levels = c.loop-level.invariant.levels ∙ c.requires.levels in
+    rw node (on_path b c.loop-level.tree.levels c.args.core.number c.loop-level.level laws levels
+    c.requires.inside low)
+
+pub grant-requires-clause-depth : goal.grant-requires-clause-depth
+grant-requires-clause-depth c =
+    let b = c.args.board.now in
+    let laws = c.law_paths.ensures b c.requires.board in
+    let low : c.loop-level.level ≤ height b =
+    omega (arith, c.loop-level-test.true, c.requires.few) in
+    let node = path_at b c.args.core.number c.loop-level.level c.deref.result.now
+    (record { level = 0; place = 0 }) laws (c.deref.ensures.0 ∙ c.path-path.ensures) low in
+    let levels = c.loop-level.invariant.levels ∙ c.requires.levels in
+    let none : Part = record { level = 0; depth = 0; generation = 0 } in
+    let part = slice_get-get_or c.args.parts.now c.loop-level.level none c.loop-level-test.true in
+    rw node (may_grant b c.args.core.number c.args.parts.now (granted_at c.args.tree.now)
+    c.loop-level.tree c.loop-level.level _ part laws c.requires.may
+    (c.law_parts.ensures.parts c.args.parts.now c.requires.claim) levels low
+    c.loop-level.invariant.laid)
+
+pub loop-level-preserved : goal.loop-level-preserved
+loop-level-preserved c =
+    let b = c.args.board.now in
+    let laws = c.law_paths.ensures b c.requires.board in
+    let low : c.loop-level.level ≤ height b =
+    omega (arith, c.loop-level-test.true, c.requires.few) in
+    let node = path_at b c.args.core.number c.loop-level.level c.deref.result.now
+    (record { level = 0; place = 0 }) laws (c.deref.ensures.0 ∙ c.path-path.ensures) low in
+    let levels = c.loop-level.invariant.levels ∙ c.requires.levels in
+    let none : Part = record { level = 0; depth = 0; generation = 0 } in
+    let part = slice_get-get_or c.args.parts.now c.loop-level.level none c.loop-level-test.true in
+    let has = on_path b c.loop-level.tree.levels c.args.core.number c.loop-level.level laws levels
+    c.requires.inside low in
+    record {
+      laid = laid_more b c.args.core.number c.args.parts.now (granted_at c.args.tree.now)
+          c.loop-level.tree c.grant.new.self c.loop-level.level _ part
+          (λ l p. rw (c.grant.ensures.value, node)
+          (c.law_granted.ensures.grant c.loop-level.tree _ _ l p c.loop-level.invariant.tree
+          has)) c.loop-level.invariant.laid;
+      cores = λ k. rw c.grant.ensures.value
+          (c.law_cores.ensures.grant c.loop-level.tree _ _ k ∙ c.loop-level.invariant.cores k);
+      levels = c.grant.ensures.levels ∙ c.loop-level.invariant.levels;
+      tree = c.grant.ensures.tree;
+    }
+
+pub returns-clause-granted : goal.returns-clause-granted
+returns-clause-granted c = λ l p.
+    laid_all c.args.board.now c.args.core.number c.args.parts.now (granted_at c.args.tree.now)
+    c.loop-level.tree c.loop-level.level c.loop-level-test.false c.loop-level.invariant.laid l p

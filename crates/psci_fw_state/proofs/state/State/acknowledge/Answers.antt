@@ -1,0 +1,104 @@
+use Rattle.std.proofs.Common.{◌≡◌, ◌<◌, true, false, length, sym, subst, ap, arith, ◌∙◌}
+use Rattle.psci_link.specs.declared.taken.Taken.TheVariants.{Used, Old}
+use Rattle.psci_link.specs.Message.{AckValue}
+use Rattle.psci_link.specs.Slots.{message_in, slot_of, taken}
+use Rattle.psci_link.specs.Slots.Change.{Acknowledge}
+use Rattle.psci_fw_model.specs.declared.status.Status.TheVariants as statuses
+use Rattle.psci_fw_model.specs.Changes.{turns_off}
+use Rattle.psci_fw_state.specs.Rows.{row_at}
+use Rattle.psci_fw_state.specs.Seen.{StateValue, values_in}
+use Rattle.psci_fw_state.proofs.Acked.{down_has_slot, off_changed, old_changed, old_slot, used_changed}
+use Rattle.psci_fw_state.proofs.Changed.{row_set}
+use Rattle.psci_fw_state.proofs.Moved.{rows_set}
+use Rattle.psci_fw_state.proofs.state.State.acknowledge.Goals as goal
+
+pub returns-then-is_off-clause-used : goal.returns-then-is_off-clause-used
+returns-then-is_off-clause-used c = λ used.
+    let s : StateValue = record {
+      life = c.self.inside.life;
+      halting = c.self.inside.halting;
+      mode = c.self.inside.mode;
+      tree = c.self.inside.tree;
+      rows = c.self.inside.rows.items;
+      slots = c.self.inside.slots;
+    } in
+    let a : AckValue = record {
+      kind = c.ack.inside.kind;
+      core = c.ack.inside.core;
+      life = c.ack.inside.life;
+      number = c.ack.inside.number;
+      applied = c.ack.inside.applied;
+      stale = c.ack.inside.stale;
+    } in
+    let off : turns_off (values_in c.args.self.now) a ≡ true =
+    subst (λ (x : AckValue). turns_off (values_in c.args.self.now) x ≡ true) (sym c.ack.view_is)
+    (sym c.turns_off-is_off.ensures ∙ c.if-is_off.true) in
+    let used_up : taken a (message_in s.slots (slot_of a.kind a.core)) ≡ Used =
+    subst (λ (x : AckValue). taken x (message_in s.slots (slot_of x.kind x.core)) ≡ Used)
+    (sym c.ack.view_is) (sym c.take_ack-taken.ensures.taken ∙ used) in
+    let inside : a.core.number < length s.slots.cores =
+    down_has_slot a s.slots (values_in c.args.self.now) off used_up in
+    let row_inside : a.core.number < length s.rows =
+    omega (arith, c.self.invariant.rows, c.self.invariant.slots) in
+    let row : c.row_of.result ≡ row_at s.rows a.core.number =
+    c.row_of.ensures ∙ ap (λ xs. row_at xs a.core.number) c.deref.ensures.value in
+    let rows = rows_set c.self.inside.rows c.deref_mut.result.now c.set_row.new.rows
+    a.core.number (record { status = statuses.Off; opening = c.row_of.result.opening })
+    c.deref_mut.ensures.value c.set_row.ensures in
+    rw (← c.ack.view_is)
+    (off_changed s _ _ c.take_ack-taken.new.self a c.self.view_is off
+    (rw (rows, row) (row_set s.rows a.core.number _ row_inside))
+    (λ slot. rw (c.take_ack-taken.ensures.slots, ← c.ack.view_is)
+    (c.law_slots.ensures.changed s.slots (Acknowledge a) tt slot)))
+
+pub returns-then-eq-clause-old : goal.returns-then-eq-clause-old
+returns-then-eq-clause-old c = λ old.
+    let s : StateValue = record {
+      life = c.self.inside.life;
+      halting = c.self.inside.halting;
+      mode = c.self.inside.mode;
+      tree = c.self.inside.tree;
+      rows = c.self.inside.rows.items;
+      slots = c.self.inside.slots;
+    } in
+    let a : AckValue = record {
+      kind = c.ack.inside.kind;
+      core = c.ack.inside.core;
+      life = c.ack.inside.life;
+      number = c.ack.inside.number;
+      applied = c.ack.inside.applied;
+      stale = c.ack.inside.stale;
+    } in
+    let found : taken a (message_in s.slots (slot_of a.kind a.core)) ≡ Old =
+    subst (λ (x : AckValue). taken x (message_in s.slots (slot_of x.kind x.core)) ≡ Old)
+    (sym c.ack.view_is) (sym c.take_ack-taken.ensures.taken ∙ old) in
+    old_changed s _ c.take_ack-taken.new.self c.self.view_is
+    (λ slot. rw (c.take_ack-taken.ensures.slots, ← c.ack.view_is)
+    (c.law_slots.ensures.changed s.slots (Acknowledge a) tt slot
+    ∙ old_slot a s.slots slot found))
+
+pub returns-else-is_off-clause-used : goal.returns-else-is_off-clause-used
+returns-else-is_off-clause-used c = λ used.
+    let s : StateValue = record {
+      life = c.self.inside.life;
+      halting = c.self.inside.halting;
+      mode = c.self.inside.mode;
+      tree = c.self.inside.tree;
+      rows = c.self.inside.rows.items;
+      slots = c.self.inside.slots;
+    } in
+    let a : AckValue = record {
+      kind = c.ack.inside.kind;
+      core = c.ack.inside.core;
+      life = c.ack.inside.life;
+      number = c.ack.inside.number;
+      applied = c.ack.inside.applied;
+      stale = c.ack.inside.stale;
+    } in
+    let off : turns_off (values_in c.args.self.now) a ≡ false =
+    subst (λ (x : AckValue). turns_off (values_in c.args.self.now) x ≡ false) (sym c.ack.view_is)
+    (sym c.turns_off-is_off.ensures ∙ c.if-is_off.false) in
+    rw (← c.ack.view_is)
+    (used_changed s _ c.take_ack-taken.new.self a c.self.view_is off
+    (λ slot. rw (c.take_ack-taken.ensures.slots, ← c.ack.view_is)
+    (c.law_slots.ensures.changed s.slots (Acknowledge a) tt slot)))

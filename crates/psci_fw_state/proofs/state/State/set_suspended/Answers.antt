@@ -1,0 +1,61 @@
+use Rattle.std.proofs.Common.{◌≡◌, ◌<◌, None, Some, length, sym, subst, ap, refl, ◌∙◌}
+use Rattle.psci_fw_state.specs.Rows.{row_at}
+use Rattle.psci_fw_state.specs.Seen.{IsStateOf, StateValue}
+use Rattle.psci_fw_state.proofs.Changed.{in_rows, row_set, same_set, within}
+use Rattle.psci_fw_state.proofs.Moved.{rows_set}
+use Rattle.psci_fw_state.proofs.Moved.{suspended_changed}
+use Rattle.psci_fw_state.proofs.state.State.set_suspended.Goals as goal
+
+pub returns-then-deep-clause-after : goal.returns-then-deep-clause-after
+returns-then-deep-clause-after c =
+    let s : StateValue = record {
+      life = c.self.inside.life;
+      halting = c.self.inside.halting;
+      mode = c.self.inside.mode;
+      tree = c.self.inside.tree;
+      rows = c.self.inside.rows.items;
+      slots = c.self.inside.slots;
+    } in
+    let of : IsStateOf c.args.board.now s =
+    subst (IsStateOf c.args.board.now) (sym c.self.view_is) c.requires.state in
+    let inside : c.args.core.number < length s.tree.cores =
+    within _ _ _ _ c.self.view_is c.self.invariant c.requires.state c.requires.inside in
+    let rows = rows_set c.self.inside.rows c.deref_mut.result.now c.set_row.new.rows
+    c.args.core.number (record {
+      status = c.row_of.result.status;
+      opening = Some c.args.opening;
+    }) c.deref_mut.ensures.value c.set_row.ensures in
+    let row : c.row_of.result ≡ row_at s.rows c.args.core.number =
+    c.row_of.ensures ∙ ap (λ xs. row_at xs c.args.core.number) c.deref.ensures.value in
+    suspended_changed s _ c.set_ask.new.self _ c.args.core.number c.args.ask c.args.opening
+    (Some c.args.opening) c.self.view_is c.requires.running
+    (λ k. rw c.set_ask.ensures.value
+    (c.law_cores.ensures.suspended s.tree c.args.core.number k c.args.ask inside))
+    (rw (rows, row) (row_set s.rows c.args.core.number _
+    (in_rows _ _ _ _ c.self.view_is c.self.invariant c.requires.state c.requires.inside)))
+    (λ l p. rw c.set_ask.ensures.value
+    (c.law_granted.ensures.suspended s.tree c.args.core.number l p c.args.ask))
+    (rw (sym c.deep.ensures ∙ c.if-deep.true) refl)
+
+pub returns-else-deep-clause-after : goal.returns-else-deep-clause-after
+returns-else-deep-clause-after c =
+    let s : StateValue = record {
+      life = c.self.inside.life;
+      halting = c.self.inside.halting;
+      mode = c.self.inside.mode;
+      tree = c.self.inside.tree;
+      rows = c.self.inside.rows.items;
+      slots = c.self.inside.slots;
+    } in
+    let of : IsStateOf c.args.board.now s =
+    subst (IsStateOf c.args.board.now) (sym c.self.view_is) c.requires.state in
+    let inside : c.args.core.number < length s.tree.cores =
+    within _ _ _ _ c.self.view_is c.self.invariant c.requires.state c.requires.inside in
+    suspended_changed s _ c.set_ask.new.self s.rows c.args.core.number c.args.ask c.args.opening
+    None c.self.view_is c.requires.running
+    (λ k. rw c.set_ask.ensures.value
+    (c.law_cores.ensures.suspended s.tree c.args.core.number k c.args.ask inside))
+    (same_set (row_at s.rows) c.args.core.number)
+    (λ l p. rw c.set_ask.ensures.value
+    (c.law_granted.ensures.suspended s.tree c.args.core.number l p c.args.ask))
+    (rw (sym c.deep.ensures ∙ c.if-deep.false) refl)

@@ -1,0 +1,22 @@
+use Rattle.std.proofs.Common.{sym, ◌∙◌, ap, Ok}
+use Rattle.psci_fw_state.specs.Seen.{values_in}
+use Rattle.psci_fw_state.proofs.Viewed.{checked, platform_parts}
+use Rattle.psci_fw_state.proofs.state.State.suspend.Goals as goal
+
+pub returns-in-Platform-clause-parts : goal.returns-in-Platform-clause-parts
+returns-in-Platform-clause-parts c =
+    ap Ok c.least_parts.ensures
+    ∙ platform_parts c.args.board.now (values_in c.args.self.now) _ c.args.core.number c.args.ask
+    c.args.opening (sym c.mode.ensures ∙ c.in-Platform.is) c.set_suspended.ensures.after
+
+pub returns-in-Err-clause-parts : goal.returns-in-Err-clause-parts
+returns-in-Err-clause-parts c =
+    sym c.in-Err.is ∙ c.checked_parts.ensures
+    ∙ checked c.args.board.now (values_in c.args.self.now) c.args.core.number c.args.ask
+    (sym c.mode.ensures ∙ c.in-OsInitiated.is)
+
+pub returns-in-Ok-clause-parts : goal.returns-in-Ok-clause-parts
+returns-in-Ok-clause-parts c =
+    sym c.in-Ok.is ∙ c.checked_parts.ensures
+    ∙ checked c.args.board.now (values_in c.args.self.now) c.args.core.number c.args.ask
+    (sym c.mode.ensures ∙ c.in-OsInitiated.is)

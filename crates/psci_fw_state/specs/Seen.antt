@@ -1,0 +1,87 @@
+-- What the state of the firmware is seen as: the values that it keeps.
+use Rattle.std.specs.Prelude.{◌≡◌, ℕ, ◌==◌, Bool, true, false, nat_lt, List, length, Option}
+use Rattle.std.specs.Prelude.{None}
+use Rattle.std.specs.Prelude.{if◌then◌else◌}
+use Rattle.psci_board.specs.Board.{BoardValue, IsBoard, cores}
+use Rattle.psci_link.specs.Message.{MessageValue}
+use Rattle.psci_link.specs.Slots.{SlotsValue, message_in}
+use Rattle.psci_link.specs.Slots.Slot.{OfCore, OfSystem}
+use Rattle.psci_tree.specs.declared.state.Activity.{Activity}
+use Rattle.psci_tree.specs.declared.state.Activity.TheVariants as activities
+use Rattle.psci_tree.specs.Recount.{TreeValue, IsDomainTree, core_at, granted_at, known_at}
+use Rattle.psci_fw_model.specs.declared.mode.SuspendMode.{SuspendMode}
+use Rattle.psci_fw_model.specs.declared.status.Status.{Status}
+use Rattle.psci_fw_model.specs.declared.status.Status.TheVariants.{On, Off, Pending}
+use Rattle.psci_fw_model.specs.Phases.{Phase}
+use Rattle.psci_fw_model.specs.Phases as phases
+use Rattle.psci_fw_model.specs.Values.{Values}
+use Rattle.psci_fw_state.specs.declared.row.CoreRow.{CoreRow}
+use Rattle.psci_fw_state.specs.Rows.{row_at}
+
+-- The state of the firmware, as contracts see it.
+pub record StateValue : Type 0 where
+  -- 0 before any core has entered
+  pub life : ℕ
+  pub halting : Bool
+  pub mode : SuspendMode
+  -- what each core asks, its known start, and what each domain was granted
+  pub tree : TreeValue
+  -- of each core, in the order of their numbers
+  pub rows : List CoreRow
+  pub slots : SlotsValue
+
+-- what a core is to the firmware: one that keeps its domains from going down runs, unless it is
+-- ON_PENDING
+abbrev pub phase_by : Status → Activity → Phase
+phase_by On activities.Active = phases.Running
+phase_by Off activities.Active = phases.Running
+phase_by Pending activities.Active = phases.Pending
+phase_by On (activities.Suspended ask) = phases.Suspended ask
+phase_by Off (activities.Suspended ask) = phases.Suspended ask
+phase_by Pending (activities.Suspended ask) = phases.Suspended ask
+phase_by On activities.Off = phases.Away
+phase_by Off activities.Off = phases.Away
+phase_by Pending activities.Off = phases.Away
+
+-- what a core does that has started and stops, by whether it is pending
+abbrev pub stopped : Bool → Activity
+stopped true = activities.Active
+stopped false = activities.Off
+
+-- whether a core of this phase is pending
+abbrev pub is_pending_phase : Phase → Bool
+is_pending_phase phases.Pending = true
+is_pending_phase phases.Running = false
+is_pending_phase (phases.Suspended ask) = false
+is_pending_phase phases.Away = false
+
+-- the values in a state
+unfoldable pub values_in : StateValue → Values
+values_in s = record {
+  life = s.life;
+  halting = s.halting;
+  mode = s.mode;
+  known = λ c. known_at s.tree c;
+  status = λ c. (row_at s.rows c).status;
+  phase = λ c. phase_by (row_at s.rows c).status (core_at s.tree c).activity;
+  opening = λ c. (row_at s.rows c).opening;
+  granted = λ level place. granted_at s.tree level place;
+  outstanding = λ slot. message_in s.slots slot;
+}
+
+-- Shapes: a tree of power domains, and as many rows and slots as it has cores.
+pub record IsState (s : StateValue) : Type 0 where
+  pub tree : IsDomainTree s.tree
+  pub rows : length s.rows ≡ length s.tree.cores
+  pub slots : length s.slots.cores ≡ length s.tree.cores
+
+-- the state of a board's firmware: both have the same power domains
+pub record IsStateOf (b : BoardValue) (s : StateValue) : Type 0 where
+  pub board : IsBoard b
+  pub levels : s.tree.levels ≡ b.levels
+
+-- the outstanding message of the core of this number, or of the system at the number of cores
+abbrev pub message_shown : BoardValue → Values → ℕ → Option MessageValue
+message_shown b v number =
+    if nat_lt number (cores b) then v.outstanding (OfCore number)
+    else (if number == cores b then v.outstanding OfSystem else None)

@@ -1,0 +1,103 @@
+//! What the entry of a core changes in the state.
+
+ghost use Rattle.std.specs.Prelude.{◌≡◌, ◌<◌, ◌==◌, ℕ, length, if◌then◌else◌};
+ghost use Rattle.psci_board.specs.Board.{cores, place_above};
+ghost use Rattle.psci_tree.specs.Recount.{IsDomainTree, core_at, granted_at};
+ghost use Rattle.psci_fw_model.specs.Changes.{with_arrival, with_phase, with_running};
+ghost use Rattle.psci_fw_model.specs.Lives.{in_life};
+ghost use Rattle.psci_fw_model.specs.Phases.{Away};
+ghost use Rattle.psci_fw_state.specs.Seen.{IsStateOf, stopped, values_in};
+
+use crate::row::{CoreRow, reset_rows, row_of, set_row};
+use crate::state::State;
+use psci_board::{Board, Core};
+use psci_fw_model::{Start, Status, SuspendMode};
+use psci_link::law_slots;
+use psci_tree::{Tree, law_cores, law_granted, law_start_of_life};
+
+impl State {
+    /// The firmware is in this life: all is as at its start, if it is a new one.
+    #[tactic(auto, unfolding(crate::specs::Seen::values_in))]
+    pub fn begin_life(&mut self, board: &Board, life: u32)
+        requires { IsStateOf board.now self.old }
+        ensures after { values_in self.new ≡ in_life board.now life (values_in self.old) }
+        ensures state { IsStateOf board.now self.new }
+    {
+        law_start_of_life();
+        law_slots();
+        if life == self.life {
+            return;
+        }
+        self.life = life;
+        self.halting = false;
+        self.mode = SuspendMode::Platform;
+        self.tree.reset_life();
+        reset_rows(&mut self.rows, board);
+        self.slots.clear_all();
+    }
+
+    /// A core has entered by this start of the firmware's life, and goes on: it is ON and runs.
+    #[tactic(auto, unfolding(crate::specs::Seen::values_in))]
+    pub fn arrive_running(&mut self, board: &Board, core: Core, start: Start)
+        requires state { IsStateOf board.now self.old }
+        requires inside { core.number < cores board.now }
+        requires life { (values_in self.old).life ≡ start.life }
+        ensures after { values_in self.new ≡ with_running core.number
+            (with_arrival board.now core.number start (values_in self.old)) }
+        ensures state { IsStateOf board.now self.new }
+    {
+        law_cores();
+        law_granted();
+        law_slots();
+        let _cores = board.cores();
+        self.tree.set_start(core, start.number);
+        let row = CoreRow {
+            status: Status::On,
+            ..CoreRow::OFF
+        };
+        set_row(&mut self.rows, core, row);
+        self.slots.clear(core);
+    }
+
+    /// A core has entered by this start of the firmware's life, and stops: it is off or going off,
+    /// unless it is pending, and stays so.
+    #[tactic(auto, unfolding(crate::specs::Seen::values_in))]
+    pub fn arrive_away(&mut self, board: &Board, core: Core, start: Start)
+        requires state { IsStateOf board.now self.old }
+        requires inside { core.number < cores board.now }
+        requires life { (values_in self.old).life ≡ start.life }
+        ensures after { values_in self.new ≡ with_phase core.number Away
+            (with_arrival board.now core.number start (values_in self.old)) }
+        ensures state { IsStateOf board.now self.new }
+    {
+        law_slots();
+        let _cores = board.cores();
+        let pending = self.is_pending(core);
+        stop(&mut self.tree, core, start.number, pending);
+        let row = CoreRow {
+            opening: None,
+            ..row_of(&self.rows, core)
+        };
+        set_row(&mut self.rows, core, row);
+        self.slots.clear(core);
+    }
+}
+
+/// A core has started with this number, and stops in the tree, unless it is pending.
+fn stop(tree: &mut Tree, core: Core, number: u32, pending: bool)
+    requires tree { IsDomainTree tree.old }
+    requires inside { core.number < length tree.old.cores }
+    ensures cores { (c : ℕ) → core_at tree.new c ≡ (if core.number == c
+        then record { activity = stopped pending; known = number } else core_at tree.old c) }
+    ensures granted { (l p : ℕ) → granted_at tree.new l p
+        ≡ (if place_above tree.old.levels l core.number == p then 0 else granted_at tree.old l p) }
+    ensures levels { tree.new.levels ≡ tree.old.levels }
+    ensures tree { IsDomainTree tree.new }
+{
+    law_cores();
+    law_granted();
+    tree.set_start(core, number);
+    if !pending {
+        tree.set_off(core);
+    }
+}

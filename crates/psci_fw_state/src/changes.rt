@@ -1,0 +1,149 @@
+//! What calls change in the state: each change of the values by a method of its own.
+
+ghost use Rattle.std.specs.Prelude.{◌≡◌, ◌<◌, ℕ, Some};
+ghost use Rattle.psci_board.specs.Board.{cores};
+ghost use Rattle.psci_link.specs.declared.kind.Kind.TheVariants as kinds;
+ghost use Rattle.psci_link.specs.declared.taken.Taken.TheVariants.{Used, Old};
+ghost use Rattle.psci_link.specs.Slots.{IsOfCores, slot_of};
+ghost use Rattle.psci_fw_model.specs.Changes.{turns_off, with_acknowledgement, with_halt};
+ghost use Rattle.psci_fw_model.specs.Changes.{with_mode};
+ghost use Rattle.psci_fw_model.specs.Changes.{with_pending, with_phase, with_rest};
+ghost use Rattle.psci_fw_model.specs.Effects.{suspended};
+ghost use Rattle.psci_fw_model.specs.Phases.{Away, Running};
+ghost use Rattle.psci_fw_model.specs.Taking.{taken_by};
+ghost use Rattle.psci_fw_state.specs.Seen.{IsStateOf, values_in};
+
+use crate::row::{CoreRow, row_of, set_row};
+use crate::state::State;
+use psci_board::{Board, Core};
+use psci_fw_model::{Opening, Status, SuspendMode};
+use psci_link::{Ack, Kind, Message, Taken, law_slots};
+use psci_state::Ask;
+use psci_tree::{law_cores, law_granted};
+
+impl State {
+    /// A core is off or going off, unless it is pending: it stays so.
+    #[tactic(auto, unfolding(crate::specs::Seen::values_in))]
+    pub fn set_away(&mut self, board: &Board, core: Core)
+        requires state { IsStateOf board.now self.old }
+        requires inside { core.number < cores board.now }
+        ensures after { values_in self.new ≡ with_phase core.number Away (values_in self.old) }
+        ensures state { IsStateOf board.now self.new }
+    {
+        law_cores();
+        law_granted();
+        let _cores = board.cores();
+        if !self.is_pending(core) {
+            self.tree.set_off(core);
+        }
+    }
+
+    /// A running core is suspended with this ask; where it powers down it goes on at the opening.
+    #[tactic(auto, unfolding(crate::specs::Seen::values_in))]
+    pub(crate) fn set_suspended(&mut self, board: &Board, core: Core, ask: Ask, opening: Opening)
+        requires state { IsStateOf board.now self.old }
+        requires inside { core.number < cores board.now }
+        requires running { (values_in self.old).phase core.number ≡ Running }
+        ensures after { values_in self.new
+            ≡ with_rest core.number (suspended opening ask) (values_in self.old) }
+        ensures state { IsStateOf board.now self.new }
+    {
+        law_cores();
+        law_granted();
+        let _cores = board.cores();
+        self.tree.set_ask(core, ask);
+        if ask.deep() {
+            let row = CoreRow {
+                opening: Some(opening),
+                ..row_of(&self.rows, core)
+            };
+            set_row(&mut self.rows, core, row);
+        }
+    }
+
+    /// The target of a Start message is on its way to this opening.
+    #[tactic(auto, unfolding(crate::specs::Seen::values_in))]
+    pub fn set_pending(&mut self, board: &Board, message: Message, opening: Opening)
+        requires state { IsStateOf board.now self.old }
+        requires inside { message.core.number < cores board.now }
+        requires start { message.kind ≡ kinds.Start }
+        ensures after { values_in self.new
+            ≡ with_pending board.now (record { message = message; opening = opening })
+            (values_in self.old) }
+        ensures state { IsStateOf board.now self.new }
+    {
+        law_cores();
+        law_granted();
+        law_slots();
+        let _cores = board.cores();
+        let target = message.core;
+        self.tree.set_pending(target);
+        let row = CoreRow {
+            status: Status::Pending,
+            opening: Some(opening),
+        };
+        set_row(&mut self.rows, target, row);
+        self.slots.put(message);
+    }
+
+    /// The mode is set.
+    #[tactic(auto, unfolding(crate::specs::Seen::values_in))]
+    pub fn set_mode(&mut self, board: &Board, mode: SuspendMode)
+        requires { IsStateOf board.now self.old }
+        ensures after { values_in self.new ≡ with_mode mode (values_in self.old) }
+        ensures state { IsStateOf board.now self.new }
+    {
+        let _cores = board.cores();
+        self.mode = mode;
+    }
+
+    /// The system goes off or is reset, as this message asks.
+    #[tactic(auto, unfolding(crate::specs::Seen::values_in))]
+    pub fn halt(&mut self, board: &Board, message: Message)
+        requires state { IsStateOf board.now self.old }
+        requires slot { IsOfCores (cores board.now) (slot_of message.kind message.core) }
+        ensures after { values_in self.new ≡ with_halt message (values_in self.old) }
+        ensures state { IsStateOf board.now self.new }
+    {
+        law_slots();
+        let _cores = board.cores();
+        self.halting = true;
+        self.slots.put(message);
+    }
+
+    /// An acknowledgement is taken: where it is of the outstanding message, and says that a part of
+    /// a Down was applied, its core is OFF if it is off or going off.
+    #[tactic(auto, unfolding(crate::specs::Seen::values_in))]
+    pub fn acknowledge(&mut self, board: &Board, ack: Ack) -> Taken
+        requires { IsStateOf board.now self.old }
+        ensures taken { result ≡ taken_by (values_in self.old) ack }
+        ensures used { result ≡ Used
+            → values_in self.new ≡ with_acknowledgement ack (values_in self.old) }
+        ensures old { result ≡ Old → values_in self.new ≡ values_in self.old }
+        ensures state { IsStateOf board.now self.new }
+    {
+        law_slots();
+        let _cores = board.cores();
+        let core = ack.core;
+        let is_off = self.turns_off(&ack);
+        let taken = self.slots.take_ack(ack);
+        if taken == Taken::Old {
+            return taken;
+        }
+        if is_off {
+            let row = CoreRow {
+                status: Status::Off,
+                ..row_of(&self.rows, core)
+            };
+            set_row(&mut self.rows, core, row);
+        }
+        taken
+    }
+
+    /// Whether an acknowledgement says that its core is off.
+    fn turns_off(&self, ack: &Ack) -> bool
+        ensures { result ≡ turns_off (values_in self.now) ack.now }
+    {
+        ack.kind == Kind::Down && ack.applied > 0 && self.is_away(ack.core)
+    }
+}

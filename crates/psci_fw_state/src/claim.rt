@@ -1,0 +1,175 @@
+//! What a core that stops claims of its power domains.
+
+ghost use Rattle.std.specs.Prelude.{◌≡◌, ◌<◌, ◌≤◌, ◌+◌, ℕ, length, IfOk, OnErr};
+ghost use Rattle.psci_board.specs.Board.{IsBoard, cores, height};
+ghost use Rattle.psci_coord.specs.Claim.{off_claim, platform_claim};
+ghost use Rattle.psci_coord.specs.LastCore.{last_core_check};
+ghost use Rattle.psci_link.specs.declared.kind.Kind.TheVariants as kinds;
+ghost use Rattle.psci_link.specs.Message.{ArePartsOf, IsClaim};
+ghost use Rattle.psci_tree.specs.Recount.{IsDomainTree, core_at, granted_at};
+ghost use Rattle.psci_fw_model.specs.Changes.{with_claim, with_rest};
+ghost use Rattle.psci_fw_model.specs.Claims.{leaving_claim, suspend_parts};
+ghost use Rattle.psci_fw_model.specs.Effects.{suspended};
+ghost use Rattle.psci_fw_model.specs.Outcomes.{message_for};
+ghost use Rattle.psci_fw_model.specs.Paths.{laid};
+ghost use Rattle.psci_fw_model.specs.Phases.{Running};
+ghost use Rattle.psci_fw_model.specs.Views.{view};
+ghost use Rattle.psci_fw_state.specs.Claims.{MayClaim};
+ghost use Rattle.psci_fw_state.specs.Seen.{IsStateOf, values_in};
+
+use crate::state::State;
+use psci_board::{Board, Core, law_paths, law_sizes};
+use psci_coord::{Osi, Part, Parts, claims};
+use psci_fw_model::{Act, Opening, Outcome, SuspendMode};
+use psci_link::{Kind, Message, law_parts, law_slots};
+use psci_osi::{check, off_parts};
+use psci_state::Ask;
+use psci_tree::{Tree, law_cores, law_granted};
+
+impl State {
+    /// The parts of a core that is off or going off.
+    pub fn leaving_parts(&self, board: &Board, core: Core) -> Parts
+        requires state { IsStateOf board.now self.now }
+        requires inside { core.number < cores board.now }
+        ensures { let v = values_in self.now in
+            result ≡ leaving_claim board.now (view board.now v) core.number v.mode }
+    {
+        match self.mode() {
+            SuspendMode::Platform => self.least_parts(board, core),
+            SuspendMode::OsInitiated => self.off_parts(board, core),
+        }
+    }
+
+    /// A running core is suspended with this ask: its parts, or why it may not be.
+    pub fn suspend(
+        &mut self,
+        board: &Board,
+        core: Core,
+        ask: Ask,
+        opening: Opening,
+    ) -> Result<Parts, Osi>
+        requires state { IsStateOf board.now self.old }
+        requires inside { core.number < cores board.now }
+        requires running { (values_in self.old).phase core.number ≡ Running }
+        ensures parts { result
+            ≡ suspend_parts board.now (values_in self.old) core.number ask }
+        ensures after { IfOk result (λ _. values_in self.new
+            ≡ with_rest core.number (suspended opening ask) (values_in self.old)) }
+        ensures refused { OnErr result (self.new ≡ self.old) }
+        ensures state { IsStateOf board.now self.new }
+    {
+        match self.mode() {
+            SuspendMode::Platform => {
+                self.set_suspended(board, core, ask, opening);
+                Ok(self.least_parts(board, core))
+            }
+            SuspendMode::OsInitiated => match self.checked_parts(board, core, ask) {
+                Ok(parts) => {
+                    self.set_suspended(board, core, ask, opening);
+                    Ok(parts)
+                }
+                Err(reason) => Err(reason),
+            },
+        }
+    }
+
+    /// The parts of a core in platform-coordinated mode.
+    #[tactic(auto, unfolding(crate::specs::Seen::values_in))]
+    fn least_parts(&self, board: &Board, core: Core) -> Parts
+        requires state { IsStateOf board.now self.now }
+        requires inside { core.number < cores board.now }
+        ensures { result ≡ platform_claim board.now (view board.now (values_in self.now))
+            core.number }
+    {
+        claims(&self.tree, board, core)
+    }
+
+    /// The parts of a core that asks for this in OS-initiated mode, or why it may not.
+    #[tactic(auto, unfolding(crate::specs::Seen::values_in))]
+    fn checked_parts(&self, board: &Board, core: Core, ask: Ask) -> Result<Parts, Osi>
+        requires state { IsStateOf board.now self.now }
+        requires inside { core.number < cores board.now }
+        ensures { result ≡ last_core_check board.now (view board.now (values_in self.now))
+            core.number ask }
+    {
+        check(&self.tree, board, core, ask)
+    }
+
+    /// The parts of a core that goes off in OS-initiated mode.
+    #[tactic(auto, unfolding(crate::specs::Seen::values_in))]
+    fn off_parts(&self, board: &Board, core: Core) -> Parts
+        requires state { IsStateOf board.now self.now }
+        requires inside { core.number < cores board.now }
+        ensures { result ≡ off_claim board.now (view board.now (values_in self.now))
+            core.number }
+    {
+        off_parts(&self.tree, board, core)
+    }
+
+    /// A message of this kind for a core, with its known start.
+    #[tactic(auto, unfolding(crate::specs::Seen::values_in))]
+    pub fn message(&self, board: &Board, kind: Kind, core: Core, parts: Parts) -> Message
+        requires inside { core.number < cores board.now }
+        requires parts { ArePartsOf kind parts }
+        ensures { result ≡ message_for (values_in self.now) kind core.number parts }
+    {
+        law_sizes();
+        let _cores = board.cores();
+        Message {
+            kind,
+            core,
+            life: self.life,
+            number: self.tree.known_start(core),
+            parts,
+        }
+    }
+
+    /// A Down was sent: the domains of its parts are granted what it claims.
+    #[tactic(auto, unfolding(crate::specs::Seen::values_in))]
+    pub fn claim(&mut self, board: &Board, message: &Message)
+        requires state { IsStateOf board.now self.old }
+        requires inside { message.now.core.number < cores board.now }
+        requires down { message.now.kind ≡ kinds.Down }
+        requires parts { IsClaim message.now.parts }
+        requires may { MayClaim board.now message.now.core.number message.now.parts
+            (values_in self.old).granted }
+        ensures after { values_in self.new ≡ with_claim board.now message.now (values_in self.old) }
+        ensures state { IsStateOf board.now self.new }
+    {
+        law_slots();
+        law_granted();
+        let _cores = board.cores();
+        grant_parts(
+            &mut self.tree,
+            board,
+            message.core,
+            message.parts.as_slice(),
+        );
+        self.slots.put(message.copy());
+    }
+}
+
+/// Grants these parts on the path of a core, from the core up: each at the level of its place.
+fn grant_parts(tree: &mut Tree, board: &Board, core: Core, parts: &[Part])
+    requires board { IsBoard board.now }
+    requires tree { IsDomainTree tree.old }
+    requires levels { tree.old.levels ≡ board.now.levels }
+    requires inside { core.number < cores board.now }
+    requires few { length parts.now ≤ height board.now + 1 }
+    requires claim { IsClaim parts.now }
+    requires may { MayClaim board.now core.number parts.now (granted_at tree.old) }
+    ensures granted { (level place : ℕ) → granted_at tree.new level place
+        ≡ laid board.now core.number parts.now (granted_at tree.old) level place }
+    ensures cores { (c : ℕ) → core_at tree.new c ≡ core_at tree.old c }
+    ensures levels { tree.new.levels ≡ tree.old.levels }
+    ensures tree { IsDomainTree tree.new }
+{
+    law_paths();
+    law_parts();
+    law_cores();
+    law_granted();
+    let path = board.path(core);
+    for (level, part) in parts.iter().enumerate() {
+        tree.grant(path[level], part.depth);
+    }
+}

@@ -1,0 +1,58 @@
+//! The status of a power domain, by the rows of the cores below it.
+
+ghost use Rattle.std.specs.Prelude.{◌≡◌};
+ghost use Rattle.std.specs.List.{list_any};
+ghost use Rattle.psci_fw_model.specs.AffinityInfo.{is_on, is_pending, node_status};
+ghost use Rattle.psci_fw_state.specs.Rows.{status_of_all};
+ghost use Rattle.psci_fw_state.specs.Seen.{IsStateOf, values_in};
+
+use crate::row::CoreRow;
+use crate::state::State;
+use psci_board::{Board, Node, law_spans};
+use psci_fw_model::Status;
+
+impl State {
+    /// The status of a core or power domain, by those of the cores below it. A node that the board
+    /// does not have is OFF.
+    #[tactic(auto, unfolding(crate::specs::Seen::values_in))]
+    pub fn node_status(&self, board: &Board, node: Node) -> Status
+        requires { IsStateOf board.now self.now }
+        ensures { result ≡ node_status board.now (values_in self.now).status node }
+    {
+        law_spans();
+        match board.cores_below(node) {
+            Some(span) => {
+                let first = span.first as usize;
+                status_of_all(&self.rows[first..first + span.count as usize])
+            }
+            None => Status::Off,
+        }
+    }
+}
+
+/// Whether one of these cores is ON.
+fn has_on(rows: &[CoreRow]) -> bool
+    ensures { result ≡ list_any (λ r. is_on r.status) rows.now }
+{
+    rows.iter().any(|row| row.status.is_on())
+}
+
+/// Whether one of these cores is ON_PENDING.
+fn has_pending(rows: &[CoreRow]) -> bool
+    ensures { result ≡ list_any (λ r. is_pending r.status) rows.now }
+{
+    rows.iter().any(|row| row.status.is_pending())
+}
+
+/// Cores together: ON where one is ON, else ON_PENDING where one is, else OFF.
+fn status_of_all(rows: &[CoreRow]) -> Status
+    ensures { result ≡ status_of_all rows.now }
+{
+    if has_on(rows) {
+        Status::On
+    } else if has_pending(rows) {
+        Status::Pending
+    } else {
+        Status::Off
+    }
+}

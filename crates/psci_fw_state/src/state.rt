@@ -1,0 +1,198 @@
+//! The state of the firmware: all that a call changes.
+
+use crate::row::{CoreRow, first_rows, row_of};
+use psci_board::{Board, Core, Memory, Node};
+use psci_fw_model::{Opening, Status, SuspendMode};
+use psci_link::{Message, Slots};
+use psci_tree::{Activity, Tree, law_start_of_life};
+use std::alloc::Global;
+use std::marker::Model;
+
+/// The state of the firmware. The tree has what each core asks, its known start and the granted
+/// depths; the rows have the rest of what is kept of a core.
+#[derive(Drop)]
+pub struct State {
+    /// 0 before any core has entered.
+    pub(crate) life: u32,
+    /// SYSTEM_OFF or SYSTEM_RESET was accepted in this life.
+    pub(crate) halting: bool,
+    pub(crate) mode: SuspendMode,
+    pub(crate) tree: Tree,
+    /// In the order of the numbers of the cores.
+    pub(crate) rows: Vec<CoreRow>,
+    pub(crate) slots: Slots,
+}
+
+impl Model for State {
+    ghost use Rattle.psci_fw_state.specs.Seen.{IsState, StateValue};
+
+    ghost Value = { StateValue };
+
+    ghost view = { λ s. record {
+      life = s.life;
+      halting = s.halting;
+      mode = s.mode;
+      tree = s.tree;
+      rows = s.rows.items;
+      slots = s.slots;
+    } };
+
+    ghost invariant = { λ s. IsState (record {
+      life = s.life;
+      halting = s.halting;
+      mode = s.mode;
+      tree = s.tree;
+      rows = s.rows.items;
+      slots = s.slots;
+    }) };
+}
+
+ghost use Rattle.std.specs.Prelude.{◌≡◌, IfOk, option_map};
+ghost use Rattle.psci_fw_model.specs.Lives.{start_of_life};
+ghost use Rattle.psci_fw_model.specs.Phases.{is_away, is_light, is_running, is_waiting};
+ghost use Rattle.psci_fw_state.specs.Seen.{IsStateOf, is_pending_phase, message_shown, values_in};
+
+impl State {
+    /// The state of this board's firmware before any core has entered.
+    pub fn new(alloc: Global, board: &Board) -> Result<State, Memory>
+        ensures state { IfOk result (λ state. IsStateOf board.now state) }
+        ensures values { IfOk result (λ state. values_in state ≡ start_of_life board.now 0) }
+    {
+        law_start_of_life();
+        Ok(State {
+            life: 0,
+            halting: false,
+            mode: SuspendMode::Platform,
+            tree: Tree::new(alloc, board)?,
+            rows: first_rows(alloc, board)?,
+            slots: Slots::new(alloc, board.cores())?,
+        })
+    }
+
+    /// The life of the last start that entered, 0 before any.
+    #[tactic(auto, unfolding(crate::specs::Seen::values_in))]
+    pub fn life(&self) -> u32
+        ensures { result ≡ (values_in self.now).life }
+    {
+        self.life
+    }
+
+    /// Whether SYSTEM_OFF or SYSTEM_RESET was accepted in this life.
+    #[tactic(auto, unfolding(crate::specs::Seen::values_in))]
+    pub fn halting(&self) -> bool
+        ensures { result ≡ (values_in self.now).halting }
+    {
+        self.halting
+    }
+
+    /// Who coordinates the power domains.
+    #[tactic(auto, unfolding(crate::specs::Seen::values_in))]
+    pub fn mode(&self) -> SuspendMode
+        ensures { result ≡ (values_in self.now).mode }
+    {
+        self.mode
+    }
+
+    /// The known start of a core.
+    #[tactic(auto, unfolding(crate::specs::Seen::values_in))]
+    pub fn known(&self, core: Core) -> u32
+        ensures { result ≡ (values_in self.now).known core.number }
+    {
+        self.tree.known_start(core)
+    }
+
+    /// What AFFINITY_INFO says of a core.
+    #[tactic(auto, unfolding(crate::specs::Seen::values_in))]
+    pub fn status(&self, core: Core) -> Status
+        ensures { result ≡ (values_in self.now).status core.number }
+    {
+        row_of(&self.rows, core).status
+    }
+
+    /// Where a core goes on when it next enters.
+    #[tactic(auto, unfolding(crate::specs::Seen::values_in))]
+    pub fn opening(&self, core: Core) -> Option<Opening>
+        ensures { result ≡ (values_in self.now).opening core.number }
+    {
+        row_of(&self.rows, core).opening
+    }
+
+    /// The granted depth of a power domain.
+    #[tactic(auto, unfolding(crate::specs::Seen::values_in))]
+    pub fn granted(&self, board: &Board, node: Node) -> u8
+        requires { IsStateOf board.now self.now }
+        ensures { result ≡ (values_in self.now).granted node.level node.place }
+    {
+        if node.place < board.nodes(node.level) {
+            self.tree.granted(node)
+        } else {
+            0
+        }
+    }
+
+    /// The outstanding message of the core of this number, or of the system at the number of cores.
+    #[tactic(auto, unfolding(crate::specs::Seen::values_in))]
+    pub fn outstanding(&self, board: &Board, number: u16) -> Option<&Message>
+        requires { IsStateOf board.now self.now }
+        ensures { option_map (λ message. message.now) result
+            ≡ message_shown board.now (values_in self.now) number }
+    {
+        self.slots.outstanding(number)
+    }
+
+    /// Whether a core is running.
+    #[tactic(auto, unfolding(crate::specs::Seen::values_in))]
+    pub fn is_running(&self, core: Core) -> bool
+        ensures { result ≡ is_running ((values_in self.now).phase core.number) }
+    {
+        match self.tree.activity(core) {
+            Activity::Active => self.status(core) != Status::Pending,
+            _ => false,
+        }
+    }
+
+    /// Whether a core is pending.
+    #[tactic(auto, unfolding(crate::specs::Seen::values_in))]
+    pub(crate) fn is_pending(&self, core: Core) -> bool
+        ensures { result ≡ is_pending_phase ((values_in self.now).phase core.number) }
+    {
+        match self.tree.activity(core) {
+            Activity::Active => self.status(core) == Status::Pending,
+            _ => false,
+        }
+    }
+
+    /// Whether a core is off or going off.
+    #[tactic(auto, unfolding(crate::specs::Seen::values_in))]
+    pub fn is_away(&self, core: Core) -> bool
+        ensures { result ≡ is_away ((values_in self.now).phase core.number) }
+    {
+        match self.tree.activity(core) {
+            Activity::Off => true,
+            _ => false,
+        }
+    }
+
+    /// Whether a core is suspended or pending.
+    #[tactic(auto, unfolding(crate::specs::Seen::values_in))]
+    pub fn is_waiting(&self, core: Core) -> bool
+        ensures { result ≡ is_waiting ((values_in self.now).phase core.number) }
+    {
+        match self.tree.activity(core) {
+            Activity::Active => self.status(core) == Status::Pending,
+            Activity::Suspended(_) => true,
+            Activity::Off => false,
+        }
+    }
+
+    /// Whether a core is suspended in standby or retention.
+    #[tactic(auto, unfolding(crate::specs::Seen::values_in))]
+    pub fn is_light(&self, core: Core) -> bool
+        ensures { result ≡ is_light ((values_in self.now).phase core.number) }
+    {
+        match self.tree.activity(core) {
+            Activity::Suspended(ask) => !ask.deep(),
+            _ => false,
+        }
+    }
+}
