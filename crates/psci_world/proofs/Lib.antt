@@ -3,6 +3,7 @@ mod Booked
 mod Events
 mod Following
 mod Kicks
+pub mod Newest
 pub mod Resting
 mod Sending
 mod Settles
