@@ -1,5 +1,6 @@
 mod Beginning
 mod Booked
+pub mod Newest
 pub mod Resting
 mod Settles
 mod Waiting

@@ -38,7 +38,7 @@ impl Model for World {
     ghost invariant = { λ w. IsWorld w.machine w.records.items w.messages.items w.acks.items };
 }
 
-ghost use Rattle.std.specs.Prelude.{◌≡◌, ◌<◌, [], ◌∷◌, IfOk, OnErr, option_map, reverse};
+ghost use Rattle.std.specs.Prelude.{◌≡◌, ◌<◌, [], ◌∷◌, IfOk, OnOk, OnErr, option_map, reverse};
 ghost use Rattle.psci_board.specs.Board.{IsBoard, cores};
 ghost use Rattle.psci_ctl.specs.Seen as controller;
 ghost use Rattle.psci_fw.specs.Seen as firmware;
@@ -72,6 +72,21 @@ impl World {
         ensures legal { IsLegalPast self.new.board self.new.past }
         ensures safe { AlwaysSafe self.new.board self.new.past }
     {
+        let newest = self.records().len();
+        self.happen(event)?;
+        Ok(self.records()[newest].copy())
+    }
+
+    /// Makes the event happen, and keeps the record of it, which is the last of `records`; or is out of
+    /// memory, and nothing happens.
+    pub fn happen(&mut self, event: Event) -> Result<(), Memory>
+        ensures ok { OnOk result (self.new.past
+            ≡ legal_record self.old.board self.old.past event ∷ self.old.past) }
+        ensures board { self.new.board ≡ self.old.board }
+        ensures memory { OnErr result (self.new ≡ self.old) }
+        ensures legal { IsLegalPast self.new.board self.new.past }
+        ensures safe { AlwaysSafe self.new.board self.new.past }
+    {
         self.machine.law();
         law_safe();
         law_histories();
@@ -83,9 +98,8 @@ impl World {
         let said = self.machine.step(event, &self.messages, &self.acks);
         keep_message(&mut self.messages, &said)?;
         keep_ack(&mut self.acks, &said)?;
-        let record = Record { event, said };
-        self.records.push(record.copy())?;
-        Ok(record)
+        self.records.push(Record { event, said })?;
+        Ok(())
     }
 
     /// What holds of every world: each record is the legal one after those before it, and the world

@@ -1,48 +1,16 @@
--- After an event the world has one record more.
-use Rattle.std.proofs.Common.{List, [], ◌∷◌, ◌++◌, reverse, ap, sym, ◌∙◌}
-use Rattle.psci_fw_model.specs.Said.{listed}
-use Rattle.psci_fw_model.specs.Sent.{sent_messages}
-use Rattle.psci_link.specs.Message.{AckValue, MessageValue}
-use Rattle.psci_machine.specs.Seen.{board_of}
-use Rattle.psci_world_model.specs.declared.said.Record.{Record}
-use Rattle.psci_world_model.specs.Histories.{ack_in, firmware_history, sent, sent_in}
-use Rattle.psci_world.specs.Seen.{IsWorld}
-use Rattle.psci_world.proofs.Booked.{sent_of_board}
-use Rattle.psci_world.proofs.Worlds.{next_world}
+-- The record that is copied is the newest.
+use Rattle.std.proofs.Common.{◌≡◌, ◌∷◌, ap, reverse, sym, ◌∙◌}
+use Rattle.psci_world_model.specs.Legal.{legal_record}
+use Rattle.psci_world.proofs.Newest.{newest}
 use Rattle.psci_world.proofs.world.World.step.Goals as goal
 
-pub invariant_of-self-2 : goal.invariant_of-self-2
-invariant_of-self-2 c =
-    let m = c.self.inside.machine in
-    let b = board_of m in
-    let records = c.self.inside.records.items in
-    let said = c.step-said.result in
-    let whole : IsWorld m records c.deref.result.now c.deref-2.result.now = record {
-      legal = c.self.invariant.legal;
-      machine = c.self.invariant.machine;
-      messages = c.deref.ensures.value ∙ c.reserve-2.ensures.items ∙ c.self.invariant.messages;
-      acks = c.deref-2.ensures.value ∙ c.reserve-3.ensures.items ∙ c.self.invariant.acks;
-    } in
-    next_world m c.step-said.new.self records c.push.new.self.items c.deref.result.now
-    c.keep_message.new.messages.items c.deref-2.result.now c.keep_ack.new.acks.items c.args.event
-    said whole
-    (c.step-said.ensures.said b (reverse records) whole.machine whole.messages whole.acks)
-    (c.step-said.ensures.after b (reverse records) whole.machine whole.messages whole.acks)
-    (c.in_ok-push.ensures.items
-    ∙ ap (λ (l : List Record). l ++ (c.copy.result ∷ [])) c.reserve.ensures.items
-    ∙ ap (λ (r : Record). records ++ (r ∷ [])) c.copy.ensures)
-    (c.in_ok-keep_message.ensures.items
-    ∙ ap (λ (l : List MessageValue). l ++ listed (sent_in said)) (sym c.deref.ensures.value))
-    (c.in_ok-keep_ack.ensures.items
-    ∙ ap (λ (l : List AckValue). l ++ listed (ack_in said)) (sym c.deref-2.ensures.value))
-
-pub step-said-requires : goal.step-said-requires
-step-said-requires c =
-    let b = board_of c.self.inside.machine in
-    let past = reverse c.self.inside.records.items in
-    let legal = c.self.invariant.legal in
-    sent_of_board b (sent past) (sent_messages b (firmware_history b past)) c.deref.result.now
-    (c.law_sent.ensures b past legal)
-    (λ k m e. (c.law_messages.ensures.sent b (firmware_history b past) c.law.ensures.board
-    (c.law_histories.ensures.firmware b past legal) k m e).sound)
-    (c.deref.ensures.value ∙ c.reserve-2.ensures.items ∙ c.self.invariant.messages)
+pub returns-clause-ok : goal.returns-clause-ok
+returns-clause-ok c =
+    let past = c.args.self.now.past in
+    let made = legal_record c.args.self.now.board past c.args.event in
+    let is_made : c.copy.result ≡ made =
+        c.copy.ensures ∙ c.index-records-newest.is
+        ∙ newest c.records.result.now c.records-newest.result.now past made
+        c.index-records-newest.result c.records-newest.ensures
+        (c.records.ensures ∙ ap reverse c.in_ok-happen.ensures.ok) in
+    (is_made, c.in_ok-happen.ensures.ok ∙ ap (λ r. r ∷ past) (sym is_made))
