@@ -77,8 +77,8 @@ impl World {
         Ok(self.records()[newest].copy())
     }
 
-    /// Makes the event happen, and keeps the record of it, which is the last of `records`; or is out of
-    /// memory, and nothing happens.
+    /// Makes the event happen, as `step` does. The record of it, of which `step` answers a copy, is the
+    /// last of `records`.
     pub fn happen(&mut self, event: Event) -> Result<(), Memory>
         ensures ok { OnOk result (self.new.past
             ≡ legal_record self.old.board self.old.past event ∷ self.old.past) }
