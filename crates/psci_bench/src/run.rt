@@ -55,8 +55,9 @@ fn answer(
         None => Err(ScriptFault::Line.at(number)),
         Some(Line::Blank) => Ok(()),
         Some(Line::Event(event)) => {
-            let record = world.step(event)?;
-            answers.add(&record.said)?;
+            let newest = world.records().len();
+            world.happen(event)?;
+            answers.add(&world.records()[newest].said)?;
             Ok(())
         }
     }
