@@ -2,6 +2,7 @@
 //! what is said of it, are those of `psci_world`; the lines of a script and its answer text are those
 //! of `psci_script`.
 //!
+//! - A *storm* is a run of random events, after which the world settles: `psci_storm`.
 //! - A *source* and a *sink* are the devices that a script comes from and its answers go to.
 #![tactic(auto)]
 
@@ -18,6 +19,7 @@ mod transfer;
 pub use device::{Io, Sink, Source};
 pub use laws::law_safe_scripts;
 pub use psci_script::{ReplayFault, Replayed, ScriptFault, law_event_lines};
+pub use psci_storm::{Settled, Storm, blow, storm};
 pub use run::replay;
 pub use standard::Std;
 

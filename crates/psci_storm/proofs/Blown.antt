@@ -1,0 +1,77 @@
+-- A world that settled after a storm.
+use Rattle.std.proofs.Common.{◌≡◌, ◌∙◌, ℕ, Bool, true, false, List, [], length, refl, ap, sym}
+use Rattle.std.proofs.Common.{subst, Ok, Err}
+use Rattle.std.specs.Prelude.{IfOk, Result}
+use Rattle.psci_board.specs.Board.{BoardValue}
+use Rattle.psci_board.specs.declared.fault.Memory.{Memory}
+use Rattle.psci_safe.specs.Safe.{AlwaysSafe}
+use Rattle.psci_settle.specs.Settling.{is_halting, settled}
+use Rattle.psci_storm.specs.declared.outcome.Storm.{Storm}
+use Rattle.psci_storm.specs.Storm.{IsBlown, IsDrawn, IsStorm}
+use Rattle.psci_world.specs.declared.settling.Settled.{Settled}
+use Rattle.psci_world.specs.declared.settling.Settled.TheVariants.{Halting, Quiet}
+use Rattle.psci_world.specs.Settles.{ComesToRest}
+use Rattle.psci_world_model.specs.declared.said.Record.{Record}
+use Rattle.psci_world_model.specs.Histories.{sent}
+use Rattle.psci_world_model.specs.Legal.{IsLegalPast}
+
+-- how the world settled, where it did
+settled_in : Result Settled Memory → Settled
+settled_in (Ok s) = s
+settled_in (Err memory) = Halting
+
+blown_at : (b : BoardValue) (before middle after : List Record) (count : ℕ)
+    (result : Result Settled Memory) → IsDrawn b before count middle
+    → (is_halting b middle ≡ true → (result ≡ Ok Halting) × (after ≡ middle))
+    → (is_halting b middle ≡ false → IfOk result (λ s. (s ≡ Quiet (settled b middle).rounds)
+    × (after ≡ (settled b middle).past)))
+    → (is_halting b middle ≡ false → IfOk result (λ s. ComesToRest b middle after s))
+    → IfOk result (λ s. IsBlown b before count after s)
+unfolding settled_in
+blown_at b before middle after count (Ok s) drawn halting quiet rest = record {
+  middle = middle;
+  drawn = drawn;
+  halting = λ h. (ap settled_in (halting h).0, (halting h).1);
+  quiet = quiet;
+  rest = rest;
+}
+blown_at b before middle after count (Err memory) drawn halting quiet rest = tt
+
+pub blown : (b other : BoardValue) (before middle after : List Record) (count : ℕ)
+    (result : Result Settled Memory) → other ≡ b → IsDrawn b before count middle
+    → (is_halting other middle ≡ true → (result ≡ Ok Halting) × (after ≡ middle))
+    → (is_halting other middle ≡ false → IfOk result (λ s.
+    (s ≡ Quiet (settled other middle).rounds) × (after ≡ (settled other middle).past)))
+    → (is_halting other middle ≡ false → IfOk result (λ s. ComesToRest other middle after s))
+    → IfOk result (λ s. IsBlown b before count after s)
+blown b other before middle after count result same drawn halting quiet rest =
+    blown_at b before middle after count result drawn
+    (subst (λ (x : BoardValue). is_halting x middle ≡ true
+    → (result ≡ Ok Halting) × (after ≡ middle)) same halting)
+    (subst (λ (x : BoardValue). is_halting x middle ≡ false → IfOk result (λ s.
+    (s ≡ Quiet (settled x middle).rounds) × (after ≡ (settled x middle).past))) same quiet)
+    (subst (λ (x : BoardValue). is_halting x middle ≡ false
+    → IfOk result (λ s. ComesToRest x middle after s)) same rest)
+
+-- a new world of the board was blown through, and this was counted
+pub storms : (b first last : BoardValue) (before past : List Record) (count : ℕ)
+    (end : Settled) (storm : Storm) → first ≡ b → last ≡ first → before ≡ []
+    → IsBlown first before count past end → IsLegalPast last past → AlwaysSafe last past
+    → storm ≡ record { events = length past; sent = length (sent past); settled = end }
+    → IsStorm b count storm
+storms b first last before past count end storm is_first is_last none blown legal safe counted =
+    let new : IsBlown first [] count past end =
+    subst (λ (p : List Record). IsBlown first p count past end) none blown in
+    let all : IsStorm b count (record {
+      events = length past;
+      sent = length (sent past);
+      settled = end;
+    }) = record {
+      past = past;
+      blown = subst (λ (x : BoardValue). IsBlown x [] count past end) is_first new;
+      events = refl;
+      sent = refl;
+      legal = subst (λ (x : BoardValue). IsLegalPast x past) (is_last ∙ is_first) legal;
+      safe = subst (λ (x : BoardValue). AlwaysSafe x past) (is_last ∙ is_first) safe;
+    } in
+    subst (λ (x : Storm). IsStorm b count x) (sym counted) all

@@ -1,0 +1,2 @@
+pub mod Blown
+pub mod Drawn

@@ -1,0 +1,18 @@
+-- The world settled after the events that were drawn.
+use Rattle.psci_storm.proofs.Drawn.{happens_both}
+use Rattle.psci_storm.proofs.Blown.{blown}
+use Rattle.psci_storm.proofs.blowing.blow.Goals as goal
+
+pub returns-clause-events : goal.returns-clause-events
+returns-clause-events c =
+    let old = c.args.world.now in
+    happens_both old.board c.draw.new.world.board old.past c.draw.new.world.past
+    c.settle.new.world.past c.draw.ensures.board c.draw.ensures.events
+    c.settle.ensures.events.events c.settle.ensures.events.run
+
+pub returns-clause-ok : goal.returns-clause-ok
+returns-clause-ok c =
+    let old = c.args.world.now in
+    blown old.board c.draw.new.world.board old.past c.draw.new.world.past c.settle.new.world.past
+    c.args.count c.settle.result c.draw.ensures.board (c.in_ok-draw.ensures {u = tt}).ok
+    c.settle.ensures.halting c.settle.ensures.quiet c.settle.ensures.rest

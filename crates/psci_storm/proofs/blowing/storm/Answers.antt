@@ -1,0 +1,12 @@
+-- The storm of a new world.
+use Rattle.psci_storm.proofs.Blown.{storms}
+use Rattle.psci_storm.proofs.blowing.storm.Goals as goal
+
+pub returns : goal.returns
+returns c = record {
+  ok = storms c.args.board.now _ c.blow.new.world.board
+      _ c.blow.new.world.past c.args.count
+      _ c.of.result (c.in_ok-world.ensures {u = tt}).board
+      c.blow.ensures.board (c.in_ok-world.ensures {u = tt}).past
+      (c.in_ok-settled.ensures {u = tt}).ok c.law.ensures.legal c.law.ensures.safe c.of.ensures;
+}

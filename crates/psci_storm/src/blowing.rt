@@ -1,0 +1,33 @@
+//! Storms: events that are drawn, and a world that settles after them.
+
+ghost use Rattle.std.specs.Prelude.{◌≡◌, IfOk};
+ghost use Rattle.psci_storm.specs.Storm.{HappensBy, IsBlown, IsStorm};
+
+use crate::drawing::draw;
+use crate::outcome::Storm;
+use psci_board::{Board, Memory};
+use psci_world::{Settled, World, settle};
+use std::alloc::Global;
+
+/// So many events happen in the world, drawn from the seed, and then it settles. Which events are
+/// drawn is said by no clause: the same seed draws the same ones. Out of memory, the events before
+/// stand.
+pub fn blow(world: &mut World, seed: u64, count: u64) -> Result<Settled, Memory>
+    ensures board { world.new.board ≡ world.old.board }
+    ensures events { HappensBy world.old.board world.old.past world.new.past }
+    ensures ok { IfOk result (λ s. IsBlown world.old.board world.old.past count world.new.past s) }
+{
+    draw(world, seed, count)?;
+    settle(world)
+}
+
+/// A storm in a new world of the board: so many events, drawn from the seed, after which the world
+/// settles. It was a legal run, and safe at every moment. The same seed gives the same storm.
+pub fn storm(alloc: Global, board: &Board, seed: u64, count: u64) -> Result<Storm, Memory>
+    ensures ok { IfOk result (λ s. IsStorm board.now count s) }
+{
+    let mut world = World::new(alloc, board)?;
+    let settled = blow(&mut world, seed, count)?;
+    world.law();
+    Ok(Storm::of(&world, settled))
+}

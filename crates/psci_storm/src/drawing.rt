@@ -1,0 +1,22 @@
+//! Events are drawn, and happen.
+
+ghost use Rattle.std.specs.Prelude.{◌≡◌, OnOk};
+ghost use Rattle.psci_storm.specs.Storm.{HappensBy, IsDrawn};
+
+use crate::draws::Draws;
+use psci_board::Memory;
+use psci_world::World;
+
+/// So many events happen, drawn from the seed. Out of memory, those before stand.
+pub fn draw(world: &mut World, seed: u64, count: u64) -> Result<(), Memory>
+    ensures board { world.new.board ≡ world.old.board }
+    ensures events { HappensBy world.old.board world.old.past world.new.past }
+    ensures ok { OnOk result (IsDrawn world.old.board world.old.past count world.new.past) }
+{
+    let mut draws = Draws::new(seed, count, world.board().cores());
+    'events: for _drawn in 0..count {
+        let event = draws.next(world);
+        world.step(event)?;
+    }
+    Ok(())
+}

@@ -1,0 +1,202 @@
+//! Plain draws: any call, with arguments that are good or bad, and any other event.
+
+ghost use Rattle.std.specs.Prelude.{◌≤◌};
+
+use crate::draws::Draws;
+use crate::places::is_at;
+use crate::requests::registers;
+use psci_abi::{Regs, Request};
+use psci_board::Board;
+use psci_world::World;
+use psci_world_model::{Event, Place};
+
+/// A function word that is asked about, or called, now and then.
+const WORDS: [u32; 8] = [
+    0x8400_0005,
+    0x8400_0001,
+    0xc400_0001,
+    0x8400_000a,
+    0xc400_0002,
+    0x8400_0012,
+    0xc400_0003,
+    0xc600_0003,
+];
+
+/// The affinity word of a core.
+fn affinity(board: &Board, number: u16) -> u64 {
+    let Some(core) = board.core(number) else {
+        return 0xff;
+    };
+    let mut word: u64 = 0;
+    for node in board.path(core) {
+        let field = u64::from(board.child_number(node).unwrap_or(0));
+        word |= field.wrapping_shl(8u32.wrapping_mul(node.level));
+    }
+    word
+}
+
+impl Draws {
+    /// An affinity word that names a core, or nearly.
+    pub fn target(&mut self, board: &Board) -> u64 {
+        let core = self.core(board.cores());
+        let word = affinity(board, core);
+        match self.below(8) {
+            0 => word ^ (1 << self.below(40)),
+            1 => self.word(),
+            _ => word,
+        }
+    }
+
+    /// The affinity word of a core.
+    pub fn good_target(&mut self, board: &Board) -> u64 {
+        let core = self.core(board.cores());
+        affinity(board, core)
+    }
+
+    /// An entry point that may be entered.
+    pub fn good_entry(&mut self, board: &Board) -> u64 {
+        let entry = board.boot().wrapping_add(u64::from(self.below(256)) * 4);
+        if board.may_enter(entry) {
+            entry
+        } else {
+            board.boot()
+        }
+    }
+
+    /// An entry point, good or bad.
+    pub fn entry(&mut self, board: &Board) -> u64 {
+        let entry = self.good_entry(board);
+        match self.below(8) {
+            0 => entry | 2,
+            1 => 0,
+            _ => entry,
+        }
+    }
+
+    /// A power state word of this height, in the original format: no level is deeper than the one
+    /// below it.
+    pub fn good_state(&mut self, height: u32) -> u32 {
+        let core = 1 + self.below(3);
+        let cluster = self.shallower(core, height >= 1);
+        let group = self.shallower(cluster, height >= 2);
+        let system = self.shallower(group, height >= 3);
+        let id = core | (cluster << 4) | (group << 8) | (system << 12);
+        let level = u32::from(cluster > 0) + u32::from(group > 0) + u32::from(system > 0);
+        let kind = u32::from(core == 3);
+        id | (kind << 16) | (level << 24)
+    }
+
+    /// A depth no deeper than this one, mostly the same; 0 where the board has no such level.
+    fn shallower(&mut self, depth: u32, there: bool) -> u32
+        requires { depth ≤ 3 }
+        ensures { result ≤ depth }
+    {
+        if !there {
+            return 0;
+        }
+        if self.one_in(2) {
+            depth
+        } else {
+            self.below(depth + 1)
+        }
+    }
+
+    /// A power state word, good or bad.
+    fn state(&mut self, height: u32) -> u32 {
+        let state = self.good_state(height);
+        if self.one_in(4) {
+            state ^ (1 << self.below(32))
+        } else {
+            state
+        }
+    }
+
+    /// Any request, but SYSTEM_OFF and SYSTEM_RESET.
+    fn request(&mut self, board: &Board) -> Request {
+        match self.below(10) {
+            0 => Request::Version,
+            1 => Request::MigrateInfoType,
+            2 => Request::Unknown,
+            3 => Request::SetSuspendMode {
+                mode: self.below(3),
+            },
+            4 => Request::Features {
+                word: self.feature(),
+            },
+            5 => Request::AffinityInfo {
+                target: self.target(board),
+                level: self.below(5),
+            },
+            6 => Request::CpuOff,
+            7 => Request::SystemSuspend {
+                entry: self.entry(board),
+                context: self.word(),
+            },
+            8 => self.suspend(board),
+            _ => self.power_on(board),
+        }
+    }
+
+    /// A CPU_ON, good or bad.
+    fn power_on(&mut self, board: &Board) -> Request {
+        Request::CpuOn {
+            target: self.target(board),
+            entry: self.entry(board),
+            context: self.word(),
+        }
+    }
+
+    /// A CPU_SUSPEND, good or bad.
+    fn suspend(&mut self, board: &Board) -> Request {
+        Request::CpuSuspend {
+            state: self.state(board.height()),
+            entry: self.entry(board),
+            context: self.word(),
+        }
+    }
+
+    /// A function word to ask about.
+    fn feature(&mut self) -> u32 {
+        let place = self.below(8) as usize;
+        WORDS.get(place).copied().unwrap_or(0)
+    }
+
+    /// The registers of any call, but of SYSTEM_OFF and SYSTEM_RESET.
+    pub fn call(&mut self, board: &Board) -> Regs {
+        let request = self.request(board);
+        let wide = !self.one_in(4);
+        let mut regs = registers(request, wide);
+        if self.one_in(8) {
+            regs.x0 |= self.word() << 32;
+        }
+        regs
+    }
+
+    /// The registers of any call of a core; SYSTEM_OFF and SYSTEM_RESET only where it runs not.
+    fn call_of(&mut self, world: &World, number: u16) -> Regs {
+        if self.one_in(8) && !is_at(world, number, Place::Running) {
+            let off = self.one_in(2);
+            let request = if off {
+                Request::SystemOff
+            } else {
+                Request::SystemReset
+            };
+            return registers(request, false);
+        }
+        self.call(world.board())
+    }
+
+    /// Any event, of any core, message or acknowledgement, also of one that is not there.
+    pub fn plain(&mut self, world: &World) -> Event {
+        let number = self.core(world.board().cores().saturating_add(1));
+        let core = u64::from(number);
+        match self.below(24) {
+            0..=11 => Event::Call(core, self.call_of(world, number)),
+            12..=15 => Event::Deliver(self.index(world.messages().len())),
+            16..=19 => Event::Take(self.index(world.acks().len())),
+            20 => Event::Wake(core),
+            21 => Event::Reset(core),
+            _ => Event::Enter(core),
+        }
+    }
+}
