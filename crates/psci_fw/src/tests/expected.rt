@@ -1,5 +1,5 @@
-//! What a test expects of the firmware. A call is made and looked at in one function without clauses:
-//! so the proof of a test carries along neither the answers nor what each call leaves.
+//! What a test expects of the firmware. A call is made and looked at in one function without
+//! clauses: so the proof of a test carries along neither the answers nor what each call leaves.
 
 use crate::{Act, Firmware, FwFault, Outcome, Start, Status};
 use psci_abi::{Code, Regs};
