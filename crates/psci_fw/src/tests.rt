@@ -3,14 +3,15 @@
 ghost use Rattle.std.specs.Prelude.{◌<◌, ◌≤◌};
 ghost use Rattle.psci_link.specs.Message.{most_applied};
 
-use crate::{Act, Cause, Firmware, FwFault, Outcome, Start, Status};
-use psci_abi::{Code, Regs};
+use crate::{Cause, Firmware, FwFault, Start, Status};
+use expected::*;
+use psci_abi::Regs;
 use psci_board::{Board, Core, Node};
-use psci_coord::Part;
 use psci_link::{Ack, Kind, Taken};
 use std::alloc::Global;
 use std::test::Fail;
 
+mod expected;
 mod lives;
 mod power;
 mod refusals;
@@ -78,90 +79,6 @@ fn start(life: u32, number: u32) -> Start {
         number,
         cause: Cause::Wake,
     }
-}
-
-fn entered(address: u64, context: u64) -> Outcome {
-    Outcome {
-        act: Act::Enter { address, context },
-        message: None,
-    }
-}
-
-fn returned(code: i32) -> Outcome {
-    Outcome::returns(Code(code))
-}
-
-/// A core stops, and nothing is sent.
-fn stopped() -> Outcome {
-    Outcome {
-        act: Act::Stop,
-        message: None,
-    }
-}
-
-/// Whether a core is answered this act, and a message of this kind, core, life and number is sent,
-/// with these depths and generations from level 0 up.
-fn is_sent(
-    answer: &Result<Outcome, FwFault>,
-    act: Act,
-    kind: Kind,
-    core: Core,
-    life: u32,
-    number: u32,
-    claimed: &[(u8, u64)],
-) -> bool {
-    let Ok(outcome) = answer else {
-        return false;
-    };
-    let Some(message) = &outcome.message else {
-        return false;
-    };
-    outcome.act == act
-        && message.kind == kind
-        && message.core == core
-        && message.life == life
-        && message.number == number
-        && are_parts(message.parts.as_slice(), claimed)
-}
-
-/// Whether the parts have these depths and generations, and levels from 0 up.
-fn are_parts(parts: &[Part], claimed: &[(u8, u64)]) -> bool {
-    parts.len() == claimed.len()
-        && parts
-            .iter()
-            .enumerate()
-            .all(|(level, part)| part.level as usize == level)
-        && parts.iter().zip(claimed).all(|(part, (depth, generation))| {
-            part.depth == *depth && part.generation == *generation
-        })
-}
-
-/// Whether a CPU_ON is accepted.
-fn is_accepted(answer: &Result<Outcome, FwFault>, core: Core, life: u32, number: u32) -> bool {
-    let act = Act::Return(Code::SUCCESS);
-    is_sent(answer, act, Kind::Start, core, life, number, &[])
-}
-
-/// Whether a core stops with a message of this kind for the whole system.
-fn is_halted(
-    answer: &Result<Outcome, FwFault>,
-    kind: Kind,
-    core: Core,
-    life: u32,
-    number: u32,
-) -> bool {
-    is_sent(answer, Act::Stop, kind, core, life, number, &[])
-}
-
-/// Whether a core stops with this claim.
-fn is_down(
-    answer: &Result<Outcome, FwFault>,
-    core: Core,
-    life: u32,
-    number: u32,
-    claimed: &[(u8, u64)],
-) -> bool {
-    is_sent(answer, Act::Stop, Kind::Down, core, life, number, claimed)
 }
 
 /// An acknowledgement of a message of life 1.

@@ -6,22 +6,18 @@ use super::*;
 fn second_core_is_started(rt: HostRuntime) -> Result<(), Fail> {
     let mut firmware = firmware_of(rt.alloc(), BOARD)?;
     let core = Core { number: 3 };
-    let first = firmware.enter(BOOT, start(1, 1));
-    assert_eq!(rt; first, Ok(entered(0x4000_0000, 0)));
-    assert!(rt; is_accepted(&firmware.smc(BOOT, on(0x4000_1000)), core, 1, 0));
-    assert_eq!(rt; firmware.smc(BOOT, on(0x4000_1000)), Ok(returned(-5)));
-    assert_eq!(rt; firmware.status(core.node()), Some(Status::Pending));
+    enters(&rt, &mut firmware, BOOT, start(1, 1), 0x4000_0000, 0);
+    asks_on(&rt, &mut firmware, BOOT, on(0x4000_1000), core, 1, 0);
+    returns(&rt, &mut firmware, BOOT, on(0x4000_1000), -5);
+    shows(&rt, &firmware, core.node(), Some(Status::Pending));
     let cluster = Node { level: 1, place: 1 };
-    assert_eq!(rt; firmware.status(cluster), Some(Status::Pending));
+    shows(&rt, &firmware, cluster, Some(Status::Pending));
     let system = Node { level: 2, place: 0 };
-    assert_eq!(rt; firmware.status(system), Some(Status::On));
-    assert!(rt; !firmware.running(core));
-    assert_eq!(rt;
-        firmware.enter(core, start(1, 1)),
-        Ok(entered(0x4000_1000, 7))
-    );
-    assert!(rt; firmware.running(core));
-    assert_eq!(rt; firmware.smc(core, LAST_STATUS), Ok(returned(0)));
+    shows(&rt, &firmware, system, Some(Status::On));
+    runs(&rt, &firmware, core, false);
+    enters(&rt, &mut firmware, core, start(1, 1), 0x4000_1000, 7);
+    runs(&rt, &firmware, core, true);
+    returns(&rt, &mut firmware, core, LAST_STATUS, 0);
     Ok(())
 }
 
@@ -29,17 +25,16 @@ fn second_core_is_started(rt: HostRuntime) -> Result<(), Fail> {
 fn callers_are_refused_in_order(rt: HostRuntime) -> Result<(), Fail> {
     let mut firmware = firmware_of(rt.alloc(), BOARD)?;
     let beyond = Core { number: 4 };
-    assert_eq!(rt; firmware.smc(beyond, VERSION), Err(FwFault::NoCore));
-    assert_eq!(rt; firmware.smc(BOOT, VERSION), Err(FwFault::NoLife));
-    assert_eq!(rt; firmware.life(), None);
-    assert_eq!(rt; firmware.status(BOOT.node()), None);
-    let first = firmware.enter(BOOT, start(1, 1));
-    assert_eq!(rt; first, Ok(entered(0x4000_0000, 0)));
-    assert_eq!(rt; firmware.life(), Some(1));
-    assert_eq!(rt; firmware.smc(BOOT, VERSION), Ok(returned(65537)));
-    assert_eq!(rt; firmware.smc(beyond, VERSION), Err(FwFault::NoCore));
+    call_refused(&rt, &mut firmware, beyond, VERSION, FwFault::NoCore);
+    call_refused(&rt, &mut firmware, BOOT, VERSION, FwFault::NoLife);
+    is_in_life(&rt, &firmware, None);
+    shows(&rt, &firmware, BOOT.node(), None);
+    enters(&rt, &mut firmware, BOOT, start(1, 1), 0x4000_0000, 0);
+    is_in_life(&rt, &firmware, Some(1));
+    returns(&rt, &mut firmware, BOOT, VERSION, 65537);
+    call_refused(&rt, &mut firmware, beyond, VERSION, FwFault::NoCore);
     let second = Core { number: 1 };
-    assert_eq!(rt; firmware.smc(second, VERSION), Err(FwFault::NotRunning));
+    call_refused(&rt, &mut firmware, second, VERSION, FwFault::NotRunning);
     Ok(())
 }
 
@@ -47,22 +42,15 @@ fn callers_are_refused_in_order(rt: HostRuntime) -> Result<(), Fail> {
 fn starts_are_refused_in_order(rt: HostRuntime) -> Result<(), Fail> {
     let mut firmware = firmware_of(rt.alloc(), BOARD)?;
     let beyond = Core { number: 4 };
-    assert_eq!(rt; firmware.enter(beyond, start(0, 0)), Err(FwFault::NoCore));
-    assert_eq!(rt; firmware.enter(BOOT, start(0, 0)), Err(FwFault::NoLife));
-    assert_eq!(rt; firmware.enter(BOOT, start(4, 1)), Err(FwFault::NoLife));
-    assert_eq!(rt; firmware.enter(BOOT, start(1, 0)), Err(FwFault::OldStart));
-    assert_eq!(rt;
-        firmware.enter(BOOT, start(1, 1001)),
-        Err(FwFault::OldStart)
-    );
-    assert_eq!(rt; firmware.life(), None);
-    let last = firmware.enter(BOOT, start(1, 1000));
-    assert_eq!(rt; last, Ok(entered(0x4000_0000, 0)));
-    assert_eq!(rt;
-        firmware.enter(BOOT, start(1, 1000)),
-        Err(FwFault::OldStart)
-    );
-    assert_eq!(rt; firmware.enter(BOOT, start(1, 999)), Err(FwFault::OldStart));
+    entry_refused(&rt, &mut firmware, beyond, start(0, 0), FwFault::NoCore);
+    entry_refused(&rt, &mut firmware, BOOT, start(0, 0), FwFault::NoLife);
+    entry_refused(&rt, &mut firmware, BOOT, start(4, 1), FwFault::NoLife);
+    entry_refused(&rt, &mut firmware, BOOT, start(1, 0), FwFault::OldStart);
+    entry_refused(&rt, &mut firmware, BOOT, start(1, 1001), FwFault::OldStart);
+    is_in_life(&rt, &firmware, None);
+    enters(&rt, &mut firmware, BOOT, start(1, 1000), 0x4000_0000, 0);
+    entry_refused(&rt, &mut firmware, BOOT, start(1, 1000), FwFault::OldStart);
+    entry_refused(&rt, &mut firmware, BOOT, start(1, 999), FwFault::OldStart);
     Ok(())
 }
 
@@ -85,21 +73,17 @@ fn faults_say_what_is_wrong(rt: HostRuntime) -> Result<(), Fail> {
 fn life_is_over_when_a_later_one_begins(rt: HostRuntime) -> Result<(), Fail> {
     let mut firmware = firmware_of(rt.alloc(), BOARD)?;
     let core = Core { number: 3 };
-    let first = firmware.enter(BOOT, start(1, 5));
-    assert_eq!(rt; first, Ok(entered(0x4000_0000, 0)));
-    assert!(rt; is_accepted(&firmware.smc(BOOT, on(0x4000_1000)), core, 1, 0));
-    let asked = firmware.enter(core, start(1, 4));
-    assert_eq!(rt; asked, Ok(entered(0x4000_1000, 7)));
-    let boot = firmware.enter(BOOT, start(3, 1));
-    assert_eq!(rt; boot, Ok(entered(0x4000_0000, 0)));
-    assert_eq!(rt; firmware.life(), Some(3));
-    assert_eq!(rt; firmware.status(core.node()), Some(Status::Off));
-    assert!(rt; !firmware.running(core));
-    assert_eq!(rt; firmware.enter(BOOT, start(2, 6)), Err(FwFault::OldStart));
-    assert_eq!(rt; firmware.enter(BOOT, start(3, 1)), Err(FwFault::OldStart));
-    assert!(rt; is_accepted(&firmware.smc(BOOT, on(0x4000_2000)), core, 3, 0));
-    let again = firmware.enter(core, start(3, 1));
-    assert_eq!(rt; again, Ok(entered(0x4000_2000, 7)));
+    enters(&rt, &mut firmware, BOOT, start(1, 5), 0x4000_0000, 0);
+    asks_on(&rt, &mut firmware, BOOT, on(0x4000_1000), core, 1, 0);
+    enters(&rt, &mut firmware, core, start(1, 4), 0x4000_1000, 7);
+    enters(&rt, &mut firmware, BOOT, start(3, 1), 0x4000_0000, 0);
+    is_in_life(&rt, &firmware, Some(3));
+    shows(&rt, &firmware, core.node(), Some(Status::Off));
+    runs(&rt, &firmware, core, false);
+    entry_refused(&rt, &mut firmware, BOOT, start(2, 6), FwFault::OldStart);
+    entry_refused(&rt, &mut firmware, BOOT, start(3, 1), FwFault::OldStart);
+    asks_on(&rt, &mut firmware, BOOT, on(0x4000_2000), core, 3, 0);
+    enters(&rt, &mut firmware, core, start(3, 1), 0x4000_2000, 7);
     Ok(())
 }
 
@@ -107,34 +91,16 @@ fn life_is_over_when_a_later_one_begins(rt: HostRuntime) -> Result<(), Fail> {
 fn core_without_opening_parks(rt: HostRuntime) -> Result<(), Fail> {
     let mut firmware = firmware_of(rt.alloc(), BOARD)?;
     let core = Core { number: 3 };
-    assert!(rt;
-        is_down(
-            &firmware.enter(core, start(2, 5)),
-            core,
-            2,
-            5,
-            &[(3, 5), (3, 5)]
-        )
-    );
-    assert_eq!(rt; firmware.status(core.node()), Some(Status::Off));
-    assert_eq!(rt; firmware.status(BOOT.node()), Some(Status::Pending));
-    let boot = firmware.enter(BOOT, start(2, 1));
-    assert_eq!(rt; boot, Ok(entered(0x4000_0000, 0)));
-    assert!(rt; is_accepted(&firmware.smc(BOOT, on(0x4000_1000)), core, 2, 5));
-    let asked = firmware.enter(core, start(2, 6));
-    assert_eq!(rt; asked, Ok(entered(0x4000_1000, 7)));
-    assert!(rt;
-        is_down(
-            &firmware.enter(core, start(2, 7)),
-            core,
-            2,
-            7,
-            &[(3, 7), (3, 7)]
-        )
-    );
-    assert_eq!(rt; firmware.smc(core, VERSION), Err(FwFault::NotRunning));
-    assert_eq!(rt; firmware.smc(BOOT, LAST_STATUS), Ok(returned(0)));
-    assert_eq!(rt; firmware.smc(BOOT, on(0x4000_1000)), Ok(returned(-4)));
+    parks(&rt, &mut firmware, core, start(2, 5), &[(3, 5), (3, 5)]);
+    shows(&rt, &firmware, core.node(), Some(Status::Off));
+    shows(&rt, &firmware, BOOT.node(), Some(Status::Pending));
+    enters(&rt, &mut firmware, BOOT, start(2, 1), 0x4000_0000, 0);
+    asks_on(&rt, &mut firmware, BOOT, on(0x4000_1000), core, 2, 5);
+    enters(&rt, &mut firmware, core, start(2, 6), 0x4000_1000, 7);
+    parks(&rt, &mut firmware, core, start(2, 7), &[(3, 7), (3, 7)]);
+    call_refused(&rt, &mut firmware, core, VERSION, FwFault::NotRunning);
+    returns(&rt, &mut firmware, BOOT, LAST_STATUS, 0);
+    returns(&rt, &mut firmware, BOOT, on(0x4000_1000), -4);
     Ok(())
 }
 
@@ -142,24 +108,15 @@ fn core_without_opening_parks(rt: HostRuntime) -> Result<(), Fail> {
 fn last_start_leaves_none(rt: HostRuntime) -> Result<(), Fail> {
     let mut firmware = firmware_of(rt.alloc(), TWO_STARTS)?;
     let core = Core { number: 3 };
-    let first = firmware.enter(BOOT, start(1, 2));
-    assert_eq!(rt; first, Ok(entered(0x4000_0000, 0)));
-    assert!(rt;
-        is_down(
-            &firmware.enter(core, start(1, 2)),
-            core,
-            1,
-            2,
-            &[(3, 2), (3, 2)]
-        )
-    );
-    assert_eq!(rt; firmware.smc(BOOT, on(0x4000_1000)), Ok(returned(-6)));
-    assert_eq!(rt; firmware.smc(BOOT, on(0x4000_1002)), Ok(returned(-9)));
+    enters(&rt, &mut firmware, BOOT, start(1, 2), 0x4000_0000, 0);
+    parks(&rt, &mut firmware, core, start(1, 2), &[(3, 2), (3, 2)]);
+    returns(&rt, &mut firmware, BOOT, on(0x4000_1000), -6);
+    returns(&rt, &mut firmware, BOOT, on(0x4000_1002), -9);
     let itself = Regs {
         x1: 0,
         ..on(0x4000_1000)
     };
-    assert_eq!(rt; firmware.smc(BOOT, itself), Ok(returned(-4)));
+    returns(&rt, &mut firmware, BOOT, itself, -4);
     Ok(())
 }
 
@@ -167,20 +124,26 @@ fn last_start_leaves_none(rt: HostRuntime) -> Result<(), Fail> {
 fn largest_board_has_its_last_core(rt: HostRuntime) -> Result<(), Fail> {
     let mut firmware = firmware_of(rt.alloc(), LARGEST)?;
     let last = Core { number: 63 };
-    assert_eq!(rt;
-        firmware.enter(BOOT, start(65535, 1)),
-        Ok(entered(0x100, 0))
-    );
+    enters(&rt, &mut firmware, BOOT, start(65535, 1), 0x100, 0);
     let asked = Regs {
         x1: 0x3_0f00,
         ..on(0x200)
     };
-    assert!(rt; is_accepted(&firmware.smc(BOOT, asked), last, 65535, 0));
-    let begun = firmware.enter(last, start(65535, 4_294_967_295));
-    assert_eq!(rt; begun, Ok(entered(0x200, 7)));
-    assert_eq!(rt;
-        firmware.enter(Core { number: 64 }, start(65535, 1)),
-        Err(FwFault::NoCore)
+    asks_on(&rt, &mut firmware, BOOT, asked, last, 65535, 0);
+    enters(
+        &rt,
+        &mut firmware,
+        last,
+        start(65535, 4_294_967_295),
+        0x200,
+        7,
+    );
+    entry_refused(
+        &rt,
+        &mut firmware,
+        Core { number: 64 },
+        start(65535, 1),
+        FwFault::NoCore,
     );
     Ok(())
 }

@@ -7,7 +7,8 @@ use Rattle.psci_fw_model.specs.declared.status.Status.TheVariants as statuses
 use Rattle.psci_fw_model.specs.Changes.{turns_off}
 use Rattle.psci_fw_state.specs.Rows.{row_at}
 use Rattle.psci_fw_state.specs.Seen.{StateValue, values_in}
-use Rattle.psci_fw_state.proofs.Acked.{down_has_slot, off_changed, old_changed, old_slot, used_changed}
+use Rattle.psci_fw_state.proofs.Acked.{down_has_slot, off_changed, old_changed, old_slot}
+use Rattle.psci_fw_state.proofs.Acked.{used_changed}
 use Rattle.psci_fw_state.proofs.Changed.{row_set}
 use Rattle.psci_fw_state.proofs.Moved.{rows_set}
 use Rattle.psci_fw_state.proofs.state.State.acknowledge.Goals as goal
