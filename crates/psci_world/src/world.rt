@@ -77,8 +77,8 @@ impl World {
         Ok(self.records()[newest].copy())
     }
 
-    /// Makes the event happen, as `step` does. The record of it, of which `step` answers a copy, is the
-    /// last of `records`.
+    /// Makes the event happen, as `step` does. The record of it, of which `step` answers a copy, is
+    /// the last of `records`.
     pub fn happen(&mut self, event: Event) -> Result<(), Memory>
         ensures ok { OnOk result (self.new.past
             ≡ legal_record self.old.board self.old.past event ∷ self.old.past) }

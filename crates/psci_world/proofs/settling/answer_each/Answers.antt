@@ -10,7 +10,8 @@ pub loop-number-init : goal.loop-number-init
 loop-number-init c = record {
   board = refl;
   events = settles_none c.args.world.now.board c.args.world.now.past;
-  rest = each_first (answered c.args.world.now.board (answers_kind c.args.which)) (cores c.args.world.now.board)
+  rest = each_first (answered c.args.world.now.board (answers_kind c.args.which))
+      (cores c.args.world.now.board)
       c.args.world.now.past;
 }
 
@@ -19,12 +20,14 @@ loop-number-preserved c =
     let old = c.args.world.now in
     let at = c.loop-number in
     let less : at.number < cores old.board =
-    omega (arith, c.loop-number-test.true, c.cores-number-end.ensures.cores, ap cores c.board.ensures) in
+    omega (arith, c.loop-number-test.true, c.cores-number-end.ensures.cores,
+    ap cores c.board.ensures) in
     record {
       board = c.answer.ensures.board ∙ at.invariant.board;
       events = settles_both old.board at.world.board old.past at.world.past
           c.answer.new.world.past at.invariant.board at.invariant.events c.answer.ensures.events;
-      rest = each_next (λ b. answered b (answers_kind c.args.which)) old.board at.world.board at.number
+      rest = each_next (λ b. answered b (answers_kind c.args.which)) old.board at.world.board
+          at.number
           (cores old.board) at.world.past c.answer.new.world.past _ less at.invariant.board
           ((c.in_ok-answer.ensures {u = tt}).ok
           ∙ ap (answering at.world.board at.world.past) c.number_outstanding-message.ensures)

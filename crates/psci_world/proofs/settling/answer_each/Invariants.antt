@@ -12,5 +12,6 @@ invariant-loop-number l = record {
   events : SettlesBy l.fn.world.board l.fn.world.past l.world.past;
   rest : each_core (answered l.fn.world.board (answers_kind l.fn.which))
       (range_with_len l.number (cores l.fn.world.board - l.number)) l.world.past
-      ≡ each_core (answered l.fn.world.board (answers_kind l.fn.which)) (all_cores l.fn.world.board) l.fn.world.past;
+      ≡ each_core (answered l.fn.world.board (answers_kind l.fn.which))
+      (all_cores l.fn.world.board) l.fn.world.past;
 }

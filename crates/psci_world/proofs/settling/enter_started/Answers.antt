@@ -18,19 +18,24 @@ loop-number-preserved c =
     let old = c.args.world.now in
     let at = c.loop-number in
     let less : at.number < cores old.board =
-    omega (arith, c.loop-number-test.true, c.cores-number-end.ensures.cores, ap cores c.board.ensures) in
+    omega (arith, c.loop-number-test.true, c.cores-number-end.ensures.cores,
+    ap cores c.board.ensures) in
     record {
       board = c.enter_if_started.ensures.board ∙ at.invariant.board;
       events = settles_both old.board at.world.board old.past at.world.past
-          c.enter_if_started.new.world.past at.invariant.board at.invariant.events c.enter_if_started.ensures.events;
+          c.enter_if_started.new.world.past at.invariant.board at.invariant.events
+          c.enter_if_started.ensures.events;
       rest = each_next entering old.board at.world.board at.number
-          (cores old.board) at.world.past c.enter_if_started.new.world.past _ less at.invariant.board
+          (cores old.board) at.world.past c.enter_if_started.new.world.past _ less
+          at.invariant.board
           (c.in_ok-enter_if_started.ensures {u = tt}).ok at.invariant.rest;
     }
 
-pub returns-in_err-enter_if_started-clause-events : goal.returns-in_err-enter_if_started-clause-events
+pub returns-in_err-enter_if_started-clause-events
+    : goal.returns-in_err-enter_if_started-clause-events
 returns-in_err-enter_if_started-clause-events c =
     let old = c.args.world.now in
     let at = c.loop-number in
     settles_both old.board at.world.board old.past at.world.past
-    c.enter_if_started.new.world.past at.invariant.board at.invariant.events c.enter_if_started.ensures.events
+    c.enter_if_started.new.world.past at.invariant.board at.invariant.events
+    c.enter_if_started.ensures.events
