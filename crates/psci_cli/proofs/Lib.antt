@@ -1,3 +1,4 @@
 pub mod CommandRows
 pub mod ExitRows
 pub mod PlainRows
+mod StormRows
