@@ -11,7 +11,8 @@ ghost use Rattle.psci_cli.specs.Commands.{AsksHelp, IsAsked, IsUnheard, IsWordle
 use crate::exit::Failure;
 use crate::plain::plain;
 use clap::error::{Error, ErrorKind};
-use clap::{Arg, ArgMatches, Command, ValueParser, value_parser};
+use clap::builder::ValueParser;
+use clap::{Arg, ArgMatches, Command, value_parser};
 use psci_bench::ReplayFault;
 use std::alloc::{AllocError, Global};
 use std::rt::Env;
