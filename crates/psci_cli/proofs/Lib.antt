@@ -1,3 +1,7 @@
+pub mod Asking
 pub mod CommandRows
 pub mod ExitRows
+pub mod Locals
+pub mod Numbers
 pub mod PlainRows
+mod StormRows

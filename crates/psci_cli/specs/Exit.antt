@@ -1,10 +1,11 @@
 -- Exit statuses, and what standard error says of a fault.
-use Rattle.std.specs.Prelude.{ℕ, List, ◌++◌, codes, ⊤}
+use Rattle.std.specs.Prelude.{◌≡◌, ◌⊎◌, ℕ, List, ◌++◌, codes, ⊤}
 use Rattle.std.specs.Fmt.{decimal}
 use Rattle.psci_board.specs.declared.fault.BoardFault.{BoardFault}
 use Rattle.psci_board.specs.declared.fault.BoardFault.TheVariants as boards
 use Rattle.psci_cli.specs.declared.exit.Failure.{Failure}
 use Rattle.psci_cli.specs.declared.exit.Failure.TheVariants.{CommandLine, Replay}
+use Rattle.psci_cli.specs.declared.exit.Failure.TheVariants.{Board as GivenBoard}
 use Rattle.psci_script.specs.declared.fault.ScriptFault.{ScriptFault}
 use Rattle.psci_script.specs.declared.fault.ScriptFault.TheVariants as scripts
 use Rattle.psci_script.specs.declared.fault.ReplayFault.{ReplayFault}
@@ -34,6 +35,11 @@ abbrev pub board_status : BoardFault → ℕ
 board_status boards.Memory = 5
 board_status _ = 3
 
+-- the same of a board that the command line gives: it is a fault of the command line
+abbrev pub given_board_status : BoardFault → ℕ
+given_board_status boards.Memory = 5
+given_board_status _ = 2
+
 -- the exit status at a fault of a replay
 abbrev pub replay_status : ReplayFault → ℕ
 replay_status (Script line fault) = 3
@@ -45,17 +51,31 @@ replay_status Memory = 5
 -- the exit status of the program
 abbrev pub status_of : Failure → ℕ
 status_of CommandLine = 2
+status_of (GivenBoard fault) = given_board_status fault
 status_of (Replay fault) = replay_status fault
 
 -- the command line was obeyed
 abbrev pub IsOfReplay : Failure → Type 0
 IsOfReplay CommandLine = ⊥
+IsOfReplay (GivenBoard fault) = ⊥
 IsOfReplay (Replay fault) = ⊤
+
+-- a storm ends early at the board that the command line gives, for want of memory, or where its line
+-- can't be written
+abbrev pub IsOfStorm : Failure → Type 0
+IsOfStorm CommandLine = ⊥
+IsOfStorm (GivenBoard fault) = ⊤
+IsOfStorm (Replay fault) = (fault ≡ Write) ⊎ (fault ≡ Memory)
 
 -- what standard error says of a board fault
 abbrev pub board_report : BoardFault → List ℕ
 board_report boards.Memory = codes "out of memory"
 board_report fault = codes "line 1: board fault " ++ decimal (board_number fault)
+
+-- the same of a board that the command line gives, before its line feed
+abbrev pub given_board_report : BoardFault → List ℕ
+given_board_report boards.Memory = codes "out of memory"
+given_board_report fault = codes "board fault " ++ decimal (board_number fault)
 
 -- what standard error says, before its line feed
 abbrev pub report : ReplayFault → List ℕ

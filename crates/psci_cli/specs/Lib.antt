@@ -1,3 +1,4 @@
 pub mod Commands
 pub mod Exit
 pub mod Plain
+pub mod StormText

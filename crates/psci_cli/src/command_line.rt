@@ -1,27 +1,44 @@
 //! The command line: which command is meant, or the parser's text.
 
-ghost use Rattle.std.specs.Prelude.{◌≡◌, ◌⊎◌, IfOk, IfErr, map, string_bytes, Ok, Err};
-ghost use Rattle.clap.specs.Words.{FailsBy, app_of, fault_of, kind_of};
+ghost use Rattle.std.specs.Prelude.{◌≡◌, ◌⊎◌, [], false, codes, IfOk, IfErr, map, string_bytes};
+ghost use Rattle.std.specs.Prelude.{Ok, Err};
+ghost use Rattle.clap.specs.Words.{FailsBy, app_of, fault_of, found_of, kind_of};
+ghost use Rattle.clap.specs.Words.{new_app, rows_of, rule_of, subcommand_of};
 ghost use Rattle.clap.specs.declared.error.kind.ErrorKind.TheVariants.{OutOfMemory};
 ghost use Rattle.psci_script.specs.declared.fault.ReplayFault.TheVariants.{Memory, Write};
-ghost use Rattle.psci_cli.specs.declared.command_line.Request.TheVariants.{Replay, Nothing};
+ghost use Rattle.psci_cli.specs.declared.command_line.Request.TheVariants.{Nothing};
 ghost use Rattle.psci_cli.specs.declared.exit.Failure.TheVariants.{CommandLine};
-ghost use Rattle.psci_cli.specs.Commands.{AsksHelp, IsUnheard, IsWordless, program};
+ghost use Rattle.psci_cli.specs.Commands.{AsksHelp, IsAsked, IsStormOf, IsUnheard, IsWordless};
+ghost use Rattle.psci_cli.specs.Commands.{board_rule, number_rule, program, storm_shape};
 
 use crate::exit::Failure;
 use crate::plain::plain;
-use clap::Command;
+use clap::builder::ValueParser;
 use clap::error::{Error, ErrorKind};
+use clap::{Arg, ArgMatches, Command, value_parser};
 use psci_bench::ReplayFault;
 use std::alloc::{AllocError, Global};
 use std::rt::Env;
 use std::{env, io, str};
 
+/// A storm, as the command line asks for it.
+#[derive(Clone, Copy, Debug, PartialEq, Eq)]
+pub struct StormRequest<'a> {
+    /// The text of the board.
+    pub board: &'a str,
+    /// The seed.
+    pub seed: u64,
+    /// How many events are drawn, at most 10,000.
+    pub count: u64,
+}
+
 /// What the command line asks for.
 #[derive(Clone, Copy, Debug, PartialEq, Eq)]
-pub enum Request {
+pub enum Request<'a> {
     /// Replay a script.
     Replay,
+    /// Make a storm.
+    Storm(StormRequest<'a>),
     /// Nothing more: help, or the version, was shown.
     Nothing,
 }
@@ -29,7 +46,16 @@ pub enum Request {
 /// The version of the program, as `--version` names it.
 const VERSION: &str = "0.1.0";
 
-const ABOUT: &str = "Replays scripts of PSCI calls against the power firmware.";
+const ABOUT: &str =
+    "Replays scripts of PSCI calls against the power firmware, or makes storms of them.";
+
+/// The board of a storm, where none is given: two clusters of two cores.
+const BOARD: &str = "(2 2) exec 0x40000000-0x40100000 boot 0x40000000 starts 1000 lives 3";
+
+const ABOUT_STORM: &str =
+    "Makes so many random events happen on a board, drawn from the seed, and then lets it settle.
+Standard output has one line: `storm events E sent S quiet R` (E events in all, S messages sent, at
+rest after R rounds) or `storm events E sent S halting`.";
 
 const ABOUT_REPLAY: &str =
     "Takes a script from standard input. Each event of it is answered by a line on standard output.
@@ -49,33 +75,88 @@ writes
 
 Exit status: 0 done, 2 command line, 3 script, 4 read or write, 5 memory";
 
+/// The command `replay`.
+fn replay_command<'a>(alloc: Global) -> Command<'a>
+    ensures { app_of result ≡ new_app (codes "replay") }
+{
+    Command::new(alloc, "replay")
+        .about("Replay a script: standard input to standard output")
+        .long_about(ABOUT_REPLAY)
+        .after_help(EXAMPLE)
+}
+
+/// The command `storm`.
+fn storm_command<'a>(alloc: Global) -> Result<Command<'a>, AllocError>
+    ensures { IfOk result (λ command. app_of command
+        ≡ record { top = storm_shape; subs = [] }) }
+{
+    Command::new(alloc, "storm")
+        .about("Make a storm of random events, and let it settle")
+        .long_about(ABOUT_STORM)
+        .arg(board(alloc))?
+        .arg(number(alloc, "seed", value_parser!(u64)))?
+        .arg(number(alloc, "count", value_parser!(u64).range(..=10_000)))
+}
+
 /// The commands of the program.
 fn commands<'a>(alloc: Global) -> Result<Command<'a>, AllocError>
     ensures { IfOk result (λ command. app_of command ≡ program) }
 {
-    let replay = Command::new(alloc, "replay")
-        .about("Replay a script: standard input to standard output")
-        .long_about(ABOUT_REPLAY)
-        .after_help(EXAMPLE);
     Command::new(alloc, "psci_cli")
         .version(VERSION)
         .about(ABOUT)
         .after_help(EXAMPLE)
         .subcommand_required(true)
-        .subcommand(replay)
+        .subcommand(replay_command(alloc))?
+        .subcommand(storm_command(alloc)?)
+}
+
+/// The board, which may be left out.
+fn board<'a>(alloc: Global) -> Arg<'a>
+    ensures rule { rule_of result ≡ board_rule }
+    ensures local { result.global ≡ false }
+{
+    Arg::new(alloc, "board").long("board").default_value(BOARD)
+}
+
+/// A number that must be given, under this name.
+fn number<'a>(alloc: Global, name: &'a str, parser: ValueParser<'a>) -> Arg<'a>
+    ensures rule { rule_of result ≡ number_rule name.entry.now parser.entry }
+    ensures local { result.global ≡ false }
+{
+    Arg::new(alloc, name)
+        .long(name)
+        .required(true)
+        .value_parser(parser)
 }
 
 /// What these words ask for, the program's name first, or the parser's error.
-fn request_in(alloc: Global, words: &[String]) -> Result<Request, Error>
-    ensures request { IfOk result (λ request. request ≡ Replay) }
+fn request_in<'a>(alloc: Global, words: &'a [String]) -> Result<Option<Request<'a>>, Error>
+    ensures request { IfOk result (λ request.
+        IsAsked (subcommand_of program (map string_bytes words.now)) request) }
     ensures fault { FailsBy (fault_of program (map string_bytes words.now)) result }
 {
-    let _matches = commands(alloc)?.try_get_matches_from(words)?;
-    Ok(Request::Replay)
+    let matches = commands(alloc)?.try_get_matches_from(words)?;
+    Ok(match matches.subcommand_matches("storm") {
+        Some(storm) => storm_in(storm).map(Request::Storm),
+        None => Some(Request::Replay),
+    })
+}
+
+/// The storm that these matches of its command ask for, or none where a number is missing, which the
+/// parser has made sure of.
+fn storm_in<'a>(matches: &ArgMatches<'a>) -> Option<StormRequest<'a>>
+    ensures { IsStormOf (rows_of (found_of matches.now)) result }
+{
+    Some(StormRequest {
+        board: matches.get_str("board")?,
+        seed: matches.get_one("seed")?,
+        count: matches.get_one("count")?,
+    })
 }
 
 /// The words of the command line, the program's name first.
-fn words<R: Env + AllocGlobal + Eprint>(rt: &R) -> Result<Vec<String>, Failure>
+pub fn words<R: Env + AllocGlobal + Eprint>(rt: &R) -> Result<Vec<String>, Failure>
     ensures { IfErr result IsWordless }
 {
     match env::args(rt) {
@@ -107,7 +188,7 @@ fn complain<R: AllocGlobal + Eprint>(rt: &R, error: &Error) {
 }
 
 /// Shows the parser's text: help and the version on standard output, a fault on standard error.
-fn shown<R: AllocGlobal + Print + Eprint>(rt: &R, error: &Error) -> Result<Request, Failure>
+fn shown<'a, R: AllocGlobal + Print + Eprint>(rt: &R, error: &Error) -> Result<Request<'a>, Failure>
     ensures memory { kind_of error.now ≡ OutOfMemory → result ≡ Err (Failure.Replay Memory) }
     ensures help { AsksHelp (kind_of error.now)
         → (result ≡ Ok Nothing) ⊎ (result ≡ Err (Failure.Replay Write)) }
@@ -128,12 +209,14 @@ fn shown<R: AllocGlobal + Print + Eprint>(rt: &R, error: &Error) -> Result<Reque
 }
 
 /// Reads the command line. Where it asks for no command the parser's text is shown here.
-pub fn asked<R: Env + AllocGlobal + Print + Eprint>(rt: &R) -> Result<Request, Failure>
+pub fn asked<'a, R: AllocGlobal + Print + Eprint>(
+    rt: &R,
+    words: &'a [String],
+) -> Result<Request<'a>, Failure>
     ensures { IfErr result IsUnheard }
 {
-    let words = words(rt)?;
-    match request_in(rt.alloc(), words.as_slice()) {
-        Ok(request) => Ok(request),
+    match request_in(rt.alloc(), words) {
+        Ok(request) => request.ok_or(Failure::CommandLine),
         Err(error) => shown(rt, &error),
     }
 }

@@ -2,7 +2,7 @@
 
 ghost use Rattle.std.specs.Prelude.{◌≡◌, ◌++◌, ◌∷◌, [], OnOk};
 ghost use Rattle.std.specs.Io.KnownBytes.{Appends};
-ghost use Rattle.psci_cli.specs.Exit.{report, status_of};
+ghost use Rattle.psci_cli.specs.Exit.{given_board_report, report, status_of};
 
 use psci_bench::{ReplayFault, ScriptFault};
 use psci_board::BoardFault;
@@ -14,18 +14,22 @@ use std::io::{self, Write};
 pub enum Failure {
     /// The command line asks for nothing that there is; the parser has said so.
     CommandLine,
-    /// The replay ended with this fault, or help could not be shown for want of it.
+    /// The board that the command line gives has this fault.
+    Board(BoardFault),
+    /// The replay ended with this fault, or help or the line of a storm could not be written for want
+    /// of it.
     Replay(ReplayFault),
 }
 
 impl Failure {
-    /// The exit status: 2 for the command line, 3 for the script, 4 for reading or writing, 5 for
-    /// memory.
+    /// The exit status: 2 for the command line and the board in it, 3 for the script, 4 for reading or
+    /// writing, 5 for memory.
     pub fn status(self) -> u8
         ensures { result ≡ status_of self }
     {
         match self {
-            Failure::CommandLine => 2,
+            Failure::Board(BoardFault::Memory) => 5,
+            Failure::CommandLine | Failure::Board(_) => 2,
             Failure::Replay(fault) => match fault {
                 ReplayFault::Read | ReplayFault::Write => 4,
                 ReplayFault::Memory | ReplayFault::Board(BoardFault::Memory) => 5,
@@ -36,9 +40,11 @@ impl Failure {
 
     /// Says on standard error what happened. Where that cannot be written the status must do.
     pub fn tell(self, rt: &HostRuntime) {
-        if let Failure::Replay(fault) = self {
-            let _ = write_report(&mut rt.stderr(), fault);
-        }
+        let _ = match self {
+            Failure::CommandLine => Ok(()),
+            Failure::Board(fault) => write_board_report(&mut rt.stderr(), fault),
+            Failure::Replay(fault) => write_report(&mut rt.stderr(), fault),
+        };
     }
 }
 
@@ -50,9 +56,21 @@ fn write_report<W: Write>(to: &mut W, fault: ReplayFault) -> io::Result<()>
     writeln!(to, "{}", Report(fault))
 }
 
+/// Writes the line that standard error has of a faulty board of the command line.
+fn write_board_report<W: Write>(to: &mut W, fault: BoardFault) -> io::Result<()>
+    ensures { OnOk result (Appends (W.contents to.old) (W.contents to.new)
+        (given_board_report fault ++ 10 ∷ [])) }
+{
+    writeln!(to, "{}", BoardReport(fault))
+}
+
 /// A fault as standard error names it, by its line and its number.
 #[derive(Clone, Copy)]
 struct Report(ReplayFault);
+
+/// A fault of the board that the command line gives, as standard error names it.
+#[derive(Clone, Copy)]
+struct BoardReport(BoardFault);
 
 /// The number of a script fault.
 fn script_number(fault: ScriptFault) -> u8
@@ -102,6 +120,23 @@ impl fmt::Display for Report {
             ReplayFault::Read => write!(f, "read fault"),
             ReplayFault::Write => write!(f, "write fault"),
             ReplayFault::Memory => write!(f, "out of memory"),
+        }
+    }
+}
+
+impl fmt::Display for BoardReport {
+    ghost use Rattle.std.specs.Prelude.{Some};
+    ghost use Rattle.psci_cli.specs.Exit.{given_board_report};
+
+    ghost output = { λ r. Some (given_board_report r.0) };
+
+    fn fmt<W: fmt::Write>(&self, f: &mut fmt::Formatter<W>) -> fmt::Result {
+        match self.0 {
+            BoardFault::Memory => write!(f, "out of memory"),
+            fault => {
+                let number = board_number(fault);
+                write!(f, "board fault {number}")
+            }
         }
     }
 }

@@ -1,17 +1,20 @@
-//! The program: scripts of PSCI calls, replayed from standard input to standard output.
+//! The program: scripts of PSCI calls, replayed from standard input to standard output, and storms.
 #![tactic(auto)]
 
 mod command_line;
 mod exit;
 mod plain;
+mod storm_line;
 
 ghost use Rattle.std.specs.Prelude.{IfErr};
-ghost use Rattle.psci_cli.specs.Exit.{IsOfReplay};
+ghost use Rattle.psci_cli.specs.Exit.{IsOfReplay, IsOfStorm};
 
-use command_line::{Request, asked};
+use command_line::{Request, StormRequest, asked, words};
 use exit::Failure;
-use psci_bench::{Std, replay};
+use psci_bench::{ReplayFault, Std, replay, storm};
+use psci_board::Board;
 use std::process::ExitCode;
+use storm_line::write_storm;
 
 /// Replays the script on standard input in a world of its own.
 fn replay_standard(rt: &HostRuntime) -> Result<(), Failure>
@@ -25,9 +28,22 @@ fn replay_standard(rt: &HostRuntime) -> Result<(), Failure>
     }
 }
 
+/// Makes a storm, and writes its line on standard output.
+fn storm_standard(rt: &HostRuntime, request: StormRequest) -> Result<(), Failure>
+    ensures { IfErr result IsOfStorm }
+{
+    let board = Board::read(rt.alloc(), request.board).map_err(Failure::Board)?;
+    let storm = storm(rt.alloc(), &board, request.seed, request.count).map_err(|_| Failure::Replay(
+        ReplayFault::Memory,
+    ))?;
+    write_storm(&mut rt.stdout(), storm).map_err(|_| Failure::Replay(ReplayFault::Write))
+}
+
 /// Does what the command line asks for.
 fn run(rt: &HostRuntime) -> Result<(), Failure> {
-    match asked(rt)? {
+    let words = words(rt)?;
+    match asked(rt, words.as_slice())? {
+        Request::Storm(request) => storm_standard(rt, request),
         Request::Replay => replay_standard(rt),
         Request::Nothing => Ok(()),
     }

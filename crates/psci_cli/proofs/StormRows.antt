@@ -1,0 +1,16 @@
+-- The lines of known storms.
+use Rattle.std.proofs.Common.{◌≡◌, refl}
+use Rattle.std.specs.Prelude.{codes}
+use Rattle.std.specs.Fmt.{digits}
+use Rattle.psci_world.specs.declared.settling.Settled.TheVariants.{Halting, Quiet}
+use Rattle.psci_cli.specs.StormText.{storm_text}
+
+pub no_event : storm_text (record { events = 1; sent = 0; settled = Quiet 0 })
+    ≡ codes "storm events 1 sent 0 quiet 0"
+unfolding digits
+no_event = refl
+
+pub halted : storm_text (record { events = 10000; sent = 822; settled = Halting })
+    ≡ codes "storm events 10000 sent 822 halting"
+unfolding digits
+halted = refl
