@@ -17,8 +17,12 @@ loop-number-preserved c =
     let world = c.args.world.now in
     let n = c.loop-number.number in
     let less : n < cores world.board =
-    omega (arith, c.loop-number-test.true, c.cores-number-end.ensures.cores,
-    ap cores c.board.ensures) in
+    omega (
+      arith,
+      c.loop-number-test.true,
+      c.cores-number-end.ensures.cores,
+      ap cores c.board.ensures,
+    ) in
     any_more (λ k. is_some ((firmware_values world.board world.past).outstanding (OfCore k))) n
     (cores world.board) _ less
     (sym (ap is_some c.outstanding.ensures) ∙ some_mapped _ c.outstanding.result

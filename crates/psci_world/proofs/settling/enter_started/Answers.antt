@@ -18,8 +18,12 @@ loop-number-preserved c =
     let old = c.args.world.now in
     let at = c.loop-number in
     let less : at.number < cores old.board =
-    omega (arith, c.loop-number-test.true, c.cores-number-end.ensures.cores,
-    ap cores c.board.ensures) in
+    omega (
+      arith,
+      c.loop-number-test.true,
+      c.cores-number-end.ensures.cores,
+      ap cores c.board.ensures,
+    ) in
     record {
       board = c.enter_if_started.ensures.board ∙ at.invariant.board;
       events = settles_both old.board at.world.board old.past at.world.past

@@ -9,8 +9,8 @@ returns-clause-ok c =
     let past = c.args.self.now.past in
     let made = legal_record c.args.self.now.board past c.args.event in
     let is_made : c.copy.result ≡ made =
-        c.copy.ensures ∙ c.index-records-newest.is
-        ∙ newest c.records.result.now c.records-newest.result.now past made
-        c.index-records-newest.result c.records-newest.ensures
-        (c.records.ensures ∙ ap reverse c.in_ok-happen.ensures.ok) in
+    c.copy.ensures ∙ c.index-records-newest.is
+    ∙ newest c.records.result.now c.records-newest.result.now past made
+    c.index-records-newest.result c.records-newest.ensures
+    (c.records.ensures ∙ ap reverse c.in_ok-happen.ensures.ok) in
     (is_made, c.in_ok-happen.ensures.ok ∙ ap (λ r. r ∷ past) (sym is_made))
