@@ -8,7 +8,7 @@ use Rattle.psci_board.specs.Board.{BoardValue}
 use Rattle.psci_board.specs.Verdict.{board_of}
 use Rattle.psci_board.specs.declared.fault.BoardFault.{BoardFault}
 use Rattle.psci_world_model.specs.declared.said.Record.{Record}
-use Rattle.psci_world.specs.Seen.{WorldValue}
+use Rattle.psci_storm.specs.Seen.{WorldValue}
 use Rattle.psci_script.specs.declared.fault.Replayed.{Replayed}
 use Rattle.psci_script.specs.declared.fault.ScriptFault.{ScriptFault}
 use Rattle.psci_script.specs.declared.fault.ScriptFault.TheVariants.{NoBoard, Long}

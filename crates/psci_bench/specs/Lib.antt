@@ -5,3 +5,5 @@ pub mod Limits
 pub mod Progress
 pub mod Run
 pub mod ScriptRun
+pub use Rattle.psci_storm.specs.Settled
+pub use Rattle.psci_storm.specs.declared.outcome.Storm

@@ -19,8 +19,8 @@ use crate::laws::law_safe_scripts;
 use crate::progress::Progress;
 use psci_board::{Board, BoardFault};
 use psci_script::{Extent, Line, ReplayFault, Replayed, ScriptFault, read_line};
+use psci_storm::World;
 use psci_text::literal;
-use psci_world::World;
 use std::alloc::Global;
 
 /// The board of a first line.

@@ -1,9 +1,9 @@
 -- The line of a storm.
 use Rattle.std.specs.Prelude.{ℕ, List, ◌++◌, codes}
 use Rattle.std.specs.Fmt.{decimal}
-use Rattle.psci_storm.specs.declared.outcome.Storm.{Storm}
-use Rattle.psci_world.specs.declared.settling.Settled.{Settled}
-use Rattle.psci_world.specs.declared.settling.Settled.TheVariants.{Halting, Quiet}
+use Rattle.psci_bench.specs.Storm.{Storm}
+use Rattle.psci_bench.specs.Settled.{Settled}
+use Rattle.psci_bench.specs.Settled.TheVariants.{Halting, Quiet}
 
 -- how the world settled, after a space
 abbrev pub settled_text : Settled → List ℕ

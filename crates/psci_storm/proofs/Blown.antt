@@ -4,8 +4,8 @@ use Rattle.std.proofs.Common.{subst, Ok, Err}
 use Rattle.std.specs.Prelude.{IfOk, Result}
 use Rattle.psci_board.specs.Board.{BoardValue}
 use Rattle.psci_board.specs.declared.fault.Memory.{Memory}
-use Rattle.psci_safe.specs.Safe.{AlwaysSafe}
-use Rattle.psci_settle.specs.Settling.{is_halting, settled}
+use Rattle.psci_world.specs.Safe.{AlwaysSafe}
+use Rattle.psci_world.specs.Settling.{is_halting, settled}
 use Rattle.psci_storm.specs.declared.outcome.Storm.{Storm}
 use Rattle.psci_storm.specs.Storm.{IsBlown, IsDrawn, IsStorm}
 use Rattle.psci_world.specs.declared.settling.Settled.{Settled}

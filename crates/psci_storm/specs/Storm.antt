@@ -1,8 +1,8 @@
 -- What a storm makes of a world: events that were drawn happen, and then the world settles.
 use Rattle.std.specs.Prelude.{◌≡◌, ℕ, true, false, List, [], length}
 use Rattle.psci_board.specs.Board.{BoardValue}
-use Rattle.psci_safe.specs.Safe.{AlwaysSafe}
-use Rattle.psci_settle.specs.Settling.{is_halting, settled}
+use Rattle.psci_world.specs.Safe.{AlwaysSafe}
+use Rattle.psci_world.specs.Settling.{is_halting, settled}
 use Rattle.psci_world.specs.declared.settling.Settled.{Settled}
 use Rattle.psci_world.specs.declared.settling.Settled.TheVariants.{Halting, Quiet}
 use Rattle.psci_world.specs.Settles.{ComesToRest}

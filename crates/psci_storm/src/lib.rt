@@ -17,7 +17,7 @@ mod requests;
 
 pub use blowing::{blow, storm};
 pub use outcome::Storm;
-pub use psci_world::Settled;
+pub use psci_world::{Settled, World, law_safe};
 
 #[cfg(test)]
 mod storm_tests;

@@ -1,7 +1,7 @@
 //! Whole runs.
 
 ghost use Rattle.std.specs.Prelude.{◌≡◌, [], IfOk, reverse};
-ghost use Rattle.psci_safe.specs.Safe.{AlwaysSafe};
+ghost use Rattle.psci_headline.specs.Safe.{AlwaysSafe};
 ghost use Rattle.psci_world_model.specs.Legal.{IsLegalPast, run_from};
 
 use crate::world::World;

@@ -2,12 +2,10 @@
 
 use crate::kept::{keep_ack, keep_message};
 use psci_board::{Board, Core, Memory};
-use psci_ctl::Controller;
-use psci_fw::Firmware;
 use psci_fw_laws::law_messages;
 use psci_headline::law_safe;
 use psci_link::{Ack, Message};
-use psci_machine::Machine;
+use psci_machine::{Controller, Firmware, Machine};
 use psci_world_laws::law_sent;
 use psci_world_model::{Event, Place, Record, law_histories};
 use std::alloc::Global;
@@ -40,10 +38,10 @@ impl Model for World {
 
 ghost use Rattle.std.specs.Prelude.{◌≡◌, ◌<◌, [], ◌∷◌, IfOk, OnOk, OnErr, option_map, reverse};
 ghost use Rattle.psci_board.specs.Board.{IsBoard, cores};
-ghost use Rattle.psci_ctl.specs.Seen as controller;
-ghost use Rattle.psci_fw.specs.Seen as firmware;
+ghost use Rattle.psci_machine.specs.Controller as controller;
+ghost use Rattle.psci_machine.specs.Firmware as firmware;
 ghost use Rattle.psci_world_model.specs.Histories.{acks, controller_values, firmware_values, sent};
-ghost use Rattle.psci_safe.specs.Safe.{AlwaysSafe};
+ghost use Rattle.psci_headline.specs.Safe.{AlwaysSafe};
 ghost use Rattle.psci_world_model.specs.Legal.{IsLegalPast, legal_record};
 ghost use Rattle.psci_world_model.specs.Lists.{numbered};
 ghost use Rattle.psci_world_model.specs.Places.{place};
