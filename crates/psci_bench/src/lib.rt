@@ -19,7 +19,7 @@ mod transfer;
 pub use device::{Io, Sink, Source};
 pub use laws::law_safe_scripts;
 pub use psci_script::{ReplayFault, Replayed, ScriptFault, law_event_lines};
-pub use psci_storm::{Settled, Storm, blow, storm};
+pub use psci_storm::{Settled, Storm, StormedWorld, blow, storm, storm_world};
 pub use run::replay;
 pub use standard::Std;
 

@@ -1,5 +1,5 @@
 -- The exit status and the text of each row of the exit table.
-use Rattle.std.proofs.Common.{◌≡◌, refl}
+use Rattle.std.proofs.Common.{◌≡◌, refl, inl, inr}
 use Rattle.std.specs.Prelude.{codes}
 use Rattle.std.specs.Fmt.{digits}
 use Rattle.psci_board.specs.declared.fault.BoardFault.TheVariants as boards
@@ -7,7 +7,8 @@ use Rattle.psci_script.specs.declared.fault.ReplayFault.TheVariants.{Script, Boa
 use Rattle.psci_script.specs.declared.fault.ReplayFault.TheVariants.{Memory}
 use Rattle.psci_script.specs.declared.fault.ScriptFault.TheVariants as scripts
 use Rattle.psci_cli.specs.declared.exit.Failure.TheVariants.{CommandLine, Replay}
-use Rattle.psci_cli.specs.Exit.{report, status_of}
+use Rattle.psci_cli.specs.declared.exit.Failure.TheVariants.{Board as GivenBoard}
+use Rattle.psci_cli.specs.Exit.{IsOfReplay, IsOfStorm, given_board_report, report, status_of}
 
 -- the command line: 2, and the parser has said why
 pub command_line_status : status_of CommandLine ≡ 2
@@ -117,3 +118,109 @@ board_memory_status = refl
 
 pub board_memory_text : report (Board boards.Memory) ≡ codes "out of memory"
 board_memory_text = refl
+
+-- a board that the command line gives: 2, with the number of the fault, and 5 for memory
+pub given_grammar_status : status_of (GivenBoard boards.Grammar) ≡ 2
+given_grammar_status = refl
+
+pub given_grammar_text : given_board_report boards.Grammar ≡ codes "board fault 1"
+unfolding digits
+given_grammar_text = refl
+
+pub given_uneven_status : status_of (GivenBoard boards.Uneven) ≡ 2
+given_uneven_status = refl
+
+pub given_uneven_text : given_board_report boards.Uneven ≡ codes "board fault 2"
+unfolding digits
+given_uneven_text = refl
+
+pub given_too_wide_status : status_of (GivenBoard boards.TooWide) ≡ 2
+given_too_wide_status = refl
+
+pub given_too_wide_text : given_board_report boards.TooWide ≡ codes "board fault 3"
+unfolding digits
+given_too_wide_text = refl
+
+pub given_too_many_cores_status : status_of (GivenBoard boards.TooManyCores) ≡ 2
+given_too_many_cores_status = refl
+
+pub given_too_many_cores_text : given_board_report boards.TooManyCores ≡ codes "board fault 4"
+unfolding digits
+given_too_many_cores_text = refl
+
+pub given_bad_range_status : status_of (GivenBoard boards.BadRange) ≡ 2
+given_bad_range_status = refl
+
+pub given_bad_range_text : given_board_report boards.BadRange ≡ codes "board fault 5"
+unfolding digits
+given_bad_range_text = refl
+
+pub given_bad_boot_status : status_of (GivenBoard boards.BadBoot) ≡ 2
+given_bad_boot_status = refl
+
+pub given_bad_boot_text : given_board_report boards.BadBoot ≡ codes "board fault 6"
+unfolding digits
+given_bad_boot_text = refl
+
+pub given_bad_limit_status : status_of (GivenBoard boards.BadLimit) ≡ 2
+given_bad_limit_status = refl
+
+pub given_bad_limit_text : given_board_report boards.BadLimit ≡ codes "board fault 7"
+unfolding digits
+given_bad_limit_text = refl
+
+pub given_memory_status : status_of (GivenBoard boards.Memory) ≡ 5
+given_memory_status = refl
+
+pub given_memory_text : given_board_report boards.Memory ≡ codes "out of memory"
+given_memory_text = refl
+
+-- a replay ends early by a fault of its own, of whatever kind, and not by the command line
+pub replay_ends_by_script : IsOfReplay (Replay (Script 2 scripts.Line))
+replay_ends_by_script = tt
+
+pub replay_ends_by_board : IsOfReplay (Replay (Board boards.Grammar))
+replay_ends_by_board = tt
+
+pub replay_ends_by_read : IsOfReplay (Replay Read)
+replay_ends_by_read = tt
+
+pub replay_ends_by_write : IsOfReplay (Replay Write)
+replay_ends_by_write = tt
+
+pub replay_ends_by_memory : IsOfReplay (Replay Memory)
+replay_ends_by_memory = tt
+
+pub replay_by_command_line : IsOfReplay CommandLine → ⊥
+replay_by_command_line h = h
+
+pub replay_by_given_board : IsOfReplay (GivenBoard boards.Grammar) → ⊥
+replay_by_given_board h = h
+
+-- a storm ends early by its board, by memory or by the write of its line, and by nothing else
+pub storm_ends_by_board : IsOfStorm (GivenBoard boards.Grammar)
+storm_ends_by_board = tt
+
+pub storm_ends_by_memory_for_board : IsOfStorm (GivenBoard boards.Memory)
+storm_ends_by_memory_for_board = tt
+
+pub storm_ends_by_write : IsOfStorm (Replay Write)
+storm_ends_by_write = inl refl
+
+pub storm_ends_by_memory : IsOfStorm (Replay Memory)
+storm_ends_by_memory = inr refl
+
+pub storm_by_command_line : IsOfStorm CommandLine → ⊥
+storm_by_command_line h = h
+
+pub storm_by_read : IsOfStorm (Replay Read) → ⊥
+storm_by_read (inl write) = cc
+storm_by_read (inr memory) = cc
+
+pub storm_by_script : IsOfStorm (Replay (Script 1 scripts.NoBoard)) → ⊥
+storm_by_script (inl write) = cc
+storm_by_script (inr memory) = cc
+
+pub storm_by_script_board : IsOfStorm (Replay (Board boards.Grammar)) → ⊥
+storm_by_script_board (inl write) = cc
+storm_by_script_board (inr memory) = cc

@@ -1,7 +1,9 @@
+mod AskedRows
 pub mod Asking
 pub mod CommandRows
 pub mod ExitRows
 pub mod Locals
 pub mod Numbers
 pub mod PlainRows
+pub mod StormCommandRows
 mod StormRows

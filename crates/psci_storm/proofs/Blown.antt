@@ -58,20 +58,19 @@ pub storms : (b first last : BoardValue) (before past : List Record) (count : �
     (end : Settled) (storm : Storm) → first ≡ b → last ≡ first → before ≡ []
     → IsBlown first before count past end → IsLegalPast last past → AlwaysSafe last past
     → storm ≡ record { events = length past; sent = length (sent past); settled = end }
-    → IsStorm b count storm
+    → IsStorm b count past storm
 storms b first last before past count end storm is_first is_last none blown legal safe counted =
     let new : IsBlown first [] count past end =
     subst (λ (p : List Record). IsBlown first p count past end) none blown in
-    let all : IsStorm b count (record {
+    let all : IsStorm b count past (record {
       events = length past;
       sent = length (sent past);
       settled = end;
     }) = record {
-      past = past;
       blown = subst (λ (x : BoardValue). IsBlown x [] count past end) is_first new;
       events = refl;
       sent = refl;
       legal = subst (λ (x : BoardValue). IsLegalPast x past) (is_last ∙ is_first) legal;
       safe = subst (λ (x : BoardValue). AlwaysSafe x past) (is_last ∙ is_first) safe;
     } in
-    subst (λ (x : Storm). IsStorm b count x) (sym counted) all
+    subst (λ (x : Storm). IsStorm b count past x) (sym counted) all

@@ -1,2 +1,5 @@
 pub mod Blown
+pub mod BlownRows
 pub mod Drawn
+pub mod DrawnRows
+mod StormRows

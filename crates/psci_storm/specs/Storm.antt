@@ -37,10 +37,9 @@ pub record IsBlown (b : BoardValue) (before : List Record) (count : ℕ) (after 
       → (s ≡ Quiet (settled b middle).rounds) × (after ≡ (settled b middle).past)
   pub rest : is_halting b middle ≡ false → ComesToRest b middle after s
 
--- A storm of so many events in a new world of the board, and what it counts.
-pub record IsStorm (b : BoardValue) (count : ℕ) (storm : Storm) : Type 0 where
-  -- all records, the newest first
-  pub past : List Record
+-- A storm of so many events in a new world of the board: all records, the newest first, and what it
+-- counts of them.
+pub record IsStorm (b : BoardValue) (count : ℕ) (past : List Record) (storm : Storm) : Type 0 where
   pub blown : IsBlown b [] count past storm.settled
   pub events : storm.events ≡ length past
   pub sent : storm.sent ≡ length (sent past)

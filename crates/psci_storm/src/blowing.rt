@@ -1,10 +1,11 @@
 //! Storms: events that are drawn, and a world that settles after them.
 
-ghost use Rattle.std.specs.Prelude.{◌≡◌, IfOk};
+ghost use Rattle.std.specs.Prelude.{◌≡◌, List, IfOk};
 ghost use Rattle.psci_storm.specs.Storm.{HappensBy, IsBlown, IsStorm};
+ghost use Rattle.psci_world_model.specs.declared.said.Record.{Record};
 
 use crate::drawing::draw;
-use crate::outcome::Storm;
+use crate::outcome::{Storm, StormedWorld};
 use psci_board::{Board, Memory};
 use psci_world::{Settled, World, settle};
 use std::alloc::Global;
@@ -21,13 +22,28 @@ pub fn blow(world: &mut World, seed: u64, count: u64) -> Result<Settled, Memory>
     settle(world)
 }
 
-/// A storm in a new world of the board: so many events, drawn from the seed, after which the world
-/// settles. It was a legal run, and safe at every moment. The same seed gives the same storm.
-pub fn storm(alloc: Global, board: &Board, seed: u64, count: u64) -> Result<Storm, Memory>
-    ensures ok { IfOk result (λ s. IsStorm board.now count s) }
+/// A storm in a new world of the board, and that world: so many events, drawn from the seed, after
+/// which the world settles. It was a legal run, and safe at every moment. The same seed gives the same
+/// storm.
+pub fn storm_world(
+    alloc: Global,
+    board: &Board,
+    seed: u64,
+    count: u64,
+) -> Result<StormedWorld, Memory>
+    ensures board { IfOk result (λ s. s.world.board ≡ board.now) }
+    ensures ok { IfOk result (λ s. IsStorm board.now count s.world.past s.storm) }
 {
     let mut world = World::new(alloc, board)?;
     let settled = blow(&mut world, seed, count)?;
     world.law();
-    Ok(Storm::of(&world, settled))
+    let storm = Storm::of(&world, settled);
+    Ok(StormedWorld { storm, world })
+}
+
+/// What became of the storm that `storm_world` makes, without its world.
+pub fn storm(alloc: Global, board: &Board, seed: u64, count: u64) -> Result<Storm, Memory>
+    ensures ok { IfOk result (λ s. (past : List Record) × IsStorm board.now count past s) }
+{
+    Ok(storm_world(alloc, board, seed, count)?.storm)
 }

@@ -15,8 +15,8 @@ mod places;
 mod plain;
 mod requests;
 
-pub use blowing::{blow, storm};
-pub use outcome::Storm;
+pub use blowing::{blow, storm, storm_world};
+pub use outcome::{Storm, StormedWorld};
 pub use psci_world::{Settled, World, law_safe};
 
 #[cfg(test)]

@@ -32,3 +32,12 @@ impl Storm {
         }
     }
 }
+
+/// A storm, and the world that it left.
+#[derive(Drop)]
+pub struct StormedWorld {
+    /// What became of the storm.
+    pub storm: Storm,
+    /// The world after it, with all records.
+    pub world: World,
+}

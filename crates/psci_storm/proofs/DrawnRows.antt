@@ -1,0 +1,143 @@
+-- Worked examples of events that were drawn, on a board of one core.
+use Rattle.std.proofs.Common.{◌≡◌, ◌∙◌, ◌+◌, ◌++◌, ℕ, List, [], ◌∷◌}
+use Rattle.std.proofs.Common.{length, refl, ap, sym, subst, arith, length-append}
+use Rattle.std.proofs.lemmas.List.{append_assoc}
+use Rattle.psci_safe.specs.Claims.{claims, live_claims}
+use Rattle.psci_safe.specs.Moments.{has_slept}
+use Rattle.psci_safe.specs.Openings.{openings, taken_up}
+use Rattle.psci_settle.specs.Settling.{begun, is_waiting, round, rounds, settled}
+use Rattle.psci_storm.specs.Storm.{HappensBy, IsDrawn}
+use Rattle.psci_world_model.specs.declared.event.Event.{Event}
+use Rattle.psci_world_model.specs.declared.event.Event.TheVariants.{Enter, Take, Wake}
+use Rattle.psci_world_model.specs.declared.said.Record.{Record}
+use Rattle.psci_world_model.specs.declared.said.Said.TheVariants.{Ignored}
+use Rattle.psci_world_model.specs.Legal.{IsLegalPast, legal_record, run_from}
+use Rattle.psci_world_model.proofs.Runs.{stays_legal}
+use Rattle.psci_world_model.proofs.Scripts as scripts
+use Rattle.psci_world_model.proofs.Scripts.{call, enters, one_core, system_off}
+
+-- How the examples are stated ---------------------------------------------------------------------
+
+unfoldable pub computing : Unit {0}
+unfolding scripts.computing settled begun round is_waiting rounds claims live_claims has_slept
+    openings taken_up
+computing = tt
+
+-- the records after these events
+abbrev pub after : List Event → List Record
+after events = run_from one_core [] events
+
+-- the only core is suspended with its cluster
+abbrev pub suspend : Event
+suspend = call 0 0xc4000001 0x01010033 0x40000100 5
+
+-- the core entered and was suspended; the system went off
+abbrev pub asleep : List Event
+asleep = Enter 0 ∷ suspend ∷ []
+
+abbrev pub going_off : List Event
+going_off = Enter 0 ∷ system_off 0 ∷ []
+
+-- a record that is not legal: the boot core's first entry is not ignored
+abbrev pub wrong : Record
+wrong = record { event = Enter 0; said = Ignored }
+
+-- Lengths -----------------------------------------------------------------------------------------
+
+run_length : (past : List Record) (events : List Event)
+    → length (run_from one_core past events) ≡ length events + length past
+unfolding run_from
+run_length past [] = omega arith
+run_length past (event ∷ events) =
+    let rest = run_length (legal_record one_core past event ∷ past) events in omega arith
+
+pub drawn_length : (before after : List Record) (count : ℕ) → IsDrawn one_core before count after
+    → length after ≡ count + length before
+drawn_length before after count d =
+    ap length d.run ∙ run_length before d.drawn ∙ ap (λ (n : ℕ). n + length before) d.many
+
+no_events : (past : List Record) (events : List Event) → length events ≡ 0
+    → run_from one_core past events ≡ past
+unfolding run_from
+no_events past [] many = refl
+no_events past (event ∷ events) many = absurd (omega arith)
+
+pub none_drawn : (before after : List Record) → IsDrawn one_core before 0 after → after ≡ before
+none_drawn before after d = d.run ∙ no_events before d.drawn d.many
+
+-- Events that happen ------------------------------------------------------------------------------
+
+none_happens : HappensBy one_core (after asleep) (after asleep)
+unfolding run_from
+none_happens = record { events = []; run = refl }
+
+some_happen : HappensBy one_core (after (Enter 0 ∷ [])) (after (Enter 0 ∷ Wake 0 ∷ suspend ∷ []))
+unfolding run_from
+some_happen = record { events = Wake 0 ∷ suspend ∷ []; run = refl }
+
+-- what had happened stays
+forgotten : HappensBy one_core (after (Enter 0 ∷ [])) [] → ⊥
+unfolding run_from
+forgotten h =
+    let many = ap length h.run ∙ run_length (after (Enter 0 ∷ [])) h.events in absurd (omega arith)
+
+-- what is said is legal
+pub wrong_happens : HappensBy one_core [] (wrong ∷ []) → ⊥
+unfolding computing
+wrong_happens h =
+    let legal = subst (IsLegalPast one_core) (sym h.run) (stays_legal one_core [] h.events tt) in
+    let said = legal.0 in cc
+
+-- what happens comes after what had happened
+run_more : (past : List Record) (events : List Event)
+    → (added : List Record) × (run_from one_core past events ≡ added ++ past)
+unfolding run_from
+run_more past [] = ([], refl)
+run_more past (event ∷ events) =
+    let r = legal_record one_core past event in
+    let rest = run_more (r ∷ past) events in
+    (rest.0 ++ r ∷ [], rest.1 ∙ sym (append_assoc rest.0 (r ∷ []) past))
+
+-- the event before the newest one
+abbrev second : List Record → Event
+second [] = Take 0
+second (r ∷ []) = Take 0
+second (r ∷ s ∷ past) = s.event
+
+no_more : (added : List Record)
+    → after (Wake 0 ∷ suspend ∷ []) ≡ added ++ after (Enter 0 ∷ []) → ⊥
+unfolding run_from
+no_more [] e = let many = ap length e in absurd (omega arith)
+no_more (r ∷ []) e = let event : Wake 0 ≡ Enter 0 = ap second e in cc
+no_more (r ∷ s ∷ added) e =
+    let many = ap length e ∙ length-append (r ∷ s ∷ added) (after (Enter 0 ∷ [])) in
+    absurd (omega arith)
+
+other_past : HappensBy one_core (after (Enter 0 ∷ [])) (after (Wake 0 ∷ suspend ∷ [])) → ⊥
+other_past h =
+    let more = run_more (after (Enter 0 ∷ [])) h.events in no_more more.0 (h.run ∙ more.1)
+
+-- Events that are drawn ---------------------------------------------------------------------------
+
+pub none_drawn_yet : IsDrawn one_core [] 0 []
+unfolding run_from
+none_drawn_yet = record { drawn = []; many = refl; run = refl }
+
+pub two_drawn : IsDrawn one_core [] 2 (after asleep)
+two_drawn = record { drawn = asleep; many = refl; run = refl }
+
+-- after an event before
+one_more_drawn : IsDrawn one_core (after (Enter 0 ∷ [])) 1 (after asleep)
+unfolding run_from
+one_more_drawn = record { drawn = suspend ∷ []; many = refl; run = refl }
+
+too_few_drawn : IsDrawn one_core [] 3 (after asleep) → ⊥
+unfolding run_from
+too_few_drawn h = let many = drawn_length [] (after asleep) 3 h in absurd (omega arith)
+
+too_many_drawn : IsDrawn one_core [] 1 (after asleep) → ⊥
+unfolding run_from
+too_many_drawn h = let many = drawn_length [] (after asleep) 1 h in absurd (omega arith)
+
+wrong_drawn : IsDrawn one_core [] 1 (wrong ∷ []) → ⊥
+wrong_drawn h = wrong_happens (record { events = h.drawn; run = h.run })
