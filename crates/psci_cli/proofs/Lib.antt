@@ -2,6 +2,8 @@ mod AskedRows
 pub mod Asking
 pub mod CommandRows
 pub mod ExitRows
+mod FlagRows
+pub mod Flags
 pub mod Locals
 pub mod Numbers
 pub mod PlainRows

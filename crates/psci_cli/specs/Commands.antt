@@ -1,9 +1,10 @@
 -- The command line: the program has two commands, of which one must be given.
-use Rattle.std.specs.Prelude.{◌≡◌, ◌⊎◌, ◌<◌, ◌^◌, ℕ, true, codes, List, [], ◌∷◌, Option, Some}
+use Rattle.std.specs.Prelude.{◌≡◌, ◌⊎◌, ◌<◌, ◌^◌, ℕ, Bool, true, false, codes, List, [], ◌∷◌, Option, Some}
 use Rattle.std.specs.Prelude.{None, option_map}
 use Rattle.std.specs.Str.Parse.{IsNumeral, digits_value, without_leading_plus}
 use Rattle.clap.specs.Simple.{App, Shape, new_app, new_rule, new_shape, on_top, with_subcommand}
 use Rattle.clap.specs.Walk.{Row, Rule, Text, first_of, one_of}
+use Rattle.clap.specs.declared.builder.action.ArgAction.TheVariants.{SetTrue}
 use Rattle.clap.specs.declared.builder.value_parser.ValueParser.{ValueParser}
 use Rattle.clap.specs.declared.builder.value_parser.ValueParser.TheVariants.{Unsigned}
 use Rattle.clap.specs.declared.error.kind.ErrorKind.{ErrorKind}
@@ -33,11 +34,16 @@ abbrev pub number_rule : Text → ValueParser → Rule
 number_rule name parser =
     record (new_rule name) { long = Some name; required = true; parser = Some parser }
 
--- `storm [--board TEXT] --seed N --count N`: any seed of 64 bits, and at most 10,000 events
+-- a flag of this name, without a value
+abbrev pub flag_rule : Text → Rule
+flag_rule name = record (new_rule name) { long = Some name; action = Some SetTrue }
+
+-- `storm [--board TEXT] --seed N --count N [--counts]`: any seed of 64 bits, and at most 10,000
+-- events
 abbrev pub storm_shape : Shape
 storm_shape = record (new_shape (codes "storm")) {
   rules = board_rule ∷ number_rule (codes "seed") (Unsigned 0 18446744073709551615)
-      ∷ number_rule (codes "count") (Unsigned 0 10000) ∷ [];
+      ∷ number_rule (codes "count") (Unsigned 0 10000) ∷ flag_rule (codes "counts") ∷ [];
 }
 
 -- `psci_cli replay` and `psci_cli storm`; the program itself, and no command of it, has a version
@@ -58,11 +64,17 @@ IsNumberIn None n = n ≡ None
 IsNumberIn (Some t) (Some n) = SpellsNumber t × (n ≡ digits_value 10 (without_leading_plus t))
 IsNumberIn (Some t) None = ¬ (SpellsNumber t)
 
+-- whether a flag is set: it is where its text is `true`
+abbrev pub IsFlagIn : Option Text → Bool → Type 0
+IsFlagIn text true = text ≡ Some (codes "true")
+IsFlagIn text false = ¬ (text ≡ Some (codes "true"))
+
 -- the storm that the matches of the command `storm` ask for, or none where a part of it is missing
 abbrev pub IsStormOf : List Row → Option StormRequest → Type 0
 IsStormOf rows (Some storm) = (first_of (codes "board") rows ≡ Some storm.board.now)
     × IsNumberIn (one_of (codes "seed") rows) (Some storm.seed)
     × IsNumberIn (one_of (codes "count") rows) (Some storm.count)
+    × IsFlagIn (one_of (codes "counts") rows) storm.counts
 IsStormOf rows None = (first_of (codes "board") rows ≡ None)
     ⊎ (IsNumberIn (one_of (codes "seed") rows) None
     ⊎ IsNumberIn (one_of (codes "count") rows) None)

@@ -1,6 +1,8 @@
--- The line of a storm.
-use Rattle.std.specs.Prelude.{ℕ, List, ◌++◌, codes}
+-- The line of a storm, and its counts.
+use Rattle.std.specs.Prelude.{ℕ, Bool, List, [], ◌∷◌, ◌++◌, codes, if◌then◌else◌}
 use Rattle.std.specs.Fmt.{decimal}
+use Rattle.psci_bench.specs.Counts.{counts_text}
+use Rattle.psci_bench.specs.Record.{Record}
 use Rattle.psci_bench.specs.Storm.{Storm}
 use Rattle.psci_bench.specs.Settled.{Settled}
 use Rattle.psci_bench.specs.Settled.TheVariants.{Halting, Quiet}
@@ -15,3 +17,8 @@ abbrev pub storm_text : Storm → List ℕ
 storm_text storm =
     codes "storm events " ++ (decimal storm.events ++ (codes " sent " ++ (decimal storm.sent
     ++ settled_text storm.settled)))
+
+-- what is written of a storm and its records: its line, and where they are asked for the counts
+abbrev pub storm_output : Bool → Storm → List Record → List ℕ
+storm_output counts storm records =
+    storm_text storm ++ (10 ∷ (if counts then counts_text records else []))

@@ -9,13 +9,13 @@ ghost use Rattle.psci_script.specs.declared.fault.ReplayFault.TheVariants.{Memor
 ghost use Rattle.psci_cli.specs.declared.command_line.Request.TheVariants.{Nothing};
 ghost use Rattle.psci_cli.specs.declared.exit.Failure.TheVariants.{CommandLine};
 ghost use Rattle.psci_cli.specs.Commands.{AsksHelp, IsAsked, IsStormOf, IsUnheard, IsWordless};
-ghost use Rattle.psci_cli.specs.Commands.{board_rule, number_rule, program, storm_shape};
+ghost use Rattle.psci_cli.specs.Commands.{board_rule, flag_rule, number_rule, program, storm_shape};
 
 use crate::exit::Failure;
 use crate::plain::plain;
 use clap::builder::ValueParser;
 use clap::error::{Error, ErrorKind};
-use clap::{Arg, ArgMatches, Command, value_parser};
+use clap::{Arg, ArgAction, ArgMatches, Command, value_parser};
 use psci_bench::ReplayFault;
 use std::alloc::{AllocError, Global};
 use std::rt::Env;
@@ -30,6 +30,8 @@ pub struct StormRequest<'a> {
     pub seed: u64,
     /// How many events are drawn, at most 10,000.
     pub count: u64,
+    /// Whether it is to be said how often each kind of record came.
+    pub counts: bool,
 }
 
 /// What the command line asks for.
@@ -55,7 +57,8 @@ const BOARD: &str = "(2 2) exec 0x40000000-0x40100000 boot 0x40000000 starts 100
 const ABOUT_STORM: &str =
     "Makes so many random events happen on a board, drawn from the seed, and then lets it settle.
 Standard output has one line: `storm events E sent S quiet R` (E events in all, S messages sent, at
-rest after R rounds) or `storm events E sent S halting`.";
+rest after R rounds) or `storm events E sent S halting`. With --counts there is a line more for each
+kind of record, also for those that never came: `KIND N`, what was asked and answered, N times.";
 
 const ABOUT_REPLAY: &str =
     "Takes a script from standard input. Each event of it is answered by a line on standard output.
@@ -95,7 +98,8 @@ fn storm_command<'a>(alloc: Global) -> Result<Command<'a>, AllocError>
         .long_about(ABOUT_STORM)
         .arg(board(alloc))?
         .arg(number(alloc, "seed", value_parser!(u64)))?
-        .arg(number(alloc, "count", value_parser!(u64).range(..=10_000)))
+        .arg(number(alloc, "count", value_parser!(u64).range(..=10_000)))?
+        .arg(flag(alloc, "counts"))
 }
 
 /// The commands of the program.
@@ -130,6 +134,14 @@ fn number<'a>(alloc: Global, name: &'a str, parser: ValueParser<'a>) -> Arg<'a>
         .value_parser(parser)
 }
 
+/// A flag of this name, which may be left out.
+fn flag<'a>(alloc: Global, name: &'a str) -> Arg<'a>
+    ensures rule { rule_of result ≡ flag_rule name.entry.now }
+    ensures local { result.global ≡ false }
+{
+    Arg::new(alloc, name).long(name).action(ArgAction::SetTrue)
+}
+
 /// What these words ask for, the program's name first, or the parser's error.
 fn request_in<'a>(alloc: Global, words: &'a [String]) -> Result<Option<Request<'a>>, Error>
     ensures request { IfOk result (λ request.
@@ -152,6 +164,7 @@ fn storm_in<'a>(matches: &ArgMatches<'a>) -> Option<StormRequest<'a>>
         board: matches.get_str("board")?,
         seed: matches.get_one("seed")?,
         count: matches.get_one("count")?,
+        counts: matches.get_one("counts").unwrap_or(false),
     })
 }
 

@@ -11,7 +11,7 @@ ghost use Rattle.psci_cli.specs.Exit.{IsOfReplay, IsOfStorm};
 
 use command_line::{Request, StormRequest, asked, words};
 use exit::Failure;
-use psci_bench::{ReplayFault, Std, replay, storm};
+use psci_bench::{ReplayFault, Std, replay, storm_world};
 use psci_board::Board;
 use std::process::ExitCode;
 use storm_line::write_storm;
@@ -28,15 +28,18 @@ fn replay_standard(rt: &HostRuntime) -> Result<(), Failure>
     }
 }
 
-/// Makes a storm, and writes its line on standard output.
+/// Makes a storm, and writes on standard output what is asked of it.
 fn storm_standard(rt: &HostRuntime, request: StormRequest) -> Result<(), Failure>
     ensures { IfErr result IsOfStorm }
 {
     let board = Board::read(rt.alloc(), request.board).map_err(Failure::Board)?;
-    let storm = storm(rt.alloc(), &board, request.seed, request.count).map_err(|_| Failure::Replay(
-        ReplayFault::Memory,
-    ))?;
-    write_storm(&mut rt.stdout(), storm).map_err(|_| Failure::Replay(ReplayFault::Write))
+    let stormed = storm_world(rt.alloc(), &board, request.seed, request.count).map_err(
+        |_| Failure::Replay(ReplayFault::Memory),
+    )?;
+    match write_storm(&mut rt.stdout(), &stormed, request.counts) {
+        Ok(()) => Ok(()),
+        Err(_) => Err(Failure::Replay(ReplayFault::Write)),
+    }
 }
 
 /// Does what the command line asks for.

@@ -1,10 +1,10 @@
-//! The line of a storm.
+//! The line of a storm, and its counts.
 
-ghost use Rattle.std.specs.Prelude.{◌≡◌, ◌++◌, ◌∷◌, [], OnOk};
+ghost use Rattle.std.specs.Prelude.{OnOk, reverse};
 ghost use Rattle.std.specs.Io.KnownBytes.{Appends};
-ghost use Rattle.psci_cli.specs.StormText.{storm_text};
+ghost use Rattle.psci_cli.specs.StormText.{storm_output};
 
-use psci_bench::{Settled, Storm};
+use psci_bench::{Settled, Storm, StormedWorld, write_counts};
 use std::fmt;
 use std::io::{self, Write};
 
@@ -12,12 +12,16 @@ use std::io::{self, Write};
 #[derive(Clone, Copy)]
 struct StormText(Storm);
 
-/// Writes the line of a storm.
-pub fn write_storm<W: Write>(to: &mut W, storm: Storm) -> io::Result<()>
+/// Writes the line of a storm, and where the counts are asked for how often each kind of record came.
+pub fn write_storm<W: Write>(to: &mut W, stormed: &StormedWorld, counts: bool) -> io::Result<()>
     ensures { OnOk result (Appends (W.contents to.old) (W.contents to.new)
-        (storm_text storm ++ 10 ∷ [])) }
+        (storm_output counts stormed.now.storm (reverse stormed.now.world.past))) }
 {
-    writeln!(to, "{}", StormText(storm))
+    writeln!(to, "{}", StormText(stormed.storm))?;
+    if counts {
+        write_counts(to, stormed.world.records())?;
+    }
+    Ok(())
 }
 
 impl fmt::Display for StormText {

@@ -2,7 +2,7 @@
 
 use crate::{Settled, Storm, blow, storm};
 use psci_board::{Board, Node};
-use psci_tally::{Answer, Kind, ROWS, tally};
+use psci_tally::{Answer, KINDS, Kind, tally};
 use psci_world::World;
 use std::process::Abort;
 use std::test::Fail;
@@ -85,20 +85,14 @@ fn storms_settle_and_have_all_kinds(rt: HostRuntime) -> Result<(), Fail> {
     let low = worlds(&rt, BOARD, 20)?;
     let high = worlds(&rt, TALL, 5)?;
     let mut all: u64 = 0;
-    for row in ROWS {
-        for answer in row.answers {
-            let kind = Kind {
-                asked: row.asked,
-                answer: *answer,
-            };
-            let some = tally_all(low.as_slice(), kind);
-            assert_eq!(rt; some == 0, is_tall(*answer), "{kind:?}");
-            assert!(rt;
-                some > 0 || tally_all(high.as_slice(), kind) > 0,
-                "{kind:?}"
-            );
-            all = all.saturating_add(some);
-        }
+    for kind in KINDS {
+        let some = tally_all(low.as_slice(), kind);
+        assert_eq!(rt; some == 0, is_tall(kind.answer), "{kind:?}");
+        assert!(rt;
+            some > 0 || tally_all(high.as_slice(), kind) > 0,
+            "{kind:?}"
+        );
+        all = all.saturating_add(some);
     }
     let mut records: u64 = 0;
     for world in &low {

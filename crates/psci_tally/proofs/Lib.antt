@@ -1,1 +1,3 @@
+mod CountRows
 mod KindRows
+mod TableRows

@@ -9,10 +9,11 @@ mod answer;
 mod asked;
 mod counting;
 mod kind;
-mod rows;
+mod table;
+mod text;
 
 pub use answer::Answer;
 pub use asked::Asked;
-pub use counting::tally;
+pub use counting::{tally, write_counts};
 pub use kind::Kind;
-pub use rows::{ROWS, Row};
+pub use table::KINDS;

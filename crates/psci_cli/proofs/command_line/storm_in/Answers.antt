@@ -1,11 +1,12 @@
 -- A storm has the board and the numbers that its matches have.
-use Rattle.std.proofs.Common.{◌≡◌, ◌∙◌, ℕ, List, Option, None, Some, ap, sym, subst, inl, inr}
+use Rattle.std.proofs.Common.{◌∙◌, ℕ, List, Option, None, Some, ap, sym, subst, inl, inr}
 use Rattle.std.specs.Prelude.{codes, option_map}
-use Rattle.std.specs.Str.Parse.{ExplainsUnsignedError, HasUnsignedDigitsIfOk, ParsesUnsigned}
+use Rattle.std.specs.Str.Parse.{ExplainsUnsignedError, HasUnsignedDigitsIfOk, ParsesBool}
+use Rattle.std.specs.Str.Parse.{ParsesUnsigned}
 use Rattle.clap.proofs.WalkLemmas.{first_value-rows, one_text-rows}
 use Rattle.clap.specs.Words.{found_of, one_text, rows_of}
-use Rattle.psci_cli.specs.Commands.{IsNumberIn, IsStormOf}
-use Rattle.psci_cli.specs.declared.command_line.StormRequest.{StormRequest}
+use Rattle.psci_cli.specs.Commands.{IsFlagIn, IsNumberIn, IsStormOf}
+use Rattle.psci_cli.proofs.Flags.{flag_is}
 use Rattle.psci_cli.proofs.Numbers.{number_is}
 use Rattle.psci_cli.proofs.command_line.storm_in.Goals as goal
 
@@ -52,7 +53,9 @@ returns c =
     let count = number_is
     (λ t r. ParsesUnsigned 64 10 t r × ExplainsUnsignedError 10 t r × HasUnsignedDigitsIfOk t r)
     (λ t x g. g.0) (one_text f (codes "count")) c.get_one-2.result
-    c.get_one-2.ensures.none c.get_one-2.ensures.value in (
+    c.get_one-2.ensures.none c.get_one-2.ensures.value in
+    let counts = flag_is ParsesBool (λ t x g. g) (one_text f (codes "counts")) c.get_one-3.result
+    c.get_one-3.ensures.none c.get_one-3.ensures.value in (
       sym (first_value-rows f (codes "board")) ∙ sym c.get_str.ensures
           ∙ ap (option_map (λ s. s.now)) c.in_ok-get_str.was,
       subst (λ (t : Option (List ℕ)). IsNumberIn t (Some c.in_ok-get_one.field-0))
@@ -61,4 +64,7 @@ returns c =
       subst (λ (t : Option (List ℕ)). IsNumberIn t (Some c.in_ok-get_one-2.field-0))
           (one_text-rows f (codes "count"))
           (subst (IsNumberIn (one_text f (codes "count"))) c.in_ok-get_one-2.was count),
+      subst (λ (t : Option (List ℕ)). IsFlagIn t c.unwrap_or.result)
+          (one_text-rows f (codes "counts"))
+          (subst (IsFlagIn (one_text f (codes "counts"))) (sym c.unwrap_or.ensures) counts),
     )

@@ -1,0 +1,77 @@
+-- How kinds are spelled, and the lines of counts.
+use Rattle.std.specs.Prelude.{ℕ, Bool, true, false, List, [], ◌∷◌, ◌++◌, codes, count_by, flat_map}
+use Rattle.std.specs.Fmt.{decimal, signed_decimal}
+use Rattle.psci_world_model.specs.declared.said.Record.{Record}
+use Rattle.psci_tally.specs.declared.asked.Asked.{Asked}
+use Rattle.psci_tally.specs.declared.asked.Asked.TheVariants.{Version, CpuSuspend, CpuOff, CpuOn}
+use Rattle.psci_tally.specs.declared.asked.Asked.TheVariants.{AffinityInfo, MigrateInfoType}
+use Rattle.psci_tally.specs.declared.asked.Asked.TheVariants.{SystemOff, SystemReset, Features}
+use Rattle.psci_tally.specs.declared.asked.Asked.TheVariants.{SystemSuspend, SetSuspendMode}
+use Rattle.psci_tally.specs.declared.asked.Asked.TheVariants.{Unknown, Wake, Reset, Deliver, Take}
+use Rattle.psci_tally.specs.declared.asked.Asked.TheVariants.{Enter as Entry}
+use Rattle.psci_tally.specs.declared.answer.Answer.{Answer}
+use Rattle.psci_tally.specs.declared.answer.Answer.TheVariants.{Return, Stop, Enter, Resume}
+use Rattle.psci_tally.specs.declared.answer.Answer.TheVariants.{Started, Acked, Used, Old}
+use Rattle.psci_tally.specs.declared.answer.Answer.TheVariants.{Ignored, Absent}
+use Rattle.psci_tally.specs.declared.kind.Kind.{Kind}
+use Rattle.psci_tally.specs.declared.table.TheConstants.{KINDS}
+use Rattle.psci_tally.specs.Kinds.{is_kind, kind_of}
+
+-- what was asked: the name of the function without PSCI, or the word of the event
+abbrev pub asked_text : Asked → List ℕ
+asked_text Version = codes "version"
+asked_text CpuSuspend = codes "cpu_suspend"
+asked_text CpuOff = codes "cpu_off"
+asked_text CpuOn = codes "cpu_on"
+asked_text AffinityInfo = codes "affinity_info"
+asked_text MigrateInfoType = codes "migrate_info_type"
+asked_text SystemOff = codes "system_off"
+asked_text SystemReset = codes "system_reset"
+asked_text Features = codes "features"
+asked_text SystemSuspend = codes "system_suspend"
+asked_text SetSuspendMode = codes "set_suspend_mode"
+asked_text Unknown = codes "unknown"
+asked_text Entry = codes "enter"
+asked_text Wake = codes "wake"
+asked_text Reset = codes "reset"
+asked_text Deliver = codes "deliver"
+asked_text Take = codes "take"
+
+-- after the parts that were applied, that the message meant nothing any more
+abbrev pub stale_text : Bool → List ℕ
+stale_text true = codes " stale"
+stale_text false = []
+
+-- what was answered, in the words of an answer line
+abbrev pub answer_text : Answer → List ℕ
+answer_text (Return code) = codes "return " ++ signed_decimal code
+answer_text Stop = codes "stop"
+answer_text Enter = codes "enter"
+answer_text Resume = codes "resume"
+answer_text Started = codes "started"
+answer_text (Acked applied stale) = codes "ack applied " ++ (decimal applied ++ stale_text stale)
+answer_text Used = codes "used"
+answer_text Old = codes "old"
+answer_text Ignored = codes "ignored"
+answer_text Absent = codes "absent"
+
+-- a kind: what was asked, a space, and what was answered
+abbrev pub kind_text : Kind → List ℕ
+kind_text k = asked_text k.asked ++ (codes " " ++ answer_text k.answer)
+
+-- how many of these records are of the kind
+abbrev pub count_of : List Record → Kind → ℕ
+count_of records kind = count_by (λ r. is_kind (kind_of r) kind) records
+
+-- the line of one kind: the kind, a space, how many records are of it, and a line feed
+abbrev pub count_line : List Record → Kind → List ℕ
+count_line records kind =
+    kind_text kind ++ (codes " " ++ (decimal (count_of records kind) ++ 10 ∷ []))
+
+-- the lines of these kinds, in this order
+abbrev pub count_lines : List Record → List Kind → List ℕ
+count_lines records kinds = flat_map (count_line records) kinds
+
+-- the lines of all kinds, of which each has one, also where no record is of it
+unfoldable pub counts_text : List Record → List ℕ
+counts_text records = count_lines records KINDS
