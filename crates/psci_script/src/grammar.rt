@@ -19,6 +19,8 @@ pub enum Line {
 }
 
 /// The value of a register at the front, decimal or hexadecimal, and the text after it.
+// In place, as is what calls it.
+#[inline(always)]
 #[tactic(auto, unfolding(crate::specs::Line::register_at))]
 fn register(text: &[u8]) -> Option<(u64, &[u8])>
     ensures { option_map (λ x. (x.0, x.1.now)) result ≡ register_at text.now }
