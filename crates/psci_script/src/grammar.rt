@@ -39,6 +39,8 @@ fn spaced_register(text: &[u8]) -> Option<(u64, &[u8])>
 }
 
 /// The register after a space and the text after it, or 0 where there is none.
+// In place, as the one before.
+#[inline(always)]
 #[tactic(auto, unfolding(crate::specs::Line::optional_register_at))]
 fn optional_register(text: &[u8]) -> (u64, &[u8])
     ensures { (result.0, result.1.now) ≡ optional_register_at text.now }
