@@ -9,7 +9,7 @@ ghost use Rattle.psci_script.specs.Text.{answer_line};
 
 use crate::device::Sink;
 use crate::transfer::write_all;
-use psci_script::{Answer, ReplayFault};
+use psci_script::{Act, Answer, LONGEST_RETURN, ReplayFault, write_return};
 use psci_world_model::Said;
 use std::alloc::{AllocError, Global};
 use std::marker::Model;
@@ -21,17 +21,16 @@ const FIRST_ROOM: usize = 65536;
 #[derive(Drop)]
 pub struct Answers {
     line: String,
-    waiting: String,
+    waiting: Vec<u8>,
     events: u64,
 }
 
 impl Model for Answers {
-    ghost use Rattle.std.specs.Prelude.{string_bytes};
     ghost use Rattle.psci_bench.specs.Answered.{Answered};
 
     ghost Value = { Answered };
 
-    ghost view = { λ a. record { waiting = string_bytes a.waiting; events = a.events } };
+    ghost view = { λ a. record { waiting = a.waiting.items; events = a.events } };
 }
 
 impl Answers {
@@ -41,7 +40,7 @@ impl Answers {
     {
         Ok(Answers {
             line: String::with_capacity(alloc, 256)?,
-            waiting: String::with_capacity(alloc, FIRST_ROOM)?,
+            waiting: Vec::with_capacity(alloc, FIRST_ROOM)?,
             events: 0,
         })
     }
@@ -62,13 +61,21 @@ impl Answers {
         }) }
         ensures err { OnErr result (self.new ≡ self.old) }
     {
-        let answer = Answer {
-            number: self.events + 1,
-            said,
-        };
-        self.line.clear();
-        write!(self.line, "{answer}")?;
-        self.waiting.push_str(self.line.as_str())?;
+        let number = self.events + 1;
+        if let Said::Fw {
+            act: Act::Return(code),
+            sent: None,
+        } = said
+        {
+            let mut line = [0; LONGEST_RETURN];
+            let start = write_return(number, *code, &mut line);
+            self.waiting.extend_from_slice(&line[start..])?;
+        } else {
+            let answer = Answer { number, said };
+            self.line.clear();
+            write!(self.line, "{answer}")?;
+            self.waiting.extend_from_slice(self.line.as_bytes())?;
+        }
         self.events += 1;
         Ok(())
     }
@@ -84,7 +91,7 @@ impl Answers {
             × Appends (K.taken sink.old) (K.taken sink.new) (take n self.old.waiting)) }
         ensures cause { OnErr result (GaveUp (K.failed sink.new) (K.interruptions sink.new)) }
     {
-        write_all(sink, self.waiting.as_bytes())?;
+        write_all(sink, self.waiting.as_slice())?;
         self.waiting.clear();
         Ok(())
     }

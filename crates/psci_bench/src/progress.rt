@@ -67,6 +67,8 @@ impl<'d, 'b, S: Source, K: Sink> Progress<'d, 'b, S, K> {
     /// The line of this number, counted from 1, or none where the script has ended.
     ///
     /// Bytes are read until the line is whole, and before that all answers are written.
+    // In place, since a call would write what it answers to memory, on each line.
+    #[inline(always)]
     pub fn next_line(&mut self, number: u64) -> Result<Option<Extent>, ReplayFault>
         ensures devices { SameDevices self.old self.new }
         ensures sound { OnOk result (StaySound S.failed K.failed self.old self.new) }

@@ -97,6 +97,9 @@ impl Machine {
     /// Makes the event happen, before which these messages and acknowledgements are those so far,
     /// the oldest first, and says what came of it. Each message must be one that can be sent on the
     /// board.
+    // In place, since a call would write what is said, with room for a message, to memory, to be
+    // copied from there.
+    #[inline(always)]
     pub fn step(&mut self, event: Event, messages: &[Message], made: &[Ack]) -> Said
         requires { (k : ℕ) (m : MessageValue) → slice_get messages.now k ≡ Some m
             → IsOfBoard (board_of self.old) m }

@@ -1,3 +1,4 @@
+pub mod Codes
 pub mod Cutting
 pub mod EventLines
 mod FaultRows

@@ -19,6 +19,8 @@ pub enum Line {
 }
 
 /// The value of a register at the front, decimal or hexadecimal, and the text after it.
+// In place, as is what calls it.
+#[inline(always)]
 #[tactic(auto, unfolding(crate::specs::Line::register_at))]
 fn register(text: &[u8]) -> Option<(u64, &[u8])>
     ensures { option_map (λ x. (x.0, x.1.now)) result ≡ register_at text.now }
@@ -37,6 +39,8 @@ fn spaced_register(text: &[u8]) -> Option<(u64, &[u8])>
 }
 
 /// The register after a space and the text after it, or 0 where there is none.
+// In place, as the one before.
+#[inline(always)]
 #[tactic(auto, unfolding(crate::specs::Line::optional_register_at))]
 fn optional_register(text: &[u8]) -> (u64, &[u8])
     ensures { (result.0, result.1.now) ≡ optional_register_at text.now }

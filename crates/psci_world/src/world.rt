@@ -77,6 +77,9 @@ impl World {
 
     /// Makes the event happen, as `step` does. The record of it, of which `step` answers a copy, is
     /// the last of `records`.
+    // In place, since a call would write the event to memory and read it again, on each line of a
+    // script.
+    #[inline(always)]
     pub fn happen(&mut self, event: Event) -> Result<(), Memory>
         ensures ok { OnOk result (self.new.past
             ≡ legal_record self.old.board self.old.past event ∷ self.old.past) }
@@ -93,10 +96,12 @@ impl World {
         self.records.reserve(1)?;
         self.messages.reserve(1)?;
         self.acks.reserve(1)?;
+        let newest = self.records.len();
         let said = self.machine.step(event, &self.messages, &self.acks);
-        keep_message(&mut self.messages, &said)?;
-        keep_ack(&mut self.acks, &said)?;
-        self.records.push(Record { event, said })?;
+        self.records.push_reserved(Record { event, said });
+        let said = &self.records[newest].said;
+        keep_message(&mut self.messages, said)?;
+        keep_ack(&mut self.acks, said)?;
         Ok(())
     }
 
