@@ -1,6 +1,6 @@
 -- What the matches of known command lines ask for, and what they do not ask for.
-use Rattle.std.proofs.Common.{◌≡◌, ℕ, true, List, [], ◌∷◌, Option, Some, None, refl, arith, inl}
-use Rattle.std.proofs.Common.{inr, ap, subst, sym}
+use Rattle.std.proofs.Common.{◌≡◌, ℕ, false, true, List, [], ◌∷◌, Option, Some, None, refl}
+use Rattle.std.proofs.Common.{arith, inl, inr, ap, subst, sym}
 use Rattle.std.specs.Prelude.{codes}
 use Rattle.clap.proofs.OnLiterals.{clap_on_literals}
 use Rattle.clap.proofs.ValueTestLemmas.{accepts-Accepts}
@@ -18,7 +18,7 @@ use Rattle.psci_cli.specs.declared.command_line.StormRequest.{StormRequest}
 use Rattle.psci_cli.specs.declared.exit.Failure.TheVariants as failures
 use Rattle.psci_cli.specs.declared.exit.Failure.TheVariants.{CommandLine}
 use Rattle.psci_cli.proofs.StormCommandRows.{board, board_row, count, count_row, seed, seed_row}
-use Rattle.psci_cli.proofs.StormCommandRows.{standard_row, storm_with}
+use Rattle.psci_cli.proofs.StormCommandRows.{counts_row, no_counts, standard_row, storm_with}
 
 -- Texts that spell a number -----------------------------------------------------------------------
 
@@ -101,17 +101,22 @@ too_large_is_0 h = spells_too_large h.0
 
 -- The storm of some matches -----------------------------------------------------------------------
 
--- a storm on the board of this text
+-- a storm on the board of this text, without the counts
 abbrev request : Text → ℕ → ℕ → StormRequest
 request text seed count =
-    record { board = record { ref_ptr = (0, 0); now = text }; seed = seed; count = count }
+    record {
+      board = record { ref_ptr = (0, 0); now = text };
+      seed = seed;
+      count = count;
+      counts = false;
+    }
 
 -- a storm of the standard board, seed 7 and count 5
 abbrev rows : List Row
-rows = seed_row (codes "7") ∷ count_row (codes "5") ∷ standard_row ∷ []
+rows = seed_row (codes "7") ∷ count_row (codes "5") ∷ standard_row ∷ no_counts ∷ []
 
 of_rows : IsStormOf rows (Some (request standard_board 7 5))
-of_rows = (refl, (spelled (codes "7") refl, refl), (spelled (codes "5") refl, refl))
+of_rows = (refl, (spelled (codes "7") refl, refl), (spelled (codes "5") refl, refl), λ e. cc)
 
 of_other_board : IsStormOf rows (Some (request (codes "4") 7 5)) → ⊥
 of_other_board h = let same = h.0 in cc
@@ -125,6 +130,19 @@ of_other_count h = let same = h.2.1 in absurd (omega arith)
 of_seed_for_count : IsStormOf rows (Some (request standard_board 5 7)) → ⊥
 of_seed_for_count h = let same = h.1.1 in absurd (omega arith)
 
+without_counts : IsStormOf rows (Some (record (request standard_board 7 5) { counts = true })) → ⊥
+without_counts h = let text = h.3 in cc
+
+of_counts : IsStormOf
+    (seed_row (codes "7") ∷ counts_row ∷ count_row (codes "5") ∷ standard_row ∷ [])
+    (Some (record (request standard_board 7 5) { counts = true }))
+of_counts = (refl, (spelled (codes "7") refl, refl), (spelled (codes "5") refl, refl), refl)
+
+counts_left_out : IsStormOf
+    (seed_row (codes "7") ∷ counts_row ∷ count_row (codes "5") ∷ standard_row ∷ [])
+    (Some (request standard_board 7 5)) → ⊥
+counts_left_out h = h.3 refl
+
 none_of_rows : IsStormOf rows None → ⊥
 none_of_rows (inl no_board) = cc
 none_of_rows (inr (inl no_seed)) = no_seed (spelled (codes "7") refl)
@@ -132,9 +150,9 @@ none_of_rows (inr (inr no_count)) = no_count (spelled (codes "5") refl)
 
 -- the board that is given stands before the standard one
 of_given_board : IsStormOf
-    (count_row (codes "5") ∷ board_row (codes "4") ∷ seed_row (codes "7") ∷ [])
+    (count_row (codes "5") ∷ board_row (codes "4") ∷ seed_row (codes "7") ∷ no_counts ∷ [])
     (Some (request (codes "4") 7 5))
-of_given_board = (refl, (spelled (codes "7") refl, refl), (spelled (codes "5") refl, refl))
+of_given_board = (refl, (spelled (codes "7") refl, refl), (spelled (codes "5") refl, refl), λ e. cc)
 
 -- a part that is missing or spells no number
 none_without_board : IsStormOf (seed_row (codes "7") ∷ count_row (codes "5") ∷ []) None
@@ -214,9 +232,9 @@ words_of_other_board : asked_in
     (Some (Storm (request (codes "4") 7 5)))
 unfolding clap_on_literals
 words_of_other_board = (
-  board_row (codes "4") ∷ count_row (codes "5") ∷ seed_row (codes "7") ∷ [],
+  board_row (codes "4") ∷ count_row (codes "5") ∷ seed_row (codes "7") ∷ no_counts ∷ [],
   refl,
-  (refl, (spelled (codes "7") refl, refl), (spelled (codes "5") refl, refl)),
+  (refl, (spelled (codes "7") refl, refl), (spelled (codes "5") refl, refl), λ e. cc),
 )
 
 words_of_replay : asked_in (codes "psci_cli" ∷ codes "replay" ∷ []) (Some Replay)

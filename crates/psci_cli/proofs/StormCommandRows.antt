@@ -49,6 +49,13 @@ board_row = row (codes "board") CommandLine
 abbrev pub standard_row : Row
 standard_row = row (codes "board") DefaultValue standard_board
 
+-- the flag that asks for the counts, left out and given
+abbrev pub no_counts : Row
+no_counts = row (codes "counts") DefaultValue (codes "false")
+
+abbrev pub counts_row : Row
+counts_row = row (codes "counts") CommandLine (codes "true")
+
 -- a storm with these words is taken, and this is found in them
 record IsTaken (words : List Text) (rows : List Row) : Type 0 where
   pub fault : fault_of program (storm_with words) ≡ []
@@ -58,7 +65,7 @@ record IsTaken (words : List Text) (rows : List Row) : Type 0 where
 abbrev IsRefused : List Text → ErrorKind → Type 0
 IsRefused words kind = fault_of program (storm_with words) ≡ kind ∷ []
 
--- The standard board --------------------------------------------------------------------------------
+-- The standard board ------------------------------------------------------------------------------
 
 -- its parts
 abbrev standard_text : BoardText
@@ -89,43 +96,50 @@ standard_read = refl
 
 -- the least numbers, and the standard board
 least : IsTaken (seed (codes "0") (count (codes "0") []))
-    (seed_row (codes "0") ∷ count_row (codes "0") ∷ standard_row ∷ [])
+    (seed_row (codes "0") ∷ count_row (codes "0") ∷ standard_row ∷ no_counts ∷ [])
 unfolding clap_on_literals
 least = record { fault = refl; met = refl }
 
 -- the largest seed and count
 largest : IsTaken (seed (codes "18446744073709551615") (count (codes "10000") []))
-    (seed_row (codes "18446744073709551615") ∷ count_row (codes "10000") ∷ standard_row ∷ [])
+    (seed_row (codes "18446744073709551615") ∷ count_row (codes "10000") ∷ standard_row ∷ no_counts
+    ∷ [])
 unfolding clap_on_literals
 largest = record { fault = refl; met = refl }
 
 -- a board in place of the standard one, which is not read here, in each place
 other_board : IsTaken (board (codes "4") (seed (codes "7") (count (codes "5") [])))
-    (board_row (codes "4") ∷ seed_row (codes "7") ∷ count_row (codes "5") ∷ [])
+    (board_row (codes "4") ∷ seed_row (codes "7") ∷ count_row (codes "5") ∷ no_counts ∷ [])
 unfolding clap_on_literals
 other_board = record { fault = refl; met = refl }
 
 board_between : IsTaken (count (codes "5") (board (codes "") (seed (codes "7") [])))
-    (count_row (codes "5") ∷ board_row (codes "") ∷ seed_row (codes "7") ∷ [])
+    (count_row (codes "5") ∷ board_row (codes "") ∷ seed_row (codes "7") ∷ no_counts ∷ [])
 unfolding clap_on_literals
 board_between = record { fault = refl; met = refl }
 
 board_last : IsTaken (seed (codes "7") (count (codes "5") (board (codes "(2 2) exec") [])))
-    (seed_row (codes "7") ∷ count_row (codes "5") ∷ board_row (codes "(2 2) exec") ∷ [])
+    (seed_row (codes "7") ∷ count_row (codes "5") ∷ board_row (codes "(2 2) exec") ∷ no_counts ∷ [])
 unfolding clap_on_literals
 board_last = record { fault = refl; met = refl }
 
 -- another order
 count_first : IsTaken (count (codes "5") (seed (codes "7") []))
-    (count_row (codes "5") ∷ seed_row (codes "7") ∷ standard_row ∷ [])
+    (count_row (codes "5") ∷ seed_row (codes "7") ∷ standard_row ∷ no_counts ∷ [])
 unfolding clap_on_literals
 count_first = record { fault = refl; met = refl }
 
 -- a number after `=`, with a plus and with zeros in front
 attached : IsTaken (codes "--seed=+7" ∷ codes "--count=005" ∷ [])
-    (seed_row (codes "+7") ∷ count_row (codes "005") ∷ standard_row ∷ [])
+    (seed_row (codes "+7") ∷ count_row (codes "005") ∷ standard_row ∷ no_counts ∷ [])
 unfolding clap_on_literals
 attached = record { fault = refl; met = refl }
+
+-- the counts are asked for
+with_counts : IsTaken (seed (codes "7") (codes "--counts" ∷ count (codes "5") []))
+    (seed_row (codes "7") ∷ counts_row ∷ count_row (codes "5") ∷ standard_row ∷ [])
+unfolding clap_on_literals
+with_counts = record { fault = refl; met = refl }
 
 -- Refused -----------------------------------------------------------------------------------------
 
