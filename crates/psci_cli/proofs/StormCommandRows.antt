@@ -58,7 +58,7 @@ record IsTaken (words : List Text) (rows : List Row) : Type 0 where
 abbrev IsRefused : List Text → ErrorKind → Type 0
 IsRefused words kind = fault_of program (storm_with words) ≡ kind ∷ []
 
--- The standard board --------------------------------------------------------------------------------
+-- The standard board ------------------------------------------------------------------------------
 
 -- its parts
 abbrev standard_text : BoardText
