@@ -11,6 +11,7 @@ use psci_link::{Ack, Kind, Taken};
 use std::alloc::Global;
 use std::test::Fail;
 
+mod acknowledgements;
 mod expected;
 mod lives;
 mod power;
@@ -67,6 +68,9 @@ const LAST_STATUS: Regs = Regs {
 fn on(entry: u64) -> Regs {
     regs(0xc400_0003, 0x101, entry, 7)
 }
+
+/// The power state of power-down of all levels.
+const ALL_DOWN: u64 = 0x0201_0333;
 
 /// A suspend with this power state, entry point and context id.
 fn suspend(state: u64, entry: u64, context: u64) -> Regs {
