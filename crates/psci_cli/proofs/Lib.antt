@@ -5,5 +5,6 @@ mod FlagRows
 pub mod Flags
 pub mod Locals
 pub mod Numbers
+mod OutputRows
 pub mod PlainRows
 mod StormRows
