@@ -1,12 +1,14 @@
--- Flags of known command lines.
-use Rattle.std.proofs.Common.{◌≡◌, List, [], ◌∷◌, None, Some, true, false, refl}
-use Rattle.std.specs.Prelude.{codes, option_map}
+-- Storms with counts and without: which command lines ask for them.
+use Rattle.std.proofs.Common.{◌≡◌, List, [], ◌∷◌, None, Some, true, false, refl, subst}
+use Rattle.std.specs.Option.{option_map_or}
+use Rattle.std.specs.Prelude.{codes}
 use Rattle.clap.specs.Faults.{fault_of, flags_fault, walk_fault, defaults_fault}
-use Rattle.clap.specs.Walk.{Text, one_of, walked}
+use Rattle.clap.specs.Walk.{Row, Text, first_of, one_of, walked}
 use Rattle.clap.specs.Words.{subcommand_of}
-use Rattle.clap.specs.declared.error.kind.ErrorKind.TheVariants.{TooManyValues, UnknownArgument}
-use Rattle.clap.specs.declared.error.kind.ErrorKind.TheVariants.{ArgumentConflict}
-use Rattle.psci_cli.specs.Commands.{IsFlagIn, program}
+use Rattle.clap.specs.declared.error.kind.ErrorKind.TheVariants.{ArgumentConflict, TooManyValues}
+use Rattle.clap.specs.declared.error.kind.ErrorKind.TheVariants.{UnknownArgument}
+use Rattle.psci_cli.specs.Commands.{IsFlagIn, IsStormOf, program, standard_board}
+use Rattle.psci_cli.specs.declared.command_line.StormRequest.{StormRequest}
 
 -- a storm of no event, and these words behind it
 abbrev calm : List Text → List Text
@@ -37,17 +39,6 @@ pub counts_of_a_replay : fault_of program
 unfolding flags_fault walk_fault walked defaults_fault
 counts_of_a_replay = refl
 
--- the text of the flag, without it and with it
-pub text_without : option_map (λ p. one_of (codes "counts") p.1) (subcommand_of program (calm []))
-    ≡ Some (Some (codes "false"))
-unfolding flags_fault walk_fault walked defaults_fault
-text_without = refl
-
-pub text_with : option_map (λ p. one_of (codes "counts") p.1)
-    (subcommand_of program (calm (codes "--counts" ∷ []))) ≡ Some (Some (codes "true"))
-unfolding flags_fault walk_fault walked defaults_fault
-text_with = refl
-
 -- set by that text alone
 pub set : IsFlagIn (Some (codes "true")) true
 set = refl
@@ -57,3 +48,36 @@ not_set = λ e. cc
 
 pub no_text : IsFlagIn None false
 no_text = λ e. cc
+
+-- the matches of such a command line
+abbrev rows_of_calm : List Text → List Row
+rows_of_calm more = option_map_or (λ p. p.1) (subcommand_of program (calm more)) []
+
+pub board_left_out : first_of (codes "board") (rows_of_calm []) ≡ Some standard_board
+unfolding flags_fault walk_fault walked defaults_fault
+board_left_out = refl
+
+pub numbers : one_of (codes "seed") (rows_of_calm []) ≡ Some (codes "1")
+unfolding flags_fault walk_fault walked defaults_fault
+numbers = refl
+
+pub flag_left_out : IsFlagIn (one_of (codes "counts") (rows_of_calm [])) false
+unfolding flags_fault walk_fault walked defaults_fault
+flag_left_out = λ e. cc
+
+pub flag_given : IsFlagIn (one_of (codes "counts") (rows_of_calm (codes "--counts" ∷ []))) true
+unfolding flags_fault walk_fault walked defaults_fault
+flag_given = refl
+
+-- a storm without the counts is not what is asked for with the flag, nor the other way round
+pub flag_missed : (storm : StormRequest) → storm.counts ≡ false
+    → ¬ (IsStormOf (rows_of_calm (codes "--counts" ∷ [])) (Some storm))
+unfolding flags_fault walk_fault walked defaults_fault
+flag_missed storm off = λ h. (subst (IsFlagIn (Some (codes "true"))) off h.3) refl
+
+pub flag_made_up : (storm : StormRequest) → storm.counts ≡ true
+    → ¬ (IsStormOf (rows_of_calm []) (Some storm))
+unfolding flags_fault walk_fault walked defaults_fault
+flag_made_up storm on = λ h.
+    let bad : Some (codes "false") ≡ Some (codes "true") =
+    subst (IsFlagIn (Some (codes "false"))) on h.3 in cc

@@ -6,6 +6,7 @@ mod FlagRows
 pub mod Flags
 pub mod Locals
 pub mod Numbers
+mod OutputRows
 pub mod PlainRows
 pub mod StormCommandRows
 mod StormRows

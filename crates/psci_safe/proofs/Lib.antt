@@ -1,4 +1,4 @@
-mod AllTested
+pub mod AllTested
 mod Checking
 mod ClaimRows
 mod Once

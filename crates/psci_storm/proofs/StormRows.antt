@@ -1,11 +1,8 @@
 -- Worked examples of storms in a new world, and of what they count, on a board of one core.
 use Rattle.std.proofs.Common.{◌≡◌, ◌∙◌, ℕ, List, [], ◌∷◌, true}
 use Rattle.std.proofs.Common.{refl, ap, arith, None, Option, Some}
-use Rattle.std.specs.Prelude.{◌↔◌}
-use Rattle.psci_board.specs.Board.{BoardValue}
+use Rattle.psci_safe.proofs.AllTested.{always_tested}
 use Rattle.psci_safe.specs.Openings.{Made}
-use Rattle.psci_safe.specs.Safe.{AlwaysSafe}
-use Rattle.psci_safe.specs.Test.{is_always_safe}
 use Rattle.psci_storm.specs.declared.outcome.Storm.{Storm}
 use Rattle.psci_storm.specs.Storm.{IsStorm}
 use Rattle.psci_world.specs.declared.settling.Settled.{Settled}
@@ -22,11 +19,6 @@ use Rattle.psci_storm.proofs.DrawnRows.{after, computing, going_off, wrong}
 
 -- What a storm counts -----------------------------------------------------------------------------
 
--- The world is safe where its test says so: the law of `psci_safe`.
-abbrev AreTested : Type 0
-AreTested = (b : BoardValue) (past : List Record)
-    → (is_always_safe b past ≡ true) ↔ AlwaysSafe b past
-
 -- a storm in a new world, with these events in all
 abbrev Storms : ℕ → List Event → Storm → Type 0
 Storms count events storm = IsStorm one_core count (after events) storm
@@ -35,34 +27,34 @@ Storms count events storm = IsStorm one_core count (after events) storm
 abbrev counts : ℕ → ℕ → Settled → Storm
 counts events sent s = record { events = events; sent = sent; settled = s }
 
-calm_storm : AreTested → Storms 0 (Enter 0 ∷ []) (counts 1 0 (Quiet 0))
+calm_storm : Storms 0 (Enter 0 ∷ []) (counts 1 0 (Quiet 0))
 unfolding computing
-calm_storm tested = record {
+calm_storm = record {
   blown = calm;
   events = refl;
   sent = refl;
   legal = stays_legal one_core [] (Enter 0 ∷ []) tt;
-  safe = (tested one_core (after (Enter 0 ∷ []))).0 refl;
+  safe = (always_tested one_core (after (Enter 0 ∷ []))).0 refl;
 }
 
-storm_that_sleeps : AreTested → Storms 2 rested (counts 4 1 (Quiet 1))
+storm_that_sleeps : Storms 2 rested (counts 4 1 (Quiet 1))
 unfolding computing
-storm_that_sleeps tested = record {
+storm_that_sleeps = record {
   blown = sleeps;
   events = refl;
   sent = refl;
   legal = stays_legal one_core [] rested tt;
-  safe = (tested one_core (after rested)).0 refl;
+  safe = (always_tested one_core (after rested)).0 refl;
 }
 
-storm_that_halts : AreTested → Storms 2 going_off (counts 2 1 Halting)
+storm_that_halts : Storms 2 going_off (counts 2 1 Halting)
 unfolding computing
-storm_that_halts tested = record {
+storm_that_halts = record {
   blown = halts;
   events = refl;
   sent = refl;
   legal = stays_legal one_core [] going_off tt;
-  safe = (tested one_core (after going_off)).0 refl;
+  safe = (always_tested one_core (after going_off)).0 refl;
 }
 
 -- other numbers: the events without those of settling, one event too many; no message, one too many
