@@ -1,5 +1,5 @@
 -- What a command line asks for, by the command that the parser met.
-use Rattle.std.proofs.Common.{◌≡◌, List, Option, None, Some, ap, refl, true, option_map}
+use Rattle.std.proofs.Common.{◌≡◌, List, Option, None, Some, refl, true, option_map}
 use Rattle.std.specs.Prelude.{codes}
 use Rattle.clap.proofs.OnLiterals.{clap_on_literals}
 use Rattle.clap.specs.Words.{Row, Text, is_simple, is_simple_and_free, subcommand_name_of}

@@ -9,7 +9,8 @@ use Rattle.psci_world_model.specs.declared.said.Said.TheVariants.{Absent}
 use Rattle.psci_cli.specs.StormText.{storm_output}
 
 pub line_alone : storm_output false (record { events = 1; sent = 0; settled = Quiet 0 })
-    (record { event = Enter 9; said = Absent } ∷ []) ≡ codes "storm events 1 sent 0 quiet 0" ++ 10 ∷ []
+    (record { event = Enter 9; said = Absent } ∷ [])
+    ≡ codes "storm events 1 sent 0 quiet 0" ++ 10 ∷ []
 unfolding digits
 line_alone = refl
 
