@@ -1,7 +1,7 @@
 //! Storms: events that are drawn, and a world that settles after them.
 
-ghost use Rattle.std.specs.Prelude.{◌≡◌, IfOk};
-ghost use Rattle.psci_storm.specs.Storm.{HappensBy, IsBlown, IsStorm};
+ghost use Rattle.std.specs.Prelude.{◌≡◌, IfOk, OnErr};
+ghost use Rattle.psci_storm.specs.Storm.{HappensBy, IsBlown, IsCutShort, IsStorm};
 
 use crate::drawing::draw;
 use crate::outcome::Storm;
@@ -16,6 +16,8 @@ pub fn blow(world: &mut World, seed: u64, count: u64) -> Result<Settled, Memory>
     ensures board { world.new.board ≡ world.old.board }
     ensures events { HappensBy world.old.board world.old.past world.new.past }
     ensures ok { IfOk result (λ s. IsBlown world.old.board world.old.past count world.new.past s) }
+    ensures short { OnErr result (IsCutShort world.old.board world.old.past count
+        world.new.past) }
 {
     draw(world, seed, count)?;
     settle(world)
