@@ -1,16 +1,16 @@
 -- A world that settled after a storm.
 use Rattle.std.proofs.Common.{◌≡◌, ◌∙◌, ℕ, Bool, true, false, List, [], length, refl, ap, sym}
-use Rattle.std.proofs.Common.{subst, Ok, Err}
+use Rattle.std.proofs.Common.{◌<◌, subst, Ok, Err, OnErr, inl, inr}
 use Rattle.std.specs.Prelude.{IfOk, Result}
 use Rattle.psci_board.specs.Board.{BoardValue}
 use Rattle.psci_board.specs.declared.fault.Memory.{Memory}
 use Rattle.psci_world.specs.Safe.{AlwaysSafe}
 use Rattle.psci_world.specs.Settling.{is_halting, settled}
 use Rattle.psci_storm.specs.declared.outcome.Storm.{Storm}
-use Rattle.psci_storm.specs.Storm.{IsBlown, IsDrawn, IsStorm}
+use Rattle.psci_storm.specs.Storm.{IsBlown, IsCutShort, IsDrawn, IsStorm}
 use Rattle.psci_world.specs.declared.settling.Settled.{Settled}
 use Rattle.psci_world.specs.declared.settling.Settled.TheVariants.{Halting, Quiet}
-use Rattle.psci_world.specs.Settles.{ComesToRest}
+use Rattle.psci_world.specs.Settles.{ComesToRest, IsOnTheWay}
 use Rattle.psci_world_model.specs.declared.said.Record.{Record}
 use Rattle.psci_world_model.specs.Histories.{sent}
 use Rattle.psci_world_model.specs.Legal.{IsLegalPast}
@@ -74,3 +74,24 @@ storms b first last before past count end storm is_first is_last none blown lega
       safe = subst (λ (x : BoardValue). AlwaysSafe x past) (is_last ∙ is_first) safe;
     } in
     subst (λ (x : Storm). IsStorm b count past x) (sym counted) all
+
+pub on_err : {A E : Type 0} (r : Result A E) (P : Type 0) → P → OnErr r P
+on_err (Ok x) P h = tt
+on_err (Err e) P h = h
+
+-- memory ran out before all events had happened
+pub cut_drawing : (b : BoardValue) (before after : List Record) (count : ℕ)
+    → ((n : ℕ) × (n < count) × IsDrawn b before n after) → IsCutShort b before count after
+cut_drawing b before after count few = inl few
+
+-- memory ran out after them
+pub cut_settling : (b other : BoardValue) (before middle after : List Record) (count : ℕ)
+    (result : Result Settled Memory) → other ≡ b → IsDrawn b before count middle
+    → OnErr result (IsOnTheWay after (settled other middle).past)
+    → OnErr result (IsCutShort b before count after)
+cut_settling b other before middle after count (Ok s) same drawn way = tt
+cut_settling b other before middle after count (Err memory) same drawn way = inr (
+  middle,
+  drawn,
+  subst (λ (x : BoardValue). IsOnTheWay after (settled x middle).past) same way,
+)

@@ -1,5 +1,5 @@
 -- Events that were drawn: none, and one more.
-use Rattle.std.proofs.Common.{◌≡◌, ◌+◌, ℕ, List, [], ◌∷◌, ◌++◌, length, refl, ap, sym, ◌∙◌}
+use Rattle.std.proofs.Common.{◌≡◌, ◌<◌, ◌+◌, ℕ, List, [], ◌∷◌, ◌++◌, length, refl, ap, sym, ◌∙◌}
 use Rattle.std.proofs.Common.{subst, arith, length-append}
 use Rattle.psci_board.specs.Board.{BoardValue}
 use Rattle.psci_storm.specs.Storm.{HappensBy, IsDrawn}
@@ -61,3 +61,10 @@ pub happens_same : (b : BoardValue) (before past after : List Record) → after 
     → HappensBy b before past → HappensBy b before after
 happens_same b before past after same so_far =
     subst (λ (p : List Record). HappensBy b before p) (sym same) so_far
+
+-- the same, fewer events than there were to be
+pub drawn_few : (b : BoardValue) (before past after : List Record) (n count : ℕ) → n < count
+    → after ≡ past → IsDrawn b before n past
+    → (k : ℕ) × (k < count) × IsDrawn b before k after
+drawn_few b before past after n count less same drawn =
+    (n, less, subst (λ (p : List Record). IsDrawn b before n p) (sym same) drawn)

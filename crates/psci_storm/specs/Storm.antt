@@ -1,11 +1,11 @@
 -- What a storm makes of a world: events that were drawn happen, and then the world settles.
-use Rattle.std.specs.Prelude.{◌≡◌, ℕ, true, false, List, [], length}
+use Rattle.std.specs.Prelude.{◌≡◌, ◌<◌, ◌⊎◌, ℕ, true, false, List, [], length}
 use Rattle.psci_board.specs.Board.{BoardValue}
 use Rattle.psci_world.specs.Safe.{AlwaysSafe}
 use Rattle.psci_world.specs.Settling.{is_halting, settled}
 use Rattle.psci_world.specs.declared.settling.Settled.{Settled}
 use Rattle.psci_world.specs.declared.settling.Settled.TheVariants.{Halting, Quiet}
-use Rattle.psci_world.specs.Settles.{ComesToRest}
+use Rattle.psci_world.specs.Settles.{ComesToRest, IsOnTheWay}
 use Rattle.psci_world_model.specs.declared.event.Event.{Event}
 use Rattle.psci_world_model.specs.declared.said.Record.{Record}
 use Rattle.psci_world_model.specs.Histories.{sent}
@@ -23,6 +23,14 @@ pub record IsDrawn (b : BoardValue) (before : List Record) (count : ℕ)
   pub drawn : List Event
   pub many : length drawn ≡ count
   pub run : after ≡ run_from b before drawn
+
+-- The world where memory ran out: before so many events had happened, or after them, on its way
+-- to rest.
+abbrev pub IsCutShort : BoardValue → List Record → ℕ → List Record → Type 0
+IsCutShort b before count after =
+    ((n : ℕ) × (n < count) × IsDrawn b before n after)
+    ⊎ ((middle : List Record) × IsDrawn b before count middle
+    × IsOnTheWay after (settled b middle).past)
 
 -- The world after so many events, and once it has settled.
 pub record IsBlown (b : BoardValue) (before : List Record) (count : ℕ) (after : List Record)

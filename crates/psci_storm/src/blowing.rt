@@ -1,7 +1,7 @@
 //! Storms: events that are drawn, and a world that settles after them.
 
-ghost use Rattle.std.specs.Prelude.{◌≡◌, List, IfOk};
-ghost use Rattle.psci_storm.specs.Storm.{HappensBy, IsBlown, IsStorm};
+ghost use Rattle.std.specs.Prelude.{◌≡◌, List, IfOk, OnErr};
+ghost use Rattle.psci_storm.specs.Storm.{HappensBy, IsBlown, IsCutShort, IsStorm};
 ghost use Rattle.psci_world_model.specs.declared.said.Record.{Record};
 
 use crate::drawing::draw;
@@ -17,6 +17,8 @@ pub fn blow(world: &mut World, seed: u64, count: u64) -> Result<Settled, Memory>
     ensures board { world.new.board ≡ world.old.board }
     ensures events { HappensBy world.old.board world.old.past world.new.past }
     ensures ok { IfOk result (λ s. IsBlown world.old.board world.old.past count world.new.past s) }
+    ensures short { OnErr result (IsCutShort world.old.board world.old.past count
+        world.new.past) }
 {
     draw(world, seed, count)?;
     settle(world)

@@ -1,6 +1,6 @@
 //! Events are drawn, and happen.
 
-ghost use Rattle.std.specs.Prelude.{◌≡◌, OnOk};
+ghost use Rattle.std.specs.Prelude.{◌≡◌, ◌<◌, ℕ, OnErr, OnOk};
 ghost use Rattle.psci_storm.specs.Storm.{HappensBy, IsDrawn};
 
 use crate::draws::Draws;
@@ -12,6 +12,8 @@ pub fn draw(world: &mut World, seed: u64, count: u64) -> Result<(), Memory>
     ensures board { world.new.board ≡ world.old.board }
     ensures events { HappensBy world.old.board world.old.past world.new.past }
     ensures ok { OnOk result (IsDrawn world.old.board world.old.past count world.new.past) }
+    ensures few { OnErr result ((n : ℕ) × (n < count)
+        × IsDrawn world.old.board world.old.past n world.new.past) }
 {
     let mut draws = Draws::new(seed, count, world.board().cores());
     'events: for _drawn in 0..count {

@@ -1,7 +1,9 @@
 mod Beginning
 mod Booked
 pub mod Newest
+mod OnTheWay
 pub mod Resting
 mod Settles
 mod Waiting
+mod WayRows
 mod Worlds

@@ -20,6 +20,10 @@ pub record SettlesBy (b : BoardValue) (before after : List Record) : Type 0 wher
   pub run : after ≡ run_from b before events
   pub settling : AllPass is_settling events
 
+-- One past is on the way to the other: it is the other after some records more, or none.
+abbrev pub IsOnTheWay : List Record → List Record → Type 0
+IsOnTheWay past whole = (more : List Record) × (whole ≡ more ++ past)
+
 -- the kinds of messages that are answered
 abbrev pub answers_kind : Which → Kind → Bool
 answers_kind Starts kind = is_start kind

@@ -1,12 +1,12 @@
 //! The world settles: what waits is answered, until firmware and power controller agree.
 
-ghost use Rattle.std.specs.Prelude.{◌≡◌, ◌<◌, ◌+◌, true, false, IfOk, Ok, OnOk};
+ghost use Rattle.std.specs.Prelude.{◌≡◌, ◌<◌, ◌+◌, true, false, IfOk, Ok, OnErr, OnOk};
 ghost use Rattle.psci_board.specs.Board.{cores, height};
 ghost use Rattle.psci_settle.specs.Drained.{is_settling};
 ghost use Rattle.psci_settle.specs.Settling.{all_cores, answered, answering, begun, each_core};
 ghost use Rattle.psci_settle.specs.Settling.{entering, is_halting, rounds, settled, step};
 ghost use Rattle.psci_world.specs.declared.settling.Settled.TheVariants.{Halting, Quiet};
-ghost use Rattle.psci_world.specs.Settles.{ComesToRest, SettlesBy, answers_kind};
+ghost use Rattle.psci_world.specs.Settles.{ComesToRest, IsOnTheWay, SettlesBy, answers_kind};
 
 use crate::outstanding::{Which, is_waiting, number_outstanding};
 use crate::world::World;
@@ -36,6 +36,9 @@ pub fn settle(world: &mut World) -> Result<Settled, Memory>
     ensures board { world.new.board ≡ world.old.board }
     // What was added is a run of entries, deliveries and takes, out of memory too.
     ensures events { SettlesBy world.old.board world.old.past world.new.past }
+    // Out of memory, it is what comes first of all that brings the world to rest.
+    ensures front { OnErr result (IsOnTheWay world.new.past
+        (settled world.old.board world.old.past).past) }
     ensures halting { is_halting world.old.board world.old.past ≡ true
         → (result ≡ Ok Halting) × (world.new.past ≡ world.old.past) }
     ensures quiet { is_halting world.old.board world.old.past ≡ false
@@ -53,6 +56,8 @@ pub fn settle(world: &mut World) -> Result<Settled, Memory>
 fn settle_by_rounds(world: &mut World) -> Result<Settled, Memory>
     ensures board { world.new.board ≡ world.old.board }
     ensures events { SettlesBy world.old.board world.old.past world.new.past }
+    ensures front { OnErr result (IsOnTheWay world.new.past
+        (settled world.old.board world.old.past).past) }
     ensures halting { is_halting world.old.board world.old.past ≡ true
         → (result ≡ Ok Halting) × (world.new.past ≡ world.old.past) }
     ensures quiet { is_halting world.old.board world.old.past ≡ false
@@ -81,6 +86,8 @@ fn is_halting(world: &World) -> bool
 /// Started cores enter, Starts are answered, and the cores that this started enter.
 fn begin(world: &mut World) -> Result<(), Memory>
     ensures ok { OnOk result (world.new.past ≡ begun world.old.board world.old.past) }
+    ensures front { OnErr result (IsOnTheWay world.new.past
+        (begun world.old.board world.old.past)) }
     ensures events { SettlesBy world.old.board world.old.past world.new.past }
     ensures board { world.new.board ≡ world.old.board }
 {
@@ -93,6 +100,8 @@ fn begin(world: &mut World) -> Result<(), Memory>
 fn make_rounds(world: &mut World) -> Result<u32, Memory>
     ensures ok { IfOk result (λ made. record { past = world.new.past; rounds = made }
         ≡ rounds world.old.board (height world.old.board + 1) world.old.past 0) }
+    ensures front { OnErr result (IsOnTheWay world.new.past
+        (rounds world.old.board (height world.old.board + 1) world.old.past 0).past) }
     ensures events { SettlesBy world.old.board world.old.past world.new.past }
     ensures board { world.new.board ≡ world.old.board }
 {
@@ -110,6 +119,8 @@ fn make_rounds(world: &mut World) -> Result<u32, Memory>
 fn enter_started(world: &mut World) -> Result<(), Memory>
     ensures ok { OnOk result (world.new.past
         ≡ each_core (entering world.old.board) (all_cores world.old.board) world.old.past) }
+    ensures front { OnErr result (IsOnTheWay world.new.past
+        (each_core (entering world.old.board) (all_cores world.old.board) world.old.past)) }
     ensures events { SettlesBy world.old.board world.old.past world.new.past }
     ensures board { world.new.board ≡ world.old.board }
 {
@@ -124,6 +135,8 @@ fn enter_if_started(world: &mut World, core: Core) -> Result<(), Memory>
     requires { core.number < cores world.old.board }
     ensures ok { OnOk result (world.new.past
         ≡ entering world.old.board world.old.past core.number) }
+    ensures front { OnErr result (IsOnTheWay world.new.past
+        (entering world.old.board world.old.past core.number)) }
     ensures events { SettlesBy world.old.board world.old.past world.new.past }
     ensures board { world.new.board ≡ world.old.board }
 {
@@ -138,6 +151,9 @@ fn answer_each(world: &mut World, which: Which) -> Result<(), Memory>
     ensures ok { OnOk result (world.new.past ≡ each_core
         (answered world.old.board (answers_kind which)) (all_cores world.old.board)
         world.old.past) }
+    ensures front { OnErr result (IsOnTheWay world.new.past (each_core
+        (answered world.old.board (answers_kind which)) (all_cores world.old.board)
+        world.old.past)) }
     ensures events { SettlesBy world.old.board world.old.past world.new.past }
     ensures board { world.new.board ≡ world.old.board }
 {
@@ -152,6 +168,8 @@ fn answer_each(world: &mut World, which: Which) -> Result<(), Memory>
 fn answer(world: &mut World, message: Option<u64>) -> Result<(), Memory>
     ensures ok { OnOk result (world.new.past
         ≡ answering world.old.board world.old.past message) }
+    ensures front { OnErr result (IsOnTheWay world.new.past
+        (answering world.old.board world.old.past message)) }
     ensures events { SettlesBy world.old.board world.old.past world.new.past }
     ensures board { world.new.board ≡ world.old.board }
 {
@@ -167,6 +185,8 @@ fn answer(world: &mut World, message: Option<u64>) -> Result<(), Memory>
 fn happen(world: &mut World, event: Event) -> Result<(), Memory>
     requires { is_settling event ≡ true }
     ensures ok { OnOk result (world.new.past ≡ step world.old.board world.old.past event) }
+    ensures front { OnErr result (IsOnTheWay world.new.past
+        (step world.old.board world.old.past event)) }
     ensures events { SettlesBy world.old.board world.old.past world.new.past }
     ensures board { world.new.board ≡ world.old.board }
 {

@@ -1,6 +1,6 @@
 -- The world settled after the events that were drawn.
 use Rattle.psci_storm.proofs.Drawn.{happens_both}
-use Rattle.psci_storm.proofs.Blown.{blown}
+use Rattle.psci_storm.proofs.Blown.{blown, cut_drawing, cut_settling, on_err}
 use Rattle.psci_storm.proofs.blowing.blow.Goals as goal
 
 pub returns-clause-events : goal.returns-clause-events
@@ -16,3 +16,15 @@ returns-clause-ok c =
     blown old.board c.draw.new.world.board old.past c.draw.new.world.past c.settle.new.world.past
     c.args.count c.settle.result c.draw.ensures.board (c.in_ok-draw.ensures {u = tt}).ok
     c.settle.ensures.halting c.settle.ensures.quiet c.settle.ensures.rest
+
+pub returns-in_err-draw-clause-short : goal.returns-in_err-draw-clause-short
+returns-in_err-draw-clause-short c =
+    on_err c.from_residual.result _
+    (cut_drawing c.args.world.now.board c.args.world.now.past c.draw.new.world.past c.args.count
+    c.in_err-draw.ensures.few)
+
+pub returns-clause-short : goal.returns-clause-short
+returns-clause-short c =
+    cut_settling c.args.world.now.board c.draw.new.world.board c.args.world.now.past
+    c.draw.new.world.past c.settle.new.world.past c.args.count c.settle.result
+    c.draw.ensures.board (c.in_ok-draw.ensures {u = tt}).ok c.settle.ensures.front

@@ -1,7 +1,9 @@
 -- Event by event, and as far as it went.
 use Rattle.std.proofs.Common.{◌≡◌, ◌∙◌, ◌∷◌, ℕ, ap, arith, refl, subst}
 use Rattle.psci_storm.specs.Storm.{IsDrawn}
-use Rattle.psci_storm.proofs.Drawn.{drawn_more, drawn_none, happens_drawn, happens_same}
+use Rattle.psci_storm.proofs.Blown.{on_err}
+use Rattle.psci_storm.proofs.Drawn.{drawn_few, drawn_more, drawn_none, happens_drawn}
+use Rattle.psci_storm.proofs.Drawn.{happens_same}
 use Rattle.psci_world_model.specs.declared.said.Record.{Record}
 use Rattle.psci_storm.proofs.drawing.draw.Goals as goal
 
@@ -41,3 +43,11 @@ returns-clause-ok c =
     let all : c.events._drawn ≡ c.args.count = omega arith in
     subst (λ (n : ℕ). IsDrawn c.args.world.now.board c.args.world.now.past n c.events.world.past)
     all c.events.invariant.drawn
+
+pub returns-in_err-step-clause-few : goal.returns-in_err-step-clause-few
+returns-in_err-step-clause-few c =
+    let old = c.args.world.now in
+    let at = c.events in
+    on_err c.from_residual.result _
+    (drawn_few old.board old.past at.world.past c.step.new.self.past at._drawn c.args.count
+    c.events-test.true (ap (λ w. w.past) c.in_err-step.ensures.memory) at.invariant.drawn)

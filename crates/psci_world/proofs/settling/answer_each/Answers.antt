@@ -4,6 +4,7 @@ use Rattle.psci_board.specs.Board.{cores}
 use Rattle.psci_settle.specs.Settling.{answered, answering}
 use Rattle.psci_world.specs.Settles.{answers_kind}
 use Rattle.psci_world.proofs.Settles.{each_first, each_next, settles_both, settles_none}
+use Rattle.psci_world.proofs.OnTheWay.{on_err, stops_each, way_answered, way_to}
 use Rattle.psci_world.proofs.settling.answer_each.Goals as goal
 
 pub loop-number-init : goal.loop-number-init
@@ -44,3 +45,22 @@ returns-in_err-answer-clause-events c =
     let at = c.loop-number in
     settles_both old.board at.world.board old.past at.world.past
     c.answer.new.world.past at.invariant.board at.invariant.events c.answer.ensures.events
+
+pub returns-in_err-answer-clause-front : goal.returns-in_err-answer-clause-front
+returns-in_err-answer-clause-front c =
+    let old = c.args.world.now in
+    let at = c.loop-number in
+    let less : at.number < cores old.board =
+    omega (
+      arith,
+      c.loop-number-test.true,
+      c.cores-number-end.ensures.cores,
+      ap cores c.board.ensures,
+    ) in
+    on_err c.from_residual.result _
+    (stops_each (λ b. answered b (answers_kind c.args.which)) old.board at.world.board at.number
+    (cores old.board) at.world.past c.answer.new.world.past _
+    (way_answered old.board (answers_kind c.args.which)) less at.invariant.board
+    (way_to c.answer.new.world.past _ _
+    (ap (answering at.world.board at.world.past) c.number_outstanding-message.ensures)
+    c.in_err-answer.ensures.front) at.invariant.rest)

@@ -3,6 +3,7 @@ use Rattle.std.proofs.Common.{◌∙◌, ◌<◌, ap, refl, arith}
 use Rattle.psci_board.specs.Board.{cores}
 use Rattle.psci_settle.specs.Settling.{entering}
 use Rattle.psci_world.proofs.Settles.{each_first, each_next, settles_both, settles_none}
+use Rattle.psci_world.proofs.OnTheWay.{on_err, stops_each, way_entering}
 use Rattle.psci_world.proofs.settling.enter_started.Goals as goal
 
 pub loop-number-init : goal.loop-number-init
@@ -43,3 +44,20 @@ returns-in_err-enter_if_started-clause-events c =
     settles_both old.board at.world.board old.past at.world.past
     c.enter_if_started.new.world.past at.invariant.board at.invariant.events
     c.enter_if_started.ensures.events
+
+pub returns-in_err-enter_if_started-clause-front
+    : goal.returns-in_err-enter_if_started-clause-front
+returns-in_err-enter_if_started-clause-front c =
+    let old = c.args.world.now in
+    let at = c.loop-number in
+    let less : at.number < cores old.board =
+    omega (
+      arith,
+      c.loop-number-test.true,
+      c.cores-number-end.ensures.cores,
+      ap cores c.board.ensures,
+    ) in
+    on_err c.from_residual.result _
+    (stops_each entering old.board at.world.board at.number (cores old.board) at.world.past
+    c.enter_if_started.new.world.past _ (way_entering old.board) less at.invariant.board
+    c.in_err-enter_if_started.ensures.front at.invariant.rest)

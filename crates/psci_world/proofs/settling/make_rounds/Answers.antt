@@ -4,6 +4,7 @@ use Rattle.psci_board.specs.Board.{height}
 use Rattle.psci_settle.specs.Settling.{rounds}
 use Rattle.psci_world.proofs.Beginning.{round_more, rounds_done, rounds_first, rounds_over}
 use Rattle.psci_world.proofs.Settles.{settles_both, settles_none}
+use Rattle.psci_world.proofs.OnTheWay.{on_err, stops_round, way_to}
 use Rattle.psci_world.proofs.settling.make_rounds.Goals as goal
 
 pub loop-made-init : goal.loop-made-init
@@ -55,3 +56,16 @@ returns-clause-ok c =
     at.invariant.rest
     ∙ ap (λ k. rounds old.board (k + 1) old.past 0)
     (c.height-most.ensures.height ∙ ap height c.board.ensures)
+
+pub returns-in_err-answer_each-clause-front : goal.returns-in_err-answer_each-clause-front
+returns-in_err-answer_each-clause-front c =
+    let old = c.args.world.now in
+    let at = c.loop-made in
+    on_err c.from_residual.result _
+    (way_to c.answer_each.new.world.past _ _
+    (ap (λ k. (rounds old.board (k + 1) old.past 0).past)
+    (c.height-most.ensures.height ∙ ap height c.board.ensures))
+    (stops_round old.board at.world.board at.made (c.height-most.result + 1) at.world.past
+    c.answer_each.new.world.past _ c.loop-made-test.true at.invariant.board
+    (sym (c.if-not-is_waiting.ensures {u = tt})) c.in_err-answer_each.ensures.front
+    at.invariant.rest))
