@@ -19,6 +19,7 @@ pub use grammar::{Line, read_line};
 pub use laws::law_event_lines;
 pub use limits::{LONGEST_LINE, MOST_LINES};
 pub use lines::{Extent, Front, cut, last_line};
+pub use psci_abi::Code;
 pub use psci_fw_model::Act;
 pub use psci_world_model::{Event, Said};
 pub use return_line::{LONGEST_RETURN, write_return};
