@@ -1,6 +1,7 @@
 -- A world that settled after a storm.
 use Rattle.std.proofs.Common.{◌≡◌, ◌∙◌, ℕ, Bool, true, false, List, [], length, refl, ap, sym}
-use Rattle.std.proofs.Common.{◌<◌, subst, Ok, Err, OnErr, inl, inr}
+use Rattle.std.proofs.Common.{◌<◌, ◌∷◌, ◌++◌, subst, Ok, Err, OnErr, inl, inr}
+use Rattle.std.proofs.lemmas.List.{append_assoc}
 use Rattle.std.specs.Prelude.{IfOk, Result}
 use Rattle.psci_board.specs.Board.{BoardValue}
 use Rattle.psci_board.specs.declared.fault.Memory.{Memory}
@@ -10,10 +11,11 @@ use Rattle.psci_storm.specs.declared.outcome.Storm.{Storm}
 use Rattle.psci_storm.specs.Storm.{IsBlown, IsCutShort, IsDrawn, IsStorm}
 use Rattle.psci_world.specs.declared.settling.Settled.{Settled}
 use Rattle.psci_world.specs.declared.settling.Settled.TheVariants.{Halting, Quiet}
-use Rattle.psci_world.specs.Settles.{ComesToRest, IsOnTheWay}
+use Rattle.psci_world.specs.Settles.{ComesToRest, IsOnTheWay, SettlesBy}
+use Rattle.psci_world_model.specs.declared.event.Event.{Event}
 use Rattle.psci_world_model.specs.declared.said.Record.{Record}
 use Rattle.psci_world_model.specs.Histories.{sent}
-use Rattle.psci_world_model.specs.Legal.{IsLegalPast}
+use Rattle.psci_world_model.specs.Legal.{IsLegalPast, legal_record, run_from}
 
 -- how the world settled, where it did
 settled_in : Result Settled Memory → Settled
@@ -84,14 +86,25 @@ pub cut_drawing : (b : BoardValue) (before after : List Record) (count : ℕ)
     → ((n : ℕ) × (n < count) × IsDrawn b before n after) → IsCutShort b before count after
 cut_drawing b before after count few = inl few
 
+-- what happens comes after what had happened
+pub way_on : (b : BoardValue) (past : List Record) (events : List Event)
+    → IsOnTheWay past (run_from b past events)
+unfolding run_from
+way_on b past [] = ([], refl)
+way_on b past (event ∷ events) =
+    let r = legal_record b past event in
+    let rest = way_on b (r ∷ past) events in
+    (rest.0 ++ r ∷ [], rest.1 ∙ sym (append_assoc rest.0 (r ∷ []) past))
+
 -- memory ran out after them
 pub cut_settling : (b other : BoardValue) (before middle after : List Record) (count : ℕ)
     (result : Result Settled Memory) → other ≡ b → IsDrawn b before count middle
-    → OnErr result (IsOnTheWay after (settled other middle).past)
+    → SettlesBy other middle after → OnErr result (IsOnTheWay after (settled other middle).past)
     → OnErr result (IsCutShort b before count after)
-cut_settling b other before middle after count (Ok s) same drawn way = tt
-cut_settling b other before middle after count (Err memory) same drawn way = inr (
+cut_settling b other before middle after count (Ok s) same drawn by way = tt
+cut_settling b other before middle after count (Err memory) same drawn by way = inr (
   middle,
   drawn,
+  subst (IsOnTheWay middle) (sym by.run) (way_on other middle by.events),
   subst (λ (x : BoardValue). IsOnTheWay after (settled x middle).past) same way,
 )

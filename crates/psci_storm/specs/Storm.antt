@@ -29,7 +29,7 @@ pub record IsDrawn (b : BoardValue) (before : List Record) (count : ℕ)
 abbrev pub IsCutShort : BoardValue → List Record → ℕ → List Record → Type 0
 IsCutShort b before count after =
     ((n : ℕ) × (n < count) × IsDrawn b before n after)
-    ⊎ ((middle : List Record) × IsDrawn b before count middle
+    ⊎ ((middle : List Record) × IsDrawn b before count middle × IsOnTheWay middle after
     × IsOnTheWay after (settled b middle).past)
 
 -- The world after so many events, and once it has settled.

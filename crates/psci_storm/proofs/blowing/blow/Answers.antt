@@ -27,4 +27,5 @@ pub returns-clause-short : goal.returns-clause-short
 returns-clause-short c =
     cut_settling c.args.world.now.board c.draw.new.world.board c.args.world.now.past
     c.draw.new.world.past c.settle.new.world.past c.args.count c.settle.result
-    c.draw.ensures.board (c.in_ok-draw.ensures {u = tt}).ok c.settle.ensures.front
+    c.draw.ensures.board (c.in_ok-draw.ensures {u = tt}).ok c.settle.ensures.events
+    c.settle.ensures.front
