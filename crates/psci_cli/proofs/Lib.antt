@@ -4,6 +4,8 @@ pub mod CommandRows
 pub mod ExitRows
 mod FlagRows
 pub mod Flags
+mod HeardRows
+mod Hearing
 pub mod Locals
 pub mod Numbers
 mod OutputRows

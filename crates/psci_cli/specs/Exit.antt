@@ -1,6 +1,8 @@
 -- Exit statuses, and what standard error says of a fault.
-use Rattle.std.specs.Prelude.{◌≡◌, ◌⊎◌, ℕ, List, ◌++◌, codes, ⊤}
+use Rattle.std.specs.Prelude.{◌≡◌, ◌⊎◌, ℕ, List, ◌++◌, codes, ⊤, Result, Ok, Err, IsOk}
 use Rattle.std.specs.Fmt.{decimal}
+use Rattle.psci_board.specs.Board.{BoardValue}
+use Rattle.psci_board.specs.Verdict.{Answers}
 use Rattle.psci_board.specs.declared.fault.BoardFault.{BoardFault}
 use Rattle.psci_board.specs.declared.fault.BoardFault.TheVariants as boards
 use Rattle.psci_cli.specs.declared.exit.Failure.{Failure}
@@ -66,6 +68,15 @@ abbrev pub IsOfStorm : Failure → Type 0
 IsOfStorm CommandLine = ⊥
 IsOfStorm (GivenBoard fault) = ⊤
 IsOfStorm (Replay fault) = (fault ≡ Write) ⊎ (fault ≡ Memory)
+
+-- How a storm of a board text ends, by what the text says: with the fault of the text, or for want of
+-- memory to keep its board; and where it has no fault with its line, or for want of memory, or where
+-- the line can't be written.
+abbrev pub StormEnds : Result Unit Failure → Result BoardValue BoardFault → Type 0
+StormEnds (Ok done) said = IsOk said
+StormEnds (Err CommandLine) said = ⊥
+StormEnds (Err (GivenBoard fault)) said = Answers (Err fault) said
+StormEnds (Err (Replay fault)) said = IsOk said × ((fault ≡ Write) ⊎ (fault ≡ Memory))
 
 -- what standard error says of a board fault
 abbrev pub board_report : BoardFault → List ℕ

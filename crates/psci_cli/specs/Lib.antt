@@ -1,4 +1,5 @@
 pub mod Commands
 pub mod Exit
+pub mod Heard
 pub mod Plain
 pub mod StormText

@@ -10,6 +10,7 @@ ghost use Rattle.psci_cli.specs.declared.command_line.Request.TheVariants.{Nothi
 ghost use Rattle.psci_cli.specs.declared.exit.Failure.TheVariants.{CommandLine};
 ghost use Rattle.psci_cli.specs.Commands.{AsksHelp, IsAsked, IsStormOf, IsUnheard, IsWordless};
 ghost use Rattle.psci_cli.specs.Commands.{board_rule, flag_rule, number_rule, program, storm_shape};
+ghost use Rattle.psci_cli.specs.Heard.{IsHeard};
 
 use crate::exit::Failure;
 use crate::plain::plain;
@@ -226,7 +227,8 @@ pub fn asked<'a, R: AllocGlobal + Print + Eprint>(
     rt: &R,
     words: &'a [String],
 ) -> Result<Request<'a>, Failure>
-    ensures { IfErr result IsUnheard }
+    ensures heard { IsHeard (map string_bytes words.now) result }
+    ensures unheard { IfErr result IsUnheard }
 {
     match request_in(rt.alloc(), words) {
         Ok(request) => request.ok_or(Failure::CommandLine),

@@ -7,7 +7,8 @@ mod plain;
 mod storm_line;
 
 ghost use Rattle.std.specs.Prelude.{IfErr};
-ghost use Rattle.psci_cli.specs.Exit.{IsOfReplay, IsOfStorm};
+ghost use Rattle.psci_board.specs.Verdict.{board_of};
+ghost use Rattle.psci_cli.specs.Exit.{IsOfReplay, IsOfStorm, StormEnds};
 
 use command_line::{Request, StormRequest, asked, words};
 use exit::Failure;
@@ -30,7 +31,8 @@ fn replay_standard(rt: &HostRuntime) -> Result<(), Failure>
 
 /// Makes a storm, and writes on standard output what is asked of it.
 fn storm_standard(rt: &HostRuntime, request: StormRequest) -> Result<(), Failure>
-    ensures { IfErr result IsOfStorm }
+    ensures ends { StormEnds result (board_of request.entry.board.now) }
+    ensures err { IfErr result IsOfStorm }
 {
     let board = Board::read(rt.alloc(), request.board).map_err(Failure::Board)?;
     let stormed = storm_world(rt.alloc(), &board, request.seed, request.count).map_err(

@@ -1,0 +1,10 @@
+-- What the parser says is told apart.
+use Rattle.std.proofs.Common.{map}
+use Rattle.std.specs.Prelude.{string_bytes}
+use Rattle.psci_cli.proofs.Hearing.{heard_shown}
+use Rattle.psci_cli.proofs.command_line.asked.Goals as goal
+
+pub returns-in-Err-clause-heard : goal.returns-in-Err-clause-heard
+returns-in-Err-clause-heard g c =
+    heard_shown (map string_bytes c.args.words.now) c.in-Err.error.kind c.shown.result
+    c.in-Err.ensures.fault c.shown.ensures.memory c.shown.ensures.help c.shown.ensures.fault
