@@ -7,8 +7,7 @@ use Rattle.std.specs.Io.KnownBytes.{Appends, Consumes, IsAtEnd}
 use Rattle.psci_board.specs.Board.{BoardValue}
 use Rattle.psci_board.specs.Verdict.{board_of}
 use Rattle.psci_board.specs.declared.fault.BoardFault.{BoardFault}
-use Rattle.psci_world_model.specs.declared.said.Record.{Record}
-use Rattle.psci_storm.specs.Seen.{WorldValue}
+use Rattle.psci_storm.specs.Seen.{IsPresent, PresentValue}
 use Rattle.psci_script.specs.declared.fault.Replayed.{Replayed}
 use Rattle.psci_script.specs.declared.fault.ScriptFault.{ScriptFault}
 use Rattle.psci_script.specs.declared.fault.ScriptFault.TheVariants.{NoBoard, Long}
@@ -212,24 +211,19 @@ begun b first before block left taken answered e text k i l v = record {
   lines = λ f. whole_line [] e block i f;
 }
 
--- the world of the board, before any event
-abbrev first_world : BoardValue → WorldValue
-first_world b = record { board = b; past = [] }
-
-pub is_under_way : (w : WorldValue) (b : BoardValue) (first before : Option (List ℕ))
+pub is_under_way : (p : PresentValue) (b : BoardValue) (first before : Option (List ℕ))
     (block : ReadAhead) (left taken : Option (List ℕ)) (answered : Answered) (e : Extent)
-    (text : List ℕ) → w.board ≡ b → w.past ≡ []
+    (text : List ℕ) → IsPresent b [] p
     → Fresh first before (progress block left answered taken) → IsLine e block
     → board_line (take e.line block.unread) ≡ Ok text → board_of text ≡ Ok b
-    → IsUnderWay w 1 first before (progress (skipped block e) left answered taken)
-is_under_way w b first before block left taken answered e text same none k i l v =
-    let s = progress (skipped block e) left answered taken in
-    let is : w ≡ first_world b =
-    ap (λ (past : List Record). let r : WorldValue = record { board = w.board; past = past } in r)
-    none
-    ∙ ap first_world same in
-    subst (λ (y : WorldValue). IsUnderWay y 1 first before s) (sym is)
-    (omega arith, begun b first before block left taken answered e text k i l v)
+    → IsUnderWay p 1 first before (progress (skipped block e) left answered taken)
+is_under_way p b first before block left taken answered e text is k i l v = record {
+  board = b;
+  past = [];
+  present = is;
+  few = omega arith;
+  answered = begun b first before block left taken answered e text k i l v;
+}
 
 -- the bytes that wait have room in the block
 pub room_of : {x y : List ℕ} → x ≡ y → length x ≤ 65536 → length y ≤ 65536

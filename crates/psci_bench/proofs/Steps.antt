@@ -6,7 +6,7 @@ use Rattle.std.proofs.lemmas.List.{length-take-le}
 use Rattle.psci_board.specs.Board.{BoardValue}
 use Rattle.psci_world_model.specs.declared.said.Record.{Record}
 use Rattle.psci_world_model.specs.Legal.{legal, legal_record}
-use Rattle.psci_storm.specs.Seen.{WorldValue}
+use Rattle.psci_storm.specs.Seen.{PresentValue}
 use Rattle.psci_script.specs.declared.grammar.Line.{Line as LineSays}
 use Rattle.psci_script.specs.declared.grammar.Line.TheVariants.{Blank, Event as Says}
 use Rattle.psci_script.specs.declared.fault.Replayed.{Replayed}
@@ -114,46 +114,49 @@ line_not Memory b past n first before block left taken old new e m h i k x a =
     (same_answers b past n first before block left taken old new a k)
     (λ t. line_some e block i) m
 
-said_goes : (o : Option LineSays) (w v : WorldValue) (n : ℕ) (first before : Option (List ℕ))
-    (block : ReadAhead) (left taken : Option (List ℕ)) (old new : Answered) (e : Extent)
-    → line_of (take e.line block.unread) ≡ o → n < 1000000 → length w.past ≤ n → IsLine e block
-    → LinesAnswered w.board w.past n first before (progress block left old taken)
-    → LineLeaves o w v old new
-    → IsUnderWay v (n + 1) first before (progress (skipped block e) left new taken)
-said_goes None w v n first before block left taken old new e o h m i k x = absurd x
-said_goes (Some Blank) w v n first before block left taken old new e o h m i k x =
-    subst (λ (y : WorldValue). IsUnderWay y (n + 1) first before
-    (progress (skipped block e) left new taken)) (sym x.0) (
-      omega arith,
-      answered_line w.board w.past w.past n first before block left taken old new e [] i k
-          (λ ls. blank_transcript w.board w.past n (take e.line block.unread) ls (omega arith)
-          (line_short e block i) o)
-          (ap (λ (a : Answered). a.waiting) x.1 ∙ sym (append-nil old.waiting))
-          (ap (λ (a : Answered). a.events) x.1 ∙ k.events),
-    )
-said_goes (Some (Says event)) w v n first before block left taken old new e o h m i k x =
-    let later : List Record = legal_record w.board w.past event ∷ w.past in
-    let more : length w.past + 1 ≡ length later = omega arith in
-    subst (λ (y : WorldValue). IsUnderWay y (n + 1) first before
-    (progress (skipped block e) left new taken)) (sym x.0) (
-      omega (arith, more),
-      answered_line w.board w.past later n first before block left taken old new e
-          (answer_line (length w.past + 1) (legal w.board w.past event)) i k
-          (λ ls. event_transcript w.board w.past n (take e.line block.unread) ls event
+said_goes : (o : Option LineSays) (p : PresentValue) (b : BoardValue) (past : List Record) (n : ℕ)
+    (first before : Option (List ℕ)) (block : ReadAhead) (left taken : Option (List ℕ))
+    (old new : Answered) (e : Extent) → line_of (take e.line block.unread) ≡ o → n < 1000000
+    → length past ≤ n → IsLine e block
+    → LinesAnswered b past n first before (progress block left old taken)
+    → LineLeaves o b past p old new
+    → IsUnderWay p (n + 1) first before (progress (skipped block e) left new taken)
+said_goes None p b past n first before block left taken old new e o h m i k x = absurd x
+said_goes (Some Blank) p b past n first before block left taken old new e o h m i k x = record {
+  board = b;
+  past = past;
+  present = x.0;
+  few = omega arith;
+  answered = answered_line b past past n first before block left taken old new e [] i k
+      (λ ls. blank_transcript b past n (take e.line block.unread) ls (omega arith)
+      (line_short e block i) o)
+      (ap (λ (a : Answered). a.waiting) x.1 ∙ sym (append-nil old.waiting))
+      (ap (λ (a : Answered). a.events) x.1 ∙ k.events);
+}
+said_goes (Some (Says event)) p b past n first before block left taken old new e o h m i k x =
+    let later : List Record = legal_record b past event ∷ past in
+    let more : length past + 1 ≡ length later = omega arith in record {
+      board = b;
+      past = later;
+      present = x.0;
+      few = omega (arith, more);
+      answered = answered_line b past later n first before block left taken old new e
+          (answer_line (length past + 1) (legal b past event)) i k
+          (λ ls. event_transcript b past n (take e.line block.unread) ls event
           (omega arith) (line_short e block i) o)
           (ap (λ (a : Answered). a.waiting) x.1)
-          (ap (λ (a : Answered). a.events) x.1 ∙ more),
-    )
+          (ap (λ (a : Answered). a.events) x.1 ∙ more);
+    }
 
-pub line_goes : (w v : WorldValue) (n : ℕ) (first before : Option (List ℕ)) (block : ReadAhead)
-    (left taken : Option (List ℕ)) (old new : Answered) (e : Extent) → n < 1000000
-    → length w.past ≤ n
-    → IsLine e block → LinesAnswered w.board w.past n first before (progress block left old taken)
-    → LineLeaves (line_of (take e.line block.unread)) w v old new
-    → IsUnderWay v (n + 1) first before (progress (skipped block e) left new taken)
-line_goes w v n first before block left taken old new e h m i k x =
-    said_goes (line_of (take e.line block.unread)) w v n first before block left taken old new e
-    refl h m i k x
+pub line_goes : (p : PresentValue) (b : BoardValue) (past : List Record) (n : ℕ)
+    (first before : Option (List ℕ)) (block : ReadAhead) (left taken : Option (List ℕ))
+    (old new : Answered) (e : Extent) → n < 1000000 → length past ≤ n → IsLine e block
+    → LinesAnswered b past n first before (progress block left old taken)
+    → LineLeaves (line_of (take e.line block.unread)) b past p old new
+    → IsUnderWay p (n + 1) first before (progress (skipped block e) left new taken)
+line_goes p b past n first before block left taken old new e h m i k x =
+    said_goes (line_of (take e.line block.unread)) p b past n first before block left taken old new
+    e refl h m i k x
 
 -- A call for the next line that found none
 later_faulty : (l : ℕ) (b : BoardValue) (past : List Record) (n : ℕ)

@@ -10,6 +10,7 @@ use Rattle.psci_board.specs.Board.{BoardValue}
 use Rattle.psci_world_model.specs.declared.event.Event.{Event}
 use Rattle.psci_world_model.specs.declared.said.Record.{Record}
 use Rattle.psci_world_model.specs.Legal.{legal, legal_record}
+use Rattle.psci_storm.specs.Seen.{PresentValue}
 use Rattle.psci_script.specs.declared.grammar.Line.{Line as LineSays}
 use Rattle.psci_script.specs.declared.grammar.Line.TheVariants.{Blank, Event as Says}
 use Rattle.psci_script.specs.declared.fault.ScriptFault.{ScriptFault}
@@ -24,7 +25,7 @@ use Rattle.psci_bench.specs.Progress.{Progress, progress, Ahead, IsLine}
 use Rattle.psci_script.specs.Script.{Transcript, after_line, transcript, transcript_of_rest}
 use Rattle.psci_script.specs.Script.{transcript_of_line, line_said, ok_or, ends}
 use Rattle.psci_script.specs.Text.{answer_line}
-use Rattle.psci_bench.specs.Run.{Follows, LinesAnswered}
+use Rattle.psci_bench.specs.Run.{Follows, IsUnderWay, LinesAnswered}
 use Rattle.psci_bench.proofs.Known.{appends_more, consumes_more}
 use Rattle.psci_bench.proofs.Split.{lines_whole, lines_last, lines_none}
 
@@ -132,6 +133,16 @@ answered_ahead b past n first before s t a k = record {
       ∙ sym (append_assoc k.written a.written t.answered.waiting));
   events = a.events ∙ k.events;
   lines = λ f. k.lines (λ e. still_some s t a e (f (a.ended e).0));
+}
+
+pub under_way_ahead : (p : PresentValue) (n : ℕ) (first before : Option (List ℕ))
+    (s t : Progress) → Ahead s t → IsUnderWay p n first before s → IsUnderWay p n first before t
+under_way_ahead p n first before s t a k = record {
+  board = k.board;
+  past = k.past;
+  present = k.present;
+  few = k.few;
+  answered = answered_ahead k.board k.past n first before s t a k.answered;
 }
 
 -- Taking a line -------------------------------------------------------------------------------

@@ -6,7 +6,7 @@ use Rattle.psci_board.specs.Board.{BoardValue}
 use Rattle.psci_board.specs.Verdict.{board_of}
 use Rattle.psci_world_model.specs.declared.said.Record.{Record}
 use Rattle.psci_world_model.specs.Legal.{legal, legal_record}
-use Rattle.psci_storm.specs.Seen.{WorldValue}
+use Rattle.psci_storm.specs.Seen.{IsPresent, PresentValue}
 use Rattle.psci_script.specs.declared.fault.Replayed.{Replayed}
 use Rattle.psci_script.specs.declared.fault.ReplayFault.{ReplayFault}
 use Rattle.psci_script.specs.declared.fault.ReplayFault.TheVariants.{Script, Board, Read, Write}
@@ -113,10 +113,15 @@ abbrev pub Runs : Result Replayed ReplayFault → Option (List ℕ) → Option (
 Runs (Ok replayed) first before s = Ended (Ok replayed) first before s
 Runs (Err fault) first before s = EndsBy fault first before s
 
--- a run goes on, in a world that so many lines have left
-abbrev pub IsUnderWay : WorldValue → ℕ → Option (List ℕ) → Option (List ℕ) → Progress → Type 0
-IsUnderWay w count first before s =
-    (length w.past ≤ count) × LinesAnswered w.board w.past count first before s
+-- A run goes on, from the present that so many lines have left: it is the present after some records,
+-- at most one for each line.
+pub record IsUnderWay (p : PresentValue) (count : ℕ) (first before : Option (List ℕ))
+    (s : Progress) : Type 0 where
+  pub board : BoardValue
+  pub past : List Record
+  pub present : IsPresent board past p
+  pub few : length past ≤ count
+  pub answered : LinesAnswered board past count first before s
 
 -- a write failed
 abbrev pub is_write_fault : Result Replayed ReplayFault → Bool
@@ -177,15 +182,17 @@ BoardRead (Err Memory) line = Unit {0}
 BoardRead (Err Read) line = ⊥
 BoardRead (Err Write) line = ⊥
 
--- what a line leaves that is answered, by what it says: the world and the answers before and after
-abbrev pub LineLeaves : Option LineSays → WorldValue → WorldValue → Answered → Answered → Type 0
-LineLeaves None w v old new = ⊥
-LineLeaves (Some Blank) w v old new = (v ≡ w) × (new ≡ old)
-LineLeaves (Some (Says event)) w v old new =
-    (v ≡ record { board = w.board; past = legal_record w.board w.past event ∷ w.past })
+-- what a line leaves that is answered after these records, by what it says: the present, and the
+-- answers before and after
+abbrev pub LineLeaves : Option LineSays → BoardValue → List Record → PresentValue → Answered
+    → Answered → Type 0
+LineLeaves None b past p old new = ⊥
+LineLeaves (Some Blank) b past p old new = IsPresent b past p × (new ≡ old)
+LineLeaves (Some (Says event)) b past p old new =
+    IsPresent b (legal_record b past event ∷ past) p
     × (new ≡ record {
-      waiting = old.waiting ++ answer_line (length w.past + 1) (legal w.board w.past event);
-      events = length w.past + 1;
+      waiting = old.waiting ++ answer_line (length past + 1) (legal b past event);
+      events = length past + 1;
     })
 
 -- why a line is not answered: it is outside the grammar, or memory ran out

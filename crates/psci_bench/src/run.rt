@@ -2,6 +2,9 @@
 
 ghost use Rattle.std.specs.Prelude.{◌≡◌, ◌+◌, ◌-◌, ◌^◌, ◌<◌, ◌≤◌, ℕ, List, length, false, Option};
 ghost use Rattle.std.specs.Prelude.{IfOk, IfErr, OnOk};
+ghost use Rattle.psci_board.specs.Board.{BoardValue};
+ghost use Rattle.psci_world_model.specs.declared.said.Record.{Record};
+ghost use Rattle.psci_storm.specs.Seen.{IsPresent};
 ghost use Rattle.psci_script.specs.declared.fault.ReplayFault.TheVariants.{Read, Write};
 ghost use Rattle.psci_bench.specs.Device.{GaveUp};
 ghost use Rattle.psci_script.specs.Limits.{longest_line, most_lines};
@@ -19,7 +22,7 @@ use crate::laws::law_safe_scripts;
 use crate::progress::Progress;
 use psci_board::{Board, BoardFault};
 use psci_script::{Extent, Line, ReplayFault, Replayed, ScriptFault, read_line};
-use psci_storm::World;
+use psci_storm::Present;
 use psci_text::literal;
 use std::alloc::Global;
 
@@ -40,14 +43,15 @@ fn read_board(alloc: Global, line: &[u8]) -> Result<Board, ReplayFault>
 
 /// Makes the event happen that a line says, if it says one, and adds the answer.
 fn answer(
-    world: &mut World,
+    present: &mut Present,
     answers: &mut Answers,
     line: Option<Line>,
     number: u64,
 ) -> Result<(), ReplayFault>
     requires { answers.old.events < 2 ^ 64 - 1 }
-    ensures ok { OnOk result (answers.old.events ≡ length world.old.past
-        → LineLeaves line world.old world.new answers.old answers.new) }
+    ensures ok { OnOk result ((b : BoardValue) (past : List Record) → IsPresent b past present.old
+        → answers.old.events ≡ length past
+        → LineLeaves line b past present.new answers.old answers.new) }
     ensures err { IfErr result (λ fault. LineRefused fault number line
         × (answers.new ≡ answers.old)) }
 {
@@ -55,22 +59,21 @@ fn answer(
         None => Err(ScriptFault::Line.at(number)),
         Some(Line::Blank) => Ok(()),
         Some(Line::Event(event)) => {
-            let newest = world.records().len();
-            world.happen(event)?;
-            answers.add(&world.records()[newest].said)?;
+            let said = present.happen(event)?;
+            answers.add(&said)?;
             Ok(())
         }
     }
 }
 
 impl<S: Source, K: Sink> Progress<'_, '_, S, K> {
-    /// The world of the board that the first line has.
-    fn begin(&mut self, alloc: Global) -> Result<World, ReplayFault>
+    /// The present of the board that the first line has, before any event.
+    fn begin(&mut self, alloc: Global) -> Result<Present, ReplayFault>
         requires { progress_of S.left K.taken self.old
             ≡ first_progress (S.left self.old.source.now) (K.taken self.old.sink.now) }
         ensures devices { SameDevices self.old self.new }
         ensures sound { OnOk result (StaySound S.failed K.failed self.old self.new) }
-        ensures ok { IfOk result (λ world. IsUnderWay world 1
+        ensures ok { IfOk result (λ present. IsUnderWay present 1
             (S.left self.old.source.now) (K.taken self.old.sink.now)
             (progress_of S.left K.taken self.new)) }
         ensures err { IfErr result (λ fault. EndsBy fault
@@ -85,15 +88,15 @@ impl<S: Source, K: Sink> Progress<'_, '_, S, K> {
             return Err(ScriptFault::NoBoard.at(1));
         };
         let board = read_board(alloc, &self.block.unread()[..extent.line])?;
-        let world = World::new(alloc, &board)?;
+        let present = Present::new(alloc, &board)?;
         self.block.skip(extent.taken);
-        Ok(world)
+        Ok(present)
     }
 
     /// Takes and answers a line, after so many others.
     fn take_line(
         &mut self,
-        world: &mut World,
+        present: &mut Present,
         extent: Extent,
         count: u64,
     ) -> Result<(), ReplayFault>
@@ -103,16 +106,16 @@ impl<S: Source, K: Sink> Progress<'_, '_, S, K> {
         ensures devices { SameDevices self.old self.new }
         ensures sound { StaySound S.failed K.failed self.old self.new }
         ensures ok { OnOk result ((first before : Option (List ℕ))
-            → IsUnderWay world.old count first before (progress_of S.left K.taken self.old)
-            → IsUnderWay world.new (count + 1) first before
+            → IsUnderWay present.old count first before (progress_of S.left K.taken self.old)
+            → IsUnderWay present.new (count + 1) first before
             (progress_of S.left K.taken self.new)) }
         ensures err { IfErr result (λ fault. (first before : Option (List ℕ))
-            → IsUnderWay world.old count first before (progress_of S.left K.taken self.old)
+            → IsUnderWay present.old count first before (progress_of S.left K.taken self.old)
             → EndsBy fault first before (progress_of S.left K.taken self.new)) }
         ensures fault { IfErr result (λ fault. IsNoDevice fault) }
     {
         let line = read_line(&self.block.unread()[..extent.line]);
-        answer(world, self.answers, line, count + 1)?;
+        answer(present, self.answers, line, count + 1)?;
         self.block.skip(extent.taken);
         Ok(())
     }
@@ -131,10 +134,10 @@ impl<S: Source, K: Sink> Progress<'_, '_, S, K> {
         ensures write { IfErr result (λ fault. fault ≡ Write
             → GaveUp (K.failed self.new.sink.now) (K.interruptions self.new.sink.now)) }
     {
-        let mut world = self.begin(alloc)?;
+        let mut present = self.begin(alloc)?;
         let mut lines: u64 = 1;
         'lines: while let Some(extent) = self.next_line(lines + 1)? {
-            self.take_line(&mut world, extent, lines)?;
+            self.take_line(&mut present, extent, lines)?;
             lines += 1;
         }
         Ok(Replayed {
@@ -188,7 +191,7 @@ fn replay_lines<S: Source, K: Sink>(
 }
 
 /// Answers the script that comes from the source into the sink: its events happen one after another
-/// in the world of its board.
+/// in the world of its board, of which no record is kept.
 ///
 /// Where it ends well, or at a script or board fault, exactly the answer text of the script was
 /// written. At a read fault it is the answer text of all whole lines that were read, after which

@@ -17,7 +17,7 @@ mod requests;
 
 pub use blowing::{blow, storm, storm_world};
 pub use outcome::{Storm, StormedWorld};
-pub use psci_world::{Settled, World, law_safe};
+pub use psci_world::{Present, Settled, law_safe};
 
 #[cfg(test)]
 mod storm_tests;

@@ -6,4 +6,4 @@ pub mod Resting
 mod Settles
 mod Waiting
 mod WayRows
-mod Worlds
+mod Presents

@@ -1,5 +1,5 @@
 -- Pasts that are on the way to others, and one that is not.
-use Rattle.std.proofs.Common.{◌≡◌, ◌≤◌, ◌+◌, List, [], ◌∷◌, length, length-append, refl, ap, ◌∙◌}
+use Rattle.std.proofs.Common.{◌≡◌, ◌+◌, [], ◌∷◌, length, length-append, refl, ap, ◌∙◌}
 use Rattle.std.proofs.Common.{arith}
 use Rattle.psci_world.specs.Settles.{IsOnTheWay}
 use Rattle.psci_world_model.specs.declared.said.Record.{Record}

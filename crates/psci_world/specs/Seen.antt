@@ -1,4 +1,4 @@
--- What the world is seen as, and what holds of it.
+-- What the world and its present are seen as, and what holds of them.
 use Rattle.std.specs.Prelude.{◌≡◌, List, reverse}
 use Rattle.psci_board.specs.Board.{BoardValue}
 use Rattle.psci_link.specs.Message.{AckValue, MessageValue}
@@ -7,16 +7,31 @@ use Rattle.psci_world_model.specs.declared.said.Record.{Record}
 use Rattle.psci_world_model.specs.Histories.{acks, sent}
 use Rattle.psci_world_model.specs.Legal.{IsLegalPast}
 
+-- The present, as contracts see it: the machine, and all messages and acknowledgements so far,
+-- oldest first.
+pub record PresentValue : Type 0 where
+  pub machine : MachineValue
+  pub messages : List MessageValue
+  pub acks : List AckValue
+
+-- The present of a board after these records, newest first: they are a legal past, the machine is
+-- as after them, and there are all messages and acknowledgements of theirs.
+pub record IsPresent (b : BoardValue) (past : List Record) (p : PresentValue) : Type 0 where
+  pub legal : IsLegalPast b past
+  pub machine : IsAfter b past p.machine
+  pub messages : p.messages ≡ reverse (sent past)
+  pub acks : p.acks ≡ reverse (acks past)
+
+-- What holds of every present: it has a past, on the board of its machine.
+pub record HasPast (p : PresentValue) : Type 0 where
+  pub past : List Record
+  pub is : IsPresent (board_of p.machine) past p
+
 -- The world, as contracts see it: its board, and all records, newest first.
 pub record WorldValue : Type 0 where
   pub board : BoardValue
   pub past : List Record
 
--- what holds of every world: its records are a legal past, its machine is as after them, and it
--- has all messages and acknowledgements of the past, oldest first
-pub record IsWorld (m : MachineValue) (records : List Record) (sends : List MessageValue)
-    (made : List AckValue) : Type 0 where
-  pub legal : IsLegalPast (board_of m) (reverse records)
-  pub machine : IsAfter (board_of m) (reverse records) m
-  pub messages : sends ≡ reverse (sent (reverse records))
-  pub acks : made ≡ reverse (acks (reverse records))
+-- what holds of every world: its present is that after its records, which stand oldest first
+abbrev pub IsWorld : PresentValue → List Record → Type 0
+IsWorld p records = IsPresent (board_of p.machine) (reverse records) p

@@ -3,15 +3,19 @@
 //!
 //! - The *machine* of `psci_machine` is all that an event changes beside the lists: the firmware,
 //!   the power controller, and where each core is.
-//! - The *world* is the machine with all records, messages and acknowledgements so far.
+//! - The *present* is the machine with all messages and acknowledgements so far: what the answer to
+//!   the next event needs.
+//! - The *world* is the present with its past, all records so far.
 #![tactic(auto)]
 
 mod kept;
 mod outstanding;
+mod present;
 mod runs;
 mod settling;
 mod world;
 
+pub use present::Present;
 pub use psci_abi::{Code, Regs};
 pub use psci_board::{Board, Core, Memory, Node};
 pub use psci_coord::{Part, Parts};

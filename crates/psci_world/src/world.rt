@@ -1,13 +1,11 @@
 //! The world of one board.
 
-use crate::kept::{keep_ack, keep_message};
+use crate::present::Present;
 use psci_board::{Board, Core, Memory};
-use psci_fw_laws::law_messages;
 use psci_headline::law_safe;
 use psci_link::{Ack, Message};
-use psci_machine::{Controller, Firmware, Machine};
-use psci_world_laws::law_sent;
-use psci_world_model::{Event, Place, Record, law_histories};
+use psci_machine::{Controller, Firmware};
+use psci_world_model::{Event, Place, Record};
 use std::alloc::Global;
 use std::marker::Model;
 
@@ -15,11 +13,9 @@ use std::marker::Model;
 /// first.
 #[derive(Drop)]
 pub struct World {
-    machine: Machine,
-    /// The oldest first, as are messages and acknowledgements.
+    present: Present,
+    /// The oldest first.
     records: Vec<Record>,
-    messages: Vec<Message>,
-    acks: Vec<Ack>,
 }
 
 impl Model for World {
@@ -29,11 +25,11 @@ impl Model for World {
     ghost Value = { WorldValue };
 
     ghost view = { λ w. record {
-      board = w.machine.firmware.board;
+      board = w.present.machine.firmware.board;
       past = reverse w.records.items;
     } };
 
-    ghost invariant = { λ w. IsWorld w.machine w.records.items w.messages.items w.acks.items };
+    ghost invariant = { λ w. IsWorld w.present w.records.items };
 }
 
 ghost use Rattle.std.specs.Prelude.{◌≡◌, ◌<◌, [], ◌∷◌, IfOk, OnOk, OnErr, option_map, reverse};
@@ -54,10 +50,8 @@ impl World {
         ensures past { IfOk result (λ w. w.past ≡ []) }
     {
         Ok(World {
-            machine: Machine::new(alloc, board)?,
+            present: Present::new(alloc, board)?,
             records: Vec::new(alloc),
-            messages: Vec::new(alloc),
-            acks: Vec::new(alloc),
         })
     }
 
@@ -77,9 +71,6 @@ impl World {
 
     /// Makes the event happen, as `step` does. The record of it, of which `step` answers a copy, is
     /// the last of `records`.
-    // In place, since a call would write the event to memory and read it again, on each line of a
-    // script.
-    #[inline(always)]
     pub fn happen(&mut self, event: Event) -> Result<(), Memory>
         ensures ok { OnOk result (self.new.past
             ≡ legal_record self.old.board self.old.past event ∷ self.old.past) }
@@ -88,20 +79,11 @@ impl World {
         ensures legal { IsLegalPast self.new.board self.new.past }
         ensures safe { AlwaysSafe self.new.board self.new.past }
     {
-        self.machine.law();
+        self.law();
         law_safe();
-        law_histories();
-        law_messages();
-        law_sent();
         self.records.reserve(1)?;
-        self.messages.reserve(1)?;
-        self.acks.reserve(1)?;
-        let newest = self.records.len();
-        let said = self.machine.step(event, &self.messages, &self.acks);
+        let said = self.present.happen(event)?;
         self.records.push_reserved(Record { event, said });
-        let said = &self.records[newest].said;
-        keep_message(&mut self.messages, said)?;
-        keep_ack(&mut self.acks, said)?;
         Ok(())
     }
 
@@ -112,7 +94,7 @@ impl World {
         ensures legal { IsLegalPast self.now.board self.now.past }
         ensures safe { AlwaysSafe self.now.board self.now.past }
     {
-        self.machine.law();
+        self.present.machine.law();
         law_safe();
     }
 
@@ -127,21 +109,21 @@ impl World {
     pub fn messages(&self) -> &[Message]
         ensures { result.now ≡ reverse (sent self.now.past) }
     {
-        &self.messages
+        &self.present.messages
     }
 
     /// All acknowledgements made so far, the oldest first.
     pub fn acks(&self) -> &[Ack]
         ensures { result.now ≡ reverse (acks self.now.past) }
     {
-        &self.acks
+        &self.present.acks
     }
 
     /// The board.
     pub fn board(&self) -> &Board
         ensures { result.now ≡ self.now.board }
     {
-        self.machine.controller().board()
+        self.present.machine.controller().board()
     }
 
     /// The message of this number, counted from 0 as they were sent.
@@ -149,14 +131,14 @@ impl World {
         ensures { option_map (λ message. message.now) result
             ≡ numbered (sent self.now.past) number }
     {
-        self.messages.get(usize::try_from(number).ok()?)
+        self.present.messages.get(usize::try_from(number).ok()?)
     }
 
     /// The acknowledgement of this number, counted from 0 as they were made.
     pub fn ack(&self, number: u64) -> Option<Ack>
         ensures { result ≡ numbered (acks self.now.past) number }
     {
-        let ack = self.acks.get(usize::try_from(number).ok()?)?;
+        let ack = self.present.acks.get(usize::try_from(number).ok()?)?;
         Some(ack.copy())
     }
 
@@ -165,7 +147,7 @@ impl World {
         requires { core.number < cores self.now.board }
         ensures { result ≡ place self.now.board self.now.past core.number }
     {
-        self.machine.place(core)
+        self.present.machine.place(core)
     }
 
     /// The power controller.
@@ -174,7 +156,7 @@ impl World {
         ensures values { controller.seen result.now
             ≡ controller_values self.now.board self.now.past }
     {
-        self.machine.controller()
+        self.present.machine.controller()
     }
 
     /// The firmware.
@@ -182,7 +164,7 @@ impl World {
         ensures board { result.now.board ≡ self.now.board }
         ensures values { firmware.seen result.now ≡ firmware_values self.now.board self.now.past }
     {
-        self.machine.firmware()
+        self.present.machine.firmware()
     }
 
     /// All records, the oldest first; the rest of the world is given up.

@@ -43,15 +43,15 @@ returns-in_err-board-clause-err g c =
     (subst (λ (u : List ℕ). BoardRead (Err e) (take x.line u)) c.unread.ensures.bytes
     (c.in_err-board.ensures {u = tt})))
 
-pub returns-in_err-world-clause-err : goal.returns-in_err-world-clause-err
-returns-in_err-world-clause-err g c =
+pub returns-in_err-present-clause-err : goal.returns-in_err-present-clause-err
+returns-in_err-present-clause-err g c =
     let t = progress_of g.S.Source.left g.K.Sink.taken c.next_line.new.self in
     let x = c.in-Some.extent in
     let f = finds_as c.in_ok-extent.field-0 (Some x) 1 _ t c.in-Some.is
     (subst (λ (s : Progress). FindsLine 1 (Ok c.in_ok-extent.field-0) s t) c.requires
     (c.in_ok-extent.ensures {u = tt}).found) in
-    ends_so c.from_residual-in_err-world.result Memory _ _ t
-    c.from_residual-in_err-world.ensures
+    ends_so c.from_residual-in_err-present.result Memory _ _ t
+    c.from_residual-in_err-present.ensures
     (fresh_stopped IsWithinBlock _ _ t (fresh_ahead _ _ t f.0)
     (room_of c.unread.ensures.bytes c.unread.ensures.room))
 
@@ -60,7 +60,7 @@ returns-clause-ok g c =
     let t = progress_of g.S.Source.left g.K.Sink.taken c.next_line.new.self in
     let x = c.in-Some.extent in
     let b = c.in_ok-board.board in
-    let w = c.in_ok-world.ensures {u = tt} in
+    let is = c.in_ok-present.ensures {u = tt} in
     let first = g.S.Source.left c.args.self.now.source.now in
     let before = g.K.Sink.taken c.args.self.now.sink.now in
     let f = finds_as c.in_ok-extent.field-0 (Some x) 1 _ t c.in-Some.is
@@ -68,7 +68,7 @@ returns-clause-ok g c =
     (c.in_ok-extent.ensures {u = tt}).found) in
     let r = subst (λ (u : List ℕ). BoardRead (Ok b) (take x.line u)) c.unread.ensures.bytes
     (c.in_ok-board.ensures {u = tt}) in
-    subst (λ (y : ReadAhead). IsUnderWay c.in_ok-world.world 1 first before
+    subst (λ (y : ReadAhead). IsUnderWay c.in_ok-present.present 1 first before
     (progress y t.left t.answered t.taken)) (sym c.skip.ensures)
-    (is_under_way c.in_ok-world.world b first before t.block t.left t.taken t.answered x r.0 w.board
-    w.past (fresh_ahead _ _ t f.0) f.1 r.1 r.2)
+    (is_under_way c.in_ok-present.present b first before t.block t.left t.taken t.answered x r.0 is
+    (fresh_ahead _ _ t f.0) f.1 r.1 r.2)

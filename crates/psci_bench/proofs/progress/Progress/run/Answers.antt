@@ -3,7 +3,7 @@ use Rattle.psci_bench.specs.Run.{Ended}
 use Rattle.psci_bench.specs.Progress.{progress_of}
 use Rattle.psci_bench.proofs.Ahead.{same_more, sound_more}
 use Rattle.psci_bench.proofs.Steps.{goes_not, runs_so, finds_as}
-use Rattle.psci_bench.proofs.Transcripts.{answered_ahead}
+use Rattle.psci_bench.proofs.Transcripts.{answered_ahead, under_way_ahead}
 use Rattle.psci_bench.proofs.Ends.{ends_well}
 use Rattle.psci_bench.proofs.progress.Progress.run.Goals as goal
 
@@ -13,7 +13,7 @@ returns-in_err-extent-clause-runs g c =
     let e = c.in_err-extent.field-0.0 in
     runs_so c.from_residual-in_err-extent.result e _ _ _
     c.from_residual-in_err-extent.ensures
-    (goes_not e c.lines.world.board c.lines.world.past c.lines.lines _ _ _ _ i.1
+    (goes_not e i.board i.past c.lines.lines _ _ _ _ i.answered
     (c.in_err-extent.ensures {u = tt}).found)
 
 pub returns-in_err-take_line-clause-runs : goal.returns-in_err-take_line-clause-runs
@@ -25,7 +25,7 @@ returns-in_err-take_line-clause-runs g c =
     runs_so c.from_residual-in_err-take_line.result e _ _ _
     c.from_residual-in_err-take_line.ensures
     ((c.in_err-take_line.ensures {u = tt}).err _ _
-    (i.0, answered_ahead c.lines.world.board c.lines.world.past c.lines.lines _ _ _ _ f.0 i.1))
+    (under_way_ahead _ _ _ _ _ _ f.0 i))
 
 pub lines-preserved : goal.lines-preserved
 lines-preserved g c =
@@ -38,10 +38,7 @@ lines-preserved g c =
           c.take_line.ensures.devices);
       sound = sound_more _ _ c.lines.invariant.sound (sound_more _ _
           (c.in_ok-extent.ensures {u = tt}).sound c.take_line.ensures.sound);
-      goes = (c.in_ok-take_line.ensures {u = tt}).ok _ _ (
-        i.0,
-        answered_ahead c.lines.world.board c.lines.world.past c.lines.lines _ _ _ _ f.0 i.1,
-      );
+      goes = (c.in_ok-take_line.ensures {u = tt}).ok _ _ (under_way_ahead _ _ _ _ _ _ f.0 i);
     }
 
 pub returns-clause-runs : goal.returns-clause-runs
@@ -53,5 +50,5 @@ returns-clause-runs g c =
     subst (λ (m : ℕ). Ended (Ok (record { lines = c.lines.lines; events = m }))
     (g.S.Source.left c.args.self.now.source.now) (g.K.Sink.taken c.args.self.now.sink.now) t)
     (sym c.events.ensures)
-    (ends_well c.lines.world.board c.lines.world.past c.lines.lines _ _ t
-    (answered_ahead c.lines.world.board c.lines.world.past c.lines.lines _ _ _ t f.0 i.1) f.1 f.2)
+    (ends_well i.board i.past c.lines.lines _ _ t
+    (answered_ahead i.board i.past c.lines.lines _ _ _ t f.0 i.answered) f.1 f.2)

@@ -8,7 +8,7 @@ invariant-lines g l = record {
   few : l.lines ≤ 1000000;
   devices : SameDevices l.fn.self l.self;
   sound : StaySound g.S.Source.failed g.K.Sink.failed l.fn.self l.self;
-  goes : IsUnderWay l.world l.lines (g.S.Source.left l.fn.self.source.now)
+  goes : IsUnderWay l.present l.lines (g.S.Source.left l.fn.self.source.now)
       (g.K.Sink.taken l.fn.self.sink.now) (progress_of g.S.Source.left g.K.Sink.taken l.self);
 }
 
