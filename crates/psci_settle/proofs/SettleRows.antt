@@ -33,6 +33,21 @@ two_rounds : SettlesBy both_sleep
 unfolding computing
 two_rounds = record { events = refl; times = refl }
 
+-- all four cores are suspended with all their domains, and the first one is the last to go: its
+-- cluster waits for core 1, and the system for the other cluster, which waits for core 3. So it
+-- takes three rounds, one for each level
+abbrev all_sleep : List Event
+all_sleep = Enter 0 ∷ call 0 0xc4000003 0x1 0x40001000 1 ∷ call 0 0xc4000003 0x100 0x40001000 2
+    ∷ on_3 ∷ Deliver 0 ∷ Deliver 1 ∷ Deliver 2 ∷ Enter 1 ∷ Enter 2 ∷ Enter 3
+    ∷ call 1 0xc4000001 0x02010333 0x40004000 1 ∷ call 3 0xc4000001 0x02010333 0x40004000 3
+    ∷ call 2 0xc4000001 0x02010333 0x40004000 2 ∷ call 0 0xc4000001 0x02010333 0x40000100 0 ∷ []
+
+three_rounds : SettlesBy all_sleep
+    (Deliver 6 ∷ Take 3 ∷ Deliver 3 ∷ Take 4 ∷ Deliver 5 ∷ Take 5 ∷ Deliver 4 ∷ Take 6
+    ∷ Deliver 6 ∷ Take 7 ∷ Deliver 5 ∷ Take 8 ∷ Deliver 6 ∷ Take 9 ∷ []) 3
+unfolding computing
+three_rounds = record { events = refl; times = refl }
+
 -- the boot core enters, and nothing waits
 new_world : SettlesBy [] (Enter 0 ∷ []) 0
 unfolding computing
