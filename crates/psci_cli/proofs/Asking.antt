@@ -1,22 +1,13 @@
 -- What a command line asks for, by the command that the parser met.
 use Rattle.std.proofs.Common.{◌≡◌, List, Option, None, Some, refl, true, option_map}
 use Rattle.std.specs.Prelude.{codes}
-use Rattle.clap.proofs.OnLiterals.{clap_on_literals}
 use Rattle.clap.specs.Words.{Row, Text, is_simple, is_simple_and_free, subcommand_name_of}
 use Rattle.clap.specs.Words.{subcommand_rows_of}
 use Rattle.clap.specs.declared.parser.matches.ArgMatches.{ArgMatches}
-use Rattle.psci_cli.specs.Commands.{IsAsked, IsStormOf, program}
+use Rattle.psci_cli.specs.Commands.{IsAsked, IsStormOf}
+use Rattle.psci_cli.specs.Program.{program}
 use Rattle.psci_cli.specs.declared.command_line.Request.TheVariants.{Storm}
 use Rattle.psci_cli.specs.declared.command_line.StormRequest.{StormRequest}
-
--- the parser's words say which command lines the program takes
-pub program_simple : is_simple program ≡ true
-unfolding clap_on_literals
-program_simple = refl
-
-pub program_free : is_simple_and_free program ≡ true
-unfolding clap_on_literals
-program_free = refl
 
 -- one look at what was looked at
 fused : {A B C : Type 0} (f : B → C) (g : A → B) (o : Option A)

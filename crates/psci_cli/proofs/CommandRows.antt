@@ -1,16 +1,22 @@
 -- What known command lines are answered.
-use Rattle.std.proofs.Common.{◌≡◌, [], ◌∷◌, refl}
+use Rattle.std.proofs.Common.{◌≡◌, [], ◌∷◌, Some, option_map, refl}
 use Rattle.std.specs.Prelude.{codes}
 use Rattle.clap.specs.Faults.{fault_of, flags_fault, walk_fault, defaults_fault}
 use Rattle.clap.specs.Walk.{walked}
+use Rattle.clap.specs.Words.{subcommand_of}
 use Rattle.clap.specs.declared.error.kind.ErrorKind.TheVariants.{DisplayHelp, DisplayVersion}
 use Rattle.clap.specs.declared.error.kind.ErrorKind.TheVariants.{InvalidSubcommand}
 use Rattle.clap.specs.declared.error.kind.ErrorKind.TheVariants.{MissingSubcommand, UnknownArgument}
-use Rattle.psci_cli.specs.Commands.{program}
+use Rattle.psci_cli.specs.Program.{program}
 
 pub replay_asked : fault_of program (codes "psci_cli" ∷ codes "replay" ∷ []) ≡ []
 unfolding flags_fault walk_fault walked defaults_fault
 replay_asked = refl
+
+pub replay_met : option_map (λ p. p.0)
+    (subcommand_of program (codes "psci_cli" ∷ codes "replay" ∷ [])) ≡ Some (codes "replay")
+unfolding flags_fault walk_fault walked defaults_fault
+replay_met = refl
 
 -- no command, and one that there is not
 pub nothing_asked : fault_of program (codes "psci_cli" ∷ []) ≡ MissingSubcommand ∷ []

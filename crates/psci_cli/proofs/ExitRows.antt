@@ -1,5 +1,5 @@
 -- The exit status and the text of each row of the exit table.
-use Rattle.std.proofs.Common.{◌≡◌, refl, inl, inr}
+use Rattle.std.proofs.Common.{◌≡◌, refl}
 use Rattle.std.specs.Prelude.{codes}
 use Rattle.std.specs.Fmt.{digits}
 use Rattle.psci_board.specs.declared.fault.BoardFault.TheVariants as boards
@@ -8,7 +8,7 @@ use Rattle.psci_script.specs.declared.fault.ReplayFault.TheVariants.{Memory}
 use Rattle.psci_script.specs.declared.fault.ScriptFault.TheVariants as scripts
 use Rattle.psci_cli.specs.declared.exit.Failure.TheVariants.{CommandLine, Replay}
 use Rattle.psci_cli.specs.declared.exit.Failure.TheVariants.{Board as GivenBoard}
-use Rattle.psci_cli.specs.Exit.{IsOfReplay, IsOfStorm, given_board_report, report, status_of}
+use Rattle.psci_cli.specs.Exit.{IsOfReplay, given_board_report, report, status_of}
 
 -- the command line: 2, and the parser has said why
 pub command_line_status : status_of CommandLine ≡ 2
@@ -196,31 +196,3 @@ replay_by_command_line h = h
 
 pub replay_by_given_board : IsOfReplay (GivenBoard boards.Grammar) → ⊥
 replay_by_given_board h = h
-
--- a storm ends early by its board, by memory or by the write of its line, and by nothing else
-pub storm_ends_by_board : IsOfStorm (GivenBoard boards.Grammar)
-storm_ends_by_board = tt
-
-pub storm_ends_by_memory_for_board : IsOfStorm (GivenBoard boards.Memory)
-storm_ends_by_memory_for_board = tt
-
-pub storm_ends_by_write : IsOfStorm (Replay Write)
-storm_ends_by_write = inl refl
-
-pub storm_ends_by_memory : IsOfStorm (Replay Memory)
-storm_ends_by_memory = inr refl
-
-pub storm_by_command_line : IsOfStorm CommandLine → ⊥
-storm_by_command_line h = h
-
-pub storm_by_read : IsOfStorm (Replay Read) → ⊥
-storm_by_read (inl write) = cc
-storm_by_read (inr memory) = cc
-
-pub storm_by_script : IsOfStorm (Replay (Script 1 scripts.NoBoard)) → ⊥
-storm_by_script (inl write) = cc
-storm_by_script (inr memory) = cc
-
-pub storm_by_script_board : IsOfStorm (Replay (Board boards.Grammar)) → ⊥
-storm_by_script_board (inl write) = cc
-storm_by_script_board (inr memory) = cc

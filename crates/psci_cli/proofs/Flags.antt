@@ -3,7 +3,7 @@ use Rattle.std.proofs.Common.{◌≡◌, ℕ, List, Option, None, Some, Bool, tr
 use Rattle.std.specs.Prelude.{codes, unwrap_or, Ok, Err, Result}
 use Rattle.std.specs.Str.Parse.{ParsesBool}
 use Rattle.clap.specs.Matches.{ReadsOne}
-use Rattle.psci_cli.specs.Commands.{IsFlagIn}
+use Rattle.psci_cli.specs.Values.{IsFlagIn}
 
 -- of what gives a truth value, and false where there is none
 pub flag_is : {E : Type 0} (G : List ℕ → Result Bool E → Type 0)

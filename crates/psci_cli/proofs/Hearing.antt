@@ -9,7 +9,7 @@ use Rattle.psci_cli.specs.declared.command_line.Request.{Request}
 use Rattle.psci_cli.specs.declared.command_line.Request.TheVariants.{Nothing}
 use Rattle.psci_cli.specs.declared.exit.Failure.{Failure}
 use Rattle.psci_cli.specs.declared.exit.Failure.TheVariants.{CommandLine, Replay}
-use Rattle.psci_cli.specs.Commands.{AsksHelp, program}
+use Rattle.psci_cli.specs.Program.{AsksHelp, program}
 use Rattle.psci_cli.specs.Heard.{HasHelp, IsHeard}
 
 -- what a kind comes to: want of memory, help, or a fault

@@ -2,7 +2,6 @@ mod AskedRows
 pub mod Asking
 pub mod CommandRows
 pub mod ExitRows
-mod FlagRows
 pub mod Flags
 mod HeardRows
 mod Hearing
@@ -10,5 +9,7 @@ pub mod Locals
 pub mod Numbers
 mod OutputRows
 pub mod PlainRows
+pub mod Simple
 pub mod StormCommandRows
 mod StormRows
+mod ValueRows

@@ -3,7 +3,7 @@ use Rattle.std.proofs.Common.{◌≡◌, ℕ, List, Option, None, Some, refl}
 use Rattle.std.specs.Prelude.{Ok, Err, Result}
 use Rattle.std.specs.Str.Parse.{ParsesUnsigned}
 use Rattle.clap.specs.Matches.{ReadsOne}
-use Rattle.psci_cli.specs.Commands.{IsNumberIn}
+use Rattle.psci_cli.specs.Values.{IsNumberIn}
 
 -- of what gives a number of 64 bits
 pub number_is : {E : Type 0} (G : List ℕ → Result ℕ E → Type 0)

@@ -9,12 +9,13 @@ use Rattle.clap.specs.declared.error.kind.ErrorKind.{ErrorKind}
 use Rattle.clap.specs.declared.error.kind.ErrorKind.TheVariants.{ArgumentConflict, DisplayHelp}
 use Rattle.clap.specs.declared.error.kind.ErrorKind.TheVariants.{InvalidValue, UnknownArgument}
 use Rattle.clap.specs.declared.error.kind.ErrorKind.TheVariants.{MissingRequiredArgument}
+use Rattle.clap.specs.declared.error.kind.ErrorKind.TheVariants.{TooManyValues}
 use Rattle.clap.specs.declared.error.kind.ErrorKind.TheVariants.{ValueValidation}
 use Rattle.clap.specs.declared.parser.matches.ValueSource.{ValueSource}
 use Rattle.clap.specs.declared.parser.matches.ValueSource.TheVariants.{CommandLine, DefaultValue}
 use Rattle.psci_board.specs.Grammar.{BoardText, Cluster, Members, spelling}
 use Rattle.psci_board.specs.Verdict.{verdict}
-use Rattle.psci_cli.specs.Commands.{program, standard_board}
+use Rattle.psci_cli.specs.Program.{program, standard_board}
 
 -- How the examples are stated --------------------------------------------------------------------
 
@@ -57,7 +58,7 @@ abbrev pub counts_row : Row
 counts_row = row (codes "counts") CommandLine (codes "true")
 
 -- a storm with these words is taken, and this is found in them
-record IsTaken (words : List Text) (rows : List Row) : Type 0 where
+pub record IsTaken (words : List Text) (rows : List Row) : Type 0 where
   pub fault : fault_of program (storm_with words) ≡ []
   pub met : subcommand_of program (storm_with words) ≡ Some (codes "storm", rows)
 
@@ -108,7 +109,7 @@ unfolding clap_on_literals
 largest = record { fault = refl; met = refl }
 
 -- a board in place of the standard one, which is not read here, in each place
-other_board : IsTaken (board (codes "4") (seed (codes "7") (count (codes "5") [])))
+pub other_board : IsTaken (board (codes "4") (seed (codes "7") (count (codes "5") [])))
     (board_row (codes "4") ∷ seed_row (codes "7") ∷ count_row (codes "5") ∷ no_counts ∷ [])
 unfolding clap_on_literals
 other_board = record { fault = refl; met = refl }
@@ -124,7 +125,7 @@ unfolding clap_on_literals
 board_last = record { fault = refl; met = refl }
 
 -- another order
-count_first : IsTaken (count (codes "5") (seed (codes "7") []))
+pub count_first : IsTaken (count (codes "5") (seed (codes "7") []))
     (count_row (codes "5") ∷ seed_row (codes "7") ∷ standard_row ∷ no_counts ∷ [])
 unfolding clap_on_literals
 count_first = record { fault = refl; met = refl }
@@ -136,7 +137,7 @@ unfolding clap_on_literals
 attached = record { fault = refl; met = refl }
 
 -- the counts are asked for
-with_counts : IsTaken (seed (codes "7") (codes "--counts" ∷ count (codes "5") []))
+pub with_counts : IsTaken (seed (codes "7") (codes "--counts" ∷ count (codes "5") []))
     (seed_row (codes "7") ∷ counts_row ∷ count_row (codes "5") ∷ standard_row ∷ [])
 unfolding clap_on_literals
 with_counts = record { fault = refl; met = refl }
@@ -204,6 +205,17 @@ two_boards : IsRefused
 unfolding clap_on_literals
 two_boards = refl
 
+counts_twice : IsRefused (seed (codes "0") (count (codes "0") (codes "--counts"
+    ∷ codes "--counts" ∷ []))) ArgumentConflict
+unfolding clap_on_literals
+counts_twice = refl
+
+-- a flag has no value
+counts_with_a_value : IsRefused (seed (codes "0") (count (codes "0") (codes "--counts=x" ∷ [])))
+    TooManyValues
+unfolding clap_on_literals
+counts_with_a_value = refl
+
 -- an option that there is not, and a word too many
 other_option : IsRefused (seed (codes "0") (count (codes "0") (codes "--rounds" ∷ codes "3" ∷ [])))
     UnknownArgument
@@ -233,3 +245,8 @@ of_replay : fault_of program (codes "psci_cli" ∷ codes "replay" ∷ seed (code
     ≡ UnknownArgument ∷ []
 unfolding clap_on_literals
 of_replay = refl
+
+counts_of_a_replay : fault_of program
+    (codes "psci_cli" ∷ codes "replay" ∷ codes "--counts" ∷ []) ≡ UnknownArgument ∷ []
+unfolding clap_on_literals
+counts_of_a_replay = refl

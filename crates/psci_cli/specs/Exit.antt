@@ -62,16 +62,9 @@ IsOfReplay CommandLine = ⊥
 IsOfReplay (GivenBoard fault) = ⊥
 IsOfReplay (Replay fault) = ⊤
 
--- a storm ends early at the board that the command line gives, for want of memory, or where its line
--- can't be written
-abbrev pub IsOfStorm : Failure → Type 0
-IsOfStorm CommandLine = ⊥
-IsOfStorm (GivenBoard fault) = ⊤
-IsOfStorm (Replay fault) = (fault ≡ Write) ⊎ (fault ≡ Memory)
-
--- How a storm of a board text ends, by what the text says: with the fault of the text, or for want of
--- memory to keep its board; and where it has no fault with its line, or for want of memory, or where
--- the line can't be written.
+-- How a storm of a board text ends, by what the text says: with the fault of the text, or for want
+-- of memory to keep its board; and where it has no fault with its line, or for want of memory, or
+-- where the line can't be written.
 abbrev pub StormEnds : Result Unit Failure → Result BoardValue BoardFault → Type 0
 StormEnds (Ok done) said = IsOk said
 StormEnds (Err CommandLine) said = ⊥

@@ -12,7 +12,8 @@ use Rattle.psci_cli.specs.declared.command_line.Request.TheVariants.{Replay as R
 use Rattle.psci_cli.specs.declared.exit.Failure.{Failure}
 use Rattle.psci_cli.specs.declared.exit.Failure.TheVariants.{CommandLine, Replay}
 use Rattle.psci_cli.specs.declared.exit.Failure.TheVariants.{Board as GivenBoard}
-use Rattle.psci_cli.specs.Commands.{AsksHelp, IsAsked, program}
+use Rattle.psci_cli.specs.Commands.{IsAsked}
+use Rattle.psci_cli.specs.Program.{AsksHelp, program}
 
 -- the parser may say one of these kinds that asks for help, or for the version
 pub record HasHelp (kinds : Kinds) : Type 0 where

@@ -8,8 +8,9 @@ ghost use Rattle.clap.specs.declared.error.kind.ErrorKind.TheVariants.{OutOfMemo
 ghost use Rattle.psci_script.specs.declared.fault.ReplayFault.TheVariants.{Memory, Write};
 ghost use Rattle.psci_cli.specs.declared.command_line.Request.TheVariants.{Nothing};
 ghost use Rattle.psci_cli.specs.declared.exit.Failure.TheVariants.{CommandLine};
-ghost use Rattle.psci_cli.specs.Commands.{AsksHelp, IsAsked, IsStormOf, IsUnheard, IsWordless};
-ghost use Rattle.psci_cli.specs.Commands.{board_rule, flag_rule, number_rule, program, storm_shape};
+ghost use Rattle.psci_cli.specs.Commands.{IsAsked, IsStormOf, IsWordless};
+ghost use Rattle.psci_cli.specs.Program.{AsksHelp, board_rule, flag_rule, number_rule, program};
+ghost use Rattle.psci_cli.specs.Program.{storm_shape};
 ghost use Rattle.psci_cli.specs.Heard.{IsHeard};
 
 use crate::exit::Failure;
@@ -156,8 +157,8 @@ fn request_in<'a>(alloc: Global, words: &'a [String]) -> Result<Option<Request<'
     })
 }
 
-/// The storm that these matches of its command ask for, or none where a number is missing, which the
-/// parser has made sure of.
+/// The storm that these matches of its command ask for, or none where a number is missing, which
+/// the parser has made sure of.
 fn storm_in<'a>(matches: &ArgMatches<'a>) -> Option<StormRequest<'a>>
     ensures { IsStormOf (rows_of (found_of matches.now)) result }
 {
@@ -228,7 +229,6 @@ pub fn asked<'a, R: AllocGlobal + Print + Eprint>(
     words: &'a [String],
 ) -> Result<Request<'a>, Failure>
     ensures heard { IsHeard (map string_bytes words.now) result }
-    ensures unheard { IfErr result IsUnheard }
 {
     match request_in(rt.alloc(), words) {
         Ok(request) => request.ok_or(Failure::CommandLine),

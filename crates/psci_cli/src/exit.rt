@@ -16,14 +16,14 @@ pub enum Failure {
     CommandLine,
     /// The board that the command line gives has this fault.
     Board(BoardFault),
-    /// The replay ended with this fault, or help or the line of a storm could not be written for want
-    /// of it.
+    /// The replay ended with this fault, or help or the line of a storm could not be written for
+    /// want of it.
     Replay(ReplayFault),
 }
 
 impl Failure {
-    /// The exit status: 2 for the command line and the board in it, 3 for the script, 4 for reading or
-    /// writing, 5 for memory.
+    /// The exit status: 2 for the command line and the board in it, 3 for the script, 4 for reading
+    /// or writing, 5 for memory.
     pub fn status(self) -> u8
         ensures { result ≡ status_of self }
     {

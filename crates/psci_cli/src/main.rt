@@ -8,7 +8,7 @@ mod storm_line;
 
 ghost use Rattle.std.specs.Prelude.{IfErr};
 ghost use Rattle.psci_board.specs.Verdict.{board_of};
-ghost use Rattle.psci_cli.specs.Exit.{IsOfReplay, IsOfStorm, StormEnds};
+ghost use Rattle.psci_cli.specs.Exit.{IsOfReplay, StormEnds};
 
 use command_line::{Request, StormRequest, asked, words};
 use exit::Failure;
@@ -32,7 +32,6 @@ fn replay_standard(rt: &HostRuntime) -> Result<(), Failure>
 /// Makes a storm, and writes on standard output what is asked of it.
 fn storm_standard(rt: &HostRuntime, request: StormRequest) -> Result<(), Failure>
     ensures ends { StormEnds result (board_of request.entry.board.now) }
-    ensures err { IfErr result IsOfStorm }
 {
     let board = Board::read(rt.alloc(), request.board).map_err(Failure::Board)?;
     let stormed = storm_world(rt.alloc(), &board, request.seed, request.count).map_err(

@@ -4,10 +4,11 @@ use Rattle.std.proofs.Common.{option_map, subst}
 use Rattle.std.specs.Prelude.{codes, string_bytes}
 use Rattle.clap.specs.Words.{App, Row, Text, app_of, fault_of, found_of, is_simple}
 use Rattle.clap.specs.Words.{is_simple_and_free, rows_of, subcommand_of, subcommand_rows_of}
-use Rattle.psci_cli.specs.Commands.{IsAsked, program}
+use Rattle.psci_cli.specs.Commands.{IsAsked}
+use Rattle.psci_cli.specs.Program.{program}
 use Rattle.psci_cli.specs.declared.command_line.Request.TheVariants.{Storm}
-use Rattle.psci_cli.proofs.Asking.{both_halves, names_agree, program_free, program_simple}
-use Rattle.psci_cli.proofs.Asking.{storm_asked}
+use Rattle.psci_cli.proofs.Asking.{both_halves, names_agree, storm_asked}
+use Rattle.psci_cli.proofs.Simple.{program_free, program_simple}
 use Rattle.psci_cli.proofs.command_line.request_in.Goals.{in-Some, in-None}
 use Rattle.psci_cli.proofs.command_line.request_in.Goals as goal
 

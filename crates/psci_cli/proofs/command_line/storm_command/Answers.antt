@@ -3,7 +3,7 @@ use Rattle.std.proofs.Common.{◌≡◌, ◌∙◌, ap, ap₂, rules, codes}
 use Rattle.std.proofs.lemmas.Result.{IfOk-weaker}
 use Rattle.clap.specs.Words.{app_of, new_app, with_rule}
 use Rattle.clap.specs.declared.builder.value_parser.ValueParser.TheVariants.{Unsigned}
-use Rattle.psci_cli.specs.Commands.{number_rule}
+use Rattle.psci_cli.specs.Program.{number_rule}
 use Rattle.psci_cli.proofs.command_line.storm_command.Goals as goal
 
 pub returns : goal.returns

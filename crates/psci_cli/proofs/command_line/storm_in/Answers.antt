@@ -5,7 +5,8 @@ use Rattle.std.specs.Str.Parse.{ExplainsUnsignedError, HasUnsignedDigitsIfOk, Pa
 use Rattle.std.specs.Str.Parse.{ParsesUnsigned}
 use Rattle.clap.proofs.WalkLemmas.{first_value-rows, one_text-rows}
 use Rattle.clap.specs.Words.{found_of, one_text, rows_of}
-use Rattle.psci_cli.specs.Commands.{IsFlagIn, IsNumberIn, IsStormOf}
+use Rattle.psci_cli.specs.Commands.{IsStormOf}
+use Rattle.psci_cli.specs.Values.{IsFlagIn, IsNumberIn}
 use Rattle.psci_cli.proofs.Flags.{flag_is}
 use Rattle.psci_cli.proofs.Numbers.{number_is}
 use Rattle.psci_cli.proofs.command_line.storm_in.Goals as goal
