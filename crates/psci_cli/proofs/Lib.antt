@@ -1,15 +1,3 @@
-mod AskedRows
-pub mod Asking
-pub mod CommandRows
-pub mod ExitRows
-pub mod Flags
-mod HeardRows
-mod Hearing
-pub mod Locals
-pub mod Numbers
+mod EndRows
 mod OutputRows
-pub mod PlainRows
-pub mod Simple
-pub mod StormCommandRows
 mod StormRows
-mod ValueRows

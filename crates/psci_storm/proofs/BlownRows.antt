@@ -1,6 +1,7 @@
 -- Worked examples of a world that settles after a storm, on a board of one core.
 use Rattle.std.proofs.Common.{◌≡◌, ◌∙◌, ◌<◌, ◌≤◌, ◌++◌, ℕ, zero, suc, List, [], ◌∷◌, true, false}
 use Rattle.std.proofs.Common.{length, refl, ap, sym, subst, arith, length-append}
+use Rattle.std.proofs.Common.{rules}
 use Rattle.std.proofs.lemmas.List.Sums.{AllPass-from_list_all}
 use Rattle.std.specs.Prelude.{Bool, ◌==◌, drop, if◌then◌else◌, take}
 use Rattle.psci_board.specs.Board.{size_below}
@@ -45,7 +46,7 @@ new_world_rests = record {
   more = refl;
   settled = record {
     legal = (refl, tt);
-    events = AllPass-from_list_all _ (after (Enter 0 ∷ [])) refl;
+    events = search (rules, AllPass-from_list_all);
     rest = record {
       own = at_core _ refl;
       system = refl;
@@ -79,7 +80,7 @@ sleeping_world_rests = record {
   more = refl;
   settled = record {
     legal = stays_legal one_core [] rested tt;
-    events = AllPass-from_list_all _ (take 2 (after rested)) refl;
+    events = search (rules, AllPass-from_list_all);
     rest = record {
       own = at_core _ refl;
       system = refl;

@@ -1,5 +1,5 @@
 -- Worked examples of storms in a new world, and of what they count, on a board of one core.
-use Rattle.std.proofs.Common.{◌≡◌, ℕ, List, [], ◌∷◌, refl, arith}
+use Rattle.std.proofs.Common.{ℕ, List, [], ◌∷◌, refl, arith}
 use Rattle.psci_storm.specs.declared.outcome.Storm.{Storm}
 use Rattle.psci_storm.specs.Storm.{IsStorm}
 use Rattle.psci_world.specs.Safe.{AlwaysSafe}
