@@ -1,5 +1,2 @@
-pub mod Commands
-pub mod Exit
-pub mod Heard
-pub mod Plain
+pub mod Ends
 pub mod StormText

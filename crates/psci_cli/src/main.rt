@@ -1,19 +1,15 @@
 //! The program: scripts of PSCI calls, replayed from standard input to standard output, and storms.
 #![tactic(auto)]
 
-mod command_line;
-mod exit;
-mod plain;
 mod storm_line;
 
 ghost use Rattle.std.specs.Prelude.{IfErr};
 ghost use Rattle.psci_board.specs.Verdict.{board_of};
-ghost use Rattle.psci_cli.specs.Exit.{IsOfReplay, IsOfStorm, StormEnds};
+ghost use Rattle.psci_cli.specs.Ends.{IsOfReplay, StormEnds};
 
-use command_line::{Request, StormRequest, asked, words};
-use exit::Failure;
 use psci_bench::{ReplayFault, Std, replay, storm_world};
 use psci_board::Board;
+use psci_command::{Failure, Request, StormRequest, asked, words};
 use std::process::ExitCode;
 use storm_line::write_storm;
 
@@ -32,7 +28,6 @@ fn replay_standard(rt: &HostRuntime) -> Result<(), Failure>
 /// Makes a storm, and writes on standard output what is asked of it.
 fn storm_standard(rt: &HostRuntime, request: StormRequest) -> Result<(), Failure>
     ensures ends { StormEnds result (board_of request.entry.board.now) }
-    ensures err { IfErr result IsOfStorm }
 {
     let board = Board::read(rt.alloc(), request.board).map_err(Failure::Board)?;
     let stormed = storm_world(rt.alloc(), &board, request.seed, request.count).map_err(

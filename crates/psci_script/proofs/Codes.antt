@@ -1,6 +1,7 @@
 -- A code and the line feed after it, written from their end on.
-use Rattle.std.proofs.Common.{◌≡◌, ℕ, ◌^◌, ◌<◌, ◌≤◌, List, [], ◌∷◌, length, drop, set, ℤ, pos, negsuc}
-use Rattle.std.proofs.Common.{true, false, int_le, unsigned_abs, true≢false, ap, arith, sym, ◌∙◌}
+use Rattle.std.proofs.Common.{◌≡◌, ℕ, ◌^◌, ◌<◌, ◌≤◌, List, [], ◌∷◌, length, drop, set}
+use Rattle.std.proofs.Common.{ℤ, pos, negsuc, int_le, unsigned_abs, true, false, true≢false}
+use Rattle.std.proofs.Common.{ap, arith, sym, ◌∙◌}
 use Rattle.std.proofs.lemmas.Fmt.{length-decimal-le}
 use Rattle.std.proofs.lemmas.List.{drop-set, drop_all}
 use Rattle.std.specs.Fmt.{decimal, signed_decimal}

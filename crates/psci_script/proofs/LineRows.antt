@@ -191,6 +191,11 @@ call_trailing_text : line_of (codes "call 0 1 x") ≡ None
 unfolding reading
 call_trailing_text = refl
 
+-- no word at all
+byte_past_ascii : line_of (255 ∷ []) ≡ None
+unfolding reading
+byte_past_ascii = refl
+
 -- the board line comes once
 board_again : line_of (codes "board 1") ≡ None
 unfolding reading

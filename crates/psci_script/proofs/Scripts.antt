@@ -6,27 +6,7 @@ use Rattle.psci_text.specs.Reading.{literal_at, number_at, hex_at, spaced_at}
 use Rattle.psci_board.specs.Reading.{range_at, at_most}
 use Rattle.psci_board.specs.Reading.{more_at, list_at, member_at, tree_at, board_text}
 use Rattle.psci_board.specs.Verdict.{board_of, verdict}
-use Rattle.psci_board.specs.Board.{core_of, node_of, up}
-use Rattle.psci_coord.specs.Claim.{claim_of}
-use Rattle.psci_coord.specs.LastCore.{last_core_check, refusal, shallow, shallow_at}
-use Rattle.psci_coord.specs.View.{generation, is_all_off, is_idle, least_ask}
-use Rattle.psci_ctl_model.specs.Effects.{effect_of}
-use Rattle.psci_ctl_model.specs.History as controls
-use Rattle.psci_ctl_model.specs.Parts.{applied, is_stale}
-use Rattle.psci_ctl_model.specs.Replies.{delivery_of, reply, reset_of, wake_of}
-use Rattle.psci_ctl_model.specs.Values.{starts_below}
-use Rattle.psci_fw_model.specs.AffinityInfo.{node_status}
-use Rattle.psci_fw_model.specs.Answer.{answer}
-use Rattle.psci_fw_model.specs.Calls.{outcome_of}
-use Rattle.psci_fw_model.specs.Claims.{off_parts, suspend_parts}
-use Rattle.psci_fw_model.specs.CpuOn.{target_of}
-use Rattle.psci_fw_model.specs.Entering.{enter_outcome}
-use Rattle.psci_fw_model.specs.History as remembers
-use Rattle.psci_fw_model.specs.Views.{view}
-use Rattle.psci_link.specs.Outstanding.{changes_since, last_message, outstanding}
-use Rattle.psci_world_model.specs.Histories.{acks, controller_history, firmware_history, sent}
-use Rattle.psci_world_model.specs.Legal.{legal}
-use Rattle.psci_world_model.specs.Places.{place}
+use Rattle.psci_world_model.proofs.Scripts.{computing}
 use Rattle.psci_script.specs.declared.fault.Replayed.{Replayed}
 use Rattle.psci_script.specs.declared.fault.ReplayFault.{ReplayFault}
 use Rattle.psci_script.specs.Line.{line_of, event_at, call_at, alone_at, register_at}
@@ -39,15 +19,6 @@ unfoldable pub reading : Unit {0}
 unfolding line_of event_at call_at alone_at register_at optional_register_at spaced_at hex_at
     number_at literal_at
 reading = tt
-
--- what an example unfolds to compute what is said of events
-unfoldable pub computing : Unit {0}
-unfolding legal place sent acks controller_history firmware_history remembers.values_of
-    controls.values_of answer outcome_of enter_outcome target_of core_of node_of node_status
-    off_parts suspend_parts view up claim_of least_ask generation is_all_off is_idle
-    last_core_check refusal shallow shallow_at outstanding last_message changes_since effect_of
-    reply delivery_of wake_of reset_of applied is_stale starts_below
-computing = tt
 
 -- what an example unfolds to answer a script that is written out
 unfoldable pub answering : Unit {0}

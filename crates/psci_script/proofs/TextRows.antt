@@ -7,9 +7,9 @@ use Rattle.psci_link.specs.declared.kind.Kind.{Kind}
 use Rattle.psci_link.specs.declared.kind.Kind.TheVariants.{Down, Start, Off, Reset}
 use Rattle.psci_fw_model.specs.declared.outcome.Act.{Act}
 use Rattle.psci_fw_model.specs.declared.outcome.Act.TheVariants.{Return, Stop, Enter, Resume}
-use Rattle.psci_ctl_model.specs.declared.start.Cause.TheVariants.{Wake, Reset as WasReset}
 use Rattle.psci_link.specs.declared.taken.Taken.TheVariants.{Used, Old}
-use Rattle.psci_world_model.specs.declared.said.Said.TheVariants.{Fw, Kick, Acked, Ignored, Absent}
+use Rattle.psci_world_model.proofs.Scripts.{started}
+use Rattle.psci_world_model.specs.declared.said.Said.TheVariants.{Fw, Acked, Ignored, Absent}
 use Rattle.psci_world_model.specs.declared.said.Said.TheVariants.{Taken as Took}
 use Rattle.psci_script.specs.Text.{answer_line, said_text}
 
@@ -94,15 +94,14 @@ resume : alone Resume ≡ codes "resume 0"
 unfolding digits
 resume = refl
 
--- a core that the power controller started: the number of its start
-started : said_text (Kick (record { life = 1; number = 2; cause = Wake })) ≡ codes "started 2"
+-- a core that the power controller started, whatever for: the number of its start
+started_again : (cause : _) → said_text (started 1 2 cause) ≡ codes "started 2"
 unfolding digits
-started = refl
+started_again cause = refl
 
-started_by_reset : said_text (Kick (record { life = 3; number = 1000; cause = WasReset }))
-    ≡ codes "started 1000"
+started_often : (cause : _) → said_text (started 3 1000 cause) ≡ codes "started 1000"
 unfolding digits
-started_by_reset = refl
+started_often cause = refl
 
 -- an acknowledgement: its number, how many parts were applied, and whether it is stale
 none_applied_stale : made 1 0 true ≡ codes "ack #1 applied 0 stale"

@@ -1,5 +1,5 @@
 -- A world that settled after a storm.
-use Rattle.std.proofs.Common.{◌≡◌, ◌∙◌, ℕ, Bool, true, false, List, [], length, refl, ap, sym}
+use Rattle.std.proofs.Common.{◌≡◌, ◌∙◌, ℕ, true, false, List, [], length, refl, ap, sym}
 use Rattle.std.proofs.Common.{◌<◌, ◌∷◌, ◌++◌, subst, Ok, Err, OnErr, inl, inr}
 use Rattle.std.proofs.lemmas.List.{append_assoc}
 use Rattle.std.specs.Prelude.{IfOk, Result}

@@ -1,15 +1,15 @@
 -- Worked examples of a world that settles after a storm, on a board of one core.
 use Rattle.std.proofs.Common.{◌≡◌, ◌∙◌, ◌<◌, ◌≤◌, ◌++◌, ℕ, zero, suc, List, [], ◌∷◌, true, false}
 use Rattle.std.proofs.Common.{length, refl, ap, sym, subst, arith, length-append}
+use Rattle.std.proofs.Common.{rules}
 use Rattle.std.proofs.lemmas.List.Sums.{AllPass-from_list_all}
 use Rattle.std.specs.Prelude.{Bool, ◌==◌, drop, if◌then◌else◌, take}
 use Rattle.psci_board.specs.Board.{size_below}
-use Rattle.psci_settle.specs.Drained.{deliveries, is_settling}
-use Rattle.psci_settle.specs.Settling.{is_halting, rounds, settled}
 use Rattle.psci_storm.specs.Storm.{IsBlown}
 use Rattle.psci_world.specs.declared.settling.Settled.{Settled}
 use Rattle.psci_world.specs.declared.settling.Settled.TheVariants.{Halting, Quiet}
 use Rattle.psci_world.specs.Settles.{ComesToRest}
+use Rattle.psci_world.specs.Settling.{is_halting, settled}
 use Rattle.psci_world_model.specs.declared.event.Event.{Event}
 use Rattle.psci_world_model.specs.declared.event.Event.TheVariants.{Enter, Deliver, Take, Wake}
 use Rattle.psci_world_model.specs.declared.said.Record.{Record}
@@ -46,7 +46,7 @@ new_world_rests = record {
   more = refl;
   settled = record {
     legal = (refl, tt);
-    events = AllPass-from_list_all (λ r. is_settling r.event) (after (Enter 0 ∷ [])) refl;
+    events = search (rules, AllPass-from_list_all);
     rest = record {
       own = at_core _ refl;
       system = refl;
@@ -66,14 +66,10 @@ new_world_rests = record {
 abbrev pub rested : List Event
 rested = Enter 0 ∷ suspend ∷ Deliver 0 ∷ Take 0 ∷ []
 
+-- what is delivered is message 0, once
 at_most_one : (b : Bool) (r : Record) → length (if b then r ∷ [] else []) ≤ 1
 at_most_one true r = omega arith
 at_most_one false r = omega arith
-
--- what is delivered is message 0, once
-one_delivery : (k : ℕ) → deliveries k (take 2 (after rested)) ≤ 1
-unfolding run_from
-one_delivery k = at_most_one (k == 0) _
 
 sleeping_world_rests : ComesToRest one_core (after asleep) (after rested) (Quiet 1)
 unfolding computing
@@ -84,7 +80,7 @@ sleeping_world_rests = record {
   more = refl;
   settled = record {
     legal = stays_legal one_core [] rested tt;
-    events = AllPass-from_list_all (λ r. is_settling r.event) (take 2 (after rested)) refl;
+    events = search (rules, AllPass-from_list_all);
     rest = record {
       own = at_core _ refl;
       system = refl;
@@ -95,7 +91,7 @@ sleeping_world_rests = record {
           refl refl n.level n.place has.level has.place;
     };
     few = omega arith;
-    most = λ k m at kind. one_delivery k;
+    most = λ k m at kind. at_most_one (k == 0) _;
     some = λ low. record { number = 0; message = _; at = refl; kind = refl; times = refl };
   };
 }

@@ -1,5 +1,5 @@
 -- Worked examples of storms that ran out of memory, on a board of one core.
-use Rattle.std.proofs.Common.{◌≡◌, ◌∙◌, ◌+◌, List, [], ◌∷◌, refl, ap, sym, subst, arith, inl, inr}
+use Rattle.std.proofs.Common.{◌≡◌, ◌∙◌, List, [], ◌∷◌, refl, ap, subst, arith, inl, inr}
 use Rattle.std.proofs.Common.{length, length-append}
 use Rattle.std.specs.Prelude.{◌++◌, take}
 use Rattle.psci_storm.specs.Storm.{IsCutShort}
@@ -11,7 +11,7 @@ use Rattle.psci_world_model.specs.Legal.{run_from}
 use Rattle.psci_world_model.proofs.Scripts.{one_core}
 use Rattle.psci_storm.proofs.BlownRows.{rested}
 use Rattle.psci_storm.proofs.DrawnRows.{after, asleep, computing, drawn_length, none_drawn, suspend}
-use Rattle.psci_storm.proofs.DrawnRows.{none_drawn_yet, two_drawn}
+use Rattle.psci_storm.proofs.DrawnRows.{two_drawn}
 
 -- two of three events had happened
 cut_among_events : IsCutShort one_core [] 3 (after asleep)

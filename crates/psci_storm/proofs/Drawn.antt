@@ -1,6 +1,6 @@
 -- Events that were drawn: none, and one more.
-use Rattle.std.proofs.Common.{◌≡◌, ◌<◌, ◌+◌, ℕ, List, [], ◌∷◌, ◌++◌, length, refl, ap, sym, ◌∙◌}
-use Rattle.std.proofs.Common.{subst, arith, length-append}
+use Rattle.std.proofs.Common.{◌≡◌, ◌<◌, ◌+◌, ℕ, List, [], ◌∷◌, ◌++◌, refl, ap, sym, ◌∙◌}
+use Rattle.std.proofs.Common.{subst, length-append}
 use Rattle.psci_board.specs.Board.{BoardValue}
 use Rattle.psci_storm.specs.Storm.{HappensBy, IsDrawn}
 use Rattle.psci_world_model.specs.declared.event.Event.{Event}

@@ -1,12 +1,9 @@
 -- Worked examples of events that were drawn, on a board of one core.
 use Rattle.std.proofs.Common.{◌≡◌, ◌∙◌, ◌+◌, ◌++◌, ℕ, List, [], ◌∷◌}
 use Rattle.std.proofs.Common.{length, refl, ap, sym, subst, arith, length-append}
-use Rattle.std.proofs.lemmas.List.{append_assoc}
-use Rattle.psci_safe.specs.Claims.{claims, live_claims}
-use Rattle.psci_safe.specs.Moments.{has_slept}
-use Rattle.psci_safe.specs.Openings.{openings, taken_up}
-use Rattle.psci_settle.specs.Settling.{begun, is_waiting, round, rounds, settled}
 use Rattle.psci_storm.specs.Storm.{HappensBy, IsDrawn}
+use Rattle.psci_storm.proofs.Blown.{way_on}
+use Rattle.psci_world.specs.Settling.{begun, is_waiting, round, rounds, settled}
 use Rattle.psci_world_model.specs.declared.event.Event.{Event}
 use Rattle.psci_world_model.specs.declared.event.Event.TheVariants.{Enter, Take, Wake}
 use Rattle.psci_world_model.specs.declared.said.Record.{Record}
@@ -19,8 +16,7 @@ use Rattle.psci_world_model.proofs.Scripts.{call, enters, one_core, system_off}
 -- How the examples are stated ---------------------------------------------------------------------
 
 unfoldable pub computing : Unit {0}
-unfolding scripts.computing settled begun round is_waiting rounds claims live_claims has_slept
-    openings taken_up
+unfolding scripts.computing settled begun round is_waiting rounds
 computing = tt
 
 -- the records after these events
@@ -88,17 +84,7 @@ wrong_happens h =
     let legal = subst (IsLegalPast one_core) (sym h.run) (stays_legal one_core [] h.events tt) in
     let said = legal.0 in cc
 
--- what happens comes after what had happened
-run_more : (past : List Record) (events : List Event)
-    → (added : List Record) × (run_from one_core past events ≡ added ++ past)
-unfolding run_from
-run_more past [] = ([], refl)
-run_more past (event ∷ events) =
-    let r = legal_record one_core past event in
-    let rest = run_more (r ∷ past) events in
-    (rest.0 ++ r ∷ [], rest.1 ∙ sym (append_assoc rest.0 (r ∷ []) past))
-
--- the event before the newest one
+-- what happens comes after what had happened: the event before the newest one
 abbrev second : List Record → Event
 second [] = Take 0
 second (r ∷ []) = Take 0
@@ -115,7 +101,7 @@ no_more (r ∷ s ∷ added) e =
 
 other_past : HappensBy one_core (after (Enter 0 ∷ [])) (after (Wake 0 ∷ suspend ∷ [])) → ⊥
 other_past h =
-    let more = run_more (after (Enter 0 ∷ [])) h.events in no_more more.0 (h.run ∙ more.1)
+    let more = way_on one_core (after (Enter 0 ∷ [])) h.events in no_more more.0 (h.run ∙ more.1)
 
 -- Events that are drawn ---------------------------------------------------------------------------
 

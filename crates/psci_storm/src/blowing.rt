@@ -25,8 +25,8 @@ pub fn blow(world: &mut World, seed: u64, count: u64) -> Result<Settled, Memory>
 }
 
 /// A storm in a new world of the board, and that world: so many events, drawn from the seed, after
-/// which the world settles. It was a legal run, and safe at every moment. The same seed gives the same
-/// storm.
+/// which the world settles. It was a legal run, and safe at every moment. The same seed gives the
+/// same storm.
 pub fn storm_world(
     alloc: Global,
     board: &Board,

@@ -4,9 +4,9 @@ use Rattle.std.specs.Prelude.{count_by, negsuc}
 use Rattle.psci_abi.specs.Codes.{denied}
 use Rattle.psci_abi.specs.declared.registers.Regs.{Regs}
 use Rattle.psci_fw_model.specs.declared.outcome.Act.TheVariants as acts
-use Rattle.psci_ctl_model.specs.declared.start.Cause.TheVariants as causes
 use Rattle.psci_link.specs.declared.kind.Kind.TheVariants as kinds
 use Rattle.psci_link.specs.declared.taken.Taken.TheVariants as taken
+use Rattle.psci_world_model.proofs.Scripts as scripts
 use Rattle.psci_world_model.specs.declared.event.Event.TheVariants as events
 use Rattle.psci_world_model.specs.declared.said.Said.TheVariants as sayings
 use Rattle.psci_tally.specs.declared.asked.Asked.TheVariants as asked
@@ -87,9 +87,8 @@ enters = refl
 pub resumes : answer_of (sayings.Fw acts.Resume None) ≡ answers.Resume
 resumes = refl
 
-pub started : answer_of (sayings.Kick (record { life = 1; number = 5; cause = causes.Wake }))
-    ≡ answers.Started
-started = refl
+pub started : (cause : _) → answer_of (scripts.started 1 5 cause) ≡ answers.Started
+started cause = refl
 
 pub acked : answer_of (sayings.Acked 4 (record {
   kind = kinds.Down;

@@ -19,8 +19,8 @@ pub fn tally(records: &[Record], kind: Kind) -> u64
         .count() as u64
 }
 
-/// Writes a line for each kind of `KINDS`, in that order: the kind, and how many of these records are
-/// of it.
+/// Writes a line for each kind of `KINDS`, in that order: the kind, and how many of these records
+/// are of it.
 #[tactic(auto, unfolding(crate::specs::Counts::counts_text))]
 pub fn write_counts<W: Write>(to: &mut W, records: &[Record]) -> io::Result<()>
     ensures { OnOk result (Appends (W.contents to.old) (W.contents to.new)

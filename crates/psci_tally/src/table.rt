@@ -13,9 +13,9 @@ macro_rules! kinds {
     };
 }
 
-/// All kinds that a legal run may have, in a fixed order. In a halting life a core stops, whatever it
-/// calls. On a board of height 1 or 2 no message has the fourth part that the last acknowledgements
-/// speak of.
+/// All kinds that a legal run may have, in a fixed order. In a halting life a core stops, whatever
+/// it calls. On a board of height 1 or 2 no message has the fourth part that the last
+/// acknowledgements speak of.
 pub const KINDS: [Kind; 85] = kinds! {
     Version: Return(65537), Stop, Ignored, Absent;
     CpuSuspend: Return(0), Return(-2), Return(-3), Return(-9), Stop, Ignored, Absent;

@@ -1,0 +1,71 @@
+-- How commands end, and how they do not.
+use Rattle.std.proofs.Common.{Ok, Err, refl, inl, inr}
+use Rattle.psci_board.specs.Board.{BoardValue}
+use Rattle.psci_board.specs.declared.fault.BoardFault.TheVariants as boards
+use Rattle.psci_command.specs.declared.exit.Failure.TheVariants.{CommandLine, Replay}
+use Rattle.psci_command.specs.declared.exit.Failure.TheVariants.{Board as GivenBoard}
+use Rattle.psci_script.specs.declared.fault.ReplayFault.TheVariants.{Board, Memory, Read, Script, Write}
+use Rattle.psci_script.specs.declared.fault.ScriptFault.TheVariants as scripts
+use Rattle.psci_cli.specs.Ends.{IsOfReplay, StormEnds}
+
+-- a replay ends early by a fault of its own, of whatever kind, and not by the command line
+replay_ends_by_script : IsOfReplay (Replay (Script 2 scripts.Line))
+replay_ends_by_script = tt
+
+replay_ends_by_board : IsOfReplay (Replay (Board boards.Grammar))
+replay_ends_by_board = tt
+
+replay_ends_by_read : IsOfReplay (Replay Read)
+replay_ends_by_read = tt
+
+replay_ends_by_write : IsOfReplay (Replay Write)
+replay_ends_by_write = tt
+
+replay_ends_by_memory : IsOfReplay (Replay Memory)
+replay_ends_by_memory = tt
+
+replay_by_command_line : IsOfReplay CommandLine → ⊥
+replay_by_command_line h = h
+
+replay_by_given_board : IsOfReplay (GivenBoard boards.Grammar) → ⊥
+replay_by_given_board h = h
+
+storm_done : (b : BoardValue) → StormEnds (Ok tt) (Ok b)
+storm_done b = refl
+
+storm_of_no_board : StormEnds (Ok tt) (Err boards.Grammar) → ⊥
+storm_of_no_board h = cc
+
+board_faulty : StormEnds (Err (GivenBoard boards.BadBoot)) (Err boards.BadBoot)
+board_faulty = refl
+
+board_not_so : StormEnds (Err (GivenBoard boards.BadBoot)) (Err boards.Grammar) → ⊥
+board_not_so h = cc
+
+board_not_faulty : (b : BoardValue) → StormEnds (Err (GivenBoard boards.BadBoot)) (Ok b) → ⊥
+board_not_faulty b h = cc
+
+board_not_kept : (b : BoardValue) → StormEnds (Err (GivenBoard boards.Memory)) (Ok b)
+board_not_kept b = refl
+
+storm_not_written : (b : BoardValue) → StormEnds (Err (Replay Write)) (Ok b)
+storm_not_written b = (refl, inl refl)
+
+storm_without_memory : (b : BoardValue) → StormEnds (Err (Replay Memory)) (Ok b)
+storm_without_memory b = (refl, inr refl)
+
+storm_not_read : (b : BoardValue) → StormEnds (Err (Replay Read)) (Ok b) → ⊥
+storm_not_read b (made, inl e) = cc
+storm_not_read b (made, inr e) = cc
+
+-- nor is there a script in it, or a command line to be found fault with
+storm_of_script : (b : BoardValue) → StormEnds (Err (Replay (Script 1 scripts.NoBoard))) (Ok b) → ⊥
+storm_of_script b (made, inl e) = cc
+storm_of_script b (made, inr e) = cc
+
+storm_of_command_line : (b : BoardValue) → StormEnds (Err CommandLine) (Ok b) → ⊥
+storm_of_command_line b h = h
+
+-- no line is written of a board that is faulty
+faulty_not_written : StormEnds (Err (Replay Write)) (Err boards.Grammar) → ⊥
+faulty_not_written h = let made = h.0 in cc

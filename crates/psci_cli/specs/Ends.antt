@@ -1,0 +1,24 @@
+-- How the commands end.
+use Rattle.std.specs.Prelude.{◌≡◌, ◌⊎◌, ⊤, Result, Ok, Err, IsOk}
+use Rattle.psci_board.specs.Board.{BoardValue}
+use Rattle.psci_board.specs.Verdict.{Answers}
+use Rattle.psci_board.specs.declared.fault.BoardFault.{BoardFault}
+use Rattle.psci_command.specs.declared.exit.Failure.{Failure}
+use Rattle.psci_command.specs.declared.exit.Failure.TheVariants.{CommandLine, Replay}
+use Rattle.psci_command.specs.declared.exit.Failure.TheVariants.{Board as GivenBoard}
+use Rattle.psci_script.specs.declared.fault.ReplayFault.TheVariants.{Memory, Write}
+
+-- a replay ends early by a fault of its own, and not by the command line
+abbrev pub IsOfReplay : Failure → Type 0
+IsOfReplay CommandLine = ⊥
+IsOfReplay (GivenBoard fault) = ⊥
+IsOfReplay (Replay fault) = ⊤
+
+-- How a storm of a board text ends, by what the text says: with the fault of the text, or for want
+-- of memory to keep its board; and where it has no fault with its line, or for want of memory, or
+-- where the line can't be written.
+abbrev pub StormEnds : Result Unit Failure → Result BoardValue BoardFault → Type 0
+StormEnds (Ok done) said = IsOk said
+StormEnds (Err CommandLine) said = ⊥
+StormEnds (Err (GivenBoard fault)) said = Answers (Err fault) said
+StormEnds (Err (Replay fault)) said = IsOk said × ((fault ≡ Write) ⊎ (fault ≡ Memory))

@@ -1,0 +1,74 @@
+-- Exit statuses, and what standard error says of a fault.
+use Rattle.std.specs.Prelude.{ℕ, List, ◌++◌, codes}
+use Rattle.std.specs.Fmt.{decimal}
+use Rattle.psci_board.specs.declared.fault.BoardFault.{BoardFault}
+use Rattle.psci_board.specs.declared.fault.BoardFault.TheVariants as boards
+use Rattle.psci_command.specs.declared.exit.Failure.{Failure}
+use Rattle.psci_command.specs.declared.exit.Failure.TheVariants.{CommandLine, Replay}
+use Rattle.psci_command.specs.declared.exit.Failure.TheVariants.{Board as GivenBoard}
+use Rattle.psci_script.specs.declared.fault.ScriptFault.{ScriptFault}
+use Rattle.psci_script.specs.declared.fault.ScriptFault.TheVariants as scripts
+use Rattle.psci_script.specs.declared.fault.ReplayFault.{ReplayFault}
+use Rattle.psci_script.specs.declared.fault.ReplayFault.TheVariants.{Script, Board, Read, Write}
+use Rattle.psci_script.specs.declared.fault.ReplayFault.TheVariants.{Memory}
+
+-- the number of a script fault
+abbrev pub script_number : ScriptFault → ℕ
+script_number scripts.NoBoard = 1
+script_number scripts.Line = 2
+script_number scripts.Long = 3
+script_number scripts.TooMany = 4
+
+-- the number of a board fault
+abbrev pub board_number : BoardFault → ℕ
+board_number boards.Grammar = 1
+board_number boards.Uneven = 2
+board_number boards.TooWide = 3
+board_number boards.TooManyCores = 4
+board_number boards.BadRange = 5
+board_number boards.BadBoot = 6
+board_number boards.BadLimit = 7
+board_number boards.Memory = 8
+
+-- a board that could not be kept for want of memory is no fault of its text
+abbrev pub board_status : BoardFault → ℕ
+board_status boards.Memory = 5
+board_status _ = 3
+
+-- the same of a board that the command line gives: it is a fault of the command line
+abbrev pub given_board_status : BoardFault → ℕ
+given_board_status boards.Memory = 5
+given_board_status _ = 2
+
+-- the exit status at a fault of a replay
+abbrev pub replay_status : ReplayFault → ℕ
+replay_status (Script line fault) = 3
+replay_status (Board fault) = board_status fault
+replay_status Read = 4
+replay_status Write = 4
+replay_status Memory = 5
+
+-- the exit status of the program
+abbrev pub status_of : Failure → ℕ
+status_of CommandLine = 2
+status_of (GivenBoard fault) = given_board_status fault
+status_of (Replay fault) = replay_status fault
+
+-- what standard error says of a board fault
+abbrev pub board_report : BoardFault → List ℕ
+board_report boards.Memory = codes "out of memory"
+board_report fault = codes "line 1: board fault " ++ decimal (board_number fault)
+
+-- the same of a board that the command line gives, before its line feed
+abbrev pub given_board_report : BoardFault → List ℕ
+given_board_report boards.Memory = codes "out of memory"
+given_board_report fault = codes "board fault " ++ decimal (board_number fault)
+
+-- what standard error says, before its line feed
+abbrev pub report : ReplayFault → List ℕ
+report (Script line fault) =
+    codes "line " ++ (decimal line ++ (codes ": script fault " ++ decimal (script_number fault)))
+report (Board fault) = board_report fault
+report Read = codes "read fault"
+report Write = codes "write fault"
+report Memory = codes "out of memory"

@@ -1,0 +1,49 @@
+-- The command line: the program has two commands, of which one must be given.
+use Rattle.std.specs.Prelude.{◌≡◌, ◌⊎◌, true, codes, List, ℕ, [], ◌∷◌, Some}
+use Rattle.clap.specs.Simple.{App, Shape, new_app, new_rule, new_shape, on_top, with_subcommand}
+use Rattle.clap.specs.Walk.{Rule, Text}
+use Rattle.clap.specs.declared.builder.action.ArgAction.TheVariants.{SetTrue}
+use Rattle.clap.specs.declared.builder.value_parser.ValueParser.{ValueParser}
+use Rattle.clap.specs.declared.builder.value_parser.ValueParser.TheVariants.{Unsigned}
+use Rattle.clap.specs.declared.error.kind.ErrorKind.{ErrorKind}
+use Rattle.clap.specs.declared.error.kind.ErrorKind.TheVariants.{DisplayHelp, DisplayVersion}
+
+-- the board of a storm, where none is given
+abbrev pub standard_board : List ℕ
+standard_board =
+    codes "(2 2) exec 0x40000000-0x40100000 boot 0x40000000 starts 1000 lives 3"
+
+-- `--board TEXT`
+abbrev pub board_rule : Rule
+board_rule = record (new_rule (codes "board")) {
+  long = Some (codes "board");
+  defaults = standard_board ∷ [];
+}
+
+-- a number that must be given, under this name
+abbrev pub number_rule : Text → ValueParser → Rule
+number_rule name parser =
+    record (new_rule name) { long = Some name; required = true; parser = Some parser }
+
+-- a flag of this name, without a value
+abbrev pub flag_rule : Text → Rule
+flag_rule name = record (new_rule name) { long = Some name; action = Some SetTrue }
+
+-- `storm [--board TEXT] --seed N --count N [--counts]`: any seed of 64 bits, and at most 10,000
+-- events
+abbrev pub storm_shape : Shape
+storm_shape = record (new_shape (codes "storm")) {
+  rules = board_rule ∷ number_rule (codes "seed") (Unsigned 0 18446744073709551615)
+      ∷ number_rule (codes "count") (Unsigned 0 10000) ∷ flag_rule (codes "counts") ∷ [];
+}
+
+-- `psci_cli replay` and `psci_cli storm`; the program itself, and no command of it, has a version
+abbrev pub program : App
+program = with_subcommand (with_subcommand
+    (on_top (λ s. record s { subcommand_required = true; has_version = true })
+    (new_app (codes "psci_cli")))
+    (new_shape (codes "replay"))) storm_shape
+
+-- what the parser's error asks for, and is no fault: help, or the version
+abbrev pub AsksHelp : ErrorKind → Type 0
+AsksHelp kind = (kind ≡ DisplayHelp) ⊎ (kind ≡ DisplayVersion)

@@ -1,0 +1,142 @@
+//! How the program ends: exit statuses, and what standard error says.
+
+ghost use Rattle.std.specs.Prelude.{◌≡◌, ◌++◌, ◌∷◌, [], OnOk};
+ghost use Rattle.std.specs.Io.KnownBytes.{Appends};
+ghost use Rattle.psci_command.specs.Exit.{given_board_report, report, status_of};
+
+use psci_board::BoardFault;
+use psci_script::{ReplayFault, ScriptFault};
+use std::fmt;
+use std::io::{self, Write};
+
+/// Why the program ended before it was done.
+#[derive(Clone, Copy, Debug, PartialEq, Eq)]
+pub enum Failure {
+    /// The command line asks for nothing that there is; the parser has said so.
+    CommandLine,
+    /// The board that the command line gives has this fault.
+    Board(BoardFault),
+    /// The replay ended with this fault, or help or the line of a storm could not be written for
+    /// want of it.
+    Replay(ReplayFault),
+}
+
+impl Failure {
+    /// The exit status: 2 for the command line and the board in it, 3 for the script, 4 for reading
+    /// or writing, 5 for memory.
+    pub fn status(self) -> u8
+        ensures { result ≡ status_of self }
+    {
+        match self {
+            Failure::Board(BoardFault::Memory) => 5,
+            Failure::CommandLine | Failure::Board(_) => 2,
+            Failure::Replay(fault) => match fault {
+                ReplayFault::Read | ReplayFault::Write => 4,
+                ReplayFault::Memory | ReplayFault::Board(BoardFault::Memory) => 5,
+                ReplayFault::Script { .. } | ReplayFault::Board(_) => 3,
+            },
+        }
+    }
+
+    /// Says on standard error what happened. Where that cannot be written the status must do.
+    pub fn tell(self, rt: &HostRuntime) {
+        let _ = match self {
+            Failure::CommandLine => Ok(()),
+            Failure::Board(fault) => write_board_report(&mut rt.stderr(), fault),
+            Failure::Replay(fault) => write_report(&mut rt.stderr(), fault),
+        };
+    }
+}
+
+/// Writes the line that standard error has of a fault.
+fn write_report<W: Write>(to: &mut W, fault: ReplayFault) -> io::Result<()>
+    ensures { OnOk result (Appends (W.contents to.old) (W.contents to.new)
+        (report fault ++ 10 ∷ [])) }
+{
+    writeln!(to, "{}", Report(fault))
+}
+
+/// Writes the line that standard error has of a faulty board of the command line.
+fn write_board_report<W: Write>(to: &mut W, fault: BoardFault) -> io::Result<()>
+    ensures { OnOk result (Appends (W.contents to.old) (W.contents to.new)
+        (given_board_report fault ++ 10 ∷ [])) }
+{
+    writeln!(to, "{}", BoardReport(fault))
+}
+
+/// A fault as standard error names it, by its line and its number.
+#[derive(Clone, Copy)]
+struct Report(ReplayFault);
+
+/// A fault of the board that the command line gives, as standard error names it.
+#[derive(Clone, Copy)]
+struct BoardReport(BoardFault);
+
+/// The number of a script fault.
+fn script_number(fault: ScriptFault) -> u8
+    ensures { result ≡ Rattle.psci_command.specs.Exit.script_number fault }
+{
+    match fault {
+        ScriptFault::NoBoard => 1,
+        ScriptFault::Line => 2,
+        ScriptFault::Long => 3,
+        ScriptFault::TooMany => 4,
+    }
+}
+
+/// The number of a board fault.
+fn board_number(fault: BoardFault) -> u8
+    ensures { result ≡ Rattle.psci_command.specs.Exit.board_number fault }
+{
+    match fault {
+        BoardFault::Grammar => 1,
+        BoardFault::Uneven => 2,
+        BoardFault::TooWide => 3,
+        BoardFault::TooManyCores => 4,
+        BoardFault::BadRange => 5,
+        BoardFault::BadBoot => 6,
+        BoardFault::BadLimit => 7,
+        BoardFault::Memory => 8,
+    }
+}
+
+impl fmt::Display for Report {
+    ghost use Rattle.std.specs.Prelude.{Some};
+    ghost use Rattle.psci_command.specs.Exit.{report};
+
+    ghost output = { λ r. Some (report r.0) };
+
+    fn fmt<W: fmt::Write>(&self, f: &mut fmt::Formatter<W>) -> fmt::Result {
+        match self.0 {
+            ReplayFault::Script { line, fault } => {
+                let number = script_number(fault);
+                write!(f, "line {line}: script fault {number}")
+            }
+            ReplayFault::Board(BoardFault::Memory) => write!(f, "out of memory"),
+            ReplayFault::Board(fault) => {
+                let number = board_number(fault);
+                write!(f, "line 1: board fault {number}")
+            }
+            ReplayFault::Read => write!(f, "read fault"),
+            ReplayFault::Write => write!(f, "write fault"),
+            ReplayFault::Memory => write!(f, "out of memory"),
+        }
+    }
+}
+
+impl fmt::Display for BoardReport {
+    ghost use Rattle.std.specs.Prelude.{Some};
+    ghost use Rattle.psci_command.specs.Exit.{given_board_report};
+
+    ghost output = { λ r. Some (given_board_report r.0) };
+
+    fn fmt<W: fmt::Write>(&self, f: &mut fmt::Formatter<W>) -> fmt::Result {
+        match self.0 {
+            BoardFault::Memory => write!(f, "out of memory"),
+            fault => {
+                let number = board_number(fault);
+                write!(f, "board fault {number}")
+            }
+        }
+    }
+}

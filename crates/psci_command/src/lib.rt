@@ -1,0 +1,12 @@
+//! The command line of the program: what its words ask for, and how a failure is told.
+//!
+//! - The *words* are the program's name and the arguments that it was given.
+//! - A *failure* has an exit status, and a line on standard error.
+#![tactic(auto)]
+
+mod command_line;
+mod exit;
+mod plain;
+
+pub use command_line::{Request, StormRequest, asked, words};
+pub use exit::Failure;

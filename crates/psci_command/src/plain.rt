@@ -1,0 +1,26 @@
+//! Text that a terminal shows and does not obey.
+
+ghost use Rattle.std.specs.Prelude.{◌≡◌, IfOk};
+ghost use Rattle.psci_command.specs.Plain.{plain_text, as_plain};
+
+use std::alloc::{AllocError, Global};
+
+/// The byte itself where it is a line feed or printable ASCII, and else a question mark.
+fn plain_byte(byte: u8) -> u8
+    ensures { result ≡ as_plain byte }
+{
+    match byte {
+        b'\n' | b' '..=b'~' => byte,
+        _ => b'?',
+    }
+}
+
+/// The text, byte for byte, without those that a terminal would obey.
+pub fn plain(alloc: Global, text: &str) -> Result<Vec<u8>, AllocError>
+    ensures { IfOk result (λ bytes. bytes.items ≡ plain_text text.now) }
+{
+    text.as_bytes()
+        .iter()
+        .map(|&byte| plain_byte(byte))
+        .collect(alloc)
+}
