@@ -1,6 +1,6 @@
 -- Worked examples are stated so: a run that is safe at every moment, and a moment at which just one
 -- thing is not as it shall be.
-use Rattle.std.proofs.Common.{◌≡◌, ◌++◌, Bool, true, false, List, [], ◌∷◌}
+use Rattle.std.proofs.Common.{◌≡◌, ◌++◌, Bool, true, false, ◌&&◌, List, [], ◌∷◌, refl}
 use Rattle.psci_board.specs.Board.{BoardValue}
 use Rattle.psci_world_model.specs.declared.event.Event.{Event}
 use Rattle.psci_world_model.specs.declared.said.Record.{Record}
@@ -65,10 +65,30 @@ failing b past =
     ++ (if_fails (is_each_open b past) Open
     ++ if_fails (is_each_once b past) Once)))))
 
--- after these steps just these fail, and so the world is not safe
+-- after these steps just these fail
 abbrev pub BreakAll : BoardValue → List Clause → List Steps → Type 0
-BreakAll b ks steps =
-    let past = past_from b [] steps in (failing b past ≡ ks) × (is_safe b past ≡ false)
+BreakAll b ks steps = failing b (past_from b [] steps) ≡ ks
+
+-- where something fails the world is not safe
+unsafe_where : (a b c d e f g : Bool) (k : Clause) (ks : List Clause)
+    → if_fails a Powered ++ (if_fails b Still ++ (if_fails c Slept ++ (if_fails d One
+    ++ (if_fails e Asked ++ (if_fails f Open ++ if_fails g Once))))) ≡ k ∷ ks
+    → (a && ((b && c) && (d && (e && (f && g))))) ≡ false
+unsafe_where false b c d e f g k ks some = refl
+unsafe_where true false c d e f g k ks some = refl
+unsafe_where true true false d e f g k ks some = refl
+unsafe_where true true true false e f g k ks some = refl
+unsafe_where true true true true false f g k ks some = refl
+unsafe_where true true true true true false g k ks some = refl
+unsafe_where true true true true true true false k ks some = refl
+unsafe_where true true true true true true true k ks some = absurd (cc)
+
+-- so after such steps the world is not safe
+pub broken : (b : BoardValue) (past : List Record) (k : Clause) (ks : List Clause)
+    → failing b past ≡ k ∷ ks → is_safe b past ≡ false
+broken b past k ks =
+    unsafe_where (is_powered b past) (is_off_still b past) (is_off_slept b past) (is_one b past)
+    (is_asked b past) (is_each_open b past) (is_each_once b past) k ks
 
 -- after these steps just this one fails
 abbrev pub Breaks : BoardValue → Clause → List Steps → Type 0

@@ -97,13 +97,13 @@ two_last_cores : Breaks board One
     (Legal both_on ∷ off 2 ⇒ stops (sends 2 Down 2 1 1 (part 0 3 1 ∷ part 1 3 2 ∷ []))
     ∷ Legal (off 3 ∷ []) ∷ [])
 unfolding computing
-two_last_cores = (refl, refl)
+two_last_cores = refl
 
 -- a core goes off twice in one start
 off_twice : Breaks board One
     (Legal (third_on ++ off 3 ∷ []) ∷ off 3 ⇒ stops (sends 2 Down 3 1 1 (part 0 3 1 ∷ [])) ∷ [])
 unfolding computing
-off_twice = (refl, refl)
+off_twice = refl
 
 -- two cores go off as the last ones of the system
 two_last_cores_of_the_system : Breaks board One
@@ -111,7 +111,7 @@ two_last_cores_of_the_system : Breaks board One
     ∷ off 3 ⇒ stops (sends 1 Down 3 1 1 (part 0 3 1 ∷ part 1 3 1 ∷ part 2 3 2 ∷ []))
     ∷ Legal (off 0 ∷ []) ∷ [])
 unfolding computing
-two_last_cores_of_the_system = (refl, refl)
+two_last_cores_of_the_system = refl
 
 -- No claim of this depth ------------------------------------------------------------------------
 
@@ -120,21 +120,21 @@ stale_down_applied : Breaks board Asked
     (Legal third_on ∷ Legal (retention 3 ∷ Wake 3 ∷ Enter 3 ∷ off 3 ∷ [])
     ∷ Deliver 1 ⇒ acked 1 Down 3 1 1 1 false ∷ [])
 unfolding computing
-stale_down_applied = (refl, refl)
+stale_down_applied = refl
 
 -- the same where no claim is live
 no_live_claim : Breaks board Asked
     (Legal third_on ∷ Legal (retention 3 ∷ Wake 3 ∷ Enter 3 ∷ system_off 3 ∷ [])
     ∷ Deliver 1 ⇒ acked 1 Down 3 1 1 1 false ∷ [])
 unfolding computing
-no_live_claim = (refl, refl)
+no_live_claim = refl
 
 -- a Down of the life before is applied
 old_life_delivered : Breaks board Asked
     (Legal third_on ∷ Legal (retention 3 ∷ system_reset 0 ∷ Deliver 2 ∷ Enter 0 ∷ on_3 ∷ Deliver 3
     ∷ Enter 3 ∷ system_off 3 ∷ []) ∷ Deliver 1 ⇒ acked 3 Down 3 1 1 1 false ∷ [])
 unfolding computing
-old_life_delivered = (refl, refl)
+old_life_delivered = refl
 
 -- Deeper than asked -----------------------------------------------------------------------------
 
@@ -143,7 +143,7 @@ deeper_than_the_core_asks : Breaks board Asked
     (Legal third_on ∷ retention 3 ⇒ stops (sends 1 Down 3 1 1 (part 0 3 1 ∷ []))
     ∷ Legal (Deliver 1 ∷ []) ∷ [])
 unfolding computing
-deeper_than_the_core_asks = (refl, refl)
+deeper_than_the_core_asks = refl
 
 -- a core asks for retention of its cluster and power-down of itself, and the last core of the
 -- cluster claims power-down of the cluster
@@ -152,7 +152,7 @@ deeper_than_another_asks : Breaks board Asked
     ∷ off 3 ⇒ stops (sends 3 Down 3 1 1 (part 0 3 1 ∷ part 1 3 2 ∷ []))
     ∷ Legal (Deliver 2 ∷ Deliver 3 ∷ []) ∷ [])
 unfolding computing
-deeper_than_another_asks = (refl, refl)
+deeper_than_another_asks = refl
 
 -- the only core asks for retention of the system
 system_deeper_than_asked : Breaks board Asked
@@ -160,7 +160,7 @@ system_deeper_than_asked : Breaks board Asked
     ⇒ stops (sends 0 Down 0 1 1 (part 0 3 1 ∷ part 1 3 1 ∷ part 2 3 1 ∷ []))
     ∷ Legal (Deliver 0 ∷ []) ∷ [])
 unfolding computing
-system_deeper_than_asked = (refl, refl)
+system_deeper_than_asked = refl
 
 -- OS-initiated mode: the last core claims more of its cluster than it asks
 deeper_than_the_last_core_asks : Breaks board Asked
@@ -168,7 +168,7 @@ deeper_than_the_last_core_asks : Breaks board Asked
     ∷ call 3 0xc4000001 0x01010023 0x40004000 2
     ⇒ stops (sends 1 Down 3 1 1 (part 0 3 1 ∷ part 1 3 1 ∷ [])) ∷ Legal (Deliver 1 ∷ []) ∷ [])
 unfolding computing
-deeper_than_the_last_core_asks = (refl, refl)
+deeper_than_the_last_core_asks = refl
 
 -- it claims power-down of its cluster, in which another core is in retention
 deeper_than_another_core : Breaks board Asked
@@ -178,4 +178,4 @@ deeper_than_another_core : Breaks board Asked
     ⇒ stops (sends 3 Down 3 1 1 (part 0 3 1 ∷ part 1 3 2 ∷ []))
     ∷ Deliver 3 ⇒ acked 3 Down 3 1 1 2 false ∷ [])
 unfolding computing
-deeper_than_another_core = (refl, refl)
+deeper_than_another_core = refl

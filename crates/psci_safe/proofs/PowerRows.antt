@@ -16,7 +16,7 @@ use Rattle.psci_safe.proofs.Checking.{computing}
 resumes_powered_down : Breaks board Powered
     (Legal (Enter 0 ∷ on_3 ∷ Deliver 0 ∷ Enter 3 ∷ off 3 ∷ Deliver 1 ∷ []) ∷ Enter 3 ⇒ resumes ∷ [])
 unfolding computing
-resumes_powered_down = (refl, refl)
+resumes_powered_down = refl
 
 -- a core is powered down while it is started: its Down had the generation of the next start
 started_powered_down : Breaks board Powered
@@ -24,7 +24,7 @@ started_powered_down : Breaks board Powered
     ∷ off 3 ⇒ stops (sends 1 Down 3 1 1 (part 0 3 2 ∷ part 1 3 2 ∷ []))
     ∷ Legal (Wake 3 ∷ Deliver 1 ∷ []) ∷ [])
 unfolding computing
-started_powered_down = (refl, refl)
+started_powered_down = refl
 
 -- a core runs while the system alone sleeps
 runs_below_the_system : Breaks board Powered
@@ -32,7 +32,7 @@ runs_below_the_system : Breaks board Powered
     ∷ off 0 ⇒ stops (sends 0 Down 0 1 1 (part 0 0 1 ∷ part 1 0 1 ∷ part 2 3 1 ∷ []))
     ∷ Deliver 0 ⇒ acked 0 Down 0 1 1 3 false ∷ Enter 0 ⇒ resumes ∷ [])
 unfolding computing
-runs_below_the_system = (refl, refl)
+runs_below_the_system = refl
 
 -- Reported OFF --------------------------------------------------------------------------------
 
@@ -40,21 +40,21 @@ runs_below_the_system = (refl, refl)
 off_core_runs : Breaks board Still
     (Legal (Enter 0 ∷ Wake 3 ∷ []) ∷ version 3 ⇒ returns (pos 65537) nothing ∷ [])
 unfolding computing
-off_core_runs = (refl, refl)
+off_core_runs = refl
 
 -- a core that goes off is put in retention, and is OFF once that was acknowledged
 off_in_retention : Breaks board Slept
     (Legal (Enter 0 ∷ on_3 ∷ Deliver 0 ∷ Enter 3 ∷ [])
     ∷ off 3 ⇒ stops (sends 1 Down 3 1 1 (part 0 2 1 ∷ [])) ∷ Legal (Deliver 1 ∷ Take 1 ∷ []) ∷ [])
 unfolding computing
-off_in_retention = (refl, refl)
+off_in_retention = refl
 
 -- a core that goes off is OFF by the acknowledgement of a suspend from which it has gone on
 old_acknowledgement_used : Breaks board Slept
     (Legal (Enter 0 ∷ on_3 ∷ Deliver 0 ∷ Enter 3 ∷ call 3 0xc4000001 0x00010003 0x40004000 2
     ∷ Deliver 1 ∷ Wake 3 ∷ Enter 3 ∷ off 3 ∷ []) ∷ Take 1 ⇒ used ∷ [])
 unfolding computing
-old_acknowledgement_used = (refl, refl)
+old_acknowledgement_used = refl
 
 -- a core was powered down before it resumed, and not since
 powered_down_before_it_resumed : Breaks board Slept
@@ -63,7 +63,7 @@ powered_down_before_it_resumed : Breaks board Slept
     ∷ Legal (Deliver 1 ∷ Wake 3 ∷ Enter 3 ∷ [])
     ∷ off 3 ⇒ stops (sends 2 Down 3 1 2 (part 0 2 2 ∷ [])) ∷ Legal (Deliver 2 ∷ Take 2 ∷ []) ∷ [])
 unfolding computing
-powered_down_before_it_resumed = (refl, refl)
+powered_down_before_it_resumed = refl
 
 -- a core was powered down in the life before, and not in this one
 powered_down_in_another_life : Breaks board Slept
@@ -71,13 +71,13 @@ powered_down_in_another_life : Breaks board Slept
     ∷ system_reset 0 ∷ Deliver 1 ∷ []) ∷ Enter 0 ⇒ returns (pos 0) nothing
     ∷ off 0 ⇒ stops (sends 2 Down 0 2 1 (part 0 2 1 ∷ [])) ∷ Legal (Deliver 2 ∷ Take 2 ∷ []) ∷ [])
 unfolding computing
-powered_down_in_another_life = (refl, refl)
+powered_down_in_another_life = refl
 
 -- a function tells a core to go on that was woken while it is OFF
 function_resumes : Breaks board Slept
     (Legal (Enter 0 ∷ Wake 3 ∷ []) ∷ version 3 ⇒ resumes ∷ version 3 ⇒ stops nothing ∷ [])
 unfolding computing
-function_resumes = (refl, refl)
+function_resumes = refl
 
 -- Moments before ------------------------------------------------------------------------------
 
