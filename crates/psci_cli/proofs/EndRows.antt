@@ -4,7 +4,8 @@ use Rattle.psci_board.specs.Board.{BoardValue}
 use Rattle.psci_board.specs.declared.fault.BoardFault.TheVariants as boards
 use Rattle.psci_command.specs.declared.exit.Failure.TheVariants.{CommandLine, Replay}
 use Rattle.psci_command.specs.declared.exit.Failure.TheVariants.{Board as GivenBoard}
-use Rattle.psci_script.specs.declared.fault.ReplayFault.TheVariants.{Board, Memory, Read, Script, Write}
+use Rattle.psci_script.specs.declared.fault.ReplayFault.TheVariants.{Board, Memory, Read, Script}
+use Rattle.psci_script.specs.declared.fault.ReplayFault.TheVariants.{Write}
 use Rattle.psci_script.specs.declared.fault.ScriptFault.TheVariants as scripts
 use Rattle.psci_cli.specs.Ends.{IsOfReplay, StormEnds}
 
