@@ -29,7 +29,8 @@ request text seed count =
       counts = false;
     }
 
--- matches of a storm of seed 7 and count 5: on the standard board, with the counts, on another board
+-- matches of a storm of seed 7 and count 5: on the standard board, with the counts, on another
+-- board
 abbrev pub rows : List Row
 rows = count_row (codes "5") ∷ seed_row (codes "7") ∷ standard_row ∷ no_counts ∷ []
 
