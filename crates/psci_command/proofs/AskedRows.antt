@@ -1,5 +1,5 @@
 -- What the matches of known command lines ask for, and what they do not ask for.
-use Rattle.std.proofs.Common.{◌≡◌, ℕ, false, true, List, [], ◌∷◌, Option, Some, None, refl}
+use Rattle.std.proofs.Common.{ℕ, false, true, List, [], ◌∷◌, Option, Some, None, refl}
 use Rattle.std.proofs.Common.{arith, inl, inr, ap, subst, sym}
 use Rattle.std.specs.Prelude.{codes}
 use Rattle.clap.specs.Walk.{Row, Text}
@@ -8,7 +8,6 @@ use Rattle.clap.specs.declared.error.kind.ErrorKind.TheVariants.{MissingSubcomma
 use Rattle.psci_script.specs.declared.fault.ReplayFault.TheVariants.{Memory, Write}
 use Rattle.psci_command.specs.Commands.{IsAsked, IsStormOf, IsWordless}
 use Rattle.psci_command.specs.Program.{AsksHelp, standard_board}
-use Rattle.psci_command.specs.declared.command_line.Request.{Request}
 use Rattle.psci_command.specs.declared.command_line.Request.TheVariants.{Nothing, Replay, Storm}
 use Rattle.psci_command.specs.declared.command_line.StormRequest.{StormRequest}
 use Rattle.psci_command.specs.declared.exit.Failure.TheVariants as failures
