@@ -1,5 +1,5 @@
 -- What the matches of known command lines ask for, and what they do not ask for.
-use Rattle.std.proofs.Common.{◌≡◌, ℕ, false, true, List, [], ◌∷◌, Option, Some, None, refl}
+use Rattle.std.proofs.Common.{ℕ, false, true, List, [], ◌∷◌, Option, Some, None, refl}
 use Rattle.std.proofs.Common.{arith, inl, inr, ap, subst, sym}
 use Rattle.std.specs.Prelude.{codes}
 use Rattle.clap.specs.Walk.{Row, Text}
@@ -8,7 +8,6 @@ use Rattle.clap.specs.declared.error.kind.ErrorKind.TheVariants.{MissingSubcomma
 use Rattle.psci_script.specs.declared.fault.ReplayFault.TheVariants.{Memory, Write}
 use Rattle.psci_command.specs.Commands.{IsAsked, IsStormOf, IsWordless}
 use Rattle.psci_command.specs.Program.{AsksHelp, standard_board}
-use Rattle.psci_command.specs.declared.command_line.Request.{Request}
 use Rattle.psci_command.specs.declared.command_line.Request.TheVariants.{Nothing, Replay, Storm}
 use Rattle.psci_command.specs.declared.command_line.StormRequest.{StormRequest}
 use Rattle.psci_command.specs.declared.exit.Failure.TheVariants as failures
@@ -29,7 +28,8 @@ request text seed count =
       counts = false;
     }
 
--- matches of a storm of seed 7 and count 5: on the standard board, with the counts, on another board
+-- matches of a storm of seed 7 and count 5: on the standard board, with the counts, on another
+-- board
 abbrev pub rows : List Row
 rows = count_row (codes "5") ∷ seed_row (codes "7") ∷ standard_row ∷ no_counts ∷ []
 

@@ -1,11 +1,10 @@
 -- What a command line asks for, by the command that the parser met.
-use Rattle.std.proofs.Common.{◌≡◌, List, Option, None, Some, refl, true, option_map}
+use Rattle.std.proofs.Common.{◌≡◌, List, Option, None, Some, refl, option_map}
 use Rattle.std.specs.Prelude.{codes}
-use Rattle.clap.specs.Words.{Row, Text, is_simple, is_simple_and_free, subcommand_name_of}
+use Rattle.clap.specs.Words.{Row, Text, subcommand_name_of}
 use Rattle.clap.specs.Words.{subcommand_rows_of}
 use Rattle.clap.specs.declared.parser.matches.ArgMatches.{ArgMatches}
 use Rattle.psci_command.specs.Commands.{IsAsked, IsStormOf}
-use Rattle.psci_command.specs.Program.{program}
 use Rattle.psci_command.specs.declared.command_line.Request.TheVariants.{Storm}
 use Rattle.psci_command.specs.declared.command_line.StormRequest.{StormRequest}
 

@@ -1,5 +1,5 @@
 -- What known command lines come to, and what they do not.
-use Rattle.std.proofs.Common.{[], ◌∷◌, List, true, Ok, Err, refl, inl, inr, subst, sym, ◌∙◌}
+use Rattle.std.proofs.Common.{[], ◌∷◌, List, true, Ok, Err, refl, inl, subst, sym, ◌∙◌}
 use Rattle.std.specs.Prelude.{codes}
 use Rattle.clap.specs.Walk.{Text}
 use Rattle.clap.specs.declared.error.kind.ErrorKind.TheVariants.{DisplayHelp, MissingSubcommand}

@@ -164,7 +164,8 @@ pub three_lines : count_lines (
     record { asked = asked.Reset; answer = answers.Absent }
     ∷ record { asked = asked.Reset; answer = answers.Ignored }
     ∷ record { asked = asked.Wake; answer = answers.Ignored } ∷ [])
-    ≡ codes "reset absent 1" ++ 10 ∷ codes "reset ignored 0" ++ 10 ∷ codes "wake ignored 2" ++ 10 ∷ []
+    ≡ codes "reset absent 1" ++ 10 ∷ codes "reset ignored 0" ++ 10
+    ∷ codes "wake ignored 2" ++ 10 ∷ []
 unfolding digits
 three_lines = refl
 
