@@ -113,8 +113,8 @@ abbrev pub Runs : Result Replayed ReplayFault → Option (List ℕ) → Option (
 Runs (Ok replayed) first before s = Ended (Ok replayed) first before s
 Runs (Err fault) first before s = EndsBy fault first before s
 
--- A run goes on, from the present that so many lines have left: it is the present after some records,
--- at most one for each line.
+-- A run goes on, from the present that so many lines have left: it is the present after some
+-- records, at most one for each line.
 pub record IsUnderWay (p : PresentValue) (count : ℕ) (first before : Option (List ℕ))
     (s : Progress) : Type 0 where
   pub board : BoardValue

@@ -201,8 +201,8 @@ fn replay_lines<S: Source, K: Sink>(
 /// only where that device failed, took none of some bytes, or was interrupted 1,000 times in a row;
 /// where the replay ends well neither device has failed.
 ///
-/// What is written is the answer text of a legal run, or a front part of it, and the world is safe at
-/// every moment of that run.
+/// What is written is the answer text of a legal run, or a front part of it, and the world is safe
+/// at every moment of that run.
 #[tactic(auto, using(crate::proofs::ScriptRuns::prints))]
 pub fn replay<S: Source, K: Sink>(
     alloc: Global,

@@ -117,6 +117,8 @@ impl Machine {
     }
 
     /// Makes the event happen, as `step` says.
+    // In place, as `step`.
+    #[inline(always)]
     fn happen(&mut self, event: Event, messages: &[Message], made: &[Ack]) -> Said
         requires { (k : ℕ) (m : MessageValue) → slice_get messages.now k ≡ Some m
             → IsOfBoard (board_of self.old) m }

@@ -48,8 +48,8 @@ next_present b past old new event said is says after more_sent more_made = recor
   acks = more_made ∙ one_more old.acks (acks past) (ack_in said) is.acks;
 }
 
--- What the machine, lent both lists, says of each past, and what it is then, makes of its present the
--- next one, where that was added to the lists.
+-- What the machine, lent both lists, says of each past, and what it is then, makes of its present
+-- the next one, where that was added to the lists.
 pub happens : (old new : PresentValue) (event : Event) (said : Said)
     (messages reserved : List MessageValue) (made reserved_acks : List AckValue)
     → ((b : BoardValue) (past : List Record) → IsAfter b past old.machine

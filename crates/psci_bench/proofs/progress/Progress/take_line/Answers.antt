@@ -19,7 +19,8 @@ returns-in_err-answer-clause-err g c =
     if_err_so c.from_residual.result f _ c.from_residual.ensures
     (λ first before k. line_not f k.board k.past c.args.count first before s.block
     s.left s.taken s.answered c.answer.new.answers e
-    (room_of c.unread.ensures.bytes c.unread.ensures.room) c.requires.count c.requires.line k.answered
+    (room_of c.unread.ensures.bytes c.unread.ensures.room) c.requires.count c.requires.line
+    k.answered
     (subst (λ (o : Option LineSays). LineRefused f (c.args.count + 1) o) said x.0) x.1)
 
 pub returns-clause-ok : goal.returns-clause-ok
@@ -34,4 +35,5 @@ returns-clause-ok g c = λ first before k.
     (progress r s.left c.answer.new.answers s.taken)) (sym c.skip.ensures)
     (line_goes p k.board k.past c.args.count first before s.block s.left s.taken
     s.answered c.answer.new.answers e c.requires.count k.few c.requires.line k.answered
-    (subst (λ (o : Option LineSays). LineLeaves o k.board k.past p s.answered c.answer.new.answers) said x))
+    (subst (λ (o : Option LineSays). LineLeaves o k.board k.past p s.answered c.answer.new.answers)
+    said x))
