@@ -2,8 +2,7 @@
 
 use crate::place::first_places;
 use psci_board::{Board, Core, Memory};
-use psci_ctl::Controller;
-use psci_ctl_model as controls;
+use psci_ctl::{Controller, law_values as law_controller_values};
 use psci_fw::Firmware;
 use psci_fw_model::law_values;
 use psci_link::{Ack, Message};
@@ -56,7 +55,7 @@ impl Machine {
         ensures after { IfOk result (λ m. IsAfter board.now [] m) }
     {
         law_values();
-        controls::law_values();
+        law_controller_values();
         Ok(Machine {
             firmware: Firmware::new(alloc, board)?,
             controller: Controller::new(alloc, board)?,
@@ -112,7 +111,7 @@ impl Machine {
         ensures next { IsNext messages.now made.now self.old event result self.new }
     {
         law_values();
-        controls::law_values();
+        law_controller_values();
         self.happen(event, messages, made)
     }
 
