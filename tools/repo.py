@@ -3,11 +3,11 @@
 
 As a module it serves the commands that are written in Python. Those that are written in shell call
 
-    tools/repo.py below CRATE..                 these crates and all that they stand on, lowest first
-    tools/repo.py ways [CRATE..]                in how many ways each is reached from itself down
-    tools/repo.py copy ROOM PARTS CRATE..       makes ROOM a repository of these crates and of all
-                                                that they stand on, with these of their folders, as
-                                                src,specs,proofs,out
+    tools/repo.py below CRATE..             these crates and all that they stand on, lowest first
+    tools/repo.py ways [CRATE..]            in how many ways crates.txt leads down from each
+    tools/repo.py copy ROOM PARTS CRATE..   makes ROOM a repository of these crates and of all that
+                                            they stand on, with these of their folders, as
+                                            src,specs,proofs,out
 """
 import os
 import re
@@ -84,7 +84,7 @@ class Crates:
         return [it for it in self if name in self.below(it)]
 
     def ways(self, name):
-        """In how many ways crates.txt leads down from the crate, the one that stays at it included."""
+        """In how many ways crates.txt leads down from the crate, with that which stays at it."""
         return 1 + sum(self.ways(it) for it in self.named[name])
 
     def folder(self, name):
