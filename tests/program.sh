@@ -32,17 +32,20 @@ one_entry() {
     echo "1 enter 0x0 0x0" > "$work/lines"
 }
 
-# in_memory KIB WORD..: a run with so much address space, and how it ended; 1 if it ended wrongly
+# in_memory KIB WORD..: a run with so much address space, and how it ended; 1 if it ended wrongly.
+# Its status is in $work/got.
 in_memory() {
     local size=$1 status=0
     shift
     (ulimit -v "$size" && exec "$program" "$@" < "$work/script" > "$work/out" 2> "$work/err") \
         > /dev/null 2>&1 || status=$?
+    echo "$status" > "$work/got"
     case $status in
         0) cmp -s "$work/lines" "$work/out" && [ ! -s "$work/err" ] && echo enough ;;
         5) [ ! -s "$work/out" ] && echo "out of memory" | cmp -s - "$work/err" && echo refused ;;
         # the system can't load the program
-        126 | 127 | 134 | 139) echo unloaded ;;
+        126 | 127) echo unloaded ;;
+        # all else is wrong, and so is an end by a signal
         *) return 1 ;;
     esac
 }
@@ -54,7 +57,7 @@ little_memory() {
     one_entry
     for size in $(seq 16384 -16 512); do
         if ! ended=$(in_memory "$size" replay); then
-            fail "replay in $size KiB of memory ($(head -n 1 "$work/err"))"
+            fail "replay in $size KiB of memory (status $(cat "$work/got")): $(cat "$work/err")"
             return
         fi
         [ "$ended" != refused ] || refused=$((refused + 1))
@@ -84,7 +87,7 @@ streams() {
     "$program" replay < "$work/script" 2> "$work/err" >&-
     echo $? > "$work/got"
     expect "standard output closed" 4 "write fault"
-    if [ -c /dev/full ]; then
+    if has_full "streams into a full device"; then
         "$program" replay < "$work/script" 2> "$work/err" > /dev/full
         echo $? > "$work/got"
         expect "answers into a full device" 4 "write fault"
@@ -173,21 +176,36 @@ version() {
     expect "--version with standard output closed" 4 "write fault"
 }
 
-# ./psci hands words, streams and status on; before a proof, too
+# front_of FOLDER WORD..: runs a faulty script by the command ./psci of this folder
+front_of() {
+    local at=$1 lines=tests/scripts/lines/event-of-no-form
+    shift
+    (cd "$at" && ./psci "$@") < "$lines.psci" > "$work/out" 2> "$work/err"
+    echo $? > "$work/got"
+    cp "$lines.out" "$work/lines"
+}
+
+# ./psci hands words, streams and status on. Where no program is proved, or by --unproved, it does
+# the same, and first says what that is worth.
 front() {
-    local words
-    for words in "" "--unproved"; do
-        # shellcheck disable=SC2086
-        ./psci $words replay < tests/scripts/lines/event-of-no-form.psci > "$work/out" 2> "$work/err"
-        echo $? > "$work/got"
-        cp tests/scripts/lines/event-of-no-form.out "$work/lines"
-        grep -v '^psci: ' "$work/err" > "$work/said"
-        if [ "$words" = "" ] || grep -q '^psci: nothing of this run is proved' "$work/err"; then
-            mv "$work/said" "$work/err"
-        fi
-        expect "./psci $words" 3 "$(cat tests/scripts/lines/event-of-no-form.err)"
-        answers "./psci $words"
+    local fault name unproved fresh=$work/fresh
+    fault=$(cat tests/scripts/lines/event-of-no-form.err)
+    unproved="psci: nothing of this run is proved; ./psci prove proves and builds the program"
+    front_of . replay
+    expect "./psci replay" 3 "$fault"
+    answers "./psci replay"
+    front_of . --unproved replay
+    expect "./psci --unproved" 3 "$unproved"$'\n'"$fault"
+    answers "./psci --unproved"
+    for name in crates/*/; do
+        mkdir -p "$fresh/$name"
+        cp -r "$name"/{src,specs,proofs} "$fresh/$name"
     done
+    cp psci crates.txt "$fresh"
+    git init -q "$fresh"
+    front_of "$fresh" replay
+    expect "./psci replay without a proved program" 3 "$unproved"$'\n'"$fault"
+    answers "./psci replay without a proved program"
 }
 
 # the line of a storm, which the seed alone decides; its words, streams and memory
@@ -213,7 +231,7 @@ storms() {
     expect "a storm on a board outside the grammar" 2 "board fault 1"
     run storm --board "1 exec 0x0-0x4 boot 0x4 starts 1 lives 1" --seed 1 --count 1
     expect "a storm on a board that cannot start" 2 "board fault 6"
-    if [ -c /dev/full ]; then
+    if has_full "a storm into a full device"; then
         "$program" storm --seed 1 --count 0 2> "$work/err" > /dev/full
         echo $? > "$work/got"
         expect "a storm into a full device" 4 "write fault"
@@ -263,7 +281,7 @@ storm_counts() {
             fail "storm $words (status $(cat "$work/got"))"
         fi
     done
-    if [ -c /dev/full ]; then
+    if has_full "counts into a full device"; then
         "$program" storm --seed 1 --count 0 --counts 2> "$work/err" > /dev/full
         echo $? > "$work/got"
         expect "counts into a full device" 4 "write fault"
@@ -289,7 +307,7 @@ storm_memory() {
     cp "$work/out" "$work/lines"
     for size in $(seq 16384 -16 512); do
         if ! ended=$(in_memory "$size" storm --seed 3 --count 2000); then
-            fail "storm in $size KiB of memory ($(head -n 1 "$work/err"))"
+            fail "storm in $size KiB of memory (status $(cat "$work/got")): $(cat "$work/err")"
             return
         fi
         [ "$ended" != refused ] || refused=$((refused + 1))
