@@ -75,7 +75,7 @@ class Crates:
 
         for name in names:
             if name not in self.named:
-                raise KeyError(f"crates.txt has no crate {name}")
+                sys.exit(f"crates.txt has no crate {name}")
             visit(name)
         return found
 
