@@ -1,0 +1,317 @@
+# Tests of the built program as a whole, sourced by ../test: little memory, words and streams.
+# What is wanted is written here, by docs/FORMATS.md.
+
+board="board 1 exec 0x0-0x4 boot 0x0 starts 1 lives 1"
+
+# expect NAME STATUS [ERROR]: compares the status in $work/got, and the text of $work/err, which is
+# nothing, or ERROR and a line feed
+expect() {
+    if [ $# = 2 ]; then : > "$work/wanted"; else printf '%s\n' "$3" > "$work/wanted"; fi
+    if [ "$(cat "$work/got")" = "$2" ] && cmp -s "$work/wanted" "$work/err"; then pass; else
+        fail "$1 (status $(cat "$work/got"), $(head -n 1 "$work/err"))"
+    fi
+}
+
+# answers NAME: compares the standard output with $work/lines
+answers() {
+    if cmp -s "$work/lines" "$work/out"; then pass; else
+        fail "$1: its output"
+        diff "$work/lines" "$work/out" | head -n 5
+    fi
+}
+
+# run WORD..: the program with these words; its output, error text and status are kept
+run() {
+    timeout 60 "$program" "$@" > "$work/out" 2> "$work/err"
+    echo $? > "$work/got"
+}
+
+# the smallest script with an answer, and that
+one_entry() {
+    printf '%s\nenter 0\n' "$board" > "$work/script"
+    echo "1 enter 0x0 0x0" > "$work/lines"
+}
+
+# in_memory KIB WORD..: a run with so much address space, and how it ended; 1 if it ended wrongly.
+# Its status is in $work/got.
+in_memory() {
+    local size=$1 status=0
+    shift
+    (ulimit -v "$size" && exec "$program" "$@" < "$work/script" > "$work/out" 2> "$work/err") \
+        > /dev/null 2>&1 || status=$?
+    echo "$status" > "$work/got"
+    case $status in
+        0) cmp -s "$work/lines" "$work/out" && [ ! -s "$work/err" ] && echo enough ;;
+        5) [ ! -s "$work/out" ] && echo "out of memory" | cmp -s - "$work/err" && echo refused ;;
+        # the system can't load the program
+        126 | 127) echo unloaded ;;
+        # all else is wrong, and so is an end by a signal
+        *) return 1 ;;
+    esac
+}
+
+# With ever less memory the program answers as ever, then says that it is out of memory, and at last
+# it is not loaded.
+little_memory() {
+    local size ended refused=0
+    one_entry
+    for size in $(seq 16384 -16 512); do
+        if ! ended=$(in_memory "$size" replay); then
+            fail "replay in $size KiB of memory (status $(cat "$work/got")): $(cat "$work/err")"
+            return
+        fi
+        [ "$ended" != refused ] || refused=$((refused + 1))
+        [ "$ended" != unloaded ] || break
+    done
+    if [ "$refused" -gt 0 ]; then pass; else fail "no amount of memory was too little for replay"; fi
+}
+
+# the stack that docs/COSTS.md names is enough
+little_stack() {
+    local words
+    one_entry
+    for words in replay --help; do
+        (ulimit -s 48 && exec env -i "$program" "$words" < "$work/script" > "$work/out" 2> "$work/err")
+        echo $? > "$work/got"
+        expect "$words on a stack of 48 KiB" 0
+    done
+}
+
+# standard streams that are closed, full, or no file, and a reader that has gone
+streams() {
+    one_entry
+    run replay <&-
+    expect "standard input closed" 4 "read fault"
+    run replay < .
+    expect "a folder as standard input" 4 "read fault"
+    "$program" replay < "$work/script" 2> "$work/err" >&-
+    echo $? > "$work/got"
+    expect "standard output closed" 4 "write fault"
+    if has_full "streams into a full device"; then
+        "$program" replay < "$work/script" 2> "$work/err" > /dev/full
+        echo $? > "$work/got"
+        expect "answers into a full device" 4 "write fault"
+        "$program" --help 2> "$work/err" > /dev/full
+        echo $? > "$work/got"
+        expect "help into a full device" 4 "write fault"
+        : > "$work/err"
+        "$program" replay < /dev/null 2> /dev/full
+        echo $? > "$work/got"
+        expect "a fault's text into a full device" 3
+        "$program" 2> /dev/full
+        echo $? > "$work/got"
+        expect "the parser's text into a full device" 2
+    fi
+    awk -v board="$board" 'BEGIN { print board; for (i = 0; i < 900000; i++) print "call 0 0x84000000" }' \
+        > "$work/script"
+    { "$program" replay < "$work/script" 2> "$work/err"; echo $? > "$work/got"; } | true
+    expect "a reader that has gone" 4 "write fault"
+}
+
+# a pipe in which the bytes come one by one
+slow_pipe() {
+    local text at
+    one_entry
+    text=$(cat "$work/script")
+    for ((at = 0; at < ${#text}; at++)); do
+        printf '%s' "${text:at:1}"
+        sleep 0.002
+    done | { timeout 60 "$program" replay > "$work/out" 2> "$work/err"; echo $? > "$work/got"; }
+    expect "a pipe byte by byte" 0
+    answers "a pipe byte by byte"
+}
+
+# the program answers a line before it asks for the next
+by_hand() {
+    local answer= input output pid
+    coproc talk { "$program" replay 2> /dev/null; }
+    pid=$talk_PID output=${talk[0]} input=${talk[1]}
+    printf '%s\n' "$board" "enter 0" >&"$input"
+    read -r -t 20 answer <&"$output"
+    if [ "$answer" = "1 enter 0x0 0x0" ]; then pass; else fail "a line by hand"; fi
+    exec {input}>&-
+    wait "$pid" 2> /dev/null || true
+}
+
+# words that are no command, words that are not UTF-8, and words that ask for help
+command_lines() {
+    local words
+    for words in "" "storm" "threads" "replay extra" "replay --seed 1" "replay --version" "--no-such"; do
+        # shellcheck disable=SC2086
+        run $words < /dev/null
+        if [ "$(cat "$work/got")" = 2 ] && [ ! -s "$work/out" ] && [ -s "$work/err" ]; then pass; else
+            fail "command line '$words'"
+        fi
+    done
+    for words in $'\xff' $'repl\xe4y' $'\xc0\x80'; do
+        run "$words" < /dev/null
+        expect "a word that is not UTF-8" 2 "error: the command line is not UTF-8 text"
+        run replay "$words" < /dev/null
+        expect "a second word that is not UTF-8" 2 "error: the command line is not UTF-8 text"
+    done
+    for words in $'re\x1b[2Jplay' $'re\xc2\x9b2Jplay' $'re\x7fplay'; do
+        run "$words" < /dev/null
+        if [ "$(cat "$work/got")" = 2 ] && grep -q 're?.*play' "$work/err" &&
+            ! LC_ALL=C grep -q '[^ -~]' "$work/err"; then pass; else
+            fail "a word that a terminal would obey"
+        fi
+    done
+    for words in "--help" "replay --help" "help replay"; do
+        # shellcheck disable=SC2086
+        run $words
+        if [ "$(cat "$work/got")" = 0 ] && [ -s "$work/out" ] && [ ! -s "$work/err" ]; then pass; else
+            fail "help '$words'"
+        fi
+    done
+}
+
+# the version, of the program alone
+version() {
+    echo "psci_cli 0.1.0" > "$work/lines"
+    run --version
+    expect "--version" 0
+    answers "--version"
+    "$program" --version 2> "$work/err" >&-
+    echo $? > "$work/got"
+    expect "--version with standard output closed" 4 "write fault"
+}
+
+# front_of FOLDER WORD..: runs a faulty script by the command ./psci of this folder
+front_of() {
+    local at=$1 lines=tests/scripts/lines/event-of-no-form
+    shift
+    (cd "$at" && ./psci "$@") < "$lines.psci" > "$work/out" 2> "$work/err"
+    echo $? > "$work/got"
+    cp "$lines.out" "$work/lines"
+}
+
+# ./psci hands words, streams and status on. Where no program is proved, or by --unproved, it does
+# the same, and first says what that is worth.
+front() {
+    local fault name unproved fresh=$work/fresh
+    fault=$(cat tests/scripts/lines/event-of-no-form.err)
+    unproved="psci: nothing of this run is proved; ./psci prove proves and builds the program"
+    front_of . replay
+    expect "./psci replay" 3 "$fault"
+    answers "./psci replay"
+    front_of . --unproved replay
+    expect "./psci --unproved" 3 "$unproved"$'\n'"$fault"
+    answers "./psci --unproved"
+    for name in crates/*/; do
+        mkdir -p "$fresh/$name"
+        cp -r "$name"/{src,specs,proofs} "$fresh/$name"
+    done
+    cp psci crates.txt "$fresh"
+    git init -q "$fresh"
+    front_of "$fresh" replay
+    expect "./psci replay without a proved program" 3 "$unproved"$'\n'"$fault"
+    answers "./psci replay without a proved program"
+}
+
+# the line of a storm, which the seed alone decides; its words, streams and memory
+storms() {
+    local seed
+    echo "storm events 1 sent 0 quiet 0" > "$work/lines"
+    run storm --seed 1 --count 0
+    expect "a storm without events" 0
+    answers "a storm without events"
+    run storm --seed 18446744073709551615 --count 10000
+    expect "a storm of the last seed" 0
+    cp "$work/out" "$work/lines"
+    run storm --count 10000 --seed 18446744073709551615
+    answers "the same storm again"
+    for seed in 1 2 3 4 5; do
+        run storm --board "((1 2) (2 1)) exec 0x0-0x1000 boot 0x0 starts 1000 lives 3" \
+            --seed "$seed" --count 10000
+        expect "a storm on a board of height 3" 0
+        grep -qxE 'storm events [0-9]+ sent [0-9]+ (quiet [0-4]|halting)' "$work/out" || \
+            fail "the line of a storm: $(head -n 1 "$work/out")"
+    done
+    run storm --board "(2 2)" --seed 1 --count 1
+    expect "a storm on a board outside the grammar" 2 "board fault 1"
+    run storm --board "1 exec 0x0-0x4 boot 0x4 starts 1 lives 1" --seed 1 --count 1
+    expect "a storm on a board that cannot start" 2 "board fault 6"
+    if has_full "a storm into a full device"; then
+        "$program" storm --seed 1 --count 0 2> "$work/err" > /dev/full
+        echo $? > "$work/got"
+        expect "a storm into a full device" 4 "write fault"
+    fi
+    for words in "" "--seed 1" "--count 1" "--seed 1 --count 10001" "--seed -1 --count 1" \
+        "--seed 18446744073709551616 --count 1" "--seed 1 --count x"; do
+        # shellcheck disable=SC2086
+        run storm $words
+        if [ "$(cat "$work/got")" = 2 ] && [ ! -s "$work/out" ] && [ -s "$work/err" ]; then pass; else
+            fail "storm $words (status $(cat "$work/got"))"
+        fi
+    done
+    run storm --help
+    expect "help of storm" 0
+}
+
+# the counts of a storm: its line comes first as ever, then one line for each kind, and each event is in
+# one of them; over some storms each kind comes
+storm_counts() {
+    local words seed kinds=85 tall="((1 2) (2 1)) exec 0x0-0x1000 boot 0x0 starts 1000 lives 3"
+    run storm --seed 1 --count 10000
+    cp "$work/out" "$work/lines"
+    run storm --counts --seed 1 --count 10000
+    expect "a storm with counts" 0
+    cp "$work/out" "$work/counts"
+    head -n 1 "$work/counts" > "$work/out"
+    answers "a storm with counts"
+    : > "$work/all"
+    for seed in $(seq 20); do
+        run storm --seed "$seed" --count 10000 --counts
+        one_of_each "$kinds" "storm $seed"
+        tail -n +2 "$work/out" >> "$work/all"
+    done
+    for seed in 1 2 3 4 5; do
+        run storm --board "$tall" --seed "$seed" --count 10000 --counts
+        one_of_each "$kinds" "storm $seed on a board of height 3"
+        tail -n +2 "$work/out" >> "$work/all"
+    done
+    if awk -v kinds="$kinds" '{ n = $NF; $NF = ""; sum[$0] += n }
+        END { for (kind in sum) if (sum[kind] > 0) came++; exit came != kinds }' "$work/all"; then pass; else
+        fail "a kind that came in no storm"
+    fi
+    for words in "--counts=x" "--counts=true" "--counts x" "--counts --counts"; do
+        # shellcheck disable=SC2086
+        run storm --seed 1 --count 1 $words
+        if [ "$(cat "$work/got")" = 2 ] && [ ! -s "$work/out" ] && [ -s "$work/err" ]; then pass; else
+            fail "storm $words (status $(cat "$work/got"))"
+        fi
+    done
+    if has_full "counts into a full device"; then
+        "$program" storm --seed 1 --count 0 --counts 2> "$work/err" > /dev/full
+        echo $? > "$work/got"
+        expect "counts into a full device" 4 "write fault"
+    fi
+}
+
+# one_of_each KINDS NAME: so many kinds are counted, each once, and the sum is the number of events
+one_of_each() {
+    local answer="return -?[0-9]+|stop|enter|resume|started|ack applied [0-4]( stale)?|used|old|ignored|absent"
+    if awk -v kinds="$1" 'NR == 1 { events = $3; next }
+        { n = $NF; $NF = ""; if ($0 in seen) exit twice = 1; seen[$0]; sum += n }
+        END { exit twice || NR != kinds + 1 || sum != events }' "$work/out" &&
+        ! tail -n +2 "$work/out" | grep -qvxE "[a-z_]+ ($answer) [0-9]+"; then pass; else
+        fail "$2: its counts"
+    fi
+}
+
+# with ever less memory a storm has its line, then is out of memory, and at last is not loaded
+storm_memory() {
+    local size ended refused=0
+    : > "$work/script"
+    run storm --seed 3 --count 2000
+    cp "$work/out" "$work/lines"
+    for size in $(seq 16384 -16 512); do
+        if ! ended=$(in_memory "$size" storm --seed 3 --count 2000); then
+            fail "storm in $size KiB of memory (status $(cat "$work/got")): $(cat "$work/err")"
+            return
+        fi
+        [ "$ended" != refused ] || refused=$((refused + 1))
+        [ "$ended" != unloaded ] || break
+    done
+    if [ "$refused" -gt 0 ]; then pass; else fail "no amount of memory was too little for a storm"; fi
+}
