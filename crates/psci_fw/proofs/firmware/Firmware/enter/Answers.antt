@@ -1,0 +1,20 @@
+use Rattle.std.proofs.Common.{rules}
+use Rattle.psci_fw_model.specs.After.{after}
+use Rattle.psci_fw_model.specs.Answer.{answer}
+use Rattle.psci_fw.proofs.firmware.Firmware.enter.Goals as goal
+
+pub returns-in_err-check_start-clause-answer : goal.returns-in_err-check_start-clause-answer
+unfolding answer after
+returns-in_err-check_start-clause-answer c = search rules
+
+pub returns-in_err-check_start-clause-after : goal.returns-in_err-check_start-clause-after
+unfolding answer after
+returns-in_err-check_start-clause-after c = search rules
+
+pub returns-in_err-check_start-clause-refused : goal.returns-in_err-check_start-clause-refused
+unfolding answer after
+returns-in_err-check_start-clause-refused c = search rules
+
+pub returns-clause-answer : goal.returns-clause-answer
+unfolding answer after
+returns-clause-answer c = search rules
