@@ -9,16 +9,18 @@ use Rattle.psci_board.specs.declared.node.Node.{Node}
 use Rattle.psci_board.specs.Laws.{ChildLaws}
 use Rattle.psci_coord.specs.declared.part.Part.{Part}
 use Rattle.psci_link.specs.Message.{IsClaim, PartByPart}
-use Rattle.psci_ctl_model.specs.declared.start.Cause.{Cause}
+use Rattle.psci_link.specs.declared.start.Cause.{Cause}
 use Rattle.psci_ctl_model.specs.Effects.{Effect, Nothing, Starts, Deepens, Ends, Begins, effect_of}
 use Rattle.psci_ctl_model.specs.Entry.{Entry}
 use Rattle.psci_ctl_model.specs.Follows.{IsFront, MayFollow}
-use Rattle.psci_ctl_model.specs.History.{depth, depth_by, effect_in, life, life_by, only_if}
+use Rattle.psci_ctl_model.specs.History.{depth, depth_by, effect_in, life, life_by}
+use Rattle.psci_link.specs.OnlyIf.{only_if}
 use Rattle.psci_ctl_model.specs.History.{starts, starts_by}
 use Rattle.psci_ctl_model.specs.History.{values_of}
 use Rattle.psci_ctl_model.specs.Lasting.{Applies, IsApplied, IsFirst, is_within}
 use Rattle.psci_ctl_model.specs.Legal.{IsLegal}
-use Rattle.psci_ctl_model.specs.Values.{first_starts, is_on_path, starts_below}
+use Rattle.psci_ctl_model.specs.Values.{first_starts, starts_below}
+use Rattle.psci_board.specs.Paths.{is_on_path}
 use Rattle.psci_ctl_model.proofs.Follows.{follows}
 use Rattle.psci_ctl_model.proofs.Paths.{path_place}
 use Rattle.psci_ctl_model.proofs.Sums.{starts_more, starts_none}

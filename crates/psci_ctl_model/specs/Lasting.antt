@@ -7,7 +7,8 @@ use Rattle.psci_coord.specs.declared.part.Part.{Part}
 use Rattle.psci_ctl_model.specs.Effects.{Effect, Nothing, Starts, Deepens, Ends, Begins}
 use Rattle.psci_ctl_model.specs.Entry.{Entry}
 use Rattle.psci_ctl_model.specs.History.{depth, effect_in, life, starts}
-use Rattle.psci_ctl_model.specs.Values.{first_depth, is_on_path, starts_below}
+use Rattle.psci_ctl_model.specs.Values.{first_depth, starts_below}
+use Rattle.psci_board.specs.Paths.{is_on_path}
 
 -- Live parts -----------------------------------------------------------------------------------
 

@@ -10,7 +10,7 @@ use Rattle.psci_fw_model.specs.declared.outcome.Act.{Act}
 use Rattle.psci_fw_model.specs.declared.outcome.Act.TheVariants as acts
 use Rattle.psci_fw_model.specs.declared.outcome.Outcome.{Outcome}
 use Rattle.psci_fw_model.specs.declared.reply.FwReply.TheVariants.{Out}
-use Rattle.psci_ctl_model.specs.declared.start.Start.{Start}
+use Rattle.psci_link.specs.declared.start.Start.{Start}
 use Rattle.psci_fw_model.specs.After.{after, change}
 use Rattle.psci_fw_model.specs.Answer.{answer}
 use Rattle.psci_fw_model.specs.Effects.{Enters, enter_effect}

@@ -10,8 +10,8 @@ use Rattle.psci_fw_model.specs.declared.outcome.Act.{Act}
 use Rattle.psci_fw_model.specs.declared.outcome.Act.TheVariants as acts
 use Rattle.psci_fw_model.specs.declared.reply.FwReply.{FwReply}
 use Rattle.psci_fw_model.specs.declared.reply.FwReply.TheVariants.{Out}
-use Rattle.psci_ctl_model.specs.declared.start.Cause.TheVariants as causes
-use Rattle.psci_ctl_model.specs.declared.start.Start.{Start}
+use Rattle.psci_link.specs.declared.start.Cause.TheVariants as causes
+use Rattle.psci_link.specs.declared.start.Start.{Start}
 use Rattle.psci_fw_model.specs.Effects.{Acknowledges, AsksOn, Ceases, Effect, Enters, GoesOn, Halts}
 use Rattle.psci_fw_model.specs.Effects.{Leaves, Nothing, Parks, Rests, SetsMode, effect_of}
 use Rattle.psci_fw_model.specs.Lives.{start_of_life}

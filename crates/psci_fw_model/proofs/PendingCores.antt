@@ -14,7 +14,8 @@ use Rattle.psci_fw_model.specs.Changes.{target}
 use Rattle.psci_fw_model.specs.Effects.{Effect, AsksOn}
 use Rattle.psci_fw_model.specs.Effects.{Enters, Parks, Ceases, Acknowledges}
 use Rattle.psci_fw_model.specs.Entry.{Entry, effect}
-use Rattle.psci_fw_model.specs.History.{begins, is_gone, is_pending, life, only_if, phase}
+use Rattle.psci_fw_model.specs.History.{begins, is_gone, is_pending, life, phase}
+use Rattle.psci_link.specs.OnlyIf.{only_if}
 use Rattle.psci_fw_model.specs.History.{phase_left, says_pending, says_status, status}
 use Rattle.psci_fw_model.specs.Lives.{first_status}
 use Rattle.psci_fw_model.specs.Phases.{Phase, Pending, is_away}

@@ -7,6 +7,7 @@ use Rattle.std.specs.Option.{option_or}
 use Rattle.psci_board.specs.Board.{BoardValue}
 use Rattle.psci_link.specs.declared.kind.Kind.TheVariants.{Down}
 use Rattle.psci_link.specs.Message.{AckValue, MessageValue}
+use Rattle.psci_link.specs.OnlyIf.{only_if}
 use Rattle.psci_link.specs.Outstanding as slots
 use Rattle.psci_link.specs.Slots.{Change, is_kind}
 use Rattle.psci_fw_model.specs.declared.mode.SuspendMode.{SuspendMode}
@@ -18,7 +19,7 @@ use Rattle.psci_fw_model.specs.Changes.{target}
 use Rattle.psci_fw_model.specs.Effects.{Effect, SetsMode, Rests, Halts, Acknowledges}
 use Rattle.psci_fw_model.specs.Entry.{Entry, effect}
 use Rattle.psci_fw_model.specs.Lives.{first_granted, first_opening, first_status}
-use Rattle.psci_fw_model.specs.Paths.{is_on_path}
+use Rattle.psci_board.specs.Paths.{is_path_place}
 use Rattle.psci_fw_model.specs.Phases.{Phase, is_away}
 use Rattle.psci_fw_model.specs.Phases.{Pending, Away}
 use Rattle.psci_fw_model.specs.Said.{Arrival, arrived, asked_on, claimed, left, ran}
@@ -57,11 +58,6 @@ last_said b says first [] = first
 last_said b says first (e ∷ h) =
     unwrap_or (says h (effect b e))
     (if begins (life b h) (arrived (effect b e)) then first else last_said b says first h)
-
--- what is said, where the test holds
-abbrev pub only_if : {A : Type 0} → Bool → Option A → Option A
-only_if true o = o
-only_if false o = None
 
 -- The system ----------------------------------------------------------------------------------
 
@@ -177,7 +173,7 @@ opening b h c = last_said b (says_opening c) (first_opening b c) h
 -- Down has a part of the level
 abbrev pub claim_on : BoardValue → ℕ → ℕ → MessageValue → Option ℕ
 claim_on b level place m =
-    only_if (is_on_path b m.core.number level place)
+    only_if (is_path_place b m.core.number level place)
     (option_map (λ p. p.depth) (slice_get m.parts level))
 
 -- a stopping core says the depth that it claims, and a core below that was asked on or entered
@@ -186,8 +182,8 @@ abbrev pub says_granted : BoardValue → ℕ → ℕ → List Entry → Effect �
 says_granted b level place before e =
     option_or (option_and_then (claim_on b level place) (claimed e))
     (option_or
-    (option_and_then (λ a. only_if (is_on_path b a.core level place) (Some 0)) (arrived e))
-    (option_and_then (λ asked. only_if (is_on_path b (target asked) level place) (Some 0))
+    (option_and_then (λ a. only_if (is_path_place b a.core level place) (Some 0)) (arrived e))
+    (option_and_then (λ asked. only_if (is_path_place b (target asked) level place) (Some 0))
     (asked_on e)))
 
 -- the granted depth of a domain: that of the last claim on it, or 0 where there is none or since

@@ -15,7 +15,7 @@ ghost use Rattle.psci_fw_model.specs.declared.outcome.Act.TheVariants as acts;
 ghost use Rattle.psci_fw_model.specs.declared.outcome.Outcome.{Outcome};
 ghost use Rattle.psci_fw_model.specs.declared.reply.FwReply.{FwReply};
 ghost use Rattle.psci_fw_model.specs.declared.reply.FwReply.TheVariants.{Out};
-ghost use Rattle.psci_ctl_model.specs.declared.start.Start.{Start};
+ghost use Rattle.psci_link.specs.declared.start.Start.{Start};
 ghost use Rattle.psci_fw_model.specs.declared.status.Status.TheVariants as statuses;
 ghost use Rattle.psci_fw_model.specs.After.{after, change};
 ghost use Rattle.psci_fw_model.specs.Answer.{answer};

@@ -5,7 +5,7 @@ use Rattle.psci_board.specs.Board.{BoardValue}
 use Rattle.psci_board.specs.declared.node.Node.{Node}
 use Rattle.psci_ctl_model.specs.History as controls
 use Rattle.psci_ctl_model.specs.Lasting.{IsApplied, IsFirst}
-use Rattle.psci_ctl_model.specs.Values.{is_on_path}
+use Rattle.psci_board.specs.Paths.{is_on_path}
 use Rattle.psci_world_model.specs.declared.said.Record.{Record}
 use Rattle.psci_world_model.specs.Histories.{controller_history, controller_values}
 use Rattle.psci_world_model.specs.Legal.{IsAnswered}

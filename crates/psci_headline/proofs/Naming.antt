@@ -6,7 +6,7 @@ use Rattle.psci_abi.specs.declared.registers.Regs.{Regs}
 use Rattle.psci_abi.specs.declared.request.Request.TheVariants.{CpuOn}
 use Rattle.psci_board.specs.Board.{BoardValue, core_of}
 use Rattle.psci_board.specs.declared.node.Core.{Core}
-use Rattle.psci_ctl_model.specs.declared.start.Start.{Start}
+use Rattle.psci_link.specs.declared.start.Start.{Start}
 use Rattle.psci_link.specs.declared.taken.Taken.TheVariants.{Used, Old}
 use Rattle.psci_link.specs.Message.{MessageValue}
 use Rattle.psci_fw_model.specs.declared.call.FwCall.{FwCall}

@@ -8,8 +8,8 @@ use Rattle.std.proofs.lemmas.Option.{none-some, slice_get_within}
 use Rattle.psci_board.specs.Board.{BoardValue, cores, height, up}
 use Rattle.psci_coord.specs.declared.part.Part.{Part}
 use Rattle.psci_coord.specs.View.{domain_of}
-use Rattle.psci_ctl_model.specs.declared.start.Cause.{Cause}
-use Rattle.psci_ctl_model.specs.declared.start.Cause.TheVariants as causes
+use Rattle.psci_link.specs.declared.start.Cause.{Cause}
+use Rattle.psci_link.specs.declared.start.Cause.TheVariants as causes
 use Rattle.psci_ctl_model.specs.Changes.{change, one_more}
 use Rattle.psci_ctl_model.specs.Effects.{Nothing, Starts, Deepens}
 use Rattle.psci_ctl_model.specs.Follows.{IsFront}

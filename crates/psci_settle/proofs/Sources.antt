@@ -8,8 +8,7 @@ use Rattle.psci_board.specs.Board.{BoardValue, HasNode, height, up}
 use Rattle.psci_board.specs.declared.node.Node.{Node}
 use Rattle.psci_ctl_model.specs.History as controls
 use Rattle.psci_ctl_model.specs.Lasting.{IsApplied, IsFirst}
-use Rattle.psci_ctl_model.specs.Values.{is_on_path}
-use Rattle.psci_fw_model.specs.Paths as paths
+use Rattle.psci_board.specs.Paths.{is_on_path, is_path_place}
 use Rattle.psci_fw_laws.specs.Claims.{IsFromStart}
 use Rattle.psci_world_model.specs.declared.said.Record.{Record}
 use Rattle.psci_world_model.specs.Histories.{controller_history, controller_values}
@@ -25,7 +24,7 @@ first_off false depth e some = (refl, e)
 
 -- a node of the board that the power controller finds on no path is on none for the firmware
 off_path : (b : BoardValue) (n : Node) → HasNode b n → is_on_path b 0 n.level n.place ≡ false
-    → paths.is_on_path b 0 n.level n.place ≡ false
+    → is_path_place b 0 n.level n.place ≡ false
 off_path b n has off =
     elim (and_cases (nat_le n.level (height b)) (up b n.level 0 == n.place) off) [
       | inl high ↦ absurd (omega (arith, has.level, leb-false n.level (height b) high))

@@ -1,6 +1,7 @@
 -- How kinds are spelled, and the lines of counts.
 use Rattle.std.specs.Prelude.{ℕ, Bool, true, false, List, [], ◌∷◌, ◌++◌, codes, count_by, flat_map}
 use Rattle.std.specs.Fmt.{decimal, signed_decimal}
+use Rattle.psci_link.specs.StaleText.{stale_text}
 use Rattle.psci_world_model.specs.declared.said.Record.{Record}
 use Rattle.psci_tally.specs.declared.asked.Asked.{Asked}
 use Rattle.psci_tally.specs.declared.asked.Asked.TheVariants.{Version, CpuSuspend, CpuOff, CpuOn}
@@ -36,11 +37,6 @@ asked_text Wake = codes "wake"
 asked_text Reset = codes "reset"
 asked_text Deliver = codes "deliver"
 asked_text Take = codes "take"
-
--- after the parts that were applied, that the message meant nothing any more
-abbrev pub stale_text : Bool → List ℕ
-stale_text true = codes " stale"
-stale_text false = []
 
 -- what was answered, in the words of an answer line
 abbrev pub answer_text : Answer → List ℕ

@@ -12,14 +12,15 @@ use Rattle.psci_link.specs.Message.{AckValue, MessageValue}
 use Rattle.psci_ctl_model.specs.declared.call.CtlCall.TheVariants as asked
 use Rattle.psci_ctl_model.specs.declared.delivery.Delivery.TheVariants as deliveries
 use Rattle.psci_ctl_model.specs.declared.reply.CtlReply.TheVariants as replied
-use Rattle.psci_ctl_model.specs.declared.start.Cause.TheVariants as causes
+use Rattle.psci_link.specs.declared.start.Cause.TheVariants as causes
 use Rattle.psci_ctl_model.specs.Effects.{Effect, Nothing, Starts, Deepens, Ends, Begins, effect_of}
 use Rattle.psci_ctl_model.specs.Effects.{message_effect}
 use Rattle.psci_ctl_model.specs.Entry as controller
 use Rattle.psci_ctl_model.specs.History as controls
 use Rattle.psci_ctl_model.specs.Lasting.{Applies, WasApplied, is_within}
 use Rattle.psci_ctl_model.specs.Replies.{ack_by, delivery_of, is_present, reply}
-use Rattle.psci_ctl_model.specs.Values.{Values, is_on_path}
+use Rattle.psci_ctl_model.specs.Values.{Values}
+use Rattle.psci_board.specs.Paths.{is_on_path}
 use Rattle.psci_ctl_model.proofs.Front.{take_get}
 use Rattle.psci_fw_model.specs.Said.{listed}
 use Rattle.psci_fw_laws.specs.Claims.{IsFromMessage}
