@@ -15,7 +15,7 @@ use Rattle.psci_fw_model.specs.Lives.{first_phase, first_status, in_life, start_
 use Rattle.psci_fw_model.specs.Phases.{Phase, Running, unless_pending}
 use Rattle.psci_fw_model.specs.Values.{Values, updated}
 use Rattle.psci_fw_laws.specs.Allowed.{IsEntering}
-use Rattle.psci_fw_laws.specs.Claims.{AreApart}
+use Rattle.psci_fw_laws.specs.Claims.{AreRising}
 use Rattle.psci_fw_laws.specs.Messages.{AreSent}
 use Rattle.psci_fw_laws.proofs.Claiming.{quiet_arrival, quiet_life, quiet_phase}
 use Rattle.psci_fw_laws.proofs.Granting.{granted_arrival, granted_life, granted_phase}
@@ -33,7 +33,7 @@ first_not_on c =
     (λ e. refl)
 
 pub first_holds : (b : BoardValue) (life : ℕ) (halting : Bool) (known : ℕ → ℕ) (phase : ℕ → Phase)
-    (sent : List MessageValue) (later : ℕ) → later ≤ b.lives → life < later → AreApart b sent
+    (sent : List MessageValue) (later : ℕ) → later ≤ b.lives → life < later → AreRising b sent
     → AreSent b life halting known phase sent → Holds b (start_of_life b later) sent
 first_holds b life halting known phase sent later most h apart are = record {
   lives = most;

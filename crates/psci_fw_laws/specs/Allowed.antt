@@ -132,7 +132,7 @@ pub record IsCeasing (b : BoardValue) (v : Values) (c : ℕ) (s : starts.Start) 
 -- Acknowledgements ----------------------------------------------------------------------------
 
 -- An acknowledgement of what is outstanding.
-pub record IsAnswered (v : Values) (a : AckValue) : Type 0 where
+pub record IsAwaited (v : Values) (a : AckValue) : Type 0 where
   pub message : MessageValue
   pub at : v.outstanding (slot_of a.kind a.core) ≡ Some message
   pub answers : answers a message ≡ true
@@ -151,4 +151,4 @@ IsAllowed b v (Leaves c) = IsLeaving b v c
 IsAllowed b v (Enters c s) = IsGoingOn b v c s
 IsAllowed b v (Parks c s m) = IsParking b v c s m
 IsAllowed b v (Ceases c s) = IsCeasing b v c s
-IsAllowed b v (Acknowledges a) = IsAnswered v a
+IsAllowed b v (Acknowledges a) = IsAwaited v a

@@ -46,7 +46,7 @@ IsCurrent b known level place p = p.generation ≡ known_below b known level pla
 
 -- Claims on one domain in one life have different generations: that of a later one is larger, and
 -- that of each message is above that of the life's start. Messages have the last one first.
-pub record AreApart (b : BoardValue) (sent : List MessageValue) : Type 0 where
+pub record AreRising (b : BoardValue) (sent : List MessageValue) : Type 0 where
   pub later : (life level place j k : ℕ) (m n : MessageValue) (p q : Part) → j < k
       → slice_get sent j ≡ Some m → slice_get sent k ≡ Some n
       → part_for b life level place m ≡ Some p → part_for b life level place n ≡ Some q

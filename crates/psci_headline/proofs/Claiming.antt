@@ -158,15 +158,6 @@ in_old b life v n depth generation old None is = is
 in_old b life v n depth generation old (Some m) is =
     in_part b v n m.core.number depth generation old (part_for b life n.level n.place m) is
 
--- a claim stays in the list
-pub in_later : (b : BoardValue) (life : ℕ) (n : Node) (r : Record) (past : List Record)
-    (depth generation : ℕ) → IsIn (claims b life n past) depth generation
-    → IsIn (claims b life n (r ∷ past)) depth generation
-unfolding claims
-in_later b life n r past depth generation is =
-    in_old b life (firmware_values b (r ∷ past)) n depth generation (claims b life n past)
-    (sent_in r.said) is
-
 in_new : (b : BoardValue) (life : ℕ) (v : Values) (n : Node) (old : List Claim) (m : MessageValue)
     (o : Option Part) (p : Part) → part_for b life n.level n.place m ≡ o → o ≡ Some p
     → IsIn (with_claim_of b life v n (Some m) old) p.depth p.generation

@@ -1,5 +1,5 @@
 -- The answer line of an event.
-use Rattle.std.specs.Prelude.{ℕ, Bool, true, false, List, ◌++◌, ◌∷◌, [], Option, Some, None}
+use Rattle.std.specs.Prelude.{ℕ, false, List, ◌++◌, ◌∷◌, [], Option, Some, None}
 use Rattle.std.specs.Prelude.{codes, flat_map}
 use Rattle.std.specs.Fmt.{decimal, signed_decimal, digits}
 use Rattle.psci_fw_model.specs.declared.outcome.Act.{Act}

@@ -128,7 +128,7 @@ run_from b past (event ∷ events) = run_from b (legal_record b past event ∷ p
 
 -- a history of the power controller in which every reply is the one reply after the entries before
 -- it, whatever was delivered
-abbrev pub IsAnswered : BoardValue → List controller.Entry → Type 0
-IsAnswered b [] = Unit {0}
-IsAnswered b (e ∷ h) =
-    (e.reply ≡ reply b (controls.values_of b h) e.call) × IsAnswered b h
+abbrev pub IsReplied : BoardValue → List controller.Entry → Type 0
+IsReplied b [] = Unit {0}
+IsReplied b (e ∷ h) =
+    (e.reply ≡ reply b (controls.values_of b h) e.call) × IsReplied b h
