@@ -9,7 +9,7 @@ use Rattle.std.proofs.lemmas.Option.{cond_some, option_and_then_some}
 use Rattle.std.specs.Prelude.{option_and_then, option_map, IfSome}
 use Rattle.psci_text.specs.Reading.{literal_at, spaced_at, number_at}
 use Rattle.psci_board.specs.Reading.{at_most, more_at, then_more}
-use Rattle.psci_board.specs.Reading.{list_at, member_at, starts_list, rest_of}
+use Rattle.psci_board.specs.Reading.{list_at, member_at, starts_list, bytes_after}
 use Rattle.psci_board.specs.Grammar.Member.{Cluster, Group}
 
 -- what is left is no longer than the text
@@ -167,13 +167,13 @@ member_shortens bytes x e = by_test (starts_list bytes) e
 
 -- what was read, where its rest and a fact on it are known
 pub read_some : {A : Type 0} (P : A × List ℕ → Type 0) (o : Option (A × List ℕ)) (rest : List ℕ)
-    → Some rest ≡ option_map rest_of o → IfSome o P
+    → Some rest ≡ option_map bytes_after o → IfSome o P
     → (x : A) × (o ≡ Some (x, rest)) × P (x, rest)
 read_some P None rest e h = cc
 read_some P (Some x) rest e h = let r : x.1 ≡ rest = cc in
     (x.0, ap (λ y. Some (x.0, y)) r, subst (λ y. P (x.0, y)) r h)
 
-pub read_none : {A : Type 0} (o : Option (A × List ℕ)) → None ≡ option_map rest_of o → o ≡ None
+pub read_none : {A : Type 0} (o : Option (A × List ℕ)) → None ≡ option_map bytes_after o → o ≡ None
 read_none None e = refl
 read_none (Some x) e = cc
 
@@ -241,7 +241,7 @@ list_ended {A} item s bytes open_ rest0 rest first a b same none =
     by_close (Some x) = refl
 
 pub rest_again : {A : Type 0} (x : A) (o : Option (List ℕ))
-    → option_map (rest_of {A = A}) (option_map (λ close. (x, close)) o) ≡ o
+    → option_map (bytes_after {A = A}) (option_map (λ close. (x, close)) o) ≡ o
 rest_again x None = refl
 rest_again x (Some close) = refl
 

@@ -5,7 +5,7 @@ use Rattle.std.proofs.Common.{subst, length-append}
 use Rattle.std.specs.List.{AllByRecursion}
 use Rattle.std.proofs.lemmas.List.Elements.{All-from_recursion, recursion_from_All}
 use Rattle.std.proofs.lemmas.Option.{option_and_then_some, same_Some}
-use Rattle.psci_board.specs.Grammar.{spaced, listed, IsListOf}
+use Rattle.psci_board.specs.Grammar.{spaced, bracketed, IsListOf}
 use Rattle.psci_text.specs.Reading.{literal_at, spaced_at}
 use Rattle.psci_text.specs.Spelling.{TextLaws, Ends, Reads}
 use Rattle.psci_board.specs.Reading.{then_more, at_most, more_at, list_at}
@@ -118,7 +118,7 @@ unspaced item rest = refl
 pub list_again : {A : Type 0} (item : List ℕ → Option (A × List ℕ)) (spell : A → List ℕ)
     (P : A → Type 0) (kind : ℕ → Bool) → Reads item spell P kind
     → kind 32 ≡ false → kind 41 ≡ false → (xs : List A) (rest : List ℕ) → IsListOf P xs
-    → list_at item (listed spell xs ++ rest) ≡ Some (xs, rest)
+    → list_at item (bracketed spell xs ++ rest) ≡ Some (xs, rest)
 list_again item spell P kind r space close [] rest h = absurd (omega (arith, h.some))
 list_again item spell P kind r space close (x ∷ xs) rest h =
     let each = recursion_from_All P (x ∷ xs) h.each in
@@ -139,7 +139,7 @@ pub list_takes : {A : Type 0} (w : TextLaws) (item : List ℕ → Option (A × L
     (spell : A → List ℕ)
     (P : A → Type 0) (kind : ℕ → Bool) → Reads item spell P kind
     → (bytes : List ℕ) (xs : List A × List ℕ) → list_at item bytes ≡ Some xs
-    → IsListOf P xs.0 × (bytes ≡ listed spell xs.0 ++ xs.1)
+    → IsListOf P xs.0 × (bytes ≡ bracketed spell xs.0 ++ xs.1)
 unfolding list_at
 list_takes {A} w item spell P kind r bytes xs e =
     option_and_then_some _ (literal_at (40 ∷ []) bytes) xs e (λ within a e1.
@@ -148,10 +148,10 @@ list_takes {A} w item spell P kind r bytes xs e =
     let others = more_at item first.1 in
     let f = r.takes within first b in
     let m = more_takes w item spell P kind r first.1 in
-    let whole : bytes ≡ listed spell (first.0 ∷ others.0) ++ close =
+    let whole : bytes ≡ bracketed spell (first.0 ∷ others.0) ++ close =
     list_joined bytes within (spell first.0) first.1 (spaced spell others.0) others.1 close
     (w.word_takes (40 ∷ []) bytes within a) f.1 m.1
     (w.word_takes (41 ∷ []) others.1 close d) in
     let same : (first.0 ∷ others.0, close) ≡ xs = same_Some _ _ e3 in
-    subst (λ (y : List A × List ℕ). IsListOf P y.0 × (bytes ≡ listed spell y.0 ++ y.1)) same
+    subst (λ (y : List A × List ℕ). IsListOf P y.0 × (bytes ≡ bracketed spell y.0 ++ y.1)) same
     (list_of P first.0 others.0 f.0 m.0, whole))))

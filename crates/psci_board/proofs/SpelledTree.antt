@@ -10,7 +10,7 @@ use Rattle.std.proofs.lemmas.Fmt.{decimal_is_IsNumeral, decimal_nonempty}
 use Rattle.std.proofs.lemmas.Option.{option_and_then_some, same_Some}
 use Rattle.psci_text.specs.Spelling.{TextLaws, IsNumber, Ends, Reads}
 use Rattle.psci_board.specs.Grammar.{Member, TreeText, IsListOf, IsMember, IsTreeText}
-use Rattle.psci_board.specs.Grammar.{listed}
+use Rattle.psci_board.specs.Grammar.{bracketed}
 use Rattle.psci_board.specs.Grammar.{member, tree}
 use Rattle.psci_board.specs.Grammar.Member.{Cluster, Group}
 use Rattle.psci_board.specs.Grammar.TreeText.{One, Members}
@@ -39,7 +39,7 @@ number_starts n rest h =
     digits_start (decimal n) rest (decimal_nonempty n h) (decimal_is_IsNumeral n h).0.1
 
 list_starts : {A : Type 0} (P : A → Type 0) (spell : A → List ℕ) (xs : List A) (rest : List ℕ)
-    → IsListOf P xs → starts_list (listed spell xs ++ rest) ≡ true
+    → IsListOf P xs → starts_list (bracketed spell xs ++ rest) ≡ true
 list_starts P spell [] rest h = absurd (omega (arith, h.some))
 list_starts P spell (x ∷ xs) rest h = refl
 
@@ -53,7 +53,7 @@ one_again w one many item n rest h e = rw (w.numbers.again n rest h e) refl
 many_again : {A B : Type 0} (one : ℕ → B) (many : List A → B) (item : List ℕ → Option (A × List ℕ))
     (spell : A → List ℕ) (P : A → Type 0) → Reads item spell P is_ascii_digit
     → (xs : List A) (rest : List ℕ) → IsListOf P xs
-    → number_or one many item (listed spell xs ++ rest) true ≡ Some (many xs, rest)
+    → number_or one many item (bracketed spell xs ++ rest) true ≡ Some (many xs, rest)
 unfolding number_or
 many_again one many item spell P r xs rest h =
     rw (list_again item spell P is_ascii_digit r refl refl xs rest h) refl
@@ -63,7 +63,7 @@ either_takes : {A B : Type 0} (w : TextLaws) (one : ℕ → B) (many : List A �
     → Reads item spell P is_ascii_digit → (bytes : List ℕ) (is_list : Bool) (x : B × List ℕ)
     → number_or one many item bytes is_list ≡ Some x → (C : B × List ℕ → Type 0)
     → ((n : ℕ) (rest : List ℕ) → IsNumber n → bytes ≡ decimal n ++ rest → C (one n, rest))
-    → ((xs : List A) (rest : List ℕ) → IsListOf P xs → bytes ≡ listed spell xs ++ rest
+    → ((xs : List A) (rest : List ℕ) → IsListOf P xs → bytes ≡ bracketed spell xs ++ rest
     → C (many xs, rest))
     → C x
 unfolding number_or

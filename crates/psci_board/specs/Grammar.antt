@@ -27,9 +27,9 @@ abbrev pub spaced : {A : Type 0} → (A → List ℕ) → List A → List ℕ
 spaced item xs = flat_map (λ x. 32 ∷ item x) xs
 
 -- "(" item *(" " item) ")"
-abbrev pub listed : {A : Type 0} → (A → List ℕ) → List A → List ℕ
-listed item [] = []
-listed item (x ∷ xs) = 40 ∷ item x ++ (spaced item xs ++ 41 ∷ [])
+abbrev pub bracketed : {A : Type 0} → (A → List ℕ) → List A → List ℕ
+bracketed item [] = []
+bracketed item (x ∷ xs) = 40 ∷ item x ++ (spaced item xs ++ 41 ∷ [])
 
 -- a range: two addresses with a hyphen between them
 abbrev pub range : List ℕ × List ℕ → List ℕ
@@ -38,12 +38,12 @@ range r = hex r.0 ++ 45 ∷ hex r.1
 -- a member: a number, or the numbers of a group in brackets
 abbrev pub member : Member → List ℕ
 member (Cluster n) = decimal n
-member (Group ns) = listed decimal ns
+member (Group ns) = bracketed decimal ns
 
 -- a tree: a number, or its members in brackets
 abbrev pub tree : TreeText → List ℕ
 tree (One n) = decimal n
-tree (Members ms) = listed member ms
+tree (Members ms) = bracketed member ms
 
 -- the spelling of a board text
 abbrev pub spelling : BoardText → List ℕ

@@ -45,8 +45,8 @@ abbrev pub count_and_rest : {A : Type 0} → List A × List ℕ → ℕ × List 
 count_and_rest x = (length x.0, x.1)
 
 -- the bytes after it
-abbrev pub rest_of : {A : Type 0} → A × List ℕ → List ℕ
-rest_of x = x.1
+abbrev pub bytes_after : {A : Type 0} → A × List ℕ → List ℕ
+bytes_after x = x.1
 
 -- a bracket is opened
 abbrev pub starts_list : List ℕ → Bool

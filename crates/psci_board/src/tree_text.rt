@@ -5,7 +5,7 @@ ghost use Rattle.psci_board.specs.Summary.{with_numbers, with_member, with_membe
 ghost use Rattle.psci_board.specs.Summary.{value_and_rest, tree_summary};
 ghost use Rattle.psci_text.specs.Reading.{number_at, spaced_at};
 ghost use Rattle.psci_board.specs.Reading.{list_at, member_at, tree_at};
-ghost use Rattle.psci_board.specs.Reading.{count_and_rest, rest_of};
+ghost use Rattle.psci_board.specs.Reading.{count_and_rest, bytes_after};
 
 use crate::summary::{NumbersSummary, TreeSummary};
 use psci_text::{literal, number};
@@ -30,7 +30,7 @@ pub fn tree(text: &[u8]) -> Option<(TreeSummary, &[u8])>
 /// The members between brackets, which `summary` takes, and the text after them.
 fn members<'a>(text: &'a [u8], summary: &mut TreeSummary) -> Option<&'a [u8]>
     ensures read { option_map (λ rest. rest.now) result
-        ≡ option_map rest_of (list_at member_at text.now) }
+        ≡ option_map bytes_after (list_at member_at text.now) }
     ensures summary { IfSome (list_at member_at text.now)
         (λ x. summary.new ≡ with_members summary.old x.0) }
 {
@@ -44,7 +44,8 @@ fn members<'a>(text: &'a [u8], summary: &mut TreeSummary) -> Option<&'a [u8]>
 /// A member of the outer list, which `summary` takes, and the text after it.
 #[tactic(auto, unfolding(crate::specs::Reading::member_at, crate::specs::Summary::with_numbers))]
 fn member<'a>(text: &'a [u8], summary: &mut TreeSummary) -> Option<&'a [u8]>
-    ensures read { option_map (λ rest. rest.now) result ≡ option_map rest_of (member_at text.now) }
+    ensures read { option_map (λ rest. rest.now) result
+        ≡ option_map bytes_after (member_at text.now) }
     ensures summary { IfSome (member_at text.now) (λ x. summary.new ≡ with_member summary.old x.0) }
 {
     if let [b'(', ..] = text {

@@ -71,14 +71,6 @@ climbed-ends b v core wanted level parts c none =
     sym (ap (λ xs. parts ++ xs) (climb-ends wanted gs level (height b + 1 - level) none)
     ∙ append-nil parts) ∙ c.rest
 
-pub climbed-all : (b : BoardValue) (v : PowerView) (core : ℕ) (wanted : ℕ → ℕ) (level : ℕ)
-    (parts : List Part) → IsClimbedTo b v core wanted level parts → height b + 1 ≤ level
-    → parts ≡ claim_of b v core wanted
-climbed-all b v core wanted level parts c h =
-    let gs : ℕ → ℕ = λ m. generation b v (domain_of b core m) in
-    let none : height b + 1 - level ≡ 0 = omega arith in
-    sym (ap (λ xs. parts ++ xs) (ap (climb wanted gs level) none) ∙ append-nil parts) ∙ c.rest
-
 -- Laws of a climb -----------------------------------------------------------------------------
 
 pub climb-levels : (wanted gs : ℕ → ℕ) (level count : ℕ)

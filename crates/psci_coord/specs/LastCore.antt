@@ -17,8 +17,8 @@ children_of b n =
     (range_with_len (first_child b n.level n.place) (children b n))
 
 -- those of some domains that do not have this place
-abbrev pub beside : ℕ → List Node → List Node
-beside place ns = filter (λ n. not (n.place == place)) ns
+abbrev pub elsewhere : ℕ → List Node → List Node
+elsewhere place ns = filter (λ n. not (n.place == place)) ns
 
 -- those of some domains that were granted less than this depth
 abbrev pub granted_less : PowerView → ℕ → List Node → List Node
@@ -30,7 +30,7 @@ granted_less v depth ns = filter (λ n. nat_lt (v.granted n.level n.place) depth
 unfoldable pub shallow_at : BoardValue → PowerView → ℕ → List ℕ → ℕ → List Node
 shallow_at b v core ask level =
     granted_less v (own_wish ask level)
-    (beside (up b (level - 1) core) (children_of b (domain_of b core level)))
+    (elsewhere (up b (level - 1) core) (children_of b (domain_of b core level)))
 
 -- the shallow domains of an ask, at all levels from 1 up
 unfoldable pub shallow : BoardValue → PowerView → ℕ → List ℕ → List Node

@@ -5,11 +5,12 @@ use Rattle.std.proofs.Math.ListN.{set}
 use Rattle.std.proofs.lemmas.Bool.{cases_eq, eq-eqb, ne_eqb}
 use Rattle.psci_board.specs.declared.node.Node.{Node}
 use Rattle.psci_board.specs.Board.{BoardValue, cores, height}
-use Rattle.psci_ctl_model.specs.declared.start.Cause.{Cause}
-use Rattle.psci_ctl_model.specs.declared.start.Cause.TheVariants as causes
+use Rattle.psci_link.specs.declared.start.Cause.{Cause}
+use Rattle.psci_link.specs.declared.start.Cause.TheVariants as causes
 use Rattle.psci_ctl_model.specs.Changes.{one_more, with_cause, with_start}
 use Rattle.psci_ctl_model.specs.Laws.{SumLaws}
-use Rattle.psci_ctl_model.specs.Values.{Values, is_on_path, start_of_life, starts_below}
+use Rattle.psci_ctl_model.specs.Values.{Values, start_of_life, starts_below}
+use Rattle.psci_board.specs.Paths.{is_on_path}
 use Rattle.psci_ctl.specs.declared.row.CoreRow.{CoreRow}
 use Rattle.psci_ctl.specs.declared.level.DomainRow.{DomainRow}
 use Rattle.psci_ctl.specs.Rows.{HasSums, core_at, domain_at, off_core, off_domain, run_below}

@@ -3,8 +3,9 @@ use Rattle.std.specs.Prelude.{◌≡◌, ℕ, ◌+◌, ◌≤◌, ◌&&◌, ◌=
 use Rattle.std.specs.Prelude.{[], length, slice_index_or, Option}
 use Rattle.psci_board.specs.Board.{BoardValue, height, nodes, up}
 use Rattle.psci_coord.specs.declared.part.Part.{Part}
-use Rattle.psci_ctl_model.specs.declared.start.Cause.TheVariants as causes
-use Rattle.psci_ctl_model.specs.Values.{Values, is_on_path, starts_below}
+use Rattle.psci_link.specs.declared.start.Cause.TheVariants as causes
+use Rattle.psci_ctl_model.specs.Values.{Values, starts_below}
+use Rattle.psci_board.specs.Paths.{is_on_path}
 use Rattle.psci_ctl.specs.declared.row.CoreRow.{CoreRow}
 use Rattle.psci_ctl.specs.declared.level.DomainRow.{DomainRow}
 

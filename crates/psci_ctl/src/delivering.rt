@@ -10,7 +10,7 @@ ghost use Rattle.psci_ctl_model.specs.Effects.{Begins, Ends, message_effect};
 ghost use Rattle.psci_ctl_model.specs.Legal.{IsOfBoard};
 ghost use Rattle.psci_ctl_model.specs.Parts.{applied, is_covered, is_live, is_stale, laid};
 ghost use Rattle.psci_ctl_model.specs.Replies.{ack_by, ack_of, may_follow, may_start};
-ghost use Rattle.psci_ctl_model.specs.declared.start.Cause.TheVariants.{On};
+ghost use Rattle.psci_link.specs.declared.start.Cause.TheVariants.{On};
 ghost use Rattle.psci_ctl.specs.Rows.{with_depth};
 ghost use Rattle.psci_ctl.specs.Seen.{seen, start_done};
 

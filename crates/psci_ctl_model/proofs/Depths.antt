@@ -9,16 +9,18 @@ use Rattle.psci_board.specs.declared.node.Node.{Node}
 use Rattle.psci_board.specs.Laws.{ChildLaws}
 use Rattle.psci_coord.specs.declared.part.Part.{Part}
 use Rattle.psci_link.specs.Message.{IsClaim, PartByPart}
-use Rattle.psci_ctl_model.specs.declared.start.Cause.{Cause}
+use Rattle.psci_link.specs.declared.start.Cause.{Cause}
 use Rattle.psci_ctl_model.specs.Effects.{Effect, Nothing, Starts, Deepens, Ends, Begins, effect_of}
 use Rattle.psci_ctl_model.specs.Entry.{Entry}
 use Rattle.psci_ctl_model.specs.Follows.{IsFront, MayFollow}
-use Rattle.psci_ctl_model.specs.History.{depth, depth_by, effect_in, life, life_by, only_if}
+use Rattle.psci_ctl_model.specs.History.{depth, depth_by, effect_in, life, life_by}
+use Rattle.psci_link.specs.OnlyIf.{only_if}
 use Rattle.psci_ctl_model.specs.History.{starts, starts_by}
 use Rattle.psci_ctl_model.specs.History.{values_of}
-use Rattle.psci_ctl_model.specs.Lasting.{Applies, IsApplied, IsFirst, is_within}
+use Rattle.psci_ctl_model.specs.Lasting.{Applies, IsApplied, IsFirst, keeps_life}
 use Rattle.psci_ctl_model.specs.Legal.{IsLegal}
-use Rattle.psci_ctl_model.specs.Values.{first_starts, is_on_path, starts_below}
+use Rattle.psci_ctl_model.specs.Values.{first_starts, starts_below}
+use Rattle.psci_board.specs.Paths.{is_on_path}
 use Rattle.psci_ctl_model.proofs.Follows.{follows}
 use Rattle.psci_ctl_model.proofs.Paths.{path_place}
 use Rattle.psci_ctl_model.proofs.Sums.{starts_more, starts_none}
@@ -40,7 +42,7 @@ From b h l p = (depth b h l p ≡ 0) ⊎ (IsApplied b h l p ⊎ IsFirst b h l p)
 
 -- an entry that leaves depth and generation of a domain, in its life
 stays : (b : BoardValue) (e : Entry) (h : List Entry) (l p : ℕ)
-    → is_within (effect_in b e) ≡ true
+    → keeps_life (effect_in b e) ≡ true
     → depth b (e ∷ h) l p ≡ depth b h l p
     → starts_below b (starts b (e ∷ h)) (node l p) ≡ starts_below b (starts b h) (node l p)
     → From b h l p → From b (e ∷ h) l p
@@ -70,8 +72,8 @@ module _ (b : BoardValue) (e : Entry) (h : List Entry) where
   life_is : (f : Effect) → effect_in b e ≡ f → life b (e ∷ h) ≡ life_by f (life b h)
   life_is f is = ap (λ g. life_by g (life b h)) is
 
-  within_is : (f : Effect) → effect_in b e ≡ f → is_within (effect_in b e) ≡ is_within f
-  within_is f is = ap is_within is
+  within_is : (f : Effect) → effect_in b e ≡ f → keeps_life (effect_in b e) ≡ keeps_life f
+  within_is f is = ap keeps_life is
 
   from_nothing : (l p : ℕ) → effect_in b e ≡ Nothing → From b h l p → From b (e ∷ h) l p
   from_nothing l p is = stays b e h l p (within_is Nothing is) (deep_by Nothing l p is)

@@ -13,8 +13,8 @@ use Rattle.psci_ctl_model.specs.declared.call.CtlCall.{CtlCall}
 use Rattle.psci_ctl_model.specs.declared.call.CtlCall.TheVariants as calls
 use Rattle.psci_ctl_model.specs.declared.delivery.Delivery.TheVariants as deliveries
 use Rattle.psci_ctl_model.specs.declared.reply.CtlReply.TheVariants as replies
-use Rattle.psci_ctl_model.specs.declared.start.Cause.{Cause}
-use Rattle.psci_ctl_model.specs.declared.start.Cause.TheVariants as causes
+use Rattle.psci_link.specs.declared.start.Cause.{Cause}
+use Rattle.psci_link.specs.declared.start.Cause.TheVariants as causes
 use Rattle.psci_ctl_model.specs.Effects.{Ends, Begins}
 use Rattle.psci_ctl_model.specs.Effects.{effect_of, kick_effect, message_effect}
 use Rattle.psci_ctl_model.specs.Follows.{HasLife, MayFollow}

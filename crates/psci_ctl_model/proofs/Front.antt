@@ -16,7 +16,8 @@ use Rattle.psci_coord.specs.View.{domain_of}
 use Rattle.psci_link.specs.Message.{PartByPart}
 use Rattle.psci_ctl_model.specs.Follows.{IsFront}
 use Rattle.psci_ctl_model.specs.Parts.{applied, depth_or, is_applied, is_covered, is_live, laid}
-use Rattle.psci_ctl_model.specs.Values.{Values, is_on_path, starts_below}
+use Rattle.psci_ctl_model.specs.Values.{Values, starts_below}
+use Rattle.psci_board.specs.Paths.{is_on_path}
 
 -- Fronts of lists ----------------------------------------------------------------------------
 

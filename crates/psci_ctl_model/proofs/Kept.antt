@@ -15,9 +15,10 @@ use Rattle.psci_ctl_model.specs.Entry.{Entry}
 use Rattle.psci_ctl_model.specs.Follows.{AreValues, MayFollow}
 use Rattle.psci_ctl_model.specs.History.{values_of}
 use Rattle.psci_ctl_model.specs.Legal.{IsCall, IsLegal}
-use Rattle.psci_ctl_model.specs.Parts.{depth_or}
 use Rattle.psci_ctl_model.specs.Replies.{reply}
-use Rattle.psci_ctl_model.specs.Values.{Values, is_on_path, start_of_life}
+use Rattle.psci_ctl_model.specs.Values.{Values, start_of_life}
+use Rattle.psci_ctl_model.specs.Parts.{depth_or}
+use Rattle.psci_board.specs.Paths.{is_on_path}
 use Rattle.psci_ctl_model.proofs.Follows.{follows}
 use Rattle.psci_ctl_model.proofs.OneMore.{first_values, values_more}
 

@@ -15,7 +15,8 @@ use Rattle.psci_ctl_model.specs.History.{depth, values_of}
 use Rattle.psci_ctl_model.specs.Lasting.{IsNested, NeverShallower, OnlyDeepens}
 use Rattle.psci_ctl_model.specs.Legal.{IsLegal}
 use Rattle.psci_ctl_model.specs.Parts.{depth_or, laid}
-use Rattle.psci_ctl_model.specs.Values.{Values, is_on_path}
+use Rattle.psci_ctl_model.specs.Values.{Values}
+use Rattle.psci_board.specs.Paths.{is_on_path}
 use Rattle.psci_ctl_model.proofs.Follows.{follows}
 use Rattle.psci_ctl_model.proofs.OneMore.{values_more}
 use Rattle.psci_ctl_model.proofs.Paths.{off_path, path_place}

@@ -8,9 +8,11 @@ use Rattle.psci_ctl_model.specs.Changes.{after, change}
 use Rattle.psci_ctl_model.specs.Effects.{Effect, Nothing, Starts, Deepens, Ends, Begins}
 use Rattle.psci_ctl_model.specs.Entry.{Entry}
 use Rattle.psci_ctl_model.specs.History.{cause_by, depth_by, effect_in}
-use Rattle.psci_ctl_model.specs.History.{life_by, only_if, starts_by, values_of}
+use Rattle.psci_ctl_model.specs.History.{life_by, starts_by, values_of}
+use Rattle.psci_link.specs.OnlyIf.{only_if}
+use Rattle.psci_ctl_model.specs.Values.{Values, start_of_life}
 use Rattle.psci_ctl_model.specs.Parts.{depth_or}
-use Rattle.psci_ctl_model.specs.Values.{Values, is_on_path, start_of_life}
+use Rattle.psci_board.specs.Paths.{is_on_path}
 
 -- values that say the same of each core and domain are the same
 pub same_values : (v w : Values) → v.life ≡ w.life → ((k : ℕ) → v.starts k ≡ w.starts k)

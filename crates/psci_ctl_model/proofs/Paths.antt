@@ -3,7 +3,7 @@ use Rattle.std.proofs.Common.{◌≡◌, ℕ, ◌≤◌, true, false, refl}
 use Rattle.std.specs.Prelude.{nat_le}
 use Rattle.std.proofs.lemmas.Bool.{and_parts, eqb-true, eq-eqb, le-leb, true≢false}
 use Rattle.psci_board.specs.Board.{BoardValue, height, up}
-use Rattle.psci_ctl_model.specs.Values.{is_on_path}
+use Rattle.psci_board.specs.Paths.{is_on_path}
 
 pub on_path : (b : BoardValue) (c level place : ℕ) → level ≤ height b → up b level c ≡ place
     → is_on_path b c level place ≡ true

@@ -7,7 +7,8 @@ use Rattle.std.proofs.lemmas.List.Sums.{sum_by-cons}
 use Rattle.psci_board.specs.declared.node.Node.{Node}
 use Rattle.psci_board.specs.Board.{BoardValue, cores, height, place_above, up}
 use Rattle.psci_ctl_model.specs.Changes.{one_more}
-use Rattle.psci_ctl_model.specs.Values.{is_on_path, starts_below}
+use Rattle.psci_ctl_model.specs.Values.{starts_below}
+use Rattle.psci_board.specs.Paths.{is_on_path}
 use Rattle.psci_ctl_model.proofs.Paths.{off_path, path_place}
 
 -- Sums over the numbers that a filter keeps of a range ---------------------------------------

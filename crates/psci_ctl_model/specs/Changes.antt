@@ -3,10 +3,11 @@ use Rattle.std.specs.Prelude.{ℕ, ◌+◌, ◌==◌, if◌then◌else◌, Optio
 use Rattle.psci_board.specs.Board.{BoardValue}
 use Rattle.psci_ctl_model.specs.declared.call.CtlCall.{CtlCall}
 use Rattle.psci_ctl_model.specs.declared.reply.CtlReply.{CtlReply}
-use Rattle.psci_ctl_model.specs.declared.start.Cause.{Cause}
+use Rattle.psci_link.specs.declared.start.Cause.{Cause}
 use Rattle.psci_ctl_model.specs.Effects.{Effect, Nothing, Starts, Deepens, Ends, Begins, effect_of}
 use Rattle.psci_ctl_model.specs.Parts.{laid}
-use Rattle.psci_ctl_model.specs.Values.{Values, is_on_path, first_starts, first_cause, first_depth}
+use Rattle.psci_ctl_model.specs.Values.{Values, first_starts, first_cause, first_depth}
+use Rattle.psci_board.specs.Paths.{is_on_path}
 
 -- one start more of one core
 abbrev pub one_more : (ℕ → ℕ) → ℕ → ℕ → ℕ

@@ -3,10 +3,12 @@
 use Rattle.std.specs.Prelude.{ℕ, ◌+◌, Bool, true, false, ◌==◌, if◌then◌else◌, Option, None, Some}
 use Rattle.std.specs.Prelude.{option_map, unwrap_or, List, [], ◌∷◌, slice_get}
 use Rattle.psci_board.specs.Board.{BoardValue}
-use Rattle.psci_ctl_model.specs.declared.start.Cause.{Cause}
+use Rattle.psci_link.specs.declared.start.Cause.{Cause}
+use Rattle.psci_link.specs.OnlyIf.{only_if}
 use Rattle.psci_ctl_model.specs.Effects.{Effect, Nothing, Starts, Deepens, Ends, Begins, effect_of}
 use Rattle.psci_ctl_model.specs.Entry.{Entry}
-use Rattle.psci_ctl_model.specs.Values.{Values, is_on_path, first_starts, first_cause, first_depth}
+use Rattle.psci_ctl_model.specs.Values.{Values, first_starts, first_cause, first_depth}
+use Rattle.psci_board.specs.Paths.{is_on_path}
 
 -- Theorems speak of histories in which every reply is the one reply. Of other ones the definitions
 -- say something too, which no theorem needs: after the end of a life a core may be started, or
@@ -15,11 +17,6 @@ use Rattle.psci_ctl_model.specs.Values.{Values, is_on_path, first_starts, first_
 -- what an entry comes down to
 abbrev pub effect_in : BoardValue → Entry → Effect
 effect_in b e = effect_of b e.call e.reply
-
--- what is said, where the test holds
-abbrev pub only_if : {A : Type 0} → Bool → Option A → Option A
-only_if true o = o
-only_if false o = None
 
 -- what the newest entry says that says something, and where none does this
 abbrev pub last_said : {A : Type 0} → (Entry → Option A) → A → List Entry → A

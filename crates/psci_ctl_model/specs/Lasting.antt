@@ -7,7 +7,8 @@ use Rattle.psci_coord.specs.declared.part.Part.{Part}
 use Rattle.psci_ctl_model.specs.Effects.{Effect, Nothing, Starts, Deepens, Ends, Begins}
 use Rattle.psci_ctl_model.specs.Entry.{Entry}
 use Rattle.psci_ctl_model.specs.History.{depth, effect_in, life, starts}
-use Rattle.psci_ctl_model.specs.Values.{first_depth, is_on_path, starts_below}
+use Rattle.psci_ctl_model.specs.Values.{first_depth, starts_below}
+use Rattle.psci_board.specs.Paths.{is_on_path}
 
 -- Live parts -----------------------------------------------------------------------------------
 
@@ -29,19 +30,19 @@ Applies b Ends level place p = ⊥
 Applies b Begins level place p = ⊥
 
 -- an effect leaves the life as it is
-abbrev pub is_within : Effect → Bool
-is_within Nothing = true
-is_within (Starts c cause) = true
-is_within (Deepens c ps) = true
-is_within Ends = false
-is_within Begins = false
+abbrev pub keeps_life : Effect → Bool
+keeps_life Nothing = true
+keeps_life (Starts c cause) = true
+keeps_life (Deepens c ps) = true
+keeps_life Ends = false
+keeps_life Begins = false
 
 -- this part was applied to the domain of this level and place, in the present life
 abbrev pub WasApplied : BoardValue → List Entry → ℕ → ℕ → Part → Type 0
 WasApplied b [] level place p = ⊥
 WasApplied b (e ∷ h) level place p =
     Applies b (effect_in b e) level place p
-    ⊎ ((is_within (effect_in b e) ≡ true) × WasApplied b h level place p)
+    ⊎ ((keeps_life (effect_in b e) ≡ true) × WasApplied b h level place p)
 
 -- a live part that was applied in this life made the domain as deep as it is
 pub record IsApplied (b : BoardValue) (h : List Entry) (level place : ℕ) : Type 0 where

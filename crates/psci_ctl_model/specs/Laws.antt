@@ -5,10 +5,11 @@ use Rattle.psci_board.specs.declared.node.Node.{Node}
 use Rattle.psci_board.specs.Board.{BoardValue, cores, height, up}
 use Rattle.psci_coord.specs.declared.part.Part.{Part}
 use Rattle.psci_coord.specs.View.{domain_of}
-use Rattle.psci_ctl_model.specs.declared.start.Cause.{Cause}
+use Rattle.psci_link.specs.declared.start.Cause.{Cause}
 use Rattle.psci_ctl_model.specs.Changes.{one_more, with_start}
 use Rattle.psci_ctl_model.specs.Parts.{applied, is_stale}
-use Rattle.psci_ctl_model.specs.Values.{Values, is_on_path, starts_below}
+use Rattle.psci_ctl_model.specs.Values.{Values, starts_below}
+use Rattle.psci_board.specs.Paths.{is_on_path}
 
 -- Generations ----------------------------------------------------------------------------------
 

@@ -8,7 +8,8 @@ use Rattle.psci_board.specs.declared.node.Node.{Node}
 use Rattle.psci_board.specs.Board.{BoardValue, children, first_child}
 use Rattle.psci_coord.specs.declared.part.Part.{Part}
 use Rattle.psci_coord.specs.View.{domain_of}
-use Rattle.psci_ctl_model.specs.Values.{Values, is_on_path, starts_below}
+use Rattle.psci_ctl_model.specs.Values.{Values, starts_below}
+use Rattle.psci_board.specs.Paths.{is_on_path}
 
 -- the depth of a part, or what was there before
 abbrev pub depth_or : Option Part → ℕ → ℕ

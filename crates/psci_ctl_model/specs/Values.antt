@@ -1,10 +1,11 @@
 -- What the power controller keeps, as functions by core, and by level and place.
-use Rattle.std.specs.Prelude.{ℕ, Bool, ◌==◌, ◌&&◌, nat_le, Option, Some, if◌then◌else◌}
+use Rattle.std.specs.Prelude.{ℕ, ◌==◌, Option, Some, if◌then◌else◌}
 use Rattle.std.specs.List.{sum_by}
-use Rattle.psci_board.specs.Board.{BoardValue, below, height, up}
+use Rattle.psci_board.specs.Board.{BoardValue, below}
+use Rattle.psci_board.specs.Paths.{is_on_path}
 use Rattle.psci_board.specs.declared.node.Node.{Node}
-use Rattle.psci_ctl_model.specs.declared.start.Cause.{Cause}
-use Rattle.psci_ctl_model.specs.declared.start.Cause.TheVariants as causes
+use Rattle.psci_link.specs.declared.start.Cause.{Cause}
+use Rattle.psci_link.specs.declared.start.Cause.TheVariants as causes
 
 -- The values of the power controller. Of a core or a domain that the board does not have they say
 -- what they say of one that is off and was never started.
@@ -19,10 +20,6 @@ pub record Values : Type 0 where
   pub depth : ℕ → ℕ → ℕ
 
 -- Domains --------------------------------------------------------------------------------------
-
--- the domain of this level and place is on the path of a core
-abbrev pub is_on_path : BoardValue → ℕ → ℕ → ℕ → Bool
-is_on_path b c level place = nat_le level (height b) && up b level c == place
 
 -- the generation of a domain: the sum of the starts of the cores below it
 unfoldable pub starts_below : BoardValue → (ℕ → ℕ) → Node → ℕ

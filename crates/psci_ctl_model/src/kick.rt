@@ -2,7 +2,7 @@
 
 ghost use Rattle.std.specs.Prelude.{◌≡◌};
 
-use crate::start::Start;
+use psci_link::Start;
 
 /// What becomes of a wake-up event or a reset of a core.
 #[derive(Clone, Copy, Debug, PartialEq, Eq)]

@@ -5,7 +5,7 @@ ghost use Rattle.psci_board.specs.Board.{BoardValue, IsBoard, cores, height};
 ghost use Rattle.psci_board.specs.declared.node.Node.{Node};
 ghost use Rattle.psci_coord.specs.declared.part.Part.{Part};
 ghost use Rattle.psci_ctl_model.specs.declared.call.CtlCall.{CtlCall};
-ghost use Rattle.psci_ctl_model.specs.declared.start.Cause.{Cause};
+ghost use Rattle.psci_link.specs.declared.start.Cause.{Cause};
 ghost use Rattle.psci_ctl_model.specs.Changes.{after, change};
 ghost use Rattle.psci_ctl_model.specs.Effects.{Effect, effect_of};
 ghost use Rattle.psci_ctl_model.specs.Entry.{Entry};

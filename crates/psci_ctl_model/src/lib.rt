@@ -14,7 +14,6 @@ mod delivery;
 mod kick;
 mod laws;
 mod reply;
-mod start;
 
 pub use call::CtlCall;
 pub use delivery::Delivery;
@@ -23,5 +22,5 @@ pub use laws::{
     law_acknowledgements, law_depths, law_generations, law_limits, law_nesting, law_one_reply,
     law_past, law_replies, law_start, law_values,
 };
+pub use psci_link::{Cause, Start};
 pub use reply::CtlReply;
-pub use start::{Cause, Start};

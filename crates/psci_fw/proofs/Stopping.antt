@@ -19,7 +19,7 @@ use Rattle.psci_fw_model.specs.declared.mode.SuspendMode.{SuspendMode}
 use Rattle.psci_fw_model.specs.declared.mode.SuspendMode.TheVariants.{Platform, OsInitiated}
 use Rattle.psci_fw_model.specs.declared.outcome.Act.TheVariants.{Resume, Stop}
 use Rattle.psci_fw_model.specs.declared.outcome.Outcome.{Outcome}
-use Rattle.psci_ctl_model.specs.declared.start.Start.{Start}
+use Rattle.psci_link.specs.declared.start.Start.{Start}
 use Rattle.psci_fw_model.specs.After.{change}
 use Rattle.psci_fw_model.specs.Calls.{function_outcome, outcome_of}
 use Rattle.psci_fw_model.specs.Changes.{Rest, with_arrival, with_phase}
@@ -31,7 +31,7 @@ use Rattle.psci_fw_model.specs.Entering.{enter_outcome, outcome_at, resumes}
 use Rattle.psci_fw_model.specs.Invariant.{AreValues}
 use Rattle.psci_fw_model.specs.Lives.{in_life}
 use Rattle.psci_fw_model.specs.Outcomes.{message_for, stops, stops_with}
-use Rattle.psci_fw_model.specs.Paths.{cleared, laid}
+use Rattle.psci_fw_model.specs.Paths.{cleared, granted_with}
 use Rattle.psci_fw_model.specs.Phases.{Running, Suspended, activity_of}
 use Rattle.psci_fw_model.specs.SystemCalls.{all_others, is_off_status}
 use Rattle.psci_fw_model.specs.Values.{Values}
@@ -103,8 +103,8 @@ pub nested_after : (b : BoardValue) (v : Values) (c : ℕ) (r : Request) (o : Ou
     → function_effect b c r Stop (Some (message_for v Down c parts))
     ≡ Rests c rest (message_for v Down c parts)
     → (core level : ℕ) → core < cores b → level < height b
-    → laid b c parts v.granted (level + 1) (up b (level + 1) core)
-    ≤ laid b c parts v.granted level (up b level core)
+    → granted_with b c parts v.granted (level + 1) (up b (level + 1) core)
+    ≤ granted_with b c parts v.granted level (up b level core)
 nested_after b v c r o rest parts are is effect =
     let by_outcome = subst (λ (x : Outcome).
     AreValues b (change b (function_effect b c r x.act x.message) v)) is are in
@@ -177,9 +177,9 @@ pub nested_parked : (b : BoardValue) (v : Values) (c : ℕ) (s : Start) (o : Out
     → AreValues b (change b (enter_effect c s o.act o.message) v)
     → o ≡ stops_with (off_message b (with_arrival b c s v) c)
     → (core level : ℕ) → core < cores b → level < height b
-    → laid b c (off_parts b (with_arrival b c s v) c) (with_arrival b c s v).granted (level + 1)
-    (up b (level + 1) core)
-    ≤ laid b c (off_parts b (with_arrival b c s v) c) (with_arrival b c s v).granted level
+    → granted_with b c (off_parts b (with_arrival b c s v) c) (with_arrival b c s v).granted
+    (level + 1) (up b (level + 1) core)
+    ≤ granted_with b c (off_parts b (with_arrival b c s v) c) (with_arrival b c s v).granted level
     (up b level core)
 nested_parked b v c s o are is =
     let parked = subst (λ (x : Outcome).

@@ -5,7 +5,7 @@ ghost use Rattle.std.specs.Prelude.{◌≡◌, ◌<◌, ◌&&◌, ℕ, List, Non
 ghost use Rattle.psci_board.specs.Board.{BoardValue, IsBoard, cores, height, may_enter};
 ghost use Rattle.psci_coord.specs.declared.part.Part.{Part};
 ghost use Rattle.psci_state.specs.Ask.{deepest_of, is_deep};
-ghost use Rattle.psci_ctl_model.specs.declared.start.Start.{Start};
+ghost use Rattle.psci_link.specs.declared.start.Start.{Start};
 ghost use Rattle.psci_fw_model.specs.Changes.{with_arrival};
 ghost use Rattle.psci_fw_model.specs.Claims.{off_parts, suspend_parts};
 ghost use Rattle.psci_fw_model.specs.CpuSuspend.{ask_named};

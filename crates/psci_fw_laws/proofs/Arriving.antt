@@ -7,7 +7,7 @@ use Rattle.psci_board.specs.Board.{BoardValue}
 use Rattle.psci_board.specs.Laws.{PathLaws}
 use Rattle.psci_link.specs.Message.{MessageValue}
 use Rattle.psci_link.specs.Slots.{OfCore}
-use Rattle.psci_ctl_model.specs.declared.start.Start.{Start}
+use Rattle.psci_link.specs.declared.start.Start.{Start}
 use Rattle.psci_fw_model.specs.declared.status.Status.TheVariants as statuses
 use Rattle.psci_fw_model.specs.AffinityInfo.{is_on}
 use Rattle.psci_fw_model.specs.Changes.{with_arrival, with_phase, with_running}
@@ -15,7 +15,7 @@ use Rattle.psci_fw_model.specs.Lives.{first_phase, first_status, in_life, start_
 use Rattle.psci_fw_model.specs.Phases.{Phase, Running, unless_pending}
 use Rattle.psci_fw_model.specs.Values.{Values, updated}
 use Rattle.psci_fw_laws.specs.Allowed.{IsEntering}
-use Rattle.psci_fw_laws.specs.Claims.{AreApart}
+use Rattle.psci_fw_laws.specs.Claims.{AreRising}
 use Rattle.psci_fw_laws.specs.Messages.{AreSent}
 use Rattle.psci_fw_laws.proofs.Claiming.{quiet_arrival, quiet_life, quiet_phase}
 use Rattle.psci_fw_laws.proofs.Granting.{granted_arrival, granted_life, granted_phase}
@@ -33,7 +33,7 @@ first_not_on c =
     (λ e. refl)
 
 pub first_holds : (b : BoardValue) (life : ℕ) (halting : Bool) (known : ℕ → ℕ) (phase : ℕ → Phase)
-    (sent : List MessageValue) (later : ℕ) → later ≤ b.lives → life < later → AreApart b sent
+    (sent : List MessageValue) (later : ℕ) → later ≤ b.lives → life < later → AreRising b sent
     → AreSent b life halting known phase sent → Holds b (start_of_life b later) sent
 first_holds b life halting known phase sent later most h apart are = record {
   lives = most;

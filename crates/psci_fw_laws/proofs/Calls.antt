@@ -6,7 +6,7 @@ use Rattle.psci_link.specs.declared.kind.Kind.{Kind}
 use Rattle.psci_link.specs.Message.{MessageValue}
 use Rattle.psci_fw_model.specs.declared.call.FwCall.{FwCall}
 use Rattle.psci_fw_model.specs.declared.call.FwCall.TheVariants.{Smc, Enter, Take}
-use Rattle.psci_ctl_model.specs.declared.start.Cause.TheVariants.{Wake}
+use Rattle.psci_link.specs.declared.start.Cause.TheVariants.{Wake}
 use Rattle.psci_fw_model.specs.Entry.{Entry}
 use Rattle.psci_fw_model.specs.Legal.{legal_reply}
 

@@ -12,7 +12,7 @@ use Rattle.psci_fw_model.specs.Lives.{first_phase}
 use Rattle.psci_fw_model.specs.Phases.{Phase, Running, Pending, Away}
 use Rattle.psci_fw_model.specs.Values.{updated}
 use Rattle.psci_fw_laws.specs.KnownBelow.{known_below}
-use Rattle.psci_fw_laws.specs.Claims.{AreApart, AreQuiet, IsFromMessage, part_for}
+use Rattle.psci_fw_laws.specs.Claims.{AreRising, AreQuiet, IsFromMessage, part_for}
 use Rattle.psci_fw_laws.specs.Messages.{AreSent, known_on}
 use Rattle.psci_fw_laws.proofs.Older.{NoneCurrent, known_beside, none_arrived}
 use Rattle.psci_fw_laws.proofs.Parts.{claim_more, no_part, part_has, updated_at}
@@ -36,7 +36,7 @@ pub record IsAbove (b : BoardValue) (sent : List MessageValue) (m : MessageValue
       → 0 < p.generation
 
 apart_later : (b : BoardValue) (sent : List MessageValue) (x : MessageValue) → IsAbove b sent x
-    → AreApart b sent → (life level place j k : ℕ) (m n : MessageValue) (p q : Part) → j < k
+    → AreRising b sent → (life level place j k : ℕ) (m n : MessageValue) (p q : Part) → j < k
     → slice_get (x ∷ sent) j ≡ Some m → slice_get (x ∷ sent) k ≡ Some n
     → part_for b life level place m ≡ Some p → part_for b life level place n ≡ Some q
     → q.generation < p.generation
@@ -52,7 +52,7 @@ apart_later b sent x above are life level place (suc j) (suc k) m n p q h i g e 
     are.later life level place j k m n p q (omega arith) i g e f
 
 apart_start : (b : BoardValue) (sent : List MessageValue) (x : MessageValue) → IsAbove b sent x
-    → AreApart b sent → (life level place k : ℕ) (m : MessageValue) (p : Part)
+    → AreRising b sent → (life level place k : ℕ) (m : MessageValue) (p : Part)
     → slice_get (x ∷ sent) k ≡ Some m → part_for b life level place m ≡ Some p → 0 < p.generation
 apart_start b sent x above are life level place zero m p i e =
     let same : m ≡ x = cc in
@@ -61,11 +61,11 @@ apart_start b sent x above are life level place (suc k) m p i e =
     are.start life level place k m p i e
 
 pub apart_new : (b : BoardValue) (sent : List MessageValue) (m : MessageValue)
-    → IsAbove b sent m → AreApart b sent → AreApart b (m ∷ sent)
+    → IsAbove b sent m → AreRising b sent → AreRising b (m ∷ sent)
 apart_new b sent m above are =
     record { later = apart_later b sent m above are; start = apart_start b sent m above are }
 
-pub apart_none : (b : BoardValue) → AreApart b []
+pub apart_none : (b : BoardValue) → AreRising b []
 apart_none b = record {
   later = λ life level place j k m n p q h i. absurd (cc);
   start = λ life level place k m p i. absurd (cc);

@@ -19,7 +19,7 @@ use Rattle.psci_fw_model.specs.Invariant.{AreValues, agrees}
 use Rattle.psci_fw_model.specs.Phases.{Phase, Away, Pending, Running, Suspended, activity_of}
 use Rattle.psci_fw_model.specs.Values.{Values}
 use Rattle.psci_fw_model.specs.Views.{ask, view}
-use Rattle.psci_fw_laws.specs.Claims.{AreApart, IsClaimOn, IsCurrent, part_for}
+use Rattle.psci_fw_laws.specs.Claims.{AreRising, IsClaimOn, IsCurrent, part_for}
 use Rattle.psci_fw_laws.specs.Entered.{AreEntered}
 use Rattle.psci_fw_laws.specs.Granted.{HasDeeper, NonePending}
 use Rattle.psci_fw_laws.specs.Kept.{Holds}
@@ -32,7 +32,7 @@ use Rattle.psci_fw_laws.proofs.Sums.{known_rises, known_same}
 
 -- Claims --------------------------------------------------------------------------------------
 
-pub once : (b : BoardValue) (sent : List MessageValue) → AreApart b sent
+pub once : (b : BoardValue) (sent : List MessageValue) → AreRising b sent
     → (life level place j k : ℕ) (m n : MessageValue) (p q : Part) → slice_get sent j ≡ Some m
     → slice_get sent k ≡ Some n → part_for b life level place m ≡ Some p
     → part_for b life level place n ≡ Some q → p.generation ≡ q.generation → j ≡ k

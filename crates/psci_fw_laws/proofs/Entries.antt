@@ -20,7 +20,7 @@ use Rattle.psci_fw_model.specs.declared.opening.Opening.{Opening}
 use Rattle.psci_fw_model.specs.declared.outcome.Act.TheVariants as acts
 use Rattle.psci_fw_model.specs.declared.outcome.Outcome.{Outcome}
 use Rattle.psci_fw_model.specs.declared.reply.FwReply.TheVariants as replies
-use Rattle.psci_ctl_model.specs.declared.start.Start.{Start}
+use Rattle.psci_link.specs.declared.start.Start.{Start}
 use Rattle.psci_fw_model.specs.Answer.{answer, reply_or}
 use Rattle.psci_fw_model.specs.Calls.{call_fault, outcome_of}
 use Rattle.psci_fw_model.specs.Changes.{with_arrival, with_phase}

@@ -1,5 +1,5 @@
 -- What a function is answered is allowed.
-use Rattle.std.proofs.Common.{◌≡◌, ℕ, Bool, true, false, cond, []}
+use Rattle.std.proofs.Common.{◌≡◌, ℕ, true, false, []}
 use Rattle.std.proofs.Common.{refl}
 use Rattle.psci_abi.specs.declared.request.Request.{Request}
 use Rattle.psci_abi.specs.declared.request.Request.TheVariants as requests
@@ -8,11 +8,11 @@ use Rattle.psci_link.specs.declared.kind.Kind.{Kind}
 use Rattle.psci_link.specs.declared.kind.Kind.TheVariants as kinds
 use Rattle.psci_fw_model.specs.Calls.{function_outcome, outcome_of}
 use Rattle.psci_fw_model.specs.CpuOn.{target_of}
-use Rattle.psci_fw_model.specs.CpuSuspend.{ask_named}
 use Rattle.psci_fw_model.specs.Effects.{Halts}
-use Rattle.psci_fw_model.specs.Outcomes.{message_for, stops}
+use Rattle.psci_fw_model.specs.Outcomes.{message_for}
 use Rattle.psci_fw_model.specs.SuspendMode.{set_suspend_mode}
 use Rattle.psci_fw_model.specs.Values.{Values}
+use Rattle.psci_fw_model.proofs.Endings.{outcome_ends}
 use Rattle.psci_fw_laws.specs.Messages.{is_system}
 use Rattle.psci_fw_laws.specs.Allowed.{IsAllowed, IsCalling}
 use Rattle.psci_fw_laws.proofs.Allowing.{Allows, IsReady}
@@ -47,8 +47,7 @@ function_allowed : (b : BoardValue) (v : Values) (c : ℕ) (r : Request) → Low
     → Allows b v (outcome_effect b c r (function_outcome b v c r))
 function_allowed b v c requests.Version laws ready calls awake are = calls
 function_allowed b v c (requests.CpuSuspend state entry_point context) laws ready calls awake are =
-    suspend_allowed b v c state entry_point context (ask_named b state) laws ready calls awake refl
-    are
+    suspend_allowed b v c state entry_point context laws ready calls awake are
 function_allowed b v c requests.CpuOff laws ready calls awake are =
     off_allowed b v c laws ready calls awake are
 function_allowed b v c (requests.CpuOn target entry_point context) laws ready calls awake are =
@@ -70,10 +69,7 @@ function_allowed b v c requests.Unknown laws ready calls awake are = calls
 -- in a halting life every function stops its caller
 pub call_allowed : (b : BoardValue) (v : Values) (c : ℕ) (r : Request) → LowerLaws b
     → IsReady b v → IsCalling b v c → Allows b v (outcome_effect b c r (outcome_of b v c r))
-unfolding outcome_of
-call_allowed b v c r laws ready calls = by_halting v.halting refl
-  where
-    by_halting : (t : Bool) → v.halting ≡ t
-        → Allows b v (outcome_effect b c r (cond t stops (function_outcome b v c r)))
-    by_halting true e = λ are. record { calls = calls; halting = e }
-    by_halting false e = function_allowed b v c r laws ready calls e
+call_allowed b v c r laws ready calls =
+    outcome_ends (λ o. Allows b v (outcome_effect b c r o)) b v c r
+    (λ halting are. record { calls = calls; halting = halting })
+    (λ awake. function_allowed b v c r laws ready calls awake)

@@ -10,7 +10,8 @@ use Rattle.psci_link.specs.declared.kind.Kind.TheVariants.{Down}
 use Rattle.psci_link.specs.Message.{MessageValue}
 use Rattle.psci_link.specs.Slots.{is_kind}
 use Rattle.psci_fw_model.specs.Lives.{first_granted}
-use Rattle.psci_fw_model.specs.Paths.{cleared, depth_by, is_on_path, laid}
+use Rattle.psci_fw_model.specs.Paths.{claimed_or, cleared, granted_with}
+use Rattle.psci_board.specs.Paths.{is_path_place}
 use Rattle.psci_fw_model.specs.Phases.{Phase, Pending}
 use Rattle.psci_fw_model.specs.Values.{updated}
 use Rattle.psci_fw_laws.specs.KnownBelow.{known_below}
@@ -119,20 +120,20 @@ pub granted_claim : (b : BoardValue) (life : ℕ) (known : ℕ → ℕ) (phase :
     (granted : ℕ → ℕ → ℕ) (sent : List MessageValue) (c : ℕ) (m : MessageValue) → m.kind ≡ Down
     → IsNewDown b life known c m → NoneCurrent b life known sent c
     → AreGranted b life known phase granted sent
-    → AreGranted b life known phase (laid b c m.parts granted) (m ∷ sent)
+    → AreGranted b life known phase (granted_with b c m.parts granted) (m ∷ sent)
 granted_claim b life known phase granted sent c m down new none are = record {
   claimed = λ level place.
       on_path (λ d. 0 < d → HasCurrent b life known level place d (m ∷ sent)) place (up b level c)
-      (depth_by (slice_get m.parts level) (granted level place)) (granted level place)
+      (claimed_or (slice_get m.parts level) (granted level place)) (granted level place)
       (λ here. claimed_here level place here (slice_get m.parts level) refl)
       (λ there. old level place);
   held = λ level place p claim current rests.
       on_path (λ d. d ≡ p.depth) place (up b level c)
-      (depth_by (slice_get m.parts level) (granted level place)) (granted level place)
+      (claimed_or (slice_get m.parts level) (granted level place)) (granted level place)
       (λ here. elim (claim_more b life level place p m sent claim) [
         | inl part ↦
             let has = part_has b life level place m p part in
-            ap (λ o. depth_by o (granted level place)) has.part
+            ap (λ o. claimed_or o (granted level place)) has.part
         | inr before ↦
             let low = none level place p here before in
             absurd (omega (arith, low, current))
@@ -157,8 +158,8 @@ granted_claim b life known phase granted sent c m down new none are = record {
         }
 
     claimed_here : (level place : ℕ) → place ≡ up b level c → (o : Option Part)
-        → slice_get m.parts level ≡ o → 0 < depth_by o (granted level place)
-        → HasCurrent b life known level place (depth_by o (granted level place)) (m ∷ sent)
+        → slice_get m.parts level ≡ o → 0 < claimed_or o (granted level place)
+        → HasCurrent b life known level place (claimed_or o (granted level place)) (m ∷ sent)
     claimed_here level place here None e h = old level place h
     claimed_here level place here (Some p) e h = record {
       part = p;
@@ -179,7 +180,7 @@ pub granted_life : (b : BoardValue) (life : ℕ) (phase : ℕ → Phase) (sent :
 granted_life b life phase sent none = record {
   claimed = λ level place.
       cond_both (has_node b (record { level = level; place = place })
-      && not (is_on_path b 0 level place)) 3 0
+      && not (is_path_place b 0 level place)) 3 0
       (λ d. 0 < d → HasCurrent b life (λ c. 0) level place d sent)
       (λ e h.
       let both = and_parts (has_node b (record { level = level; place = place })) _ e in
@@ -187,7 +188,7 @@ granted_life b life phase sent none = record {
         part = record { level = level; depth = 3; generation = 0 };
         claim = inl (record {
           node = both.0;
-          off_path = not-true (is_on_path b 0 level place) both.1;
+          off_path = not-true (is_path_place b 0 level place) both.1;
           is = refl;
         });
         current = sym (known_none b level place);
@@ -196,11 +197,11 @@ granted_life b life phase sent none = record {
       (λ e h. absurd (omega arith));
   held = λ level place p claim current rests. elim claim [
     | inl s ↦
-        let off : not (is_on_path b 0 level place) ≡ true =
-        not_from_false (is_on_path b 0 level place) s.off_path in
+        let off : not (is_path_place b 0 level place) ≡ true =
+        not_from_false (is_path_place b 0 level place) s.off_path in
         let given : first_granted b level place ≡ 3 =
         cond-true (has_node b (record { level = level; place = place })
-        && not (is_on_path b 0 level place)) 3 0 (and_from _ _ s.node off) in
+        && not (is_path_place b 0 level place)) 3 0 (and_from _ _ s.node off) in
         let deep : p.depth ≡ 3 = ap (λ (q : Part). q.depth) s.is in
         given ∙ sym deep
     | inr f ↦ absurd (none level place p f)

@@ -127,12 +127,7 @@ legal_allowed b e h laws said holds legal =
     (answer_allowed b v e.core e.call laws
     (ready b v (sent_messages b h) (said.legal h legal.1) holds) moved)
 
--- what an entry leaves of the values, and what it adds to the messages
-pub by_effect : (b : BoardValue) (e : Entry) (h : List Entry) → HistoryLaws b
-    → values_of b (e ∷ h) ≡ change b (effect b e) (values_of b h)
-unfolding after
-by_effect b e h said = said.more e h
-
+-- what an entry adds to the messages
 pub sent_more : (b : BoardValue) (e : Entry) (h : List Entry)
     → sent_messages b (e ∷ h) ≡ listed (sent (effect b e)) ++ sent_messages b h
 unfolding sent_messages

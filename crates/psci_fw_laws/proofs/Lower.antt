@@ -7,7 +7,7 @@ use Rattle.psci_coord.specs.Laws.{BelowLaws, ClaimLaws, LastCoreLaws, PlatformLa
 use Rattle.psci_coord.specs.View.{PowerView}
 use Rattle.psci_link.specs.Message.{IsClaim, PartByPart}
 use Rattle.psci_state.specs.Ask.{IsAsk}
-use Rattle.psci_ctl_model.specs.declared.start.Start.{Start}
+use Rattle.psci_link.specs.declared.start.Start.{Start}
 use Rattle.psci_fw_model.specs.After.{change}
 use Rattle.psci_fw_model.specs.Changes.{PowerOn, with_arrival, with_pending}
 use Rattle.psci_fw_model.specs.Claims.{off_parts, suspend_parts}

@@ -19,11 +19,11 @@ use Rattle.psci_fw_model.specs.Changes.{with_claim, with_phase}
 use Rattle.psci_fw_model.specs.Claims.{leaving_claim, off_parts, suspend_claim, suspend_parts}
 use Rattle.psci_fw_model.specs.Invariant.{AreValues}
 use Rattle.psci_fw_model.specs.Outcomes.{message_for}
-use Rattle.psci_fw_model.specs.Paths.{depth_by}
 use Rattle.psci_fw_model.specs.Phases.{Away, Pending, Running, Suspended, activity_of}
 use Rattle.psci_fw_model.specs.Phases.{unless_pending}
 use Rattle.psci_fw_model.specs.Values.{Values}
 use Rattle.psci_fw_model.specs.Views.{ask, view}
+use Rattle.psci_fw_model.specs.Paths.{claimed_or}
 use Rattle.psci_fw_laws.specs.KnownBelow.{known_below}
 use Rattle.psci_fw_laws.specs.Messages.{known_on}
 use Rattle.psci_fw_laws.proofs.Lower.{LowerLaws}
@@ -156,9 +156,9 @@ laid_at : (b : BoardValue) (v : Values) (m : MessageValue) (level place : ℕ) (
     → (with_claim b m v).granted level place ≡ p.depth
 laid_at b v m level place p on part =
     cond-true (place == up b level m.core.number)
-    (depth_by (slice_get m.parts level) (v.granted level place)) (v.granted level place)
+    (claimed_or (slice_get m.parts level) (v.granted level place)) (v.granted level place)
     (eq-eqb _ _ on)
-    ∙ ap (λ o. depth_by o (v.granted level place)) part
+    ∙ ap (λ o. claimed_or o (v.granted level place)) part
 
 pub new_claim : (b : BoardValue) (v : Values) (c : ℕ) (parts : List Part) → LowerLaws b
     → c < cores b → 0 < v.life → 0 < v.known c → v.known c ≤ b.starts → v.halting ≡ false

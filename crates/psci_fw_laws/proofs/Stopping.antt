@@ -1,31 +1,29 @@
 -- A function that stops its caller, by CPU_OFF or a suspend, is allowed.
-use Rattle.std.proofs.Common.{◌≡◌, ℕ, ◌≤◌, Bool, true, false, cond, ◌==◌, ◌&&◌, not, List}
-use Rattle.std.proofs.Common.{Some, Ok, Err, refl, subst, ap, sym, ◌∙◌}
-use Rattle.std.specs.Prelude.{Result, slice_get}
-use Rattle.psci_abi.specs.Codes.{denied, invalid_address, invalid_parameters, success}
+use Rattle.std.proofs.Common.{◌≡◌, ℕ, ◌≤◌, false, List}
+use Rattle.std.proofs.Common.{Some, Ok, refl, subst, ap, sym, ◌∙◌}
+use Rattle.std.specs.Prelude.{slice_get}
 use Rattle.psci_abi.specs.declared.request.Request.{Request}
 use Rattle.psci_abi.specs.declared.request.Request.TheVariants as requests
-use Rattle.psci_board.specs.Board.{BoardValue, height, may_enter}
-use Rattle.psci_coord.specs.declared.osi.Osi.{Osi}
+use Rattle.psci_board.specs.Board.{BoardValue, height}
 use Rattle.psci_coord.specs.declared.part.Part.{Part}
 use Rattle.psci_link.specs.declared.kind.Kind.TheVariants as kinds
-use Rattle.psci_state.specs.Ask.{IsAsk, deepest_of, is_deep}
-use Rattle.psci_state.specs.declared.fault.BadState.{BadState}
+use Rattle.psci_state.specs.Ask.{IsAsk, deepest_of}
 use Rattle.psci_tree.specs.Recount.{asks}
 use Rattle.psci_fw_model.specs.declared.opening.Opening.{Opening}
 use Rattle.psci_fw_model.specs.After.{change}
 use Rattle.psci_fw_model.specs.Changes.{Rest, with_rest}
 use Rattle.psci_fw_model.specs.Claims.{off_parts, suspend_parts}
 use Rattle.psci_fw_model.specs.CpuOff.{off_message}
-use Rattle.psci_fw_model.specs.CpuSuspend.{ask_named, sleeps, suspend_asked}
+use Rattle.psci_fw_model.specs.CpuSuspend.{ask_named, suspend_asked}
 use Rattle.psci_fw_model.specs.Effects.{Rests, going_off}
 use Rattle.psci_fw_model.specs.Effects.{rest_named, suspended}
 use Rattle.psci_fw_model.specs.Invariant.{AreValues, IsPhase}
-use Rattle.psci_fw_model.specs.Outcomes.{message_for, returns, stops}
+use Rattle.psci_fw_model.specs.Outcomes.{message_for}
 use Rattle.psci_fw_model.specs.Phases.{Pending, Running, Suspended, activity_of}
 use Rattle.psci_fw_model.specs.Phases.{unless_pending}
-use Rattle.psci_fw_model.specs.SystemCalls.{all_others, is_off_status, system_suspend}
+use Rattle.psci_fw_model.specs.SystemCalls.{system_suspend}
 use Rattle.psci_fw_model.specs.Values.{Values, updated}
+use Rattle.psci_fw_model.proofs.Endings.{suspend_ends, system_ends}
 use Rattle.psci_fw_laws.specs.Allowed.{IsCalling}
 use Rattle.psci_fw_laws.proofs.Allowing.{Allows, IsReady}
 use Rattle.psci_fw_laws.proofs.Lower.{LowerLaws}
@@ -81,33 +79,29 @@ asked b v c o ask parts runs are =
     let is : IsPhase b (Suspended ask) = subst (IsPhase b) left (are.phase c) in
     is.0
 
--- a core is suspended, or answered why not
-sleeps_allowed : (b : BoardValue) (v : Values) (c : ℕ) (request : Request) (o : Opening)
-    (ask : List ℕ) (asked_parts : Result (List Part) Osi) → LowerLaws b → IsReady b v
-    → IsCalling b v c → v.halting ≡ false → suspend_parts b v c ask ≡ asked_parts
-    → ((parts : List Part) → outcome_effect b c request (sleeps v c (Ok parts))
-    ≡ Rests c (suspended o ask) (message_for v kinds.Down c parts))
-    → Allows b v (outcome_effect b c request (sleeps v c asked_parts))
-sleeps_allowed b v c request o ask (Err reason) laws ready calls awake e is =
-    returned b v c request _ calls
-sleeps_allowed b v c request o ask (Ok parts) laws ready calls awake e is =
-    subst (Allows b v) (sym (is parts))
-    (stopped b v c (suspended o ask) parts laws ready calls awake (λ s. cc) (λ s. cc)
+-- a core is suspended
+rests_allowed : (b : BoardValue) (v : Values) (c : ℕ) (o : Opening) (ask : List ℕ)
+    (parts : List Part) → LowerLaws b → IsReady b v → IsCalling b v c → v.halting ≡ false
+    → suspend_parts b v c ask ≡ Ok parts
+    → Allows b v (Rests c (suspended o ask) (message_for v kinds.Down c parts))
+rests_allowed b v c o ask parts laws ready calls awake made =
+    stopped b v c (suspended o ask) parts laws ready calls awake (λ s. cc) (λ s. cc)
     (λ are. laws.suspended v c ask parts calls.core ready.values calls.runs
-    (asked b v c o ask parts calls.runs are) e)
-    (suspend_made b v c ask parts laws calls.core e)
-    (suspend_own b v c ask parts laws calls.core calls.runs e))
+    (asked b v c o ask parts calls.runs are) made)
+    (suspend_made b v c ask parts laws calls.core made)
+    (suspend_own b v c ask parts laws calls.core calls.runs made)
 
 -- a core asks for a power state
 pub suspend_allowed : (b : BoardValue) (v : Values) (c state entry_point context : ℕ)
-    (r : Result (List ℕ) BadState) → LowerLaws b → IsReady b v → IsCalling b v c
-    → v.halting ≡ false → ask_named b state ≡ r
+    → LowerLaws b → IsReady b v → IsCalling b v c → v.halting ≡ false
     → Allows b v (outcome_effect b c (requests.CpuSuspend state entry_point context)
-    (suspend_asked b v c entry_point r))
-suspend_allowed b v c state entry_point context (Err bad) laws ready calls awake e =
-    returned b v c (requests.CpuSuspend state entry_point context) invalid_parameters calls
-suspend_allowed b v c state entry_point context (Ok ask) laws ready calls awake e =
-    by_tests (is_deep ask && not (may_enter b entry_point)) (v.known c == b.starts)
+    (suspend_asked b v c entry_point (ask_named b state)))
+suspend_allowed b v c state entry_point context laws ready calls awake =
+    suspend_ends (λ o. Allows b v (outcome_effect b c request o)) b v c entry_point
+    (ask_named b state) (λ code. returned b v c request code calls)
+    (λ ask parts is made.
+    subst (λ r. Allows b v (Rests c (rest_named opening r) (message_for v kinds.Down c parts)))
+    (sym is) (rests_allowed b v c opening ask parts laws ready calls awake made))
   where
     request : Request
     request = requests.CpuSuspend state entry_point context
@@ -115,36 +109,17 @@ suspend_allowed b v c state entry_point context (Ok ask) laws ready calls awake 
     opening : Opening
     opening = record { address = entry_point; context = context }
 
-    by_tests : (s t : Bool)
-        → Allows b v (outcome_effect b c request (cond s (returns invalid_address)
-        (cond t (returns success) (sleeps v c (suspend_parts b v c ask)))))
-    by_tests true t = returned b v c request invalid_address calls
-    by_tests false true = returned b v c request success calls
-    by_tests false false =
-        sleeps_allowed b v c request opening ask (suspend_parts b v c ask) laws ready calls awake
-        refl
-        (λ parts. ap (λ r. Rests c (rest_named opening r) (message_for v kinds.Down c parts)) e)
-
 -- a core suspends the system
 pub system_allowed : (b : BoardValue) (v : Values) (c entry_point context : ℕ) → LowerLaws b
     → IsReady b v → IsCalling b v c → v.halting ≡ false
     → Allows b v (outcome_effect b c (requests.SystemSuspend entry_point context)
     (system_suspend b v c entry_point))
 system_allowed b v c entry_point context laws ready calls awake =
-    by_tests (not (may_enter b entry_point))
-    (not (all_others b c (λ k. is_off_status (v.status k)))) (v.known c == b.starts)
+    system_ends (λ o. Allows b v (outcome_effect b c request o)) b v c entry_point
+    (λ code. returned b v c request code calls)
+    (λ parts made.
+    rests_allowed b v c (record { address = entry_point; context = context })
+    (deepest_of (height b)) parts laws ready calls awake made)
   where
     request : Request
     request = requests.SystemSuspend entry_point context
-
-    by_tests : (s t u : Bool)
-        → Allows b v (outcome_effect b c request (cond s (returns invalid_address)
-        (cond t (returns denied) (cond u (returns denied)
-        (sleeps v c (suspend_parts b v c (deepest_of (height b))))))))
-    by_tests true t u = returned b v c request invalid_address calls
-    by_tests false true u = returned b v c request denied calls
-    by_tests false false true = returned b v c request denied calls
-    by_tests false false false =
-        sleeps_allowed b v c request (record { address = entry_point; context = context })
-        (deepest_of (height b)) (suspend_parts b v c (deepest_of (height b))) laws ready calls awake
-        refl (λ parts. refl)

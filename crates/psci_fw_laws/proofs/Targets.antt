@@ -9,7 +9,7 @@ use Rattle.psci_board.specs.Board.{BoardValue, core_of, may_enter}
 use Rattle.psci_board.specs.declared.node.Core.{Core}
 use Rattle.psci_fw_model.specs.declared.status.Status.{Status}
 use Rattle.psci_fw_model.specs.declared.status.Status.TheVariants as statuses
-use Rattle.psci_fw_model.specs.CpuOn.{off_target, started, target_among, target_of}
+use Rattle.psci_fw_model.specs.CpuOn.{off_target, start_outcome, target_among, target_of}
 use Rattle.psci_fw_model.specs.Invariant.{agrees}
 use Rattle.psci_fw_model.specs.Phases.{Phase, Away, Pending, Running, Suspended}
 use Rattle.psci_fw_model.specs.Values.{Values}
@@ -72,7 +72,7 @@ off_is_away statuses.Off Away e f = refl
 pub on_allowed : (b : BoardValue) (v : Values) (c word entry_point context : ℕ)
     (r : Result Core Code) → LowerLaws b → IsReady b v → IsCalling b v c → v.halting ≡ false
     → target_of b v word entry_point ≡ r
-    → Allows b v (outcome_effect b c (requests.CpuOn word entry_point context) (started v r))
+    → Allows b v (outcome_effect b c (requests.CpuOn word entry_point context) (start_outcome v r))
 on_allowed b v c word entry_point context (Err code) laws ready calls awake e are =
     returned b v c (requests.CpuOn word entry_point context) code calls are
 on_allowed b v c word entry_point context (Ok t) laws ready calls awake e are =

@@ -8,7 +8,7 @@ use Rattle.psci_link.specs.declared.kind.Kind.TheVariants.{Down, Start}
 use Rattle.psci_link.specs.Message.{AckValue, MessageValue}
 use Rattle.psci_link.specs.Slots.{answers, is_kind, slot_of}
 use Rattle.psci_tree.specs.Recount.{asks}
-use Rattle.psci_ctl_model.specs.declared.start.Start as starts
+use Rattle.psci_link.specs.declared.start.Start as starts
 use Rattle.psci_fw_model.specs.declared.status.Status.TheVariants.{Off}
 use Rattle.psci_fw_model.specs.Changes.{PowerOn, Rest, target, with_arrival, with_phase, with_rest}
 use Rattle.psci_fw_model.specs.Effects.{Effect, Nothing, GoesOn, SetsMode, AsksOn, Rests, Halts}
@@ -132,7 +132,7 @@ pub record IsCeasing (b : BoardValue) (v : Values) (c : ℕ) (s : starts.Start) 
 -- Acknowledgements ----------------------------------------------------------------------------
 
 -- An acknowledgement of what is outstanding.
-pub record IsAnswered (v : Values) (a : AckValue) : Type 0 where
+pub record IsAwaited (v : Values) (a : AckValue) : Type 0 where
   pub message : MessageValue
   pub at : v.outstanding (slot_of a.kind a.core) ≡ Some message
   pub answers : answers a message ≡ true
@@ -151,4 +151,4 @@ IsAllowed b v (Leaves c) = IsLeaving b v c
 IsAllowed b v (Enters c s) = IsGoingOn b v c s
 IsAllowed b v (Parks c s m) = IsParking b v c s m
 IsAllowed b v (Ceases c s) = IsCeasing b v c s
-IsAllowed b v (Acknowledges a) = IsAnswered v a
+IsAllowed b v (Acknowledges a) = IsAwaited v a

@@ -6,7 +6,7 @@ use Rattle.psci_coord.specs.declared.part.Part.{Part}
 use Rattle.psci_link.specs.declared.kind.Kind.TheVariants.{Down}
 use Rattle.psci_link.specs.Message.{MessageValue}
 use Rattle.psci_link.specs.Slots.{is_kind}
-use Rattle.psci_fw_model.specs.Paths.{is_on_path}
+use Rattle.psci_board.specs.Paths.{is_path_place}
 use Rattle.psci_fw_model.specs.Phases.{Phase, Running}
 use Rattle.psci_fw_laws.specs.KnownBelow.{known_below}
 
@@ -14,7 +14,7 @@ use Rattle.psci_fw_laws.specs.KnownBelow.{known_below}
 -- the domain is on its sender's path, and the Down has a part of the level
 abbrev pub part_for : BoardValue → ℕ → ℕ → ℕ → MessageValue → Option Part
 part_for b life level place m =
-    if is_kind m.kind Down && (m.life == life && is_on_path b m.core.number level place)
+    if is_kind m.kind Down && (m.life == life && is_path_place b m.core.number level place)
     then slice_get m.parts level
     else None
 
@@ -22,7 +22,7 @@ part_for b life level place m =
 -- board that is not on the boot core's path.
 pub record IsFromStart (b : BoardValue) (level place : ℕ) (p : Part) : Type 0 where
   pub node : has_node b (record { level = level; place = place }) ≡ true
-  pub off_path : is_on_path b 0 level place ≡ false
+  pub off_path : is_path_place b 0 level place ≡ false
   pub is : p ≡ record { level = level; depth = 3; generation = 0 }
 
 -- A claim that a message made.
@@ -46,7 +46,7 @@ IsCurrent b known level place p = p.generation ≡ known_below b known level pla
 
 -- Claims on one domain in one life have different generations: that of a later one is larger, and
 -- that of each message is above that of the life's start. Messages have the last one first.
-pub record AreApart (b : BoardValue) (sent : List MessageValue) : Type 0 where
+pub record AreRising (b : BoardValue) (sent : List MessageValue) : Type 0 where
   pub later : (life level place j k : ℕ) (m n : MessageValue) (p q : Part) → j < k
       → slice_get sent j ≡ Some m → slice_get sent k ≡ Some n
       → part_for b life level place m ≡ Some p → part_for b life level place n ≡ Some q

@@ -17,7 +17,7 @@ ghost use Rattle.psci_fw_model.specs.Sent.{sent_messages};
 ghost use Rattle.psci_fw_model.specs.Values.{Values};
 ghost use Rattle.psci_fw_model.specs.Views.{ask, view};
 ghost use Rattle.psci_fw_laws.specs.Asked.{WasAsked};
-ghost use Rattle.psci_fw_laws.specs.Claims.{AreApart, AreQuiet, IsClaimOn, IsCurrent, part_for};
+ghost use Rattle.psci_fw_laws.specs.Claims.{AreRising, AreQuiet, IsClaimOn, IsCurrent, part_for};
 ghost use Rattle.psci_fw_laws.specs.Entered.{AreEntered};
 ghost use Rattle.psci_fw_laws.specs.Granted.{AreGranted, HasDeeper, NonePending};
 ghost use Rattle.psci_fw_laws.specs.KnownBelow.{KnownLaws, known_below};
@@ -51,7 +51,7 @@ pub fn law_messages()
 /// newer than the known starts, and below a current one no core runs.
 pub fn law_claimed()
     ensures apart { (b : BoardValue) (h : List Entry) → IsBoard b → IsLegal b h
-        → AreApart b (sent_messages b h) }
+        → AreRising b (sent_messages b h) }
     // So life, domain and generation name one claim.
     ensures once { (b : BoardValue) (h : List Entry) → IsBoard b → IsLegal b h
         → (life level place j k : ℕ) (m n : MessageValue) (p q : Part)

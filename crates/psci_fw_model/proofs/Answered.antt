@@ -1,42 +1,37 @@
 -- What a function answers a running caller leaves values such as the firmware keeps.
-use Rattle.std.proofs.Common.{◌≡◌, ◌≤◌, ◌<◌, ◌==◌, ◌&&◌, ◌⊎◌, not, ◌↔◌, ℕ, zero, suc, [], Bool}
+use Rattle.std.proofs.Common.{◌≡◌, ◌≤◌, ◌<◌, ◌==◌, ◌⊎◌, ◌↔◌, ℕ, zero, suc, [], Bool}
 use Rattle.std.proofs.Common.{true, false, cond, List, Option, None, Some, Ok, inl, inr, refl}
 use Rattle.std.proofs.Common.{sym, ap, subst, ◌∙◌, arith}
 use Rattle.std.specs.Prelude.{Result, Err, IsTrue, is_some}
-use Rattle.psci_abi.specs.Codes.{denied, internal_failure, invalid_address, success}
+use Rattle.psci_abi.specs.Codes.{internal_failure, invalid_address}
 use Rattle.psci_abi.specs.declared.code.Code.{Code}
 use Rattle.psci_abi.specs.declared.request.Request.{Request}
 use Rattle.psci_abi.specs.declared.request.Request.TheVariants as requests
 use Rattle.psci_board.specs.Board.{BoardValue, core_of, cores, height, may_enter}
 use Rattle.psci_board.specs.declared.node.Core.{Core}
-use Rattle.psci_coord.specs.declared.osi.Osi.{Osi}
 use Rattle.psci_coord.specs.declared.part.Part.{Part}
 use Rattle.psci_link.specs.declared.kind.Kind.TheVariants as kinds
-use Rattle.psci_link.specs.Message.{MessageValue}
 use Rattle.psci_state.specs.Ask.{IsAsk, deepest_of, highest_of, is_ask, is_deep}
-use Rattle.psci_state.specs.declared.fault.BadState.{BadState}
 use Rattle.psci_fw_model.specs.declared.opening.Opening.{Opening}
-use Rattle.psci_fw_model.specs.declared.outcome.Act.{Act}
-use Rattle.psci_fw_model.specs.declared.outcome.Act.TheVariants as acts
-use Rattle.psci_fw_model.specs.declared.outcome.Outcome.{Outcome}
 use Rattle.psci_fw_model.specs.declared.status.Status.{Status}
 use Rattle.psci_fw_model.specs.declared.status.Status.TheVariants as statuses
 use Rattle.psci_fw_model.specs.After.{change}
 use Rattle.psci_fw_model.specs.Calls.{function_outcome, outcome_of}
-use Rattle.psci_fw_model.specs.Changes.{PowerOn, Rest, with_pending}
+use Rattle.psci_fw_model.specs.Changes.{PowerOn, with_pending}
 use Rattle.psci_fw_model.specs.Claims.{suspend_parts}
-use Rattle.psci_fw_model.specs.CpuOn.{off_target, started, target_among, target_of}
+use Rattle.psci_fw_model.specs.CpuOn.{off_target, start_outcome, target_among, target_of}
 use Rattle.psci_fw_model.specs.CpuOff.{off_message}
-use Rattle.psci_fw_model.specs.CpuSuspend.{ask_named, sleeps, suspend_asked}
-use Rattle.psci_fw_model.specs.Effects.{Effect, GoesOn, Leaves, Rests, function_effect, going_off}
-use Rattle.psci_fw_model.specs.Effects.{rest_named, rest_of, suspended}
+use Rattle.psci_fw_model.specs.CpuSuspend.{ask_named, suspend_asked}
+use Rattle.psci_fw_model.specs.Effects.{Effect, GoesOn, Rests, function_effect, going_off}
+use Rattle.psci_fw_model.specs.Effects.{rest_named, suspended}
 use Rattle.psci_fw_model.specs.Invariant.{AreValues, IsPhase}
-use Rattle.psci_fw_model.specs.Outcomes.{message_for, returns, stops}
+use Rattle.psci_fw_model.specs.Outcomes.{message_for}
 use Rattle.psci_fw_model.specs.Phases.{Phase, Pending, Running, Suspended, Away}
 use Rattle.psci_fw_model.specs.SuspendMode.{mode_of}
-use Rattle.psci_fw_model.specs.SystemCalls.{all_others, is_off_status, system_suspend}
+use Rattle.psci_fw_model.specs.SystemCalls.{system_suspend}
 use Rattle.psci_fw_model.specs.Values.{Values, updated}
 use Rattle.psci_fw_model.proofs.Asked.{Known, asked_running, asks_at}
+use Rattle.psci_fw_model.proofs.Endings.{outcome_ends, suspend_ends, system_ends}
 use Rattle.psci_fw_model.proofs.Changing.{kept_halting, kept_leaving, kept_on, kept_pending}
 use Rattle.psci_fw_model.proofs.Modes.{kept_by_mode}
 use Rattle.psci_fw_model.proofs.Stopping.{held_of, kept_resting, off_held, suspend_held}
@@ -59,70 +54,38 @@ goes_on b v c is = kept_on b v c (inr is.runs) is.are
 
 -- Suspending ----------------------------------------------------------------------------------
 
--- what a function comes down to that stops its caller so, or sends nothing
-ended : ℕ → Rest → Act → Option MessageValue → Effect
-ended c rest acts.Stop (Some m) = Rests c rest m
-ended c rest acts.Stop None = Leaves c
-ended c rest act message = GoesOn c
-
-suspends : (b : BoardValue) (c state entry_point context : ℕ) (act : Act)
-    (message : Option MessageValue)
-    → function_effect b c (requests.CpuSuspend state entry_point context) act message
-    ≡ ended c (rest_of b (requests.CpuSuspend state entry_point context)) act message
-unfolding ended
-suspends b c state entry_point context acts.Stop (Some m) = refl
-suspends b c state entry_point context acts.Stop None = refl
-suspends b c state entry_point context (acts.Return code) (Some m) = refl
-suspends b c state entry_point context (acts.Return code) None = refl
-suspends b c state entry_point context (acts.Enter address x) message = refl
-suspends b c state entry_point context acts.Resume message = refl
-
-suspends_all : (b : BoardValue) (c entry_point context : ℕ) (act : Act)
-    (message : Option MessageValue)
-    → function_effect b c (requests.SystemSuspend entry_point context) act message
-    ≡ ended c (rest_of b (requests.SystemSuspend entry_point context)) act message
-unfolding ended
-suspends_all b c entry_point context acts.Stop (Some m) = refl
-suspends_all b c entry_point context acts.Stop None = refl
-suspends_all b c entry_point context (acts.Return code) (Some m) = refl
-suspends_all b c entry_point context (acts.Return code) None = refl
-suspends_all b c entry_point context (acts.Enter address x) message = refl
-suspends_all b c entry_point context acts.Resume message = refl
-
 opens_where_deep : (o : Opening) (t : Bool) → is_some (cond t (Some o) None) ≡ t
 opens_where_deep o true = refl
 opens_where_deep o false = refl
 
-sleeps_kept : (b : BoardValue) (v : Values) (c : ℕ) (o : Opening) (ask : List ℕ)
-    (parts : Result (List Part) Osi) → IsCalling b v c → IsPhase b (Suspended ask)
-    → suspend_parts b v c ask ≡ parts
-    → Kept b v (ended c (suspended o ask) (sleeps v c parts).act (sleeps v c parts).message)
-unfolding ended
-sleeps_kept b v c o ask (Err reason) is asks e = goes_on b v c is
-sleeps_kept b v c o ask (Ok parts) is asks e =
+rests_kept : (b : BoardValue) (v : Values) (c : ℕ) (o : Opening) (ask : List ℕ)
+    (parts : List Part) → IsCalling b v c → IsPhase b (Suspended ask)
+    → suspend_parts b v c ask ≡ Ok parts
+    → Kept b v (Rests c (suspended o ask) (message_for v kinds.Down c parts))
+rests_kept b v c o ask parts is asks e =
     kept_resting b v c (suspended o ask) (message_for v kinds.Down c parts) is.known is.runs
     is.awake is.are refl asks
     (opens_where_deep o (is_deep ask))
     (suspend_held b v c ask parts is.known is.on is.runs asks.0 is.are.phase
     (held_of b v is.known is.are is.awake) e)
 
-suspend_kept : (b : BoardValue) (v : Values) (c entry_point : ℕ) (o : Opening)
-    (asked : Result (List ℕ) BadState) → IsCalling b v c
-    → ((ask : List ℕ) → asked ≡ Ok ask → IsPhase b (Suspended ask))
-    → Kept b v (ended c (rest_named o asked) (suspend_asked b v c entry_point asked).act
-    (suspend_asked b v c entry_point asked).message)
-unfolding ended
-suspend_kept b v c entry_point o (Err bad) is asks = goes_on b v c is
-suspend_kept b v c entry_point o (Ok ask) is asks =
-    by_tests (is_deep ask && not (may_enter b entry_point)) (v.known c == b.starts)
+suspend_kept : (b : BoardValue) (v : Values) (c state entry_point context : ℕ)
+    → IsCalling b v c
+    → ((ask : List ℕ) → ask_named b state ≡ Ok ask → IsPhase b (Suspended ask))
+    → let o = suspend_asked b v c entry_point (ask_named b state) in
+    Kept b v (function_effect b c (requests.CpuSuspend state entry_point context) o.act o.message)
+suspend_kept b v c state entry_point context is asks =
+    suspend_ends (λ o. Kept b v (function_effect b c request o.act o.message)) b v c entry_point
+    (ask_named b state) (λ code. goes_on b v c is)
+    (λ ask parts named made.
+    subst (λ r. Kept b v (Rests c (rest_named opening r) (message_for v kinds.Down c parts)))
+    (sym named) (rests_kept b v c opening ask parts is (asks ask named) made))
   where
-    by_tests : (barred spent : Bool)
-        → let p : Outcome = cond barred (returns invalid_address)
-        (cond spent (returns success) (sleeps v c (suspend_parts b v c ask))) in
-        Kept b v (ended c (suspended o ask) p.act p.message)
-    by_tests true spent = goes_on b v c is
-    by_tests false true = goes_on b v c is
-    by_tests false false = sleeps_kept b v c o ask (suspend_parts b v c ask) is (asks ask refl) refl
+    request : Request
+    request = requests.CpuSuspend state entry_point context
+
+    opening : Opening
+    opening = record { address = entry_point; context = context }
 
 -- power-down of all levels is an ask of each board
 pub deepest_is : (h : ℕ) → h ≤ 3 → ((depths : List ℕ) → IsTrue (is_ask depths) ↔ IsAsk depths)
@@ -133,25 +96,18 @@ deepest_is (suc (suc zero)) i test = ((test (deepest_of 2)).0 refl, omega arith)
 deepest_is (suc (suc (suc zero))) i test = ((test (deepest_of 3)).0 refl, omega arith)
 deepest_is (suc (suc (suc (suc h)))) i test = absurd (omega arith)
 
-suspend_all_kept : (b : BoardValue) (v : Values) (c entry_point : ℕ) (o : Opening)
-    → IsCalling b v c → IsPhase b (Suspended (deepest_of (height b)))
-    → let p : Outcome = system_suspend b v c entry_point in
-    Kept b v (ended c (suspended o (deepest_of (height b))) p.act p.message)
-unfolding ended
-suspend_all_kept b v c entry_point o is asks =
-    by_tests (not (may_enter b entry_point))
-    (not (all_others b c (λ k. is_off_status (v.status k)))) (v.known c == b.starts)
+suspend_all_kept : (b : BoardValue) (v : Values) (c entry_point context : ℕ) → IsCalling b v c
+    → IsPhase b (Suspended (deepest_of (height b)))
+    → let o = system_suspend b v c entry_point in
+    Kept b v (function_effect b c (requests.SystemSuspend entry_point context) o.act o.message)
+suspend_all_kept b v c entry_point context is asks =
+    system_ends (λ o. Kept b v (function_effect b c request o.act o.message)) b v c entry_point
+    (λ code. goes_on b v c is)
+    (λ parts made. rests_kept b v c (record { address = entry_point; context = context })
+    (deepest_of (height b)) parts is asks made)
   where
-    by_tests : (barred others spent : Bool)
-        → let p : Outcome = cond barred (returns invalid_address) (cond others (returns denied)
-        (cond spent (returns denied) (sleeps v c (suspend_parts b v c (deepest_of (height b)))))) in
-        Kept b v (ended c (suspended o (deepest_of (height b))) p.act p.message)
-    by_tests true others spent = goes_on b v c is
-    by_tests false true spent = goes_on b v c is
-    by_tests false false true = goes_on b v c is
-    by_tests false false false =
-        sleeps_kept b v c o (deepest_of (height b)) (suspend_parts b v c (deepest_of (height b))) is
-        asks refl
+    request : Request
+    request = requests.SystemSuspend entry_point context
 
 -- CPU_ON --------------------------------------------------------------------------------------
 
@@ -195,8 +151,8 @@ runs_on v c t runs = by_test (c == t)
 
 on_kept : (b : BoardValue) (v : Values) (c word entry_point context : ℕ)
     (t : Result Core Code) → IsCalling b v c → target_of b v word entry_point ≡ t
-    → Kept b v (function_effect b c (requests.CpuOn word entry_point context) (started v t).act
-    (started v t).message)
+    → let o = start_outcome v t in
+    Kept b v (function_effect b c (requests.CpuOn word entry_point context) o.act o.message)
 on_kept b v c word entry_point context (Err code) is e = goes_on b v c is
 on_kept b v c word entry_point context (Ok t) is e =
     let asked : PowerOn = record {
@@ -226,9 +182,7 @@ function_kept : (b : BoardValue) (v : Values) (c : ℕ) (r : Request) → IsCall
     Kept b v (function_effect b c r o.act o.message)
 function_kept b v c requests.Version is asks all = goes_on b v c is
 function_kept b v c (requests.CpuSuspend state entry_point context) is asks all =
-    subst (Kept b v) (sym (suspends b c state entry_point context _ _))
-    (suspend_kept b v c entry_point (record { address = entry_point; context = context })
-    (ask_named b state) is (asks state))
+    suspend_kept b v c state entry_point context is (asks state)
 function_kept b v c requests.CpuOff is asks all = off_kept b v c is
 function_kept b v c (requests.CpuOn word entry_point context) is asks all =
     on_kept b v c word entry_point context (target_of b v word entry_point) is refl
@@ -240,9 +194,7 @@ function_kept b v c requests.SystemReset is asks all =
     kept_halting b v c (message_for v kinds.Reset c []) is.known is.runs is.are
 function_kept b v c (requests.Features word) is asks all = goes_on b v c is
 function_kept b v c (requests.SystemSuspend entry_point context) is asks all =
-    subst (Kept b v) (sym (suspends_all b c entry_point context _ _))
-    (suspend_all_kept b v c entry_point (record { address = entry_point; context = context }) is
-    all)
+    suspend_all_kept b v c entry_point context is all
 function_kept b v c (requests.SetSuspendMode number) is asks all =
     kept_by_mode b v c (mode_of number) is.known is.on is.runs is.are
 function_kept b v c requests.Unknown is asks all = goes_on b v c is
@@ -251,12 +203,8 @@ pub kept_function : (b : BoardValue) (v : Values) (c : ℕ) (r : Request) → Kn
     → AreValues b v → v.phase c ≡ Running → Worded b
     → IsPhase b (Suspended (deepest_of (height b))) → let o = outcome_of b v c r in
     AreValues b (change b (function_effect b c r o.act o.message) v)
-unfolding outcome_of
-kept_function b v c r known on are runs asks all = by_test v.halting refl
-  where
-    by_test : (halting : Bool) → v.halting ≡ halting
-        → let o : Outcome = cond halting stops (function_outcome b v c r) in
-        AreValues b (change b (function_effect b c r o.act o.message) v)
-    by_test true e = kept_leaving b v c known runs e are
-    by_test false e = function_kept b v c r
-        (record { known = known; on = on; are = are; runs = runs; awake = e }) asks all
+kept_function b v c r known on are runs asks all =
+    outcome_ends (λ o. AreValues b (change b (function_effect b c r o.act o.message) v)) b v c r
+    (λ halts. kept_leaving b v c known runs halts are)
+    (λ awake. function_kept b v c r
+    (record { known = known; on = on; are = are; runs = runs; awake = awake }) asks all)

@@ -10,13 +10,13 @@ use Rattle.psci_fw_model.specs.declared.outcome.Act.{Act}
 use Rattle.psci_fw_model.specs.declared.outcome.Act.TheVariants as acts
 use Rattle.psci_fw_model.specs.declared.outcome.Outcome.{Outcome}
 use Rattle.psci_fw_model.specs.declared.reply.FwReply.TheVariants.{Out}
-use Rattle.psci_ctl_model.specs.declared.start.Start.{Start}
+use Rattle.psci_link.specs.declared.start.Start.{Start}
 use Rattle.psci_fw_model.specs.After.{after, change}
 use Rattle.psci_fw_model.specs.Answer.{answer}
 use Rattle.psci_fw_model.specs.Effects.{Enters, enter_effect}
 use Rattle.psci_fw_model.specs.Entering.{enter_outcome}
 use Rattle.psci_fw_model.specs.Lives.{in_life, start_of_life}
-use Rattle.psci_fw_model.specs.Outcomes.{goes_on}
+use Rattle.psci_fw_model.specs.Outcomes.{executes_on}
 use Rattle.psci_fw_model.specs.Phases.{Running}
 use Rattle.psci_fw_model.specs.Values.{Values}
 
@@ -36,14 +36,14 @@ module _ (b : BoardValue) (v : Values) (c : ℕ) (s : Start) where
   entered_runs : (change b (Enters c s) v).phase c ≡ Running
   entered_runs = at_itself c Running _
 
-  runs_by : (act : Act) (m : Option MessageValue) → goes_on act ≡ true
+  runs_by : (act : Act) (m : Option MessageValue) → executes_on act ≡ true
       → (change b (enter_effect c s act m) v).phase c ≡ Running
   runs_by acts.Stop m goes = absurd (cc)
   runs_by (acts.Return code) m goes = entered_runs
   runs_by (acts.Enter a x) m goes = entered_runs
   runs_by acts.Resume m goes = entered_runs
 
-  pub enters_runs : (o : Outcome) → goes_on o.act ≡ true
+  pub enters_runs : (o : Outcome) → executes_on o.act ≡ true
       → (after b c (Enter s) (Out o) v).phase c ≡ Running
   unfolding after
   enters_runs o goes = runs_by o.act o.message goes

@@ -26,7 +26,7 @@ use Rattle.psci_fw_model.specs.Changes.{PowerOn, target, with_pending}
 use Rattle.psci_fw_model.specs.Effects.{AsksOn, Effect, GoesOn, SetsMode, function_effect}
 use Rattle.psci_fw_model.specs.Effects.{mode_effect, return_effect, sent_effect, stop_effect}
 use Rattle.psci_fw_model.specs.Invariant.{AreValues}
-use Rattle.psci_fw_model.specs.Outcomes.{goes_on}
+use Rattle.psci_fw_model.specs.Outcomes.{executes_on}
 use Rattle.psci_fw_model.specs.Phases.{Phase, Running, Away, unless_pending}
 use Rattle.psci_fw_model.specs.Phases as phases
 use Rattle.psci_fw_model.specs.SuspendMode.{mode_of}
@@ -123,7 +123,7 @@ module _ (b : BoardValue) (v : Values) (c : ℕ) (runs : v.phase c ≡ Running) 
   sent_runs r m are was = goes_on_runs
 
   function_runs : (r : Request) (act : Act) (m : Option MessageValue) → AreValues b v
-      → Asks b v r (function_effect b c r act m) → goes_on act ≡ true
+      → Asks b v r (function_effect b c r act m) → executes_on act ≡ true
       → RunsOn (function_effect b c r act m)
   function_runs r acts.Stop m are was goes = absurd (cc)
   function_runs r (acts.Return code) (Some m) are was goes = sent_runs r m are was
@@ -133,7 +133,7 @@ module _ (b : BoardValue) (v : Values) (c : ℕ) (runs : v.phase c ≡ Running) 
 
 pub runs_on : (b : BoardValue) (v : Values) (c : ℕ) (regs : Regs) → AreValues b v
     → v.phase c ≡ Running → let o = outcome_of b v c (request_of regs) in
-    goes_on o.act ≡ true → (after b c (Smc regs) (Out o) v).phase c ≡ Running
+    executes_on o.act ≡ true → (after b c (Smc regs) (Out o) v).phase c ≡ Running
 unfolding after
 runs_on b v c regs are runs goes =
     let r = request_of regs in

@@ -10,16 +10,18 @@ use Rattle.psci_fw_model.specs.Changes.{target}
 use Rattle.psci_fw_model.specs.Effects.{Effect, AsksOn, Rests}
 use Rattle.psci_fw_model.specs.Effects.{Enters, Parks, Ceases}
 use Rattle.psci_fw_model.specs.Entry.{Entry}
-use Rattle.psci_fw_model.specs.History.{begins, granted, life, only_if, says_granted, values_of}
+use Rattle.psci_fw_model.specs.History.{begins, granted, life, says_granted, values_of}
+use Rattle.psci_link.specs.OnlyIf.{only_if}
 use Rattle.psci_fw_model.specs.Lives.{first_granted}
-use Rattle.psci_fw_model.specs.Paths.{depth_by, is_on_path}
+use Rattle.psci_board.specs.Paths.{is_path_place}
 use Rattle.psci_fw_model.specs.Said.{arrived}
+use Rattle.psci_fw_model.specs.Paths.{claimed_or}
 use Rattle.psci_fw_model.proofs.Says.{found, said}
 
 -- a claim on a path or beside it, with a part of the level or with none
 claims : (t : Bool) (p : Option Part) (depth : ℕ)
     → unwrap_or (option_or (only_if t (option_map (λ (q : Part). q.depth) p)) None) depth
-    ≡ cond t (depth_by p depth) depth
+    ≡ cond t (claimed_or p depth) depth
 claims true None depth = refl
 claims true (Some p) depth = refl
 claims false p depth = refl
@@ -28,7 +30,7 @@ claims false p depth = refl
 claims_after : (t u : Bool) (p : Option Part) (depth : ℕ)
     → unwrap_or (option_or (only_if t (option_map (λ (q : Part). q.depth) p))
     (option_or (only_if u (Some 0)) None)) depth
-    ≡ cond t (depth_by p (cond u 0 depth)) (cond u 0 depth)
+    ≡ cond t (claimed_or p (cond u 0 depth)) (cond u 0 depth)
 claims_after true true None depth = refl
 claims_after true false None depth = refl
 claims_after true u (Some p) depth = refl
@@ -58,19 +60,19 @@ module _ (b : BoardValue) (h : List Entry) where
       ≡ (change b f (values_of b h)).granted level place
   unfolding values_of
   granted_more (AsksOn c asked) level place =
-      said (is_on_path b (target asked) level place) 0 (granted b h level place)
+      said (is_path_place b (target asked) level place) 0 (granted b h level place)
   granted_more (Rests c rest m) level place =
-      claims (is_on_path b m.core.number level place) (slice_get m.parts level)
+      claims (is_path_place b m.core.number level place) (slice_get m.parts level)
       (granted b h level place)
   granted_more (Enters c s) level place =
-      enters s.life (s.life == life b h) (is_on_path b c level place) level place
+      enters s.life (s.life == life b h) (is_path_place b c level place) level place
   granted_more (Parks c s m) level place =
-      let on = is_on_path b c level place in
-      let claimed = is_on_path b m.core.number level place in
+      let on = is_path_place b c level place in
+      let claimed = is_path_place b m.core.number level place in
       let p = slice_get m.parts level in
       claims_after claimed on p (last level place (s.life == life b h))
-      ∙ ap (λ (depth : ℕ). cond claimed (depth_by p (cond on 0 depth)) (cond on 0 depth))
+      ∙ ap (λ (depth : ℕ). cond claimed (claimed_or p (cond on 0 depth)) (cond on 0 depth))
       (found_granted s.life (s.life == life b h) level place)
   granted_more (Ceases c s) level place =
-      enters s.life (s.life == life b h) (is_on_path b c level place) level place
+      enters s.life (s.life == life b h) (is_path_place b c level place) level place
   granted_more f level place = refl

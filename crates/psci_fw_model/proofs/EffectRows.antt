@@ -10,12 +10,12 @@ use Rattle.psci_fw_model.specs.declared.outcome.Act.{Act}
 use Rattle.psci_fw_model.specs.declared.outcome.Act.TheVariants as acts
 use Rattle.psci_fw_model.specs.declared.reply.FwReply.{FwReply}
 use Rattle.psci_fw_model.specs.declared.reply.FwReply.TheVariants.{Out}
-use Rattle.psci_ctl_model.specs.declared.start.Cause.TheVariants as causes
-use Rattle.psci_ctl_model.specs.declared.start.Start.{Start}
+use Rattle.psci_link.specs.declared.start.Cause.TheVariants as causes
+use Rattle.psci_link.specs.declared.start.Start.{Start}
 use Rattle.psci_fw_model.specs.Effects.{Acknowledges, AsksOn, Ceases, Effect, Enters, GoesOn, Halts}
 use Rattle.psci_fw_model.specs.Effects.{Leaves, Nothing, Parks, Rests, SetsMode, effect_of}
 use Rattle.psci_fw_model.specs.Lives.{start_of_life}
-use Rattle.psci_fw_model.specs.Outcomes.{goes_on}
+use Rattle.psci_fw_model.specs.Outcomes.{executes_on}
 use Rattle.psci_fw_model.specs.Phases.{Away, Phase, Running, Suspended, is_away, is_light}
 use Rattle.psci_fw_model.specs.Phases.{is_running, is_waiting, unless_pending}
 use Rattle.psci_fw_model.specs.Phases as phases
@@ -127,7 +127,7 @@ acknowledgements : map (effect_with (take_stale 3 1 2 1)) (used ∷ old ∷ [])
 acknowledgements = refl
 
 -- which acts go on
-acts_that_go_on : map goes_on
+acts_that_go_on : map executes_on
     (acts.Return (record { 0 = negsuc 0 }) ∷ acts.Stop ∷ acts.Enter 0x40001000 7 ∷ acts.Resume ∷ [])
     ≡ true ∷ false ∷ true ∷ true ∷ []
 acts_that_go_on = refl

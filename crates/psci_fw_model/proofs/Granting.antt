@@ -9,7 +9,7 @@ use Rattle.psci_coord.specs.declared.part.Part.{Part}
 use Rattle.psci_tree.specs.Recount.{is_off}
 use Rattle.psci_fw_model.specs.declared.mode.SuspendMode.{SuspendMode}
 use Rattle.psci_fw_model.specs.declared.mode.SuspendMode.TheVariants.{Platform}
-use Rattle.psci_fw_model.specs.Paths.{cleared, depth_by, laid}
+use Rattle.psci_fw_model.specs.Paths.{claimed_or, cleared, granted_with}
 use Rattle.psci_fw_model.specs.Phases.{Phase, activity_of}
 use Rattle.psci_fw_model.proofs.Asked.{IsAllOff, IsLeast, apart, asks_at, joined, least_at}
 use Rattle.psci_fw_model.proofs.Asked.{least_beside}
@@ -147,42 +147,42 @@ pub record AreWanted (b : BoardValue) (mode : SuspendMode) (phase : ℕ → Phas
 abbrev pub AreLaid : BoardValue → (ℕ → ℕ → ℕ) → ℕ → List Part → (ℕ → ℕ) → Type 0
 AreLaid b granted c parts want =
     (level : ℕ) → level ≤ height b
-    → depth_by (slice_get parts level) (granted level (up b level c)) ≡ want level
+    → claimed_or (slice_get parts level) (granted level (up b level c)) ≡ want level
 
 -- the depth at a place that is on the path
 laid_at : (b : BoardValue) (granted : ℕ → ℕ → ℕ) (c : ℕ) (parts : List Part) (want : ℕ → ℕ)
     (level place : ℕ) → AreLaid b granted c parts want → level ≤ height b
-    → place ≡ up b level c → depth_by (slice_get parts level) (granted level place) ≡ want level
-laid_at b granted c parts want level place laid i at =
-    ap (λ y. depth_by (slice_get parts level) (granted level y)) at ∙ laid level i
+    → place ≡ up b level c → claimed_or (slice_get parts level) (granted level place) ≡ want level
+laid_at b granted c parts want level place is i at =
+    ap (λ y. claimed_or (slice_get parts level) (granted level y)) at ∙ is level i
 
 pub nested_laid : (b : BoardValue) (mode : SuspendMode) (old new : ℕ → Phase)
     (granted : ℕ → ℕ → ℕ) (c : ℕ) (parts : List Part) (want : ℕ → ℕ) → PathLaws b
     → AreLaid b granted c parts want → AreWanted b mode new granted c want
     → AreBounded b old granted → (x level : ℕ) → x < cores b → level < height b
-    → laid b c parts granted (level + 1) (up b (level + 1) x)
-    ≤ laid b c parts granted level (up b level x)
+    → granted_with b c parts granted (level + 1) (up b (level + 1) x)
+    ≤ granted_with b c parts granted level (up b level x)
 nested_laid b mode old new granted c parts want paths is w g = λ x level h i.
-    chosen (λ d. d ≤ laid b c parts granted level (up b level x))
+    chosen (λ d. d ≤ granted_with b c parts granted level (up b level x))
     (up b (level + 1) x == up b (level + 1) c)
-    (depth_by (slice_get parts (level + 1)) (granted (level + 1) (up b (level + 1) x)))
+    (claimed_or (slice_get parts (level + 1)) (granted (level + 1) (up b (level + 1) x)))
     (granted (level + 1) (up b (level + 1) x))
     (λ e.
-    let above : depth_by (slice_get parts (level + 1)) (granted (level + 1) (up b (level + 1) x))
+    let above : claimed_or (slice_get parts (level + 1)) (granted (level + 1) (up b (level + 1) x))
     ≡ want (level + 1) =
     laid_at b granted c parts want (level + 1) _ is (omega arith) (eqb-true _ _ e) in
-    chosen (λ d. depth_by (slice_get parts (level + 1))
+    chosen (λ d. claimed_or (slice_get parts (level + 1))
     (granted (level + 1) (up b (level + 1) x)) ≤ d) (up b level x == up b level c)
-    (depth_by (slice_get parts level) (granted level (up b level x)))
+    (claimed_or (slice_get parts level) (granted level (up b level x)))
     (granted level (up b level x))
     (λ t.
-    let below : depth_by (slice_get parts level) (granted level (up b level x)) ≡ want level =
+    let below : claimed_or (slice_get parts level) (granted level (up b level x)) ≡ want level =
     laid_at b granted c parts want level _ is (omega arith) (eqb-true _ _ t) in
     omega (arith, above, below, w.falls level i))
     (λ t. omega (arith, above, w.beside x level h i (eqb-true _ _ e) (eqb-false _ _ t))))
     (λ e. chosen (λ d. granted (level + 1) (up b (level + 1) x) ≤ d)
     (up b level x == up b level c)
-    (depth_by (slice_get parts level) (granted level (up b level x)))
+    (claimed_or (slice_get parts level) (granted level (up b level x)))
     (granted level (up b level x))
     (λ t. absurd (eqb-false _ _ e (joined b x c level paths (eqb-true _ _ t))))
     (λ t. g.nested x level h i))
@@ -191,10 +191,10 @@ pub granted_laid : (b : BoardValue) (mode : SuspendMode) (old new : ℕ → Phas
     (granted : ℕ → ℕ → ℕ) (c : ℕ) (parts : List Part) (want : ℕ → ℕ) → PathLaws b
     → ChangedAt old new c → AreLaid b granted c parts want
     → AreWanted b mode new granted c want → AreGranted b mode old granted
-    → AreGranted b mode new (laid b c parts granted)
+    → AreGranted b mode new (granted_with b c parts granted)
 granted_laid b mode old new granted c parts want paths changed is w g = record {
   own = λ x h. chosen (λ d. d ≡ asks_at b (new x) 0) (x == up b 0 c)
-      (depth_by (slice_get parts 0) (granted 0 x)) (granted 0 x)
+      (claimed_or (slice_get parts 0) (granted 0 x)) (granted 0 x)
       (λ e.
       let same : c ≡ x = sym (eqb-true _ _ e ∙ paths.core c) in
       laid_at b granted c parts want 0 x is (omega arith) (eqb-true _ _ e) ∙ w.own
@@ -202,13 +202,13 @@ granted_laid b mode old new granted c parts want paths changed is w g = record {
       (λ e. g.own x h ∙ sym (ap (λ (p : Phase). asks_at b p 0)
       (changed x (λ same. eqb-false _ _ e (same ∙ sym (paths.core c))))));
   away = λ x level h i all. chosen (λ d. d ≡ 3) (up b level x == up b level c)
-      (depth_by (slice_get parts level) (granted level (up b level x)))
+      (claimed_or (slice_get parts level) (granted level (up b level x)))
       (granted level (up b level x))
       (λ e. laid_at b granted c parts want level _ is i (eqb-true _ _ e)
       ∙ w.away level i (λ y k at. all y k (at ∙ sym (eqb-true _ _ e))))
       (λ e. g.away x level h i (off_beside b old new c x level changed (eqb-false _ _ e) all));
   least = λ m x level h i. chosen (IsLeast b new x level) (up b level x == up b level c)
-      (depth_by (slice_get parts level) (granted level (up b level x)))
+      (claimed_or (slice_get parts level) (granted level (up b level x)))
       (granted level (up b level x))
       (λ e. subst (IsLeast b new x level)
       (sym (laid_at b granted c parts want level _ is i (eqb-true _ _ e)))

@@ -19,13 +19,14 @@ use Rattle.psci_fw_model.specs.declared.outcome.Act.{Act}
 use Rattle.psci_fw_model.specs.declared.outcome.Act.TheVariants as acts
 use Rattle.psci_fw_model.specs.declared.reply.FwReply.{FwReply}
 use Rattle.psci_fw_model.specs.declared.reply.FwReply.TheVariants.{Out, Taken}
-use Rattle.psci_ctl_model.specs.declared.start.Start.{Start}
+use Rattle.psci_link.specs.declared.start.Start.{Start}
 use Rattle.psci_fw_model.specs.CpuSuspend.{ask_named}
 use Rattle.psci_fw_model.specs.Effects.{GoesOn, effect_of, enter_effect, function_effect}
 use Rattle.psci_fw_model.specs.Effects.{mode_effect, rest_named, rest_of, return_effect}
 use Rattle.psci_fw_model.specs.Effects.{sent_effect, stop_effect}
 use Rattle.psci_fw_model.specs.Entry.{Entry, effect}
-use Rattle.psci_fw_model.specs.History.{begins, life, only_if, phase_left}
+use Rattle.psci_fw_model.specs.History.{begins, life, phase_left}
+use Rattle.psci_link.specs.OnlyIf.{only_if}
 use Rattle.psci_fw_model.specs.Phases.{Phase, Pending, Running, Suspended, Away}
 use Rattle.psci_fw_model.specs.Said.{Left, arrived, left}
 use Rattle.psci_fw_model.specs.SuspendMode.{mode_of}

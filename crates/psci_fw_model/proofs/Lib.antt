@@ -9,6 +9,7 @@ mod Claimed
 mod CpuOnRows
 mod DomainsSay
 mod EffectRows
+pub mod Endings
 mod Entered
 mod EntryRows
 mod Granting

@@ -10,7 +10,8 @@ use Rattle.psci_fw_model.specs.Changes.{target}
 use Rattle.psci_fw_model.specs.Effects.{Effect, AsksOn, Rests}
 use Rattle.psci_fw_model.specs.Effects.{Enters, Parks, Ceases}
 use Rattle.psci_fw_model.specs.Entry.{Entry}
-use Rattle.psci_fw_model.specs.History.{begins, life, only_if, opening, says_opening, values_of}
+use Rattle.psci_fw_model.specs.History.{begins, life, opening, says_opening, values_of}
+use Rattle.psci_link.specs.OnlyIf.{only_if}
 use Rattle.psci_fw_model.specs.Lives.{first_opening}
 use Rattle.psci_fw_model.specs.Said.{arrived}
 use Rattle.psci_fw_model.proofs.Says.{found, said, said_or}

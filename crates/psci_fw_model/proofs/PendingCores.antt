@@ -14,7 +14,8 @@ use Rattle.psci_fw_model.specs.Changes.{target}
 use Rattle.psci_fw_model.specs.Effects.{Effect, AsksOn}
 use Rattle.psci_fw_model.specs.Effects.{Enters, Parks, Ceases, Acknowledges}
 use Rattle.psci_fw_model.specs.Entry.{Entry, effect}
-use Rattle.psci_fw_model.specs.History.{begins, is_gone, is_pending, life, only_if, phase}
+use Rattle.psci_fw_model.specs.History.{begins, is_gone, is_pending, life, phase}
+use Rattle.psci_link.specs.OnlyIf.{only_if}
 use Rattle.psci_fw_model.specs.History.{phase_left, says_pending, says_status, status}
 use Rattle.psci_fw_model.specs.Lives.{first_status}
 use Rattle.psci_fw_model.specs.Phases.{Phase, Pending, is_away}
@@ -25,7 +26,7 @@ use Rattle.psci_fw_model.proofs.LeftBy.{IsLeft, is_left}
 
 -- a status says the same as a test: that the core is pending
 abbrev Agree : Status → Bool → Type 0
-Agree s pending = affinity.is_pending s ≡ pending
+Agree s pending = affinity.is_pending_status s ≡ pending
 
 first_agree : (t : Bool) → Agree (cond t statuses.Pending statuses.Off) t
 first_agree true = refl
@@ -93,7 +94,7 @@ module _ (b : BoardValue) where
 
 -- Both ways -----------------------------------------------------------------------------------
 
-pending_status : (s : Status) → affinity.is_pending s ≡ true → s ≡ statuses.Pending
+pending_status : (s : Status) → affinity.is_pending_status s ≡ true → s ≡ statuses.Pending
 pending_status statuses.On e = absurd (cc)
 pending_status statuses.Off e = absurd (cc)
 pending_status statuses.Pending e = refl
@@ -106,7 +107,7 @@ pub pending_same : (b : BoardValue) (h : List Entry) (c : ℕ)
     → (status b h c ≡ statuses.Pending) ↔ (phase b h c ≡ Pending)
 pending_same b h c = (
   λ e. ap (λ (p : Bool). cond p Pending (phase_left b h c))
-      (sym (agree b h c) ∙ ap affinity.is_pending e),
+      (sym (agree b h c) ∙ ap affinity.is_pending_status e),
   λ e. pending_status (status b h c)
       (agree b h c ∙ pending_phase (is_pending b h c) (phase_left b h c) (is_left b h c) e),
 )

@@ -9,7 +9,8 @@ use Rattle.psci_fw_model.specs.Changes.{target}
 use Rattle.psci_fw_model.specs.Effects.{Effect, GoesOn, SetsMode, AsksOn, Rests, Halts}
 use Rattle.psci_fw_model.specs.Effects.{Leaves, Enters, Parks, Ceases}
 use Rattle.psci_fw_model.specs.Entry.{Entry}
-use Rattle.psci_fw_model.specs.History.{begins, is_pending, life, only_if, phase_left, says_left}
+use Rattle.psci_fw_model.specs.History.{begins, is_pending, life, phase_left, says_left}
+use Rattle.psci_link.specs.OnlyIf.{only_if}
 use Rattle.psci_fw_model.specs.History.{says_pending, values_of}
 use Rattle.psci_fw_model.specs.Phases.{Phase, Pending, Running, Suspended, Away, unless_pending}
 use Rattle.psci_fw_model.specs.Said.{arrived}

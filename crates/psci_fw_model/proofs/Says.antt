@@ -5,12 +5,13 @@ use Rattle.std.specs.Option.{option_or}
 use Rattle.std.proofs.lemmas.Bool.{eqb-true}
 use Rattle.psci_board.specs.Board.{BoardValue}
 use Rattle.psci_fw_model.specs.declared.mode.SuspendMode.TheVariants.{Platform}
-use Rattle.psci_ctl_model.specs.declared.start.Start.{Start}
+use Rattle.psci_link.specs.declared.start.Start.{Start}
 use Rattle.psci_fw_model.specs.After.{change}
 use Rattle.psci_fw_model.specs.Effects.{Effect}
 use Rattle.psci_fw_model.specs.Effects.{Enters, Parks, Ceases}
 use Rattle.psci_fw_model.specs.Entry.{Entry}
-use Rattle.psci_fw_model.specs.History.{begins, halting, known, life, life_after, mode, only_if}
+use Rattle.psci_fw_model.specs.History.{begins, halting, known, life, life_after, mode}
+use Rattle.psci_link.specs.OnlyIf.{only_if}
 use Rattle.psci_fw_model.specs.History.{says_halting, says_known, says_mode, values_of}
 use Rattle.psci_fw_model.specs.Lives.{start_of_life}
 use Rattle.psci_fw_model.specs.Said.{arrived}

@@ -4,7 +4,7 @@ use Rattle.std.proofs.Common.{Some, refl, ap}
 use Rattle.psci_board.specs.Board.{BoardValue}
 use Rattle.psci_link.specs.Outstanding as slots
 use Rattle.psci_link.specs.Slots.{Change, Clear, ClearAll, Put, Slot, changed}
-use Rattle.psci_ctl_model.specs.declared.start.Start.{Start}
+use Rattle.psci_link.specs.declared.start.Start.{Start}
 use Rattle.psci_fw_model.specs.After.{change}
 use Rattle.psci_fw_model.specs.Effects.{Effect, AsksOn, Rests, Halts}
 use Rattle.psci_fw_model.specs.Effects.{Enters, Parks, Ceases, Acknowledges}

@@ -12,7 +12,8 @@ use Rattle.psci_fw_model.specs.Changes.{target}
 use Rattle.psci_fw_model.specs.Effects.{Effect, AsksOn}
 use Rattle.psci_fw_model.specs.Effects.{Enters, Parks, Ceases, Acknowledges}
 use Rattle.psci_fw_model.specs.Entry.{Entry}
-use Rattle.psci_fw_model.specs.History.{begins, life, only_if, phase, says_status, status}
+use Rattle.psci_fw_model.specs.History.{begins, life, phase, says_status, status}
+use Rattle.psci_link.specs.OnlyIf.{only_if}
 use Rattle.psci_fw_model.specs.History.{values_of}
 use Rattle.psci_fw_model.specs.Lives.{first_status}
 use Rattle.psci_fw_model.specs.Phases.{is_away}

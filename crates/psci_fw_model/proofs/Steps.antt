@@ -17,8 +17,8 @@ use Rattle.psci_fw_model.specs.declared.fault.FwFault.{FwFault}
 use Rattle.psci_fw_model.specs.declared.outcome.Act.TheVariants as acts
 use Rattle.psci_fw_model.specs.declared.reply.FwReply.{FwReply}
 use Rattle.psci_fw_model.specs.declared.reply.FwReply.TheVariants.{Out, Taken, Fault}
-use Rattle.psci_ctl_model.specs.declared.start.Cause.{Cause}
-use Rattle.psci_ctl_model.specs.declared.start.Cause.TheVariants.{Boot, On, Wake, Reset}
+use Rattle.psci_link.specs.declared.start.Cause.{Cause}
+use Rattle.psci_link.specs.declared.start.Cause.TheVariants.{Boot, On, Wake, Reset}
 use Rattle.psci_fw_model.specs.AffinityInfo.{node_status}
 use Rattle.psci_fw_model.specs.After.{after}
 use Rattle.psci_fw_model.specs.Answer.{answer}

@@ -13,13 +13,13 @@ use Rattle.psci_tree.specs.Recount.{is_off}
 use Rattle.psci_fw_model.specs.declared.mode.SuspendMode.{SuspendMode}
 use Rattle.psci_fw_model.specs.declared.mode.SuspendMode.TheVariants.{Platform, OsInitiated}
 use Rattle.psci_fw_model.specs.declared.opening.Opening.{Opening}
-use Rattle.psci_ctl_model.specs.declared.start.Start.{Start}
+use Rattle.psci_link.specs.declared.start.Start.{Start}
 use Rattle.psci_fw_model.specs.declared.status.Status.TheVariants as statuses
 use Rattle.psci_fw_model.specs.Changes.{Rest, with_arrival, with_claim, with_phase, with_rest}
 use Rattle.psci_fw_model.specs.Claims.{leaving_claim, off_parts, suspend_claim, suspend_parts}
 use Rattle.psci_fw_model.specs.Invariant.{AreValues, IsPhase, agrees, is_expected}
 use Rattle.psci_fw_model.specs.Lives.{in_life}
-use Rattle.psci_fw_model.specs.Paths.{cleared, laid}
+use Rattle.psci_fw_model.specs.Paths.{cleared, granted_with}
 use Rattle.psci_fw_model.specs.Phases.{Phase, Running, Suspended, Away, activity_of}
 use Rattle.psci_fw_model.specs.Phases.{unless_pending}
 use Rattle.psci_fw_model.specs.Values.{Values, updated}
@@ -53,12 +53,12 @@ held_of b v known are e = record {
 held_laid : (b : BoardValue) (mode : SuspendMode) (old new : ℕ → Phase) (w : PowerView)
     (granted : ℕ → ℕ → ℕ) (c : ℕ) (want : ℕ → ℕ) → Known b → c < cores b → ChangedAt old new c
     → asks_at b (old c) 0 ≡ 0 → AreHeld b mode old granted → AreWanted b mode new granted c want
-    → AreHeld b mode new (laid b c (claim_of b w c want) granted)
+    → AreHeld b mode new (granted_with b c (claim_of b w c want) granted)
 held_laid b mode old new w granted c want known on changed none held wants =
     let parts : List Part = claim_of b w c want in
     let is = claim_laid b w granted c want known wants.falls
     (λ level h. none_granted b old granted c level known.paths held.bounds on none h) in
-    let g : AreGranted b mode new (laid b c parts granted) =
+    let g : AreGranted b mode new (granted_with b c parts granted) =
     granted_laid b mode old new granted c parts want known.paths changed is wants held.equal in
     record {
       bounds = record {
@@ -73,7 +73,7 @@ leaving_held : (b : BoardValue) (mode : SuspendMode) (old : ℕ → Phase) (w : 
     (granted : ℕ → ℕ → ℕ) (c : ℕ) → Known b → c < cores b → ChangedAt old w.phase c
     → ((y : ℕ) → IsAsking (w.phase y)) → w.phase c ≡ Away → asks_at b (old c) 0 ≡ 0
     → AreHeld b mode old granted
-    → AreHeld b mode w.phase (laid b c (leaving_claim b (view b w) c mode) granted)
+    → AreHeld b mode w.phase (granted_with b c (leaving_claim b (view b w) c mode) granted)
 leaving_held b Platform old w granted c known on changed asking away none held =
     held_laid b Platform old w.phase (view b w) granted c (least_wish b (view b w) c) known on
     changed none held
@@ -87,7 +87,7 @@ pub off_held : (b : BoardValue) (v : Values) (old : ℕ → Phase) (c : ℕ) →
     → unless_pending (v.phase c) Away ≡ Away → ChangedAt old v.phase c
     → ((y : ℕ) → IsPhase b (v.phase y)) → asks_at b (old c) 0 ≡ 0
     → AreHeld b v.mode old v.granted
-    → AreHeld b v.mode (with_phase c Away v).phase (laid b c (off_parts b v c) v.granted)
+    → AreHeld b v.mode (with_phase c Away v).phase (granted_with b c (off_parts b v c) v.granted)
 unfolding off_parts
 off_held b v old c known on left changed are none held =
     let w : Values = with_phase c Away v in
@@ -101,7 +101,7 @@ suspended_held : (b : BoardValue) (v : Values) (c : ℕ) (ask : List ℕ) (parts
     (mode : SuspendMode) → Known b → c < cores b → v.phase c ≡ Running → IsAsk ask
     → ((y : ℕ) → IsPhase b (v.phase y)) → AreHeld b mode v.phase v.granted
     → suspend_claim b v c ask mode ≡ Ok parts
-    → AreHeld b mode (with_phase c (Suspended ask) v).phase (laid b c parts v.granted)
+    → AreHeld b mode (with_phase c (Suspended ask) v).phase (granted_with b c parts v.granted)
 suspended_held b v c ask parts Platform known on runs is are held e =
     let left = ran_left (v.phase c) (Suspended ask) runs in
     let w : Values = with_phase c (Suspended ask) v in
@@ -110,7 +110,7 @@ suspended_held b v c ask parts Platform known on runs is are held e =
     ap (λ (p : Phase). asks_at b p 0) runs ∙ asked_running b 0 in
     let asking = left_each IsAsking v c (Suspended ask) (Suspended ask) left is
     (λ y. phase_asks b (v.phase y) (are y)) in
-    subst (λ ps. AreHeld b Platform w.phase (laid b c ps v.granted)) same
+    subst (λ ps. AreHeld b Platform w.phase (granted_with b c ps v.granted)) same
     (held_laid b Platform v.phase w.phase (view b w) v.granted c (least_wish b (view b w) c) known
     on (left_else v c (Suspended ask)) none held
     (least_wanted b Platform v.phase w v.granted c known on refl (left_else v c (Suspended ask))
@@ -122,7 +122,7 @@ suspended_held b v c ask parts OsInitiated known on runs is are held e =
     (known.last_core (view b v) c ask on).parts parts e in
     let none : asks_at b (v.phase c) 0 ≡ 0 =
     ap (λ (p : Phase). asks_at b p 0) runs ∙ asked_running b 0 in
-    subst (λ ps. AreHeld b OsInitiated w.phase (laid b c ps v.granted)) (sym same)
+    subst (λ ps. AreHeld b OsInitiated w.phase (granted_with b c ps v.granted)) (sym same)
     (held_laid b OsInitiated v.phase w.phase (view b v) v.granted c (own_wish ask) known on
     (left_else v c (Suspended ask)) none held
     (own_wanted b OsInitiated v w.phase c ask parts known on refl
@@ -132,7 +132,7 @@ pub suspend_held : (b : BoardValue) (v : Values) (c : ℕ) (ask : List ℕ) (par
     → Known b → c < cores b → v.phase c ≡ Running → IsAsk ask
     → ((y : ℕ) → IsPhase b (v.phase y)) → AreHeld b v.mode v.phase v.granted
     → suspend_parts b v c ask ≡ Ok parts
-    → AreHeld b v.mode (with_phase c (Suspended ask) v).phase (laid b c parts v.granted)
+    → AreHeld b v.mode (with_phase c (Suspended ask) v).phase (granted_with b c parts v.granted)
 unfolding suspend_parts
 suspend_held b v c ask parts known on runs is are held e =
     suspended_held b v c ask parts v.mode known on runs is are held e
@@ -154,7 +154,7 @@ pub kept_resting : (b : BoardValue) (v : Values) (c : ℕ) (rest : Rest) (m : Me
     → agrees statuses.On rest.phase ≡ true → IsPhase b rest.phase
     → is_some rest.opening ≡ is_expected rest.phase
     → AreHeld b v.mode (with_phase c rest.phase v).phase
-    (laid b m.core.number m.parts v.granted)
+    (granted_with b m.core.number m.parts v.granted)
     → AreValues b (with_claim b m (with_rest c rest v))
 kept_resting b v c rest m known runs awake are agree is opens held =
     let left = ran_left (v.phase c) rest.phase runs in
@@ -183,7 +183,7 @@ pub kept_parking : (b : BoardValue) (v : Values) (c : ℕ) (s : Start) (m : Mess
     → s.number ≤ b.starts → (in_life b s.life v).halting ≡ false
     → (in_life b s.life v).opening c ≡ None → AreValues b (in_life b s.life v)
     → AreHeld b (in_life b s.life v).mode (with_phase c Away (with_arrival b c s v)).phase
-    (laid b m.core.number m.parts (cleared b c (in_life b s.life v).granted))
+    (granted_with b m.core.number m.parts (cleared b c (in_life b s.life v).granted))
     → AreValues b (with_claim b m (with_phase c Away (with_arrival b c s v)))
 kept_parking b v c s m known within awake none are held =
     let f : Values = in_life b s.life v in

@@ -22,7 +22,7 @@ use Rattle.psci_fw_model.specs.declared.status.Status.TheVariants.{On, Off, Pend
 use Rattle.psci_fw_model.specs.Answer.{answer, reply_or}
 use Rattle.psci_fw_model.specs.Calls.{call_fault, function_outcome, outcome_of}
 use Rattle.psci_fw_model.specs.Changes.{PowerOn, target}
-use Rattle.psci_fw_model.specs.CpuOn.{off_target, started, target_among, target_of}
+use Rattle.psci_fw_model.specs.CpuOn.{off_target, start_outcome, target_among, target_of}
 use Rattle.psci_fw_model.specs.Effects.{Effect, AsksOn, GoesOn, effect_of, function_effect}
 use Rattle.psci_fw_model.specs.Effects.{mode_effect, return_effect, sent_effect, stop_effect}
 use Rattle.psci_fw_model.specs.Invariant.{AreValues, agrees}
@@ -123,7 +123,7 @@ module _ (b : BoardValue) (v : Values) (c : ℕ) where
   asks_started : (r : Result Core Code) (word entry context : ℕ)
       → ((target : Core) → r ≡ Ok target → IsStarted v (core_of b word) target)
       → let q = requests.CpuOn word entry context in
-      Asks b v q (comes_to q (started v r))
+      Asks b v q (comes_to q (start_outcome v r))
   asks_started (Err code) word entry context f = tt
   asks_started (Ok target) word entry context f = record {
     word = word;

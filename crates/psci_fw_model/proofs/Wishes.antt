@@ -13,10 +13,10 @@ use Rattle.psci_state.specs.Ask.{IsAsk}
 use Rattle.psci_tree.specs.Recount.{is_off}
 use Rattle.psci_fw_model.specs.declared.mode.SuspendMode.{SuspendMode}
 use Rattle.psci_fw_model.specs.declared.mode.SuspendMode.TheVariants.{Platform, OsInitiated}
-use Rattle.psci_fw_model.specs.Paths.{depth_by}
 use Rattle.psci_fw_model.specs.Phases.{Phase, Pending, Running, Suspended, Away, activity_of}
 use Rattle.psci_fw_model.specs.Values.{Values}
 use Rattle.psci_fw_model.specs.Views.{view}
+use Rattle.psci_fw_model.specs.Paths.{claimed_or}
 use Rattle.psci_fw_model.proofs.Asked.{IsAllOff, IsAsking, IsLeast, Known, all_off, alone, apart}
 use Rattle.psci_fw_model.proofs.Asked.{asked-fall, asked-most, asked_away, asked_within, asks_at}
 use Rattle.psci_fw_model.proofs.Asked.{joined, least_is, off_all}
@@ -53,10 +53,10 @@ claim_laid b w granted c want known falls none level i =
       | inl inside ↦
           let p : Part = get_or parts level (record { level = 0; depth = 0; generation = 0 }) in
           let at : slice_get parts level ≡ Some p = slice_get-get_or parts level _ inside in
-          ap (λ o. depth_by o (granted level (up b level c))) at ∙ laws.depth level p at
+          ap (λ o. claimed_or o (granted level (up b level c))) at ∙ laws.depth level p at
       | inr past ↦
           let ends : want (length parts) ≡ 0 = laws.ends (omega (arith, i)) in
-          ap (λ o. depth_by o (granted level (up b level c))) (slice_get_past parts level past)
+          ap (λ o. claimed_or o (granted level (up b level c))) (slice_get_past parts level past)
           ∙ none level i ∙ sym (want_none b want (length parts) level falls ends past i)
     ]
 

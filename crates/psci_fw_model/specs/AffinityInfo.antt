@@ -23,16 +23,16 @@ is_on Off = false
 is_on Pending = false
 
 -- whether a status is ON_PENDING
-abbrev pub is_pending : Status → Bool
-is_pending On = false
-is_pending Off = false
-is_pending Pending = true
+abbrev pub is_pending_status : Status → Bool
+is_pending_status On = false
+is_pending_status Off = false
+is_pending_status Pending = true
 
 -- cores together: ON where one is ON, else ON_PENDING where one is, else OFF
-abbrev pub status_over : (ℕ → Status) → List ℕ → Status
+abbrev pub status_over : {A : Type 0} → (A → Status) → List A → Status
 status_over status cs =
     if list_any (λ c. is_on (status c)) cs then On
-    else (if list_any (λ c. is_pending (status c)) cs then Pending else Off)
+    else (if list_any (λ c. is_pending_status (status c)) cs then Pending else Off)
 
 -- The status of a power domain, by those of the cores: a core has its own, a domain above has that
 -- of the cores below it. A node that the board does not have is OFF.

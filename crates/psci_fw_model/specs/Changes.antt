@@ -7,10 +7,10 @@ use Rattle.psci_link.specs.Message.{AckValue, MessageValue}
 use Rattle.psci_link.specs.Slots.{Change, Put, Clear, Acknowledge, changed, is_kind}
 use Rattle.psci_fw_model.specs.declared.mode.SuspendMode.{SuspendMode}
 use Rattle.psci_fw_model.specs.declared.opening.Opening.{Opening}
-use Rattle.psci_ctl_model.specs.declared.start.Start.{Start}
+use Rattle.psci_link.specs.declared.start.Start.{Start}
 use Rattle.psci_fw_model.specs.declared.status.Status.TheVariants as statuses
 use Rattle.psci_fw_model.specs.Lives.{in_life}
-use Rattle.psci_fw_model.specs.Paths.{cleared, laid}
+use Rattle.psci_fw_model.specs.Paths.{cleared, granted_with}
 use Rattle.psci_fw_model.specs.Phases.{Phase, is_away, unless_pending}
 use Rattle.psci_fw_model.specs.Phases as phases
 use Rattle.psci_fw_model.specs.Values.{Values, updated}
@@ -73,7 +73,7 @@ with_rest c rest v = record (with_phase c rest.phase v) {
 -- a Down was sent: the domains of its parts are granted what it claims
 abbrev pub with_claim : BoardValue → MessageValue → Values → Values
 with_claim b m v =
-    with_sent m (record v { granted = laid b m.core.number m.parts v.granted })
+    with_sent m (record v { granted = granted_with b m.core.number m.parts v.granted })
 
 -- the system was asked to go off, or to be reset
 abbrev pub with_halt : MessageValue → Values → Values

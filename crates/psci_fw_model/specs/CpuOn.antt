@@ -34,13 +34,13 @@ unfoldable pub target_of : BoardValue → Values → ℕ → ℕ → Result Core
 target_of b v target entry_point = target_among b v entry_point (core_of b target)
 
 -- what CPU_ON answers, by the core that it starts or the reason why it starts none
-abbrev pub started : Values → Result Core Code → Outcome
-started v (Err code) = returns code
-started v (Ok target) = record {
+abbrev pub start_outcome : Values → Result Core Code → Outcome
+start_outcome v (Err code) = returns code
+start_outcome v (Ok target) = record {
   act = acts.Return success;
   message = Some (message_for v kinds.Start target.number []);
 }
 
 -- CPU_ON (DEN0022D): SUCCESS and a Start message, or an error code
 abbrev pub cpu_on : BoardValue → Values → ℕ → ℕ → Outcome
-cpu_on b v target entry_point = started v (target_of b v target entry_point)
+cpu_on b v target entry_point = start_outcome v (target_of b v target entry_point)

@@ -7,6 +7,7 @@ use Rattle.std.specs.Option.{option_or}
 use Rattle.psci_board.specs.Board.{BoardValue}
 use Rattle.psci_link.specs.declared.kind.Kind.TheVariants.{Down}
 use Rattle.psci_link.specs.Message.{AckValue, MessageValue}
+use Rattle.psci_link.specs.OnlyIf.{only_if}
 use Rattle.psci_link.specs.Outstanding as slots
 use Rattle.psci_link.specs.Slots.{Change, is_kind}
 use Rattle.psci_fw_model.specs.declared.mode.SuspendMode.{SuspendMode}
@@ -18,7 +19,7 @@ use Rattle.psci_fw_model.specs.Changes.{target}
 use Rattle.psci_fw_model.specs.Effects.{Effect, SetsMode, Rests, Halts, Acknowledges}
 use Rattle.psci_fw_model.specs.Entry.{Entry, effect}
 use Rattle.psci_fw_model.specs.Lives.{first_granted, first_opening, first_status}
-use Rattle.psci_fw_model.specs.Paths.{is_on_path}
+use Rattle.psci_board.specs.Paths.{is_path_place}
 use Rattle.psci_fw_model.specs.Phases.{Phase, is_away}
 use Rattle.psci_fw_model.specs.Phases.{Pending, Away}
 use Rattle.psci_fw_model.specs.Said.{Arrival, arrived, asked_on, claimed, left, ran}
@@ -51,17 +52,12 @@ begins before (Some a) = not (a.start.life == before)
 
 -- what is said last in the present life: by the last entry that says something, which may look at
 -- the history before it; and where none does since the life began, what holds at its start
-abbrev pub last_said : {A : Type 0}
+abbrev pub last_in_life : {A : Type 0}
     → BoardValue → (List Entry → Effect → Option A) → A → List Entry → A
-last_said b says first [] = first
-last_said b says first (e ∷ h) =
+last_in_life b says first [] = first
+last_in_life b says first (e ∷ h) =
     unwrap_or (says h (effect b e))
-    (if begins (life b h) (arrived (effect b e)) then first else last_said b says first h)
-
--- what is said, where the test holds
-abbrev pub only_if : {A : Type 0} → Bool → Option A → Option A
-only_if true o = o
-only_if false o = None
+    (if begins (life b h) (arrived (effect b e)) then first else last_in_life b says first h)
 
 -- The system ----------------------------------------------------------------------------------
 
@@ -72,7 +68,7 @@ says_halting before e = None
 
 -- whether SYSTEM_OFF or SYSTEM_RESET was accepted in this life
 abbrev pub halting : BoardValue → List Entry → Bool
-halting b h = last_said b says_halting false h
+halting b h = last_in_life b says_halting false h
 
 -- an accepted PSCI_SET_SUSPEND_MODE says the mode
 abbrev pub says_mode : List Entry → Effect → Option SuspendMode
@@ -81,7 +77,7 @@ says_mode before e = None
 
 -- the suspend mode: that of the last accepted change, platform-coordinated before any
 abbrev pub mode : BoardValue → List Entry → SuspendMode
-mode b h = last_said b says_mode Platform h
+mode b h = last_in_life b says_mode Platform h
 
 -- Known starts --------------------------------------------------------------------------------
 
@@ -92,7 +88,7 @@ says_known c before e =
 
 -- the known start of a core: the number by which it last entered in this life, 0 if it did not
 abbrev pub known : BoardValue → List Entry → ℕ → ℕ
-known b h c = last_said b (says_known c) 0 h
+known b h c = last_in_life b (says_known c) 0 h
 
 -- Phases --------------------------------------------------------------------------------------
 
@@ -105,7 +101,7 @@ says_pending c before e =
 
 -- whether a core was asked on, and has not gone on since; the boot core is at the life's start
 abbrev pub is_pending : BoardValue → List Entry → ℕ → Bool
-is_pending b h c = last_said b (says_pending c) (c == 0) h
+is_pending b h c = last_in_life b (says_pending c) (c == 0) h
 
 -- each outcome of a core says what it does from then on
 abbrev pub says_left : ℕ → List Entry → Effect → Option Phase
@@ -114,7 +110,7 @@ says_left c before e =
 
 -- what the last outcome of a core left it doing; with none it is away
 abbrev pub phase_left : BoardValue → List Entry → ℕ → Phase
-phase_left b h c = last_said b (says_left c) Away h
+phase_left b h c = last_in_life b (says_left c) Away h
 
 -- a core is pending, or else runs, is suspended or is away by its last outcome
 abbrev pub phase : BoardValue → List Entry → ℕ → Phase
@@ -148,7 +144,7 @@ says_status b c before e =
 -- on, or the last acknowledgement that it is off; with none it is ON_PENDING for the boot core, and
 -- OFF for every other
 abbrev pub status : BoardValue → List Entry → ℕ → Status
-status b h c = last_said b (says_status b c) (first_status c) h
+status b h c = last_in_life b (says_status b c) (first_status c) h
 
 -- Openings ------------------------------------------------------------------------------------
 
@@ -169,7 +165,7 @@ says_opening c before e =
 -- the opening of a core: by the last accepted CPU_ON for it or its last power-down suspend, if it
 -- has not entered since; the boot core has one from the life's start on
 abbrev pub opening : BoardValue → List Entry → ℕ → Option Opening
-opening b h c = last_said b (says_opening c) (first_opening b c) h
+opening b h c = last_in_life b (says_opening c) (first_opening b c) h
 
 -- Granted depths ------------------------------------------------------------------------------
 
@@ -177,7 +173,7 @@ opening b h c = last_said b (says_opening c) (first_opening b c) h
 -- Down has a part of the level
 abbrev pub claim_on : BoardValue → ℕ → ℕ → MessageValue → Option ℕ
 claim_on b level place m =
-    only_if (is_on_path b m.core.number level place)
+    only_if (is_path_place b m.core.number level place)
     (option_map (λ p. p.depth) (slice_get m.parts level))
 
 -- a stopping core says the depth that it claims, and a core below that was asked on or entered
@@ -186,15 +182,15 @@ abbrev pub says_granted : BoardValue → ℕ → ℕ → List Entry → Effect �
 says_granted b level place before e =
     option_or (option_and_then (claim_on b level place) (claimed e))
     (option_or
-    (option_and_then (λ a. only_if (is_on_path b a.core level place) (Some 0)) (arrived e))
-    (option_and_then (λ asked. only_if (is_on_path b (target asked) level place) (Some 0))
+    (option_and_then (λ a. only_if (is_path_place b a.core level place) (Some 0)) (arrived e))
+    (option_and_then (λ asked. only_if (is_path_place b (target asked) level place) (Some 0))
     (asked_on e)))
 
 -- the granted depth of a domain: that of the last claim on it, or 0 where there is none or since
 -- then a core below was asked on or entered; at the life's start power-down off the boot path
 abbrev pub granted : BoardValue → List Entry → ℕ → ℕ → ℕ
 granted b h level place =
-    last_said b (says_granted b level place) (first_granted b level place) h
+    last_in_life b (says_granted b level place) (first_granted b level place) h
 
 -- Outstanding messages ------------------------------------------------------------------------
 

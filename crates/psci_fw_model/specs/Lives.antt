@@ -5,7 +5,7 @@ use Rattle.psci_fw_model.specs.declared.mode.SuspendMode.TheVariants.{Platform}
 use Rattle.psci_fw_model.specs.declared.opening.Opening.{Opening}
 use Rattle.psci_fw_model.specs.declared.status.Status.{Status}
 use Rattle.psci_fw_model.specs.declared.status.Status.TheVariants as statuses
-use Rattle.psci_fw_model.specs.Paths.{is_on_path}
+use Rattle.psci_board.specs.Paths.{is_path_place}
 use Rattle.psci_fw_model.specs.Phases.{Phase}
 use Rattle.psci_fw_model.specs.Phases as phases
 use Rattle.psci_fw_model.specs.Values.{Values}
@@ -25,7 +25,7 @@ first_opening b c = if c == 0 then Some (record { address = b.boot; context = 0 
 -- nothing is granted to the domains on the path of the boot core, power-down to all others
 abbrev pub first_granted : BoardValue → ℕ → ℕ → ℕ
 first_granted b level place =
-    if has_node b (record { level = level; place = place }) && not (is_on_path b 0 level place)
+    if has_node b (record { level = level; place = place }) && not (is_path_place b 0 level place)
     then 3
     else 0
 

@@ -22,11 +22,11 @@ abbrev pub stops : Outcome
 stops = record { act = acts.Stop; message = None }
 
 -- whether a core executes on after its call
-abbrev pub goes_on : Act → Bool
-goes_on (acts.Return code) = true
-goes_on acts.Stop = false
-goes_on (acts.Enter address context) = true
-goes_on acts.Resume = true
+abbrev pub executes_on : Act → Bool
+executes_on (acts.Return code) = true
+executes_on acts.Stop = false
+executes_on (acts.Enter address context) = true
+executes_on acts.Resume = true
 
 -- a message of this kind for a core, with the core's known start
 abbrev pub message_for : Values → Kind → ℕ → List Part → MessageValue

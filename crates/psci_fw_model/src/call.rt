@@ -3,8 +3,7 @@
 ghost use Rattle.std.specs.Prelude.{◌≡◌};
 
 use psci_abi::Regs;
-use psci_ctl_model::Start;
-use psci_link::Ack;
+use psci_link::{Ack, Start};
 
 /// What is asked of the firmware.
 #[derive(Drop)]

@@ -15,7 +15,7 @@ ghost use Rattle.psci_fw_model.specs.declared.outcome.Act.TheVariants as acts;
 ghost use Rattle.psci_fw_model.specs.declared.outcome.Outcome.{Outcome};
 ghost use Rattle.psci_fw_model.specs.declared.reply.FwReply.{FwReply};
 ghost use Rattle.psci_fw_model.specs.declared.reply.FwReply.TheVariants.{Out};
-ghost use Rattle.psci_ctl_model.specs.declared.start.Start.{Start};
+ghost use Rattle.psci_link.specs.declared.start.Start.{Start};
 ghost use Rattle.psci_fw_model.specs.declared.status.Status.TheVariants as statuses;
 ghost use Rattle.psci_fw_model.specs.After.{after, change};
 ghost use Rattle.psci_fw_model.specs.Answer.{answer};
@@ -31,7 +31,7 @@ ghost use Rattle.psci_fw_model.specs.History.{phase, status, values_of};
 ghost use Rattle.psci_fw_model.specs.Invariant.{AreValues};
 ghost use Rattle.psci_fw_model.specs.Legal.{IsLegal, is_legal};
 ghost use Rattle.psci_fw_model.specs.Lives.{in_life, start_of_life};
-ghost use Rattle.psci_fw_model.specs.Outcomes.{goes_on};
+ghost use Rattle.psci_fw_model.specs.Outcomes.{executes_on};
 ghost use Rattle.psci_fw_model.specs.Phases.{Pending, Running, Away};
 ghost use Rattle.psci_fw_model.specs.Values.{Values};
 
@@ -135,7 +135,7 @@ pub fn law_caller()
         → v.phase c ≡ Running → change b (AsksOn c asked) v ≡ with_pending b asked v }
     ensures runs_on { (b : BoardValue) (v : Values) (c : ℕ) (regs : Regs) → AreValues b v
         → v.phase c ≡ Running → let o = outcome_of b v c (request_of regs) in
-        goes_on o.act ≡ true → (after b c (Smc regs) (Out o) v).phase c ≡ Running }
+        executes_on o.act ≡ true → (after b c (Smc regs) (Out o) v).phase c ≡ Running }
     ensures life { (b : BoardValue) (v : Values) (c : ℕ) (regs : Regs) (reply : FwReply)
         → (after b c (Smc regs) reply v).life ≡ v.life }
 {}
@@ -165,7 +165,7 @@ pub fn law_first_start()
 /// A core that enters and goes on runs, in the life of its start.
 pub fn law_enters()
     ensures runs { (b : BoardValue) (v : Values) (c : ℕ) (s : Start) (o : Outcome)
-        → goes_on o.act ≡ true → (after b c (Enter s) (Out o) v).phase c ≡ Running }
+        → executes_on o.act ≡ true → (after b c (Enter s) (Out o) v).phase c ≡ Running }
     ensures life { (b : BoardValue) (v : Values) (c : ℕ) (s : Start) (o : Outcome)
         → (after b c (Enter s) (Out o) v).life ≡ s.life }
 {}

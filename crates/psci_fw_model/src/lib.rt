@@ -28,6 +28,6 @@ pub use laws::{
 pub use mode::SuspendMode;
 pub use opening::Opening;
 pub use outcome::{Act, Outcome};
-pub use psci_ctl_model::{Cause, Start};
+pub use psci_link::{Cause, Start};
 pub use reply::FwReply;
 pub use status::Status;

@@ -1,7 +1,7 @@
 //! The status of a core or of a power domain.
 
 ghost use Rattle.std.specs.Prelude.{◌≡◌, pos};
-ghost use Rattle.psci_fw_model.specs.AffinityInfo.{is_on, is_pending, status_number};
+ghost use Rattle.psci_fw_model.specs.AffinityInfo.{is_on, is_pending_status, status_number};
 
 use psci_abi::Code;
 
@@ -26,7 +26,7 @@ impl Status {
 
     /// Whether it is ON_PENDING.
     pub fn is_pending(self) -> bool
-        ensures { result ≡ is_pending self }
+        ensures { result ≡ is_pending_status self }
     {
         self == Status::Pending
     }

@@ -4,7 +4,7 @@ use Rattle.std.proofs.lemmas.Bool.{eqb-true}
 use Rattle.psci_board.specs.Board.{BoardValue}
 use Rattle.psci_link.specs.Slots.{Slot, changed}
 use Rattle.psci_link.specs.Slots.Change.{Clear}
-use Rattle.psci_ctl_model.specs.declared.start.Start.{Start}
+use Rattle.psci_link.specs.declared.start.Start.{Start}
 use Rattle.psci_fw_model.specs.Paths.{cleared}
 use Rattle.psci_fw_model.specs.Values.{Values, updated}
 

@@ -14,13 +14,13 @@ use Rattle.psci_coord.specs.declared.part.Part.{Part}
 use Rattle.psci_link.specs.Message.{PartByPart}
 use Rattle.psci_tree.specs.Changes.{MayGrant}
 use Rattle.psci_tree.specs.Recount.{TreeValue, granted_at}
-use Rattle.psci_fw_model.specs.Paths.{depth_by, laid}
+use Rattle.psci_fw_model.specs.Paths.{claimed_or, granted_with}
 use Rattle.psci_fw_state.specs.Claims.{MayClaim}
 
 -- below this level the tree grants what the parts say, and from it up what it granted before
 pub record IsLaid (b : BoardValue) (c : ℕ) (parts : List Part) (before : ℕ → ℕ → ℕ) (t : TreeValue)
     (n : ℕ) : Type 0 where
-  pub low : (l p : ℕ) → l < n → granted_at t l p ≡ laid b c parts before l p
+  pub low : (l p : ℕ) → l < n → granted_at t l p ≡ granted_with b c parts before l p
   pub high : (l p : ℕ) → n ≤ l → granted_at t l p ≡ before l p
 
 eqb_swap : (x y : ℕ) → (x == y) ≡ (y == x)
@@ -46,15 +46,15 @@ on_path b ws core level laws e inside h = record {
 
 -- what the parts grant on the path, and beside it
 laid_on : (b : BoardValue) (c : ℕ) (parts : List Part) (before : ℕ → ℕ → ℕ) (l p : ℕ)
-    → p ≡ up b l c → laid b c parts before l p ≡ depth_by (slice_get parts l) (before l p)
+    → p ≡ up b l c → granted_with b c parts before l p ≡ claimed_or (slice_get parts l) (before l p)
 laid_on b c parts before l p e = let on : (p == up b l c) ≡ true = grind arith in rw on refl
 
 pub laid_part : (b : BoardValue) (c : ℕ) (parts : List Part) (before : ℕ → ℕ → ℕ) (l p : ℕ)
     (part : Part) → p ≡ up b l c → slice_get parts l ≡ Some part
-    → laid b c parts before l p ≡ part.depth
+    → granted_with b c parts before l p ≡ part.depth
 laid_part b c parts before l p part e is =
     laid_on b c parts before l p e
-    ∙ ap (λ (o : Option Part). depth_by o (before l p)) is
+    ∙ ap (λ (o : Option Part). claimed_or o (before l p)) is
 
 -- nothing is laid before the first part
 pub laid_none : (b : BoardValue) (c : ℕ) (parts : List Part) (t : TreeValue)
@@ -76,12 +76,12 @@ module _ (b : BoardValue) (c : ℕ) (parts : List Part) (before : ℕ → ℕ �
       apart : (n == l) ≡ false
       apart = grind arith
 
-  here : (p : ℕ) → granted_at u n p ≡ laid b c parts before n p
+  here : (p : ℕ) → granted_at u n p ≡ granted_with b c parts before n p
   here p =
       let yes : (n == n) ≡ true = grind arith in
       law n p ∙ (rw (yes, is, eqb_swap (up b n c) p, so_far.high n p (omega arith)) refl)
 
-  more_low : (l p : ℕ) → l < n + 1 → granted_at u l p ≡ laid b c parts before l p
+  more_low : (l p : ℕ) → l < n + 1 → granted_at u l p ≡ granted_with b c parts before l p
   more_low l p h = elim (cases_lt l n) [
     | inl k ↦ other l p (λ e. absurd (omega arith)) ∙ so_far.low l p k
     | inr k ↦
@@ -112,7 +112,7 @@ module _ (b : BoardValue) (c : ℕ) (parts : List Part) (before : ℕ → ℕ �
       let step = may.nested core (n - 1) there (omega arith) in
       let depth = laid_part b c parts before n (up b n core) part on is in
       let found : granted_at t (n - 1) (place_above t.levels (n - 1) core)
-      ≡ laid b c parts before (n - 1) (up b (n - 1) core) =
+      ≡ granted_with b c parts before (n - 1) (up b (n - 1) core) =
       ap (granted_at t (n - 1)) (to_up (n - 1) core) ∙ so_far.low (n - 1) _ (omega arith) in
       omega (arith, rw back at step)
 
@@ -138,14 +138,14 @@ module _ (b : BoardValue) (c : ℕ) (parts : List Part) (before : ℕ → ℕ �
 -- the whole claim
 pub laid_all : (b : BoardValue) (c : ℕ) (parts : List Part) (before : ℕ → ℕ → ℕ) (t : TreeValue)
     (n : ℕ) → length parts ≤ n → IsLaid b c parts before t n → (l p : ℕ)
-    → granted_at t l p ≡ laid b c parts before l p
+    → granted_at t l p ≡ granted_with b c parts before l p
 laid_all b c parts before t n long so_far l p = elim (cases_lt l n) [
   | inl h ↦ so_far.low l p h
   | inr h ↦ so_far.high l p h ∙ sym (beyond (p == up b l c) h)
 ]
   where
     beyond : (on : Bool) → n ≤ l
-        → cond on (depth_by (slice_get parts l) (before l p)) (before l p) ≡ before l p
+        → cond on (claimed_or (slice_get parts l) (before l p)) (before l p) ≡ before l p
     beyond true h =
-        ap (λ (o : Option Part). depth_by o (before l p)) (slice_get_past parts l (omega arith))
+        ap (λ (o : Option Part). claimed_or o (before l p)) (slice_get_past parts l (omega arith))
     beyond false h = refl

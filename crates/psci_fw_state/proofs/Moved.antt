@@ -15,7 +15,7 @@ use Rattle.psci_tree.specs.declared.state.Activity.TheVariants as activities
 use Rattle.psci_tree.specs.declared.state.CoreState.{CoreState}
 use Rattle.psci_tree.specs.Recount.{TreeValue, core_at, granted_at, known_at}
 use Rattle.psci_fw_model.specs.declared.opening.Opening.{Opening}
-use Rattle.psci_ctl_model.specs.declared.start.Start.{Start}
+use Rattle.psci_link.specs.declared.start.Start.{Start}
 use Rattle.psci_fw_model.specs.declared.status.Status.{Status}
 use Rattle.psci_fw_model.specs.declared.status.Status.TheVariants as statuses
 use Rattle.psci_fw_model.specs.Changes.{with_arrival, with_pending, with_phase, with_rest}

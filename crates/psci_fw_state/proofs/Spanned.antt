@@ -12,7 +12,7 @@ use Rattle.psci_board.specs.declared.node.Node.{Node}
 use Rattle.psci_board.specs.declared.span.CoreSpan.{CoreSpan}
 use Rattle.psci_fw_model.specs.declared.status.Status.{Status}
 use Rattle.psci_fw_model.specs.declared.status.Status.TheVariants.{On, Off, Pending}
-use Rattle.psci_fw_model.specs.AffinityInfo.{is_on, is_pending, node_status, status_over}
+use Rattle.psci_fw_model.specs.AffinityInfo.{is_on, is_pending_status, node_status, status_over}
 use Rattle.psci_fw_state.specs.declared.row.CoreRow.{CoreRow}
 use Rattle.psci_fw_state.specs.Seen.{StateValue, values_in}
 use Rattle.psci_fw_state.specs.Rows.{off_row, row_at, status_of_all}
@@ -55,7 +55,7 @@ any_range f rows (suc n) a h =
 -- The status of a node ------------------------------------------------------------------------
 
 one_status : (s : Status)
-    → cond (is_on s || false) On (cond (is_pending s || false) Pending Off) ≡ s
+    → cond (is_on s || false) On (cond (is_pending_status s || false) Pending Off) ≡ s
 one_status On = refl
 one_status Off = refl
 one_status Pending = refl
@@ -90,7 +90,7 @@ status_some b rows n s laws len e =
     laws.cores n (has_in b n at.has)
     ∙ ap (λ (s : CoreSpan). range_with_len s.first s.count) (sym at.is) in
     let on = any_range (λ r. is_on r.status) rows s.count s.first within in
-    let pending = any_range (λ r. is_pending r.status) rows s.count s.first within in
+    let pending = any_range (λ r. is_pending_status r.status) rows s.count s.first within in
     rw (status_all b (λ c. (row_at rows c).status) n laws at.has, all, on, pending) refl
 
 pub status_seen : (b : BoardValue) (s now : StateValue) (n : Node) (span : CoreSpan) → s ≡ now

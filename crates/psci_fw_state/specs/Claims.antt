@@ -2,7 +2,7 @@
 use Rattle.std.specs.Prelude.{◌≡◌, ◌≤◌, ◌<◌, ◌+◌, ℕ, List, length}
 use Rattle.psci_board.specs.Board.{BoardValue, cores, height, up}
 use Rattle.psci_coord.specs.declared.part.Part.{Part}
-use Rattle.psci_fw_model.specs.Paths.{laid}
+use Rattle.psci_fw_model.specs.Paths.{granted_with}
 
 -- The parts of a core may be granted: they are of levels of the board, nothing is granted on the
 -- core's path, and once they are, no domain is granted more than the one below it on a path.
@@ -11,5 +11,5 @@ pub record MayClaim (b : BoardValue) (c : ℕ) (parts : List Part) (granted : �
   pub few : length parts ≤ height b + 1
   pub free : (level : ℕ) → level ≤ height b → granted level (up b level c) ≡ 0
   pub nested : (core level : ℕ) → core < cores b → level < height b
-      → laid b c parts granted (level + 1) (up b (level + 1) core)
-      ≤ laid b c parts granted level (up b level core)
+      → granted_with b c parts granted (level + 1) (up b (level + 1) core)
+      ≤ granted_with b c parts granted level (up b level core)

@@ -1,11 +1,9 @@
 -- What the firmware keeps of each core beside the tree of power domains.
 use Rattle.std.specs.Prelude.{◌≡◌, ℕ, ◌<◌, List, length, slice_index_or, None}
-use Rattle.std.specs.List.{list_any}
-use Rattle.std.specs.Prelude.{if◌then◌else◌}
 use Rattle.psci_board.specs.Board.{BoardValue, cores}
 use Rattle.psci_fw_model.specs.declared.status.Status.{Status}
-use Rattle.psci_fw_model.specs.declared.status.Status.TheVariants.{On, Off, Pending}
-use Rattle.psci_fw_model.specs.AffinityInfo.{is_on, is_pending}
+use Rattle.psci_fw_model.specs.declared.status.Status.TheVariants.{Off}
+use Rattle.psci_fw_model.specs.AffinityInfo.{status_over}
 use Rattle.psci_fw_model.specs.Lives.{first_status, first_opening}
 use Rattle.psci_fw_state.specs.declared.row.CoreRow.{CoreRow}
 
@@ -28,6 +26,4 @@ pub record AreFirst (b : BoardValue) (rows : List CoreRow) : Type 0 where
 
 -- cores together: ON where one is ON, else ON_PENDING where one is, else OFF
 abbrev pub status_of_all : List CoreRow → Status
-status_of_all rows =
-    if list_any (λ r. is_on r.status) rows then On
-    else (if list_any (λ r. is_pending r.status) rows then Pending else Off)
+status_of_all rows = status_over (λ r. r.status) rows

@@ -11,7 +11,7 @@ ghost use Rattle.psci_fw_model.specs.Changes.{with_claim, with_rest};
 ghost use Rattle.psci_fw_model.specs.Claims.{leaving_claim, suspend_parts};
 ghost use Rattle.psci_fw_model.specs.Effects.{suspended};
 ghost use Rattle.psci_fw_model.specs.Outcomes.{message_for};
-ghost use Rattle.psci_fw_model.specs.Paths.{laid};
+ghost use Rattle.psci_fw_model.specs.Paths.{granted_with};
 ghost use Rattle.psci_fw_model.specs.Phases.{Running};
 ghost use Rattle.psci_fw_model.specs.Views.{view};
 ghost use Rattle.psci_fw_state.specs.Claims.{MayClaim};
@@ -159,7 +159,7 @@ fn grant_parts(tree: &mut Tree, board: &Board, core: Core, parts: &[Part])
     requires claim { IsClaim parts.now }
     requires may { MayClaim board.now core.number parts.now (granted_at tree.old) }
     ensures granted { (level place : ℕ) → granted_at tree.new level place
-        ≡ laid board.now core.number parts.now (granted_at tree.old) level place }
+        ≡ granted_with board.now core.number parts.now (granted_at tree.old) level place }
     ensures cores { (c : ℕ) → core_at tree.new c ≡ core_at tree.old c }
     ensures levels { tree.new.levels ≡ tree.old.levels }
     ensures tree { IsDomainTree tree.new }

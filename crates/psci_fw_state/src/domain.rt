@@ -2,7 +2,7 @@
 
 ghost use Rattle.std.specs.Prelude.{◌≡◌};
 ghost use Rattle.std.specs.List.{list_any};
-ghost use Rattle.psci_fw_model.specs.AffinityInfo.{is_on, is_pending, node_status};
+ghost use Rattle.psci_fw_model.specs.AffinityInfo.{is_on, is_pending_status, node_status};
 ghost use Rattle.psci_fw_state.specs.Rows.{status_of_all};
 ghost use Rattle.psci_fw_state.specs.Seen.{IsStateOf, values_in};
 
@@ -39,7 +39,7 @@ fn has_on(rows: &[CoreRow]) -> bool
 
 /// Whether one of these cores is ON_PENDING.
 fn has_pending(rows: &[CoreRow]) -> bool
-    ensures { result ≡ list_any (λ r. is_pending r.status) rows.now }
+    ensures { result ≡ list_any (λ r. is_pending_status r.status) rows.now }
 {
     rows.iter().any(|row| row.status.is_pending())
 }

@@ -13,7 +13,7 @@ use Rattle.psci_fw_model.specs.Values.{Values}
 use Rattle.psci_link.specs.declared.kind.Kind.TheVariants.{Down}
 use Rattle.psci_link.specs.Message.{AckValue, MessageValue}
 use Rattle.psci_link.specs.Slots.{OfCore, is_kind, slot_of}
-use Rattle.psci_fw_laws.specs.Allowed.{IsAllowed, IsAnswered}
+use Rattle.psci_fw_laws.specs.Allowed.{IsAllowed, IsAwaited}
 use Rattle.psci_fw_laws.specs.Kept.{Holds}
 use Rattle.psci_world_model.specs.declared.said.Record.{Record}
 use Rattle.psci_world_model.specs.Histories.{ack_in, acks, controller_history}
@@ -66,7 +66,7 @@ record IsOfKnown (v : Values) (a : AckValue) : Type 0 where
 
 -- an acknowledgement of an outstanding Down is of the present life and the known start
 answers_known : (v : Values) (messages : List MessageValue) (b : BoardValue) (a : AckValue)
-    → Holds b v messages → IsAnswered v a → a.kind ≡ Down → IsOfKnown v a
+    → Holds b v messages → IsAwaited v a → a.kind ≡ Down → IsOfKnown v a
 answers_known v messages b a holds is kind =
     let m = is.message in
     let c = a.core.number in

@@ -7,10 +7,10 @@ use Rattle.psci_board.specs.Board.{BoardValue, HasNode}
 use Rattle.psci_board.specs.declared.node.Node.{Node}
 use Rattle.psci_coord.specs.declared.part.Part.{Part}
 use Rattle.psci_link.specs.Message.{MessageValue}
-use Rattle.psci_ctl_model.specs.Values.{is_on_path}
+use Rattle.psci_board.specs.Paths.{is_on_path}
 use Rattle.psci_fw_model.specs.Said.{listed}
 use Rattle.psci_fw_model.specs.Values.{Values}
-use Rattle.psci_fw_laws.specs.Claims.{AreApart, part_for}
+use Rattle.psci_fw_laws.specs.Claims.{AreRising, part_for}
 use Rattle.psci_world_model.specs.declared.said.Record.{Record}
 use Rattle.psci_world_model.specs.Histories.{firmware_values, sent, sent_in}
 use Rattle.psci_safe.specs.Claims.{Claim, claim_by, claims}
@@ -46,7 +46,7 @@ first_distinct first false = distinct_more first [] (λ k y at. absurd (cc)) dis
 -- All claims -----------------------------------------------------------------------------------
 
 apart_before : (b : BoardValue) (o : Option MessageValue) (messages : List MessageValue)
-    → AreApart b (listed o ++ messages) → AreApart b messages
+    → AreRising b (listed o ++ messages) → AreRising b messages
 apart_before b None messages are = are
 apart_before b (Some m) messages are = record {
   later = λ life level place j k m n p q h i g.
@@ -59,7 +59,7 @@ module _ (b : BoardValue) (life : ℕ) (v : Values) (n : Node) (messages : List 
     (sources : (k : ℕ) (x : Claim) → slice_get old k ≡ Some x → HasSource b life n messages x)
   where
     -- the claim of a new message has another generation than each older one
-    newer : (m : MessageValue) (p : Part) (k : ℕ) (y : Claim) → AreApart b (m ∷ messages)
+    newer : (m : MessageValue) (p : Part) (k : ℕ) (y : Claim) → AreRising b (m ∷ messages)
         → part_for b life n.level n.place m ≡ Some p → slice_get old k ≡ Some y
         → y.generation ≡ p.generation → ⊥
     newer m p k y are e at same =
@@ -76,20 +76,20 @@ module _ (b : BoardValue) (life : ℕ) (v : Values) (n : Node) (messages : List 
         ]
 
     part_distinct : (m : MessageValue) (o : Option Part) → part_for b life n.level n.place m ≡ o
-        → AreApart b (m ∷ messages) → AreDistinct old
+        → AreRising b (m ∷ messages) → AreDistinct old
         → AreDistinct (listed (option_map (λ p. claim_by b v n m.core.number p) o) ++ old)
     part_distinct m None is are distinct = distinct
     part_distinct m (Some p) is are distinct =
         distinct_more (claim_by b v n m.core.number p) old (λ k y. newer m p k y are is) distinct
 
-    with_distinct : (o : Option MessageValue) → AreApart b (listed o ++ messages)
+    with_distinct : (o : Option MessageValue) → AreRising b (listed o ++ messages)
         → AreDistinct old → AreDistinct (with_claim_of b life v n o old)
     with_distinct None are distinct = distinct
     with_distinct (Some m) are distinct =
         part_distinct m (part_for b life n.level n.place m) refl are distinct
 
 pub distinct : (b : BoardValue) (life : ℕ) (n : Node) (past : List Record) → HasNode b n
-    → AreApart b (sent past) → AreDistinct (claims b life n past)
+    → AreRising b (sent past) → AreDistinct (claims b life n past)
 unfolding claims sent
 distinct b life n [] has are = first_distinct _ (is_on_path b 0 n.level n.place)
 distinct b life n (r ∷ past) has are =

@@ -9,8 +9,7 @@ use Rattle.psci_board.specs.Board.{BoardValue, HasNode, has_node, height, up}
 use Rattle.psci_board.specs.declared.node.Node.{Node}
 use Rattle.psci_coord.specs.declared.part.Part.{Part}
 use Rattle.psci_link.specs.Message.{MessageValue}
-use Rattle.psci_ctl_model.specs.Values as controlled
-use Rattle.psci_fw_model.specs.Paths.{is_on_path}
+use Rattle.psci_board.specs.Paths.{is_on_path, is_path_place}
 use Rattle.psci_fw_model.specs.Said.{listed}
 use Rattle.psci_fw_model.specs.Values.{Values}
 use Rattle.psci_fw_laws.specs.Claims.{IsClaimOn, part_for}
@@ -58,10 +57,10 @@ node_is b n has = and_from _ _ (le-leb _ _ has.level) (lt-ltb _ _ has.place)
 
 -- a node of the board that the power controller finds on no path is on none for the firmware
 pub off_path : (b : BoardValue) (n : Node) (c : ℕ) → HasNode b n
-    → controlled.is_on_path b c n.level n.place ≡ false → is_on_path b c n.level n.place ≡ false
+    → is_on_path b c n.level n.place ≡ false → is_path_place b c n.level n.place ≡ false
 off_path b n c has off =
     false_from_ne_true _ (λ on.
-    let test : controlled.is_on_path b c n.level n.place ≡ true =
+    let test : is_on_path b c n.level n.place ≡ true =
     and_from (nat_le n.level (height b)) (up b n.level c == n.place) (le-leb _ _ has.level)
     (eq-eqb _ _ (sym (eqb-true _ _ on))) in
     absurd (cc))
@@ -78,7 +77,7 @@ pub record HasSource (b : BoardValue) (life : ℕ) (n : Node) (messages : List M
 
 first_source : (b : BoardValue) (life : ℕ) (n : Node) (first : Claim) (k : ℕ) (x : Claim) (t : Bool)
     → HasNode b n → first.depth ≡ 3 → first.generation ≡ 0
-    → controlled.is_on_path b 0 n.level n.place ≡ t
+    → is_on_path b 0 n.level n.place ≡ t
     → slice_get (cond t [] (first ∷ [])) k ≡ Some x → HasSource b life n [] x
 first_source b life n first k x true has deep old on at = absurd (cc)
 first_source b life n first (suc k) x false has deep old on at = absurd (cc)
@@ -123,7 +122,7 @@ pub source : (b : BoardValue) (life : ℕ) (n : Node) (past : List Record) (k : 
     → HasSource b life n (sent past) x
 unfolding claims sent
 source b life n [] k x has at =
-    first_source b life n _ k x (controlled.is_on_path b 0 n.level n.place) has refl refl refl at
+    first_source b life n _ k x (is_on_path b 0 n.level n.place) has refl refl refl at
 source b life n (r ∷ past) k x has at =
     let o = sent_in r.said in
     by_claim b life (firmware_values b (r ∷ past)) n (HasSource b life n (listed o ++ sent past))
@@ -158,15 +157,6 @@ in_old : (b : BoardValue) (life : ℕ) (v : Values) (n : Node) (depth generation
 in_old b life v n depth generation old None is = is
 in_old b life v n depth generation old (Some m) is =
     in_part b v n m.core.number depth generation old (part_for b life n.level n.place m) is
-
--- a claim stays in the list
-pub in_later : (b : BoardValue) (life : ℕ) (n : Node) (r : Record) (past : List Record)
-    (depth generation : ℕ) → IsIn (claims b life n past) depth generation
-    → IsIn (claims b life n (r ∷ past)) depth generation
-unfolding claims
-in_later b life n r past depth generation is =
-    in_old b life (firmware_values b (r ∷ past)) n depth generation (claims b life n past)
-    (sent_in r.said) is
 
 in_new : (b : BoardValue) (life : ℕ) (v : Values) (n : Node) (old : List Claim) (m : MessageValue)
     (o : Option Part) (p : Part) → part_for b life n.level n.place m ≡ o → o ≡ Some p
@@ -214,10 +204,10 @@ first_in first false deep old off =
 
 -- and so is what the life's start claims of it
 pub start_in : (b : BoardValue) (life : ℕ) (n : Node) (past : List Record)
-    → controlled.is_on_path b 0 n.level n.place ≡ false → IsIn (claims b life n past) 3 0
+    → is_on_path b 0 n.level n.place ≡ false → IsIn (claims b life n past) 3 0
 unfolding claims
 start_in b life n [] off =
-    first_in _ (controlled.is_on_path b 0 n.level n.place) refl refl off
+    first_in _ (is_on_path b 0 n.level n.place) refl refl off
 start_in b life n (r ∷ past) off =
     in_old b life (firmware_values b (r ∷ past)) n 3 0 (claims b life n past) (sent_in r.said)
     (start_in b life n past off)

@@ -8,7 +8,7 @@ use Rattle.psci_link.specs.declared.kind.Kind.{Kind}
 use Rattle.psci_link.specs.declared.kind.Kind.TheVariants.{Down, Start, Off, Reset}
 use Rattle.psci_link.specs.Message.{AckValue}
 use Rattle.psci_link.specs.Slots.{is_kind}
-use Rattle.psci_ctl_model.specs.declared.start.Start as starts
+use Rattle.psci_link.specs.declared.start.Start as starts
 use Rattle.psci_fw_model.specs.declared.status.Status.TheVariants as statuses
 use Rattle.psci_fw_model.specs.After.{change}
 use Rattle.psci_fw_model.specs.Changes.{target, turns_off}

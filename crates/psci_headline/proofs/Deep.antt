@@ -5,10 +5,10 @@ use Rattle.psci_board.specs.Board.{BoardValue}
 use Rattle.psci_board.specs.declared.node.Node.{Node}
 use Rattle.psci_ctl_model.specs.History as controls
 use Rattle.psci_ctl_model.specs.Lasting.{IsApplied, IsFirst}
-use Rattle.psci_ctl_model.specs.Values.{is_on_path}
+use Rattle.psci_board.specs.Paths.{is_on_path}
 use Rattle.psci_world_model.specs.declared.said.Record.{Record}
 use Rattle.psci_world_model.specs.Histories.{controller_history, controller_values}
-use Rattle.psci_world_model.specs.Legal.{IsAnswered}
+use Rattle.psci_world_model.specs.Legal.{IsReplied}
 use Rattle.psci_world_laws.proofs.Applied.{was_sent}
 use Rattle.psci_safe.specs.Moments.{depth_at}
 use Rattle.psci_headline.specs.Live.{HasLive}
@@ -21,7 +21,7 @@ first_off true depth e some = absurd (omega (arith, e, some))
 first_off false depth e some = (refl, e)
 
 applied_live : (b : BoardValue) (past : List Record) (life : ℕ) (n : Node)
-    → IsAnswered b (controller_history b past) → (controller_values b past).life ≡ Some life
+    → IsReplied b (controller_history b past) → (controller_values b past).life ≡ Some life
     → IsApplied b (controller_history b past) n.level n.place
     → HasLive b past n (depth_at b past n.level n.place)
 unfolding controls.values_of
@@ -43,7 +43,7 @@ first_live b past life n present some f =
     (has_live b past n life 3 0 present (start_in b life n past off.0) (sym f.still))
 
 pub claimed_depth : (b : BoardValue) (past : List Record) (life : ℕ) (n : Node)
-    → IsAnswered b (controller_history b past)
+    → IsReplied b (controller_history b past)
     → (controls.life b (controller_history b past) ≡ Some life
     → 0 < controls.depth b (controller_history b past) n.level n.place
     → IsApplied b (controller_history b past) n.level n.place

@@ -9,7 +9,7 @@ use Rattle.psci_ctl_model.specs.declared.delivery.Delivery.TheVariants as delive
 use Rattle.psci_ctl_model.specs.declared.kick.Kick.{Kick}
 use Rattle.psci_ctl_model.specs.declared.kick.Kick.TheVariants as kicks
 use Rattle.psci_ctl_model.specs.declared.reply.CtlReply.TheVariants as replied
-use Rattle.psci_ctl_model.specs.declared.start.Start.{Start}
+use Rattle.psci_link.specs.declared.start.Start.{Start}
 use Rattle.psci_ctl_model.specs.Changes.{after, change}
 use Rattle.psci_ctl_model.specs.Effects.{Effect, Nothing, Starts, Deepens, Ends, Begins}
 use Rattle.psci_ctl_model.specs.Effects.{effect_of, message_effect}

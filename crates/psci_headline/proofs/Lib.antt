@@ -20,7 +20,6 @@ pub mod OffIsDown
 pub mod Picked
 pub mod Quiet
 pub mod Records
-pub mod SafeClaims
 pub mod Safety
 pub mod Slept
 pub mod Sound

@@ -4,7 +4,7 @@ use Rattle.std.proofs.Common.{Some, refl, ap, sym, ◌∙◌, subst, arith}
 use Rattle.std.specs.Prelude.{slice_get}
 use Rattle.psci_board.specs.Board.{BoardValue}
 use Rattle.psci_coord.specs.declared.part.Part.{Part}
-use Rattle.psci_ctl_model.specs.declared.start.Start.{Start}
+use Rattle.psci_link.specs.declared.start.Start.{Start}
 use Rattle.psci_ctl_model.specs.Replies.{last_start}
 use Rattle.psci_ctl_model.specs.Values as controlled
 use Rattle.psci_link.specs.declared.kind.Kind.TheVariants.{Down}
@@ -17,7 +17,7 @@ use Rattle.psci_fw_model.specs.Said as says
 use Rattle.psci_fw_model.specs.Said.{listed}
 use Rattle.psci_fw_model.specs.Sent.{sent_messages}
 use Rattle.psci_fw_laws.specs.Asked.{IsAskedFor, WasAsked}
-use Rattle.psci_fw_laws.specs.Claims.{AreApart, part_for}
+use Rattle.psci_fw_laws.specs.Claims.{AreRising, part_for}
 use Rattle.psci_fw_laws.proofs.Parts.{part_has}
 use Rattle.psci_world_model.specs.declared.event.Event.{Event}
 use Rattle.psci_world_model.specs.declared.event.Event.TheVariants.{Call, Enter, Take}
@@ -113,7 +113,7 @@ by_since b m new h (s ∷ since) e before one fresh parts is fair = elim one [
 
 -- a message that claims something is sent once
 sent_once : (b : BoardValue) (messages : List MessageValue) (m : MessageValue)
-    (life level place k : ℕ) (p : Part) → AreApart b (m ∷ messages)
+    (life level place k : ℕ) (p : Part) → AreRising b (m ∷ messages)
     → part_for b life level place m ≡ Some p → slice_get messages k ≡ Some m → ⊥
 sent_once b messages m life level place k p are e at =
     let less = are.later life level place 0 (suc k) m m p p (omega arith) refl at e e in
@@ -122,7 +122,7 @@ sent_once b messages m life level place k p are e at =
 -- What the laws say of a legal past.
 pub record IsKnown (b : BoardValue) (past : List Record) : Type 0 where
   pub same : sent past ≡ sent_messages b (firmware_history b past)
-  pub apart : AreApart b (sent past)
+  pub apart : AreRising b (sent past)
   pub asked : (k : ℕ) (m : MessageValue)
       → slice_get (sent_messages b (firmware_history b past)) k ≡ Some m → m.kind ≡ Down
       → WasAsked b (firmware_history b past) m
@@ -139,7 +139,7 @@ asked_now b r past now before m life level place p is e =
     subst (λ h. IsAskedFor b (values_of b h) m) (sym (more_calls b r past))
     (by_since b m _ (firmware_history b past) was.since was.entry was.before
     (adds_one (controller_values b past) (acks past) r.event r.said)
-    (λ k at. sent_once b (sent past) m life level place k p (subst (AreApart b) all now.apart) e
+    (λ k at. sent_once b (sent past) m life level place k p (subst (AreRising b) all now.apart) e
     (subst (λ ms. slice_get ms k ≡ Some m) (sym before.same) at))
     (was.parts ∙ more_calls b r past) was.sent was.asked)
 

@@ -4,7 +4,7 @@ use Rattle.std.proofs.Common.{◌++◌, Option, None, Some, refl, subst, ap, sym
 use Rattle.std.specs.Prelude.{nat_lt}
 use Rattle.std.proofs.lemmas.Bool.{and_parts, eqb-true, true≢false}
 use Rattle.psci_board.specs.Board.{BoardValue, cores}
-use Rattle.psci_ctl_model.specs.declared.start.Start.{Start}
+use Rattle.psci_link.specs.declared.start.Start.{Start}
 use Rattle.psci_ctl_model.specs.Replies.{last_start}
 use Rattle.psci_fw_model.specs.declared.outcome.Act.{Act}
 use Rattle.psci_fw_model.specs.declared.outcome.Act.TheVariants as acts

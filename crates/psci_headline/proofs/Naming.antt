@@ -6,7 +6,7 @@ use Rattle.psci_abi.specs.declared.registers.Regs.{Regs}
 use Rattle.psci_abi.specs.declared.request.Request.TheVariants.{CpuOn}
 use Rattle.psci_board.specs.Board.{BoardValue, core_of}
 use Rattle.psci_board.specs.declared.node.Core.{Core}
-use Rattle.psci_ctl_model.specs.declared.start.Start.{Start}
+use Rattle.psci_link.specs.declared.start.Start.{Start}
 use Rattle.psci_link.specs.declared.taken.Taken.TheVariants.{Used, Old}
 use Rattle.psci_link.specs.Message.{MessageValue}
 use Rattle.psci_fw_model.specs.declared.call.FwCall.{FwCall}
@@ -21,7 +21,7 @@ use Rattle.psci_fw_model.specs.Effects.{Effect, Nothing, GoesOn, SetsMode, AsksO
 use Rattle.psci_fw_model.specs.Effects.{Leaves, Enters, Parks, Ceases, Acknowledges, effect_of}
 use Rattle.psci_fw_model.specs.Effects.{enter_effect}
 use Rattle.psci_fw_model.specs.Values.{Values}
-use Rattle.psci_safe.specs.Openings.{Made, OfCall, made_at, made_by, named, named_in}
+use Rattle.psci_safe.specs.Openings.{Made, OfCall, made_at, made_by, core_asked, named_in}
 
 -- Which core a call named ----------------------------------------------------------------------
 
@@ -35,7 +35,7 @@ AreNamed b = (v : Values) (c caller : ℕ) (regs : Regs) (asked : PowerOn)
 -- if a call came down to this, it named the core that was asked on
 abbrev pub NamesTarget : BoardValue → FwCall → Effect → Type 0
 NamesTarget b call f = (caller : ℕ) (asked : PowerOn) → f ≡ AsksOn caller asked
-    → named b call ≡ Some (target asked)
+    → core_asked b call ≡ Some (target asked)
 
 enters_none : (c : ℕ) (s : Start) (act : Act) (m : Option MessageValue) (caller : ℕ)
     (asked : PowerOn) → enter_effect c s act m ≡ AsksOn caller asked → ⊥

@@ -9,9 +9,10 @@ use Rattle.psci_board.specs.Board.{BoardValue}
 use Rattle.psci_ctl_model.specs.Replies.{is_present}
 use Rattle.psci_fw_model.specs.declared.status.Status.{Status}
 use Rattle.psci_fw_model.specs.declared.status.Status.TheVariants.{On, Off, Pending}
+use Rattle.psci_fw_model.specs.SystemCalls.{is_off_status}
 use Rattle.psci_world_model.specs.declared.said.Record.{Record}
 use Rattle.psci_world_model.specs.Histories.{controller_values, firmware_values}
-use Rattle.psci_safe.specs.Moments.{depth_at, goes_on, has_slept, is_asleep, is_off}
+use Rattle.psci_safe.specs.Moments.{depth_at, goes_on, has_slept, is_asleep}
 use Rattle.psci_safe.specs.Moments.{is_reported_off}
 
 -- Moments --------------------------------------------------------------------------------------
@@ -47,7 +48,7 @@ slept_still b life r past c was none =
 
 -- Reports --------------------------------------------------------------------------------------
 
-status_off : (s : Status) → is_off s ≡ true → s ≡ Off
+status_off : (s : Status) → is_off_status s ≡ true → s ≡ Off
 status_off On e = absurd (cc)
 status_off Off e = refl
 status_off Pending e = absurd (cc)
@@ -57,12 +58,12 @@ pub reported : (b : BoardValue) (past : List Record) (c : ℕ) → is_reported_o
     → (0 < (firmware_values b past).life) × ((firmware_values b past).status c ≡ Off)
 reported b past c e =
     let v = firmware_values b past in
-    let both = and_parts (nat_lt 0 v.life) (is_off (v.status c)) e in
+    let both = and_parts (nat_lt 0 v.life) (is_off_status (v.status c)) e in
     (ltb-true 0 v.life both.0, status_off (v.status c) both.1)
 
 pub report : (b : BoardValue) (past : List Record) (c : ℕ) → 0 < (firmware_values b past).life
     → (firmware_values b past).status c ≡ Off → is_reported_off b past c ≡ true
 report b past c begun off =
     let v = firmware_values b past in
-    and_from (nat_lt 0 v.life) (is_off (v.status c)) (lt-ltb 0 v.life begun)
-    (ap is_off off)
+    and_from (nat_lt 0 v.life) (is_off_status (v.status c)) (lt-ltb 0 v.life begun)
+    (ap is_off_status off)

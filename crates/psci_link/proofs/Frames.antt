@@ -18,7 +18,7 @@ use Rattle.psci_link.specs.declared.heading.Heading.{Heading}
 use Rattle.psci_link.specs.declared.heading.Heading.TheVariants as headings
 use Rattle.psci_link.specs.Message.{is_climbing, is_falling, most_applied}
 use Rattle.psci_link.specs.Heading.{is_magic, heading_of, HasHeading}
-use Rattle.psci_link.specs.Frame.{places, spelling, IsFrame, IsOf, is_within, parts_in, number_at}
+use Rattle.psci_link.specs.Frame.{places, spelling, IsFrame, IsOf, is_within, parts_in, word_at}
 use Rattle.psci_link.specs.Frame.{places_in, count_in, AreBytes, frame_in, first_fault}
 use Rattle.psci_link.proofs.Headings.{heading_of-byte, is-held, counted}
 use Rattle.psci_link.proofs.Places.{AreBytes-drop, AreBytes-take, four_bytes-fit, generations-fit}
@@ -143,7 +143,7 @@ one-frame f g fits also same =
     sym (is-read f (spelling g) (heading_for g) fits same (spelled-heading g also))
     ∙ spelled-held g also
 
-number-fits : (bytes : List ℕ) (start : ℕ) → AreBytes bytes → number_at bytes start < 2 ^ 32
+number-fits : (bytes : List ℕ) (start : ℕ) → AreBytes bytes → word_at bytes start < 2 ^ 32
 number-fits bytes start fits =
     four_bytes-fit (slice_range bytes start (start + 4))
     (AreBytes-take ((start + 4) - start) (drop start bytes) (AreBytes-drop start bytes fits))

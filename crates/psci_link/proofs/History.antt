@@ -15,7 +15,8 @@ use Rattle.psci_link.specs.Slots.{Slot, slot_of, is_slot, is_kind, answers, is_d
 use Rattle.psci_link.specs.Slots.{left_by, Change, after_all, changed}
 use Rattle.psci_link.specs.Slots.Slot.{OfCore, OfSystem}
 use Rattle.psci_link.specs.Slots.Change.{Put, Clear, ClearAll, Acknowledge}
-use Rattle.psci_link.specs.Outstanding.{sent_by, last_message, changes_since, ends, outstanding}
+use Rattle.psci_link.specs.Outstanding.{sent_by, last_message, changes_since, ends_message}
+use Rattle.psci_link.specs.Outstanding.{outstanding}
 use Rattle.psci_link.specs.Outstanding.{IsChange, AreChanges}
 use Rattle.psci_link.proofs.LookUps.{look-replicate, length-after, look-after}
 
@@ -103,10 +104,10 @@ pub outstanding-own : (slot : Slot) (changes : List Change) (m : MessageValue)
 unfolding outstanding
 outstanding-own slot changes m e =
     option_and_then_some {P = IsOwn slot m}
-    (λ n. if list_any (ends slot n) (changes_since slot changes) then None else Some n)
+    (λ n. if list_any (ends_message slot n) (changes_since slot changes) then None else Some n)
     (last_message slot changes) m e
     (λ n last stays. subst (IsOwn slot) (stays-same
-    (list_any (ends slot n) (changes_since slot changes)) n m stays)
+    (list_any (ends_message slot n) (changes_since slot changes)) n m stays)
     (last-own slot changes n last))
 
 step-sent : (slot : Slot) (change : Change) (changes : List Change) (m : MessageValue)
@@ -116,11 +117,12 @@ step-sent slot change changes m e = rw e refl
 
 step-stays : (slot : Slot) (change : Change) (changes : List Change) → sent_by slot change ≡ None
     → outstanding slot (change ∷ changes)
-    ≡ option_and_then (λ m. if ends slot m change then None else Some m) (outstanding slot changes)
+    ≡ option_and_then (λ m. if ends_message slot m change then None else Some m)
+    (outstanding slot changes)
 unfolding outstanding last_message changes_since
 step-stays slot change changes e =
-    rw e (stays-both (last_message slot changes) (λ m. ends slot m change)
-    (λ m. list_any (ends slot m) (changes_since slot changes)))
+    rw e (stays-both (last_message slot changes) (λ m. ends_message slot m change)
+    (λ m. list_any (ends_message slot m) (changes_since slot changes)))
 
 stays-all : (o : Option MessageValue) → option_and_then (λ m. Some m) o ≡ o
 stays-all None = refl

@@ -7,7 +7,7 @@ use Rattle.std.proofs.lemmas.Bool.{eqb-true, eq-eqb, ne_eqb, cases_eq, cases_Boo
 use Rattle.std.proofs.lemmas.List.{get_or-set_other, get_or_past, length-replicate}
 use Rattle.psci_link.specs.Message.{MessageValue, AckValue}
 use Rattle.psci_link.specs.Slots.{SlotsValue, Slot, slot_of, is_slot, message_in, with_message}
-use Rattle.psci_link.specs.Slots.{left_by, Change, after, changed, IsOfCores}
+use Rattle.psci_link.specs.Slots.{left_by, Change, after_change, changed, IsOfCores}
 use Rattle.psci_link.specs.Slots.Slot.{OfCore, OfSystem}
 use Rattle.psci_link.specs.Slots.Change.{Put, Clear, ClearAll, Acknowledge}
 use Rattle.psci_link.specs.Outstanding.{IsChange}
@@ -45,7 +45,7 @@ length-with s (OfCore c) o = length-set s.cores c o
 length-with s OfSystem o = refl
 
 pub length-after : (s : SlotsValue) (change : Change)
-    → length (after s change).cores ≡ length s.cores
+    → length (after_change s change).cores ≡ length s.cores
 length-after s (Put m) = length-with s (slot_of m.kind m.core) (Some m)
 length-after s (Clear core) = length-with s (OfCore core.number) None
 length-after s ClearAll = length-replicate (length s.cores) None
@@ -74,7 +74,7 @@ same-slot OfSystem OfSystem e = refl
 
 pub look-after : (s : SlotsValue) (change : Change) → IsChange (length s.cores) change
     → (slot : Slot)
-    → message_in (after s change) slot ≡ changed slot change (message_in s slot)
+    → message_in (after_change s change) slot ≡ changed slot change (message_in s slot)
 look-after s (Put m) inside slot =
     look-with s (slot_of m.kind m.core) slot (Some m)
     (kept-of s (slot_of m.kind m.core) (Some m) inside)

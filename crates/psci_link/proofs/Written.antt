@@ -10,7 +10,7 @@ use Rattle.psci_board.specs.Board.{BoardValue}
 use Rattle.psci_link.specs.declared.heading.Heading.{Heading}
 use Rattle.psci_link.specs.declared.heading.Heading.TheVariants as headings
 use Rattle.psci_link.specs.Heading.{is_magic, HasHeading}
-use Rattle.psci_link.specs.Frame.{kind_code, places, spelling, IsOf, parts_in, number_at, places_in}
+use Rattle.psci_link.specs.Frame.{kind_code, places, spelling, IsOf, parts_in, word_at, places_in}
 use Rattle.psci_link.specs.Frame.{count_in, AreBytes, frame_in}
 use Rattle.psci_link.proofs.Headings.{heading_byte, heading_of-some, parts_of-few}
 use Rattle.psci_link.proofs.Places.{AreBytes-drop, AreBytes-take, length-parts_in, places-written}
@@ -26,12 +26,12 @@ same-fields kind k core count n lives ls numbers ns parts ps a b c d e = cc
 
 -- four bytes of a list, as a number and back
 number-written : (bytes : List ℕ) (start : ℕ) → AreBytes bytes → start + 4 ≤ length bytes
-    → to_be_bytes w32 (number_at bytes start) ≡ slice_range bytes start (start + 4)
+    → to_be_bytes w32 (word_at bytes start) ≡ slice_range bytes start (start + 4)
 number-written bytes start fits long =
     let four : (start + 4) - start ≡ 4 = omega arith in
     let room : (start + 4) - start ≤ length (drop start bytes)
     = omega (arith, length-drop start bytes) in
-    be_bytes_4 (slice_range bytes start (start + 4)) (number_at bytes start)
+    be_bytes_4 (slice_range bytes start (start + 4)) (word_at bytes start)
     (length-take-le ((start + 4) - start) (drop start bytes) room ∙ four)
     (AreBytes-take ((start + 4) - start) (drop start bytes) (AreBytes-drop start bytes fits)) refl
 
@@ -68,8 +68,8 @@ frame-written b bytes (headings.Message kind) fits has sound =
     let parts = parts_in n (places_in bytes) in
     let forty : length (places_in bytes) ≡ 40 = omega (arith, length-drop 13 bytes, has.whole) in
     same-fields (kind_code kind) (slice_index bytes 2) (slice_index bytes 3) (length parts) n
-    (to_be_bytes w32 (number_at bytes 4)) (slice_range bytes 4 8)
-    (to_be_bytes w32 (number_at bytes 8)) (slice_range bytes 8 12) (places parts) (places_in bytes)
+    (to_be_bytes w32 (word_at bytes 4)) (slice_range bytes 4 8)
+    (to_be_bytes w32 (word_at bytes 8)) (slice_range bytes 8 12) (places parts) (places_in bytes)
     (sym (heading_of-some (slice_index bytes 2) (headings.Message kind) has.kind))
     (number-written bytes 4 fits (omega (arith, has.whole)))
     (number-written bytes 8 fits (omega (arith, has.whole))) (length-parts_in n (places_in bytes))
@@ -80,8 +80,8 @@ frame-written b bytes (headings.Ack kind stale) fits has sound =
     let forty : length (places_in bytes) ≡ 40 = omega (arith, length-drop 13 bytes, has.whole) in
     same-fields (heading_byte (headings.Ack kind stale)) (slice_index bytes 2) (slice_index bytes 3)
     (count_in bytes) (count_in bytes)
-    (to_be_bytes w32 (number_at bytes 4)) (slice_range bytes 4 8)
-    (to_be_bytes w32 (number_at bytes 8)) (slice_range bytes 8 12) (places []) (places_in bytes)
+    (to_be_bytes w32 (word_at bytes 4)) (slice_range bytes 4 8)
+    (to_be_bytes w32 (word_at bytes 8)) (slice_range bytes 8 12) (places []) (places_in bytes)
     (sym (heading_of-some (slice_index bytes 2) (headings.Ack kind stale) has.kind))
     (number-written bytes 4 fits (omega (arith, has.whole)))
     (number-written bytes 8 fits (omega (arith, has.whole))) refl

@@ -105,8 +105,8 @@ parts_in zero bytes = []
 parts_in (suc n) bytes = part_in bytes ∷ parts_in n (drop PART_LEN bytes)
 
 -- the number of four bytes that begins at this one
-abbrev pub number_at : List ℕ → ℕ → ℕ
-number_at bytes start = from_be_bytes w32 (slice_range bytes start (start + 4))
+abbrev pub word_at : List ℕ → ℕ → ℕ
+word_at bytes start = from_be_bytes w32 (slice_range bytes start (start + 4))
 
 -- the four part places
 abbrev pub places_in : List ℕ → List ℕ
@@ -121,15 +121,15 @@ unfoldable pub frame_in : Heading → List ℕ → Frame
 frame_in (headings.Message kind) bytes = Message (record {
   kind = kind;
   core = record { number = slice_index bytes 3 };
-  life = number_at bytes 4;
-  number = number_at bytes 8;
+  life = word_at bytes 4;
+  number = word_at bytes 8;
   parts = parts_in (count_in bytes) (places_in bytes);
 })
 frame_in (headings.Ack kind stale) bytes = Ack (record {
   kind = kind;
   core = record { number = slice_index bytes 3 };
-  life = number_at bytes 4;
-  number = number_at bytes 8;
+  life = word_at bytes 4;
+  number = word_at bytes 8;
   applied = count_in bytes;
   stale = stale;
 })

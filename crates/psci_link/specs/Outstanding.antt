@@ -29,17 +29,17 @@ changes_since slot (change ∷ changes) =
 
 -- whether a change ends what is outstanding: its core enters, a life begins, or it is acknowledged
 -- and nothing of it is left to do
-abbrev pub ends : Slot → MessageValue → Change → Bool
-ends slot m (Put n) = false
-ends slot m (Clear core) = is_slot (OfCore core.number) slot
-ends slot m ClearAll = true
-ends slot m (Acknowledge a) = answers a m && is_done a m
+abbrev pub ends_message : Slot → MessageValue → Change → Bool
+ends_message slot m (Put n) = false
+ends_message slot m (Clear core) = is_slot (OfCore core.number) slot
+ends_message slot m ClearAll = true
+ends_message slot m (Acknowledge a) = answers a m && is_done a m
 
 -- the outstanding message of a slot
 unfoldable pub outstanding : Slot → List Change → Option MessageValue
 outstanding slot changes =
     option_and_then
-    (λ m. if list_any (ends slot m) (changes_since slot changes) then None else Some m)
+    (λ m. if list_any (ends_message slot m) (changes_since slot changes) then None else Some m)
     (last_message slot changes)
 
 -- what is sent for a core is for one that has a slot

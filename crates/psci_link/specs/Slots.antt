@@ -96,11 +96,11 @@ pub data Change : Type 0 where
   Acknowledge : AckValue → Change
 
 -- the slots after a change
-abbrev pub after : SlotsValue → Change → SlotsValue
-after s (Put m) = with_message s (slot_of m.kind m.core) (Some m)
-after s (Clear core) = with_message s (OfCore core.number) None
-after s ClearAll = no_messages (length s.cores)
-after s (Acknowledge a) =
+abbrev pub after_change : SlotsValue → Change → SlotsValue
+after_change s (Put m) = with_message s (slot_of m.kind m.core) (Some m)
+after_change s (Clear core) = with_message s (OfCore core.number) None
+after_change s ClearAll = no_messages (length s.cores)
+after_change s (Acknowledge a) =
     let slot = slot_of a.kind a.core in with_message s slot (left_by a (message_in s slot))
 
 -- what a change leaves in a slot that holds this
@@ -113,7 +113,7 @@ changed slot (Acknowledge a) o = if is_slot (slot_of a.kind a.core) slot then le
 -- the slots after these changes, the last one first
 unfoldable pub after_all : ℕ → List Change → SlotsValue
 after_all cores [] = no_messages cores
-after_all cores (change ∷ changes) = after (after_all cores changes) change
+after_all cores (change ∷ changes) = after_change (after_all cores changes) change
 
 -- a message of a core is for a core that has a slot
 abbrev pub IsOfCores : ℕ → Slot → Type 0

@@ -9,7 +9,7 @@ ghost use Rattle.psci_board.specs.Board.{BoardValue};
 ghost use Rattle.std.specs.List.{list_all};
 ghost use Rattle.std.specs.Prelude.{◌==◌, ◌&&◌};
 ghost use Rattle.psci_link.specs.Frame.{spelling, IsFrame, IsOf, is_within, part_in, parts_in};
-ghost use Rattle.psci_link.specs.Frame.{number_at};
+ghost use Rattle.psci_link.specs.Frame.{word_at};
 ghost use Rattle.psci_link.specs.Frame.{places_in, count_in, fault_of_kind};
 ghost use Rattle.psci_link.specs.Frame.{first_fault, frame_in};
 
@@ -156,7 +156,7 @@ fn parts_in(count: u8, places: &[u8]) -> Parts
 /// The number of four bytes that begins at this one.
 fn number_at(bytes: &[u8], start: usize) -> u32
     requires { start + 4 ≤ length bytes.now }
-    ensures { result ≡ number_at bytes.now start }
+    ensures { result ≡ word_at bytes.now start }
 {
     u32::from_be_bytes([
         bytes[start],

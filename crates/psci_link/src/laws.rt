@@ -7,7 +7,7 @@ ghost use Rattle.psci_link.specs.Frame.{AreBytes, IsFrame, IsOf, spelling, first
 ghost use Rattle.psci_link.specs.Message.{MessageValue, IsClaim, PartByPart};
 ghost use Rattle.psci_coord.specs.declared.part.Part.{Part};
 ghost use Rattle.psci_link.specs.Slots.{SlotsValue, Slot, slot_of, is_slot, message_in, Change};
-ghost use Rattle.psci_link.specs.Slots.{after, after_all, changed};
+ghost use Rattle.psci_link.specs.Slots.{after_change, after_all, changed};
 ghost use Rattle.psci_link.specs.Outstanding.{outstanding, IsChange, AreChanges};
 
 /// Bytes are a frame of the board exactly where they have no fault, and no other frame.
@@ -30,7 +30,7 @@ pub fn law_parts()
 pub fn law_slots()
     // What each change leaves in each slot.
     ensures changed { (slots : SlotsValue) (change : Change) → IsChange (length slots.cores) change
-        → (slot : Slot) → message_in (after slots change) slot
+        → (slot : Slot) → message_in (after_change slots change) slot
         ≡ changed slot change (message_in slots slot) }
     ensures outstanding { (cores : ℕ) (changes : List Change) → AreChanges cores changes
         → (slot : Slot) → message_in (after_all cores changes) slot ≡ outstanding slot changes }

@@ -5,6 +5,7 @@
 //!   by its kind, core, life and number.
 //! - An *acknowledgement* names the message that it answers, and says what was carried out.
 //! - A *frame* is a message or an acknowledgement as 53 bytes.
+//! - A *start* is one power-up of a core; the starts of a core are numbered from 1 in each life.
 //! - A message is *outstanding* from when it is sent until it is acknowledged or given up. One of
 //!   each core and one of the system may be outstanding.
 #![tactic(auto)]
@@ -19,6 +20,7 @@ mod kind;
 mod laws;
 mod message;
 mod slots;
+mod start;
 mod taken;
 
 pub use ack::Ack;
@@ -30,6 +32,7 @@ pub use kind::Kind;
 pub use laws::{law_frames, law_parts, law_slots};
 pub use message::Message;
 pub use slots::Slots;
+pub use start::{Cause, Start};
 pub use taken::Taken;
 
 #[cfg(test)]

@@ -26,7 +26,7 @@ impl Model for Slots {
 ghost use Rattle.std.specs.Prelude.{◌≡◌, None, option_map, replicate, length, IfOk};
 ghost use Rattle.std.specs.Prelude.{slice_index_or, slice_set};
 ghost use Rattle.psci_link.specs.Slots.{slot_of, message_in, message_at, with_message};
-ghost use Rattle.psci_link.specs.Slots.{no_messages, after, taken, IsOfCores};
+ghost use Rattle.psci_link.specs.Slots.{no_messages, after_change, taken, IsOfCores};
 ghost use Rattle.psci_link.specs.Slots.Change.{Put, Clear, ClearAll, Acknowledge};
 
 impl Slots {
@@ -44,7 +44,7 @@ impl Slots {
     /// Notes that this message was sent: the one before it in its slot is forgotten.
     pub fn put(&mut self, message: Message)
         requires { IsOfCores (length self.old.cores) (slot_of message.kind message.core) }
-        ensures slots { self.new ≡ after self.old (Put message) }
+        ensures slots { self.new ≡ after_change self.old (Put message) }
         ensures cores { length self.new.cores ≡ length self.old.cores }
     {
         self.set(message.kind, message.core, Some(message));
@@ -52,7 +52,7 @@ impl Slots {
 
     /// Forgets the message of a core that enters.
     pub fn clear(&mut self, core: Core)
-        ensures slots { self.new ≡ after self.old (Clear core) }
+        ensures slots { self.new ≡ after_change self.old (Clear core) }
         ensures cores { length self.new.cores ≡ length self.old.cores }
     {
         set_at(&mut self.cores, core, None);
@@ -60,7 +60,7 @@ impl Slots {
 
     /// Forgets all messages, as a life begins.
     pub fn clear_all(&mut self)
-        ensures slots { self.new ≡ after self.old ClearAll }
+        ensures slots { self.new ≡ after_change self.old ClearAll }
         ensures cores { length self.new.cores ≡ length self.old.cores }
     {
         forget(&mut self.cores);
@@ -70,7 +70,7 @@ impl Slots {
     /// Takes an acknowledgement. The message is forgotten where nothing of it is left to do.
     pub fn take_ack(&mut self, ack: Ack) -> Taken
         ensures taken { result ≡ taken ack (message_in self.old (slot_of ack.kind ack.core)) }
-        ensures slots { self.new ≡ after self.old (Acknowledge ack) }
+        ensures slots { self.new ≡ after_change self.old (Acknowledge ack) }
         ensures cores { length self.new.cores ≡ length self.old.cores }
     {
         let Some(message) = self.message(ack.kind, ack.core) else {

@@ -7,7 +7,7 @@ use Rattle.psci_abi.specs.declared.registers.Regs.{Regs}
 use Rattle.psci_board.specs.Board.{BoardValue, cores}
 use Rattle.psci_ctl.specs.Seen.{seen as seen_controller}
 use Rattle.psci_ctl_model.specs.declared.call.CtlCall.TheVariants as asked
-use Rattle.psci_ctl_model.specs.declared.start.Start.{Start}
+use Rattle.psci_link.specs.declared.start.Start.{Start}
 use Rattle.psci_ctl_model.specs.Replies.{last_start, reply}
 use Rattle.psci_ctl_model.specs.Values as controlled
 use Rattle.psci_fw.specs.Seen.{seen as seen_firmware}

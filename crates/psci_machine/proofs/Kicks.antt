@@ -29,7 +29,7 @@ use Rattle.psci_world_model.specs.declared.said.Said.TheVariants.{Absent, Acked}
 use Rattle.psci_world_model.specs.Histories.{delivered}
 use Rattle.psci_world_model.specs.Legal.{if_stopped, on_board, said_by}
 use Rattle.psci_world_model.specs.Lists.{numbered}
-use Rattle.psci_world_model.specs.Places.{place_by, place_controlled}
+use Rattle.psci_world_model.specs.Places.{place_of_effect, place_controlled}
 use Rattle.psci_machine.specs.Next.{IsNext, controlled_after, place_kicked}
 use Rattle.psci_machine.specs.Seen.{MachineValue, board_of, place_in}
 
@@ -207,7 +207,7 @@ pub record IsDelivered (message : MessageValue) (ack : AckValue) (old new : Mach
   pub after : seen new.controller ≡ after (board_of old) (calls.Deliver message)
       (replies.Delivery (deliveries.Applied ack)) (seen old.controller)
   pub places : (c : ℕ) → c < cores (board_of old) → place_in new.places c
-      ≡ unwrap_or (place_by c (message_effect (board_of old) message ack message.kind))
+      ≡ unwrap_or (place_of_effect c (message_effect (board_of old) message ack message.kind))
       (place_in old.places c)
 
 pub delivery_next : (messages : List MessageValue) (made : List AckValue)
@@ -237,7 +237,7 @@ pub delivered_by : (old new : MachineValue) (fw : FirmwareValue) (ctl mid : Cont
     → seen mid ≡ after ctl.board (calls.Deliver message)
     (replies.Delivery (deliveries.Applied ack)) (seen ctl)
     → ((c : ℕ) → c < cores fw.board → place_in new.places c
-    ≡ unwrap_or (place_by c (message_effect fw.board message ack message.kind))
+    ≡ unwrap_or (place_of_effect c (message_effect fw.board message ack message.kind))
     (place_in places c))
     → new.firmware ≡ fw → new.controller ≡ mid → IsDelivered message ack old new
 delivered_by old new fw ctl mid places message ack e same is goes kept put =

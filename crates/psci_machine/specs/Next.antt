@@ -6,7 +6,7 @@ use Rattle.psci_ctl.specs.Seen.{seen as seen_controller}
 use Rattle.psci_ctl_model.specs.declared.kick.Kick.{Kick}
 use Rattle.psci_ctl_model.specs.declared.kick.Kick.TheVariants.{Started as Kicked}
 use Rattle.psci_ctl_model.specs.declared.kick.Kick.TheVariants.{Ignored as NotKicked}
-use Rattle.psci_ctl_model.specs.declared.start.Start.{Start}
+use Rattle.psci_link.specs.declared.start.Start.{Start}
 use Rattle.psci_ctl_model.specs.Changes as changes
 use Rattle.psci_ctl_model.specs.Entry as controls
 use Rattle.psci_ctl_model.specs.Values as controlled

@@ -16,7 +16,7 @@ ghost use Rattle.psci_world_model.specs.declared.event.Event.TheVariants as even
 ghost use Rattle.psci_world_model.specs.declared.place.Place.TheVariants.{Started};
 ghost use Rattle.psci_world_model.specs.declared.said.Said.TheVariants as says;
 ghost use Rattle.psci_world_model.specs.Legal.{if_stopped, on_board, said_by};
-ghost use Rattle.psci_world_model.specs.Places.{place_by};
+ghost use Rattle.psci_world_model.specs.Places.{place_of_effect};
 ghost use Rattle.psci_machine.specs.Next.{IsNext, if_there, place_kicked};
 ghost use Rattle.psci_machine.specs.Seen.{board_of, place_in};
 
@@ -125,7 +125,7 @@ impl Machine {
         requires life { message.now.kind ≡ kinds.Reset → is_some (seen self.old.controller).life
             ≡ nat_lt message.now.life (board_of self.old).lives }
         ensures places { (c : ℕ) → c < cores (board_of self.old) → place_in self.new.places c
-            ≡ unwrap_or (place_by c (message_effect (board_of self.old) message.now ack.now
+            ≡ unwrap_or (place_of_effect c (message_effect (board_of self.old) message.now ack.now
             message.now.kind)) (place_in self.old.places c) }
         ensures firmware { self.new.firmware ≡ self.old.firmware }
         ensures controller { self.new.controller ≡ self.old.controller }

@@ -15,7 +15,7 @@ use Rattle.psci_board.specs.Laws.{PathLaws}
 use Rattle.psci_coord.specs.declared.osi.Osi.{Osi}
 use Rattle.psci_coord.specs.View.{PowerView, domain_of}
 use Rattle.psci_coord.specs.Claim.{own_wish}
-use Rattle.psci_coord.specs.LastCore.{refusal, granted_less, beside, children_of, shallow_at}
+use Rattle.psci_coord.specs.LastCore.{refusal, granted_less, elsewhere, children_of, shallow_at}
 use Rattle.psci_osi.specs.Worse.{worse}
 use Rattle.psci_osi.proofs.Refusals.{refusal-append}
 
@@ -41,19 +41,19 @@ first_children-more b n m count h e =
 
 pub child-refusal-more : (b : BoardValue) (v : PowerView) (depth own : ℕ) (n m : Node) (count : ℕ)
     (fault : Option Osi) → count < children b n → child b n count ≡ Some m
-    → fault ≡ refusal b v (granted_less v depth (beside own (first_children b n count)))
-    → worse fault (refusal b v (granted_less v depth (beside own (m ∷ []))))
-    ≡ refusal b v (granted_less v depth (beside own (first_children b n (count + 1))))
+    → fault ≡ refusal b v (granted_less v depth (elsewhere own (first_children b n count)))
+    → worse fault (refusal b v (granted_less v depth (elsewhere own (m ∷ []))))
+    ≡ refusal b v (granted_less v depth (elsewhere own (first_children b n (count + 1))))
 child-refusal-more b v depth own n m count fault h e so =
     let before : List Node = first_children b n count in
-    let all : granted_less v depth (beside own (first_children b n (count + 1)))
-    ≡ granted_less v depth (beside own before) ++ granted_less v depth (beside own (m ∷ [])) =
-    ap (λ ns. granted_less v depth (beside own ns)) (first_children-more b n m count h e)
+    let all : granted_less v depth (elsewhere own (first_children b n (count + 1)))
+    ≡ granted_less v depth (elsewhere own before) ++ granted_less v depth (elsewhere own (m ∷ [])) =
+    ap (λ ns. granted_less v depth (elsewhere own ns)) (first_children-more b n m count h e)
     ∙ ap (granted_less v depth) (filter-append _ before (m ∷ []))
-    ∙ filter-append _ (beside own before) (beside own (m ∷ [])) in
-    ap (λ f. worse f (refusal b v (granted_less v depth (beside own (m ∷ []))))) so
-    ∙ sym (refusal-append b v (granted_less v depth (beside own before))
-    (granted_less v depth (beside own (m ∷ []))))
+    ∙ filter-append _ (elsewhere own before) (elsewhere own (m ∷ [])) in
+    ap (λ f. worse f (refusal b v (granted_less v depth (elsewhere own (m ∷ []))))) so
+    ∙ sym (refusal-append b v (granted_less v depth (elsewhere own before))
+    (granted_less v depth (elsewhere own (m ∷ []))))
     ∙ ap (refusal b v) (sym all)
 
 -- Level by level ---------------------------------------------------------------------------------
@@ -78,12 +78,12 @@ shallow_to b v core ask count = flat_map (shallow_at b v core ask) (range_with_l
 pub level-refusal-more : (b : BoardValue) (v : PowerView) (core : ℕ) (ask : List ℕ) (level : ℕ)
     (fault : Option Osi) → fault ≡ refusal b v (shallow_to b v core ask level)
     → worse fault (refusal b v (granted_less v (own_wish ask (level + 1))
-    (beside (up b level core) (children_of b (domain_of b core (level + 1))))))
+    (elsewhere (up b level core) (children_of b (domain_of b core (level + 1))))))
     ≡ refusal b v (shallow_to b v core ask (level + 1))
 unfolding shallow_at
 level-refusal-more b v core ask level fault so =
     let here : List Node = granted_less v (own_wish ask (level + 1))
-    (beside (up b level core) (children_of b (domain_of b core (level + 1)))) in
+    (elsewhere (up b level core) (children_of b (domain_of b core (level + 1)))) in
     let below : level + 1 - 1 ≡ level = omega arith in
     let is : shallow_at b v core ask (level + 1) ≡ here = rw below refl in
     let numbers : range_with_len 1 (level + 1) ≡ range_with_len 1 level ++ (level + 1) ∷ [] =
@@ -109,7 +109,7 @@ pub path-refusal-more : (b : BoardValue) (v : PowerView) (core : ℕ) (ask : Lis
     (fault here : Option Osi) (own above : Node) (depth : ℕ)
     → own ≡ domain_of b core level → above ≡ domain_of b core (level + 1)
     → depth ≡ slice_index ask (level + 1)
-    → here ≡ refusal b v (granted_less v depth (beside own.place (children_of b above)))
+    → here ≡ refusal b v (granted_less v depth (elsewhere own.place (children_of b above)))
     → fault ≡ refusal b v (shallow_to b v core ask level)
     → worse fault here ≡ refusal b v (shallow_to b v core ask (level + 1))
 path-refusal-more b v core ask level fault here own above depth o a d e so =

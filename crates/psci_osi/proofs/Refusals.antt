@@ -14,7 +14,7 @@ use Rattle.psci_board.specs.Board.{BoardValue}
 use Rattle.psci_coord.specs.declared.osi.Osi.{Osi}
 use Rattle.psci_coord.specs.declared.osi.Osi.TheVariants.{Invalid, Denied}
 use Rattle.psci_coord.specs.View.{PowerView, is_idle}
-use Rattle.psci_coord.specs.LastCore.{refusal, granted_less, beside}
+use Rattle.psci_coord.specs.LastCore.{refusal, granted_less, elsewhere}
 use Rattle.psci_tree.specs.Recount.{TreeValue, active, granted_at}
 use Rattle.psci_coord.specs.Looked.{view_of}
 use Rattle.psci_osi.proofs.Counts.{is_idle-none, is_idle-some}
@@ -50,13 +50,13 @@ refusal-append b v xs ys =
 
 -- a child on the caller's path, or granted enough, refuses nothing
 pub own-refuses-none : (b : BoardValue) (v : PowerView) (n : Node) (own depth : ℕ)
-    → n.place ≡ own → None ≡ refusal b v (granted_less v depth (beside own (n ∷ [])))
+    → n.place ≡ own → None ≡ refusal b v (granted_less v depth (elsewhere own (n ∷ [])))
 unfolding refusal
 own-refuses-none b v n own depth e = rw (eq-eqb n.place own e) refl
 
 pub deep-refuses-none : (b : BoardValue) (v : PowerView) (n : Node) (own depth : ℕ)
     → depth ≤ v.granted n.level n.place
-    → None ≡ refusal b v (granted_less v depth (beside own (n ∷ [])))
+    → None ≡ refusal b v (granted_less v depth (elsewhere own (n ∷ [])))
 unfolding refusal
 deep-refuses-none b v n own depth h = elim (cases_Bool (n.place == own)) [
   | inl holds ↦ rw holds refl
@@ -65,7 +65,7 @@ deep-refuses-none b v n own depth h = elim (cases_Bool (n.place == own)) [
 
 pub idle-refuses : (b : BoardValue) (v : PowerView) (n : Node) (own depth : ℕ)
     → (n.place ≡ own → ⊥) → v.granted n.level n.place < depth → is_idle b v n ≡ true
-    → Some Invalid ≡ refusal b v (granted_less v depth (beside own (n ∷ [])))
+    → Some Invalid ≡ refusal b v (granted_less v depth (elsewhere own (n ∷ [])))
 unfolding refusal
 idle-refuses b v n own depth other h idle =
     let apart : (n.place == own) ≡ false =
@@ -74,7 +74,7 @@ idle-refuses b v n own depth other h idle =
 
 pub active-refuses : (b : BoardValue) (v : PowerView) (n : Node) (own depth : ℕ)
     → (n.place ≡ own → ⊥) → v.granted n.level n.place < depth → is_idle b v n ≡ false
-    → Some Denied ≡ refusal b v (granted_less v depth (beside own (n ∷ [])))
+    → Some Denied ≡ refusal b v (granted_less v depth (elsewhere own (n ∷ [])))
 unfolding refusal
 active-refuses b v n own depth other h busy =
     let apart : (n.place == own) ≡ false =
@@ -92,7 +92,7 @@ pub child_refuses : (b : BoardValue) (t : TreeValue) (n : Node) (own depth : ℕ
     → fault ≡ Some Invalid)
     → ((n.place ≡ own → ⊥) → granted_at t n.level n.place < depth → (active t n ≡ 0 → ⊥)
     → fault ≡ Some Denied)
-    → fault ≡ refusal b (view_of t) (granted_less (view_of t) depth (beside own (n ∷ [])))
+    → fault ≡ refusal b (view_of t) (granted_less (view_of t) depth (elsewhere own (n ∷ [])))
 child_refuses b t n own depth fault e at deep idle busy = elim (cases_eq n.place own) [
   | inl same ↦ at same ∙ own-refuses-none b (view_of t) n own depth same
   | inr other ↦ elim (cases_lt (granted_at t n.level n.place) depth) [

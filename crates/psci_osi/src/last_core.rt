@@ -3,7 +3,7 @@
 ghost use Rattle.std.specs.Prelude.{◌≡◌, ◌≢◌, ◌<◌, ◌≤◌};
 ghost use Rattle.psci_board.specs.Board.{HasNodeIn, IsBoard, cores};
 ghost use Rattle.psci_tree.specs.Recount.{active, granted_at};
-ghost use Rattle.psci_coord.specs.LastCore.{beside, children_of, granted_less, last_core_check};
+ghost use Rattle.psci_coord.specs.LastCore.{elsewhere, children_of, granted_less, last_core_check};
 ghost use Rattle.psci_coord.specs.LastCore.{refusal, shallow};
 ghost use Rattle.psci_coord.specs.Looked.{view_of};
 ghost use Rattle.psci_osi.specs.Worse.{worse};
@@ -50,7 +50,7 @@ fn level_refusal(tree: &Tree, board: &Board, above: Node, own: u16, depth: u8) -
     requires board { tree.now.levels ≡ board.now.levels }
     requires valid { IsBoard board.now }
     ensures { result ≡ refusal board.now (view_of tree.now) (granted_less (view_of tree.now) depth
-        (beside own (children_of board.now above))) }
+        (elsewhere own (children_of board.now above))) }
 {
     law_children();
     let mut fault = None;

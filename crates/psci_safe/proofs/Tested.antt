@@ -18,7 +18,7 @@ use Rattle.psci_safe.specs.Moments.{depth_at, executes, is_reported_off}
 use Rattle.psci_safe.specs.Safe.{NoDeeperThanAsked, NoneBelowSleeping, OffIsDown, OneLiveClaim}
 use Rattle.psci_safe.specs.Test.{at_each_core, at_each_domain, at_each_level, has_one, is_asked}
 use Rattle.psci_safe.specs.Test.{is_off_slept, is_off_still, is_one, is_powered}
-use Rattle.psci_safe.specs.Test.{is_running, was_asked}
+use Rattle.psci_safe.specs.Test.{executes_outside, was_asked}
 use Rattle.psci_safe.proofs.Ranges.{all_in, each_in, if_holds, where_holds}
 
 -- Everywhere on the board ---------------------------------------------------------------------
@@ -73,12 +73,12 @@ powered_tested b past = (
 
 -- Reported OFF --------------------------------------------------------------------------------
 
-not_running : (p : Place) → not (is_running p) ≡ true → p ≡ Running → ⊥
+not_running : (p : Place) → not (executes_outside p) ≡ true → p ≡ Running → ⊥
 not_running Started e same = cc
 not_running Running e same = cc
 not_running Stopped e same = cc
 
-still : (p : Place) → (p ≡ Running → ⊥) → not (is_running p) ≡ true
+still : (p : Place) → (p ≡ Running → ⊥) → not (executes_outside p) ≡ true
 still Started h = refl
 still Running h = absurd (h refl)
 still Stopped h = refl

@@ -7,7 +7,8 @@ use Rattle.psci_board.specs.Board.{BoardValue, below}
 use Rattle.psci_board.specs.declared.node.Node.{Node}
 use Rattle.psci_coord.specs.declared.part.Part.{Part}
 use Rattle.psci_link.specs.Message.{MessageValue}
-use Rattle.psci_ctl_model.specs.Values.{is_on_path, starts_below}
+use Rattle.psci_ctl_model.specs.Values.{starts_below}
+use Rattle.psci_board.specs.Paths.{is_on_path}
 use Rattle.psci_fw_model.specs.declared.mode.SuspendMode.{SuspendMode}
 use Rattle.psci_fw_model.specs.declared.mode.SuspendMode.TheVariants.{Platform, OsInitiated}
 use Rattle.psci_fw_model.specs.Lives.{start_of_life}

@@ -5,8 +5,7 @@ use Rattle.psci_board.specs.Board.{BoardValue}
 use Rattle.psci_ctl_model.specs.Replies.{is_present}
 use Rattle.psci_fw_model.specs.declared.outcome.Act.{Act}
 use Rattle.psci_fw_model.specs.declared.outcome.Act.TheVariants as acts
-use Rattle.psci_fw_model.specs.declared.status.Status.{Status}
-use Rattle.psci_fw_model.specs.declared.status.Status.TheVariants.{On, Off, Pending}
+use Rattle.psci_fw_model.specs.SystemCalls.{is_off_status}
 use Rattle.psci_world_model.specs.declared.event.Event.{Event}
 use Rattle.psci_world_model.specs.declared.event.Event.TheVariants.{Call, Enter}
 use Rattle.psci_world_model.specs.declared.place.Place.{Place}
@@ -29,16 +28,10 @@ depth_at b past level place = (controller_values b past).depth level place
 
 -- Reported OFF ---------------------------------------------------------------------------------
 
--- OFF, not ON and not ON_PENDING
-abbrev pub is_off : Status → Bool
-is_off On = false
-is_off Off = true
-is_off Pending = false
-
 -- a core has entered in some life, and in the last one such AFFINITY_INFO says OFF of this core
 abbrev pub is_reported_off : BoardValue → List Record → ℕ → Bool
 is_reported_off b past c =
-    let v = firmware_values b past in nat_lt 0 v.life && is_off (v.status c)
+    let v = firmware_values b past in nat_lt 0 v.life && is_off_status (v.status c)
 
 -- in this life of the power controller, the core is powered down
 abbrev pub is_asleep : BoardValue → ℕ → List Record → ℕ → Bool

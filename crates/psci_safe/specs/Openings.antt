@@ -44,15 +44,15 @@ named_in b (CpuOn word entry_point context) = option_map (λ c. c.number) (core_
 named_in b request = None
 
 -- the core that a call asks on
-abbrev pub named : BoardValue → FwCall → Option ℕ
-named b (calls.Smc regs) = named_in b (request_of regs)
-named b call = None
+abbrev pub core_asked : BoardValue → FwCall → Option ℕ
+core_asked b (calls.Smc regs) = named_in b (request_of regs)
+core_asked b call = None
 
 -- the opening that a call made in a life, after so many entries: an accepted CPU_ON for the core
 -- that it named, whatever was sent; a power-down suspend for its caller
 abbrev pub made_by : BoardValue → ℕ → ℕ → FwCall → Effect → Option Made
 made_by b before life call (AsksOn c asked) =
-    option_and_then (λ t. made_at (OfCall before) t life (Some asked.opening)) (named b call)
+    option_and_then (λ t. made_at (OfCall before) t life (Some asked.opening)) (core_asked b call)
 made_by b before life call (Rests c rest m) = made_at (OfCall before) c life rest.opening
 made_by b before life call e = None
 

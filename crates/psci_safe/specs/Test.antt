@@ -37,15 +37,15 @@ is_powered b past = at_each_core b (λ c. not (executes (place b past c))
     || at_each_level b (λ level. depth_at b past level (up b level c) == 0))
 
 -- a core that executes outside the firmware
-abbrev pub is_running : Place → Bool
-is_running Started = false
-is_running Running = true
-is_running Stopped = false
+abbrev pub executes_outside : Place → Bool
+executes_outside Started = false
+executes_outside Running = true
+executes_outside Stopped = false
 
 -- a core that is reported OFF does not run
 abbrev pub is_off_still : BoardValue → List Record → Bool
 is_off_still b past = at_each_core b (λ c. not (is_reported_off b past c)
-    || not (is_running (place b past c)))
+    || not (executes_outside (place b past c)))
 
 -- a core that is reported OFF was powered down since it last went on
 abbrev pub is_off_slept : BoardValue → List Record → Bool

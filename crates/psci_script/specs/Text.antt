@@ -1,5 +1,5 @@
 -- The answer line of an event.
-use Rattle.std.specs.Prelude.{ℕ, Bool, true, false, List, ◌++◌, ◌∷◌, [], Option, Some, None}
+use Rattle.std.specs.Prelude.{ℕ, false, List, ◌++◌, ◌∷◌, [], Option, Some, None}
 use Rattle.std.specs.Prelude.{codes, flat_map}
 use Rattle.std.specs.Fmt.{decimal, signed_decimal, digits}
 use Rattle.psci_fw_model.specs.declared.outcome.Act.{Act}
@@ -10,6 +10,7 @@ use Rattle.psci_link.specs.declared.kind.Kind.TheVariants.{Down, Start, Off, Res
 use Rattle.psci_link.specs.declared.taken.Taken.{Taken}
 use Rattle.psci_link.specs.declared.taken.Taken.TheVariants.{Used, Old}
 use Rattle.psci_link.specs.Message.{AckValue}
+use Rattle.psci_link.specs.StaleText.{stale_text}
 use Rattle.psci_world_model.specs.declared.said.Sent.{Sent}
 use Rattle.psci_world_model.specs.declared.said.Said.{Said}
 use Rattle.psci_world_model.specs.declared.said.Said.TheVariants.{Fw, Kick, Acked, Ignored, Absent}
@@ -56,11 +57,6 @@ sent_text s =
 abbrev pub message_text : Option Sent → List ℕ
 message_text None = []
 message_text (Some sent) = codes " " ++ sent_text sent
-
--- after the parts that were applied, that the message meant nothing any more
-abbrev pub stale_text : Bool → List ℕ
-stale_text true = codes " stale"
-stale_text false = []
 
 -- what an acknowledgement says, after its number
 abbrev pub ack_text : AckValue → List ℕ

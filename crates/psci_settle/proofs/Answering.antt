@@ -29,7 +29,7 @@ use Rattle.psci_world_model.specs.Histories.{controller_values, delivered, firmw
 use Rattle.psci_world_model.specs.Histories.{firmware_values, sent, sent_in, took}
 use Rattle.psci_world_model.specs.Legal.{IsLegalPast, deliver, legal, legal_record, said_by, take}
 use Rattle.psci_world_model.specs.Lists.{numbered}
-use Rattle.psci_world_model.specs.Places.{place, place_by, place_controlled}
+use Rattle.psci_world_model.specs.Places.{place, place_of_effect, place_controlled}
 use Rattle.psci_fw_model.specs.Said.{listed}
 use Rattle.psci_world_laws.proofs.Agreed.{RunLaws}
 use Rattle.psci_settle.specs.Drained as drained
@@ -63,7 +63,7 @@ record AreDelivered (b : BoardValue) (past : List Record) (k : ℕ) (m : Message
   pub sent : sent (step b past (Deliver k)) ≡ sent past
   pub acks : acks (step b past (Deliver k)) ≡ ack_to b past m ∷ acks past
   pub place : (x : ℕ) → place b (step b past (Deliver k)) x
-      ≡ unwrap_or (place_by x (message_effect b m (ack_to b past m) m.kind)) (place b past x)
+      ≡ unwrap_or (place_of_effect x (message_effect b m (ack_to b past m) m.kind)) (place b past x)
 
 delivered_so : (b : BoardValue) (past : List Record) (k : ℕ) (m : MessageValue) → RunLaws b
     → numbered (sent past) k ≡ Some m → (controller_values b past).life ≡ Some m.life
@@ -147,7 +147,7 @@ pub record AreAnswered (b : BoardValue) (past : List Record) (k : ℕ) (m : Mess
       ≡ with_acknowledgement (ack_to b past m) (firmware_values b past)
   pub sent : sent (answering b past (Some k)) ≡ sent past
   pub place : (x : ℕ) → place b (answering b past (Some k)) x
-      ≡ unwrap_or (place_by x (message_effect b m (ack_to b past m) m.kind)) (place b past x)
+      ≡ unwrap_or (place_of_effect x (message_effect b m (ack_to b past m) m.kind)) (place b past x)
   pub count : (j : ℕ) → drained.deliveries j (answering b past (Some k))
       ≡ cond (j == k) 1 0 + drained.deliveries j past
 

@@ -6,9 +6,9 @@ use Rattle.std.proofs.lemmas.Bool.{cases_eq, cond_both, eqb-false}
 use Rattle.psci_board.specs.Board.{BoardValue, cores}
 use Rattle.psci_board.specs.Laws.{PathLaws}
 use Rattle.psci_coord.specs.declared.part.Part.{Part}
-use Rattle.psci_ctl_model.specs.declared.start.Cause.{Cause}
-use Rattle.psci_ctl_model.specs.declared.start.Cause.TheVariants as causes
-use Rattle.psci_ctl_model.specs.declared.start.Start.{Start}
+use Rattle.psci_link.specs.declared.start.Cause.{Cause}
+use Rattle.psci_link.specs.declared.start.Cause.TheVariants as causes
+use Rattle.psci_link.specs.declared.start.Start.{Start}
 use Rattle.psci_ctl_model.specs.Changes.{next_life}
 use Rattle.psci_ctl_model.specs.Changes as controlling
 use Rattle.psci_ctl_model.specs.Effects as controlling_effects

@@ -3,7 +3,7 @@ use Rattle.std.proofs.Common.{◌≡◌, ℕ, List, ◌∷◌, ◌++◌, Option,
 use Rattle.std.proofs.Common.{refl, subst, ap, sym, ◌∙◌}
 use Rattle.std.specs.Prelude.{slice_get}
 use Rattle.psci_board.specs.Board.{BoardValue}
-use Rattle.psci_ctl_model.specs.declared.start.Cause.{Cause}
+use Rattle.psci_link.specs.declared.start.Cause.{Cause}
 use Rattle.psci_ctl_model.specs.Changes as controlling
 use Rattle.psci_ctl_model.specs.Effects as controlling_effects
 use Rattle.psci_ctl_model.specs.Entry as controller

@@ -8,8 +8,8 @@ use Rattle.std.proofs.lemmas.Option.{none-some, slice_get_within}
 use Rattle.psci_board.specs.Board.{BoardValue, cores, height, up}
 use Rattle.psci_coord.specs.declared.part.Part.{Part}
 use Rattle.psci_coord.specs.View.{domain_of}
-use Rattle.psci_ctl_model.specs.declared.start.Cause.{Cause}
-use Rattle.psci_ctl_model.specs.declared.start.Cause.TheVariants as causes
+use Rattle.psci_link.specs.declared.start.Cause.{Cause}
+use Rattle.psci_link.specs.declared.start.Cause.TheVariants as causes
 use Rattle.psci_ctl_model.specs.Changes.{change, one_more}
 use Rattle.psci_ctl_model.specs.Effects.{Nothing, Starts, Deepens}
 use Rattle.psci_ctl_model.specs.Follows.{IsFront}
@@ -24,7 +24,7 @@ use Rattle.psci_link.specs.Message.{AckValue, ArePartsOf, IsClaim, MessageValue,
 use Rattle.psci_fw_model.specs.Lives.{start_of_life}
 use Rattle.psci_fw_model.specs.Phases.{Phase, Away, Pending}
 use Rattle.psci_fw_model.specs.Values.{Values}
-use Rattle.psci_fw_laws.specs.Claims.{AreApart}
+use Rattle.psci_fw_laws.specs.Claims.{AreRising}
 use Rattle.psci_fw_laws.specs.KnownBelow.{known_below}
 use Rattle.psci_fw_laws.specs.Live.{AreLive}
 use Rattle.psci_fw_laws.specs.Messages.{AreSent, IsSent}
@@ -41,7 +41,7 @@ pub record IsKnown (b : BoardValue) (life : ℕ) (starts : ℕ → ℕ) (v : Val
   pub parts : (ps : List Part) → IsClaim ps → PartByPart ps
   pub own : v.life ≡ life
   pub messages : AreSent b life v.halting v.known v.phase sent
-  pub apart : AreApart b sent
+  pub apart : AreRising b sent
   pub live : AreLive b life v.known v.phase sent starts
   pub le : (c : ℕ) → v.known c ≤ starts c
   -- sums of known starts are no larger than sums of starts

@@ -7,12 +7,12 @@ use Rattle.std.proofs.lemmas.Option.{same_Some}
 use Rattle.psci_board.specs.Board.{BoardValue, height, up}
 use Rattle.psci_coord.specs.declared.part.Part.{Part}
 use Rattle.psci_ctl_model.specs.Parts.{depth_or, laid}
-use Rattle.psci_ctl_model.specs.Values.{is_on_path}
+use Rattle.psci_board.specs.Paths.{is_on_path}
 use Rattle.psci_link.specs.declared.kind.Kind.TheVariants.{Down}
 use Rattle.psci_link.specs.Message.{AckValue, MessageValue}
 use Rattle.psci_link.specs.Slots.{Slot}
 use Rattle.psci_fw_model.specs.Phases.{Phase}
-use Rattle.psci_fw_laws.specs.Claims.{AreApart}
+use Rattle.psci_fw_laws.specs.Claims.{AreRising}
 use Rattle.psci_fw_laws.specs.KnownBelow.{known_below}
 use Rattle.psci_fw_laws.proofs.Consequences.{once}
 use Rattle.psci_fw_laws.proofs.Parts.{part_from}
@@ -58,7 +58,7 @@ path_place b c level place e =
 
 -- a live part that is deep stays so: what is applied on its domain is that part
 pub keeps : (b : BoardValue) (life : ℕ) (starts : ℕ → ℕ) (depth : ℕ → ℕ → ℕ)
-    (sent : List MessageValue) (c : ℕ) (ps : List Part) → AreApart b sent
+    (sent : List MessageValue) (c : ℕ) (ps : List Part) → AreRising b sent
     → AreApplied b life starts sent c ps → (k level : ℕ) (m : MessageValue) (p : Part)
     → slice_get sent k ≡ Some m → m.life ≡ life → m.kind ≡ Down
     → slice_get m.parts level ≡ Some p → IsLivePart b starts m level p
@@ -92,7 +92,7 @@ keeps b life starts depth sent c ps apart are k level m p at present kind part l
 pub waiting_deepened : (b : BoardValue) (life : ℕ) (starts : ℕ → ℕ) (depth : ℕ → ℕ → ℕ)
     (halting : Bool) (known : ℕ → ℕ) (phase : ℕ → Phase)
     (outstanding : Slot → Option MessageValue) (sent : List MessageValue) (made : List AckValue)
-    (c : ℕ) (ps : List Part) → AreApart b sent → AreApplied b life starts sent c ps
+    (c : ℕ) (ps : List Part) → AreRising b sent → AreApplied b life starts sent c ps
     → AreWaiting b life starts depth halting known phase outstanding sent made
     → AreWaiting b life starts (laid b c ps depth) halting known phase outstanding sent made
 waiting_deepened b life starts depth halting known phase outstanding sent made c ps apart applied

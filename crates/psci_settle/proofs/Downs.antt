@@ -24,7 +24,7 @@ use Rattle.psci_fw_laws.proofs.Consequences.{once_down}
 use Rattle.psci_world_model.specs.declared.said.Record.{Record}
 use Rattle.psci_world_model.specs.Histories.{controller_values, firmware_values, sent}
 use Rattle.psci_world_model.specs.Lists.{numbered}
-use Rattle.psci_world_model.specs.Places.{place, place_by}
+use Rattle.psci_world_model.specs.Places.{place, place_of_effect}
 use Rattle.psci_world_laws.proofs.Numbering.{at_number}
 use Rattle.psci_settle.specs.Drained.{deliveries}
 use Rattle.psci_settle.specs.Settling.{answering}
@@ -161,7 +161,8 @@ module _ (b : BoardValue) (before : List Record) (life : ℕ) (past : List Recor
 
   place_now : (x : ℕ) → place b next x ≡ place b past x
   place_now x = em.answered.place x
-      ∙ ap (λ k. unwrap_or (place_by x (message_effect b m (ack_by b w m k) k)) (place b past x))
+      ∙ ap (λ k. unwrap_or (place_of_effect x (message_effect b m (ack_by b w m k) k))
+      (place b past x))
       out.down.kind
 
   -- the part of the first level that is left

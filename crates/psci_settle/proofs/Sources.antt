@@ -8,12 +8,11 @@ use Rattle.psci_board.specs.Board.{BoardValue, HasNode, height, up}
 use Rattle.psci_board.specs.declared.node.Node.{Node}
 use Rattle.psci_ctl_model.specs.History as controls
 use Rattle.psci_ctl_model.specs.Lasting.{IsApplied, IsFirst}
-use Rattle.psci_ctl_model.specs.Values.{is_on_path}
-use Rattle.psci_fw_model.specs.Paths as paths
+use Rattle.psci_board.specs.Paths.{is_on_path, is_path_place}
 use Rattle.psci_fw_laws.specs.Claims.{IsFromStart}
 use Rattle.psci_world_model.specs.declared.said.Record.{Record}
 use Rattle.psci_world_model.specs.Histories.{controller_history, controller_values}
-use Rattle.psci_world_model.specs.Legal.{IsAnswered}
+use Rattle.psci_world_model.specs.Legal.{IsReplied}
 use Rattle.psci_world_laws.proofs.Applied.{was_sent}
 use Rattle.psci_settle.proofs.Standing.{HasLive}
 use Rattle.psci_settle.proofs.Starting.{same_sum}
@@ -25,7 +24,7 @@ first_off false depth e some = (refl, e)
 
 -- a node of the board that the power controller finds on no path is on none for the firmware
 off_path : (b : BoardValue) (n : Node) → HasNode b n → is_on_path b 0 n.level n.place ≡ false
-    → paths.is_on_path b 0 n.level n.place ≡ false
+    → is_path_place b 0 n.level n.place ≡ false
 off_path b n has off =
     elim (and_cases (nat_le n.level (height b)) (up b n.level 0 == n.place) off) [
       | inl high ↦ absurd (omega (arith, has.level, leb-false n.level (height b) high))
@@ -34,7 +33,7 @@ off_path b n has off =
     ]
 
 from_applied : (b : BoardValue) (past : List Record) (life level place : ℕ)
-    → IsAnswered b (controller_history b past) → (controller_values b past).life ≡ Some life
+    → IsReplied b (controller_history b past) → (controller_values b past).life ≡ Some life
     → IsApplied b (controller_history b past) level place → HasLive b past life level place
 unfolding controls.values_of
 from_applied b past life level place is present a = record {
@@ -69,7 +68,7 @@ from_first b past life level place has some f =
 
 pub live_depth : (b : BoardValue) (past : List Record) (life level place : ℕ)
     → HasNode b (record { level = level; place = place })
-    → IsAnswered b (controller_history b past)
+    → IsReplied b (controller_history b past)
     → (controls.life b (controller_history b past) ≡ Some life
     → 0 < controls.depth b (controller_history b past) level place
     → IsApplied b (controller_history b past) level place

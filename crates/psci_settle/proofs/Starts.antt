@@ -7,7 +7,7 @@ use Rattle.psci_board.specs.Board.{BoardValue, cores}
 use Rattle.psci_ctl_model.specs.Changes as controlling
 use Rattle.psci_ctl_model.specs.Effects.{Nothing, Starts, message_effect}
 use Rattle.psci_ctl_model.specs.Values as controlled
-use Rattle.psci_ctl_model.specs.declared.start.Cause.TheVariants as causes
+use Rattle.psci_link.specs.declared.start.Cause.TheVariants as causes
 use Rattle.psci_link.specs.declared.kind.Kind.{Kind}
 use Rattle.psci_link.specs.declared.kind.Kind.TheVariants as kinds
 use Rattle.psci_link.specs.Message.{AckValue, MessageValue}

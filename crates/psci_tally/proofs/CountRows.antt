@@ -8,7 +8,7 @@ use Rattle.psci_tally.specs.declared.asked.Asked.TheVariants as asked
 use Rattle.psci_tally.specs.declared.answer.Answer.TheVariants as answers
 use Rattle.psci_tally.specs.declared.table.TheConstants.{KINDS}
 use Rattle.psci_tally.specs.Counts.{answer_text, asked_text, count_line, count_lines, counts_text}
-use Rattle.psci_tally.specs.Counts.{kind_text}
+use Rattle.psci_tally.specs.Counts.{event_kind_text}
 
 -- what was asked
 pub version_text : asked_text asked.Version ≡ codes "version"
@@ -125,12 +125,13 @@ unfolding digits
 none_applied_stale = refl
 
 -- what was asked comes first
-pub start_used_up : kind_text (record { asked = asked.CpuOn; answer = answers.Return (negsuc 5) })
+pub start_used_up : event_kind_text
+    (record { asked = asked.CpuOn; answer = answers.Return (negsuc 5) })
     ≡ codes "cpu_on return -6"
 unfolding digits
 start_used_up = refl
 
-pub entry_enters : kind_text (record { asked = asked.Enter; answer = answers.Enter })
+pub entry_enters : event_kind_text (record { asked = asked.Enter; answer = answers.Enter })
     ≡ codes "enter enter"
 entry_enters = refl
 
@@ -174,6 +175,6 @@ no_kind = refl
 
 -- every kind has a line, also where no record is of it
 pub no_record : counts_text []
-    ≡ flat_map (λ kind. kind_text kind ++ (codes " 0" ++ 10 ∷ [])) KINDS
+    ≡ flat_map (λ kind. event_kind_text kind ++ (codes " 0" ++ 10 ∷ [])) KINDS
 unfolding digits counts_text
 no_record = refl

@@ -3,9 +3,9 @@ use Rattle.std.proofs.Common.{◌≡◌, [], ◌∷◌, map, refl}
 use Rattle.std.specs.Fmt.{digits}
 use Rattle.std.specs.Prelude.{codes}
 use Rattle.psci_tally.specs.declared.table.TheConstants.{KINDS}
-use Rattle.psci_tally.specs.Counts.{kind_text}
+use Rattle.psci_tally.specs.Counts.{event_kind_text}
 
-pub kinds_spelled : map kind_text KINDS ≡ codes "version return 65537"
+pub kinds_spelled : map event_kind_text KINDS ≡ codes "version return 65537"
     ∷ codes "version stop"
     ∷ codes "version ignored"
     ∷ codes "version absent"

@@ -1,6 +1,7 @@
 -- How kinds are spelled, and the lines of counts.
-use Rattle.std.specs.Prelude.{ℕ, Bool, true, false, List, [], ◌∷◌, ◌++◌, codes, count_by, flat_map}
+use Rattle.std.specs.Prelude.{ℕ, List, [], ◌∷◌, ◌++◌, codes, count_by, flat_map}
 use Rattle.std.specs.Fmt.{decimal, signed_decimal}
+use Rattle.psci_link.specs.StaleText.{stale_text}
 use Rattle.psci_world_model.specs.declared.said.Record.{Record}
 use Rattle.psci_tally.specs.declared.asked.Asked.{Asked}
 use Rattle.psci_tally.specs.declared.asked.Asked.TheVariants.{Version, CpuSuspend, CpuOff, CpuOn}
@@ -15,7 +16,7 @@ use Rattle.psci_tally.specs.declared.answer.Answer.TheVariants.{Started, Acked, 
 use Rattle.psci_tally.specs.declared.answer.Answer.TheVariants.{Ignored, Absent}
 use Rattle.psci_tally.specs.declared.kind.Kind.{Kind}
 use Rattle.psci_tally.specs.declared.table.TheConstants.{KINDS}
-use Rattle.psci_tally.specs.Kinds.{is_kind, kind_of}
+use Rattle.psci_tally.specs.Kinds.{is_event_kind, event_kind_of}
 
 -- what was asked: the name of the function without PSCI, or the word of the event
 abbrev pub asked_text : Asked → List ℕ
@@ -37,11 +38,6 @@ asked_text Reset = codes "reset"
 asked_text Deliver = codes "deliver"
 asked_text Take = codes "take"
 
--- after the parts that were applied, that the message meant nothing any more
-abbrev pub stale_text : Bool → List ℕ
-stale_text true = codes " stale"
-stale_text false = []
-
 -- what was answered, in the words of an answer line
 abbrev pub answer_text : Answer → List ℕ
 answer_text (Return code) = codes "return " ++ signed_decimal code
@@ -56,17 +52,17 @@ answer_text Ignored = codes "ignored"
 answer_text Absent = codes "absent"
 
 -- a kind: what was asked, a space, and what was answered
-abbrev pub kind_text : Kind → List ℕ
-kind_text k = asked_text k.asked ++ (codes " " ++ answer_text k.answer)
+abbrev pub event_kind_text : Kind → List ℕ
+event_kind_text k = asked_text k.asked ++ (codes " " ++ answer_text k.answer)
 
 -- how many of these records are of the kind
 abbrev pub count_of : List Record → Kind → ℕ
-count_of records kind = count_by (λ r. is_kind (kind_of r) kind) records
+count_of records kind = count_by (λ r. is_event_kind (event_kind_of r) kind) records
 
 -- the line of one kind: the kind, a space, how many records are of it, and a line feed
 abbrev pub count_line : List Record → Kind → List ℕ
 count_line records kind =
-    kind_text kind ++ (codes " " ++ (decimal (count_of records kind) ++ 10 ∷ []))
+    event_kind_text kind ++ (codes " " ++ (decimal (count_of records kind) ++ 10 ∷ []))
 
 -- the lines of these kinds, in this order
 abbrev pub count_lines : List Record → List Kind → List ℕ

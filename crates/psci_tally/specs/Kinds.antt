@@ -51,11 +51,11 @@ asked_of (events.Deliver k) = Deliver
 asked_of (events.Take k) = Take
 
 -- what the core does next
-abbrev pub answer_by : Act → Answer
-answer_by (acts.Return code) = Return code.0
-answer_by acts.Stop = Stop
-answer_by (acts.Enter address context) = Enter
-answer_by acts.Resume = Resume
+abbrev pub answer_of_act : Act → Answer
+answer_of_act (acts.Return code) = Return code.0
+answer_of_act acts.Stop = Stop
+answer_of_act (acts.Enter address context) = Enter
+answer_of_act acts.Resume = Resume
 
 -- what became of an acknowledgement
 abbrev pub answer_taken : Taken → Answer
@@ -64,7 +64,7 @@ answer_taken taken.Old = Old
 
 -- what was said, without the addresses, numbers and messages that it names
 abbrev pub answer_of : Said → Answer
-answer_of (sayings.Fw act sent) = answer_by act
+answer_of (sayings.Fw act sent) = answer_of_act act
 answer_of (sayings.Kick start) = Started
 answer_of (sayings.Acked index ack) = Acked ack.applied ack.stale
 answer_of (sayings.Taken t) = answer_taken t
@@ -72,8 +72,8 @@ answer_of sayings.Ignored = Ignored
 answer_of sayings.Absent = Absent
 
 -- the kind of a record
-abbrev pub kind_of : Record → Kind
-kind_of r = record { asked = asked_of r.event; answer = answer_of r.said }
+abbrev pub event_kind_of : Record → Kind
+event_kind_of r = record { asked = asked_of r.event; answer = answer_of r.said }
 
 -- which of the sorts it is, in their order
 abbrev pub asked_number : Asked → ℕ
@@ -110,5 +110,5 @@ is_answer Absent Absent = true
 is_answer a b = false
 
 -- both are the same kind
-abbrev pub is_kind : Kind → Kind → Bool
-is_kind k l = asked_number k.asked == asked_number l.asked && is_answer k.answer l.answer
+abbrev pub is_event_kind : Kind → Kind → Bool
+is_event_kind k l = asked_number k.asked == asked_number l.asked && is_answer k.answer l.answer

@@ -1,7 +1,7 @@
 //! What was answered.
 
 ghost use Rattle.std.specs.Prelude.{◌≡◌};
-ghost use Rattle.psci_tally.specs.Kinds.{answer_by, answer_of};
+ghost use Rattle.psci_tally.specs.Kinds.{answer_of_act, answer_of};
 
 use psci_fw_model::Act;
 use psci_link::Taken;
@@ -58,7 +58,7 @@ impl Answer {
 
     /// What the core does next.
     fn of_act(act: Act) -> Answer
-        ensures { result ≡ answer_by act }
+        ensures { result ≡ answer_of_act act }
     {
         match act {
             Act::Return(code) => Answer::Return(code.0),

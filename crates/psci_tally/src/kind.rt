@@ -1,7 +1,7 @@
 //! Kinds of records.
 
 ghost use Rattle.std.specs.Prelude.{◌≡◌};
-ghost use Rattle.psci_tally.specs.Kinds.{is_kind, kind_of};
+ghost use Rattle.psci_tally.specs.Kinds.{is_event_kind, event_kind_of};
 
 use crate::answer::Answer;
 use crate::asked::Asked;
@@ -19,7 +19,7 @@ pub struct Kind {
 impl Kind {
     /// The kind of a record.
     pub fn of(entry: &Record) -> Kind
-        ensures { result ≡ kind_of entry.now }
+        ensures { result ≡ event_kind_of entry.now }
     {
         Kind {
             asked: Asked::of(&entry.event),
@@ -29,7 +29,7 @@ impl Kind {
 
     /// Whether both are the same kind.
     pub fn is(self, other: Kind) -> bool
-        ensures { result ≡ is_kind self other }
+        ensures { result ≡ is_event_kind self other }
     {
         self == other
     }

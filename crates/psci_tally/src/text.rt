@@ -65,9 +65,9 @@ impl fmt::Display for Answer {
 
 impl fmt::Display for Kind {
     ghost use Rattle.std.specs.Prelude.{Some};
-    ghost use Rattle.psci_tally.specs.Counts.{kind_text};
+    ghost use Rattle.psci_tally.specs.Counts.{event_kind_text};
 
-    ghost output = { λ kind. Some (kind_text kind) };
+    ghost output = { λ kind. Some (event_kind_text kind) };
 
     fn fmt<W: fmt::Write>(&self, f: &mut fmt::Formatter<W>) -> fmt::Result {
         write!(f, "{} {}", self.asked, self.answer)

@@ -1,7 +1,6 @@
 -- Domains put together level by level, from the cores up.
 use Rattle.std.proofs.Common.{◌≡◌, ℕ, zero, suc, ◌<◌, List, [], ◌∷◌, ◌++◌, length, drop, map}
 use Rattle.std.proofs.Common.{sum, replicate, ◌+◌, refl, ap, sym, ◌∙◌, arith, append-nil, get_or}
-use Rattle.std.proofs.Common.{length-append}
 use Rattle.std.specs.List.{flat_map, AllPass}
 use Rattle.std.proofs.lemmas.Bool.Decides.{nat_tests}
 use Rattle.std.proofs.lemmas.List.{length_push, map-append, replicate_more}
@@ -9,8 +8,7 @@ use Rattle.std.proofs.lemmas.List.Concat.{flat_map-append, flat_map_single}
 use Rattle.std.proofs.lemmas.List.Sums.{sum_by_push}
 use Rattle.psci_board.specs.Board.{IsTree, size_below, is_width}
 use Rattle.psci_tree.specs.declared.state.CoreState.{CoreState}
-use Rattle.psci_tree.specs.Domains.{cores, cores_in, children, child_count, child_counts, HasShape}
-use Rattle.psci_tree.specs.Domains.{IsWhole}
+use Rattle.psci_tree.specs.Domains.{cores, cores_in, children, child_count, child_counts}
 use Rattle.psci_tree.specs.declared.domain.Domain.{Domain}
 use Rattle.psci_tree.specs.declared.domain.Domain.TheOpen.{Domain-F}
 use Rattle.psci_tree.specs.declared.domain.Domain.TheViews.{roll-Domain}
@@ -51,23 +49,6 @@ pub ends_more : (parents ns : List Domain) (k j : ℕ) → j ≡ suc k → flat_
     → sum (flat_map (child_counts k) ns) ≡ 0 → sum (flat_map (child_counts j) parents) ≡ 0
 ends_more parents ns k j s e h = ap (λ i. sum (flat_map (child_counts i) parents)) s
     ∙ ap sum (widths_down k parents ∙ ap (flat_map (child_counts k)) e) ∙ h
-
-pub shape_of_one : (n : Domain) (levels : List (List ℕ)) → AreShaped (n ∷ []) levels
-    → HasShape n levels
-shape_of_one n [] h = tt
-shape_of_one n (w ∷ ws) h =
-    (sym (append-nil (child_counts (length ws) n)) ∙ h.0, shape_of_one n ws h.1)
-
-pub whole_of_one : (n : Domain) (levels : List (List ℕ)) → AreShaped (n ∷ []) levels
-    → sum (flat_map (child_counts (length levels)) (n ∷ [])) ≡ 0 → IsWhole n levels
-whole_of_one n levels h e = record {
-  shape = shape_of_one n levels h;
-  ends = ap sum (sym (append-nil (child_counts (length levels) n))) ∙ e;
-}
-
-pub one_item : (xs ys : List Domain) (n : Domain) → xs ≡ ys ++ n ∷ [] → length xs ≡ 1 → xs ≡ n ∷ []
-one_item xs [] n e h = e
-one_item xs (y ∷ ys) n e h = absurd (omega (arith, ap length e, length-append ys (n ∷ [])))
 
 pub tree_at : (levels : List (List ℕ)) (l : ℕ) → IsTree levels → l < length levels
     → length (get_or levels l []) ≡ size_below (drop (suc l) levels)

@@ -5,7 +5,7 @@ use Rattle.std.proofs.Common.{get_or, map, refl, ap, sym, ◌∙◌, arith, inl,
 use Rattle.std.proofs.Math.ListN.{set, length-set}
 use Rattle.std.proofs.lemmas.Bool.{cases_eq, eq-eqb, ne_eqb}
 use Rattle.std.proofs.lemmas.List.{get_or-set_same, get_or-set_other, get_or-replicate}
-use Rattle.std.proofs.lemmas.List.{get_or-map, length-map, drop_all}
+use Rattle.std.proofs.lemmas.List.{get_or-map, length-map}
 use Rattle.psci_board.specs.declared.node.Node.{Node}
 use Rattle.psci_board.specs.Board.{group_of, IsTree, HasNodeIn, size_below, place_above}
 use Rattle.psci_tree.specs.Recount.{TreeValue, granted_at, level_sizes, IsDomainTree}
@@ -92,10 +92,6 @@ pub parent_is : (levels : List (List ℕ)) (l i : ℕ) → l < length levels
 parent_is [] l i h = absurd (omega arith)
 parent_is (w ∷ ws) zero i h = refl
 parent_is (w ∷ ws) (suc l) i h = parent_is ws l i (omega arith)
-
-pub parent_none : (levels : List (List ℕ)) (l i : ℕ) → length levels ≤ l
-    → place_above (drop l levels) 1 i ≡ i
-parent_none levels l i h = rw (drop_all l levels h) refl
 
 pub above_lt : (levels : List (List ℕ)) (l i : ℕ) → IsTree levels → i < size_below (drop l levels)
     → place_above (drop l levels) 1 i < size_below (drop (suc l) levels)

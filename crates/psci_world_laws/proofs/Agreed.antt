@@ -13,7 +13,7 @@ use Rattle.psci_ctl_model.specs.History as controls
 use Rattle.psci_ctl_model.specs.Legal as legal_controls
 use Rattle.psci_ctl_model.specs.Replies.{last_start, reply}
 use Rattle.psci_ctl_model.specs.Values as controlled
-use Rattle.psci_ctl_model.specs.declared.start.Start.{Start}
+use Rattle.psci_link.specs.declared.start.Start.{Start}
 use Rattle.psci_link.specs.Message.{AckValue, MessageValue}
 use Rattle.psci_link.specs.declared.taken.Taken.{Taken}
 use Rattle.psci_link.specs.declared.taken.Taken.TheVariants as takens

@@ -16,7 +16,7 @@ use Rattle.psci_fw_model.specs.Phases.{Phase}
 use Rattle.psci_fw_model.specs.Values.{Values}
 use Rattle.psci_world_model.specs.declared.place.Place.{Place}
 use Rattle.psci_world_model.specs.declared.place.Place.TheVariants.{Started, Running, Stopped}
-use Rattle.psci_world_model.specs.Places.{first_place, place_by}
+use Rattle.psci_world_model.specs.Places.{first_place, place_of_effect}
 use Rattle.psci_world_laws.specs.Agreement.{AgreeIn}
 
 -- What both know of each other, said of their values and of the places.
@@ -122,7 +122,7 @@ next_is o l life e f =
 -- the power controller's effect
 pub control_agrees : (b : BoardValue) (w : controlled.Values) (place : ℕ → Place) (v : Values)
     (e : Effect) → MayFollow b w e → AreAgreed b w place v
-    → AreAgreed b (change b e w) (λ x. unwrap_or (place_by x e) (place x)) v
+    → AreAgreed b (change b e w) (λ x. unwrap_or (place_of_effect x e) (place x)) v
 control_agrees b w place v Nothing may h = h
 control_agrees b w place v (Starts c cause) may h = record {
   begun = h.begun;

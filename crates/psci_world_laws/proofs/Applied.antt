@@ -12,14 +12,15 @@ use Rattle.psci_link.specs.Message.{AckValue, MessageValue}
 use Rattle.psci_ctl_model.specs.declared.call.CtlCall.TheVariants as asked
 use Rattle.psci_ctl_model.specs.declared.delivery.Delivery.TheVariants as deliveries
 use Rattle.psci_ctl_model.specs.declared.reply.CtlReply.TheVariants as replied
-use Rattle.psci_ctl_model.specs.declared.start.Cause.TheVariants as causes
+use Rattle.psci_link.specs.declared.start.Cause.TheVariants as causes
 use Rattle.psci_ctl_model.specs.Effects.{Effect, Nothing, Starts, Deepens, Ends, Begins, effect_of}
 use Rattle.psci_ctl_model.specs.Effects.{message_effect}
 use Rattle.psci_ctl_model.specs.Entry as controller
 use Rattle.psci_ctl_model.specs.History as controls
-use Rattle.psci_ctl_model.specs.Lasting.{Applies, WasApplied, is_within}
+use Rattle.psci_ctl_model.specs.Lasting.{Applies, WasApplied, keeps_life}
 use Rattle.psci_ctl_model.specs.Replies.{ack_by, delivery_of, is_present, reply}
-use Rattle.psci_ctl_model.specs.Values.{Values, is_on_path}
+use Rattle.psci_ctl_model.specs.Values.{Values}
+use Rattle.psci_board.specs.Paths.{is_on_path}
 use Rattle.psci_ctl_model.proofs.Front.{take_get}
 use Rattle.psci_fw_model.specs.Said.{listed}
 use Rattle.psci_fw_laws.specs.Claims.{IsFromMessage}
@@ -31,7 +32,7 @@ use Rattle.psci_world_model.specs.declared.said.Said.{Said}
 use Rattle.psci_world_model.specs.declared.said.Said.TheVariants.{Kick, Acked}
 use Rattle.psci_world_model.specs.Histories.{control, controller_history, controller_values}
 use Rattle.psci_world_model.specs.Histories.{delivered, sent, sent_in}
-use Rattle.psci_world_model.specs.Legal.{IsAnswered}
+use Rattle.psci_world_model.specs.Legal.{IsReplied}
 use Rattle.psci_world_model.specs.Lists.{numbered}
 use Rattle.psci_world_laws.proofs.Numbering.{IsAt, at_number}
 
@@ -39,14 +40,14 @@ use Rattle.psci_world_laws.proofs.Numbering.{IsAt, at_number}
 
 -- an effect that applies a part leaves the life as it is
 applies_within : (b : BoardValue) (f : Effect) (level place : ℕ) (p : Part)
-    → Applies b f level place p → is_within f ≡ true
+    → Applies b f level place p → keeps_life f ≡ true
 applies_within b Nothing level place p a = absurd a
 applies_within b (Starts c cause) level place p a = absurd a
 applies_within b (Deepens c ps) level place p a = refl
 applies_within b Ends level place p a = absurd a
 applies_within b Begins level place p a = absurd a
 
-life_within : (f : Effect) (o : Option ℕ) → is_within f ≡ true → controls.life_by f o ≡ o
+life_within : (f : Effect) (o : Option ℕ) → keeps_life f ≡ true → controls.life_by f o ≡ o
 life_within Nothing o e = refl
 life_within (Starts c cause) o e = refl
 life_within (Deepens c ps) o e = refl
@@ -103,7 +104,7 @@ acked_life b h m a e =
 abbrev WasSent : BoardValue → ℕ → ℕ → ℕ → Part → List MessageValue → List controller.Entry
     → Type 0
 WasSent b life level place p ms h =
-    IsAnswered b h → controls.life b h ≡ Some life → WasApplied b h level place p
+    IsReplied b h → controls.life b h ≡ Some life → WasApplied b h level place p
     → IsFromMessage b life level place p ms
 
 -- an entry that applies no part

@@ -16,7 +16,7 @@ use Rattle.psci_world_model.specs.declared.said.Said.{Said}
 use Rattle.psci_world_model.specs.declared.said.Said.TheVariants as said
 use Rattle.psci_world_model.specs.Histories.{control, controller_history, controller_values}
 use Rattle.psci_world_model.specs.Histories.{delivered, sent}
-use Rattle.psci_world_model.specs.Legal.{IsAnswered, IsLegalPast, legal}
+use Rattle.psci_world_model.specs.Legal.{IsReplied, IsLegalPast, legal}
 use Rattle.psci_world_model.specs.Lists.{numbered}
 use Rattle.psci_world_model.proofs.Answered.{controller_answered}
 use Rattle.psci_world_laws.proofs.Happening.{reset_at, woken_at}
@@ -44,7 +44,7 @@ after_control b past event s =
 
 deliver_legal : (b : BoardValue) (h : List controller.Entry) (messages : List MessageValue)
     (k : ℕ) (o : Option MessageValue) (ack : AckValue) → AreSendable b messages
-    → numbered messages k ≡ o → IsAnswered b (delivered o ack ++ h) → controls.IsLegal b h
+    → numbered messages k ≡ o → IsReplied b (delivered o ack ++ h) → controls.IsLegal b h
     → controls.IsLegal b (delivered o ack ++ h)
 deliver_legal b h messages k None ack are e answered is = is
 deliver_legal b h messages k (Some m) ack are e answered is =
@@ -52,7 +52,7 @@ deliver_legal b h messages k (Some m) ack are e answered is =
     (answered.0, are at.index m at.at, is)
 
 delivery_legal : (b : BoardValue) (past : List Record) (k : ℕ) (s : Said)
-    → AreSendable b (sent past) → IsAnswered b (after_control b past (Deliver k) s)
+    → AreSendable b (sent past) → IsReplied b (after_control b past (Deliver k) s)
     → controls.IsLegal b (controller_history b past)
     → controls.IsLegal b (after_control b past (Deliver k) s)
 delivery_legal b past k (said.Fw act sends) are answered is = is
@@ -65,7 +65,7 @@ delivery_legal b past k said.Ignored are answered is = is
 delivery_legal b past k said.Absent are answered is = is
 
 wake_legal : (b : BoardValue) (past : List Record) (c : ℕ) (s : Said)
-    → IsAnswered b (after_control b past (Wake c) s)
+    → IsReplied b (after_control b past (Wake c) s)
     → controls.IsLegal b (controller_history b past) → s ≡ legal b past (Wake c)
     → controls.IsLegal b (after_control b past (Wake c) s)
 wake_legal b past c (said.Fw act sends) answered is e = is
@@ -77,7 +77,7 @@ wake_legal b past c said.Ignored answered is e = is
 wake_legal b past c said.Absent answered is e = is
 
 reset_legal : (b : BoardValue) (past : List Record) (c : ℕ) (s : Said)
-    → IsAnswered b (after_control b past (Reset c) s)
+    → IsReplied b (after_control b past (Reset c) s)
     → controls.IsLegal b (controller_history b past) → s ≡ legal b past (Reset c)
     → controls.IsLegal b (after_control b past (Reset c) s)
 reset_legal b past c (said.Fw act sends) answered is e = is
@@ -89,7 +89,7 @@ reset_legal b past c said.Ignored answered is e = is
 reset_legal b past c said.Absent answered is e = is
 
 event_legal : (b : BoardValue) (past : List Record) (event : Event) (s : Said)
-    → AreSendable b (sent past) → IsAnswered b (after_control b past event s)
+    → AreSendable b (sent past) → IsReplied b (after_control b past event s)
     → controls.IsLegal b (controller_history b past) → s ≡ legal b past event
     → controls.IsLegal b (after_control b past event s)
 event_legal b past (Call c regs) s are answered is e = is
@@ -114,5 +114,5 @@ unfolding controller_history
 controls_legal b are [] is = tt
 controls_legal b are (r ∷ past) is =
     event_legal b past r.event r.said (are past is.1)
-    (subst (IsAnswered b) (more_controls b r past) (controller_answered b (r ∷ past) is))
+    (subst (IsReplied b) (more_controls b r past) (controller_answered b (r ∷ past) is))
     (controls_legal b are past is.1) is.0

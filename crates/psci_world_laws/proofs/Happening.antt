@@ -10,7 +10,7 @@ use Rattle.psci_ctl_model.specs.declared.delivery.Delivery.TheVariants as delive
 use Rattle.psci_ctl_model.specs.declared.kick.Kick.TheVariants as kicks
 use Rattle.psci_ctl_model.specs.declared.reply.CtlReply.{CtlReply}
 use Rattle.psci_ctl_model.specs.declared.reply.CtlReply.TheVariants as replied
-use Rattle.psci_ctl_model.specs.declared.start.Start.{Start}
+use Rattle.psci_link.specs.declared.start.Start.{Start}
 use Rattle.psci_ctl_model.specs.Replies.{last_start, reply}
 use Rattle.psci_fw_model.specs.declared.call.FwCall.TheVariants as calls
 use Rattle.psci_fw_model.specs.declared.outcome.Act.{Act}

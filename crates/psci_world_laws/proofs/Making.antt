@@ -11,7 +11,7 @@ use Rattle.psci_ctl_model.specs.declared.reply.CtlReply.TheVariants as replied
 use Rattle.psci_ctl_model.specs.Changes.{after, change}
 use Rattle.psci_ctl_model.specs.Effects.{effect_of, message_effect}
 use Rattle.psci_ctl_model.specs.Entry as controller
-use Rattle.psci_ctl_model.specs.declared.start.Start.{Start}
+use Rattle.psci_link.specs.declared.start.Start.{Start}
 use Rattle.psci_ctl_model.specs.History as controls
 use Rattle.psci_ctl_model.specs.Replies.{ack_by, delivery_of, is_present, last_start, reply}
 use Rattle.psci_ctl_model.specs.Values.{Values}

@@ -7,7 +7,7 @@ use Rattle.psci_abi.specs.declared.code.Code.{Code}
 use Rattle.psci_abi.specs.declared.request.Request.{Request}
 use Rattle.psci_abi.specs.declared.request.Request.TheVariants as requests
 use Rattle.psci_board.specs.Board.{BoardValue}
-use Rattle.psci_ctl_model.specs.declared.start.Start.{Start}
+use Rattle.psci_link.specs.declared.start.Start.{Start}
 use Rattle.psci_link.specs.Message.{MessageValue}
 use Rattle.psci_fw_model.specs.declared.mode.SuspendMode.{SuspendMode}
 use Rattle.psci_fw_model.specs.declared.outcome.Act.{Act}
@@ -18,7 +18,7 @@ use Rattle.psci_fw_model.specs.Effects.{Effect, Nothing, GoesOn, SetsMode, AsksO
 use Rattle.psci_fw_model.specs.Effects.{Leaves, Enters, Parks, Ceases, Acknowledges}
 use Rattle.psci_fw_model.specs.Effects.{enter_effect, function_effect, mode_effect}
 use Rattle.psci_fw_model.specs.Lives.{in_life}
-use Rattle.psci_fw_model.specs.Outcomes.{goes_on}
+use Rattle.psci_fw_model.specs.Outcomes.{executes_on}
 use Rattle.psci_fw_model.specs.Phases.{Phase, Away, Pending, Running, Suspended, is_running}
 use Rattle.psci_fw_model.specs.Phases.{unless_pending}
 use Rattle.psci_fw_model.specs.SuspendMode.{mode_of}
@@ -139,7 +139,7 @@ stop_call b c requests.Unknown m = record { is = refl; core = refl; runs = refl 
 
 -- what a function comes down to is of its caller, which goes on where the outcome says so
 pub function_call : (b : BoardValue) (c : ℕ) (r : Request) (act : Act) (o : Option MessageValue)
-    → IsCallOf (function_effect b c r act o) c (goes_on act)
+    → IsCallOf (function_effect b c r act o) c (executes_on act)
 function_call b c r (acts.Return code) None = return_call b c r code
 function_call b c r (acts.Return code) (Some m) = sent_call b c r code m
 function_call b c r acts.Stop None = record { is = refl; core = refl; runs = refl }
@@ -268,7 +268,8 @@ stops_in b v c s (Some m) =
 -- the effect of an entry
 pub entry_moves : (b : BoardValue) (v : Values) (c : ℕ) (s : Start) (act : Act)
     (o : Option MessageValue)
-    → IsMoved (in_life b s.life v) (change b (enter_effect c s act o) v) c s.number (goes_on act)
+    → IsMoved (in_life b s.life v) (change b (enter_effect c s act o) v) c s.number
+    (executes_on act)
 entry_moves b v c s (acts.Return code) o = goes_in b v c s
 entry_moves b v c s acts.Stop o = stops_in b v c s o
 entry_moves b v c s (acts.Enter address context) o = goes_in b v c s

@@ -1,20 +1,14 @@
 -- What a legal outcome sends is what its effect says was sent.
-use Rattle.std.proofs.Common.{◌≡◌, ℕ, Bool, true, false, cond, ◌==◌, ◌&&◌, not, List, refl}
-use Rattle.std.proofs.Common.{Option, None, Some, Ok, Err, subst, sym}
+use Rattle.std.proofs.Common.{◌≡◌, ℕ, Bool, true, false, cond, refl}
+use Rattle.std.proofs.Common.{Option, None, Some, subst, sym}
 use Rattle.std.specs.Ordering.{int_eq}
-use Rattle.std.specs.Prelude.{Result}
-use Rattle.psci_abi.specs.Codes.{denied, invalid_address, invalid_parameters, success}
+use Rattle.psci_abi.specs.Codes.{success}
 use Rattle.psci_abi.specs.declared.code.Code.{Code}
 use Rattle.psci_abi.specs.declared.request.Request.{Request}
 use Rattle.psci_abi.specs.declared.request.Request.TheVariants as requests
-use Rattle.psci_board.specs.Board.{BoardValue, height, may_enter}
-use Rattle.psci_board.specs.declared.node.Core.{Core}
-use Rattle.psci_coord.specs.declared.osi.Osi.{Osi}
-use Rattle.psci_coord.specs.declared.part.Part.{Part}
-use Rattle.psci_ctl_model.specs.declared.start.Start.{Start}
+use Rattle.psci_board.specs.Board.{BoardValue}
+use Rattle.psci_link.specs.declared.start.Start.{Start}
 use Rattle.psci_link.specs.Message.{MessageValue}
-use Rattle.psci_state.specs.Ask.{deepest_of, is_deep}
-use Rattle.psci_state.specs.declared.fault.BadState.{BadState}
 use Rattle.psci_fw_model.specs.declared.fault.FwFault.{FwFault}
 use Rattle.psci_fw_model.specs.declared.mode.SuspendMode.{SuspendMode}
 use Rattle.psci_fw_model.specs.declared.opening.Opening.{Opening}
@@ -22,10 +16,7 @@ use Rattle.psci_fw_model.specs.declared.outcome.Act.TheVariants as acts
 use Rattle.psci_fw_model.specs.declared.outcome.Outcome.{Outcome}
 use Rattle.psci_fw_model.specs.declared.reply.FwReply.TheVariants as replies
 use Rattle.psci_fw_model.specs.Answer.{reply_or}
-use Rattle.psci_fw_model.specs.Calls.{function_outcome, outcome_of}
-use Rattle.psci_fw_model.specs.Claims.{suspend_parts}
-use Rattle.psci_fw_model.specs.CpuOn.{started, target_of}
-use Rattle.psci_fw_model.specs.CpuSuspend.{ask_named, sleeps, suspend_asked}
+use Rattle.psci_fw_model.specs.Calls.{outcome_of}
 use Rattle.psci_fw_model.specs.Effects.{GoesOn, enter_effect, function_effect, mode_effect}
 use Rattle.psci_fw_model.specs.Entering.{enter_outcome, outcome_at, resumes}
 use Rattle.psci_fw_model.specs.Lives.{in_life}
@@ -33,9 +24,9 @@ use Rattle.psci_fw_model.specs.Changes.{with_arrival}
 use Rattle.psci_fw_model.specs.CpuOff.{off_message}
 use Rattle.psci_fw_model.specs.Outcomes.{returns, stops, stops_with}
 use Rattle.psci_fw_model.specs.Said as says
-use Rattle.psci_fw_model.specs.SuspendMode.{mode_of, set_suspend_mode}
-use Rattle.psci_fw_model.specs.SystemCalls.{all_others, is_off_status, system_suspend}
+use Rattle.psci_fw_model.specs.SuspendMode.{mode_of}
 use Rattle.psci_fw_model.specs.Values.{Values}
+use Rattle.psci_fw_model.proofs.Endings.{function_ends, outcome_ends, starts_with}
 
 -- Functions ------------------------------------------------------------------------------------
 
@@ -80,69 +71,17 @@ stopped b c (requests.SystemSuspend entry_point context) m = refl
 stopped b c (requests.SetSuspendMode number) m = refl
 stopped b c requests.Unknown m = refl
 
-slept : (b : BoardValue) (v : Values) (c : ℕ) (r : Request) (parts : Result (List Part) Osi)
-    → Sends b c r (sleeps v c parts)
-slept b v c r (Err reason) = returned b c r _
-slept b v c r (Ok parts) = stopped b c r _
-
-suspended : (b : BoardValue) (v : Values) (c : ℕ) (r : Request) (entry_point : ℕ)
-    (ask : Result (List ℕ) BadState) → Sends b c r (suspend_asked b v c entry_point ask)
-suspended b v c r entry_point (Err bad) = returned b c r invalid_parameters
-suspended b v c r entry_point (Ok ask) =
-    by_tests (is_deep ask && not (may_enter b entry_point)) (v.known c == b.starts)
-  where
-    by_tests : (s t : Bool) → Sends b c r (cond s (returns invalid_address)
-        (cond t (returns success) (sleeps v c (suspend_parts b v c ask))))
-    by_tests true t = returned b c r invalid_address
-    by_tests false true = returned b c r success
-    by_tests false false = slept b v c r (suspend_parts b v c ask)
-
-system_suspended : (b : BoardValue) (v : Values) (c : ℕ) (r : Request) (entry_point : ℕ)
-    → Sends b c r (system_suspend b v c entry_point)
-system_suspended b v c r entry_point =
-    by_tests (not (may_enter b entry_point))
-    (not (all_others b c (λ k. is_off_status (v.status k)))) (v.known c == b.starts)
-  where
-    by_tests : (s t u : Bool) → Sends b c r (cond s (returns invalid_address)
-        (cond t (returns denied) (cond u (returns denied)
-        (sleeps v c (suspend_parts b v c (deepest_of (height b)))))))
-    by_tests true t u = returned b c r invalid_address
-    by_tests false true u = returned b c r denied
-    by_tests false false true = returned b c r denied
-    by_tests false false false = slept b v c r (suspend_parts b v c (deepest_of (height b)))
-
-asked_on : (b : BoardValue) (v : Values) (c target entry_point context : ℕ) (o : Result Core Code)
-    → Sends b c (requests.CpuOn target entry_point context) (started v o)
-asked_on b v c target entry_point context (Err code) = refl
-asked_on b v c target entry_point context (Ok core) = refl
-
-function_sends : (b : BoardValue) (v : Values) (c : ℕ) (r : Request)
-    → Sends b c r (function_outcome b v c r)
-function_sends b v c requests.Version = refl
-function_sends b v c (requests.CpuSuspend state entry_point context) =
-    suspended b v c (requests.CpuSuspend state entry_point context) entry_point (ask_named b state)
-function_sends b v c requests.CpuOff = refl
-function_sends b v c (requests.CpuOn target entry_point context) =
-    asked_on b v c target entry_point context (target_of b v target entry_point)
-function_sends b v c (requests.AffinityInfo target level) = refl
-function_sends b v c requests.MigrateInfoType = refl
-function_sends b v c requests.SystemOff = refl
-function_sends b v c requests.SystemReset = refl
-function_sends b v c (requests.Features word) = refl
-function_sends b v c (requests.SystemSuspend entry_point context) =
-    system_suspended b v c (requests.SystemSuspend entry_point context) entry_point
-function_sends b v c (requests.SetSuspendMode mode) =
-    returned b c (requests.SetSuspendMode mode) (set_suspend_mode b v c mode)
-function_sends b v c requests.Unknown = refl
+asked_on : (b : BoardValue) (c word entry_point context : ℕ) (r : Request) (m : MessageValue)
+    → r ≡ requests.CpuOn word entry_point context → Sends b c r (starts_with m)
+asked_on b c word entry_point context r m is =
+    subst (λ q. Sends b c q (starts_with m)) (sym is) refl
 
 outcome_sends : (b : BoardValue) (v : Values) (c : ℕ) (r : Request)
     → Sends b c r (outcome_of b v c r)
-unfolding outcome_of
-outcome_sends b v c r = by_halting v.halting
-  where
-    by_halting : (t : Bool) → Sends b c r (cond t stops (function_outcome b v c r))
-    by_halting true = refl
-    by_halting false = function_sends b v c r
+outcome_sends b v c r =
+    outcome_ends (Sends b c r) b v c r (λ halts. refl)
+    (λ awake. function_ends (Sends b c r) b v c r (returned b c r) (stopped b c r)
+    (λ word entry_point context m is. asked_on b c word entry_point context r m is))
 
 -- the outcome of a call that is not refused
 pub call_sends : (b : BoardValue) (v : Values) (c : ℕ) (r : Request) (o : Outcome)

@@ -4,7 +4,7 @@ use Rattle.std.proofs.Common.{◌≡◌, ℕ, ◌<◌, ◌≤◌, ◌==◌, Bool
 use Rattle.std.proofs.Common.{refl, unwrap_or, arith, subst, ap, sym, ◌∙◌, ◌⊎◌, inl, inr}
 use Rattle.std.proofs.lemmas.Bool.{cases_eq, eqb-false, eqb-true}
 use Rattle.psci_board.specs.Board.{BoardValue, cores}
-use Rattle.psci_ctl_model.specs.declared.start.Start.{Start}
+use Rattle.psci_link.specs.declared.start.Start.{Start}
 use Rattle.psci_ctl_model.specs.Replies.{last_start, start_shown}
 use Rattle.psci_ctl_model.specs.Values as controlled
 use Rattle.psci_link.specs.Message.{AckValue, MessageValue}
@@ -14,7 +14,7 @@ use Rattle.psci_fw_model.specs.After.{change}
 use Rattle.psci_fw_model.specs.Changes.{with_acknowledgement}
 use Rattle.psci_fw_model.specs.Effects.{Effect, enter_effect}
 use Rattle.psci_fw_model.specs.Lives.{in_life}
-use Rattle.psci_fw_model.specs.Outcomes.{goes_on}
+use Rattle.psci_fw_model.specs.Outcomes.{executes_on}
 use Rattle.psci_fw_model.specs.Phases as phases
 use Rattle.psci_fw_model.specs.Phases.{Phase, is_running}
 use Rattle.psci_fw_model.specs.Values.{Values}
@@ -39,8 +39,8 @@ running phases.Away e = absurd (cc)
 -- What an act says of a place.
 record IsPlace (act : Act) : Type 0 where
   pub started : place_after act ≡ Started → ⊥
-  pub runs : place_after act ≡ Running → goes_on act ≡ true
-  pub stops : place_after act ≡ Stopped → goes_on act ≡ false
+  pub runs : place_after act ≡ Running → executes_on act ≡ true
+  pub stops : place_after act ≡ Stopped → executes_on act ≡ false
 
 is_place : (act : Act) → IsPlace act
 is_place (acts.Return code) =
@@ -70,7 +70,7 @@ acted_at place c act x p G e here there = by_test (x == c) refl e
 
 -- a core acted that has no start that is not known then
 moved : (b : BoardValue) (starts : ℕ → ℕ) (place : ℕ → Place) (v w : Values) (c : ℕ) (act : Act)
-    → AgreeIn b starts place v → IsMoved v w c (starts c) (goes_on act)
+    → AgreeIn b starts place v → IsMoved v w c (starts c) (executes_on act)
     → AgreeIn b starts (acted place c act) w
 moved b starts place v w c act h m = record {
   known = λ x. known_at x (cases_eq x c);
@@ -121,7 +121,7 @@ own_life b life v c runs = by_cases (cases_eq life v.life)
 
 -- what a running core's call leaves
 called_in : (b : BoardValue) (starts : ℕ → ℕ) (place : ℕ → Place) (v w : Values) (c life : ℕ)
-    (act : Act) → c < cores b → place c ≡ Running → IsMoved v w c (v.known c) (goes_on act)
+    (act : Act) → c < cores b → place c ≡ Running → IsMoved v w c (v.known c) (executes_on act)
     → AgreeIn b starts place (in_life b life v)
     → AgreeIn b starts (acted place c act) (in_life b life w)
 called_in b starts place v w c life act on at m h =
@@ -132,7 +132,7 @@ called_in b starts place v w c life act on at m h =
     let last : v.known c ≡ starts c = by_cases now (cases_eq (v.known c) (starts c)) in
     subst (AgreeIn b starts (acted place c act)) (sym (found_own b life w own_now))
     (moved b starts place v w c act now
-    (subst (λ n. IsMoved v w c n (goes_on act)) last m))
+    (subst (λ n. IsMoved v w c n (executes_on act)) last m))
   where
     by_cases : AgreeIn b starts place v
         → (v.known c ≡ starts c) ⊎ (v.known c ≡ starts c → ⊥) → v.known c ≡ starts c
@@ -143,11 +143,11 @@ called_in b starts place v w c life act on at m h =
 
 pub call_agrees : (b : BoardValue) (u : controlled.Values) (place : ℕ → Place) (v : Values)
     (c : ℕ) (act : Act) (e : Effect) → CallerLaws b → c < cores b → place c ≡ Running
-    → IsCallOf e c (goes_on act) → IsAllowed b v e → AreAgreed b u place v
+    → IsCallOf e c (executes_on act) → IsAllowed b v e → AreAgreed b u place v
     → AreAgreed b u (acted place c act) (change b e v)
 call_agrees b u place v c act e laws on at is allowed h =
     let w : Values = change b e v in
-    let m : IsMoved v w c (v.known c) (goes_on act) =
+    let m : IsMoved v w c (v.known c) (executes_on act) =
     subst (λ t. IsMoved v w c (v.known c) t) is.runs
     (subst (λ x. IsMoved v w x (v.known x) (runs_on e)) is.core
     (call_moves b v e laws is.is allowed)) in
@@ -193,8 +193,8 @@ pub enter_agrees : (b : BoardValue) (u : controlled.Values) (place : ℕ → Pla
 enter_agrees b u place v c s act o last h =
     let is : IsLast u c s = last_is u c s last in
     let w : Values = change b (enter_effect c s act o) v in
-    let m : IsMoved (in_life b s.life v) w c (u.starts c) (goes_on act) =
-    subst (λ n. IsMoved (in_life b s.life v) w c n (goes_on act)) is.number
+    let m : IsMoved (in_life b s.life v) w c (u.starts c) (executes_on act) =
+    subst (λ n. IsMoved (in_life b s.life v) w c n (executes_on act)) is.number
     (entry_moves b v c s act o) in
     let entered : w.life ≡ s.life = m.life ∙ found_life b v s.life in
     record {

@@ -3,8 +3,8 @@ use Rattle.std.proofs.Common.{◌≡◌, ◌<◌, ℕ, zero, suc, List, [], ◌�
 use Rattle.std.proofs.Common.{arith, ap, ◌∙◌}
 use Rattle.std.proofs.lemmas.Option.{same_Some}
 use Rattle.psci_board.specs.Board.{cores}
-use Rattle.psci_ctl_model.specs.declared.start.Cause.TheVariants as causes
-use Rattle.psci_ctl_model.specs.declared.start.Start.{Start}
+use Rattle.psci_link.specs.declared.start.Cause.TheVariants as causes
+use Rattle.psci_link.specs.declared.start.Start.{Start}
 use Rattle.psci_ctl_model.specs.Replies.{last_start}
 use Rattle.psci_fw_model.specs.declared.fault.FwFault.TheVariants.{NoLife, NotRunning}
 use Rattle.psci_fw_model.specs.Calls.{call_fault}

@@ -1,7 +1,7 @@
 -- Refusals of the firmware, which no legal run has.
 use Rattle.std.specs.Prelude.{◌≡◌, ℕ, ◌<◌, List, None, Some}
 use Rattle.psci_board.specs.Board.{BoardValue, cores}
-use Rattle.psci_ctl_model.specs.declared.start.Start.{Start}
+use Rattle.psci_link.specs.declared.start.Start.{Start}
 use Rattle.psci_ctl_model.specs.Replies.{last_start}
 use Rattle.psci_fw_model.specs.Calls.{call_fault}
 use Rattle.psci_fw_model.specs.Entering.{enter_fault}

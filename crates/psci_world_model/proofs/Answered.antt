@@ -10,7 +10,7 @@ use Rattle.psci_ctl_model.specs.declared.delivery.Delivery.TheVariants as delive
 use Rattle.psci_ctl_model.specs.declared.kick.Kick.TheVariants as kicks
 use Rattle.psci_ctl_model.specs.declared.reply.CtlReply.{CtlReply}
 use Rattle.psci_ctl_model.specs.declared.reply.CtlReply.TheVariants as replied
-use Rattle.psci_ctl_model.specs.declared.start.Start.{Start}
+use Rattle.psci_link.specs.declared.start.Start.{Start}
 use Rattle.psci_ctl_model.specs.Replies.{last_start, reply}
 use Rattle.psci_fw_model.specs.declared.call.FwCall.{FwCall}
 use Rattle.psci_fw_model.specs.declared.call.FwCall.TheVariants as calls
@@ -32,7 +32,7 @@ use Rattle.psci_world_model.specs.Histories.{acks, call, control, controller_his
 use Rattle.psci_world_model.specs.Histories.{controller_values, delivered, entered}
 use Rattle.psci_world_model.specs.Histories.{firmware_history, firmware_values, outcome_in}
 use Rattle.psci_world_model.specs.Histories.{sent, took}
-use Rattle.psci_world_model.specs.Legal.{IsAnswered, IsLegalPast, deliver, if_running, if_started}
+use Rattle.psci_world_model.specs.Legal.{IsReplied, IsLegalPast, deliver, if_running, if_started}
 use Rattle.psci_world_model.specs.Legal.{if_stopped, legal, said_by, said_of, sent_as, take}
 use Rattle.psci_world_model.specs.Lists.{numbered}
 use Rattle.psci_world_model.specs.Places.{place}
@@ -151,7 +151,7 @@ firmware_legal b (r ∷ past) is =
 -- the history with what a record adds to it, whose event says this
 abbrev WithControl : BoardValue → List Record → Event → Said → Type 0
 WithControl b past event said =
-    IsAnswered b (control (controller_values b past) (sent past) event said
+    IsReplied b (control (controller_values b past) (sent past) event said
     ++ controller_history b past)
 
 -- the one reply to a call of the power controller, by the values so far
@@ -160,16 +160,16 @@ reply_to b past asks = reply b (controller_values b past) asks
 
 delivery_answered : (b : BoardValue) (past : List Record) (n k : ℕ) (m : MessageValue)
     (r : CtlReply) → numbered (sent past) k ≡ Some m → r ≡ reply_to b past (asked.Deliver m)
-    → IsAnswered b (controller_history b past) → WithControl b past (Deliver k) (said_by n r)
+    → IsReplied b (controller_history b past) → WithControl b past (Deliver k) (said_by n r)
 delivery_answered b past n k m (replied.Delivery (deliveries.Applied ack)) sends e h =
-    subst (λ (x : Option MessageValue). IsAnswered b (delivered x ack ++ controller_history b past))
+    subst (λ (x : Option MessageValue). IsReplied b (delivered x ack ++ controller_history b past))
     (sym sends) (e, h)
 delivery_answered b past n k m (replied.Delivery deliveries.Ignored) sends e h = h
 delivery_answered b past n k m (replied.Kick (kicks.Started start)) sends e h = h
 delivery_answered b past n k m (replied.Kick kicks.Ignored) sends e h = h
 
 delivery_sent : (b : BoardValue) (past : List Record) (k : ℕ) (m : Option MessageValue)
-    → numbered (sent past) k ≡ m → IsAnswered b (controller_history b past)
+    → numbered (sent past) k ≡ m → IsReplied b (controller_history b past)
     → WithControl b past (Deliver k) (deliver b past m)
 delivery_sent b past k None sends h = h
 delivery_sent b past k (Some m) sends h =
@@ -184,7 +184,7 @@ abbrev resets : ℕ → CtlCall
 resets c = asked.Reset (record { number = c })
 
 wake_answered : (b : BoardValue) (past : List Record) (n c : ℕ) (r : CtlReply)
-    → r ≡ reply_to b past (wakes b past c) → IsAnswered b (controller_history b past)
+    → r ≡ reply_to b past (wakes b past c) → IsReplied b (controller_history b past)
     → WithControl b past (Wake c) (said_by n r)
 wake_answered b past n c (replied.Delivery (deliveries.Applied ack)) e h = h
 wake_answered b past n c (replied.Delivery deliveries.Ignored) e h = h
@@ -192,20 +192,20 @@ wake_answered b past n c (replied.Kick (kicks.Started start)) e h = (e, h)
 wake_answered b past n c (replied.Kick kicks.Ignored) e h = h
 
 wake_stopped : (b : BoardValue) (past : List Record) (c : ℕ) (p : Place) (s : Said)
-    → IsAnswered b (controller_history b past) → WithControl b past (Wake c) s
+    → IsReplied b (controller_history b past) → WithControl b past (Wake c) s
     → WithControl b past (Wake c) (if_stopped p s)
 wake_stopped b past c Started s h w = h
 wake_stopped b past c Running s h w = h
 wake_stopped b past c Stopped s h w = w
 
 wake_on_board : (b : BoardValue) (past : List Record) (c : ℕ) (t : Bool) (s : Said)
-    → IsAnswered b (controller_history b past) → WithControl b past (Wake c) s
+    → IsReplied b (controller_history b past) → WithControl b past (Wake c) s
     → WithControl b past (Wake c) (cond t s Absent)
 wake_on_board b past c true s h w = w
 wake_on_board b past c false s h w = h
 
 reset_answered : (b : BoardValue) (past : List Record) (n c : ℕ) (r : CtlReply)
-    → r ≡ reply_to b past (resets c) → IsAnswered b (controller_history b past)
+    → r ≡ reply_to b past (resets c) → IsReplied b (controller_history b past)
     → WithControl b past (Reset c) (said_by n r)
 reset_answered b past n c (replied.Delivery (deliveries.Applied ack)) e h = h
 reset_answered b past n c (replied.Delivery deliveries.Ignored) e h = h
@@ -213,13 +213,13 @@ reset_answered b past n c (replied.Kick (kicks.Started start)) e h = (e, h)
 reset_answered b past n c (replied.Kick kicks.Ignored) e h = h
 
 reset_on_board : (b : BoardValue) (past : List Record) (c : ℕ) (t : Bool) (s : Said)
-    → IsAnswered b (controller_history b past) → WithControl b past (Reset c) s
+    → IsReplied b (controller_history b past) → WithControl b past (Reset c) s
     → WithControl b past (Reset c) (cond t s Absent)
 reset_on_board b past c true s h w = w
 reset_on_board b past c false s h w = h
 
 control_legal : (b : BoardValue) (past : List Record) (event : Event)
-    → IsAnswered b (controller_history b past) → WithControl b past event (legal b past event)
+    → IsReplied b (controller_history b past) → WithControl b past event (legal b past event)
 unfolding legal
 control_legal b past (Call c regs) h = h
 control_legal b past (Enter c) h = h
@@ -237,7 +237,7 @@ control_legal b past (Deliver k) h = delivery_sent b past k (numbered (sent past
 control_legal b past (Take k) h = h
 
 pub controller_answered : (b : BoardValue) (past : List Record) → IsLegalPast b past
-    → IsAnswered b (controller_history b past)
+    → IsReplied b (controller_history b past)
 unfolding controller_history
 controller_answered b [] is = tt
 controller_answered b (r ∷ past) is =

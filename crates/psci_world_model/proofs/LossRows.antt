@@ -1,6 +1,6 @@
 -- Worked examples: messages that are lost, repeated, late or turned round, and many lives.
 use Rattle.std.proofs.Common.{[], ◌∷◌, pos, true, false, refl}
-use Rattle.psci_ctl_model.specs.declared.start.Cause.TheVariants as causes
+use Rattle.psci_link.specs.declared.start.Cause.TheVariants as causes
 use Rattle.psci_link.specs.declared.kind.Kind.TheVariants.{Down, Start, Reset as Restart}
 use Rattle.psci_world_model.specs.declared.event.Event.TheVariants.{Enter, Wake, Reset, Deliver}
 use Rattle.psci_world_model.specs.declared.event.Event.TheVariants.{Take}

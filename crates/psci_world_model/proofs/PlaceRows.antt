@@ -1,6 +1,6 @@
 -- Worked examples: what happens to a core at each place, and what is absent.
 use Rattle.std.proofs.Common.{[], ◌∷◌, pos, false, refl}
-use Rattle.psci_ctl_model.specs.declared.start.Cause.TheVariants as causes
+use Rattle.psci_link.specs.declared.start.Cause.TheVariants as causes
 use Rattle.psci_link.specs.declared.kind.Kind.TheVariants.{Down, Off}
 use Rattle.psci_world_model.specs.declared.event.Event.TheVariants.{Enter, Wake, Reset, Deliver}
 use Rattle.psci_world_model.specs.declared.event.Event.TheVariants.{Take}

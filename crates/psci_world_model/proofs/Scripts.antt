@@ -7,7 +7,7 @@ use Rattle.psci_coord.specs.declared.part.Part.{Part}
 use Rattle.psci_coord.specs.Claim.{claim_of}
 use Rattle.psci_coord.specs.LastCore.{last_core_check, refusal, shallow, shallow_at}
 use Rattle.psci_coord.specs.View.{generation, is_all_off, is_idle, least_ask}
-use Rattle.psci_ctl_model.specs.declared.start.Cause.{Cause}
+use Rattle.psci_link.specs.declared.start.Cause.{Cause}
 use Rattle.psci_ctl_model.specs.Effects.{effect_of}
 use Rattle.psci_ctl_model.specs.History as controls
 use Rattle.psci_ctl_model.specs.Parts.{applied, is_stale}

@@ -1,6 +1,6 @@
 -- Worked examples: cores that are suspended in platform-coordinated mode.
 use Rattle.std.proofs.Common.{[], ◌∷◌, pos, negsuc, false, refl}
-use Rattle.psci_ctl_model.specs.declared.start.Cause.TheVariants as causes
+use Rattle.psci_link.specs.declared.start.Cause.TheVariants as causes
 use Rattle.psci_link.specs.declared.kind.Kind.TheVariants.{Down, Start}
 use Rattle.psci_world_model.specs.declared.event.Event.TheVariants.{Enter, Wake, Deliver, Take}
 use Rattle.psci_world_model.proofs.Scripts.{IsSaid, acked, board, call, computing, enters, limited}

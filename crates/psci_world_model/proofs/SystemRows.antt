@@ -1,6 +1,6 @@
 -- Worked examples: SYSTEM_SUSPEND, SYSTEM_OFF and SYSTEM_RESET, and the lives after them.
 use Rattle.std.proofs.Common.{[], ◌∷◌, pos, negsuc, false, refl}
-use Rattle.psci_ctl_model.specs.declared.start.Cause.TheVariants as causes
+use Rattle.psci_link.specs.declared.start.Cause.TheVariants as causes
 use Rattle.psci_link.specs.declared.kind.Kind.TheVariants.{Down, Start, Off, Reset as Restart}
 use Rattle.psci_world_model.specs.declared.event.Event.TheVariants.{Enter, Wake, Deliver, Take}
 use Rattle.psci_world_model.specs.declared.said.Said.TheVariants.{Ignored, Absent}

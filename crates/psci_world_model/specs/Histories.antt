@@ -7,7 +7,7 @@ use Rattle.psci_ctl_model.specs.declared.call.CtlCall.TheVariants as asked
 use Rattle.psci_ctl_model.specs.declared.delivery.Delivery.TheVariants as deliveries
 use Rattle.psci_ctl_model.specs.declared.kick.Kick.TheVariants as kicks
 use Rattle.psci_ctl_model.specs.declared.reply.CtlReply.TheVariants as replied
-use Rattle.psci_ctl_model.specs.declared.start.Start.{Start}
+use Rattle.psci_link.specs.declared.start.Start.{Start}
 use Rattle.psci_ctl_model.specs.Entry as controller
 use Rattle.psci_ctl_model.specs.History as controls
 use Rattle.psci_ctl_model.specs.Replies.{last_start}

@@ -8,7 +8,7 @@ use Rattle.psci_ctl_model.specs.declared.delivery.Delivery.TheVariants as delive
 use Rattle.psci_ctl_model.specs.declared.kick.Kick.TheVariants as kicks
 use Rattle.psci_ctl_model.specs.declared.reply.CtlReply.{CtlReply}
 use Rattle.psci_ctl_model.specs.declared.reply.CtlReply.TheVariants as replied
-use Rattle.psci_ctl_model.specs.declared.start.Start.{Start}
+use Rattle.psci_link.specs.declared.start.Start.{Start}
 use Rattle.psci_ctl_model.specs.Entry as controller
 use Rattle.psci_ctl_model.specs.History as controls
 use Rattle.psci_ctl_model.specs.Replies.{last_start, reply}
@@ -128,7 +128,7 @@ run_from b past (event ∷ events) = run_from b (legal_record b past event ∷ p
 
 -- a history of the power controller in which every reply is the one reply after the entries before
 -- it, whatever was delivered
-abbrev pub IsAnswered : BoardValue → List controller.Entry → Type 0
-IsAnswered b [] = Unit {0}
-IsAnswered b (e ∷ h) =
-    (e.reply ≡ reply b (controls.values_of b h) e.call) × IsAnswered b h
+abbrev pub IsReplied : BoardValue → List controller.Entry → Type 0
+IsReplied b [] = Unit {0}
+IsReplied b (e ∷ h) =
+    (e.reply ≡ reply b (controls.values_of b h) e.call) × IsReplied b h

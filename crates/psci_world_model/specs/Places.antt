@@ -33,17 +33,17 @@ place_said c event said = None
 
 -- what the power controller did says where a core is: one that it started, each core as a life
 -- begins, and each core as the last life ends
-abbrev pub place_by : ℕ → Effect → Option Place
-place_by c Nothing = None
-place_by c (Starts d cause) = if c == d then Some Started else None
-place_by c (Deepens d ps) = None
-place_by c Ends = Some Stopped
-place_by c Begins = Some (first_place c)
+abbrev pub place_of_effect : ℕ → Effect → Option Place
+place_of_effect c Nothing = None
+place_of_effect c (Starts d cause) = if c == d then Some Started else None
+place_of_effect c (Deepens d ps) = None
+place_of_effect c Ends = Some Stopped
+place_of_effect c Begins = Some (first_place c)
 
 -- the same of the entry that a record adds to the controller's history, if it adds one
 abbrev pub place_controlled : BoardValue → ℕ → List controller.Entry → Option Place
 place_controlled b c [] = None
-place_controlled b c (e ∷ h) = place_by c (effect_of b e.call e.reply)
+place_controlled b c (e ∷ h) = place_of_effect c (effect_of b e.call e.reply)
 
 -- where a core is, by the last record that says it
 unfoldable pub place : BoardValue → List Record → ℕ → Place

@@ -6,7 +6,7 @@ ghost use Rattle.psci_fw_model.specs.Legal as answers;
 ghost use Rattle.psci_world_model.specs.declared.event.Event.{Event};
 ghost use Rattle.psci_world_model.specs.declared.said.Record.{Record};
 ghost use Rattle.psci_world_model.specs.Histories.{controller_history, firmware_history};
-ghost use Rattle.psci_world_model.specs.Legal.{IsAnswered, IsLegalPast, run_from};
+ghost use Rattle.psci_world_model.specs.Legal.{IsReplied, IsLegalPast, run_from};
 
 /// To each list of events there is exactly one legal run: what `run_from` gives is legal and has
 /// these events, newest first, and of the same events no other past is legal.
@@ -33,5 +33,5 @@ pub fn law_histories()
     ensures firmware { (b : BoardValue) (past : List Record) → IsLegalPast b past
         → answers.IsLegal b (firmware_history b past) }
     ensures controller { (b : BoardValue) (past : List Record) → IsLegalPast b past
-        → IsAnswered b (controller_history b past) }
+        → IsReplied b (controller_history b past) }
 {}

@@ -3,9 +3,8 @@
 ghost use Rattle.std.specs.Prelude.{◌≡◌};
 
 use crate::event::Event;
-use psci_ctl_model::Start;
 use psci_fw_model::Act;
-use psci_link::{Ack, Message, Taken};
+use psci_link::{Ack, Message, Start, Taken};
 
 /// A message, and how many messages were sent before it.
 #[derive(Drop, Debug, PartialEq)]

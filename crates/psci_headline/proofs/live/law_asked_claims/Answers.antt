@@ -1,6 +1,6 @@
 -- Claims were asked for.
 use Rattle.std.proofs.Common.{subst, sym}
-use Rattle.psci_fw_laws.specs.Claims.{AreApart}
+use Rattle.psci_fw_laws.specs.Claims.{AreRising}
 use Rattle.psci_world_model.specs.Histories.{firmware_history}
 use Rattle.psci_headline.proofs.Asking.{asked}
 use Rattle.psci_headline.proofs.Moments.{were_asked}
@@ -14,6 +14,6 @@ returns c = λ b past board legal life n k p has.
     let apart = c.law_claimed.ensures.apart b (firmware_history b some) board firmware in
     record {
       same = same;
-      apart = subst (AreApart b) (sym same) apart;
+      apart = subst (AreRising b) (sym same) apart;
       asked = c.law_asked.ensures b (firmware_history b some) board firmware;
     }) legal)

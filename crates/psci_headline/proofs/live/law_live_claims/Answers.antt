@@ -1,6 +1,6 @@
 -- Claims are apart.
 use Rattle.std.proofs.Common.{subst, sym}
-use Rattle.psci_fw_laws.specs.Claims.{AreApart}
+use Rattle.psci_fw_laws.specs.Claims.{AreRising}
 use Rattle.psci_world_model.specs.Histories.{firmware_history}
 use Rattle.psci_headline.proofs.Apart.{distinct}
 use Rattle.psci_headline.proofs.live.law_live_claims.Goals as goal
@@ -9,5 +9,5 @@ pub returns : goal.returns
 returns c = λ b past board legal life n j k p q has.
     let firmware = c.law_histories.ensures.firmware b past legal in
     let apart = c.law_claimed.ensures.apart b (firmware_history b past) board firmware in
-    distinct b life n past has (subst (AreApart b) (sym (c.law_sent.ensures b past legal)) apart)
+    distinct b life n past has (subst (AreRising b) (sym (c.law_sent.ensures b past legal)) apart)
     j k p q
