@@ -1,18 +1,18 @@
 //! Reading frames.
 
-ghost use Rattle.std.specs.Prelude.{◌≡◌, ◌≤◌, ◌<◌, ◌^◌, ◌+◌, ◌*◌, Ok, Some, None, true};
+ghost use Rattle.std.specs.Prelude.{◌≡◌, ◌≤◌, ◌<◌, ◌^◌, ◌+◌, ◌*◌, Ok, Some, None};
 ghost use Rattle.std.specs.Prelude.{MatchResult, IfOk, IfErr};
 ghost use Rattle.std.specs.Prelude.{length, drop, slice_index};
 ghost use Rattle.psci_link.specs.declared.frame.Frame.TheVariants as frames;
 ghost use Rattle.psci_link.specs.declared.heading.Heading.TheVariants as headings;
 ghost use Rattle.psci_link.specs.Message.{ArePartsOf, is_climbing, is_falling, most_applied};
-ghost use Rattle.psci_link.specs.Heading.{allows_count, parts_of, IsHeld, HasHeading};
+ghost use Rattle.psci_link.specs.Heading.{parts_of, IsHeld, HasHeading};
 ghost use Rattle.psci_board.specs.Board.{BoardValue};
 ghost use Rattle.std.specs.List.{list_all};
 ghost use Rattle.std.specs.Prelude.{◌==◌, ◌&&◌};
 ghost use Rattle.psci_link.specs.Frame.{spelling, IsFrame, IsOf, is_within, part_in, parts_in};
 ghost use Rattle.psci_link.specs.Frame.{number_at};
-ghost use Rattle.psci_link.specs.Frame.{places_in, count_in, fault_of_kind, is_unused_after};
+ghost use Rattle.psci_link.specs.Frame.{places_in, count_in, fault_of_kind};
 ghost use Rattle.psci_link.specs.Frame.{first_fault, frame_in};
 
 use crate::ack::Ack;
@@ -67,11 +67,20 @@ fn parts_on(board: &Board, heading: Heading, bytes: &[u8]) -> Result<Parts, Fram
     ensures fault { MatchResult result (λ _. fault_of_kind board.now bytes.now heading ≡ None)
         (λ fault. fault_of_kind board.now bytes.now heading ≡ Some fault) }
 {
-    let used = parts_used(heading, bytes)?;
+    let count = bytes[COUNT_AT];
+    if !heading.allows_count(count) {
+        return Err(FrameFault::Count);
+    }
+    let used = heading.parts(count);
+    let (_, places) = bytes.split_at(HEADER_LEN);
+    let (_, unused) = places.split_at(PART_LEN * usize::from(used));
+    if !is_zero(unused) {
+        return Err(FrameFault::Unused);
+    }
     if u16::from(bytes[CORE_AT]) >= board.cores() {
         return Err(FrameFault::Core);
     }
-    let parts = parts_in(used, &bytes[HEADER_LEN..]);
+    let parts = parts_in(used, places);
     let levels = parts.as_slice();
     if !is_falling(3, levels) {
         return Err(FrameFault::Depth);
@@ -80,30 +89,6 @@ fn parts_on(board: &Board, heading: Heading, bytes: &[u8]) -> Result<Parts, Fram
         return Err(FrameFault::Level);
     }
     Ok(parts)
-}
-
-/// How many parts a frame of this kind has, if its count is allowed and all places after them are
-/// zero.
-fn parts_used(heading: Heading, bytes: &[u8]) -> Result<u8, FrameFault>
-    requires { length bytes.now ≡ 53 }
-    ensures used { IfOk result (λ used. (used ≡ parts_of heading (count_in bytes.now))
-        × (used ≤ 4) × (allows_count heading (count_in bytes.now) ≡ true)
-        × (is_unused_after used bytes.now ≡ true)) }
-    ensures fault { IfErr result (λ fault. (b : BoardValue)
-        → fault_of_kind b bytes.now heading ≡ Some fault) }
-{
-    let count = bytes[COUNT_AT];
-    if !heading.allows_count(count) {
-        return Err(FrameFault::Count);
-    }
-    let used = heading.parts(count);
-    let (_, places) = bytes.split_at(HEADER_LEN);
-    let (_, unused) = places.split_at(PART_LEN * usize::from(used));
-    if is_zero(unused) {
-        Ok(used)
-    } else {
-        Err(FrameFault::Unused)
-    }
 }
 
 /// The frame of this kind that the bytes hold, with its parts.
