@@ -28,7 +28,7 @@ use Rattle.psci_fw_model.specs.Claims.{suspend_parts}
 use Rattle.psci_fw_model.specs.CpuOn.{off_target, started, target_among, target_of}
 use Rattle.psci_fw_model.specs.CpuOff.{off_message}
 use Rattle.psci_fw_model.specs.CpuSuspend.{ask_named, sleeps, suspend_asked}
-use Rattle.psci_fw_model.specs.Effects.{Effect, GoesOn, Leaves, Rests, function_effect, going_off}
+use Rattle.psci_fw_model.specs.Effects.{Effect, GoesOn, Stops, Rests, function_effect, going_off}
 use Rattle.psci_fw_model.specs.Effects.{rest_named, rest_of, suspended}
 use Rattle.psci_fw_model.specs.Invariant.{AreValues, IsPhase}
 use Rattle.psci_fw_model.specs.Outcomes.{message_for, returns, stops}
@@ -62,7 +62,7 @@ goes_on b v c is = kept_on b v c (inr is.runs) is.are
 -- what a function comes down to that stops its caller so, or sends nothing
 ended : ℕ → Rest → Act → Option MessageValue → Effect
 ended c rest acts.Stop (Some m) = Rests c rest m
-ended c rest acts.Stop None = Leaves c
+ended c rest acts.Stop None = Stops c
 ended c rest act message = GoesOn c
 
 suspends : (b : BoardValue) (c state entry_point context : ℕ) (act : Act)

@@ -7,7 +7,7 @@ use psci_ctl_model::Start;
 use psci_link::Ack;
 
 /// What is asked of the firmware.
-#[derive(Drop)]
+#[derive(Debug, PartialEq, Drop)]
 pub enum FwCall {
     /// A core makes a secure monitor call with these registers.
     Smc(Regs),
