@@ -12,6 +12,7 @@ FUNCTIONS = {
 }
 # what ends a life, or nearly
 LAST = (fw.CPU_OFF, fw.CPU_OFF, fw.SYSTEM_OFF, fw.SYSTEM_RESET, fw.SYSTEM_RESET, fw.SYSTEM_RESET)
+assert set(fw.SUPPORTED) <= {word for words in (*FUNCTIONS, *LAST) for word in words}, "not drawn"
 # functions that are left out, words of a width that a function lacks, and other services
 OTHERS = (0x84000005, 0x84000007, 0x8400000B, 0x8400000C, 0x8400000D, 0x84000010, 0x84000011,
           0x84000012, 0x84000013, 0x84000014, 0x80000000, 0x04000003, 0xC4000000, 0xC4000002,

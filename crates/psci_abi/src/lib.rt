@@ -12,7 +12,7 @@ mod code;
 mod format;
 mod registers;
 mod request;
-mod words;
+pub mod words;
 
 pub use code::Code;
 pub use format::{Format, features};

@@ -6,7 +6,8 @@ use std::alloc::{AllocError, AllocFailed};
 use thiserror::Error;
 
 /// Memory ran out.
-#[derive(Clone, Copy, Debug, PartialEq, Eq)]
+#[derive(Clone, Copy, Debug, PartialEq, Eq, Error)]
+#[error("out of memory")]
 pub struct Memory;
 
 impl From<AllocError> for Memory {

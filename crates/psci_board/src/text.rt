@@ -1,6 +1,7 @@
 //! A whole board text, as far as a board may have it.
 
-ghost use Rattle.std.specs.Prelude.{◌≡◌, option_map};
+ghost use Rattle.std.specs.Prelude.{◌≡◌, ◌==◌, ◌&&◌, ◌%◌, ◌^◌, ◌-◌, option_map};
+ghost use Rattle.psci_board.specs.Board.{is_in_some};
 ghost use Rattle.psci_board.specs.Reading.{board_text};
 ghost use Rattle.psci_board.specs.Verdict.{is_limit};
 ghost use Rattle.psci_board.specs.SummaryVerdict.{text_summary, fault_in};
@@ -38,17 +39,16 @@ pub fn whole_text(text: &[u8]) -> Option<TextSummary>
     let (boot, rest) = hex(literal(rest, b" boot ")?)?;
     let (starts, rest) = number(literal(rest, b" starts ")?)?;
     let (lives, rest) = number(literal(rest, b" lives ")?)?;
-    if rest.is_empty() {
-        Some(TextSummary {
-            tree,
-            ranges,
-            boot,
-            starts,
-            lives,
-        })
-    } else {
-        None
+    if !rest.is_empty() {
+        return None;
     }
+    Some(TextSummary {
+        tree,
+        ranges,
+        boot,
+        starts,
+        lives,
+    })
 }
 
 /// The first fault of what was read, in the order in which faults are looked for.
@@ -65,15 +65,27 @@ pub fn fault(text: &TextSummary) -> Option<BoardFault>
         Some(BoardFault::TooManyCores)
     } else if text.ranges.is_faulty() {
         Some(BoardFault::BadRange)
-    } else if !(text.boot % 4 == 0 && is_in_some(text.ranges.first(), text.boot)) {
+    } else if !may_boot(text) {
         Some(BoardFault::BadBoot)
-    } else if !(is_limit(u64::from(u32::MAX), text.starts)
-        && is_limit(u64::from(MOST_LIVES), text.lives))
-    {
+    } else if !has_limits(text) {
         Some(BoardFault::BadLimit)
     } else {
         None
     }
+}
+
+/// Whether the boot address may be entered.
+fn may_boot(text: &TextSummary) -> bool
+    ensures { result ≡ (text.now.boot % 4 == 0 && is_in_some text.now.ranges.first text.now.boot) }
+{
+    text.boot % 4 == 0 && is_in_some(text.ranges.first(), text.boot)
+}
+
+/// Whether both limits, of starts and of lives, are in range.
+fn has_limits(text: &TextSummary) -> bool
+    ensures { result ≡ (is_limit (2 ^ 32 - 1) text.now.starts && is_limit MOST_LIVES text.now.lives) }
+{
+    is_limit(u64::from(u32::MAX), text.starts) && is_limit(u64::from(MOST_LIVES), text.lives)
 }
 
 /// Whether a limit of starts or of lives is 1 to `most`.

@@ -58,10 +58,7 @@ pub fn enter(board: &Board, state: &mut State, core: Core, start: Start) -> Outc
     state.begin_life(board, start.life);
     if state.halting() {
         state.arrive_away(board, core, start);
-        return Outcome {
-            act: Act::Stop,
-            message: None,
-        };
+        return Outcome::stops();
     }
     match way_on(state, core, start) {
         Some(act) => {
@@ -90,7 +87,7 @@ fn way_on(state: &State, core: Core, start: Start) -> Option<Act>
 fn resumes(state: &State, core: Core, start: Start) -> bool
     ensures { result ≡ resumes (values_in state.now) core.number start }
 {
-    state.is_light(core)
+    state.is_resumable(core)
         && matches!(start.cause, Cause::Wake)
         && state.known(core).checked_add(1) == Some(start.number)
 }

@@ -14,7 +14,7 @@ ghost use Rattle.psci_fw_state.specs.Seen.{IsStateOf, values_in};
 use crate::laws::law_may_claim;
 use psci_board::{Board, Core};
 use psci_coord::Parts;
-use psci_fw_model::{Act, Outcome, law_stops};
+use psci_fw_model::{Outcome, law_stops};
 use psci_fw_state::State;
 use psci_link::Kind;
 
@@ -46,8 +46,5 @@ pub fn send_down(board: &Board, state: &mut State, core: Core, parts: Parts) -> 
 {
     let message = state.message(board, Kind::Down, core, parts);
     state.claim(board, &message);
-    Outcome {
-        act: Act::Stop,
-        message: Some(message),
-    }
+    Outcome::stops_with(message)
 }

@@ -20,7 +20,7 @@ use crate::suspend::{FORMAT, cpu_suspend};
 use crate::system::{system_off, system_reset, system_suspend};
 use psci_abi::{Code, Request, features};
 use psci_board::{Board, Core};
-use psci_fw_model::{Act, FwFault, Opening, Outcome};
+use psci_fw_model::{FwFault, Opening, Outcome};
 use psci_fw_state::State;
 
 /// PSCI 1.1: the major version in bits 31:16, the minor one in bits 15:0.
@@ -60,10 +60,7 @@ pub fn dispatch(board: &Board, state: &mut State, caller: Core, request: Request
 {
     if state.halting() {
         state.set_away(board, caller);
-        return Outcome {
-            act: Act::Stop,
-            message: None,
-        };
+        return Outcome::stops();
     }
     function(board, state, caller, request)
 }

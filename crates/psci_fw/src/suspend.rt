@@ -42,7 +42,7 @@ pub fn cpu_suspend(
     let Ok(ask) = Ask::read(word, FORMAT, board.height()) else {
         return Outcome::returns(Code::INVALID_PARAMETERS);
     };
-    if is_nowhere(board, ask, opening.address) {
+    if has_invalid_entry(board, ask, opening.address) {
         return Outcome::returns(Code::INVALID_ADDRESS);
     }
     if state.known(caller) == board.start_limit() {
@@ -52,7 +52,7 @@ pub fn cpu_suspend(
 }
 
 /// Whether a core that asks for this would go on at an address that it may not enter.
-fn is_nowhere(board: &Board, ask: Ask, entry_point: u64) -> bool
+fn has_invalid_entry(board: &Board, ask: Ask, entry_point: u64) -> bool
     ensures { result ≡ (is_deep ask && not (may_enter board.now entry_point)) }
 {
     ask.deep() && !board.may_enter(entry_point)

@@ -16,7 +16,7 @@ use crate::suspend::sleep;
 use psci_abi::Code;
 use psci_board::{Board, Core};
 use psci_coord::Parts;
-use psci_fw_model::{Act, Opening, Outcome, Status};
+use psci_fw_model::{Opening, Outcome, Status};
 use psci_fw_state::State;
 use psci_link::Kind;
 use psci_state::Ask;
@@ -84,8 +84,5 @@ fn halt(board: &Board, state: &mut State, caller: Core, kind: Kind) -> Outcome
     let message = state.message(board, kind, caller, Parts::new());
     state.set_away(board, caller);
     state.halt(board, message.copy());
-    Outcome {
-        act: Act::Stop,
-        message: Some(message),
-    }
+    Outcome::stops_with(message)
 }

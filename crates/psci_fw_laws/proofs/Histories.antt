@@ -9,7 +9,7 @@ use Rattle.psci_fw_model.specs.After.{after, change}
 use Rattle.psci_fw_model.specs.Answer.{answer}
 use Rattle.psci_fw_model.specs.Changes.{with_arrival, with_mode, with_phase, with_rest}
 use Rattle.psci_fw_model.specs.Effects.{Effect, Nothing, GoesOn, SetsMode, AsksOn, Rests, Halts}
-use Rattle.psci_fw_model.specs.Effects.{Leaves, Enters, Parks, Ceases, Acknowledges, effect_of}
+use Rattle.psci_fw_model.specs.Effects.{Stops, Enters, Parks, StopsAtOnce, Acknowledges, effect_of}
 use Rattle.psci_fw_model.specs.Entry.{Entry, effect}
 use Rattle.psci_fw_model.specs.History.{values_of}
 use Rattle.psci_fw_model.specs.Invariant.{AreValues}
@@ -75,7 +75,7 @@ after_effect b v messages (Halts c m) laws allowed holds =
     allowed.system
     (rests b v messages c Away laws.paths laws.spans allowed.calls.core allowed.calls.runs
     (λ e. cc) (λ e. cc) holds)
-after_effect b v messages (Leaves c) laws allowed holds =
+after_effect b v messages (Stops c) laws allowed holds =
     rests b v messages c Away laws.paths laws.spans allowed.calls.core allowed.calls.runs (λ e. cc)
     (λ e. cc) holds
 after_effect b v messages (Enters c s) laws allowed holds =
@@ -87,7 +87,7 @@ after_effect b v messages (Parks c s m) laws allowed holds =
     claims b (with_phase c Away w) messages m allowed.claim
     (subst (NoneCurrent b w.life w.known messages) (sym allowed.core) new.none)
     (stays b w messages c Away new (arrives b v messages c s laws.paths allowed.enters holds))
-after_effect b v messages (Ceases c s) laws allowed holds =
+after_effect b v messages (StopsAtOnce c s) laws allowed holds =
     stays b (with_arrival b c s v) messages c Away
     (arrived_new b v messages c s allowed.enters holds)
     (arrives b v messages c s laws.paths allowed.enters holds)

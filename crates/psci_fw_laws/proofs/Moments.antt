@@ -7,7 +7,7 @@ use Rattle.psci_link.specs.declared.kind.Kind.TheVariants.{Down}
 use Rattle.psci_link.specs.Message.{MessageValue}
 use Rattle.psci_fw_model.specs.After.{change}
 use Rattle.psci_fw_model.specs.Effects.{Effect, Nothing, GoesOn, SetsMode, AsksOn, Rests, Halts}
-use Rattle.psci_fw_model.specs.Effects.{Leaves, Enters, Parks, Ceases, Acknowledges}
+use Rattle.psci_fw_model.specs.Effects.{Stops, Enters, Parks, StopsAtOnce, Acknowledges}
 use Rattle.psci_fw_model.specs.Entry.{Entry, effect}
 use Rattle.psci_fw_model.specs.History.{values_of}
 use Rattle.psci_fw_model.specs.Legal.{IsLegal}
@@ -39,7 +39,7 @@ fair_after b v (Halts c n) m allowed e down =
     let same : n ≡ m = cc in
     absurd (not_down n.kind allowed.plain.other
     (ap (λ (x : MessageValue). x.kind) same ∙ down))
-fair_after b v (Leaves c) m allowed e down = absurd (cc)
+fair_after b v (Stops c) m allowed e down = absurd (cc)
 fair_after b v (Enters c s) m allowed e down = absurd (cc)
 fair_after b v (Parks c s n) m allowed e down =
     let same : n ≡ m = cc in
@@ -48,7 +48,7 @@ fair_after b v (Parks c s n) m allowed e down =
       below = allowed.claim.fair.below;
       least = allowed.claim.fair.least;
     })
-fair_after b v (Ceases c s) m allowed e down = absurd (cc)
+fair_after b v (StopsAtOnce c s) m allowed e down = absurd (cc)
 fair_after b v (Acknowledges a) m allowed e down = absurd (cc)
 
 earlier : (b : BoardValue) (e : Entry) (h : List Entry) (m : MessageValue) → WasAsked b h m

@@ -12,7 +12,7 @@ use Rattle.psci_link.specs.declared.start.Start as starts
 use Rattle.psci_fw_model.specs.declared.status.Status.TheVariants.{Off}
 use Rattle.psci_fw_model.specs.Changes.{PowerOn, Rest, target, with_arrival, with_phase, with_rest}
 use Rattle.psci_fw_model.specs.Effects.{Effect, Nothing, GoesOn, SetsMode, AsksOn, Rests, Halts}
-use Rattle.psci_fw_model.specs.Effects.{Leaves, Enters, Parks, Ceases, Acknowledges}
+use Rattle.psci_fw_model.specs.Effects.{Stops, Enters, Parks, StopsAtOnce, Acknowledges}
 use Rattle.psci_fw_model.specs.Entering.{resumes}
 use Rattle.psci_fw_model.specs.Lives.{in_life}
 use Rattle.psci_fw_model.specs.Phases.{Away, Pending, Running, activity_of}
@@ -91,7 +91,7 @@ pub record IsHalting (b : BoardValue) (v : Values) (c : ℕ) (m : MessageValue) 
   pub system : is_system m.kind ≡ true
 
 -- A core that calls in a halting life.
-pub record IsLeaving (b : BoardValue) (v : Values) (c : ℕ) : Type 0 where
+pub record IsStopping (b : BoardValue) (v : Values) (c : ℕ) : Type 0 where
   pub calls : IsCalling b v c
   pub halting : v.halting ≡ true
 
@@ -125,7 +125,7 @@ pub record IsParking (b : BoardValue) (v : Values) (c : ℕ) (s : starts.Start) 
   pub claim : IsNewClaim b (with_phase c Away (with_arrival b c s v)) m
 
 -- A core that enters in a halting life.
-pub record IsCeasing (b : BoardValue) (v : Values) (c : ℕ) (s : starts.Start) : Type 0 where
+pub record IsStoppingAtOnce (b : BoardValue) (v : Values) (c : ℕ) (s : starts.Start) : Type 0 where
   pub enters : IsEntering b v c s
   pub halting : (in_life b s.life v).halting ≡ true
 
@@ -147,8 +147,8 @@ IsAllowed b v (SetsMode c mode) = IsCalling b v c
 IsAllowed b v (AsksOn c asked) = IsAskedOn b v c asked
 IsAllowed b v (Rests c rest m) = IsResting b v c rest m
 IsAllowed b v (Halts c m) = IsHalting b v c m
-IsAllowed b v (Leaves c) = IsLeaving b v c
+IsAllowed b v (Stops c) = IsStopping b v c
 IsAllowed b v (Enters c s) = IsGoingOn b v c s
 IsAllowed b v (Parks c s m) = IsParking b v c s m
-IsAllowed b v (Ceases c s) = IsCeasing b v c s
+IsAllowed b v (StopsAtOnce c s) = IsStoppingAtOnce b v c s
 IsAllowed b v (Acknowledges a) = IsAwaited v a

@@ -8,7 +8,7 @@ use Rattle.std.proofs.Common.{slice_get}
 use Rattle.psci_fw_model.specs.After.{change}
 use Rattle.psci_fw_model.specs.Changes.{target}
 use Rattle.psci_fw_model.specs.Effects.{Effect, AsksOn, Rests}
-use Rattle.psci_fw_model.specs.Effects.{Enters, Parks, Ceases}
+use Rattle.psci_fw_model.specs.Effects.{Enters, Parks, StopsAtOnce}
 use Rattle.psci_fw_model.specs.Entry.{Entry}
 use Rattle.psci_fw_model.specs.History.{begins, granted, life, says_granted, values_of}
 use Rattle.psci_link.specs.OnlyIf.{only_if}
@@ -73,6 +73,6 @@ module _ (b : BoardValue) (h : List Entry) where
       claims_after claimed on p (last level place (s.life == life b h))
       ∙ ap (λ (depth : ℕ). cond claimed (claimed_or p (cond on 0 depth)) (cond on 0 depth))
       (found_granted s.life (s.life == life b h) level place)
-  granted_more (Ceases c s) level place =
+  granted_more (StopsAtOnce c s) level place =
       enters s.life (s.life == life b h) (is_path_place b c level place) level place
   granted_more f level place = refl

@@ -12,11 +12,11 @@ use Rattle.psci_fw_model.specs.declared.reply.FwReply.{FwReply}
 use Rattle.psci_fw_model.specs.declared.reply.FwReply.TheVariants.{Out}
 use Rattle.psci_link.specs.declared.start.Cause.TheVariants as causes
 use Rattle.psci_link.specs.declared.start.Start.{Start}
-use Rattle.psci_fw_model.specs.Effects.{Acknowledges, AsksOn, Ceases, Effect, Enters, GoesOn, Halts}
-use Rattle.psci_fw_model.specs.Effects.{Leaves, Nothing, Parks, Rests, SetsMode, effect_of}
+use Rattle.psci_fw_model.specs.Effects.{Acknowledges, AsksOn, StopsAtOnce, Effect, Enters, GoesOn, Halts}
+use Rattle.psci_fw_model.specs.Effects.{Stops, Nothing, Parks, Rests, SetsMode, effect_of}
 use Rattle.psci_fw_model.specs.Lives.{start_of_life}
 use Rattle.psci_fw_model.specs.Outcomes.{executes_on}
-use Rattle.psci_fw_model.specs.Phases.{Away, Phase, Running, Suspended, is_away, is_light}
+use Rattle.psci_fw_model.specs.Phases.{Away, Phase, Running, Suspended, is_away, is_resumable}
 use Rattle.psci_fw_model.specs.Phases.{is_running, is_waiting, unless_pending}
 use Rattle.psci_fw_model.specs.Phases as phases
 use Rattle.psci_fw_model.specs.Said.{sent}
@@ -82,7 +82,7 @@ accepted_system_suspend = refl
 
 -- CPU_OFF; in a halting life nothing is sent
 accepted_off : map (effect_with (off 0)) (stops 0 1 1 (part 0 3 1 ∷ []) ∷ stops_still ∷ [])
-    ≡ Rests 0 (record { phase = Away; opening = None }) down ∷ Leaves 0 ∷ []
+    ≡ Rests 0 (record { phase = Away; opening = None }) down ∷ Stops 0 ∷ []
 accepted_off = refl
 
 -- SYSTEM_OFF and SYSTEM_RESET; in a halting life nothing is sent
@@ -90,7 +90,7 @@ accepted_halts :
     effect_with (system_off 0) (stops_by kinds.Off 0 1 1 [])
     ∷ effect_with (system_reset 3) (stops_by kinds.Reset 3 1 2 [])
     ∷ effect_with (system_reset 3) stops_still ∷ []
-    ≡ Halts 0 (message kinds.Off 0 1 1 []) ∷ Halts 3 (message kinds.Reset 3 1 2 []) ∷ Leaves 3 ∷ []
+    ≡ Halts 0 (message kinds.Off 0 1 1 []) ∷ Halts 3 (message kinds.Reset 3 1 2 []) ∷ Stops 3 ∷ []
 accepted_halts = refl
 
 -- a mode is set where the function succeeds, and its number is that of a mode
@@ -98,7 +98,7 @@ accepted_modes :
     map (effect_with (set_mode 0 1)) (value 0 ∷ error 3 ∷ stops_still ∷ [])
     ++ (effect_with (set_mode 0 0) (value 0) ∷ effect_with (set_mode 0 2) (value 0)
     ∷ effect_with (set_mode 0 2) (error 2) ∷ effect_with (version 0) (value 0) ∷ [])
-    ≡ SetsMode 0 OsInitiated ∷ GoesOn 0 ∷ Leaves 0 ∷ SetsMode 0 Platform ∷ GoesOn 0 ∷ GoesOn 0
+    ≡ SetsMode 0 OsInitiated ∷ GoesOn 0 ∷ Stops 0 ∷ SetsMode 0 Platform ∷ GoesOn 0 ∷ GoesOn 0
     ∷ GoesOn 0 ∷ []
 accepted_modes = refl
 
@@ -111,7 +111,7 @@ woken = record { life = 2; number = 5; cause = causes.Wake }
 entries : map (effect_with (enter_wake 3 2 5))
     (goes_to 0x40001000 7 ∷ resumes ∷ stops 0 1 1 (part 0 3 1 ∷ []) ∷ stops_still
     ∷ refused OldStart ∷ [])
-    ≡ Enters 3 woken ∷ Enters 3 woken ∷ Parks 3 woken down ∷ Ceases 3 woken ∷ Nothing ∷ []
+    ≡ Enters 3 woken ∷ Enters 3 woken ∷ Parks 3 woken down ∷ StopsAtOnce 3 woken ∷ Nothing ∷ []
 entries = refl
 
 -- an acknowledgement counts where it was used
@@ -141,7 +141,7 @@ functions_otherwise :
     ∷ map (effect_with on_3) (resumes ∷ goes_to 0x40001000 7 ∷ ends acts.Resume (Some down)
     ∷ stops 0 1 1 (part 0 3 1 ∷ []) ∷ stops_still ∷ [])
     ≡ GoesOn 0 ∷ GoesOn 0 ∷ GoesOn 0 ∷ GoesOn 0
-    ∷ Rests 0 (record { phase = Away; opening = None }) down ∷ Leaves 0 ∷ []
+    ∷ Rests 0 (record { phase = Away; opening = None }) down ∷ Stops 0 ∷ []
 functions_otherwise = refl
 
 -- a word that is no power state suspends none, and its caller goes off
@@ -179,7 +179,7 @@ waiting : map is_waiting all_phases ≡ true ∷ false ∷ true ∷ true ∷ tru
 waiting = refl
 
 -- which can resume
-light : map is_light all_phases ≡ false ∷ false ∷ true ∷ true ∷ false ∷ false ∷ []
+light : map is_resumable all_phases ≡ false ∷ false ∷ true ∷ true ∷ false ∷ false ∷ []
 light = refl
 
 -- a core that is pending stays so, whatever its outcome

@@ -8,7 +8,7 @@ use Rattle.psci_fw_model.specs.declared.opening.Opening.{Opening}
 use Rattle.psci_fw_model.specs.After.{change}
 use Rattle.psci_fw_model.specs.Changes.{target}
 use Rattle.psci_fw_model.specs.Effects.{Effect, AsksOn, Rests}
-use Rattle.psci_fw_model.specs.Effects.{Enters, Parks, Ceases}
+use Rattle.psci_fw_model.specs.Effects.{Enters, Parks, StopsAtOnce}
 use Rattle.psci_fw_model.specs.Entry.{Entry}
 use Rattle.psci_fw_model.specs.History.{begins, life, opening, says_opening, values_of}
 use Rattle.psci_link.specs.OnlyIf.{only_if}
@@ -49,5 +49,5 @@ module _ (b : BoardValue) (h : List Entry) where
   opening_more (Rests c rest m) k = rests c k rest.opening (k == c) refl
   opening_more (Enters c s) k = enters s.life c (s.life == life b h) k
   opening_more (Parks c s m) k = enters s.life c (s.life == life b h) k
-  opening_more (Ceases c s) k = enters s.life c (s.life == life b h) k
+  opening_more (StopsAtOnce c s) k = enters s.life c (s.life == life b h) k
   opening_more f k = refl

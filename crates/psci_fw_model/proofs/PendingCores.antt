@@ -12,7 +12,7 @@ use Rattle.psci_fw_model.specs.declared.status.Status.TheVariants as statuses
 use Rattle.psci_fw_model.specs.AffinityInfo as affinity
 use Rattle.psci_fw_model.specs.Changes.{target}
 use Rattle.psci_fw_model.specs.Effects.{Effect, AsksOn}
-use Rattle.psci_fw_model.specs.Effects.{Enters, Parks, Ceases, Acknowledges}
+use Rattle.psci_fw_model.specs.Effects.{Enters, Parks, StopsAtOnce, Acknowledges}
 use Rattle.psci_fw_model.specs.Entry.{Entry, effect}
 use Rattle.psci_fw_model.specs.History.{begins, is_gone, is_pending, life, phase}
 use Rattle.psci_link.specs.OnlyIf.{only_if}
@@ -82,8 +82,8 @@ module _ (b : BoardValue) where
       (begun_agree (begins (life b h) (arrived (Enters core s))) (c == 0) _ _ e)
   more_agree c h (Parks core s m) e =
       begun_agree (begins (life b h) (arrived (Parks core s m))) (c == 0) _ _ e
-  more_agree c h (Ceases core s) e =
-      begun_agree (begins (life b h) (arrived (Ceases core s))) (c == 0) _ _ e
+  more_agree c h (StopsAtOnce core s) e =
+      begun_agree (begins (life b h) (arrived (StopsAtOnce core s))) (c == 0) _ _ e
   more_agree c h (Acknowledges a) e =
       gone_agree (is_gone b c h a) _ _ (gone_away c h a) e
   more_agree c h f e = e

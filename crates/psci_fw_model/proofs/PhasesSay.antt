@@ -7,7 +7,7 @@ use Rattle.psci_board.specs.Board.{BoardValue}
 use Rattle.psci_fw_model.specs.After.{change}
 use Rattle.psci_fw_model.specs.Changes.{target}
 use Rattle.psci_fw_model.specs.Effects.{Effect, GoesOn, SetsMode, AsksOn, Rests, Halts}
-use Rattle.psci_fw_model.specs.Effects.{Leaves, Enters, Parks, Ceases}
+use Rattle.psci_fw_model.specs.Effects.{Stops, Enters, Parks, StopsAtOnce}
 use Rattle.psci_fw_model.specs.Entry.{Entry}
 use Rattle.psci_fw_model.specs.History.{begins, is_pending, life, phase_left, says_left}
 use Rattle.psci_link.specs.OnlyIf.{only_if}
@@ -114,8 +114,8 @@ module _ (b : BoardValue) (h : List Entry) where
       (k == target asked) refl refl
   phase_more (Rests c rest m) k = left_so c k rest.phase
   phase_more (Halts c m) k = left_so c k Away
-  phase_more (Leaves c) k = left_so c k Away
+  phase_more (Stops c) k = left_so c k Away
   phase_more (Enters c s) k = enters s.life c k (s.life == life b h)
   phase_more (Parks c s m) k = stops s.life c k (s.life == life b h)
-  phase_more (Ceases c s) k = stops s.life c k (s.life == life b h)
+  phase_more (StopsAtOnce c s) k = stops s.life c k (s.life == life b h)
   phase_more f k = refl

@@ -8,7 +8,7 @@ use Rattle.psci_fw_model.specs.declared.mode.SuspendMode.TheVariants.{Platform}
 use Rattle.psci_link.specs.declared.start.Start.{Start}
 use Rattle.psci_fw_model.specs.After.{change}
 use Rattle.psci_fw_model.specs.Effects.{Effect}
-use Rattle.psci_fw_model.specs.Effects.{Enters, Parks, Ceases}
+use Rattle.psci_fw_model.specs.Effects.{Enters, Parks, StopsAtOnce}
 use Rattle.psci_fw_model.specs.Entry.{Entry}
 use Rattle.psci_fw_model.specs.History.{begins, halting, known, life, life_after, mode}
 use Rattle.psci_link.specs.OnlyIf.{only_if}
@@ -46,7 +46,7 @@ module _ (b : BoardValue) (h : List Entry) where
   unfolding values_of
   life_more (Enters c s) = found_life s.life (s.life == life b h) refl
   life_more (Parks c s m) = found_life s.life (s.life == life b h) refl
-  life_more (Ceases c s) = found_life s.life (s.life == life b h) refl
+  life_more (StopsAtOnce c s) = found_life s.life (s.life == life b h) refl
   life_more f = refl
 
   found_halting : (now : ℕ) (t : Bool)
@@ -61,7 +61,7 @@ module _ (b : BoardValue) (h : List Entry) where
   unfolding values_of
   halting_more (Enters c s) = found_halting s.life (s.life == life b h)
   halting_more (Parks c s m) = found_halting s.life (s.life == life b h)
-  halting_more (Ceases c s) = found_halting s.life (s.life == life b h)
+  halting_more (StopsAtOnce c s) = found_halting s.life (s.life == life b h)
   halting_more f = refl
 
   found_mode : (now : ℕ) (t : Bool) → cond (not t) Platform (mode b h) ≡ (found b h now t).mode
@@ -75,7 +75,7 @@ module _ (b : BoardValue) (h : List Entry) where
   unfolding values_of
   mode_more (Enters c s) = found_mode s.life (s.life == life b h)
   mode_more (Parks c s m) = found_mode s.life (s.life == life b h)
-  mode_more (Ceases c s) = found_mode s.life (s.life == life b h)
+  mode_more (StopsAtOnce c s) = found_mode s.life (s.life == life b h)
   mode_more f = refl
 
   found_known : (now : ℕ) (t : Bool) (k : ℕ)
@@ -96,5 +96,5 @@ module _ (b : BoardValue) (h : List Entry) where
   unfolding values_of
   known_more (Enters c s) k = enters_known c s k (s.life == life b h)
   known_more (Parks c s m) k = enters_known c s k (s.life == life b h)
-  known_more (Ceases c s) k = enters_known c s k (s.life == life b h)
+  known_more (StopsAtOnce c s) k = enters_known c s k (s.life == life b h)
   known_more f k = refl

@@ -7,7 +7,7 @@ use Rattle.psci_link.specs.Slots.{Change, Clear, ClearAll, Put, Slot, changed}
 use Rattle.psci_link.specs.declared.start.Start.{Start}
 use Rattle.psci_fw_model.specs.After.{change}
 use Rattle.psci_fw_model.specs.Effects.{Effect, AsksOn, Rests, Halts}
-use Rattle.psci_fw_model.specs.Effects.{Enters, Parks, Ceases, Acknowledges}
+use Rattle.psci_fw_model.specs.Effects.{Enters, Parks, StopsAtOnce, Acknowledges}
 use Rattle.psci_fw_model.specs.Entry.{Entry}
 use Rattle.psci_fw_model.specs.History.{begins, changes, life, values_of}
 use Rattle.psci_fw_model.specs.Said.{arrival_changes, arrived, slot_changes}
@@ -45,6 +45,6 @@ module _ (one : IsOneMore) (b : BoardValue) (h : List Entry) where
   outstanding_more (Enters c s) slot = arrives c s slot (s.life == life b h)
   outstanding_more (Parks c s m) slot =
       one slot (Put m) _ ∙ ap (changed slot (Put m)) (arrives c s slot (s.life == life b h))
-  outstanding_more (Ceases c s) slot = arrives c s slot (s.life == life b h)
+  outstanding_more (StopsAtOnce c s) slot = arrives c s slot (s.life == life b h)
   outstanding_more (Acknowledges a) slot = one slot _ before
   outstanding_more f slot = refl

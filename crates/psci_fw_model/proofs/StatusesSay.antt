@@ -10,7 +10,7 @@ use Rattle.psci_fw_model.specs.declared.status.Status.TheVariants as statuses
 use Rattle.psci_fw_model.specs.After.{change}
 use Rattle.psci_fw_model.specs.Changes.{target}
 use Rattle.psci_fw_model.specs.Effects.{Effect, AsksOn}
-use Rattle.psci_fw_model.specs.Effects.{Enters, Parks, Ceases, Acknowledges}
+use Rattle.psci_fw_model.specs.Effects.{Enters, Parks, StopsAtOnce, Acknowledges}
 use Rattle.psci_fw_model.specs.Entry.{Entry}
 use Rattle.psci_fw_model.specs.History.{begins, life, phase, says_status, status}
 use Rattle.psci_link.specs.OnlyIf.{only_if}
@@ -57,7 +57,7 @@ module _ (b : BoardValue) (h : List Entry) where
       said_or (k == target asked) statuses.Pending (status b h k)
   status_more (Enters c s) k = enters s.life c (s.life == life b h) k
   status_more (Parks c s m) k = found_status s.life (s.life == life b h) k
-  status_more (Ceases c s) k = found_status s.life (s.life == life b h) k
+  status_more (StopsAtOnce c s) k = found_status s.life (s.life == life b h) k
   status_more (Acknowledges a) k =
       goes a.core.number k (is_kind a.kind Down && nat_lt 0 a.applied) (k == a.core.number) refl
   status_more f k = refl

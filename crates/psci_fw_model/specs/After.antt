@@ -7,7 +7,7 @@ use Rattle.psci_fw_model.specs.Changes.{with_acknowledgement, with_arrival, with
 use Rattle.psci_fw_model.specs.Changes.{with_mode, with_pending, with_phase, with_rest}
 use Rattle.psci_fw_model.specs.Changes.{with_running}
 use Rattle.psci_fw_model.specs.Effects.{Effect, Nothing, GoesOn, SetsMode, AsksOn, Rests, Halts}
-use Rattle.psci_fw_model.specs.Effects.{Leaves, Enters, Parks, Ceases, Acknowledges, effect_of}
+use Rattle.psci_fw_model.specs.Effects.{Stops, Enters, Parks, StopsAtOnce, Acknowledges, effect_of}
 use Rattle.psci_fw_model.specs.Phases.{Running, Away}
 use Rattle.psci_fw_model.specs.Values.{Values}
 
@@ -19,10 +19,10 @@ change b (SetsMode c mode) v = with_phase c Running (with_mode mode v)
 change b (AsksOn c asked) v = with_phase c Running (with_pending b asked v)
 change b (Rests c rest m) v = with_claim b m (with_rest c rest v)
 change b (Halts c m) v = with_halt m (with_phase c Away v)
-change b (Leaves c) v = with_phase c Away v
+change b (Stops c) v = with_phase c Away v
 change b (Enters c s) v = with_running c (with_arrival b c s v)
 change b (Parks c s m) v = with_claim b m (with_phase c Away (with_arrival b c s v))
-change b (Ceases c s) v = with_phase c Away (with_arrival b c s v)
+change b (StopsAtOnce c s) v = with_phase c Away (with_arrival b c s v)
 change b (Acknowledges a) v = with_acknowledgement a v
 
 -- what is kept after a call with this reply

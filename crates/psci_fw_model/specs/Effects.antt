@@ -41,13 +41,13 @@ pub data Effect : Type 0 where
   -- a SYSTEM_OFF or SYSTEM_RESET stopped its caller, with this message
   Halts : (core : ℕ) (message : MessageValue) → Effect
   -- a function stopped its caller, and nothing was sent: the life is halting
-  Leaves : (core : ℕ) → Effect
+  Stops : (core : ℕ) → Effect
   -- a core entered, and goes on
   Enters : (core : ℕ) (start : Start) → Effect
   -- a core entered, and stopped with this Down
   Parks : (core : ℕ) (start : Start) (message : MessageValue) → Effect
   -- a core entered and stopped, and nothing was sent: the life is halting
-  Ceases : (core : ℕ) (start : Start) → Effect
+  StopsAtOnce : (core : ℕ) (start : Start) → Effect
   -- an acknowledgement of an outstanding message was taken
   Acknowledges : (ack : AckValue) → Effect
 
@@ -105,7 +105,7 @@ sent_effect c request m = GoesOn c
 -- what a function comes down to, by how it ended
 abbrev pub function_effect : BoardValue → ℕ → Request → Act → Option MessageValue → Effect
 function_effect b c request acts.Stop (Some m) = stop_effect b c request m
-function_effect b c request acts.Stop None = Leaves c
+function_effect b c request acts.Stop None = Stops c
 function_effect b c request (acts.Return code) (Some m) = sent_effect c request m
 function_effect b c request (acts.Return code) None = return_effect c request code
 function_effect b c request act message = GoesOn c
@@ -115,7 +115,7 @@ function_effect b c request act message = GoesOn c
 -- what a core that entered comes down to
 abbrev pub enter_effect : ℕ → Start → Act → Option MessageValue → Effect
 enter_effect c s acts.Stop (Some m) = Parks c s m
-enter_effect c s acts.Stop None = Ceases c s
+enter_effect c s acts.Stop None = StopsAtOnce c s
 enter_effect c s act message = Enters c s
 
 -- what a call with this reply comes down to

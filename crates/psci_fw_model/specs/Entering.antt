@@ -14,7 +14,7 @@ use Rattle.psci_fw_model.specs.Changes.{with_arrival}
 use Rattle.psci_fw_model.specs.CpuOff.{off_message}
 use Rattle.psci_fw_model.specs.Lives.{in_life}
 use Rattle.psci_fw_model.specs.Outcomes.{stops, stops_with}
-use Rattle.psci_fw_model.specs.Phases.{is_light}
+use Rattle.psci_fw_model.specs.Phases.{is_resumable}
 use Rattle.psci_fw_model.specs.Values.{Values}
 
 -- a start that is over or cannot be: it is of an earlier life, its number is 0 or above the start
@@ -41,7 +41,7 @@ is_wake Reset = false
 -- A suspended core resumes where it stopped in standby or retention and was woken by the very next
 -- start: after another one it has lost its registers.
 abbrev pub resumes : Values → ℕ → Start → Bool
-resumes v c s = is_light (v.phase c) && (is_wake s.cause && s.number == v.known c + 1)
+resumes v c s = is_resumable (v.phase c) && (is_wake s.cause && s.number == v.known c + 1)
 
 -- what a core does that has entered and is asked for nowhere: it goes on after its suspend, or it
 -- parks

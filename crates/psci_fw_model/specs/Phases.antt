@@ -38,11 +38,11 @@ is_waiting (Suspended ask) = true
 is_waiting Away = false
 
 -- whether a core of this phase is suspended in standby or retention, so that it can resume
-abbrev pub is_light : Phase → Bool
-is_light Pending = false
-is_light Running = false
-is_light (Suspended ask) = not (is_deep ask)
-is_light Away = false
+abbrev pub is_resumable : Phase → Bool
+is_resumable Pending = false
+is_resumable Running = false
+is_resumable (Suspended ask) = not (is_deep ask)
+is_resumable Away = false
 
 -- what an outcome leaves of a phase: a core that is pending stays so until it goes on
 abbrev pub unless_pending : Phase → Phase → Phase

@@ -6,7 +6,7 @@ use Rattle.psci_link.specs.Slots.{Change, Put, Clear, ClearAll, Acknowledge}
 use Rattle.psci_link.specs.declared.start.Start.{Start}
 use Rattle.psci_fw_model.specs.Changes.{PowerOn}
 use Rattle.psci_fw_model.specs.Effects.{Effect, Nothing, GoesOn, SetsMode, AsksOn, Rests, Halts}
-use Rattle.psci_fw_model.specs.Effects.{Leaves, Enters, Parks, Ceases, Acknowledges}
+use Rattle.psci_fw_model.specs.Effects.{Stops, Enters, Parks, StopsAtOnce, Acknowledges}
 use Rattle.psci_fw_model.specs.Phases.{Phase}
 use Rattle.psci_fw_model.specs.Phases.{Running, Away}
 
@@ -19,7 +19,7 @@ pub record Arrival : Type 0 where
 abbrev pub arrived : Effect → Option Arrival
 arrived (Enters c s) = Some (record { core = c; start = s })
 arrived (Parks c s m) = Some (record { core = c; start = s })
-arrived (Ceases c s) = Some (record { core = c; start = s })
+arrived (StopsAtOnce c s) = Some (record { core = c; start = s })
 arrived e = None
 
 -- the core that entered and goes on, if one did
@@ -59,10 +59,10 @@ left (SetsMode c mode) = Some (record { core = c; phase = Running })
 left (AsksOn c asked) = Some (record { core = c; phase = Running })
 left (Rests c rest m) = Some (record { core = c; phase = rest.phase })
 left (Halts c m) = Some (record { core = c; phase = Away })
-left (Leaves c) = Some (record { core = c; phase = Away })
+left (Stops c) = Some (record { core = c; phase = Away })
 left (Enters c s) = Some (record { core = c; phase = Running })
 left (Parks c s m) = Some (record { core = c; phase = Away })
-left (Ceases c s) = Some (record { core = c; phase = Away })
+left (StopsAtOnce c s) = Some (record { core = c; phase = Away })
 left (Acknowledges a) = None
 
 -- Slots ---------------------------------------------------------------------------------------

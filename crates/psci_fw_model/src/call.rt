@@ -6,7 +6,7 @@ use psci_abi::Regs;
 use psci_link::{Ack, Start};
 
 /// What is asked of the firmware.
-#[derive(Drop)]
+#[derive(Debug, PartialEq, Drop)]
 pub enum FwCall {
     /// A core makes a secure monitor call with these registers.
     Smc(Regs),

@@ -1,7 +1,7 @@
 //! How a call ends.
 
 ghost use Rattle.std.specs.Prelude.{◌≡◌};
-ghost use Rattle.psci_fw_model.specs.Outcomes.{returns};
+ghost use Rattle.psci_fw_model.specs.Outcomes.{returns, stops, stops_with};
 
 use psci_abi::Code;
 use psci_link::Message;
@@ -41,6 +41,26 @@ impl Outcome {
         Outcome {
             act: Act::Return(code),
             message: None,
+        }
+    }
+
+    /// The core stops, and nothing is sent.
+    pub fn stops() -> Outcome
+        ensures { result ≡ stops }
+    {
+        Outcome {
+            act: Act::Stop,
+            message: None,
+        }
+    }
+
+    /// The core stops, and this is sent.
+    pub fn stops_with(message: Message) -> Outcome
+        ensures { result ≡ stops_with message }
+    {
+        Outcome {
+            act: Act::Stop,
+            message: Some(message),
         }
     }
 

@@ -7,7 +7,7 @@ use crate::outcome::Outcome;
 use psci_link::Taken;
 
 /// What the firmware replies.
-#[derive(Drop)]
+#[derive(Debug, PartialEq, Drop)]
 pub enum FwReply {
     /// A call or an entry was carried out.
     Out(Outcome),

@@ -49,7 +49,6 @@ impl State {
         law_cores();
         law_granted();
         law_slots();
-        let _cores = board.cores();
         self.tree.set_start(core, start.number);
         let row = CoreRow {
             status: Status::On,
@@ -71,7 +70,6 @@ impl State {
         ensures state { IsStateOf board.now self.new }
     {
         law_slots();
-        let _cores = board.cores();
         let pending = self.is_pending(core);
         stop(&mut self.tree, core, start.number, pending);
         let row = CoreRow {

@@ -32,7 +32,6 @@ impl State {
     {
         law_cores();
         law_granted();
-        let _cores = board.cores();
         if !self.is_pending(core) {
             self.tree.set_off(core);
         }
@@ -50,7 +49,6 @@ impl State {
     {
         law_cores();
         law_granted();
-        let _cores = board.cores();
         self.tree.set_ask(core, ask);
         if ask.deep() {
             let row = CoreRow {
@@ -75,7 +73,6 @@ impl State {
         law_cores();
         law_granted();
         law_slots();
-        let _cores = board.cores();
         let target = message.core;
         self.tree.set_pending(target);
         let row = CoreRow {
@@ -93,7 +90,6 @@ impl State {
         ensures after { values_in self.new ≡ with_mode mode (values_in self.old) }
         ensures state { IsStateOf board.now self.new }
     {
-        let _cores = board.cores();
         self.mode = mode;
     }
 
@@ -106,7 +102,6 @@ impl State {
         ensures state { IsStateOf board.now self.new }
     {
         law_slots();
-        let _cores = board.cores();
         self.halting = true;
         self.slots.put(message);
     }
@@ -123,7 +118,6 @@ impl State {
         ensures state { IsStateOf board.now self.new }
     {
         law_slots();
-        let _cores = board.cores();
         let core = ack.core;
         let is_off = self.turns_off(&ack);
         let taken = self.slots.take_ack(ack);

@@ -20,7 +20,7 @@ ghost use Rattle.psci_fw_state.specs.Seen.{IsStateOf, values_in};
 use crate::state::State;
 use psci_board::{Board, Core, law_paths, law_sizes};
 use psci_coord::{Osi, Part, Parts, claims};
-use psci_fw_model::{Act, Opening, Outcome, SuspendMode};
+use psci_fw_model::{Opening, SuspendMode};
 use psci_link::{Kind, Message, law_parts, law_slots};
 use psci_osi::{check, off_parts};
 use psci_state::Ask;
@@ -114,6 +114,7 @@ impl State {
         ensures { result ≡ message_for (values_in self.now) kind core.number parts }
     {
         law_sizes();
+        // The call gives the proof the limit on the cores of a board, within which messages are.
         let _cores = board.cores();
         Message {
             kind,
@@ -138,7 +139,6 @@ impl State {
     {
         law_slots();
         law_granted();
-        let _cores = board.cores();
         grant_parts(
             &mut self.tree,
             board,

@@ -49,7 +49,7 @@ impl Model for State {
 
 ghost use Rattle.std.specs.Prelude.{◌≡◌, IfOk, option_map};
 ghost use Rattle.psci_fw_model.specs.Lives.{start_of_life};
-ghost use Rattle.psci_fw_model.specs.Phases.{is_away, is_light, is_running, is_waiting};
+ghost use Rattle.psci_fw_model.specs.Phases.{is_away, is_resumable, is_running, is_waiting};
 ghost use Rattle.psci_fw_state.specs.Seen.{IsStateOf, is_pending_phase, message_shown, values_in};
 
 impl State {
@@ -187,8 +187,8 @@ impl State {
 
     /// Whether a core is suspended in standby or retention.
     #[tactic(auto, unfolding(crate::specs::Seen::values_in))]
-    pub fn is_light(&self, core: Core) -> bool
-        ensures { result ≡ is_light ((values_in self.now).phase core.number) }
+    pub fn is_resumable(&self, core: Core) -> bool
+        ensures { result ≡ is_resumable ((values_in self.now).phase core.number) }
     {
         match self.tree.activity(core) {
             Activity::Suspended(ask) => !ask.deep(),

@@ -43,7 +43,7 @@ fn boot_core_arrives(rt: HostRuntime) -> Result<(), Fail> {
     state.arrive_running(&board, BOOT, FIRST);
     assert_eq!(rt; state.known(BOOT), 1);
     assert!(rt; state.is_running(BOOT));
-    assert!(rt; !state.is_light(BOOT));
+    assert!(rt; !state.is_resumable(BOOT));
     assert!(rt; state.opening(BOOT).is_none());
     assert_eq!(rt; state.node_status(&board, SYSTEM), Status::On);
     assert_eq!(rt; state.node_status(&board, CLUSTER), Status::Off);

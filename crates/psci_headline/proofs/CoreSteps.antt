@@ -13,7 +13,7 @@ use Rattle.psci_fw_model.specs.declared.status.Status.TheVariants as statuses
 use Rattle.psci_fw_model.specs.After.{change}
 use Rattle.psci_fw_model.specs.Changes.{target, turns_off}
 use Rattle.psci_fw_model.specs.Effects.{Effect, Nothing, GoesOn, SetsMode, AsksOn, Rests, Halts}
-use Rattle.psci_fw_model.specs.Effects.{Leaves, Enters, Parks, Ceases, Acknowledges}
+use Rattle.psci_fw_model.specs.Effects.{Stops, Enters, Parks, StopsAtOnce, Acknowledges}
 use Rattle.psci_fw_model.specs.Lives.{first_status, in_life, start_of_life}
 use Rattle.psci_fw_model.specs.Phases.{Phase, Away, Pending, Running, Suspended, is_away}
 use Rattle.psci_fw_model.specs.Said.{Arrival, arrived}
@@ -226,8 +226,8 @@ step b v c (Rests d rest m) allowed =
     refl
 step b v c (Halts d m) allowed =
     called v (change b (Halts d m) v) c d (Halts d m) _ allowed.calls.runs refl refl refl refl
-step b v c (Leaves d) allowed =
-    called v (change b (Leaves d) v) c d (Leaves d) _ allowed.calls.runs refl refl refl refl
+step b v c (Stops d) allowed =
+    called v (change b (Stops d) v) c d (Stops d) _ allowed.calls.runs refl refl refl refl
 step b v c (Enters d s) allowed =
     let found : Values = in_life b s.life v in
     enters b v (change b (Enters d s) v) c d s (Enters d s) allowed.enters
@@ -251,9 +251,9 @@ step b v c (Parks d s m) allowed =
           (λ here. absurd (ne here)) (λ there. refl);
       status = λ e. e;
     })
-step b v c (Ceases d s) allowed =
+step b v c (StopsAtOnce d s) allowed =
     let found : Values = in_life b s.life v in
-    enters b v (change b (Ceases d s) v) c d s (Ceases d s) allowed.enters
+    enters b v (change b (StopsAtOnce d s) v) c d s (StopsAtOnce d s) allowed.enters
     (record { arrival = record { core = d; start = s }; is = refl; new = refl })
     (record {
       life = refl;

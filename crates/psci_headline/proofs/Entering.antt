@@ -21,7 +21,7 @@ use Rattle.psci_fw_model.specs.Answer.{answer, reply_or}
 use Rattle.psci_fw_model.specs.Changes.{with_arrival}
 use Rattle.psci_fw_model.specs.CpuOff.{off_message}
 use Rattle.psci_fw_model.specs.Effects.{Effect, Nothing, GoesOn, SetsMode, AsksOn, Rests, Halts}
-use Rattle.psci_fw_model.specs.Effects.{Leaves, Enters, Parks, Ceases, Acknowledges, effect_of}
+use Rattle.psci_fw_model.specs.Effects.{Stops, Enters, Parks, StopsAtOnce, Acknowledges, effect_of}
 use Rattle.psci_fw_model.specs.Effects.{enter_effect}
 use Rattle.psci_fw_model.specs.Entering.{enter_fault, enter_outcome, outcome_at, resumes}
 use Rattle.psci_fw_model.specs.Entry.{Entry, effect}
@@ -176,12 +176,12 @@ module _ (b : BoardValue) (n : ℕ) (v : Values) (made : List Made) (taken : Lis
   leaves (Rests c rest m) allowed = rested c rest.opening
   leaves (Enters c s) allowed = arrives c s allowed.enters.life
   leaves (Parks c s m) allowed = arrives c s allowed.enters.life
-  leaves (Ceases c s) allowed = arrives c s allowed.enters.life
+  leaves (StopsAtOnce c s) allowed = arrives c s allowed.enters.life
   leaves Nothing allowed = one_more n v.life v.opening made taken are
   leaves (GoesOn c) allowed = one_more n v.life v.opening made taken are
   leaves (SetsMode c mode) allowed = one_more n v.life v.opening made taken are
   leaves (Halts c m) allowed = one_more n v.life v.opening made taken are
-  leaves (Leaves c) allowed = one_more n v.life v.opening made taken are
+  leaves (Stops c) allowed = one_more n v.life v.opening made taken are
   leaves (Acknowledges a) allowed = one_more n v.life v.opening made taken are
 
   found_life : (s : Start) (t : Bool) → (s.life == v.life) ≡ t

@@ -18,7 +18,7 @@ use Rattle.psci_fw_model.specs.declared.reply.FwReply.TheVariants as replies
 use Rattle.psci_fw_model.specs.Answer.{answer}
 use Rattle.psci_fw_model.specs.Changes.{PowerOn, target}
 use Rattle.psci_fw_model.specs.Effects.{Effect, Nothing, GoesOn, SetsMode, AsksOn, Rests, Halts}
-use Rattle.psci_fw_model.specs.Effects.{Leaves, Enters, Parks, Ceases, Acknowledges, effect_of}
+use Rattle.psci_fw_model.specs.Effects.{Stops, Enters, Parks, StopsAtOnce, Acknowledges, effect_of}
 use Rattle.psci_fw_model.specs.Effects.{enter_effect}
 use Rattle.psci_fw_model.specs.Values.{Values}
 use Rattle.psci_safe.specs.Openings.{Made, OfCall, made_at, made_by, core_asked, named_in}
@@ -79,8 +79,8 @@ same_made b n life call Nothing names = refl
 same_made b n life call (GoesOn c) names = refl
 same_made b n life call (SetsMode c mode) names = refl
 same_made b n life call (Halts c m) names = refl
-same_made b n life call (Leaves c) names = refl
+same_made b n life call (Stops c) names = refl
 same_made b n life call (Enters c s) names = refl
 same_made b n life call (Parks c s m) names = refl
-same_made b n life call (Ceases c s) names = refl
+same_made b n life call (StopsAtOnce c s) names = refl
 same_made b n life call (Acknowledges a) names = refl

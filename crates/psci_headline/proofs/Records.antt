@@ -17,8 +17,8 @@ use Rattle.psci_fw_model.specs.declared.mode.SuspendMode.{SuspendMode}
 use Rattle.psci_fw_model.specs.declared.outcome.Act.{Act}
 use Rattle.psci_fw_model.specs.declared.outcome.Act.TheVariants as acts
 use Rattle.psci_fw_model.specs.Effects.{Effect, Nothing, GoesOn, SetsMode, AsksOn, Rests, Halts}
-use Rattle.psci_fw_model.specs.Effects.{Leaves, Enters, Parks, Ceases, Acknowledges, enter_effect}
-use Rattle.psci_fw_model.specs.Effects.{function_effect, mode_effect}
+use Rattle.psci_fw_model.specs.Effects.{Stops, Enters, Parks, StopsAtOnce, Acknowledges}
+use Rattle.psci_fw_model.specs.Effects.{enter_effect, function_effect, mode_effect}
 use Rattle.psci_fw_model.specs.Entry.{Entry, effect}
 use Rattle.psci_fw_model.specs.Said.{Arrival, arrived}
 use Rattle.psci_fw_model.specs.SuspendMode.{mode_of}
@@ -46,10 +46,10 @@ is_of_caller (SetsMode c mode) = true
 is_of_caller (AsksOn c asked) = true
 is_of_caller (Rests c rest m) = true
 is_of_caller (Halts c m) = true
-is_of_caller (Leaves c) = true
+is_of_caller (Stops c) = true
 is_of_caller (Enters c s) = false
 is_of_caller (Parks c s m) = false
-is_of_caller (Ceases c s) = false
+is_of_caller (StopsAtOnce c s) = false
 is_of_caller (Acknowledges a) = false
 
 mode_of_caller : (c : ℕ) (o : Option SuspendMode) → is_of_caller (mode_effect c o) ≡ true
@@ -106,10 +106,10 @@ of_caller v made (AsksOn c asked) of =
 of_caller v made (Rests c rest m) of =
     record { starts = λ a e. absurd (cc); takes = λ a e. absurd (cc) }
 of_caller v made (Halts c m) of = record { starts = λ a e. absurd (cc); takes = λ a e. absurd (cc) }
-of_caller v made (Leaves c) of = record { starts = λ a e. absurd (cc); takes = λ a e. absurd (cc) }
+of_caller v made (Stops c) of = record { starts = λ a e. absurd (cc); takes = λ a e. absurd (cc) }
 of_caller v made (Enters c s) of = absurd (cc)
 of_caller v made (Parks c s m) of = absurd (cc)
-of_caller v made (Ceases c s) of = absurd (cc)
+of_caller v made (StopsAtOnce c s) of = absurd (cc)
 of_caller v made (Acknowledges a) of = absurd (cc)
 
 -- the start that a core is shown is of the power controller's life

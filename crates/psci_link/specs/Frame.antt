@@ -9,7 +9,7 @@ use Rattle.psci_board.specs.declared.node.Core.{Core}
 use Rattle.psci_board.specs.Board.{BoardValue, cores, height}
 use Rattle.psci_coord.specs.declared.part.Part.{Part}
 use Rattle.psci_link.specs.declared.frame.TheConstants.{FRAME_LEN, HEADER_LEN, PART_LEN}
-use Rattle.psci_link.specs.declared.frame.TheConstants.{PART_PLACES}
+use Rattle.psci_coord.specs.declared.parts.TheConstants.{MOST_PARTS}
 use Rattle.psci_link.specs.declared.kind.Kind.{Kind}
 use Rattle.psci_link.specs.declared.kind.Kind.TheVariants.{Down, Start, Off, Reset}
 use Rattle.psci_link.specs.declared.fault.FrameFault.{FrameFault}
@@ -48,7 +48,7 @@ part_bytes p = p.level ∷ p.depth ∷ to_be_bytes w64 p.generation
 
 -- the parts in the first of four places, and zeros in the others
 unfoldable pub places : List Part → List ℕ
-places ps = flat_map part_bytes ps ++ replicate (PART_LEN * (PART_PLACES - length ps)) 0
+places ps = flat_map part_bytes ps ++ replicate (PART_LEN * (MOST_PARTS - length ps)) 0
 
 -- the 53 bytes of a frame
 abbrev pub spelling : Frame → List ℕ

@@ -3,7 +3,8 @@ use Rattle.std.specs.Prelude.{◌≡◌, length, slice_index, ℕ, ◌/◌, ◌%
 use Rattle.std.specs.Prelude.{◌&&◌, ◌==◌, nat_le, if◌then◌else◌, Option, Some, None}
 use Rattle.std.specs.Prelude.{option_and_then}
 use Rattle.psci_coord.specs.declared.part.Part.{Part}
-use Rattle.psci_link.specs.declared.frame.TheConstants.{FRAME_LEN, PART_PLACES}
+use Rattle.psci_coord.specs.declared.parts.TheConstants.{MOST_PARTS}
+use Rattle.psci_link.specs.declared.frame.TheConstants.{FRAME_LEN}
 use Rattle.psci_link.specs.declared.kind.Kind.{Kind}
 use Rattle.psci_link.specs.declared.kind.Kind.TheVariants.{Down, Start, Off, Reset}
 use Rattle.psci_link.specs.declared.heading.Heading.{Heading}
@@ -44,7 +45,7 @@ least_parts Reset = 0
 
 -- and at most
 abbrev pub most_parts : Kind → ℕ
-most_parts Down = PART_PLACES
+most_parts Down = MOST_PARTS
 most_parts Start = 0
 most_parts Off = 0
 most_parts Reset = 0

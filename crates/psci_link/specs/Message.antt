@@ -3,7 +3,7 @@ use Rattle.std.specs.Prelude.{◌≡◌, ℕ, ◌+◌, ◌<◌, ◌≤◌, Bool,
 use Rattle.std.specs.Prelude.{nat_lt, nat_le, slice_get, Some}
 use Rattle.psci_board.specs.declared.node.Core.{Core}
 use Rattle.psci_coord.specs.declared.part.Part.{Part}
-use Rattle.psci_link.specs.declared.frame.TheConstants.{PART_PLACES}
+use Rattle.psci_coord.specs.declared.parts.TheConstants.{MOST_PARTS}
 use Rattle.psci_link.specs.declared.kind.Kind.{Kind}
 use Rattle.psci_link.specs.declared.kind.Kind.TheVariants.{Down, Start, Off, Reset}
 
@@ -48,14 +48,14 @@ is_falling most (p ∷ ps) = (nat_lt 0 p.depth && nat_le p.depth most) && is_fal
 -- what a core asks that goes down: levels from 0 up, depths from power-down at most
 pub record IsClaim (ps : List Part) : Type 0 where
   pub some : 0 < length ps
-  pub most : length ps ≤ PART_PLACES
+  pub most : length ps ≤ MOST_PARTS
   pub levels : is_climbing 0 ps ≡ true
   pub depths : is_falling 3 ps ≡ true
 
 -- the same, said of each part
 pub record PartByPart (ps : List Part) : Type 0 where
   pub some : 0 < length ps
-  pub most : length ps ≤ PART_PLACES
+  pub most : length ps ≤ MOST_PARTS
   pub level : (k : ℕ) (p : Part) → slice_get ps k ≡ Some p → p.level ≡ k
   pub least : (k : ℕ) (p : Part) → slice_get ps k ≡ Some p → 0 < p.depth
   pub deepest : (k : ℕ) (p : Part) → slice_get ps k ≡ Some p → p.depth ≤ 3
@@ -71,7 +71,7 @@ ArePartsOf Reset ps = ps ≡ []
 
 -- how many parts an acknowledgement can say were applied: another message counts as one
 abbrev pub most_applied : Kind → ℕ
-most_applied Down = PART_PLACES
+most_applied Down = MOST_PARTS
 most_applied Start = 1
 most_applied Off = 1
 most_applied Reset = 1

@@ -3,7 +3,9 @@
 ghost use Rattle.std.specs.Prelude.{◌≡◌, ◌≤◌, ◌<◌, ◌^◌, ◌+◌, ◌*◌, Ok, Some, None};
 ghost use Rattle.std.specs.Prelude.{MatchResult, IfOk, IfErr};
 ghost use Rattle.std.specs.Prelude.{length, drop, slice_index};
-ghost use Rattle.psci_link.specs.Message.{is_climbing, is_falling};
+ghost use Rattle.psci_link.specs.declared.frame.Frame.TheVariants as frames;
+ghost use Rattle.psci_link.specs.declared.heading.Heading.TheVariants as headings;
+ghost use Rattle.psci_link.specs.Message.{ArePartsOf, is_climbing, is_falling, most_applied};
 ghost use Rattle.psci_link.specs.Heading.{parts_of, IsHeld, HasHeading};
 ghost use Rattle.psci_board.specs.Board.{BoardValue};
 ghost use Rattle.std.specs.List.{list_all};
@@ -16,8 +18,11 @@ ghost use Rattle.psci_link.specs.Frame.{first_fault, frame_in};
 use crate::ack::Ack;
 use crate::encoding::MAGIC;
 use crate::fault::FrameFault;
-use crate::frame::{FRAME_LEN, Frame, HEADER_LEN, PART_LEN};
+use crate::frame::{
+    CORE_AT, COUNT_AT, FRAME_LEN, Frame, HEADER_LEN, KIND_AT, LIFE_AT, NUMBER_AT, PART_LEN,
+};
 use crate::heading::Heading;
+use crate::kind::Kind;
 use crate::message::Message;
 use psci_board::{Board, Core};
 use psci_coord::{Part, Parts};
@@ -50,7 +55,7 @@ fn heading_in(bytes: &[u8]) -> Result<Heading, FrameFault>
     if bytes[0] != MAGIC[0] || bytes[1] != MAGIC[1] {
         return Err(FrameFault::Magic);
     }
-    Heading::of(bytes[2]).ok_or(FrameFault::Kind)
+    Heading::of(bytes[KIND_AT]).ok_or(FrameFault::Kind)
 }
 
 /// The parts of a frame of this kind on this board, if nothing else is wrong with it.
@@ -62,7 +67,7 @@ fn parts_on(board: &Board, heading: Heading, bytes: &[u8]) -> Result<Parts, Fram
     ensures fault { MatchResult result (λ _. fault_of_kind board.now bytes.now heading ≡ None)
         (λ fault. fault_of_kind board.now bytes.now heading ≡ Some fault) }
 {
-    let count = bytes[12];
+    let count = bytes[COUNT_AT];
     if !heading.allows_count(count) {
         return Err(FrameFault::Count);
     }
@@ -72,7 +77,7 @@ fn parts_on(board: &Board, heading: Heading, bytes: &[u8]) -> Result<Parts, Fram
     if !is_zero(unused) {
         return Err(FrameFault::Unused);
     }
-    if u16::from(bytes[3]) >= board.cores() {
+    if u16::from(bytes[CORE_AT]) >= board.cores() {
         return Err(FrameFault::Core);
     }
     let parts = parts_in(used, places);
@@ -95,27 +100,53 @@ fn frame_with(heading: Heading, bytes: &[u8], parts: Parts) -> Frame
     requires held { IsHeld heading (count_in bytes.now) parts }
     ensures { result ≡ frame_in heading bytes.now }
 {
-    let core = Core {
-        number: u16::from(bytes[3]),
-    };
-    let life = number_at(bytes, 4);
-    let number = number_at(bytes, 8);
     match heading {
-        Heading::Message(kind) => Frame::Message(Message {
-            kind,
-            core,
-            life,
-            number,
-            parts,
-        }),
-        Heading::Ack(kind, stale) => Frame::Ack(Ack {
-            kind,
-            core,
-            life,
-            number,
-            applied: bytes[12],
-            stale,
-        }),
+        Heading::Message(kind) => Frame::Message(message_with(kind, bytes, parts)),
+        Heading::Ack(kind, stale) => Frame::Ack(ack_with(kind, stale, bytes)),
+    }
+}
+
+/// The message of this kind that the bytes hold, with its parts.
+#[tactic(auto, unfolding(crate::specs::Frame::frame_in))]
+fn message_with(kind: Kind, bytes: &[u8], parts: Parts) -> Message
+    requires whole { length bytes.now ≡ 53 }
+    requires parts { parts ≡ parts_in (count_in bytes.now) (places_in bytes.now) }
+    requires held { ArePartsOf kind parts }
+    ensures { frames.Message result ≡ frame_in (headings.Message kind) bytes.now }
+{
+    Message {
+        kind,
+        core: core_in(bytes),
+        life: number_at(bytes, LIFE_AT),
+        number: number_at(bytes, NUMBER_AT),
+        parts,
+    }
+}
+
+/// The acknowledgement of a message of this kind that the bytes hold.
+#[tactic(auto, unfolding(crate::specs::Frame::frame_in))]
+fn ack_with(kind: Kind, stale: bool, bytes: &[u8]) -> Ack
+    requires whole { length bytes.now ≡ 53 }
+    requires held { count_in bytes.now ≤ most_applied kind }
+    ensures { frames.Ack result ≡ frame_in (headings.Ack kind stale) bytes.now }
+{
+    Ack {
+        kind,
+        core: core_in(bytes),
+        life: number_at(bytes, LIFE_AT),
+        number: number_at(bytes, NUMBER_AT),
+        applied: bytes[COUNT_AT],
+        stale,
+    }
+}
+
+/// The core whose number these bytes hold.
+fn core_in(bytes: &[u8]) -> Core
+    requires { length bytes.now ≡ 53 }
+    ensures { result ≡ record { number = slice_index bytes.now CORE_AT } }
+{
+    Core {
+        number: u16::from(bytes[CORE_AT]),
     }
 }
 

@@ -6,10 +6,10 @@ ghost use Rattle.std.specs.List.{AllByRecursion};
 ghost use Rattle.psci_link.specs.Frame.{kind_code, header, part_bytes, places, spelling, IsFrame};
 ghost use Rattle.psci_link.specs.Message.{is_climbing};
 
-use crate::frame::{FRAME_LEN, Frame, HEADER_LEN, PART_LEN, PART_PLACES};
+use crate::frame::{FRAME_LEN, Frame, HEADER_LEN, PART_LEN};
 use crate::kind::Kind;
 use psci_board::Core;
-use psci_coord::Part;
+use psci_coord::{MOST_PARTS, Part};
 
 /// The first two bytes of a frame.
 pub(crate) const MAGIC: [u8; 2] = [0x50, 0x44];
@@ -65,7 +65,7 @@ fn header(kind: u8, core: Core, life: u32, number: u32, count: u8) -> [u8; HEADE
 
 /// The header and the parts, and zeros in the places that are not used.
 fn joined(header: [u8; HEADER_LEN], parts: &[Part]) -> [u8; FRAME_LEN]
-    requires few { length parts.now ≤ PART_PLACES }
+    requires few { length parts.now ≤ MOST_PARTS }
     requires levels { is_climbing 0 parts.now ≡ true }
     ensures bytes { result ≡ header ++ places parts.now }
     ensures fits { AllByRecursion (λ part. part.generation < 2 ^ 64) parts.now }

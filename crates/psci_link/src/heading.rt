@@ -1,6 +1,13 @@
 //! What the kind byte of a frame says.
 
 use crate::kind::Kind;
+use psci_coord::MOST_PARTS;
+
+/// How many parts a Down has at least: that of its core.
+const LEAST_PARTS: u8 = 1;
+
+/// What a message that is no Down counts as applied at most: that it was carried out.
+const MOST_CARRIED: u8 = 1;
 
 /// What kind of frame bytes are.
 #[derive(Clone, Copy, Debug, PartialEq, Eq)]
@@ -11,7 +18,7 @@ pub(crate) enum Heading {
     Ack(Kind, bool),
 }
 
-ghost use Rattle.std.specs.Prelude.{◌≡◌, ◌≤◌, true};
+ghost use Rattle.std.specs.Prelude.{◌≡◌, ◌≤◌, nat_le, true};
 ghost use Rattle.psci_link.specs.Heading.{kind_of, heading_of, allows_count, parts_of};
 
 impl Heading {
@@ -33,10 +40,10 @@ impl Heading {
         ensures { result ≡ allows_count self count }
     {
         match self {
-            Heading::Message(Kind::Down) => 1 <= count && count <= 4,
+            Heading::Message(Kind::Down) => LEAST_PARTS <= count && is_room(count),
             Heading::Message(_) => count == 0,
-            Heading::Ack(Kind::Down, _) => count <= 4,
-            Heading::Ack(..) => count <= 1,
+            Heading::Ack(Kind::Down, _) => is_room(count),
+            Heading::Ack(..) => count <= MOST_CARRIED,
         }
     }
 
@@ -51,6 +58,13 @@ impl Heading {
             Heading::Ack(..) => 0,
         }
     }
+}
+
+/// Whether a frame has room for so many parts.
+fn is_room(count: u8) -> bool
+    ensures { result ≡ nat_le count MOST_PARTS }
+{
+    usize::from(count) <= MOST_PARTS
 }
 
 /// The kind that the low half of a kind byte names, if it names one.

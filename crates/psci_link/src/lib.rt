@@ -27,7 +27,7 @@ pub use ack::Ack;
 pub use decoding::decode;
 pub use encoding::encode;
 pub use fault::FrameFault;
-pub use frame::{FRAME_LEN, Frame, PART_PLACES};
+pub use frame::{FRAME_LEN, Frame};
 pub use kind::Kind;
 pub use laws::{law_frames, law_parts, law_slots};
 pub use message::Message;

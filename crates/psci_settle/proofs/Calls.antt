@@ -14,7 +14,8 @@ use Rattle.psci_fw_model.specs.declared.outcome.Act.TheVariants as acts
 use Rattle.psci_fw_model.specs.After.{change}
 use Rattle.psci_fw_model.specs.Changes.{with_mode, target}
 use Rattle.psci_fw_model.specs.Effects.{Effect, Nothing, GoesOn, SetsMode, AsksOn, Rests, Halts}
-use Rattle.psci_fw_model.specs.Effects.{Leaves, Enters, Parks, Ceases, Acknowledges, enter_effect}
+use Rattle.psci_fw_model.specs.Effects.{Stops, Enters, Parks, StopsAtOnce, Acknowledges}
+use Rattle.psci_fw_model.specs.Effects.{enter_effect}
 use Rattle.psci_fw_model.specs.Lives.{in_life}
 use Rattle.psci_fw_model.specs.Phases.{Phase, Away, Pending, Running, unless_pending}
 use Rattle.psci_fw_model.specs.Said as says
@@ -94,11 +95,11 @@ call_waits b life w v sent made (Halts c m) laws is allowed live h =
     (system_slot m.kind m.core allowed.system) (not_down m.kind allowed.plain.other)
     (waiting_halting b life w.starts w.depth v.halting v.known phase v.outstanding sent made
     (rested b life w v sent made c Away allowed.calls.runs (λ e. cc) h))
-call_waits b life w v sent made (Leaves c) laws is allowed live h =
+call_waits b life w v sent made (Stops c) laws is allowed live h =
     rested b life w v sent made c Away allowed.calls.runs (λ e. cc) h
 call_waits b life w v sent made (Enters c s) laws is allowed live h = absurd (cc)
 call_waits b life w v sent made (Parks c s m) laws is allowed live h = absurd (cc)
-call_waits b life w v sent made (Ceases c s) laws is allowed live h = absurd (cc)
+call_waits b life w v sent made (StopsAtOnce c s) laws is allowed live h = absurd (cc)
 call_waits b life w v sent made (Acknowledges a) laws is allowed live h = absurd (cc)
 
 -- Entries --------------------------------------------------------------------------------------

@@ -172,15 +172,20 @@ impl Draws {
         if let Some(number) = self.wearing(world) {
             return Event::Reset(u64::from(number));
         }
-        let event = if self.one_in(2) {
-            self.plain(world)
-        } else {
-            self.aimed(world)
-        };
+        let event = self.any(world);
         if self.is_last_exit(world, event) {
             return self.errand(world);
         }
         event
+    }
+
+    /// An event of either sort.
+    fn any(&mut self, world: &World) -> Event {
+        if self.one_in(2) {
+            self.plain(world)
+        } else {
+            self.aimed(world)
+        }
     }
 }
 

@@ -4,21 +4,25 @@ ghost use Rattle.std.specs.Prelude.{◌≤◌};
 
 use crate::draws::Draws;
 use crate::places::is_at;
-use crate::requests::registers;
+use crate::requests::{NO_FUNCTION, registers};
+use psci_abi::words::{CPU_ON_64, CPU_SUSPEND_32, CPU_SUSPEND_64, PSCI_FEATURES};
 use psci_abi::{Regs, Request};
 use psci_board::Board;
 use psci_world::World;
 use psci_world_model::{Event, Place};
 
 /// A function word that is asked about, or called, now and then.
+///
+/// Four of them have a function. CPU_OFF has no SMC64 form, 0x8400_0012 is SYSTEM_RESET2, and bit 25
+/// is none of a function number.
 const WORDS: [u32; 8] = [
-    0x8400_0005,
-    0x8400_0001,
-    0xc400_0001,
-    0x8400_000a,
+    NO_FUNCTION,
+    CPU_SUSPEND_32,
+    CPU_SUSPEND_64,
+    PSCI_FEATURES,
     0xc400_0002,
     0x8400_0012,
-    0xc400_0003,
+    CPU_ON_64,
     0xc600_0003,
 ];
 
@@ -117,23 +121,43 @@ impl Draws {
             0 => Request::Version,
             1 => Request::MigrateInfoType,
             2 => Request::Unknown,
-            3 => Request::SetSuspendMode {
-                mode: self.below(3),
-            },
-            4 => Request::Features {
-                word: self.feature(),
-            },
-            5 => Request::AffinityInfo {
-                target: self.target(board),
-                level: self.below(5),
-            },
+            3 => self.mode_change(),
+            4 => self.features(),
+            5 => self.affinity_info(board),
             6 => Request::CpuOff,
-            7 => Request::SystemSuspend {
-                entry: self.entry(board),
-                context: self.word(),
-            },
+            7 => self.system_suspend(board),
             8 => self.suspend(board),
             _ => self.power_on(board),
+        }
+    }
+
+    /// A PSCI_SET_SUSPEND_MODE, good or bad.
+    fn mode_change(&mut self) -> Request {
+        Request::SetSuspendMode {
+            mode: self.below(3),
+        }
+    }
+
+    /// A PSCI_FEATURES.
+    fn features(&mut self) -> Request {
+        Request::Features {
+            word: self.feature(),
+        }
+    }
+
+    /// An AFFINITY_INFO, good or bad.
+    fn affinity_info(&mut self, board: &Board) -> Request {
+        Request::AffinityInfo {
+            target: self.target(board),
+            level: self.below(5),
+        }
+    }
+
+    /// A SYSTEM_SUSPEND, good or bad.
+    fn system_suspend(&mut self, board: &Board) -> Request {
+        Request::SystemSuspend {
+            entry: self.entry(board),
+            context: self.word(),
         }
     }
 

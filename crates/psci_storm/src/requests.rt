@@ -1,62 +1,89 @@
 //! Calls as registers carry them.
 
+use psci_abi::words::{
+    AFFINITY_INFO_32, AFFINITY_INFO_64, CPU_OFF, CPU_ON_32, CPU_ON_64, CPU_SUSPEND_32,
+    CPU_SUSPEND_64, MIGRATE_INFO_TYPE, PSCI_FEATURES, PSCI_SET_SUSPEND_MODE, PSCI_VERSION,
+    SYSTEM_OFF, SYSTEM_RESET, SYSTEM_SUSPEND_32, SYSTEM_SUSPEND_64,
+};
 use psci_abi::{Regs, Request};
 
-/// The bit of a function word that says SMC64.
-const SMC64: u64 = 0x4000_0000;
+/// A function word that no function has: MIGRATE, which is not supported.
+pub const NO_FUNCTION: u32 = 0x8400_0005;
 
-/// The registers of a request in the SMC32 convention.
-fn narrow(request: Request) -> Regs {
-    let (word, x1, x2, x3) = match request {
-        Request::Version => (0x8400_0000, 0, 0, 0),
+/// The function word of a request in the SMC32 convention.
+fn narrow_word(request: Request) -> u32 {
+    match request {
+        Request::Version => PSCI_VERSION,
+        Request::CpuSuspend { .. } => CPU_SUSPEND_32,
+        Request::CpuOff => CPU_OFF,
+        Request::CpuOn { .. } => CPU_ON_32,
+        Request::AffinityInfo { .. } => AFFINITY_INFO_32,
+        Request::MigrateInfoType => MIGRATE_INFO_TYPE,
+        Request::SystemOff => SYSTEM_OFF,
+        Request::SystemReset => SYSTEM_RESET,
+        Request::Features { .. } => PSCI_FEATURES,
+        Request::SystemSuspend { .. } => SYSTEM_SUSPEND_32,
+        Request::SetSuspendMode { .. } => PSCI_SET_SUSPEND_MODE,
+        Request::Unknown => NO_FUNCTION,
+    }
+}
+
+/// The function word of a request in the SMC64 convention, where the function has one.
+fn wide_word(request: Request) -> Option<u32> {
+    match request {
+        Request::CpuSuspend { .. } => Some(CPU_SUSPEND_64),
+        Request::CpuOn { .. } => Some(CPU_ON_64),
+        Request::AffinityInfo { .. } => Some(AFFINITY_INFO_64),
+        Request::SystemSuspend { .. } => Some(SYSTEM_SUSPEND_64),
+        Request::Version
+        | Request::CpuOff
+        | Request::MigrateInfoType
+        | Request::SystemOff
+        | Request::SystemReset
+        | Request::Features { .. }
+        | Request::SetSuspendMode { .. }
+        | Request::Unknown => None,
+    }
+}
+
+/// The arguments of a request, as x1 to x3 carry them.
+fn arguments(request: Request) -> [u64; 3] {
+    match request {
         Request::CpuSuspend {
             state,
             entry,
             context,
-        } => (0x8400_0001, u64::from(state), entry, context),
-        Request::CpuOff => (0x8400_0002, 0, 0, 0),
+        } => [u64::from(state), entry, context],
         Request::CpuOn {
             target,
             entry,
             context,
-        } => (0x8400_0003, target, entry, context),
-        Request::AffinityInfo { target, level } => (0x8400_0004, target, u64::from(level), 0),
-        Request::MigrateInfoType => (0x8400_0006, 0, 0, 0),
-        Request::SystemOff => (0x8400_0008, 0, 0, 0),
-        Request::SystemReset => (0x8400_0009, 0, 0, 0),
-        Request::Features { word } => (0x8400_000a, u64::from(word), 0, 0),
-        Request::SystemSuspend { entry, context } => (0x8400_000e, entry, context, 0),
-        Request::SetSuspendMode { mode } => (0x8400_000f, u64::from(mode), 0, 0),
-        Request::Unknown => (0x8400_0005, 0, 0, 0),
-    };
-    Regs {
-        x0: word,
-        x1,
-        x2,
-        x3,
+        } => [target, entry, context],
+        Request::AffinityInfo { target, level } => [target, u64::from(level), 0],
+        Request::SystemSuspend { entry, context } => [entry, context, 0],
+        Request::Features { word } => [u64::from(word), 0, 0],
+        Request::SetSuspendMode { mode } => [u64::from(mode), 0, 0],
+        Request::Version
+        | Request::CpuOff
+        | Request::MigrateInfoType
+        | Request::SystemOff
+        | Request::SystemReset
+        | Request::Unknown => [0, 0, 0],
     }
-}
-
-/// Whether the function has a word in the SMC64 convention.
-fn has_wide(request: Request) -> bool {
-    matches!(
-        request,
-        Request::CpuSuspend { .. }
-            | Request::CpuOn { .. }
-            | Request::AffinityInfo { .. }
-            | Request::SystemSuspend { .. }
-    )
 }
 
 /// The registers of a request, in the SMC64 convention where the function has it and it is wanted.
 pub fn registers(request: Request, wide: bool) -> Regs {
-    let regs = narrow(request);
-    if wide && has_wide(request) {
-        Regs {
-            x0: regs.x0 | SMC64,
-            ..regs
-        }
-    } else {
-        regs
+    let narrow = narrow_word(request);
+    let word = match wide_word(request) {
+        Some(word) if wide => word,
+        _ => narrow,
+    };
+    let [x1, x2, x3] = arguments(request);
+    Regs {
+        x0: u64::from(word),
+        x1,
+        x2,
+        x3,
     }
 }

@@ -1,9 +1,13 @@
 -- All kinds that a legal run may have, as they are spelled.
-use Rattle.std.proofs.Common.{◌≡◌, [], ◌∷◌, map, refl}
+use Rattle.std.proofs.Common.{◌≡◌, ◌==◌, [], ◌∷◌, map, true, refl}
 use Rattle.std.specs.Fmt.{digits}
 use Rattle.std.specs.Prelude.{codes}
+use Rattle.std.specs.List.{list_any}
+use Rattle.psci_tally.specs.declared.asked.Asked.{Asked}
+use Rattle.psci_tally.specs.declared.asked.Asked.TheVariants as asked
 use Rattle.psci_tally.specs.declared.table.TheConstants.{KINDS}
 use Rattle.psci_tally.specs.Counts.{event_kind_text}
+use Rattle.psci_tally.specs.Kinds.{asked_number}
 
 pub kinds_spelled : map event_kind_text KINDS ≡ codes "version return 65537"
     ∷ codes "version stop"
@@ -92,3 +96,23 @@ pub kinds_spelled : map event_kind_text KINDS ≡ codes "version return 65537"
     ∷ codes "take absent" ∷ []
 unfolding digits
 kinds_spelled = refl
+
+-- The table has a row for each thing that is asked.
+pub has_row : (a : Asked) → list_any (λ k. asked_number k.asked == asked_number a) KINDS ≡ true
+has_row asked.Version = refl
+has_row asked.CpuSuspend = refl
+has_row asked.CpuOff = refl
+has_row asked.CpuOn = refl
+has_row asked.AffinityInfo = refl
+has_row asked.MigrateInfoType = refl
+has_row asked.SystemOff = refl
+has_row asked.SystemReset = refl
+has_row asked.Features = refl
+has_row asked.SystemSuspend = refl
+has_row asked.SetSuspendMode = refl
+has_row asked.Unknown = refl
+has_row asked.Enter = refl
+has_row asked.Wake = refl
+has_row asked.Reset = refl
+has_row asked.Deliver = refl
+has_row asked.Take = refl

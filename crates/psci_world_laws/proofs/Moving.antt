@@ -15,7 +15,7 @@ use Rattle.psci_fw_model.specs.declared.outcome.Act.TheVariants as acts
 use Rattle.psci_fw_model.specs.After.{change}
 use Rattle.psci_fw_model.specs.Changes.{PowerOn, target, with_mode, with_pending}
 use Rattle.psci_fw_model.specs.Effects.{Effect, Nothing, GoesOn, SetsMode, AsksOn, Rests, Halts}
-use Rattle.psci_fw_model.specs.Effects.{Leaves, Enters, Parks, Ceases, Acknowledges}
+use Rattle.psci_fw_model.specs.Effects.{Stops, Enters, Parks, StopsAtOnce, Acknowledges}
 use Rattle.psci_fw_model.specs.Effects.{enter_effect, function_effect, mode_effect}
 use Rattle.psci_fw_model.specs.Lives.{in_life}
 use Rattle.psci_fw_model.specs.Outcomes.{executes_on}
@@ -44,10 +44,10 @@ is_call (SetsMode c mode) = true
 is_call (AsksOn c asked) = true
 is_call (Rests c rest m) = true
 is_call (Halts c m) = true
-is_call (Leaves c) = true
+is_call (Stops c) = true
 is_call (Enters c s) = false
 is_call (Parks c s m) = false
-is_call (Ceases c s) = false
+is_call (StopsAtOnce c s) = false
 is_call (Acknowledges a) = false
 
 -- the core that called
@@ -57,7 +57,7 @@ caller (SetsMode c mode) = c
 caller (AsksOn c asked) = c
 caller (Rests c rest m) = c
 caller (Halts c m) = c
-caller (Leaves c) = c
+caller (Stops c) = c
 caller e = 0
 
 -- and whether it goes on
@@ -224,12 +224,12 @@ call_moves b v (Rests c rest m) laws is allowed =
 call_moves b v (Halts c m) laws is allowed =
     put v (change b (Halts c m) v) c (unless_pending (v.phase c) Away) false refl refl refl
     (rests (v.phase c) Away (λ e. cc))
-call_moves b v (Leaves c) laws is allowed =
-    put v (change b (Leaves c) v) c (unless_pending (v.phase c) Away) false refl refl refl
+call_moves b v (Stops c) laws is allowed =
+    put v (change b (Stops c) v) c (unless_pending (v.phase c) Away) false refl refl refl
     (rests (v.phase c) Away (λ e. cc))
 call_moves b v (Enters c s) laws is allowed = absurd (cc)
 call_moves b v (Parks c s m) laws is allowed = absurd (cc)
-call_moves b v (Ceases c s) laws is allowed = absurd (cc)
+call_moves b v (StopsAtOnce c s) laws is allowed = absurd (cc)
 call_moves b v (Acknowledges a) laws is allowed = absurd (cc)
 
 -- Entries --------------------------------------------------------------------------------------
@@ -258,7 +258,8 @@ stops_in : (b : BoardValue) (v : Values) (c : ℕ) (s : Start) (o : Option Messa
     → IsMoved (in_life b s.life v) (change b (enter_effect c s acts.Stop o) v) c s.number false
 stops_in b v c s None =
     let found : Values = in_life b s.life v in
-    arrived found (change b (Ceases c s) v) c s.number (unless_pending (found.phase c) Away) false
+    arrived found (change b (StopsAtOnce c s) v) c s.number (unless_pending (found.phase c) Away)
+    false
     refl refl refl (rests (found.phase c) Away (λ e. cc))
 stops_in b v c s (Some m) =
     let found : Values = in_life b s.life v in

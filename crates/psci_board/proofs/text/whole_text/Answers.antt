@@ -144,9 +144,9 @@ returns-in_err-lives c =
       c.from_residual-in_err-lives.ensures,
     ) refl
 
-pub returns-then-is_empty : goal.returns-then-is_empty
+pub returns : goal.returns
 unfolding board_text
-returns-then-is_empty c =
+returns c =
     let t = value_and_rest_some tree_summary _ _ _ c.in_ok-tree.ensures in
     let r = value_and_rest_some (with_ranges no_ranges) _ _ _ c.in_ok-ranges.ensures in
     let first = ranges_parts _ _ _ r.1 in
@@ -164,13 +164,13 @@ returns-then-is_empty c =
       sym c.in_ok-literal-4.ensures,
       sym
           c.in_ok-lives.ensures,
-      sym c.if-is_empty.ensures,
+      sym c.if-not-is_empty.ensures,
     )
     (same_text _ _ t.2 (r.2 ∙ ap (with_ranges no_ranges) first.2) b.2)
 
-pub returns-else-is_empty : goal.returns-else-is_empty
+pub returns-then-not-is_empty : goal.returns-then-not-is_empty
 unfolding board_text
-returns-else-is_empty c =
+returns-then-not-is_empty c =
     let t = value_and_rest_some tree_summary _ _ _ c.in_ok-tree.ensures in
     let r = value_and_rest_some (with_ranges no_ranges) _ _ _ c.in_ok-ranges.ensures in
     let first = ranges_parts _ _ _ r.1 in
@@ -188,5 +188,5 @@ returns-else-is_empty c =
       sym c.in_ok-literal-4.ensures,
       sym
           c.in_ok-lives.ensures,
-      sym c.if-is_empty.ensures,
+      sym c.if-not-is_empty.ensures,
     ) refl

@@ -12,7 +12,8 @@ use Rattle.psci_fw.proofs.entering.enter.Goals as goal
 
 pub returns-then-halting-clause-answer : goal.returns-then-halting-clause-answer
 returns-then-halting-clause-answer c =
-    halted_outcome c.args.board.now (values_in c.args.state.now) c.args.core.number c.args.start
+    c.stops.ensures
+    ∙ halted_outcome c.args.board.now (values_in c.args.state.now) c.args.core.number c.args.start
     (sym (ap (λ (x : Values). x.halting) c.begin_life.ensures.after)
     ∙ sym c.halting.ensures ∙ c.if-halting.true)
 

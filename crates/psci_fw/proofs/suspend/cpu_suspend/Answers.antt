@@ -12,7 +12,7 @@ sleep-requires-clause-may c =
       may = c.law_may_claim.ensures.suspended c.args.board.now _ c.args.caller.number c.args.word
           c.args.opening.address c.args.opening.context c.in-Ok.ask c.requires.state.board
           c.requires.inside c.requires.values c.requires.running c.requires.awake named
-          (sym c.is_nowhere.ensures ∙ c.if-is_nowhere.false)
+          (sym c.has_invalid_entry.ensures ∙ c.if-has_invalid_entry.false)
           (λ e. c.if-known-start_limit.false
           (c.known.ensures ∙ e ∙ sym c.start_limit.ensures));
     }
@@ -23,6 +23,6 @@ returns-clause-answer c =
     sym (rw c.height.ensures.height at c.read.ensures.value) ∙ c.in-Ok.is in
     suspended_answered c.args.board.now _ c.args.caller.number c.args.word c.args.opening
     c.in-Ok.ask c.requires.running named c.sleep.result _
-    (sym c.is_nowhere.ensures ∙ c.if-is_nowhere.false)
+    (sym c.has_invalid_entry.ensures ∙ c.if-has_invalid_entry.false)
     (λ e. c.if-known-start_limit.false (c.known.ensures ∙ e ∙ sym c.start_limit.ensures))
     c.sleep.ensures.answer c.sleep.ensures.after
