@@ -1,0 +1,6 @@
+use Rattle.std.proofs.Common.{rules}
+use Rattle.psci_board.proofs.Spans.{walk}
+use Rattle.psci_board.proofs.board.Board.cores_below.Goals as goal
+
+pub returns : goal.returns
+returns c = search (rules, walk)
