@@ -13,7 +13,8 @@ use Rattle.psci_fw_model.specs.declared.reply.FwReply.TheVariants.{Out}
 use Rattle.psci_ctl_model.specs.declared.start.Cause.TheVariants as causes
 use Rattle.psci_ctl_model.specs.declared.start.Start.{Start}
 use Rattle.psci_fw_model.specs.Effects.{Acknowledges, AsksOn, Effect, Enters, GoesOn, Halts}
-use Rattle.psci_fw_model.specs.Effects.{Stops, StopsAtOnce, Nothing, Parks, Rests, SetsMode, effect_of}
+use Rattle.psci_fw_model.specs.Effects.{Stops, StopsAtOnce, Nothing, Parks, Rests, SetsMode}
+use Rattle.psci_fw_model.specs.Effects.{effect_of}
 use Rattle.psci_fw_model.specs.Lives.{start_of_life}
 use Rattle.psci_fw_model.specs.Outcomes.{goes_on}
 use Rattle.psci_fw_model.specs.Phases.{Away, Phase, Running, Suspended, is_away, is_resumable}
