@@ -19,7 +19,7 @@ pub struct Regs {
 }
 
 /// The low half of a register: what an SMC32 function, and every argument of 32 bits, reads.
-pub(crate) fn low(register: u64) -> u32
+pub fn low(register: u64) -> u32
     ensures { result ≡ Rattle.psci_abi.specs.Calls.low register }
 {
     (register & 0xffff_ffff) as u32

@@ -120,7 +120,7 @@ pub fn read(regs: Regs) -> Request
 }
 
 /// The function of a word, with its arguments as the word's convention passes them.
-pub(crate) fn function(word: u32, x1: u64, x2: u64, x3: u64) -> Request
+pub fn function(word: u32, x1: u64, x2: u64, x3: u64) -> Request
     ensures { result ≡ function_of word x1 x2 x3 }
 {
     match word {

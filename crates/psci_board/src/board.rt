@@ -242,7 +242,7 @@ impl Board {
 }
 
 /// Whether a range holds the address.
-pub(crate) fn is_in_some(ranges: &[AddressRange], address: u64) -> bool
+pub fn is_in_some(ranges: &[AddressRange], address: u64) -> bool
     ensures { result ≡ is_in_some ranges.now address }
 {
     ranges

@@ -83,7 +83,8 @@ fn may_boot(text: &TextSummary) -> bool
 
 /// Whether both limits, of starts and of lives, are in range.
 fn has_limits(text: &TextSummary) -> bool
-    ensures { result ≡ (is_limit (2 ^ 32 - 1) text.now.starts && is_limit MOST_LIVES text.now.lives) }
+    ensures { result
+        ≡ (is_limit (2 ^ 32 - 1) text.now.starts && is_limit MOST_LIVES text.now.lives) }
 {
     is_limit(u64::from(u32::MAX), text.starts) && is_limit(u64::from(MOST_LIVES), text.lives)
 }

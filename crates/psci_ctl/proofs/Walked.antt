@@ -1,16 +1,17 @@
 -- A power controller after some parts of a Down were applied, and the next one.
-use Rattle.std.proofs.Common.{◌≡◌, ℕ, ◌+◌, ◌<◌, ◌≤◌, Bool, true, false, List, length, take, get_or}
-use Rattle.std.proofs.Common.{refl, ap, sym, ◌∙◌, arith, inl, inr}
+use Rattle.std.proofs.Common.{◌≡◌, ℕ, ◌+◌, ◌<◌, ◌≤◌, ◌==◌, Bool, true, false, List, length, take}
+use Rattle.std.proofs.Common.{get_or, refl, ap, sym, ◌∙◌, arith, inl, inr}
 use Rattle.std.proofs.lemmas.Bool.{cases_eq}
 use Rattle.std.proofs.lemmas.Option.{slice_get-get_or}
 use Rattle.std.proofs.lemmas.List.{get_or_default}
+use Rattle.psci_board.specs.declared.node.Node.{Node}
 use Rattle.psci_board.specs.Board.{height}
 use Rattle.psci_coord.specs.declared.part.Part.{Part}
 use Rattle.psci_coord.specs.View.{domain_of}
 use Rattle.psci_link.specs.Message.{PartByPart}
 use Rattle.psci_ctl_model.specs.Parts.{is_applied, is_covered, is_live, laid}
-use Rattle.psci_ctl_model.specs.Values.{Values}
-use Rattle.psci_ctl.specs.Rows.{with_depth}
+use Rattle.psci_ctl_model.specs.Values.{Values, starts_below}
+use Rattle.psci_ctl.specs.Rows.{deepened, with_depth}
 use Rattle.psci_ctl.specs.Seen.{ControllerValue, seen}
 use Rattle.psci_ctl.proofs.Applying.{is_one, laid_more}
 use Rattle.psci_ctl.proofs.Started.{same_values}
@@ -31,6 +32,28 @@ live_then old now c k ps p t is e =
     sym (ap (λ b. is_live b (seen now) c p) is.board
     ∙ ap (λ v. is_live old.board v c p) is.values)
     ∙ e
+
+-- the same of the domain that the part is for
+pub live_at : (now : ControllerValue) (c : ℕ) (p : Part) (n : Node) (t : Bool)
+    → n ≡ domain_of now.board c p.level
+    → t ≡ (p.generation == starts_below now.board (seen now).starts n)
+    → is_live now.board (seen now) c p ≡ t
+live_at now c p n t at is =
+    ap (λ (m : Node). p.generation == starts_below now.board (seen now).starts m) (sym at) ∙ sym is
+
+pub covered_at : (now : ControllerValue) (c : ℕ) (p : Part) (n : Node) (t : Bool)
+    → n ≡ domain_of now.board c p.level
+    → t ≡ is_covered now.board (seen now).depth n p.depth
+    → is_covered now.board (seen now).depth (domain_of now.board c p.level) p.depth ≡ t
+covered_at now c p n t at is =
+    ap (λ (m : Node). is_covered now.board (seen now).depth m p.depth) (sym at) ∙ sym is
+
+pub deepened_at : (now new : ControllerValue) (c : ℕ) (p : Part) (n : Node)
+    → n ≡ domain_of now.board c p.level
+    → seen new ≡ record (seen now) { depth = deepened n p.depth (seen now).depth }
+    → seen new ≡ record (seen now) { depth = with_depth now.board c p (seen now).depth }
+deepened_at now new c p n at values =
+    values ∙ ap (λ (m : Node). record (seen now) { depth = deepened m p.depth (seen now).depth }) at
 
 pub covered_then : (old now : ControllerValue) (c k : ℕ) (ps : List Part) (p : Part) (t : Bool)
     → IsWalked old now c k ps

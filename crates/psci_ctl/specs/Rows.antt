@@ -1,8 +1,10 @@
 -- What the power controller keeps of cores and domains, row by row.
 use Rattle.std.specs.Prelude.{◌≡◌, ℕ, ◌+◌, ◌≤◌, ◌&&◌, ◌==◌, nat_lt, if◌then◌else◌, List}
 use Rattle.std.specs.Prelude.{[], length, slice_index_or, Option}
-use Rattle.psci_board.specs.Board.{BoardValue, height, nodes, up}
+use Rattle.psci_board.specs.Board.{BoardValue, height, nodes}
+use Rattle.psci_board.specs.declared.node.Node.{Node}
 use Rattle.psci_coord.specs.declared.part.Part.{Part}
+use Rattle.psci_coord.specs.View.{domain_of}
 use Rattle.psci_link.specs.declared.start.Cause.TheVariants as causes
 use Rattle.psci_ctl_model.specs.Values.{Values, starts_below}
 use Rattle.psci_board.specs.Paths.{is_on_path}
@@ -65,7 +67,11 @@ pub record HasSums (b : BoardValue) (cores : List CoreRow) (domains : List (List
   pub sums : (level place : ℕ) → level ≤ height b → (domain_at domains level place).starts
       ≡ starts_below b (λ c. (core_at cores c).starts) (record { level = level; place = place })
 
+-- a domain is this deep
+abbrev pub deepened : Node → ℕ → (ℕ → ℕ → ℕ) → ℕ → ℕ → ℕ
+deepened n deep depth level place =
+    if level == n.level && place == n.place then deep else depth level place
+
 -- the domain of a part on a core's path is as deep as the part asks
 abbrev pub with_depth : BoardValue → ℕ → Part → (ℕ → ℕ → ℕ) → ℕ → ℕ → ℕ
-with_depth b c p depth level place =
-    if level == p.level && place == up b p.level c then p.depth else depth level place
+with_depth b c p depth = deepened (domain_of b c p.level) p.depth depth

@@ -1,17 +1,18 @@
 //! What the power controller does with a message of the present life.
 
-ghost use Rattle.std.specs.Prelude.{◌≡◌, ◌≤◌, ◌+◌, ◌<◌, ℕ, true, Some, take, length};
+ghost use Rattle.std.specs.Prelude.{◌≡◌, ◌≤◌, ◌+◌, ◌<◌, ◌==◌, ℕ, true, Some, take, length};
 ghost use Rattle.std.specs.Prelude.{if◌then◌else◌, nat_lt};
-ghost use Rattle.psci_board.specs.Board.{cores, height};
+ghost use Rattle.psci_board.specs.Board.{cores, height, nodes};
 ghost use Rattle.psci_coord.specs.View.{domain_of};
 ghost use Rattle.psci_link.specs.Message.{PartByPart, IsClaim, most_applied};
 ghost use Rattle.psci_ctl_model.specs.Changes.{change, with_start};
 ghost use Rattle.psci_ctl_model.specs.Effects.{Begins, Ends, message_effect};
 ghost use Rattle.psci_ctl_model.specs.Legal.{IsOfBoard};
-ghost use Rattle.psci_ctl_model.specs.Parts.{applied, is_covered, is_live, is_stale, laid};
+ghost use Rattle.psci_ctl_model.specs.Parts.{applied, is_covered, is_stale, laid};
 ghost use Rattle.psci_ctl_model.specs.Replies.{ack_by, ack_of, may_follow, may_start};
 ghost use Rattle.psci_link.specs.declared.start.Cause.TheVariants.{On};
-ghost use Rattle.psci_ctl.specs.Rows.{with_depth};
+ghost use Rattle.psci_ctl_model.specs.Values.{starts_below};
+ghost use Rattle.psci_ctl.specs.Rows.{deepened};
 ghost use Rattle.psci_ctl.specs.Seen.{seen, start_done};
 
 use crate::controller::Controller;
@@ -86,7 +87,8 @@ impl Controller {
     fn domain_on_path(&self, core: Core, level: u32) -> Node
         requires core { core.number < cores self.now.board }
         requires level { level ≤ height self.now.board }
-        ensures { result ≡ domain_of self.now.board core.number level }
+        ensures domain { result ≡ domain_of self.now.board core.number level }
+        ensures inside { result.place < nodes self.now.board result.level }
     {
         law_paths();
         let height = self.board.height();
@@ -95,44 +97,37 @@ impl Controller {
         path[level as usize]
     }
 
-    /// Whether no core below the domain of a part was started since the part was made.
-    fn is_live(&self, core: Core, part: &Part) -> bool
-        requires core { core.number < cores self.now.board }
-        requires level { part.now.level ≤ height self.now.board }
+    /// Whether no core below this domain was started since the part was made.
+    fn is_live(&self, node: Node, part: &Part) -> bool
+        requires level { node.level ≤ height self.now.board }
         requires life { (l : ℕ) × (self.now.life ≡ Some l) }
-        ensures { result ≡ is_live self.now.board (seen self.now) core.number part.now }
+        ensures { result ≡ (part.now.generation
+            == starts_below self.now.board (seen self.now).starts node) }
     {
-        let node = self.domain_on_path(core, part.level);
         domain(&self.domains, node).starts == part.generation
     }
 
-    /// Whether every child of the domain of a part is at least as deep as the part asks.
-    fn is_covered(&self, core: Core, part: &Part) -> bool
-        requires core { core.number < cores self.now.board }
-        requires level { part.now.level ≤ height self.now.board }
-        ensures { result ≡ is_covered self.now.board (seen self.now).depth
-            (domain_of self.now.board core.number part.now.level) part.now.depth }
+    /// Whether every child of this domain is at least as deep as the part asks.
+    fn is_covered(&self, node: Node, part: &Part) -> bool
+        ensures { result ≡ is_covered self.now.board (seen self.now).depth node part.now.depth }
     {
-        let node = self.domain_on_path(core, part.level);
         is_covered(&self.domains, &self.board, node, part.depth)
     }
 
-    /// A domain goes to this depth.
-    fn deepen(&mut self, core: Core, part: &Part)
-        requires core { core.number < cores self.old.board }
-        requires level { part.now.level ≤ height self.old.board }
-        requires depth { part.now.depth ≤ 3 }
+    /// This domain goes to this depth.
+    fn deepen(&mut self, node: Node, depth: u8)
+        requires level { node.level ≤ height self.old.board }
+        requires place { node.place < nodes self.old.board node.level }
+        requires depth { depth ≤ 3 }
         ensures values { seen self.new ≡ record (seen self.old) {
-          depth = with_depth self.old.board core.number part.now (seen self.old).depth;
+          depth = deepened node depth (seen self.old).depth;
         } }
         ensures life { self.new.life ≡ self.old.life }
         ensures board { self.new.board ≡ self.old.board }
     {
-        law_paths();
         law_limits();
-        let node = self.domain_on_path(core, part.level);
         let row = DomainRow {
-            depth: part.depth,
+            depth,
             ..domain(&self.domains, node)
         };
         set_domain(&mut self.domains, node, row);
@@ -158,16 +153,17 @@ impl Controller {
     {
         let mut applied: u8 = 0;
         for part in parts {
-            if !self.is_live(core, part) {
+            let node = self.domain_on_path(core, part.level);
+            if !self.is_live(node, part) {
                 return Done {
                     applied,
                     stale: true,
                 };
             }
-            if !self.is_covered(core, part) {
+            if !self.is_covered(node, part) {
                 break;
             }
-            self.deepen(core, part);
+            self.deepen(node, part.depth);
             applied += 1;
         }
         Done {

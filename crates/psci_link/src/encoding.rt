@@ -12,7 +12,7 @@ use psci_board::Core;
 use psci_coord::{MOST_PARTS, Part};
 
 /// The first two bytes of a frame.
-pub(crate) const MAGIC: [u8; 2] = [0x50, 0x44];
+pub const MAGIC: [u8; 2] = [0x50, 0x44];
 
 /// The bytes of a frame.
 pub fn encode(frame: &Frame) -> [u8; FRAME_LEN]

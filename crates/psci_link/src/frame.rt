@@ -9,25 +9,25 @@ use crate::message::Message;
 pub const FRAME_LEN: usize = 53;
 
 /// How many bytes stand before the parts.
-pub(crate) const HEADER_LEN: usize = 13;
+pub const HEADER_LEN: usize = 13;
 
 /// How many bytes a part has.
-pub(crate) const PART_LEN: usize = 10;
+pub const PART_LEN: usize = 10;
 
 /// Where the kind byte stands, after the first two bytes.
-pub(crate) const KIND_AT: usize = 2;
+pub const KIND_AT: usize = 2;
 
 /// Where the number of the core stands.
-pub(crate) const CORE_AT: usize = 3;
+pub const CORE_AT: usize = 3;
 
 /// Where the life begins.
-pub(crate) const LIFE_AT: usize = 4;
+pub const LIFE_AT: usize = 4;
 
 /// Where the number of the message begins.
-pub(crate) const NUMBER_AT: usize = 8;
+pub const NUMBER_AT: usize = 8;
 
 /// Where the count stands: how many parts a message has, or how many were applied.
-pub(crate) const COUNT_AT: usize = 12;
+pub const COUNT_AT: usize = 12;
 
 /// A message or an acknowledgement.
 #[derive(Debug, PartialEq, Eq, Drop)]

@@ -11,7 +11,7 @@ const MOST_CARRIED: u8 = 1;
 
 /// What kind of frame bytes are.
 #[derive(Clone, Copy, Debug, PartialEq, Eq)]
-pub(crate) enum Heading {
+pub enum Heading {
     /// A message of this kind.
     Message(Kind),
     /// An acknowledgement of a message of this kind, and whether it is stale.
@@ -23,7 +23,7 @@ ghost use Rattle.psci_link.specs.Heading.{kind_of, heading_of, allows_count, par
 
 impl Heading {
     /// What a kind byte says, if it is one.
-    pub(crate) fn of(byte: u8) -> Option<Heading>
+    pub fn of(byte: u8) -> Option<Heading>
         ensures { result ≡ heading_of byte }
     {
         let kind = kind_of(byte % 16)?;
@@ -36,7 +36,7 @@ impl Heading {
     }
 
     /// Whether a frame of this kind may have this count.
-    pub(crate) fn allows_count(self, count: u8) -> bool
+    pub fn allows_count(self, count: u8) -> bool
         ensures { result ≡ allows_count self count }
     {
         match self {
@@ -48,7 +48,7 @@ impl Heading {
     }
 
     /// How many parts a frame of this kind and count has.
-    pub(crate) fn parts(self, count: u8) -> u8
+    pub fn parts(self, count: u8) -> u8
         requires { allows_count self count ≡ true }
         ensures parts { result ≡ parts_of self count }
         ensures few { result ≤ 4 }

@@ -8,20 +8,20 @@ use psci_abi::Format;
 
 /// The fields of the parameter power_state of CPU_SUSPEND.
 #[derive(Clone, Copy)]
-pub(crate) struct Fields {
+pub struct Fields {
     /// StateID.
-    pub(crate) state_id: u32,
+    pub state_id: u32,
     /// StateType: 0 standby or retention, 1 power-down.
-    pub(crate) state_type: u32,
+    pub state_type: u32,
     /// PowerLevel, which only the original format has.
-    pub(crate) power_level: Option<u32>,
+    pub power_level: Option<u32>,
     /// Whether the reserved bits are zero.
-    pub(crate) reserved_is_zero: bool,
+    pub reserved_is_zero: bool,
 }
 
 impl Fields {
     /// The fields of a word of this format.
-    pub(crate) fn of(word: u32, format: Format) -> Fields
+    pub fn of(word: u32, format: Format) -> Fields
         ensures state_id { result.state_id ≡ state_id format word }
         ensures state_type { result.state_type ≡ state_type format word }
         ensures power_level { result.power_level ≡ power_level format word }
@@ -45,7 +45,7 @@ impl Fields {
 }
 
 /// The bits of a word from `high` down to `low`, as a number.
-pub(crate) fn bits(word: u32, high: u32, low: u32) -> u32
+pub fn bits(word: u32, high: u32, low: u32) -> u32
     requires low { low ≤ high }
     requires high { high < low + 31 }
     requires word { high < 32 }

@@ -13,8 +13,7 @@ use psci_world_model::{Event, Place};
 
 /// A function word that is asked about, or called, now and then.
 ///
-/// Four of them have a function. CPU_OFF has no SMC64 form, 0x8400_0012 is SYSTEM_RESET2, and bit 25
-/// is none of a function number.
+/// CPU_OFF has no SMC64 form, 0x8400_0012 is SYSTEM_RESET2, and no function number has bit 25.
 const WORDS: [u32; 8] = [
     NO_FUNCTION,
     CPU_SUSPEND_32,

@@ -2,12 +2,9 @@ use Rattle.std.proofs.Common.{◌≡◌, ℕ, ◌<◌, ◌≤◌, List, [], leng
 use Rattle.std.proofs.Common.{subst, refl}
 use Rattle.std.specs.Vec.{with_items}
 use Rattle.std.proofs.lemmas.List.{with_items_is}
-use Rattle.psci_board.specs.declared.node.Node.{Node}
-use Rattle.psci_board.specs.Board.{cores, height, up}
-use Rattle.psci_board.specs.Laws.{PathLaws}
-use Rattle.psci_coord.specs.View.{domain_of}
+use Rattle.psci_board.specs.Board.{height, nodes}
 use Rattle.psci_ctl.specs.declared.level.DomainRow.{DomainRow}
-use Rattle.psci_ctl.specs.Rows.{HasShape, depth_in, domain_at, values_in, with_depth}
+use Rattle.psci_ctl.specs.Rows.{HasShape, deepened, depth_in, domain_at, values_in}
 use Rattle.psci_ctl.specs.Seen.{ControllerValue}
 use Rattle.psci_ctl.proofs.Kept.{IsDeepened, deepened_kept, is_deepened, whole}
 use Rattle.psci_ctl.proofs.Looked.{set_row, shape_set}
@@ -19,49 +16,42 @@ record Written (c : goal.After-self-1) : Type 0 where
   items : (with_items c.self.inside.domains c.set_domain.new.levels).items
       ≡ c.set_domain.new.levels
   shape : HasShape c.self.inside.board c.set_domain.new.levels
-  deep : IsDeepened c.self.inside.domains.items c.set_domain.new.levels c.args.part.now.level
-      (up c.self.inside.board c.args.part.now.level c.args.core.number) c.args.part.now.depth
+  deep : IsDeepened c.self.inside.domains.items c.set_domain.new.levels c.args.node.level
+      c.args.node.place c.args.depth
 
 written : (c : goal.After-self-1) → Written c
 written c =
     let b = c.self.inside.board in
     let ds = c.self.inside.domains in
     let new_ds = c.set_domain.new.levels in
-    let k : ℕ = c.args.part.now.level in
-    let core : ℕ = c.args.core.number in
+    let k : ℕ = c.args.node.level in
+    let place : ℕ = c.args.node.place in
     let same : whole b c.self.inside.life c.self.inside.cores.items ds.items ≡ c.args.self.now =
     c.self.view_is in
     let low : k ≤ height b =
     subst (λ (v : ControllerValue). k ≤ height v.board) (sym same) c.requires.level in
-    let inside : core < cores b =
-    subst (λ (v : ControllerValue). core < cores v.board) (sym same) c.requires.core in
-    let node : c.domain_on_path-node.result ≡ domain_of b core k =
-    c.domain_on_path-node.ensures
-    ∙ ap (λ (v : ControllerValue). domain_of v.board core k) (sym same) in
-    let place : ℕ = up b k core in
+    let inside : place < nodes b k =
+    subst (λ (v : ControllerValue). place < nodes v.board k) (sym same) c.requires.place in
     let row : DomainRow = record {
-      depth = c.args.part.now.depth;
+      depth = c.args.depth;
       starts = c.domain.result.starts;
     } in
     let full : length new_ds ≡ ds.len = c.set_domain.auto.levels ∙ c.deref_mut.ensures.len in
     let set : new_ds ≡ set_row ds.items k place row =
     c.set_domain.ensures
-    ∙ ap (λ (n : Node). set_row c.deref_mut.result.now n.level n.place row) node
     ∙ ap (λ (xs : List (List DomainRow)). set_row xs k place row) c.deref_mut.ensures.value in
     let was : row.starts ≡ (domain_at ds.items k place).starts =
     ap (λ (r : DomainRow). r.starts) (c.domain.ensures
-    ∙ ap (λ (n : Node). domain_at c.deref.result.now n.level n.place) node
     ∙ ap (λ (xs : List (List DomainRow)). domain_at xs k place) c.deref.ensures.value) in
     let shape : HasShape b ds.items = c.self.invariant.shape in
-    let laws : PathLaws b = c.law_paths.ensures b c.self.invariant.board in
     let fits : place < length (get_or ds.items k []) =
-    omega (arith, shape.places k low, laws.inside core k inside low) in
+    omega (arith, shape.places k low, inside) in
     record {
       items = with_items_is ds new_ds full;
       shape = subst (HasShape b) (sym set) (shape_set b ds.items k place row shape);
       deep = subst (λ (xs : List (List DomainRow)). IsDeepened ds.items xs k place
-          c.args.part.now.depth) (sym set)
-          (is_deepened ds.items k place c.args.part.now.depth row
+          c.args.depth) (sym set)
+          (is_deepened ds.items k place c.args.depth row
           (omega (arith, shape.levels)) fits refl was);
     }
 
@@ -70,8 +60,8 @@ invariant_of-self c =
     let is = written c in
     rw (is.items)
     (deepened_kept c.self.inside.board c.self.inside.life c.self.inside.cores.items
-    c.self.inside.domains.items c.set_domain.new.levels c.args.part.now.level
-    (up c.self.inside.board c.args.part.now.level c.args.core.number) c.args.part.now.depth
+    c.self.inside.domains.items c.set_domain.new.levels c.args.node.level
+    c.args.node.place c.args.depth
     c.self.invariant is.shape is.deep c.requires.depth)
 
 pub returns-clause-values : goal.returns-clause-values
@@ -82,9 +72,7 @@ returns-clause-values c =
     let cs = c.self.inside.cores.items in
     let ds = c.self.inside.domains.items in
     let new_ds = c.set_domain.new.levels in
-    let core : ℕ = c.args.core.number in
-    let p = c.args.part.now in
     rw (← c.self.view_is, is.items)
     (same_values (values_in o cs new_ds)
-    (record (values_in o cs ds) { depth = with_depth b core p (depth_in ds) })
+    (record (values_in o cs ds) { depth = deepened c.args.node c.args.depth (depth_in ds) })
     refl (λ k. refl) (λ k. refl) is.deep.depths)

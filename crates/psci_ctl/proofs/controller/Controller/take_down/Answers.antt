@@ -3,8 +3,8 @@ use Rattle.psci_coord.specs.declared.part.Part.{Part}
 use Rattle.psci_ctl_model.specs.Parts.{applied}
 use Rattle.psci_ctl.specs.Seen.{seen}
 use Rattle.psci_ctl.proofs.Applying.{goes_on, is_late, left_stale, none_left, stops}
-use Rattle.psci_ctl.proofs.Walked.{IsWalked, depth_at, live_then, low_at, one_passed, one_stopped}
-use Rattle.psci_ctl.proofs.Walked.{passed_more, walked_more}
+use Rattle.psci_ctl.proofs.Walked.{IsWalked, covered_at, deepened_at, depth_at, live_at, live_then}
+use Rattle.psci_ctl.proofs.Walked.{low_at, one_passed, one_stopped, passed_more, walked_more}
 use Rattle.psci_ctl.proofs.controller.Controller.take_down.Goals as goal
 
 -- the part that stands for none
@@ -27,7 +27,8 @@ late_count c =
     stops old.board (seen old) core k ps none c.loop-part-test.true c.loop-part.invariant.passed
     (is_late old.board (seen old) core ps (get_or ps k none)
     (live_then old now core k ps (get_or ps k none) false is
-    (sym (c.if-not-is_live.ensures {u = tt}))))
+    (live_at now core (get_or ps k none) _ _ c.domain_on_path-node.ensures.domain
+    (c.if-not-is_live.ensures {u = tt}))))
 
 pub returns-then-not-is_live-clause-applied : goal.returns-then-not-is_live-clause-applied
 returns-then-not-is_live-clause-applied c = c.loop-part.invariant.count ∙ sym (late_count c)
@@ -45,21 +46,31 @@ returns-then-not-is_live-clause-stale c =
     } in
     sym (left_stale old.board (seen old) core k ps none _ c.loop-part-test.true (late_count c)
     (live_then old now core k ps (get_or ps k none) false is
-    (sym (c.if-not-is_live.ensures {u = tt}))))
+    (live_at now core (get_or ps k none) _ _ c.domain_on_path-node.ensures.domain
+    (c.if-not-is_live.ensures {u = tt}))))
 
-pub is_covered-requires-clause-level : goal.is_covered-requires-clause-level
-is_covered-requires-clause-level c =
+pub domain_on_path-node-requires-clause-level : goal.domain_on_path-node-requires-clause-level
+domain_on_path-node-requires-clause-level c =
     low_at c.args.self.now c.loop-part.self c.args.core.number c.loop-part.part-index
     c.args.parts.now none
     (record { board = c.loop-part.invariant.board; values = c.loop-part.invariant.values })
     c.requires.parts c.requires.few c.loop-part-test.true
+
+pub is_live-requires-clause-level : goal.is_live-requires-clause-level
+is_live-requires-clause-level c =
+    rw c.domain_on_path-node.ensures.domain
+    (low_at c.args.self.now c.loop-part.self c.args.core.number c.loop-part.part-index
+    c.args.parts.now none
+    (record { board = c.loop-part.invariant.board; values = c.loop-part.invariant.values })
+    c.requires.parts c.requires.few c.loop-part-test.true)
 
 pub deepen-requires-clause-level : goal.deepen-requires-clause-level
 deepen-requires-clause-level c =
-    low_at c.args.self.now c.loop-part.self c.args.core.number c.loop-part.part-index
+    rw c.domain_on_path-node.ensures.domain
+    (low_at c.args.self.now c.loop-part.self c.args.core.number c.loop-part.part-index
     c.args.parts.now none
     (record { board = c.loop-part.invariant.board; values = c.loop-part.invariant.values })
-    c.requires.parts c.requires.few c.loop-part-test.true
+    c.requires.parts c.requires.few c.loop-part-test.true)
 
 pub deepen-requires-clause-depth : goal.deepen-requires-clause-depth
 deepen-requires-clause-depth c =
@@ -78,13 +89,17 @@ loop-part-preserved c =
     } in
     let more : IsWalked old c.deepen.new.self core (k + 1) ps =
     walked_more old now c.deepen.new.self core k ps none is c.requires.parts c.requires.few
-    c.loop-part-test.true c.deepen.ensures.board c.deepen.ensures.values in
+    c.loop-part-test.true c.deepen.ensures.board
+    (deepened_at now c.deepen.new.self core (get_or ps k none) _
+    c.domain_on_path-node.ensures.domain c.deepen.ensures.values) in
     record {
       count = ap (λ n. n + 1) c.loop-part.invariant.count;
       passed = passed_more old core k ps none c.loop-part-test.true c.loop-part.invariant.passed
           (one_passed old now core k ps none is c.requires.parts c.loop-part-test.true
-          (sym (c.if-not-is_live.ensures {u = tt}))
-          (sym (c.if-not-is_covered.ensures {u = tt})));
+          (live_at now core (get_or ps k none) _ _ c.domain_on_path-node.ensures.domain
+          (c.if-not-is_live.ensures {u = tt}))
+          (covered_at now core (get_or ps k none) _ _ c.domain_on_path-node.ensures.domain
+          (c.if-not-is_covered.ensures {u = tt})));
       values = more.values;
       board = more.board;
     }
@@ -121,7 +136,10 @@ held_count c =
     } in
     stops old.board (seen old) core k ps none c.loop-part-test.true c.loop-part.invariant.passed
     (one_stopped old now core k ps none is c.requires.parts c.loop-part-test.true
-    (sym (c.if-not-is_live.ensures {u = tt})) (sym (c.if-not-is_covered.ensures {u = tt})))
+    (live_at now core (get_or ps k none) _ _ c.domain_on_path-node.ensures.domain
+    (c.if-not-is_live.ensures {u = tt}))
+    (covered_at now core (get_or ps k none) _ _ c.domain_on_path-node.ensures.domain
+    (c.if-not-is_covered.ensures {u = tt})))
 
 pub returns-then-not-is_covered-clause-applied : goal.returns-then-not-is_covered-clause-applied
 returns-then-not-is_covered-clause-applied c = c.loop-part.invariant.count ∙ sym (held_count c)
@@ -139,4 +157,5 @@ returns-then-not-is_covered-clause-stale c =
     } in
     sym (left_stale old.board (seen old) core k ps none _ c.loop-part-test.true (held_count c)
     (live_then old now core k ps (get_or ps k none) true is
-    (sym (c.if-not-is_live.ensures {u = tt}))))
+    (live_at now core (get_or ps k none) _ _ c.domain_on_path-node.ensures.domain
+    (c.if-not-is_live.ensures {u = tt}))))
