@@ -12,6 +12,7 @@ use Rattle.psci_script.specs.declared.lines.Extent.{Extent}
 use Rattle.psci_bench.specs.declared.progress.Progress.{Progress as Fields}
 use Rattle.psci_bench.specs.Answered.{Answered}
 use Rattle.psci_bench.specs.Block.{ReadAhead}
+use Rattle.psci_bench.specs.Device.{GaveUp}
 use Rattle.psci_script.specs.Limits.{longest_line, most_lines}
 use Rattle.psci_script.specs.Lines.{has_line_feed}
 
@@ -46,6 +47,12 @@ first_progress left taken =
       events = 0;
     }) taken
 
+-- the replay with these fields has not begun
+abbrev pub IsFirst : {S K : Type 0} → (S → Option (List ℕ)) → (K → Option (List ℕ))
+    → Fields S K → Type 0
+IsFirst left taken p =
+    progress_of left taken p ≡ first_progress (left p.source.now) (taken p.sink.now)
+
 -- a replay keeps its devices
 pub record SameDevices {S K : Type 0} (old new : Fields S K) : Type 0 where
   pub source : new.source.ghost_name ≡ old.source.ghost_name
@@ -56,6 +63,13 @@ pub record StaySound {S K : Type 0} (source_failed : S → Bool) (sink_failed : 
     (old new : Fields S K) : Type 0 where
   pub source : source_failed new.source.now ≡ source_failed old.source.now
   pub sink : sink_failed new.sink.now ≡ sink_failed old.sink.now
+
+-- a read fault is answered only where the source gave up, a write fault only where the sink did
+abbrev pub OnlyGivenUp : {S K : Type 0} → (S → Bool) → (S → ℕ) → (K → Bool) → (K → ℕ) → S → K
+    → ReplayFault → Type 0
+OnlyGivenUp source_failed source_interruptions sink_failed sink_interruptions source sink fault =
+    (fault ≡ Read → GaveUp (source_failed source) (source_interruptions source))
+    × (fault ≡ Write → GaveUp (sink_failed sink) (sink_interruptions sink))
 
 -- Bytes were read ahead, and answers that waited were written. After the end nothing is read.
 pub record Ahead (s t : Progress) : Type 0 where

@@ -1,11 +1,9 @@
 //! How far a replay has come.
 
 ghost use Rattle.std.specs.Prelude.{◌≡◌, ◌<◌, length, IfErr, OnOk};
-ghost use Rattle.psci_script.specs.declared.fault.ReplayFault.TheVariants.{Read, Write};
-ghost use Rattle.psci_bench.specs.Device.{GaveUp};
 ghost use Rattle.psci_bench.specs.Limits.{block_room};
-ghost use Rattle.psci_bench.specs.Progress.{ReadsAhead, FindsLine, SameDevices, StaySound};
-ghost use Rattle.psci_bench.specs.Progress.{progress, progress_of};
+ghost use Rattle.psci_bench.specs.Progress.{FindsLine, OnlyGivenUp, ReadsAhead, SameDevices};
+ghost use Rattle.psci_bench.specs.Progress.{StaySound, progress, progress_of};
 
 use crate::answers::Answers;
 use crate::block::Block;
@@ -55,10 +53,8 @@ impl<'d, 'b, S: Source, K: Sink> Progress<'d, 'b, S, K> {
         ensures sound { OnOk result (StaySound S.failed K.failed self.old self.new) }
         ensures ahead { ReadsAhead result (progress_of S.left K.taken self.old)
             (progress_of S.left K.taken self.new) }
-        ensures read { IfErr result (λ fault. fault ≡ Read
-            → GaveUp (S.failed self.new.source.now) (S.interruptions self.new.source.now)) }
-        ensures write { IfErr result (λ fault. fault ≡ Write
-            → GaveUp (K.failed self.new.sink.now) (K.interruptions self.new.sink.now)) }
+        ensures given_up { IfErr result (OnlyGivenUp S.failed S.interruptions K.failed
+            K.interruptions self.new.source.now self.new.sink.now) }
     {
         self.answers.write_to(self.sink)?;
         self.block.refill(self.source)
@@ -74,10 +70,8 @@ impl<'d, 'b, S: Source, K: Sink> Progress<'d, 'b, S, K> {
         ensures sound { OnOk result (StaySound S.failed K.failed self.old self.new) }
         ensures found { FindsLine number result (progress_of S.left K.taken self.old)
             (progress_of S.left K.taken self.new) }
-        ensures read { IfErr result (λ fault. fault ≡ Read
-            → GaveUp (S.failed self.new.source.now) (S.interruptions self.new.source.now)) }
-        ensures write { IfErr result (λ fault. fault ≡ Write
-            → GaveUp (K.failed self.new.sink.now) (K.interruptions self.new.sink.now)) }
+        ensures given_up { IfErr result (OnlyGivenUp S.failed S.interruptions K.failed
+            K.interruptions self.new.source.now self.new.sink.now) }
     {
         loop {
             let unread = self.block.unread();

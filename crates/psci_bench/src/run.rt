@@ -5,11 +5,9 @@ ghost use Rattle.std.specs.Prelude.{IfOk, IfErr, OnOk};
 ghost use Rattle.psci_board.specs.Board.{BoardValue};
 ghost use Rattle.psci_world_model.specs.declared.said.Record.{Record};
 ghost use Rattle.psci_storm.specs.Seen.{IsPresent};
-ghost use Rattle.psci_script.specs.declared.fault.ReplayFault.TheVariants.{Read, Write};
-ghost use Rattle.psci_bench.specs.Device.{GaveUp};
 ghost use Rattle.psci_script.specs.Limits.{longest_line, most_lines};
-ghost use Rattle.psci_bench.specs.Progress.{IsLine, SameDevices, StaySound, first_progress};
-ghost use Rattle.psci_bench.specs.Progress.{progress_of};
+ghost use Rattle.psci_bench.specs.Progress.{IsFirst, IsLine, OnlyGivenUp};
+ghost use Rattle.psci_bench.specs.Progress.{SameDevices, StaySound, progress_of};
 ghost use Rattle.psci_bench.specs.Run.{BoardRead, IsUnderWay, EndsBy};
 ghost use Rattle.psci_bench.specs.Run.{Runs, Replays, LineLeaves, LineRefused, IsNoDevice};
 ghost use Rattle.psci_bench.specs.Run.{is_write_fault};
@@ -69,8 +67,7 @@ fn answer(
 impl<S: Source, K: Sink> Progress<'_, '_, S, K> {
     /// The present of the board that the first line has, before any event.
     fn begin(&mut self, alloc: Global) -> Result<Present, ReplayFault>
-        requires { progress_of S.left K.taken self.old
-            ≡ first_progress (S.left self.old.source.now) (K.taken self.old.sink.now) }
+        requires { IsFirst S.left K.taken self.old }
         ensures devices { SameDevices self.old self.new }
         ensures sound { OnOk result (StaySound S.failed K.failed self.old self.new) }
         ensures ok { IfOk result (λ present. IsUnderWay present 1
@@ -79,10 +76,8 @@ impl<S: Source, K: Sink> Progress<'_, '_, S, K> {
         ensures err { IfErr result (λ fault. EndsBy fault
             (S.left self.old.source.now) (K.taken self.old.sink.now)
             (progress_of S.left K.taken self.new)) }
-        ensures read { IfErr result (λ fault. fault ≡ Read
-            → GaveUp (S.failed self.new.source.now) (S.interruptions self.new.source.now)) }
-        ensures write { IfErr result (λ fault. fault ≡ Write
-            → GaveUp (K.failed self.new.sink.now) (K.interruptions self.new.sink.now)) }
+        ensures given_up { IfErr result (OnlyGivenUp S.failed S.interruptions K.failed
+            K.interruptions self.new.source.now self.new.sink.now) }
     {
         let Some(extent) = self.next_line(1)? else {
             return Err(ScriptFault::NoBoard.at(1));
@@ -122,17 +117,14 @@ impl<S: Source, K: Sink> Progress<'_, '_, S, K> {
 
     /// Answers each line of the script; the last answers may still wait to be written.
     fn run(&mut self, alloc: Global) -> Result<Replayed, ReplayFault>
-        requires { progress_of S.left K.taken self.old
-            ≡ first_progress (S.left self.old.source.now) (K.taken self.old.sink.now) }
+        requires { IsFirst S.left K.taken self.old }
         ensures devices { SameDevices self.old self.new }
         ensures sound { OnOk result (StaySound S.failed K.failed self.old self.new) }
         ensures runs { Runs result
             (S.left self.old.source.now) (K.taken self.old.sink.now)
             (progress_of S.left K.taken self.new) }
-        ensures read { IfErr result (λ fault. fault ≡ Read
-            → GaveUp (S.failed self.new.source.now) (S.interruptions self.new.source.now)) }
-        ensures write { IfErr result (λ fault. fault ≡ Write
-            → GaveUp (K.failed self.new.sink.now) (K.interruptions self.new.sink.now)) }
+        ensures given_up { IfErr result (OnlyGivenUp S.failed S.interruptions K.failed
+            K.interruptions self.new.source.now self.new.sink.now) }
     {
         let mut present = self.begin(alloc)?;
         let mut lines: u64 = 1;
@@ -148,17 +140,14 @@ impl<S: Source, K: Sink> Progress<'_, '_, S, K> {
 
     /// Answers the script, and writes the last answers.
     fn complete(&mut self, alloc: Global) -> Result<Replayed, ReplayFault>
-        requires { progress_of S.left K.taken self.old
-            ≡ first_progress (S.left self.old.source.now) (K.taken self.old.sink.now) }
+        requires { IsFirst S.left K.taken self.old }
         ensures devices { SameDevices self.old self.new }
         ensures sound { OnOk result (StaySound S.failed K.failed self.old self.new) }
         ensures replays { Replays result
             (S.left self.old.source.now) (S.left self.new.source.now)
             (K.taken self.old.sink.now) (K.taken self.new.sink.now) }
-        ensures read { IfErr result (λ fault. fault ≡ Read
-            → GaveUp (S.failed self.new.source.now) (S.interruptions self.new.source.now)) }
-        ensures write { IfErr result (λ fault. fault ≡ Write
-            → GaveUp (K.failed self.new.sink.now) (K.interruptions self.new.sink.now)) }
+        ensures given_up { IfErr result (OnlyGivenUp S.failed S.interruptions K.failed
+            K.interruptions self.new.source.now self.new.sink.now) }
     {
         let ended = self.run(alloc);
         if is_write_fault(&ended) {
@@ -180,10 +169,8 @@ fn replay_lines<S: Source, K: Sink>(
     ensures sound { OnOk result ((S.failed source.new ≡ false) × (K.failed sink.new ≡ false)) }
     ensures replays { Replays result (S.left source.old) (S.left source.new)
         (K.taken sink.old) (K.taken sink.new) }
-    ensures read { IfErr result (λ fault. fault ≡ Read
-        → GaveUp (S.failed source.new) (S.interruptions source.new)) }
-    ensures write { IfErr result (λ fault. fault ≡ Write
-        → GaveUp (K.failed sink.new) (K.interruptions sink.new)) }
+    ensures given_up { IfErr result (OnlyGivenUp S.failed S.interruptions K.failed K.interruptions
+        source.new sink.new) }
 {
     let mut block = Block::new(alloc)?;
     let mut answers = Answers::new(alloc)?;
@@ -214,10 +201,8 @@ pub fn replay<S: Source, K: Sink>(
     ensures sound { OnOk result ((S.failed source.new ≡ false) × (K.failed sink.new ≡ false)) }
     ensures replays { Replays result (S.left source.old) (S.left source.new)
         (K.taken sink.old) (K.taken sink.new) }
-    ensures read { IfErr result (λ fault. fault ≡ Read
-        → GaveUp (S.failed source.new) (S.interruptions source.new)) }
-    ensures write { IfErr result (λ fault. fault ≡ Write
-        → GaveUp (K.failed sink.new) (K.interruptions sink.new)) }
+    ensures given_up { IfErr result (OnlyGivenUp S.failed S.interruptions K.failed K.interruptions
+        source.new sink.new) }
     ensures safe { Prints result (S.left source.old) (K.taken sink.old) (K.taken sink.new) }
 {
     law_safe_scripts();
