@@ -6,7 +6,7 @@ use Rattle.std.proofs.lemmas.List.{append-nil, append_assoc}
 use Rattle.psci_board.specs.Board.{BoardValue, IsBoard}
 use Rattle.psci_board.specs.Verdict.{board_of}
 use Rattle.psci_board.specs.declared.fault.BoardFault.{BoardFault}
-use Rattle.psci_storm.specs.Safe.{AlwaysSafe}
+use Rattle.psci_world.specs.Safe.{AlwaysSafe}
 use Rattle.psci_world_model.specs.declared.event.Event.{Event}
 use Rattle.psci_world_model.specs.declared.said.Record.{Record}
 use Rattle.psci_world_model.specs.Legal.{IsLegalPast, legal, legal_record, run_from}

@@ -5,7 +5,3 @@ pub mod Limits
 pub mod Progress
 pub mod Run
 pub mod ScriptRun
-pub use Rattle.psci_storm.specs.Settled
-pub use Rattle.psci_storm.specs.declared.outcome.Storm
-pub use Rattle.psci_tally.specs.Counts
-pub use Rattle.psci_world_model.specs.declared.said.Record

@@ -6,7 +6,7 @@ use Rattle.psci_board.specs.Board.{BoardValue}
 use Rattle.psci_board.specs.Verdict.{board_of}
 use Rattle.psci_world_model.specs.declared.said.Record.{Record}
 use Rattle.psci_world_model.specs.Legal.{legal, legal_record}
-use Rattle.psci_storm.specs.Seen.{IsPresent, PresentValue}
+use Rattle.psci_world.specs.Seen.{IsPresent, PresentValue}
 use Rattle.psci_script.specs.declared.fault.Replayed.{Replayed}
 use Rattle.psci_script.specs.declared.fault.ReplayFault.{ReplayFault}
 use Rattle.psci_script.specs.declared.fault.ReplayFault.TheVariants.{Script, Board, Read, Write}

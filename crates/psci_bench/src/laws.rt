@@ -3,7 +3,7 @@
 ghost use Rattle.psci_bench.specs.ScriptRun.{AllSafe};
 
 use psci_board::law_boards;
-use psci_storm::law_safe;
+use psci_world::law_safe;
 use psci_world_model::law_runs;
 
 /// The answer text of every script is that of the legal run of its events, up to the first fault,

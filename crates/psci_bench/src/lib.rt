@@ -2,8 +2,6 @@
 //! what is said of it, are those of `psci_world`; the lines of a script and its answer text are those
 //! of `psci_script`.
 //!
-//! - A *storm* is a run of random events, after which the world settles: `psci_storm`. How often each
-//!   kind of record came in it is counted by `psci_tally`.
 //! - A *source* and a *sink* are the devices that a script comes from and its answers go to.
 #![tactic(auto)]
 
@@ -20,8 +18,6 @@ mod transfer;
 pub use device::{Io, Sink, Source};
 pub use laws::law_safe_scripts;
 pub use psci_script::{ReplayFault, Replayed, ScriptFault, law_event_lines};
-pub use psci_storm::{Settled, Storm, StormedWorld, blow, storm, storm_world};
-pub use psci_tally::write_counts;
 pub use run::replay;
 pub use standard::Std;
 

@@ -4,7 +4,7 @@ ghost use Rattle.std.specs.Prelude.{◌≡◌, ◌+◌, ◌-◌, ◌^◌, ◌<�
 ghost use Rattle.std.specs.Prelude.{IfOk, IfErr, OnOk};
 ghost use Rattle.psci_board.specs.Board.{BoardValue};
 ghost use Rattle.psci_world_model.specs.declared.said.Record.{Record};
-ghost use Rattle.psci_storm.specs.Seen.{IsPresent};
+ghost use Rattle.psci_world.specs.Seen.{IsPresent};
 ghost use Rattle.psci_script.specs.Limits.{longest_line, most_lines};
 ghost use Rattle.psci_bench.specs.Progress.{IsFirst, IsLine, OnlyGivenUp};
 ghost use Rattle.psci_bench.specs.Progress.{SameDevices, StaySound, progress_of};
@@ -20,8 +20,8 @@ use crate::laws::law_safe_scripts;
 use crate::progress::Progress;
 use psci_board::{Board, BoardFault};
 use psci_script::{Extent, Line, ReplayFault, Replayed, ScriptFault, read_line};
-use psci_storm::Present;
 use psci_text::literal;
+use psci_world::Present;
 use std::alloc::Global;
 
 /// The board of a first line.

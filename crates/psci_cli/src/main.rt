@@ -7,9 +7,10 @@ ghost use Rattle.std.specs.Prelude.{IfErr};
 ghost use Rattle.psci_board.specs.Verdict.{board_of};
 ghost use Rattle.psci_cli.specs.Ends.{IsOfReplay, StormEnds};
 
-use psci_bench::{ReplayFault, Std, replay, storm_world};
+use psci_bench::{ReplayFault, Std, replay};
 use psci_board::Board;
 use psci_command::{Failure, Request, StormRequest, asked, words};
+use psci_storm::storm_world;
 use std::process::ExitCode;
 use storm_line::write_storm;
 

@@ -17,7 +17,8 @@ mod requests;
 
 pub use blowing::{blow, storm, storm_world};
 pub use outcome::{Storm, StormedWorld};
-pub use psci_world::{Present, Settled, law_safe};
+pub use psci_tally::write_counts;
+pub use psci_world::Settled;
 
 #[cfg(test)]
 mod storm_tests;
