@@ -13,8 +13,8 @@ abbrev pub claimed_or : Option Part → ℕ → ℕ
 claimed_or None before = before
 claimed_or (Some p) before = p.depth
 
--- the granted depths once these parts are, each on the path of a core at the level of its place in
--- the list
+-- the granted depths with these parts granted, each on the path of a core at the level of its place
+-- in the list
 abbrev pub granted_with : BoardValue → ℕ → List Part → (ℕ → ℕ → ℕ) → ℕ → ℕ → ℕ
 granted_with b c parts depth level place =
     if is_path_place b c level place
