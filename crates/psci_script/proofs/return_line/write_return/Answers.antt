@@ -14,3 +14,6 @@ write_digits-requires c = (
   ),
   search rules,
 )
+
+pub returns-clause-line : goal.returns-clause-line
+returns-clause-line c = search rules

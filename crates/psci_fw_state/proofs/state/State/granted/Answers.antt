@@ -1,5 +1,5 @@
-use Rattle.std.proofs.Common.{sym, subst, arith}
-use Rattle.psci_fw_state.specs.Seen.{IsStateOf, StateValue}
+use Rattle.std.proofs.Common.{sym, subst, arith, rules}
+use Rattle.psci_fw_state.specs.Seen.{IsStateOf, StateValue, values_in}
 use Rattle.psci_fw_state.proofs.Begun.{granted_shown}
 use Rattle.psci_fw_state.proofs.state.State.granted.Goals as goal
 
@@ -18,3 +18,7 @@ returns-else-node-nodes c =
     granted_shown c.args.board.now s _ c.args.node.level c.args.node.place c.self.view_is
     c.self.invariant.tree of.levels
     (λ h k. omega (arith, c.nodes.ensures.there h, c.if-node-nodes.false))
+
+pub returns-then-node-nodes : goal.returns-then-node-nodes
+unfolding values_in
+returns-then-node-nodes c = search rules

@@ -1,4 +1,4 @@
-use Rattle.std.proofs.Common.{sym, ◌∙◌, ap, Ok}
+use Rattle.std.proofs.Common.{sym, ◌∙◌, ap, Ok, rules}
 use Rattle.psci_fw_state.specs.Seen.{values_in}
 use Rattle.psci_fw_state.proofs.Viewed.{checked, platform_parts}
 use Rattle.psci_fw_state.proofs.state.State.suspend.Goals as goal
@@ -20,3 +20,6 @@ returns-in-Ok-clause-parts c =
     sym c.in-Ok.is ∙ c.checked_parts.ensures
     ∙ checked c.args.board.now (values_in c.args.self.now) c.args.core.number c.args.ask
     (sym c.mode.ensures ∙ c.in-OsInitiated.is)
+
+pub returns-in-Err-clause-refused : goal.returns-in-Err-clause-refused
+returns-in-Err-clause-refused c = search rules

@@ -1,0 +1,7 @@
+use Rattle.std.proofs.Common.{rules}
+use Rattle.psci_fw_state.specs.Seen.{values_in}
+use Rattle.psci_fw_state.proofs.state.State.halt.Goals as goal
+
+pub returns-clause-after : goal.returns-clause-after
+unfolding values_in
+returns-clause-after c = search rules

@@ -1,0 +1,7 @@
+use Rattle.std.proofs.Common.{rules}
+use Rattle.psci_fw_state.specs.Seen.{values_in}
+use Rattle.psci_fw_state.proofs.state.State.message.Goals as goal
+
+pub returns : goal.returns
+unfolding values_in
+returns c = search rules
