@@ -1,6 +1,7 @@
 -- What a function is answered is allowed.
-use Rattle.std.proofs.Common.{◌≡◌, ℕ, Bool, true, false, cond, []}
+use Rattle.std.proofs.Common.{◌≡◌, ◌==◌, ℕ, Bool, true, false, cond, []}
 use Rattle.std.proofs.Common.{refl}
+use Rattle.psci_abi.specs.Codes.{invalid_parameters}
 use Rattle.psci_abi.specs.declared.request.Request.{Request}
 use Rattle.psci_abi.specs.declared.request.Request.TheVariants as requests
 use Rattle.psci_board.specs.Board.{BoardValue}
@@ -10,8 +11,9 @@ use Rattle.psci_fw_model.specs.Calls.{function_outcome, outcome_of}
 use Rattle.psci_fw_model.specs.CpuOn.{target_of}
 use Rattle.psci_fw_model.specs.CpuSuspend.{ask_named}
 use Rattle.psci_fw_model.specs.Effects.{Halts}
-use Rattle.psci_fw_model.specs.Outcomes.{message_for, stops}
+use Rattle.psci_fw_model.specs.Outcomes.{message_for, returns, stops}
 use Rattle.psci_fw_model.specs.SuspendMode.{set_suspend_mode}
+use Rattle.psci_fw_model.specs.SystemCalls.{system_message, system_reset2}
 use Rattle.psci_fw_model.specs.Values.{Values}
 use Rattle.psci_fw_laws.specs.Messages.{is_system}
 use Rattle.psci_fw_laws.specs.Allowed.{IsAllowed, IsCalling}
@@ -42,6 +44,19 @@ halt_allowed b v c ready calls awake kind system = record {
   system = system;
 }
 
+-- SYSTEM_RESET2 halts by type 0, and returns by every other
+reset2_allowed : (b : BoardValue) (v : Values) (c reset_type cookie : ℕ) → IsReady b v
+    → IsCalling b v c → v.halting ≡ false
+    → Allows b v (outcome_effect b c (requests.SystemReset2 reset_type cookie)
+    (system_reset2 v c reset_type))
+reset2_allowed b v c reset_type cookie ready calls awake = by_type (reset_type == 0)
+  where
+    by_type : (here : Bool)
+        → Allows b v (outcome_effect b c (requests.SystemReset2 reset_type cookie)
+        (cond here (system_message v kinds.Reset c) (returns invalid_parameters)))
+    by_type true are = halt_allowed b v c ready calls awake kinds.Reset refl
+    by_type false are = calls
+
 function_allowed : (b : BoardValue) (v : Values) (c : ℕ) (r : Request) → LowerLaws b
     → IsReady b v → IsCalling b v c → v.halting ≡ false
     → Allows b v (outcome_effect b c r (function_outcome b v c r))
@@ -65,6 +80,8 @@ function_allowed b v c (requests.SystemSuspend entry_point context) laws ready c
     system_allowed b v c entry_point context laws ready calls awake are
 function_allowed b v c (requests.SetSuspendMode mode) laws ready calls awake are =
     returned b v c (requests.SetSuspendMode mode) (set_suspend_mode b v c mode) calls are
+function_allowed b v c (requests.SystemReset2 reset_type cookie) laws ready calls awake are =
+    reset2_allowed b v c reset_type cookie ready calls awake are
 function_allowed b v c requests.Unknown laws ready calls awake are = calls
 
 -- in a halting life every function stops its caller

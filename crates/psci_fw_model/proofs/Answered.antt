@@ -3,7 +3,8 @@ use Rattle.std.proofs.Common.{◌≡◌, ◌≤◌, ◌<◌, ◌==◌, ◌&&◌,
 use Rattle.std.proofs.Common.{true, false, cond, List, Option, None, Some, Ok, inl, inr, refl}
 use Rattle.std.proofs.Common.{sym, ap, subst, ◌∙◌, arith}
 use Rattle.std.specs.Prelude.{Result, Err, IsTrue, is_some}
-use Rattle.psci_abi.specs.Codes.{denied, internal_failure, invalid_address, success}
+use Rattle.psci_abi.specs.Codes.{denied, internal_failure, invalid_address, invalid_parameters}
+use Rattle.psci_abi.specs.Codes.{success}
 use Rattle.psci_abi.specs.declared.code.Code.{Code}
 use Rattle.psci_abi.specs.declared.request.Request.{Request}
 use Rattle.psci_abi.specs.declared.request.Request.TheVariants as requests
@@ -34,7 +35,8 @@ use Rattle.psci_fw_model.specs.Invariant.{AreValues, IsPhase}
 use Rattle.psci_fw_model.specs.Outcomes.{message_for, returns, stops}
 use Rattle.psci_fw_model.specs.Phases.{Phase, Pending, Running, Suspended, Away}
 use Rattle.psci_fw_model.specs.SuspendMode.{mode_of}
-use Rattle.psci_fw_model.specs.SystemCalls.{all_others, is_off_status, system_suspend}
+use Rattle.psci_fw_model.specs.SystemCalls.{all_others, is_off_status, system_message}
+use Rattle.psci_fw_model.specs.SystemCalls.{system_reset2, system_suspend}
 use Rattle.psci_fw_model.specs.Values.{Values, updated}
 use Rattle.psci_fw_model.proofs.Asked.{Known, asked_running, asks_at}
 use Rattle.psci_fw_model.proofs.Changing.{kept_halting, kept_leaving, kept_on, kept_pending}
@@ -206,6 +208,19 @@ on_kept b v c word entry_point context (Ok t) is e =
     kept_on b (with_pending b asked v) c (runs_on v c t.number is.runs)
     (kept_pending b v asked is.known (target_within b v word entry_point t is.known e) is.are)
 
+-- SYSTEM_RESET2 -------------------------------------------------------------------------------
+
+reset2_kept : (b : BoardValue) (v : Values) (c reset_type cookie : ℕ) → IsCalling b v c
+    → let o = system_reset2 v c reset_type in
+    Kept b v (function_effect b c (requests.SystemReset2 reset_type cookie) o.act o.message)
+reset2_kept b v c reset_type cookie is = by_type (reset_type == 0)
+  where
+    by_type : (here : Bool) → let o : Outcome =
+        cond here (system_message v kinds.Reset c) (returns invalid_parameters) in
+        Kept b v (function_effect b c (requests.SystemReset2 reset_type cookie) o.act o.message)
+    by_type true = kept_halting b v c (message_for v kinds.Reset c []) is.known is.runs is.are
+    by_type false = goes_on b v c is
+
 -- All functions -------------------------------------------------------------------------------
 
 off_kept : (b : BoardValue) (v : Values) (c : ℕ) → IsCalling b v c
@@ -245,6 +260,8 @@ function_kept b v c (requests.SystemSuspend entry_point context) is asks all =
     all)
 function_kept b v c (requests.SetSuspendMode number) is asks all =
     kept_by_mode b v c (mode_of number) is.known is.on is.runs is.are
+function_kept b v c (requests.SystemReset2 reset_type cookie) is asks all =
+    reset2_kept b v c reset_type cookie is
 function_kept b v c requests.Unknown is asks all = goes_on b v c is
 
 pub kept_function : (b : BoardValue) (v : Values) (c : ℕ) (r : Request) → Known b → c < cores b
