@@ -3,7 +3,7 @@ use Rattle.std.proofs.Common.{◌≡◌, ℕ, Bool, true, false, cond, ◌==◌,
 use Rattle.std.proofs.Common.{Option, None, Some, Ok, Err, ap, ◌∙◌}
 use Rattle.std.specs.Prelude.{Result}
 use Rattle.psci_abi.specs.Calls.{request_of}
-use Rattle.psci_abi.specs.Codes.{denied, invalid_address, success}
+use Rattle.psci_abi.specs.Codes.{denied, invalid_address, invalid_parameters, success}
 use Rattle.psci_abi.specs.declared.code.Code.{Code}
 use Rattle.psci_abi.specs.declared.registers.Regs.{Regs}
 use Rattle.psci_abi.specs.declared.request.Request.{Request}
@@ -12,6 +12,7 @@ use Rattle.psci_board.specs.Board.{BoardValue, height, may_enter}
 use Rattle.psci_board.specs.declared.node.Core.{Core}
 use Rattle.psci_coord.specs.declared.osi.Osi.{Osi}
 use Rattle.psci_coord.specs.declared.part.Part.{Part}
+use Rattle.psci_link.specs.declared.kind.Kind.TheVariants as kinds
 use Rattle.psci_state.specs.Ask.{deepest_of, is_deep}
 use Rattle.psci_state.specs.declared.fault.BadState.{BadState}
 use Rattle.psci_fw_model.specs.declared.call.FwCall.TheVariants.{Smc}
@@ -24,7 +25,8 @@ use Rattle.psci_fw_model.specs.Claims.{suspend_parts}
 use Rattle.psci_fw_model.specs.CpuOn.{started, target_of}
 use Rattle.psci_fw_model.specs.CpuSuspend.{ask_named, sleeps, suspend_asked}
 use Rattle.psci_fw_model.specs.Outcomes.{returns, stops}
-use Rattle.psci_fw_model.specs.SystemCalls.{all_others, is_off_status, system_suspend}
+use Rattle.psci_fw_model.specs.SystemCalls.{all_others, is_off_status, system_message}
+use Rattle.psci_fw_model.specs.SystemCalls.{system_reset2, system_suspend}
 use Rattle.psci_fw_model.specs.Values.{Values}
 use Rattle.psci_safe.specs.Moments.{goes_on_by}
 
@@ -66,6 +68,14 @@ asked_on : (v : Values) (target : Result Core Code) → Ends (started v target)
 asked_on v (Err code) = refl
 asked_on v (Ok core) = refl
 
+system_reset_2 : (v : Values) (c reset_type : ℕ) → Ends (system_reset2 v c reset_type)
+system_reset_2 v c reset_type = by_type (reset_type == 0)
+  where
+    by_type : (here : Bool)
+        → Ends (cond here (system_message v kinds.Reset c) (returns invalid_parameters))
+    by_type true = refl
+    by_type false = refl
+
 function_ends : (b : BoardValue) (v : Values) (c : ℕ) (r : Request)
     → Ends (function_outcome b v c r)
 function_ends b v c requests.Version = refl
@@ -82,6 +92,7 @@ function_ends b v c (requests.Features word) = refl
 function_ends b v c (requests.SystemSuspend entry_point context) =
     system_suspended b v c entry_point
 function_ends b v c (requests.SetSuspendMode mode) = refl
+function_ends b v c (requests.SystemReset2 reset_type cookie) = system_reset_2 v c reset_type
 function_ends b v c requests.Unknown = refl
 
 outcome_ends : (b : BoardValue) (v : Values) (c : ℕ) (r : Request) → Ends (outcome_of b v c r)

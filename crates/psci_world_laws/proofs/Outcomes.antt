@@ -12,6 +12,7 @@ use Rattle.psci_board.specs.declared.node.Core.{Core}
 use Rattle.psci_coord.specs.declared.osi.Osi.{Osi}
 use Rattle.psci_coord.specs.declared.part.Part.{Part}
 use Rattle.psci_ctl_model.specs.declared.start.Start.{Start}
+use Rattle.psci_link.specs.declared.kind.Kind.TheVariants as kinds
 use Rattle.psci_link.specs.Message.{MessageValue}
 use Rattle.psci_state.specs.Ask.{deepest_of, is_deep}
 use Rattle.psci_state.specs.declared.fault.BadState.{BadState}
@@ -34,7 +35,8 @@ use Rattle.psci_fw_model.specs.CpuOff.{off_message}
 use Rattle.psci_fw_model.specs.Outcomes.{returns, stops, stops_with}
 use Rattle.psci_fw_model.specs.Said as says
 use Rattle.psci_fw_model.specs.SuspendMode.{mode_of, set_suspend_mode}
-use Rattle.psci_fw_model.specs.SystemCalls.{all_others, is_off_status, system_suspend}
+use Rattle.psci_fw_model.specs.SystemCalls.{all_others, is_off_status, system_message}
+use Rattle.psci_fw_model.specs.SystemCalls.{system_reset2, system_suspend}
 use Rattle.psci_fw_model.specs.Values.{Values}
 
 -- Functions ------------------------------------------------------------------------------------
@@ -64,6 +66,7 @@ returned b c requests.SystemReset code = refl
 returned b c (requests.Features word) code = refl
 returned b c (requests.SystemSuspend entry_point context) code = refl
 returned b c (requests.SetSuspendMode number) code = mode_sends c number (int_eq code.0 success.0)
+returned b c (requests.SystemReset2 reset_type cookie) code = refl
 returned b c requests.Unknown code = refl
 
 stopped : (b : BoardValue) (c : ℕ) (r : Request) (m : MessageValue) → Sends b c r (stops_with m)
@@ -78,6 +81,7 @@ stopped b c requests.SystemReset m = refl
 stopped b c (requests.Features word) m = refl
 stopped b c (requests.SystemSuspend entry_point context) m = refl
 stopped b c (requests.SetSuspendMode number) m = refl
+stopped b c (requests.SystemReset2 reset_type cookie) m = refl
 stopped b c requests.Unknown m = refl
 
 slept : (b : BoardValue) (v : Values) (c : ℕ) (r : Request) (parts : Result (List Part) Osi)
@@ -116,6 +120,15 @@ asked_on : (b : BoardValue) (v : Values) (c target entry_point context : ℕ) (o
 asked_on b v c target entry_point context (Err code) = refl
 asked_on b v c target entry_point context (Ok core) = refl
 
+reset2_sends : (b : BoardValue) (v : Values) (c reset_type cookie : ℕ)
+    → Sends b c (requests.SystemReset2 reset_type cookie) (system_reset2 v c reset_type)
+reset2_sends b v c reset_type cookie = by_type (reset_type == 0)
+  where
+    by_type : (here : Bool) → Sends b c (requests.SystemReset2 reset_type cookie)
+        (cond here (system_message v kinds.Reset c) (returns invalid_parameters))
+    by_type true = refl
+    by_type false = refl
+
 function_sends : (b : BoardValue) (v : Values) (c : ℕ) (r : Request)
     → Sends b c r (function_outcome b v c r)
 function_sends b v c requests.Version = refl
@@ -133,6 +146,8 @@ function_sends b v c (requests.SystemSuspend entry_point context) =
     system_suspended b v c (requests.SystemSuspend entry_point context) entry_point
 function_sends b v c (requests.SetSuspendMode mode) =
     returned b c (requests.SetSuspendMode mode) (set_suspend_mode b v c mode)
+function_sends b v c (requests.SystemReset2 reset_type cookie) =
+    reset2_sends b v c reset_type cookie
 function_sends b v c requests.Unknown = refl
 
 outcome_sends : (b : BoardValue) (v : Values) (c : ℕ) (r : Request)
