@@ -111,9 +111,9 @@ impl Draws {
         }
     }
 
-    /// Any request, but SYSTEM_OFF and SYSTEM_RESET.
+    /// Any request that does not end the life.
     fn request(&mut self, board: &Board) -> Request {
-        match self.below(10) {
+        match self.below(11) {
             0 => Request::Version,
             1 => Request::MigrateInfoType,
             2 => Request::Unknown,
@@ -133,7 +133,28 @@ impl Draws {
                 context: self.word(),
             },
             8 => self.suspend(board),
+            9 => self.other_reset(),
             _ => self.power_on(board),
+        }
+    }
+
+    /// A SYSTEM_RESET2 of a type that there is not: one of a vendor, or reserved.
+    fn other_reset(&mut self) -> Request {
+        Request::SystemReset2 {
+            reset_type: 1 << self.below(32),
+            cookie: self.word(),
+        }
+    }
+
+    /// SYSTEM_RESET, or a SYSTEM_RESET2 that does the same.
+    pub fn reset(&mut self) -> Request {
+        if self.one_in(2) {
+            Request::SystemReset
+        } else {
+            Request::SystemReset2 {
+                reset_type: 0,
+                cookie: self.word(),
+            }
         }
     }
 
@@ -161,7 +182,7 @@ impl Draws {
         WORDS.get(place).copied().unwrap_or(0)
     }
 
-    /// The registers of any call, but of SYSTEM_OFF and SYSTEM_RESET.
+    /// The registers of any call that does not end the life.
     pub fn call(&mut self, board: &Board) -> Regs {
         let request = self.request(board);
         let wide = !self.one_in(4);
@@ -172,16 +193,16 @@ impl Draws {
         regs
     }
 
-    /// The registers of any call of a core; SYSTEM_OFF and SYSTEM_RESET only where it runs not.
+    /// The registers of any call of a core; one that ends the life only where it runs not.
     fn call_of(&mut self, world: &World, number: u16) -> Regs {
         if self.one_in(8) && !is_at(world, number, Place::Running) {
             let off = self.one_in(2);
             let request = if off {
                 Request::SystemOff
             } else {
-                Request::SystemReset
+                self.reset()
             };
-            return registers(request, false);
+            return registers(request, true);
         }
         self.call(world.board())
     }

@@ -27,6 +27,9 @@ fn narrow(request: Request) -> Regs {
         Request::Features { word } => (0x8400_000a, u64::from(word), 0, 0),
         Request::SystemSuspend { entry, context } => (0x8400_000e, entry, context, 0),
         Request::SetSuspendMode { mode } => (0x8400_000f, u64::from(mode), 0, 0),
+        Request::SystemReset2 { reset_type, cookie } => {
+            (0x8400_0012, u64::from(reset_type), cookie, 0)
+        }
         Request::Unknown => (0x8400_0005, 0, 0, 0),
     };
     Regs {
@@ -45,6 +48,7 @@ fn has_wide(request: Request) -> bool {
             | Request::CpuOn { .. }
             | Request::AffinityInfo { .. }
             | Request::SystemSuspend { .. }
+            | Request::SystemReset2 { .. }
     )
 }
 
