@@ -30,8 +30,10 @@ CPU_SUSPEND, CPU_OFF = (0x84000001, 0xC4000001), (0x84000002,)
 CPU_ON, AFFINITY_INFO = (0x84000003, 0xC4000003), (0x84000004, 0xC4000004)
 SYSTEM_OFF, SYSTEM_RESET = (0x84000008,), (0x84000009,)
 SYSTEM_SUSPEND, SET_SUSPEND_MODE = (0x8400000E, 0xC400000E), (0x8400000F,)
+SYSTEM_RESET2 = (0x84000012, 0xC4000012)
 SUPPORTED = (VERSION + CPU_SUSPEND + CPU_OFF + CPU_ON + AFFINITY_INFO + MIGRATE_INFO_TYPE
-             + SYSTEM_OFF + SYSTEM_RESET + FEATURES + SYSTEM_SUSPEND + SET_SUSPEND_MODE)
+             + SYSTEM_OFF + SYSTEM_RESET + FEATURES + SYSTEM_SUSPEND + SET_SUSPEND_MODE
+             + SYSTEM_RESET2)
 
 
 def depths_of(word, height):
@@ -135,6 +137,7 @@ class Firmware:
             SYSTEM_OFF: lambda: self.halt(core, "off"),
             SYSTEM_RESET: lambda: self.halt(core, "reset"),
             SET_SUSPEND_MODE: lambda: self.set_suspend_mode(core, x1 % 2**32),
+            SYSTEM_RESET2: lambda: self.system_reset2(core, x1 % 2**32),
         }
         named = [answer for words, answer in answers.items() if word in words]
         return named[0]() if named else NOT_SUPPORTED
@@ -205,6 +208,9 @@ class Firmware:
     def halt(self, core, kind):
         self.halting, self.last[core] = True, "away"
         return Outcome("stop", (), self.send(kind, core))
+
+    def system_reset2(self, core, reset_type):
+        return self.halt(core, "reset") if reset_type == 0 else INVALID_PARAMETERS
 
     def set_suspend_mode(self, core, mode):
         if mode not in (PLATFORM, OS_INITIATED):

@@ -251,7 +251,8 @@ storms() {
 # the counts of a storm: its line comes first as ever, then one line for each kind, and each event is in
 # one of them; over some storms each kind comes
 storm_counts() {
-    local words seed kinds=85 tall="((1 2) (2 1)) exec 0x0-0x1000 boot 0x0 starts 1000 lives 3"
+    local words seed kinds=89 tall="((1 2) (2 1)) exec 0x0-0x1000 boot 0x0 starts 1000 lives 3"
+    local low="(2 2) exec 0x40000000-0x40100000 boot 0x40000000 starts 1000 lives 12"
     run storm --seed 1 --count 10000
     cp "$work/out" "$work/lines"
     run storm --counts --seed 1 --count 10000
@@ -261,7 +262,7 @@ storm_counts() {
     answers "a storm with counts"
     : > "$work/all"
     for seed in $(seq 20); do
-        run storm --seed "$seed" --count 10000 --counts
+        run storm --board "$low" --seed "$seed" --count 10000 --counts
         one_of_each "$kinds" "storm $seed"
         tail -n +2 "$work/out" >> "$work/all"
     done

@@ -68,6 +68,12 @@ wide_system_suspend = refl
 set_suspend_mode : original 0x8400000f ≡ pos 0
 set_suspend_mode = refl
 
+narrow_system_reset2 : original 0x84000012 ≡ pos 0
+narrow_system_reset2 = refl
+
+wide_system_reset2 : original 0xc4000012 ≡ pos 0
+wide_system_reset2 = refl
+
 -- Words outside -------------------------------------------------------------------------------
 
 wide_cpu_off : original 0xc4000002 ≡ negsuc 0
@@ -78,9 +84,6 @@ migrate = refl
 
 node_hw_state : original 0x8400000d ≡ negsuc 0
 node_hw_state = refl
-
-system_reset2 : original 0x84000012 ≡ negsuc 0
-system_reset2 = refl
 
 mem_protect : original 0x84000013 ≡ negsuc 0
 mem_protect = refl
@@ -109,17 +112,20 @@ yielding_cpu_on = refl
 extended_features : extended 0x8400000a ≡ pos 0
 extended_features = refl
 
+extended_system_reset2 : extended 0xc4000012 ≡ pos 0
+extended_system_reset2 = refl
+
 extended_mem_protect : extended 0x84000013 ≡ negsuc 0
 extended_mem_protect = refl
 
 -- All words -----------------------------------------------------------------------------------
 
--- No word but these fifteen is supported.
+-- No word but these seventeen is supported.
 these_words : (word : ℕ) → is_supported word ≡ (word == 0x84000000 || word == 0x84000001
     || word == 0xc4000001 || word == 0x84000002 || word == 0x84000003 || word == 0xc4000003
     || word == 0x84000004 || word == 0xc4000004 || word == 0x84000006 || word == 0x84000008
     || word == 0x84000009 || word == 0x8400000a || word == 0x8400000e || word == 0xc400000e
-    || word == 0x8400000f)
+    || word == 0x8400000f || word == 0x84000012 || word == 0xc4000012)
 these_words word = grind arith
 
 -- The format decides one flag of CPU_SUSPEND, and nothing else.

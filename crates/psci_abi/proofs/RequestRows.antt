@@ -6,7 +6,7 @@ use Rattle.psci_abi.specs.declared.request.Request.TheVariants.{Version, CpuSusp
 use Rattle.psci_abi.specs.declared.request.Request.TheVariants.{AffinityInfo, MigrateInfoType}
 use Rattle.psci_abi.specs.declared.request.Request.TheVariants.{SystemOff, SystemReset, Features}
 use Rattle.psci_abi.specs.declared.request.Request.TheVariants.{SystemSuspend, SetSuspendMode}
-use Rattle.psci_abi.specs.declared.request.Request.TheVariants.{Unknown}
+use Rattle.psci_abi.specs.declared.request.Request.TheVariants.{SystemReset2, Unknown}
 use Rattle.psci_abi.specs.Calls.{request_of}
 
 abbrev regs : ℕ → ℕ → ℕ → ℕ → Regs
@@ -63,6 +63,12 @@ wide_system_suspend = refl
 set_suspend_mode : call 0x8400000f ≡ SetSuspendMode 0x101
 set_suspend_mode = refl
 
+narrow_system_reset2 : call 0x84000012 ≡ SystemReset2 0x101 0x40001000
+narrow_system_reset2 = refl
+
+wide_system_reset2 : call 0xc4000012 ≡ SystemReset2 0x101 0xbeef000040001000
+wide_system_reset2 = refl
+
 -- The upper half of x0 is not looked at -------------------------------------------------------
 
 narrow_upper_half : call 0xdeadbeef84000003 ≡ CpuOn 0x101 0x40001000 7
@@ -115,6 +121,19 @@ greatest_mode = refl
 mode_is_cut : request_of (regs 0x8400000f 0x100000001 0 0) ≡ SetSuspendMode 1
 mode_is_cut = refl
 
+-- a reset type has 32 bits in both conventions, all of which are passed on; a cookie has those of
+-- its convention
+narrow_reset2_ends : request_of (regs 0x84000012 0xffffffff 0x1ffffffff 0)
+    ≡ SystemReset2 0xffffffff 0xffffffff
+narrow_reset2_ends = refl
+
+wide_reset2_ends : request_of (regs 0xc4000012 0xffffffff 0xffffffffffffffff 0)
+    ≡ SystemReset2 0xffffffff 0xffffffffffffffff
+wide_reset2_ends = refl
+
+wide_reset_type_is_cut : request_of (regs 0xc4000012 0x100000000 0 0) ≡ SystemReset2 0 0
+wide_reset_type_is_cut = refl
+
 -- A function with no word in the SMC64 convention ---------------------------------------------
 
 wide_version : call 0xc4000000 ≡ Unknown
@@ -166,8 +185,5 @@ node_hw_state = refl
 wide_node_hw_state : call 0xc400000d ≡ Unknown
 wide_node_hw_state = refl
 
-system_reset2 : call 0x84000012 ≡ Unknown
-system_reset2 = refl
-
-wide_system_reset2 : call 0xc4000012 ≡ Unknown
-wide_system_reset2 = refl
+wide_mem_protect : call 0xc4000013 ≡ Unknown
+wide_mem_protect = refl

@@ -12,7 +12,7 @@ use Rattle.psci_abi.specs.declared.request.Request.TheVariants.{Version, CpuSusp
 use Rattle.psci_abi.specs.declared.request.Request.TheVariants.{AffinityInfo, MigrateInfoType}
 use Rattle.psci_abi.specs.declared.request.Request.TheVariants.{SystemOff, SystemReset, Features}
 use Rattle.psci_abi.specs.declared.request.Request.TheVariants.{SystemSuspend, SetSuspendMode}
-use Rattle.psci_abi.specs.declared.request.Request.TheVariants.{Unknown}
+use Rattle.psci_abi.specs.declared.request.Request.TheVariants.{SystemReset2, Unknown}
 
 -- the low half of a register, or of an argument: the function word, and what has 32 bits
 abbrev pub low : ℕ → ℕ
@@ -27,8 +27,8 @@ abbrev pub argument : Regs → ℕ → ℕ
 argument r register = if is_wide r then register else low register
 
 -- The table of functions (DEN0022D), by the function word and the arguments. A function without a
--- word in the SMC64 convention is unknown there; a power state, a level, a feature word and a mode
--- have 32 bits in both.
+-- word in the SMC64 convention is unknown there; a power state, a level, a feature word, a mode and
+-- a reset type have 32 bits in both.
 abbrev pub function_of : ℕ → ℕ → ℕ → ℕ → Request
 function_of word x1 x2 x3 =
     (if word == 0x84000000 then Version
@@ -42,7 +42,8 @@ function_of word x1 x2 x3 =
     else (if word == 0x8400000A then Features (low x1)
     else (if word == 0x8400000E || word == 0xC400000E then SystemSuspend x1 x2
     else (if word == 0x8400000F then SetSuspendMode (low x1)
-    else Unknown)))))))))))
+    else (if word == 0x84000012 || word == 0xC4000012 then SystemReset2 (low x1) x2
+    else Unknown))))))))))))
 
 -- the function that registers call, and its arguments
 abbrev pub request_of : Regs → Request
@@ -61,6 +62,7 @@ is_known SystemReset = true
 is_known (Features word) = true
 is_known (SystemSuspend entry context) = true
 is_known (SetSuspendMode mode) = true
+is_known (SystemReset2 reset_type cookie) = true
 is_known Unknown = false
 
 -- which function words are supported: those of the table

@@ -7,14 +7,15 @@ use crate::registers::{Regs, low};
 use crate::words::{
     AFFINITY_INFO_32, AFFINITY_INFO_64, CPU_OFF, CPU_ON_32, CPU_ON_64, CPU_SUSPEND_32,
     CPU_SUSPEND_64, MIGRATE_INFO_TYPE, PSCI_FEATURES, PSCI_SET_SUSPEND_MODE, PSCI_VERSION,
-    SYSTEM_OFF, SYSTEM_RESET, SYSTEM_SUSPEND_32, SYSTEM_SUSPEND_64,
+    SYSTEM_OFF, SYSTEM_RESET, SYSTEM_RESET2_32, SYSTEM_RESET2_64, SYSTEM_SUSPEND_32,
+    SYSTEM_SUSPEND_64,
 };
 
 /// A function with its arguments, each cut to its width, so that no later code sees a register.
 ///
-/// Targets, entry points and context ids have 64 bits in an SMC64 call and 32 in an SMC32 call;
-/// power states, levels and modes have 32 bits in both, and so has the function word that
-/// PSCI_FEATURES asks about. The variants stand in the order of the function numbers.
+/// Targets, entry points, context ids and cookies have 64 bits in an SMC64 call and 32 in an SMC32
+/// call; power states, levels, modes and reset types have 32 bits in both, and so has the function
+/// word that PSCI_FEATURES asks about. The variants stand in the order of the function numbers.
 #[derive(Clone, Copy, Debug, PartialEq, Eq)]
 pub enum Request {
     /// PSCI_VERSION.
@@ -69,6 +70,13 @@ pub enum Request {
         /// 0 for platform-coordinated, 1 for OS-initiated mode; any other value is passed on.
         mode: u32,
     },
+    /// SYSTEM_RESET2: a reset of the whole system of this type.
+    SystemReset2 {
+        /// 0 for a reset as by SYSTEM_RESET; any other value, also of a vendor, is passed on.
+        reset_type: u32,
+        /// A value for resets of a vendor.
+        cookie: u64,
+    },
     /// Every other function word: NOT_SUPPORTED.
     Unknown,
 }
@@ -109,6 +117,13 @@ impl Request {
     {
         Request::SystemSuspend { entry, context }
     }
+
+    /// SYSTEM_RESET2 with these arguments.
+    fn system_reset2(reset_type: u32, cookie: u64) -> Request
+        ensures { result ≡ Request.SystemReset2 reset_type cookie }
+    {
+        Request::SystemReset2 { reset_type, cookie }
+    }
 }
 
 /// The function that the registers call. Every value of every register has one answer.
@@ -135,6 +150,7 @@ pub fn function(word: u32, x1: u64, x2: u64, x3: u64) -> Request
         PSCI_FEATURES => Request::Features { word: low(x1) },
         SYSTEM_SUSPEND_32 | SYSTEM_SUSPEND_64 => Request::system_suspend(x1, x2),
         PSCI_SET_SUSPEND_MODE => Request::SetSuspendMode { mode: low(x1) },
+        SYSTEM_RESET2_32 | SYSTEM_RESET2_64 => Request::system_reset2(low(x1), x2),
         _ => Request::Unknown,
     }
 }

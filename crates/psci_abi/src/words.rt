@@ -44,3 +44,9 @@ pub const SYSTEM_SUSPEND_64: u32 = 0xC400_000E;
 
 /// PSCI_SET_SUSPEND_MODE.
 pub const PSCI_SET_SUSPEND_MODE: u32 = 0x8400_000F;
+
+/// SYSTEM_RESET2 in the SMC32 convention.
+pub const SYSTEM_RESET2_32: u32 = 0x8400_0012;
+
+/// SYSTEM_RESET2 in the SMC64 convention.
+pub const SYSTEM_RESET2_64: u32 = 0xC400_0012;

@@ -155,7 +155,7 @@ impl Firmware {
         (life != 0).then_some(life)
     }
 
-    /// Whether SYSTEM_OFF or SYSTEM_RESET was accepted in this life.
+    /// Whether SYSTEM_OFF, SYSTEM_RESET or SYSTEM_RESET2 was accepted in this life.
     pub fn halting(&self) -> bool
         ensures { result ≡ (seen self.now).halting }
     {

@@ -17,7 +17,7 @@ use crate::mode::set_suspend_mode;
 use crate::off::cpu_off;
 use crate::on::cpu_on;
 use crate::suspend::{FORMAT, cpu_suspend};
-use crate::system::{system_off, system_reset, system_suspend};
+use crate::system::{system_off, system_reset, system_reset2, system_suspend};
 use psci_abi::{Code, Request, features};
 use psci_board::{Board, Core};
 use psci_fw_model::{FwFault, Opening, Outcome};
@@ -90,6 +90,9 @@ fn function(board: &Board, state: &mut State, caller: Core, request: Request) ->
             system_suspend(board, state, caller, opening(entry, context))
         }
         Request::SetSuspendMode { mode } => set_suspend_mode(board, state, caller, mode),
+        Request::SystemReset2 { reset_type, .. } => {
+            system_reset2(board, state, caller, reset_type)
+        }
         Request::Version => Outcome::returns(VERSION),
         Request::AffinityInfo { target, level } => {
             Outcome::returns(affinity_info(board, state, target, level))

@@ -1,6 +1,6 @@
-//! The functions for the whole system: SYSTEM_SUSPEND, SYSTEM_OFF, SYSTEM_RESET.
+//! The functions for the whole system: SYSTEM_SUSPEND, SYSTEM_OFF, SYSTEM_RESET, SYSTEM_RESET2.
 
-ghost use Rattle.std.specs.Prelude.{◌≡◌, [], ◌∷◌};
+ghost use Rattle.std.specs.Prelude.{◌≡◌, ℕ, [], ◌∷◌};
 ghost use Rattle.psci_abi.specs.declared.request.Request.TheVariants as requests;
 ghost use Rattle.psci_link.specs.declared.kind.Kind.TheVariants as kinds;
 ghost use Rattle.psci_fw_model.specs.Changes.{with_halt, with_phase};
@@ -20,6 +20,9 @@ use psci_fw_model::{Opening, Outcome, Status};
 use psci_fw_state::State;
 use psci_link::Kind;
 use psci_state::Ask;
+
+/// The reset type of SYSTEM_RESET2 (DEN0022D) that is there. Bit 31 marks a type of a vendor.
+const SYSTEM_WARM_RESET: u32 = 0;
 
 /// SYSTEM_SUSPEND (DEN0022D): the caller is suspended with power-down of all levels, where every
 /// other core is OFF. It then goes on at the opening.
@@ -69,6 +72,20 @@ pub fn system_reset(board: &Board, state: &mut State, caller: Core) -> Outcome
     ensures state { IsStateOf board.now state.new }
 {
     halt(board, state, caller, Kind::Reset)
+}
+
+/// SYSTEM_RESET2 (DEN0022D): the only type that is there is carried out as SYSTEM_RESET. The cookie
+/// is of use to types of vendors alone, so it is not looked at.
+pub fn system_reset2(board: &Board, state: &mut State, caller: Core, reset_type: u32) -> Outcome
+    requires { MayCall board.now state.old caller.number }
+    ensures answer { (cookie : ℕ) → IsAnswered board.now (values_in state.old) caller.number
+        (requests.SystemReset2 reset_type cookie) result (values_in state.new) }
+    ensures state { IsStateOf board.now state.new }
+{
+    if reset_type != SYSTEM_WARM_RESET {
+        return Outcome::returns(Code::INVALID_PARAMETERS);
+    }
+    system_reset(board, state, caller)
 }
 
 /// The caller stops, and sends a message of this kind for the whole system.

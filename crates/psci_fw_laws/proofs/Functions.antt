@@ -11,8 +11,9 @@ use Rattle.psci_fw_model.specs.CpuOn.{target_of}
 use Rattle.psci_fw_model.specs.Effects.{Halts}
 use Rattle.psci_fw_model.specs.Outcomes.{message_for}
 use Rattle.psci_fw_model.specs.SuspendMode.{set_suspend_mode}
+use Rattle.psci_fw_model.specs.SystemCalls.{system_reset2}
 use Rattle.psci_fw_model.specs.Values.{Values}
-use Rattle.psci_fw_model.proofs.Endings.{outcome_ends}
+use Rattle.psci_fw_model.proofs.Endings.{outcome_ends, reset2_ends}
 use Rattle.psci_fw_laws.specs.Messages.{is_system}
 use Rattle.psci_fw_laws.specs.Allowed.{IsAllowed, IsCalling}
 use Rattle.psci_fw_laws.proofs.Allowing.{Allows, IsReady}
@@ -42,6 +43,18 @@ halt_allowed b v c ready calls awake kind system = record {
   system = system;
 }
 
+-- SYSTEM_RESET2 halts by type 0, and returns by every other
+reset2_allowed : (b : BoardValue) (v : Values) (c reset_type cookie : ℕ) → IsReady b v
+    → IsCalling b v c → v.halting ≡ false
+    → Allows b v (outcome_effect b c (requests.SystemReset2 reset_type cookie)
+    (system_reset2 v c reset_type))
+reset2_allowed b v c reset_type cookie ready calls awake =
+    reset2_ends (λ o. Allows b v (outcome_effect b c request o)) v c reset_type
+    (λ code are. calls) (λ are. halt_allowed b v c ready calls awake kinds.Reset refl)
+  where
+    request : Request
+    request = requests.SystemReset2 reset_type cookie
+
 function_allowed : (b : BoardValue) (v : Values) (c : ℕ) (r : Request) → LowerLaws b
     → IsReady b v → IsCalling b v c → v.halting ≡ false
     → Allows b v (outcome_effect b c r (function_outcome b v c r))
@@ -64,6 +77,8 @@ function_allowed b v c (requests.SystemSuspend entry_point context) laws ready c
     system_allowed b v c entry_point context laws ready calls awake are
 function_allowed b v c (requests.SetSuspendMode mode) laws ready calls awake are =
     returned b v c (requests.SetSuspendMode mode) (set_suspend_mode b v c mode) calls are
+function_allowed b v c (requests.SystemReset2 reset_type cookie) laws ready calls awake are =
+    reset2_allowed b v c reset_type cookie ready calls awake are
 function_allowed b v c requests.Unknown laws ready calls awake are = calls
 
 -- in a halting life every function stops its caller

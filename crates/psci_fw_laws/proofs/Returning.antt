@@ -45,4 +45,5 @@ returned b v c (requests.Features word) code calls are = calls
 returned b v c (requests.SystemSuspend entry_point context) code calls are = calls
 returned b v c (requests.SetSuspendMode number) code calls are =
     mode_allowed b v c number (int_eq code.0 success.0) calls are
+returned b v c (requests.SystemReset2 reset_type cookie) code calls are = calls
 returned b v c requests.Unknown code calls are = calls

@@ -83,7 +83,7 @@ pub record IsResting (b : BoardValue) (v : Values) (c : ℕ) (rest : Rest) (m : 
   pub waits : rest.phase ≡ Pending → ⊥
   pub claim : IsNewClaim b (with_rest c rest v) m
 
--- An accepted SYSTEM_OFF or SYSTEM_RESET, in a life that is not halting yet.
+-- An accepted SYSTEM_OFF, SYSTEM_RESET or SYSTEM_RESET2, in a life that is not halting yet.
 pub record IsHalting (b : BoardValue) (v : Values) (c : ℕ) (m : MessageValue) : Type 0 where
   pub calls : IsCalling b v c
   pub awake : v.halting ≡ false

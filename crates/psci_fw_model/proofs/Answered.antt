@@ -28,10 +28,10 @@ use Rattle.psci_fw_model.specs.Invariant.{AreValues, IsPhase}
 use Rattle.psci_fw_model.specs.Outcomes.{message_for}
 use Rattle.psci_fw_model.specs.Phases.{Phase, Pending, Running, Suspended, Away}
 use Rattle.psci_fw_model.specs.SuspendMode.{mode_of}
-use Rattle.psci_fw_model.specs.SystemCalls.{system_suspend}
+use Rattle.psci_fw_model.specs.SystemCalls.{system_reset2, system_suspend}
 use Rattle.psci_fw_model.specs.Values.{Values, updated}
 use Rattle.psci_fw_model.proofs.Asked.{Known, asked_running, asks_at}
-use Rattle.psci_fw_model.proofs.Endings.{outcome_ends, suspend_ends, system_ends}
+use Rattle.psci_fw_model.proofs.Endings.{outcome_ends, reset2_ends, suspend_ends, system_ends}
 use Rattle.psci_fw_model.proofs.Changing.{kept_halting, kept_leaving, kept_on, kept_pending}
 use Rattle.psci_fw_model.proofs.Modes.{kept_by_mode}
 use Rattle.psci_fw_model.proofs.Stopping.{held_of, kept_resting, off_held, suspend_held}
@@ -162,6 +162,19 @@ on_kept b v c word entry_point context (Ok t) is e =
     kept_on b (with_pending b asked v) c (runs_on v c t.number is.runs)
     (kept_pending b v asked is.known (target_within b v word entry_point t is.known e) is.are)
 
+-- SYSTEM_RESET2 -------------------------------------------------------------------------------
+
+reset2_kept : (b : BoardValue) (v : Values) (c reset_type cookie : ℕ) → IsCalling b v c
+    → let o = system_reset2 v c reset_type in
+    Kept b v (function_effect b c (requests.SystemReset2 reset_type cookie) o.act o.message)
+reset2_kept b v c reset_type cookie is =
+    reset2_ends (λ o. Kept b v (function_effect b c request o.act o.message)) v c reset_type
+    (λ code. goes_on b v c is)
+    (kept_halting b v c (message_for v kinds.Reset c []) is.known is.runs is.are)
+  where
+    request : Request
+    request = requests.SystemReset2 reset_type cookie
+
 -- All functions -------------------------------------------------------------------------------
 
 off_kept : (b : BoardValue) (v : Values) (c : ℕ) → IsCalling b v c
@@ -197,6 +210,8 @@ function_kept b v c (requests.SystemSuspend entry_point context) is asks all =
     suspend_all_kept b v c entry_point context is all
 function_kept b v c (requests.SetSuspendMode number) is asks all =
     kept_by_mode b v c (mode_of number) is.known is.on is.runs is.are
+function_kept b v c (requests.SystemReset2 reset_type cookie) is asks all =
+    reset2_kept b v c reset_type cookie is
 function_kept b v c requests.Unknown is asks all = goes_on b v c is
 
 pub kept_function : (b : BoardValue) (v : Values) (c : ℕ) (r : Request) → Known b → c < cores b

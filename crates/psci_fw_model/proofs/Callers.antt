@@ -150,6 +150,7 @@ module _ (b : BoardValue) (v : Values) (c : ℕ) where
   stop_stays : (r : Request) (m : MessageValue) → Stays (stop_effect b c r m)
   stop_stays requests.SystemOff m = refl
   stop_stays requests.SystemReset m = refl
+  stop_stays (requests.SystemReset2 reset_type cookie) m = refl
   stop_stays r m = refl
 
   mode_stays : (m : Option SuspendMode) (t : Bool) → Stays (cond t (mode_effect c m) (GoesOn c))

@@ -12,8 +12,8 @@ use Rattle.psci_fw_model.specs.declared.reply.FwReply.{FwReply}
 use Rattle.psci_fw_model.specs.declared.reply.FwReply.TheVariants.{Out}
 use Rattle.psci_link.specs.declared.start.Cause.TheVariants as causes
 use Rattle.psci_link.specs.declared.start.Start.{Start}
-use Rattle.psci_fw_model.specs.Effects.{Acknowledges, AsksOn, StopsAtOnce, Effect, Enters, GoesOn, Halts}
-use Rattle.psci_fw_model.specs.Effects.{Stops, Nothing, Parks, Rests, SetsMode, effect_of}
+use Rattle.psci_fw_model.specs.Effects.{Acknowledges, AsksOn, Effect, Enters, GoesOn, Halts, Nothing}
+use Rattle.psci_fw_model.specs.Effects.{Parks, Rests, SetsMode, Stops, StopsAtOnce, effect_of}
 use Rattle.psci_fw_model.specs.Lives.{start_of_life}
 use Rattle.psci_fw_model.specs.Outcomes.{executes_on}
 use Rattle.psci_fw_model.specs.Phases.{Away, Phase, Running, Suspended, is_away, is_resumable}
@@ -24,8 +24,8 @@ use Rattle.psci_fw_model.specs.Views.{view}
 use Rattle.psci_fw_model.proofs.Steps.{Step, board, computing, enter_wake, error, goes_to, message}
 use Rattle.psci_fw_model.proofs.Steps.{off, old, on_3, part, refused, resumes, set_mode, starts}
 use Rattle.psci_fw_model.proofs.Steps.{stops, stops_by, stops_still, suspend, system_off}
-use Rattle.psci_fw_model.proofs.Steps.{system_reset, system_suspend, take_down, take_stale, tall}
-use Rattle.psci_fw_model.proofs.Steps.{used, value, version}
+use Rattle.psci_fw_model.proofs.Steps.{system_reset, system_reset2, system_suspend, take_down}
+use Rattle.psci_fw_model.proofs.Steps.{take_stale, tall, used, value, version}
 
 abbrev effect_with : Step → FwReply → Effect
 effect_with s reply = effect_of board s.core s.call reply
@@ -85,13 +85,19 @@ accepted_off : map (effect_with (off 0)) (stops 0 1 1 (part 0 3 1 ∷ []) ∷ st
     ≡ Rests 0 (record { phase = Away; opening = None }) down ∷ Stops 0 ∷ []
 accepted_off = refl
 
--- SYSTEM_OFF and SYSTEM_RESET; in a halting life nothing is sent
+-- SYSTEM_OFF, SYSTEM_RESET and SYSTEM_RESET2; in a halting life nothing is sent
 accepted_halts :
     effect_with (system_off 0) (stops_by kinds.Off 0 1 1 [])
     ∷ effect_with (system_reset 3) (stops_by kinds.Reset 3 1 2 [])
     ∷ effect_with (system_reset 3) stops_still ∷ []
     ≡ Halts 0 (message kinds.Off 0 1 1 []) ∷ Halts 3 (message kinds.Reset 3 1 2 []) ∷ Stops 3 ∷ []
 accepted_halts = refl
+
+-- SYSTEM_RESET2 halts where it stops its caller with a message
+accepted_reset2 : map (effect_with (system_reset2 3 0 0x55))
+    (stops_by kinds.Reset 3 1 2 [] ∷ stops_still ∷ error 2 ∷ refused NotRunning ∷ [])
+    ≡ Halts 3 (message kinds.Reset 3 1 2 []) ∷ Stops 3 ∷ GoesOn 3 ∷ Nothing ∷ []
+accepted_reset2 = refl
 
 -- a mode is set where the function succeeds, and its number is that of a mode
 accepted_modes :

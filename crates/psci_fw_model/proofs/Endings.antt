@@ -3,7 +3,7 @@
 use Rattle.std.proofs.Common.{◌≡◌, ℕ, Bool, true, false, cond, ◌==◌, ◌&&◌, not, List, [], refl}
 use Rattle.std.proofs.Common.{Some, Ok, Err}
 use Rattle.std.specs.Prelude.{Result}
-use Rattle.psci_abi.specs.Codes.{denied, invalid_address, success}
+use Rattle.psci_abi.specs.Codes.{denied, invalid_address, invalid_parameters, success}
 use Rattle.psci_abi.specs.declared.code.Code.{Code}
 use Rattle.psci_abi.specs.declared.request.Request.{Request}
 use Rattle.psci_abi.specs.declared.request.Request.TheVariants as requests
@@ -22,7 +22,8 @@ use Rattle.psci_fw_model.specs.Claims.{suspend_parts}
 use Rattle.psci_fw_model.specs.CpuOn.{start_outcome, target_of}
 use Rattle.psci_fw_model.specs.CpuSuspend.{ask_named, sleeps, suspend_asked}
 use Rattle.psci_fw_model.specs.Outcomes.{message_for, returns, stops, stops_with}
-use Rattle.psci_fw_model.specs.SystemCalls.{all_others, is_off_status, system_suspend}
+use Rattle.psci_fw_model.specs.SystemCalls.{all_others, is_off_status, system_message}
+use Rattle.psci_fw_model.specs.SystemCalls.{system_reset2, system_suspend}
 use Rattle.psci_fw_model.specs.Values.{Values}
 
 -- SUCCESS is returned, and this is sent
@@ -83,6 +84,17 @@ pub on_ends : (P : Outcome → Type 0) (v : Values) (target : Result Core Code)
 on_ends P v (Err code) returned asked = returned code
 on_ends P v (Ok core) returned asked = asked core refl
 
+-- SYSTEM_RESET2 returns, or stops its caller with the message of a reset
+pub reset2_ends : (P : Outcome → Type 0) (v : Values) (c reset_type : ℕ)
+    → ((code : Code) → P (returns code)) → P (system_message v kinds.Reset c)
+    → P (system_reset2 v c reset_type)
+reset2_ends P v c reset_type returned stopped = by_type (reset_type == 0)
+  where
+    by_type : (resets : Bool)
+        → P (cond resets (system_message v kinds.Reset c) (returns invalid_parameters))
+    by_type true = stopped
+    by_type false = returned invalid_parameters
+
 -- All functions -------------------------------------------------------------------------------
 
 -- a CPU_ON alone returns and sends something
@@ -106,6 +118,8 @@ function_ends P b v c (requests.Features word) returned stopped asked = returned
 function_ends P b v c (requests.SystemSuspend entry_point context) returned stopped asked =
     system_ends P b v c entry_point returned (λ parts e. stopped _)
 function_ends P b v c (requests.SetSuspendMode mode) returned stopped asked = returned _
+function_ends P b v c (requests.SystemReset2 reset_type cookie) returned stopped asked =
+    reset2_ends P v c reset_type returned (stopped _)
 function_ends P b v c requests.Unknown returned stopped asked = returned _
 
 -- in a halting life every function stops its caller, and sends nothing

@@ -58,6 +58,7 @@ stop_left : (b : BoardValue) (c : ℕ) (r : Request) (m : MessageValue)
     → IsLeftBy (left (stop_effect b c r m))
 stop_left b c requests.SystemOff m = tt
 stop_left b c requests.SystemReset m = tt
+stop_left b c (requests.SystemReset2 reset_type cookie) m = tt
 stop_left b c r m = rest_left b r
 
 mode_left : (c : ℕ) (m : Option SuspendMode) → IsLeftBy (left (mode_effect c m))

@@ -28,6 +28,7 @@ mod OsInitiatedRows
 mod PendingCores
 mod PhasesSay
 mod RefusalRows
+mod Reset2Rows
 mod SameReplies
 mod Says
 mod SlotsSay

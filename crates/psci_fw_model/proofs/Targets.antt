@@ -92,6 +92,7 @@ module _ (b : BoardValue) (v : Values) (c : ℕ) where
   asks_stop : (r q : Request) (m : MessageValue) → Asks b v r (stop_effect b c q m)
   asks_stop r requests.SystemOff m = tt
   asks_stop r requests.SystemReset m = tt
+  asks_stop r (requests.SystemReset2 reset_type cookie) m = tt
   asks_stop r q m = tt
 
   asks_mode : (r : Request) (m : Option SuspendMode) (t : Bool)

@@ -17,7 +17,7 @@ use Rattle.psci_fw_model.specs.CpuSuspend.{cpu_suspend, format_of}
 use Rattle.psci_fw_model.specs.Outcomes.{returns, stops}
 use Rattle.psci_fw_model.specs.Phases.{is_running}
 use Rattle.psci_fw_model.specs.SuspendMode.{set_suspend_mode}
-use Rattle.psci_fw_model.specs.SystemCalls.{system_message, system_suspend}
+use Rattle.psci_fw_model.specs.SystemCalls.{system_message, system_reset2, system_suspend}
 use Rattle.psci_fw_model.specs.Values.{Values}
 
 -- PSCI 1.1: the major version in bits 31:16, the minor one in bits 15:0 (DEN0022D, PSCI_VERSION)
@@ -54,6 +54,8 @@ function_outcome b v caller (requests.SystemSuspend entry_point context) =
     system_suspend b v caller entry_point
 function_outcome b v caller (requests.SetSuspendMode mode) =
     returns (set_suspend_mode b v caller mode)
+function_outcome b v caller (requests.SystemReset2 reset_type cookie) =
+    system_reset2 v caller reset_type
 function_outcome b v caller requests.Unknown = returns not_supported
 
 -- what a running core is answered to its request: in a halting life it stops, whatever it asks

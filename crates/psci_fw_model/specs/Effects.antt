@@ -38,7 +38,7 @@ pub data Effect : Type 0 where
   AsksOn : (core : ℕ) (asked : PowerOn) → Effect
   -- a function stopped its caller, with this Down
   Rests : (core : ℕ) (rest : Rest) (message : MessageValue) → Effect
-  -- a SYSTEM_OFF or SYSTEM_RESET stopped its caller, with this message
+  -- a SYSTEM_OFF, SYSTEM_RESET or SYSTEM_RESET2 stopped its caller, with this message
   Halts : (core : ℕ) (message : MessageValue) → Effect
   -- a function stopped its caller, and nothing was sent: the life is halting
   Stops : (core : ℕ) → Effect
@@ -81,6 +81,7 @@ rest_of b request = going_off
 abbrev pub stop_effect : BoardValue → ℕ → Request → MessageValue → Effect
 stop_effect b c requests.SystemOff m = Halts c m
 stop_effect b c requests.SystemReset m = Halts c m
+stop_effect b c (requests.SystemReset2 reset_type cookie) m = Halts c m
 stop_effect b c request m = Rests c (rest_of b request) m
 
 -- the mode of a number was set; a number that is none sets no mode

@@ -61,12 +61,12 @@ last_in_life b says first (e ∷ h) =
 
 -- The system ----------------------------------------------------------------------------------
 
--- an accepted SYSTEM_OFF or SYSTEM_RESET says that the life is halting
+-- an accepted SYSTEM_OFF, SYSTEM_RESET or SYSTEM_RESET2 says that the life is halting
 abbrev pub says_halting : List Entry → Effect → Option Bool
 says_halting before (Halts c m) = Some true
 says_halting before e = None
 
--- whether SYSTEM_OFF or SYSTEM_RESET was accepted in this life
+-- whether SYSTEM_OFF, SYSTEM_RESET or SYSTEM_RESET2 was accepted in this life
 abbrev pub halting : BoardValue → List Entry → Bool
 halting b h = last_in_life b says_halting false h
 

@@ -1,9 +1,10 @@
--- Functions for the whole system: SYSTEM_SUSPEND, SYSTEM_OFF, SYSTEM_RESET.
+-- Functions for the whole system: SYSTEM_SUSPEND, SYSTEM_OFF, SYSTEM_RESET, SYSTEM_RESET2.
 use Rattle.std.specs.Prelude.{ℕ, [], Bool, true, false, ◌||◌, not, ◌==◌, if◌then◌else◌}
 use Rattle.std.specs.List.{list_all, range_with_len}
-use Rattle.psci_abi.specs.Codes.{denied, invalid_address}
+use Rattle.psci_abi.specs.Codes.{denied, invalid_address, invalid_parameters}
 use Rattle.psci_board.specs.Board.{BoardValue, cores, height, may_enter}
 use Rattle.psci_link.specs.declared.kind.Kind.{Kind}
+use Rattle.psci_link.specs.declared.kind.Kind.TheVariants as kinds
 use Rattle.psci_state.specs.Ask.{deepest_of}
 use Rattle.psci_fw_model.specs.declared.outcome.Outcome.{Outcome}
 use Rattle.psci_fw_model.specs.declared.status.Status.{Status}
@@ -35,3 +36,8 @@ system_suspend b v c entry_point =
 -- SYSTEM_OFF and SYSTEM_RESET (DEN0022D): the caller stops, with the message of this kind
 abbrev pub system_message : Values → Kind → ℕ → Outcome
 system_message v kind c = stops_with (message_for v kind c [])
+
+-- SYSTEM_RESET2 (DEN0022D): type 0 is the same as SYSTEM_RESET, and there is no other type
+abbrev pub system_reset2 : Values → ℕ → ℕ → Outcome
+system_reset2 v c reset_type =
+    if reset_type == 0 then system_message v kinds.Reset c else returns invalid_parameters

@@ -12,7 +12,8 @@ use Rattle.psci_fw_model.specs.Phases.{Phase}
 pub record Values : Type 0 where
   -- the firmware's life: that of the last start that entered, 0 before any
   pub life : ℕ
-  -- the system goes off or is reset: SYSTEM_OFF or SYSTEM_RESET was accepted in this life
+  -- the system goes off or is reset: SYSTEM_OFF, SYSTEM_RESET or SYSTEM_RESET2 was accepted in
+  -- this life
   pub halting : Bool
   -- who coordinates the power domains
   pub mode : SuspendMode

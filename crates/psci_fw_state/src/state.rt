@@ -14,7 +14,7 @@ use std::marker::Model;
 pub struct State {
     /// 0 before any core has entered.
     pub(crate) life: u32,
-    /// SYSTEM_OFF or SYSTEM_RESET was accepted in this life.
+    /// SYSTEM_OFF, SYSTEM_RESET or SYSTEM_RESET2 was accepted in this life.
     pub(crate) halting: bool,
     pub(crate) mode: SuspendMode,
     pub(crate) tree: Tree,
@@ -77,7 +77,7 @@ impl State {
         self.life
     }
 
-    /// Whether SYSTEM_OFF or SYSTEM_RESET was accepted in this life.
+    /// Whether SYSTEM_OFF, SYSTEM_RESET or SYSTEM_RESET2 was accepted in this life.
     #[tactic(auto, unfolding(crate::specs::Seen::values_in))]
     pub fn halting(&self) -> bool
         ensures { result ≡ (values_in self.now).halting }

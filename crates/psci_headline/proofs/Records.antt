@@ -71,6 +71,7 @@ stopped_by_caller : (b : BoardValue) (c : ℕ) (r : Request) (m : MessageValue)
     → is_of_caller (function_effect b c r acts.Stop (Some m)) ≡ true
 stopped_by_caller b c requests.SystemOff m = refl
 stopped_by_caller b c requests.SystemReset m = refl
+stopped_by_caller b c (requests.SystemReset2 reset_type cookie) m = refl
 stopped_by_caller b c r m = refl
 
 sent_by_caller : (b : BoardValue) (c : ℕ) (r : Request) (code : Code) (m : MessageValue)

@@ -20,7 +20,7 @@ use Rattle.psci_world_model.specs.Places.{place}
 
 -- Halting -------------------------------------------------------------------------------------
 
--- there is no life, or SYSTEM_OFF or SYSTEM_RESET was accepted in it
+-- there is no life, or SYSTEM_OFF, SYSTEM_RESET or SYSTEM_RESET2 was accepted in it
 abbrev pub halts_in : BoardValue → List Record → Option ℕ → Bool
 halts_in b past None = true
 halts_in b past (Some life) = (in_life b life (firmware_values b past)).halting

@@ -90,7 +90,7 @@ impl Draws {
             return if self.left < LATE && self.one_in(2) {
                 Request::SystemOff
             } else {
-                Request::SystemReset
+                self.reset()
             };
         }
         match self.mood {

@@ -5,7 +5,7 @@ ghost use Rattle.std.specs.Prelude.{◌≤◌};
 use crate::draws::Draws;
 use crate::places::is_at;
 use crate::requests::{NO_FUNCTION, registers};
-use psci_abi::words::{CPU_ON_64, CPU_SUSPEND_32, CPU_SUSPEND_64, PSCI_FEATURES};
+use psci_abi::words::{CPU_ON_64, CPU_SUSPEND_32, CPU_SUSPEND_64, PSCI_FEATURES, SYSTEM_RESET2_32};
 use psci_abi::{Regs, Request};
 use psci_board::Board;
 use psci_world::World;
@@ -13,14 +13,14 @@ use psci_world_model::{Event, Place};
 
 /// A function word that is asked about, or called, now and then.
 ///
-/// CPU_OFF has no SMC64 form, 0x8400_0012 is SYSTEM_RESET2, and no function number has bit 25.
+/// CPU_OFF has no SMC64 form, and no function number has bit 25.
 const WORDS: [u32; 8] = [
     NO_FUNCTION,
     CPU_SUSPEND_32,
     CPU_SUSPEND_64,
     PSCI_FEATURES,
     0xc400_0002,
-    0x8400_0012,
+    SYSTEM_RESET2_32,
     CPU_ON_64,
     0xc600_0003,
 ];
@@ -114,9 +114,9 @@ impl Draws {
         }
     }
 
-    /// Any request, but SYSTEM_OFF and SYSTEM_RESET.
+    /// Any request that does not end the life.
     fn request(&mut self, board: &Board) -> Request {
-        match self.below(10) {
+        match self.below(11) {
             0 => Request::Version,
             1 => Request::MigrateInfoType,
             2 => Request::Unknown,
@@ -126,6 +126,7 @@ impl Draws {
             6 => Request::CpuOff,
             7 => self.system_suspend(board),
             8 => self.suspend(board),
+            9 => self.other_reset(),
             _ => self.power_on(board),
         }
     }
@@ -160,6 +161,26 @@ impl Draws {
         }
     }
 
+    /// A SYSTEM_RESET2 of a type that there is not: one of a vendor, or reserved.
+    fn other_reset(&mut self) -> Request {
+        Request::SystemReset2 {
+            reset_type: 1 << self.below(32),
+            cookie: self.word(),
+        }
+    }
+
+    /// SYSTEM_RESET, or a SYSTEM_RESET2 that does the same.
+    pub fn reset(&mut self) -> Request {
+        if self.one_in(2) {
+            Request::SystemReset
+        } else {
+            Request::SystemReset2 {
+                reset_type: 0,
+                cookie: self.word(),
+            }
+        }
+    }
+
     /// A CPU_ON, good or bad.
     fn power_on(&mut self, board: &Board) -> Request {
         Request::CpuOn {
@@ -184,7 +205,7 @@ impl Draws {
         WORDS.get(place).copied().unwrap_or(0)
     }
 
-    /// The registers of any call, but of SYSTEM_OFF and SYSTEM_RESET.
+    /// The registers of any call that does not end the life.
     pub fn call(&mut self, board: &Board) -> Regs {
         let request = self.request(board);
         let wide = !self.one_in(4);
@@ -195,16 +216,16 @@ impl Draws {
         regs
     }
 
-    /// The registers of any call of a core; SYSTEM_OFF and SYSTEM_RESET only where it runs not.
+    /// The registers of any call of a core; one that ends the life only where it runs not.
     fn call_of(&mut self, world: &World, number: u16) -> Regs {
         if self.one_in(8) && !is_at(world, number, Place::Running) {
             let off = self.one_in(2);
             let request = if off {
                 Request::SystemOff
             } else {
-                Request::SystemReset
+                self.reset()
             };
-            return registers(request, false);
+            return registers(request, true);
         }
         self.call(world.board())
     }

@@ -3,7 +3,8 @@
 use psci_abi::words::{
     AFFINITY_INFO_32, AFFINITY_INFO_64, CPU_OFF, CPU_ON_32, CPU_ON_64, CPU_SUSPEND_32,
     CPU_SUSPEND_64, MIGRATE_INFO_TYPE, PSCI_FEATURES, PSCI_SET_SUSPEND_MODE, PSCI_VERSION,
-    SYSTEM_OFF, SYSTEM_RESET, SYSTEM_SUSPEND_32, SYSTEM_SUSPEND_64,
+    SYSTEM_OFF, SYSTEM_RESET, SYSTEM_RESET2_32, SYSTEM_RESET2_64, SYSTEM_SUSPEND_32,
+    SYSTEM_SUSPEND_64,
 };
 use psci_abi::{Regs, Request};
 
@@ -24,6 +25,7 @@ fn narrow_word(request: Request) -> u32 {
         Request::Features { .. } => PSCI_FEATURES,
         Request::SystemSuspend { .. } => SYSTEM_SUSPEND_32,
         Request::SetSuspendMode { .. } => PSCI_SET_SUSPEND_MODE,
+        Request::SystemReset2 { .. } => SYSTEM_RESET2_32,
         Request::Unknown => NO_FUNCTION,
     }
 }
@@ -35,6 +37,7 @@ fn wide_word(request: Request) -> Option<u32> {
         Request::CpuOn { .. } => Some(CPU_ON_64),
         Request::AffinityInfo { .. } => Some(AFFINITY_INFO_64),
         Request::SystemSuspend { .. } => Some(SYSTEM_SUSPEND_64),
+        Request::SystemReset2 { .. } => Some(SYSTEM_RESET2_64),
         Request::Version
         | Request::CpuOff
         | Request::MigrateInfoType
@@ -63,6 +66,7 @@ fn arguments(request: Request) -> [u64; 3] {
         Request::SystemSuspend { entry, context } => [entry, context, 0],
         Request::Features { word } => [u64::from(word), 0, 0],
         Request::SetSuspendMode { mode } => [u64::from(mode), 0, 0],
+        Request::SystemReset2 { reset_type, cookie } => [u64::from(reset_type), cookie, 0],
         Request::Version
         | Request::CpuOff
         | Request::MigrateInfoType

@@ -7,8 +7,8 @@ use psci_world::World;
 use std::process::Abort;
 use std::test::Fail;
 
-/// Two clusters of two cores.
-const BOARD: &str = "(2 2) exec 0x40000000-0x40100000 boot 0x40000000 starts 1000 lives 3";
+/// Two clusters of two cores, with lives enough for each function to be called in one that halts.
+const BOARD: &str = "(2 2) exec 0x40000000-0x40100000 boot 0x40000000 starts 1000 lives 12";
 
 /// Two groups of clusters.
 const TALL: &str = "((1 2) (2 1)) exec 0x40000000-0x40100000 boot 0x40000000 starts 1000 lives 3";

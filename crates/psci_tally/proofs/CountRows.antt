@@ -44,6 +44,9 @@ system_suspend_text = refl
 pub set_suspend_mode_text : asked_text asked.SetSuspendMode ≡ codes "set_suspend_mode"
 set_suspend_mode_text = refl
 
+pub system_reset2_text : asked_text asked.SystemReset2 ≡ codes "system_reset2"
+system_reset2_text = refl
+
 pub unknown_text : asked_text asked.Unknown ≡ codes "unknown"
 unknown_text = refl
 

@@ -54,6 +54,12 @@ system_suspend = refl
 pub set_suspend_mode : asked_of (events.Call 0 (call 0x8400000f)) ≡ asked.SetSuspendMode
 set_suspend_mode = refl
 
+pub system_reset2 : asked_of (events.Call 0 (call 0x84000012)) ≡ asked.SystemReset2
+system_reset2 = refl
+
+pub wide_system_reset2 : asked_of (events.Call 0 (call 0xc4000012)) ≡ asked.SystemReset2
+wide_system_reset2 = refl
+
 -- CPU_OFF has no word in the SMC64 convention
 pub unknown : asked_of (events.Call 0 (call 0xc4000002)) ≡ asked.Unknown
 unknown = refl

@@ -66,6 +66,10 @@ pub kinds_spelled : map event_kind_text KINDS ≡ codes "version return 65537"
     ∷ codes "set_suspend_mode stop"
     ∷ codes "set_suspend_mode ignored"
     ∷ codes "set_suspend_mode absent"
+    ∷ codes "system_reset2 return -2"
+    ∷ codes "system_reset2 stop"
+    ∷ codes "system_reset2 ignored"
+    ∷ codes "system_reset2 absent"
     ∷ codes "unknown return -1"
     ∷ codes "unknown stop"
     ∷ codes "unknown ignored"
@@ -110,6 +114,7 @@ has_row asked.SystemReset = refl
 has_row asked.Features = refl
 has_row asked.SystemSuspend = refl
 has_row asked.SetSuspendMode = refl
+has_row asked.SystemReset2 = refl
 has_row asked.Unknown = refl
 has_row asked.Enter = refl
 has_row asked.Wake = refl

@@ -8,7 +8,8 @@ use Rattle.psci_tally.specs.declared.asked.Asked.TheVariants.{Version, CpuSuspen
 use Rattle.psci_tally.specs.declared.asked.Asked.TheVariants.{AffinityInfo, MigrateInfoType}
 use Rattle.psci_tally.specs.declared.asked.Asked.TheVariants.{SystemOff, SystemReset, Features}
 use Rattle.psci_tally.specs.declared.asked.Asked.TheVariants.{SystemSuspend, SetSuspendMode}
-use Rattle.psci_tally.specs.declared.asked.Asked.TheVariants.{Unknown, Wake, Reset, Deliver, Take}
+use Rattle.psci_tally.specs.declared.asked.Asked.TheVariants.{SystemReset2, Unknown}
+use Rattle.psci_tally.specs.declared.asked.Asked.TheVariants.{Wake, Reset, Deliver, Take}
 use Rattle.psci_tally.specs.declared.asked.Asked.TheVariants.{Enter as Entry}
 use Rattle.psci_tally.specs.declared.answer.Answer.{Answer}
 use Rattle.psci_tally.specs.declared.answer.Answer.TheVariants.{Return, Stop, Enter, Resume}
@@ -31,6 +32,7 @@ asked_text SystemReset = codes "system_reset"
 asked_text Features = codes "features"
 asked_text SystemSuspend = codes "system_suspend"
 asked_text SetSuspendMode = codes "set_suspend_mode"
+asked_text SystemReset2 = codes "system_reset2"
 asked_text Unknown = codes "unknown"
 asked_text Entry = codes "enter"
 asked_text Wake = codes "wake"

@@ -18,7 +18,8 @@ use Rattle.psci_tally.specs.declared.asked.Asked.TheVariants.{Version, CpuSuspen
 use Rattle.psci_tally.specs.declared.asked.Asked.TheVariants.{AffinityInfo, MigrateInfoType}
 use Rattle.psci_tally.specs.declared.asked.Asked.TheVariants.{SystemOff, SystemReset, Features}
 use Rattle.psci_tally.specs.declared.asked.Asked.TheVariants.{SystemSuspend, SetSuspendMode}
-use Rattle.psci_tally.specs.declared.asked.Asked.TheVariants.{Unknown, Wake, Reset, Deliver, Take}
+use Rattle.psci_tally.specs.declared.asked.Asked.TheVariants.{SystemReset2, Unknown}
+use Rattle.psci_tally.specs.declared.asked.Asked.TheVariants.{Wake, Reset, Deliver, Take}
 use Rattle.psci_tally.specs.declared.asked.Asked.TheVariants.{Enter as Entry}
 use Rattle.psci_tally.specs.declared.answer.Answer.{Answer}
 use Rattle.psci_tally.specs.declared.answer.Answer.TheVariants.{Return, Stop, Enter, Resume}
@@ -39,6 +40,7 @@ asked_in requests.SystemReset = SystemReset
 asked_in (requests.Features word) = Features
 asked_in (requests.SystemSuspend entry context) = SystemSuspend
 asked_in (requests.SetSuspendMode mode) = SetSuspendMode
+asked_in (requests.SystemReset2 reset_type cookie) = SystemReset2
 asked_in requests.Unknown = Unknown
 
 -- what an event asks: a call by the function of its registers
@@ -88,12 +90,13 @@ asked_number SystemReset = 7
 asked_number Features = 8
 asked_number SystemSuspend = 9
 asked_number SetSuspendMode = 10
-asked_number Unknown = 11
-asked_number Entry = 12
-asked_number Wake = 13
-asked_number Reset = 14
-asked_number Deliver = 15
-asked_number Take = 16
+asked_number SystemReset2 = 11
+asked_number Unknown = 12
+asked_number Entry = 13
+asked_number Wake = 14
+asked_number Reset = 15
+asked_number Deliver = 16
+asked_number Take = 17
 
 -- both are the same answer
 abbrev pub is_answer : Answer → Answer → Bool

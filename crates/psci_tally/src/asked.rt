@@ -31,6 +31,8 @@ pub enum Asked {
     SystemSuspend,
     /// PSCI_SET_SUSPEND_MODE.
     SetSuspendMode,
+    /// SYSTEM_RESET2.
+    SystemReset2,
     /// A function word that is not supported.
     Unknown,
     /// A core entered the firmware.
@@ -76,6 +78,7 @@ impl Asked {
             Request::Features { .. } => Asked::Features,
             Request::SystemSuspend { .. } => Asked::SystemSuspend,
             Request::SetSuspendMode { .. } => Asked::SetSuspendMode,
+            Request::SystemReset2 { .. } => Asked::SystemReset2,
             Request::Unknown => Asked::Unknown,
         }
     }

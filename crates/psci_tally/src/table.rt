@@ -16,7 +16,7 @@ macro_rules! kinds {
 /// All kinds that a legal run may have, in a fixed order. In a halting life a core stops, whatever
 /// it calls. On a board of height 1 or 2 no message has the fourth part that the last
 /// acknowledgements speak of.
-pub const KINDS: [Kind; 85] = kinds! {
+pub const KINDS: [Kind; 89] = kinds! {
     Version: Return(65537), Stop, Ignored, Absent;
     CpuSuspend: Return(0), Return(-2), Return(-3), Return(-9), Stop, Ignored, Absent;
     CpuOff: Stop, Ignored, Absent;
@@ -29,6 +29,7 @@ pub const KINDS: [Kind; 85] = kinds! {
     Features: Return(0), Return(1), Return(-1), Stop, Ignored, Absent;
     SystemSuspend: Return(-3), Return(-9), Stop, Ignored, Absent;
     SetSuspendMode: Return(0), Return(-2), Return(-3), Stop, Ignored, Absent;
+    SystemReset2: Return(-2), Stop, Ignored, Absent;
     Unknown: Return(-1), Stop, Ignored, Absent;
     Enter: Enter, Resume, Stop, Ignored, Absent;
     Wake: Started, Ignored, Absent;

@@ -24,6 +24,7 @@ impl fmt::Display for Asked {
             Asked::Features => write!(f, "features"),
             Asked::SystemSuspend => write!(f, "system_suspend"),
             Asked::SetSuspendMode => write!(f, "set_suspend_mode"),
+            Asked::SystemReset2 => write!(f, "system_reset2"),
             Asked::Unknown => write!(f, "unknown"),
             Asked::Enter => write!(f, "enter"),
             Asked::Wake => write!(f, "wake"),

@@ -71,8 +71,8 @@ fn settle_by_rounds(world: &mut World) -> Result<Settled, Memory>
     Ok(Settled::Quiet(make_rounds(world)?))
 }
 
-/// Whether the power controller is in no life, or in one in which SYSTEM_OFF or SYSTEM_RESET was
-/// accepted.
+/// Whether the power controller is in no life, or in one in which SYSTEM_OFF, SYSTEM_RESET or
+/// SYSTEM_RESET2 was accepted.
 fn is_halting(world: &World) -> bool
     ensures { result ≡ is_halting world.now.board world.now.past }
 {

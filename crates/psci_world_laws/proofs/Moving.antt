@@ -99,6 +99,7 @@ return_call b c (requests.Features word) code = goes c
 return_call b c (requests.SystemSuspend entry_point context) code = goes c
 return_call b c (requests.SetSuspendMode number) code =
     mode_call c number (int_eq code.0 success.0)
+return_call b c (requests.SystemReset2 reset_type cookie) code = goes c
 return_call b c requests.Unknown code = goes c
 
 sent_call : (b : BoardValue) (c : ℕ) (r : Request) (code : Code) (m : MessageValue)
@@ -115,6 +116,7 @@ sent_call b c requests.SystemReset code m = goes c
 sent_call b c (requests.Features word) code m = goes c
 sent_call b c (requests.SystemSuspend entry_point context) code m = goes c
 sent_call b c (requests.SetSuspendMode number) code m = goes c
+sent_call b c (requests.SystemReset2 reset_type cookie) code m = goes c
 sent_call b c requests.Unknown code m = goes c
 
 stop_call : (b : BoardValue) (c : ℕ) (r : Request) (m : MessageValue)
@@ -134,6 +136,8 @@ stop_call b c (requests.Features word) m = record { is = refl; core = refl; runs
 stop_call b c (requests.SystemSuspend entry_point context) m =
     record { is = refl; core = refl; runs = refl }
 stop_call b c (requests.SetSuspendMode number) m =
+    record { is = refl; core = refl; runs = refl }
+stop_call b c (requests.SystemReset2 reset_type cookie) m =
     record { is = refl; core = refl; runs = refl }
 stop_call b c requests.Unknown m = record { is = refl; core = refl; runs = refl }
 

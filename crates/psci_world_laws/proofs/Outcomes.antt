@@ -55,6 +55,7 @@ returned b c requests.SystemReset code = refl
 returned b c (requests.Features word) code = refl
 returned b c (requests.SystemSuspend entry_point context) code = refl
 returned b c (requests.SetSuspendMode number) code = mode_sends c number (int_eq code.0 success.0)
+returned b c (requests.SystemReset2 reset_type cookie) code = refl
 returned b c requests.Unknown code = refl
 
 stopped : (b : BoardValue) (c : ℕ) (r : Request) (m : MessageValue) → Sends b c r (stops_with m)
@@ -69,6 +70,7 @@ stopped b c requests.SystemReset m = refl
 stopped b c (requests.Features word) m = refl
 stopped b c (requests.SystemSuspend entry_point context) m = refl
 stopped b c (requests.SetSuspendMode number) m = refl
+stopped b c (requests.SystemReset2 reset_type cookie) m = refl
 stopped b c requests.Unknown m = refl
 
 asked_on : (b : BoardValue) (c word entry_point context : ℕ) (r : Request) (m : MessageValue)

@@ -1,5 +1,29 @@
-use Rattle.std.proofs.Common.{rules}
+use Rattle.std.proofs.Common.{◌≡◌, ap, subst, sym, ◌∙◌, rules}
+use Rattle.psci_abi.specs.declared.request.Request.TheVariants as requests
+use Rattle.psci_fw_model.specs.declared.outcome.Outcome.{Outcome}
+use Rattle.psci_fw_model.specs.After.{change}
+use Rattle.psci_fw_model.specs.Effects.{function_effect}
+use Rattle.psci_fw_model.specs.Outcomes.{returns}
+use Rattle.psci_fw_state.specs.Seen.{values_in}
+use Rattle.psci_fw.proofs.Answered.{goes_on}
 use Rattle.psci_fw.proofs.smc.function.Goals as goal
+
+pub returns-in-SystemReset2-clause-answer : goal.returns-in-SystemReset2-clause-answer
+returns-in-SystemReset2-clause-answer c =
+    rw c.in-SystemReset2.is (c.system_reset2.ensures.answer c.in-SystemReset2.cookie)
+
+pub returns-in-Features-clause-answer : goal.returns-in-Features-clause-answer
+returns-in-Features-clause-answer c =
+    let b = c.args.board.now in
+    let v = values_in c.args.state.now in
+    let core = c.args.caller.number in
+    let asked = requests.Features c.in-Features.word in
+    rw c.in-Features.is (record {
+      answer = c.returns-in-Features.ensures ∙ ap returns c.feature_code.ensures;
+      after = subst
+          (λ (o : Outcome). v ≡ change b (function_effect b core asked o.act o.message) v)
+          (sym c.returns-in-Features.ensures) (goes_on v core c.requires.running);
+    })
 
 pub returns-in-Unknown-clause-answer : goal.returns-in-Unknown-clause-answer
 returns-in-Unknown-clause-answer c = search rules
