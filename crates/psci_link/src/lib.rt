@@ -31,6 +31,3 @@ pub use laws::{law_frames, law_parts, law_slots};
 pub use message::Message;
 pub use slots::Slots;
 pub use taken::Taken;
-
-#[cfg(test)]
-mod tests;

@@ -1,12 +1,8 @@
-//! Known frames, bytes that were tampered with, and a message until it is acknowledged.
+//! Known frames, and bytes that were tampered with.
 
-ghost use Rattle.std.specs.Prelude.{◌≡◌, ◌≤◌};
-ghost use Rattle.psci_link.specs.Slots.{slot_of};
-ghost use Rattle.psci_link.specs.Slots.Slot.{OfCore};
-
-use crate::{Ack, FRAME_LEN, Frame, FrameFault, Kind, Message, Slots, Taken, decode, encode};
 use psci_board::{Board, Core};
 use psci_coord::{Part, Parts};
+use psci_link::{Ack, FRAME_LEN, Frame, FrameFault, Kind, Message, decode, encode};
 use std::test::Fail;
 
 /// Core 3 goes down with its cluster.
@@ -38,9 +34,8 @@ const LARGE: &str = "((1 1 1 1 1 1 1 1 1 1 1 1 1 1 1 1) (1 1 1 1 1 1 1 1 1 1 1 1
     (1 1 1 1 1 1 1 1 1 1 1 1 1 1 1 1) (1 1 1 1 1 1 1 1 1 1 1 1 1 1 1 1)) \
     exec 0x40000000-0x40100000 boot 0x40000000 starts 1000 lives 3";
 
-fn down() -> Message
-    ensures { slot_of result.kind result.core ≡ OfCore 3 }
-{
+/// What goes down with core 3.
+fn down() -> Message {
     let mut parts = Parts::new();
     parts.push(Part {
         level: 0,
@@ -61,26 +56,20 @@ fn down() -> Message
     }
 }
 
-fn done(applied: u8) -> Ack
-    requires { applied ≤ 4 }
-{
-    Ack {
-        kind: Kind::Down,
-        core: Core { number: 3 },
-        life: 1,
-        number: 1,
-        applied,
-        stale: false,
-    }
-}
-
 #[test]
 fn known_frames(rt: HostRuntime) -> Result<(), Fail> {
     let board = Board::read(rt.alloc(), SMALL)?;
     let message = Frame::Message(down());
     assert!(rt; encode(&message) == DOWN);
     assert!(rt; decode(&DOWN, &board) == Ok(message.copy()));
-    let ack = Frame::Ack(done(2));
+    let ack = Frame::Ack(Ack {
+        kind: Kind::Down,
+        core: Core { number: 3 },
+        life: 1,
+        number: 1,
+        applied: 2,
+        stale: false,
+    });
     assert!(rt; encode(&ack) == DONE);
     assert!(rt; decode(&DONE, &board) == Ok(ack.copy()));
     assert!(rt; ack != message);
@@ -91,7 +80,7 @@ fn known_frames(rt: HostRuntime) -> Result<(), Fail> {
 }
 
 #[test]
-fn known_faults(rt: HostRuntime) -> Result<(), Fail> {
+fn faults_and_other_lengths(rt: HostRuntime) -> Result<(), Fail> {
     let board = Board::read(rt.alloc(), SMALL)?;
     for (place, byte, fault) in [
         (1, 0x45, FrameFault::Magic),
@@ -108,6 +97,13 @@ fn known_faults(rt: HostRuntime) -> Result<(), Fail> {
         }
         assert!(rt; decode(&bytes, &board) == Err(fault));
     }
+    for length in 0..FRAME_LEN {
+        assert!(rt; decode(&DOWN[..length], &board) == Err(FrameFault::Length));
+        assert!(rt; decode(&DONE[..length], &board) == Err(FrameFault::Length));
+    }
+    let mut longer = [0; 54];
+    longer[..FRAME_LEN].copy_from_slice(&DOWN);
+    assert!(rt; decode(&longer, &board) == Err(FrameFault::Length));
     Ok(())
 }
 
@@ -120,20 +116,7 @@ fn is_sound(bytes: &[u8], board: &Board) -> bool {
 }
 
 #[test]
-fn other_lengths(rt: HostRuntime) -> Result<(), Fail> {
-    let board = Board::read(rt.alloc(), SMALL)?;
-    for length in 0..FRAME_LEN {
-        assert!(rt; decode(&DOWN[..length], &board) == Err(FrameFault::Length));
-        assert!(rt; decode(&DONE[..length], &board) == Err(FrameFault::Length));
-    }
-    let mut longer = [0; 54];
-    longer[..FRAME_LEN].copy_from_slice(&DOWN);
-    assert!(rt; decode(&longer, &board) == Err(FrameFault::Length));
-    Ok(())
-}
-
-#[test]
-fn each_byte_altered(rt: HostRuntime) -> Result<(), Fail> {
+fn one_and_two_bytes_altered(rt: HostRuntime) -> Result<(), Fail> {
     let small = Board::read(rt.alloc(), SMALL)?;
     let large = Board::read(rt.alloc(), LARGE)?;
     for frame in [DOWN, DONE, WHOLE] {
@@ -146,13 +129,6 @@ fn each_byte_altered(rt: HostRuntime) -> Result<(), Fail> {
             }
         }
     }
-    Ok(())
-}
-
-#[test]
-fn pairs_of_bytes_altered(rt: HostRuntime) -> Result<(), Fail> {
-    let small = Board::read(rt.alloc(), SMALL)?;
-    let large = Board::read(rt.alloc(), LARGE)?;
     let mut drawn: u32 = 1;
     for frame in [DOWN, DONE, WHOLE] {
         for _ in 0..20_000 {
@@ -166,27 +142,5 @@ fn pairs_of_bytes_altered(rt: HostRuntime) -> Result<(), Fail> {
             assert!(rt; is_sound(&bytes, &large));
         }
     }
-    Ok(())
-}
-
-#[test]
-fn a_message_until_it_is_acknowledged(rt: HostRuntime) -> Result<(), Fail> {
-    let mut slots = Slots::new(rt.alloc(), 4).ok().ok_or("there is memory")?;
-    let message = down();
-    assert!(rt; slots.outstanding(3).is_none());
-    slots.put(message.copy());
-    assert!(rt; slots.outstanding(3) == Some(&message));
-    assert!(rt; slots.outstanding(2).is_none() && slots.outstanding(4).is_none());
-    assert_eq!(rt; slots.take_ack(done(1)), Taken::Used);
-    assert!(rt; slots.outstanding(3) == Some(&message));
-    assert_eq!(rt; slots.take_ack(done(2)), Taken::Used);
-    assert!(rt; slots.outstanding(3).is_none());
-    assert_eq!(rt; slots.take_ack(done(2)), Taken::Old);
-    slots.put(message.copy());
-    slots.clear(Core { number: 3 });
-    assert!(rt; slots.outstanding(3).is_none());
-    slots.put(message);
-    slots.clear_all();
-    assert!(rt; slots.outstanding(3).is_none());
     Ok(())
 }

@@ -1,5 +1,7 @@
-use crate::{Ask, BadState};
+//! Power state words: every state id, in both formats.
+
 use psci_abi::Format;
+use psci_state::{Ask, BadState};
 use std::process::Abort;
 
 /// The highest level and the state type of a state id, where its nibbles are 3 at most, grow from
@@ -38,43 +40,42 @@ fn is_read(rt: &impl Abort, word: u32, format: Format, height: u32, accepted: bo
     }
 }
 
-#[test]
-fn original_words(rt: HostRuntime) {
-    for id in 0..0x1_0000_u32 {
-        let found = listed(id);
-        for state_type in 0..2_u32 {
-            for level in 0..4_u32 {
-                for reserved in [0, 1 << 17, 1 << 23, 1 << 26, 1 << 31] {
-                    let word = id | (state_type << 16) | (level << 24) | reserved;
-                    let fits = reserved == 0 && found == Some((level, state_type));
-                    for height in 1..4_u32 {
-                        is_read(&rt, word, Format::Original, height, fits && level <= height);
-                    }
-                }
-            }
-        }
-    }
-}
-
-#[test]
-fn extended_words(rt: HostRuntime) {
-    for id in 0..0x1_0000_u32 {
-        let found = listed(id);
-        for state_type in 0..2_u32 {
-            for reserved in [0, 1 << 16, 1 << 24, 1 << 27, 1 << 28, 1 << 29, 1 << 31] {
-                let word = id | (state_type << 30) | reserved;
+/// The words of a state id in the original format, each state type and level with it.
+fn original_words(rt: &impl Abort, id: u32) {
+    let found = listed(id);
+    for state_type in 0..2_u32 {
+        for level in 0..4_u32 {
+            for reserved in [0, 1 << 17, 1 << 23, 1 << 26, 1 << 31] {
+                let word = id | (state_type << 16) | (level << 24) | reserved;
+                let fits = reserved == 0 && found == Some((level, state_type));
                 for height in 1..4_u32 {
-                    let fits = found.is_some_and(|(level, deep)| level <= height
-                        && deep == state_type);
-                    is_read(&rt, word, Format::Extended, height, fits && reserved == 0);
+                    is_read(rt, word, Format::Original, height, fits && level <= height);
                 }
             }
         }
     }
 }
 
+/// The words of a state id in the extended format, each state type with it.
+fn extended_words(rt: &impl Abort, id: u32) {
+    let found = listed(id);
+    for state_type in 0..2_u32 {
+        for reserved in [0, 1 << 16, 1 << 24, 1 << 27, 1 << 28, 1 << 29, 1 << 31] {
+            let word = id | (state_type << 30) | reserved;
+            for height in 1..4_u32 {
+                let fits = found.is_some_and(|(level, deep)| level <= height && deep == state_type);
+                is_read(rt, word, Format::Extended, height, fits && reserved == 0);
+            }
+        }
+    }
+}
+
 #[test]
-fn deepest_asks(rt: HostRuntime) {
+fn power_state_words(rt: HostRuntime) {
+    for id in 0..0x1_0000_u32 {
+        original_words(&rt, id);
+        extended_words(&rt, id);
+    }
     for (height, word) in [(1, 0x0101_0033), (2, 0x0201_0333), (3, 0x0301_3333)] {
         let ask = Ask::deepest(height);
         assert_eq!(rt; ask.word(Format::Original), word);
