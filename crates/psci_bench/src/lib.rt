@@ -24,6 +24,3 @@ pub use psci_storm::{Settled, Storm, StormedWorld, blow, storm, storm_world};
 pub use psci_tally::write_counts;
 pub use run::replay;
 pub use standard::Std;
-
-#[cfg(test)]
-mod tests;

@@ -18,6 +18,3 @@ mod requests;
 pub use blowing::{blow, storm, storm_world};
 pub use outcome::{Storm, StormedWorld};
 pub use psci_world::{Present, Settled, law_safe};
-
-#[cfg(test)]
-mod storm_tests;

@@ -2,7 +2,7 @@
 
 ghost use Rattle.std.specs.Prelude.{◌≡◌, None, false};
 
-use crate::device::{Io, Sink, Source};
+use psci_bench::{Io, Sink, Source};
 use std::alloc::Global;
 
 /// A script in memory. A read after its end fails.

@@ -1,6 +1,6 @@
 //! Storms, and what they come to.
 
-use crate::{Settled, Storm, blow, storm};
+use psci_bench::{Settled, Storm, blow, storm};
 use psci_board::{Board, Node};
 use psci_tally::{Answer, KINDS, Kind, tally};
 use psci_world::World;
