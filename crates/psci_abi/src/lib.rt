@@ -18,6 +18,3 @@ pub use code::Code;
 pub use format::{Format, features};
 pub use registers::Regs;
 pub use request::{Request, read};
-
-#[cfg(test)]
-mod tests;

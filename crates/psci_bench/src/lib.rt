@@ -20,6 +20,3 @@ pub use laws::law_safe_scripts;
 pub use psci_script::{ReplayFault, Replayed, ScriptFault, law_event_lines};
 pub use run::replay;
 pub use standard::Std;
-
-#[cfg(test)]
-mod tests;

@@ -35,6 +35,3 @@ pub use node::{Core, Node};
 pub use range::AddressRange;
 pub use span::CoreSpan;
 pub use tree_laws::{law_children, law_parents, law_paths, law_sizes, law_spans, law_words};
-
-#[cfg(test)]
-mod tests;

@@ -18,6 +18,3 @@ pub use laws::{law_below, law_claims, law_last_core, law_off, law_own, law_platf
 pub use osi::Osi;
 pub use part::Part;
 pub use parts::{MOST_PARTS, Parts};
-
-#[cfg(test)]
-mod tests;

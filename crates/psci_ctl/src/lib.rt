@@ -22,6 +22,3 @@ pub use psci_ctl_model::{
     law_values,
 };
 pub use psci_link::{Ack, Kind, Message};
-
-#[cfg(test)]
-mod tests;

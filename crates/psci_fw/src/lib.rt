@@ -23,6 +23,3 @@ pub use psci_fw_model::{
     Act, Cause, FwCall, FwFault, FwReply, Opening, Outcome, Start, Status, SuspendMode, law_caller,
     law_first_start, law_power_on, law_values,
 };
-
-#[cfg(test)]
-mod tests;

@@ -15,6 +15,3 @@ mod row;
 mod state;
 
 pub use state::State;
-
-#[cfg(test)]
-mod tests;

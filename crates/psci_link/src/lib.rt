@@ -34,6 +34,3 @@ pub use message::Message;
 pub use slots::Slots;
 pub use start::{Cause, Start};
 pub use taken::Taken;
-
-#[cfg(test)]
-mod tests;

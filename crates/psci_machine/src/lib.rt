@@ -15,6 +15,3 @@ pub use psci_ctl::Controller;
 pub use psci_fw::Firmware;
 pub use psci_link::{Ack, Message};
 pub use psci_world_model::{Event, Place, Said};
-
-#[cfg(test)]
-mod tests;

@@ -15,6 +15,3 @@ mod off;
 pub use last_core::check;
 pub use off::off_parts;
 pub use psci_coord::Osi;
-
-#[cfg(test)]
-mod tests;

@@ -16,6 +16,3 @@ mod law;
 pub use ask::Ask;
 pub use fault::BadState;
 pub use law::law_power_states;
-
-#[cfg(test)]
-mod tests;

@@ -19,6 +19,3 @@ pub use blowing::{blow, storm, storm_world};
 pub use outcome::{Storm, StormedWorld};
 pub use psci_tally::write_counts;
 pub use psci_world::Settled;
-
-#[cfg(test)]
-mod storm_tests;

@@ -12,6 +12,3 @@ mod words;
 
 pub use laws::law_text;
 pub use words::{hex, literal, number};
-
-#[cfg(test)]
-mod tests;

@@ -254,6 +254,3 @@ impl Tree {
         domain_at(&self.root, &self.board, node)
     }
 }
-
-#[cfg(test)]
-mod tests;

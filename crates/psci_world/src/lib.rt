@@ -27,8 +27,3 @@ pub use psci_world_model::{Event, Place, Record, Said, Sent, law_histories, law_
 pub use runs::run;
 pub use settling::{Settled, settle};
 pub use world::World;
-
-#[cfg(test)]
-mod settling_tests;
-#[cfg(test)]
-mod tests;

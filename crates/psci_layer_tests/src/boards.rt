@@ -1,0 +1,110 @@
+//! Words and numbers, and board texts whose answers are known. `tests/growths` refuses each growth
+//! in turn.
+
+ghost use Rattle.std.specs.Prelude.{IsTrue};
+ghost use Rattle.psci_board.specs.Board.{HasNodeIn};
+
+use psci_board::{Board, Core, CoreSpan, Node};
+use psci_text::{hex, literal, number};
+use std::test::Fail;
+
+/// The longest trees and the most ranges that a board may have.
+const LARGEST: &str = "((1 1 1 1 1 1 1 1 1 1 1 1 1 1 1 1) (1 1 1 1 1 1 1 1 1 1 1 1 1 1 1 1) \
+    (1 1 1 1 1 1 1 1 1 1 1 1 1 1 1 1) (1 1 1 1 1 1 1 1 1 1 1 1 1 1 1 1)) \
+    exec 0x0000000000000000-0x0000000000000004 0x0000000000000000-0x0000000000000004 \
+    0x0000000000000000-0x0000000000000004 0x0000000000000000-0xffffffffffffffff \
+    boot 0xfffffffffffffff8 starts 4294967295 lives 65535";
+
+/// Boards of each height, with their heights and how many cores they have.
+const BOARDS: [(&str, u32, u16); 16] = [
+    ("1 exec 0x0-0x1 boot 0x0 starts 1 lives 1", 1, 1),
+    ("2 exec 0x0-0x1 boot 0x0 starts 1 lives 1", 1, 2),
+    ("3 exec 0x0-0x1 boot 0x0 starts 1 lives 1", 1, 3),
+    ("16 exec 0x0-0x1 boot 0x0 starts 1 lives 1", 1, 16),
+    (
+        "(2 2) exec 0x40000000-0x40100000 boot 0x40000000 starts 1000 lives 3",
+        2,
+        4,
+    ),
+    ("(3) exec 0x0-0x1 boot 0x0 starts 1 lives 1", 2, 3),
+    ("(1 2 3) exec 0x0-0x1 boot 0x0 starts 1 lives 1", 2, 6),
+    ("(4 3 2 1) exec 0x0-0x1 boot 0x0 starts 1 lives 1", 2, 10),
+    ("(1 1 1 1 1) exec 0x0-0x1 boot 0x0 starts 1 lives 1", 2, 5),
+    (
+        "(5 1 1 1 1 1 1 1 1 1 1 1 1 1 1 16) exec 0x0-0x1 boot 0x0 starts 1 lives 1",
+        2,
+        35,
+    ),
+    ("((1)) exec 0x0-0x1 boot 0x0 starts 1 lives 1", 3, 1),
+    ("((1) (2) (3)) exec 0x0-0x1 boot 0x0 starts 1 lives 1", 3, 6),
+    ("((1 2 3)) exec 0x0-0x1 boot 0x0 starts 1 lives 1", 3, 6),
+    (
+        "((1 2 3) (4) (5 6)) exec 0x0-0x1 boot 0x0 starts 1 lives 1",
+        3,
+        21,
+    ),
+    (
+        "((1) (1) (1) (1) (1) (1) (1) (1) (1) (1) (1) (1) (1) (1) (1) (1 2)) \
+        exec 0x0-0x1 0x0-0x1 0x0-0x1 boot 0x0 starts 1 lives 1",
+        3,
+        18,
+    ),
+    (LARGEST, 3, 64),
+];
+
+/// Whether the board has a node.
+pub fn has(board: &Board, node: Node) -> bool
+    ensures { IsTrue result → HasNodeIn board.now.levels node }
+{
+    board.cores_below(node).is_some()
+}
+
+#[test]
+fn words_and_numbers(rt: HostRuntime) {
+    let text = b"call 18446744073709551615 0x00000000fFfFfFfF";
+    let read = literal(text, b"call ").and_then(|rest| number(rest));
+    assert!(rt; matches!(read, Some((u64::MAX, b" 0x00000000fFfFfFfF"))));
+    assert!(rt; matches!(hex(b"0x00000000fFfFfFfF 1"), Some((0xffff_ffff, b" 1"))));
+    assert!(rt; literal(b"cal", b"call").is_none());
+    assert!(rt; number(b"18446744073709551616").is_none());
+    assert!(rt; number(b"00").is_none());
+    assert!(rt; hex(b"0X1").is_none());
+    assert!(rt; hex(b"0x00000000000000000").is_none());
+}
+
+#[test]
+fn boards_are_read_and_copied(rt: HostRuntime) -> Result<(), Fail> {
+    for (text, height, cores) in BOARDS {
+        let board = Board::read(rt.alloc(), text)?;
+        assert_eq!(rt; (board.height(), board.cores()), (height, cores), "{text}");
+        let copy = board.copy(rt.alloc())?;
+        assert_eq!(rt; (copy.height(), copy.cores()), (height, cores), "{text}");
+    }
+    let (text, _, _) = BOARDS[4];
+    let board = Board::read(rt.alloc(), text)?;
+    assert_eq!(rt;
+        (board.boot(), board.start_limit(), board.life_limit()),
+        (0x4000_0000, 1000, 3)
+    );
+    Ok(())
+}
+
+#[test]
+fn cores_spans_and_parents(rt: HostRuntime) -> Result<(), Fail> {
+    let text = "((1 2) (3)) exec 0x40000000-0x40100000 boot 0x40000000 starts 1 lives 1";
+    let copy = Board::read(rt.alloc(), text)?.copy(rt.alloc())?;
+    assert_eq!(rt; copy.core_of(0x10002), Some(Core { number: 5 }));
+
+    let text = "((1 3) (2 1 4)) exec 0x0-0x1 boot 0x0 starts 1 lives 1";
+    let board = Board::read(rt.alloc(), text)?;
+    let group = Node { level: 2, place: 1 };
+    let cluster = Node { level: 1, place: 4 };
+    let span = CoreSpan { first: 4, count: 7 };
+    assert_eq!(rt; board.cores_below(group), Some(span));
+    let span = CoreSpan { first: 7, count: 4 };
+    assert_eq!(rt; board.cores_below(cluster), Some(span));
+    assert_eq!(rt; board.parent(cluster), Some(group));
+    assert_eq!(rt; board.child_number(cluster), Some(2));
+    assert_eq!(rt; (board.nodes(1), board.nodes(3), board.nodes(4)), (5, 1, 0));
+    Ok(())
+}

@@ -1,0 +1,81 @@
+//! What a core does next and what is sent, in a form that a table can hold.
+
+use psci_abi::Code;
+use psci_coord::Part;
+use psci_fw_model::Act;
+use psci_link::{Kind, Message};
+
+/// What a core does next, and what is sent.
+#[derive(Clone, Copy)]
+pub enum Answer {
+    /// The call returns this code, and sends nothing.
+    Returns(i32),
+    /// The call returns SUCCESS, and sends a Start of this core, life and number.
+    Asks(u16, u32, u32),
+    /// The core goes on at this address with this context id, and sends nothing.
+    Goes(u64, u64),
+    /// The core goes on after its suspend, and sends nothing.
+    Resumes,
+    /// The core stops, and sends nothing.
+    Stops,
+    /// The core stops, and sends a Down of this core, life and number, with parts of these depths
+    /// and generations, from level 0 up.
+    Down(u16, u32, u32, &'static [(u8, u64)]),
+    /// The core stops, and sends a message of this kind, core, life and number for the whole
+    /// system.
+    Halts(Kind, u16, u32, u32),
+}
+
+impl Answer {
+    /// Whether it is what the core does next, and what is sent.
+    pub fn is(&self, act: Act, sent: Option<&Message>) -> bool {
+        match *self {
+            Answer::Returns(code) => act == Act::Return(Code(code)) && sent.is_none(),
+            Answer::Asks(core, life, number) => {
+                act == Act::Return(Code::SUCCESS) && is(sent, Kind::Start, core, life, number, &[])
+            }
+            Answer::Goes(address, context) => {
+                act == Act::Enter { address, context } && sent.is_none()
+            }
+            Answer::Resumes => act == Act::Resume && sent.is_none(),
+            Answer::Stops => act == Act::Stop && sent.is_none(),
+            Answer::Down(core, life, number, claimed) => {
+                act == Act::Stop && is(sent, Kind::Down, core, life, number, claimed)
+            }
+            Answer::Halts(kind, core, life, number) => {
+                act == Act::Stop && is(sent, kind, core, life, number, &[])
+            }
+        }
+    }
+}
+
+/// Whether a message was sent, and is this one.
+fn is(
+    sent: Option<&Message>,
+    kind: Kind,
+    core: u16,
+    life: u32,
+    number: u32,
+    claimed: &[(u8, u64)],
+) -> bool {
+    let Some(message) = sent else {
+        return false;
+    };
+    message.kind == kind
+        && message.core.number == core
+        && message.life == life
+        && message.number == number
+        && are_parts(message.parts.as_slice(), claimed)
+}
+
+/// Whether the parts have these depths and generations, and levels from 0 up.
+fn are_parts(parts: &[Part], claimed: &[(u8, u64)]) -> bool {
+    parts.len() == claimed.len()
+        && parts
+            .iter()
+            .enumerate()
+            .all(|(level, part)| part.level as usize == level)
+        && parts.iter().zip(claimed).all(|(part, (depth, generation))| {
+            part.depth == *depth && part.generation == *generation
+        })
+}

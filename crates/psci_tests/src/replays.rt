@@ -1,0 +1,311 @@
+//! Scripts replayed between devices in memory that give little, stop and fail, with every kind of
+//! event, and whole: many messages, many cores and many events.
+
+use crate::devices::{Page, Script};
+use psci_bench::{ReplayFault, Replayed, ScriptFault, replay};
+use std::alloc::{AllocError, Global};
+use std::process::Abort;
+
+/// One core enters and asks for the version.
+pub const SCRIPT: &[u8] =
+    b"board (2 2) exec 0x40000000-0x40100000 boot 0x40000000 starts 1000 lives 3\n\
+      enter 0\ncall 0 0x84000000\n";
+
+/// The script up to its second line, line feed and all.
+const ENTRY: &[u8] = b"board (2 2) exec 0x40000000-0x40100000 boot 0x40000000 starts 1000 lives 3\n\
+      enter 0\n";
+
+/// A script whose last line has no line feed.
+const CUT: &[u8] = b"board (2 2) exec 0x40000000-0x40100000 boot 0x40000000 starts 1000 lives 3\n\
+      enter 0\ncall 0 0x8400";
+
+/// The answers to the script.
+pub const TEXT: &[u8] = b"1 enter 0x40000000 0x0\n2 return 65537\n";
+
+/// The whole script was replayed.
+pub const WHOLE: Replayed = Replayed {
+    lines: 3,
+    events: 2,
+};
+
+/// The Down of a core that was woken since is stale, and its acknowledgement is old.
+const STALE: &[u8] = b"board (2 2) exec 0x40000000-0x40100000 boot 0x40000000 starts 1000 lives 3\n\
+      enter 0\n\
+      call 0 0xc4000003 0x101 0x40001000 0x7\n\
+      call 0 0xc4000004 0x101 0\n\
+      deliver 0\n\
+      enter 3\n\
+      call 3 0x84000002\n\
+      wake 3\n\
+      enter 3\n\
+      deliver 1\n\
+      take 1\n\
+      deliver 2\n\
+      take 2\n";
+
+const STALE_TEXT: &[u8] = b"1 enter 0x40000000 0x0\n\
+      2 return 0 #0 start 3 life 1 number 0\n\
+      3 return 2\n\
+      4 ack #0 applied 1\n\
+      5 enter 0x40001000 0x7\n\
+      6 stop #1 down 3 life 1 number 1 parts 0:3:1 1:3:1\n\
+      7 started 2\n\
+      8 stop #2 down 3 life 1 number 2 parts 0:3:2 1:3:2\n\
+      9 ack #1 applied 0 stale\n\
+      10 old\n\
+      11 ack #2 applied 2\n\
+      12 used\n";
+
+/// In a new life nothing means anything that was said in the last one.
+const LIVES: &[u8] = b"board (2 2) exec 0x40000000-0x40100000 boot 0x40000000 starts 1000 lives 3\n\
+      enter 0\n\
+      call 0 0xc4000003 0x101 0x40001000 0x7\n\
+      call 0 0xc4000004 0x101 0\n\
+      deliver 0\n\
+      enter 3\n\
+      call 3 0xc4000001 0x1\n\
+      wake 3\n\
+      enter 3\n\
+      call 0 0x84000009\n\
+      deliver 2\n\
+      call 3 0x84000000\n\
+      deliver 1\n\
+      enter 0\n\
+      call 0 0xc4000004 0x101 0\n\
+      take 1\n";
+
+const LIVES_TEXT: &[u8] = b"1 enter 0x40000000 0x0\n\
+      2 return 0 #0 start 3 life 1 number 0\n\
+      3 return 2\n\
+      4 ack #0 applied 1\n\
+      5 enter 0x40001000 0x7\n\
+      6 stop #1 down 3 life 1 number 1 parts 0:1:1\n\
+      7 started 2\n\
+      8 resume 0\n\
+      9 stop #2 reset 0 life 1 number 1\n\
+      10 ack #1 applied 1\n\
+      11 ignored\n\
+      12 ignored\n\
+      13 enter 0x40000000 0x0\n\
+      14 return 1\n\
+      15 old\n";
+
+/// What is answered before any call, and a line with two numbers.
+const FIRST: &[u8] = b"board (2 2) exec 0x40000000-0x40100000 boot 0x40000000 starts 1000 lives 3\n\
+      deliver 0\n\
+      take 0\n\
+      wake 9\n\
+      wake 0\n\
+      reset 0\n\
+      enter 0\n\
+      deliver 0 0\n";
+
+const FIRST_TEXT: &[u8] =
+    b"1 absent\n2 absent\n3 absent\n4 ignored\n5 started 2\n6 enter 0x40000000 0x0\n";
+
+/// On a board of 64 cores five others are asked on, the last one among them.
+const MESSAGES: &[u8] =
+    b"board (16 16 16 16) exec 0x40000000-0x40100000 boot 0x40000000 starts 1000 lives 3\n\
+      enter 0\n\
+      call 0 0xc4000003 0x1 0x40001000 7\n\
+      call 0 0xc4000003 0x2 0x40001000 7\n\
+      call 0 0xc4000003 0x3 0x40001000 7\n\
+      call 0 0xc4000003 0x4 0x40001000 7\n\
+      call 0 0xc4000003 0x30f 0x40001000 7\n\
+      call 0 0xc4000004 0x30f 0\n";
+
+const MESSAGE_TEXT: &[u8] = b"1 enter 0x40000000 0x0\n\
+      2 return 0 #0 start 1 life 1 number 0\n\
+      3 return 0 #1 start 2 life 1 number 0\n\
+      4 return 0 #2 start 3 life 1 number 0\n\
+      5 return 0 #3 start 4 life 1 number 0\n\
+      6 return 0 #4 start 63 life 1 number 0\n\
+      7 return 2\n";
+
+/// How many calls the long script has after its entry.
+const CALLS: usize = 10_001;
+
+/// A script, how its devices behave, and what comes of it. Bytes come and go one by one.
+#[derive(Clone, Copy)]
+struct Replay {
+    script: &'static [u8],
+    /// Whether the script fails after its last byte.
+    breaks: bool,
+    /// How many interruptions come before each read.
+    read_pauses: u32,
+    /// How many interruptions come before each write.
+    write_pauses: u32,
+    /// How many bytes the page takes before it is full.
+    room: usize,
+    /// Whether the full page fails, and does not just take nothing.
+    full_fails: bool,
+    answer: Result<Replayed, ReplayFault>,
+    text: &'static [u8],
+}
+
+/// The script whose devices do all that is asked.
+const EASY: Replay = Replay {
+    script: SCRIPT,
+    breaks: false,
+    read_pauses: 0,
+    write_pauses: 0,
+    room: 1000,
+    full_fails: true,
+    answer: Ok(WHOLE),
+    text: TEXT,
+};
+
+/// Replays a script, and compares the answer and the bytes that were taken.
+fn expect(rt: &impl Abort, alloc: Global, name: &str, wanted: &Replay) {
+    let mut script = Script::new(wanted.script);
+    script.breaks = wanted.breaks;
+    script.pauses = wanted.read_pauses;
+    let mut page = Page::new(alloc);
+    page.pauses = wanted.write_pauses;
+    page.room = wanted.room;
+    page.breaks = wanted.full_fails;
+    let ended = replay(alloc, &mut script, &mut page);
+    assert_eq!(rt; ended, wanted.answer, "{name}");
+    assert_eq!(rt; page.taken.as_slice(), wanted.text, "{name}");
+}
+
+const FULL_PAGE: Replay = Replay {
+    room: 10,
+    answer: Err(ReplayFault::Write),
+    text: b"1 enter 0x",
+    ..EASY
+};
+
+const PAGE_THAT_TAKES_NOTHING: Replay = Replay {
+    room: 0,
+    full_fails: false,
+    answer: Err(ReplayFault::Write),
+    text: b"",
+    ..EASY
+};
+
+const SCRIPT_FAILS: Replay = Replay {
+    script: ENTRY,
+    breaks: true,
+    answer: Err(ReplayFault::Read),
+    text: b"1 enter 0x40000000 0x0\n",
+    ..EASY
+};
+
+const INTERRUPTED: Replay = Replay {
+    read_pauses: 999,
+    write_pauses: 999,
+    ..EASY
+};
+
+const READS_GIVEN_UP: Replay = Replay {
+    read_pauses: 1000,
+    answer: Err(ReplayFault::Read),
+    text: b"",
+    ..EASY
+};
+
+const WRITES_GIVEN_UP: Replay = Replay {
+    write_pauses: 1000,
+    answer: Err(ReplayFault::Write),
+    text: b"",
+    ..EASY
+};
+
+const NO_LAST_LINE_FEED: Replay = Replay {
+    script: CUT,
+    text: b"1 enter 0x40000000 0x0\n2 return -1\n",
+    ..EASY
+};
+
+const STALE_MESSAGE: Replay = Replay {
+    script: STALE,
+    answer: Ok(Replayed {
+        lines: 13,
+        events: 12,
+    }),
+    text: STALE_TEXT,
+    ..EASY
+};
+
+const TWO_LIVES: Replay = Replay {
+    script: LIVES,
+    answer: Ok(Replayed {
+        lines: 16,
+        events: 15,
+    }),
+    text: LIVES_TEXT,
+    ..EASY
+};
+
+const TWO_NUMBERS: Replay = Replay {
+    script: FIRST,
+    answer: Err(ReplayFault::Script {
+        line: 8,
+        fault: ScriptFault::Line,
+    }),
+    text: FIRST_TEXT,
+    ..EASY
+};
+
+const FIVE_MESSAGES: Replay = Replay {
+    script: MESSAGES,
+    answer: Ok(Replayed {
+        lines: 8,
+        events: 7,
+    }),
+    text: MESSAGE_TEXT,
+    ..EASY
+};
+
+#[test]
+fn scripts_are_replayed(rt: HostRuntime) {
+    let alloc = rt.alloc();
+    expect(&rt, alloc, "bytes come and go one by one", &EASY);
+    expect(&rt, alloc, "the page fails within a line", &FULL_PAGE);
+    expect(
+        &rt,
+        alloc,
+        "the page takes nothing",
+        &PAGE_THAT_TAKES_NOTHING,
+    );
+    expect(&rt, alloc, "the script fails after a line", &SCRIPT_FAILS);
+    expect(&rt, alloc, "interruptions are waited for", &INTERRUPTED);
+    expect(&rt, alloc, "reads are given up", &READS_GIVEN_UP);
+    expect(&rt, alloc, "writes are given up", &WRITES_GIVEN_UP);
+    expect(
+        &rt,
+        alloc,
+        "the last line needs no line feed",
+        &NO_LAST_LINE_FEED,
+    );
+    expect(&rt, alloc, "stale message", &STALE_MESSAGE);
+    expect(&rt, alloc, "two lives", &TWO_LIVES);
+    expect(&rt, alloc, "delivery of two numbers", &TWO_NUMBERS);
+    expect(&rt, alloc, "five messages on 64 cores", &FIVE_MESSAGES);
+}
+
+#[test]
+fn ten_thousand_events(rt: HostRuntime) -> Result<(), AllocError> {
+    let mut bytes = Vec::new(rt.alloc());
+    bytes.extend_from_slice(b"board 1 exec 0x0-0x4 boot 0x0 starts 1 lives 1\nenter 0\n")?;
+    for _ in 0..CALLS {
+        bytes.extend_from_slice(b"call 0 0\n")?;
+    }
+    let mut script = Script::new(bytes.as_slice());
+    script.most = 4096;
+    let mut page = Page::new(rt.alloc());
+    page.most = 4096;
+    page.room = 1_000_000;
+    let ended = replay(rt.alloc(), &mut script, &mut page);
+    let answer = Ok(Replayed {
+        lines: 10_003,
+        events: 10_002,
+    });
+    assert_eq!(rt; ended, answer);
+    let lines = page.taken.iter().filter(|byte| **byte == b'\n').count();
+    assert_eq!(rt; lines, 10_002);
+    assert!(rt; page.taken.starts_with(b"1 enter 0x0 0x0\n2 return -1\n"));
+    assert!(rt; page.taken.ends_with(b"10001 return -1\n10002 return -1\n"));
+    Ok(())
+}

@@ -1,0 +1,111 @@
+//! Storms, and what they come to.
+
+use psci_board::{Board, Node};
+use psci_storm::{Settled, Storm, blow, storm};
+use psci_tally::{Answer, KINDS, Kind, tally};
+use psci_world::World;
+use std::process::Abort;
+use std::test::Fail;
+
+/// The board of a storm where none is given: two clusters of two cores.
+const STANDARD: &str = "(2 2) exec 0x40000000-0x40100000 boot 0x40000000 starts 1000 lives 3";
+
+/// Two groups of two clusters of a core.
+const EVEN: &str = "((1 1) (1 1)) exec 0x40000000-0x40100000 boot 0x40000000 starts 1000 lives 3";
+
+/// Two clusters of two cores, with lives enough for each function to be called in one that halts.
+const BOARD: &str = "(2 2) exec 0x40000000-0x40100000 boot 0x40000000 starts 1000 lives 12";
+
+/// Two groups of clusters.
+const TALL: &str = "((1 2) (2 1)) exec 0x40000000-0x40100000 boot 0x40000000 starts 1000 lives 3";
+
+/// So many events are drawn.
+const COUNT: u64 = 10_000;
+
+/// Nothing is outstanding, and each domain is as deep as was granted.
+fn agree(rt: &impl Abort, world: &World) {
+    let board = world.board();
+    for number in 0..board.cores() {
+        assert!(rt; world.firmware().outstanding(number).is_none());
+    }
+    assert!(rt; world.firmware().outstanding(board.cores()).is_none());
+    for level in 0..board.height().min(3) + 1 {
+        for place in 0..board.nodes(level) {
+            let node = Node { level, place };
+            assert_eq!(rt;
+                world.firmware().granted(node),
+                world.controller().depth(node)
+            );
+        }
+    }
+}
+
+/// The world of each of these seeds after its storm, which came to rest, or halts.
+fn worlds(rt: &(impl Abort + AllocGlobal), text: &str, seeds: u64) -> Result<Vec<World>, Fail> {
+    let board = Board::read(rt.alloc(), text)?;
+    let mut worlds = Vec::new(rt.alloc());
+    for seed in 0..seeds {
+        let mut world = World::new(rt.alloc(), &board)?;
+        let settled = blow(&mut world, seed + 1, COUNT)?;
+        if let Settled::Quiet(rounds) = settled {
+            assert!(rt; rounds <= board.height().min(3) + 1);
+            agree(rt, &world);
+        }
+        worlds.push(world)?;
+    }
+    Ok(worlds)
+}
+
+/// How many records of these worlds are of this kind.
+fn tally_all(worlds: &[World], kind: Kind) -> u64 {
+    let mut total: u64 = 0;
+    for world in worlds {
+        total = total.saturating_add(tally(world.records(), kind));
+    }
+    total
+}
+
+/// Whether a board has to be of height 3 for this answer.
+fn is_tall(answer: Answer) -> bool {
+    match answer {
+        Answer::Acked { applied: 3, stale } => stale,
+        Answer::Acked { applied, .. } => applied > 3,
+        _ => false,
+    }
+}
+
+#[test]
+fn no_event_is_drawn(rt: HostRuntime) -> Result<(), Fail> {
+    let board = Board::read(rt.alloc(), BOARD)?;
+    let calm = Storm {
+        events: 1,
+        sent: 0,
+        settled: Settled::Quiet(0),
+    };
+    assert_eq!(rt; storm(rt.alloc(), &board, 1, 0)?, calm);
+    Ok(())
+}
+
+#[test]
+fn storms_settle_and_have_all_kinds(rt: HostRuntime) -> Result<(), Fail> {
+    assert_eq!(rt; worlds(&rt, STANDARD, 20)?.len(), 20);
+    assert_eq!(rt; worlds(&rt, EVEN, 5)?.len(), 5);
+    let low = worlds(&rt, BOARD, 20)?;
+    let high = worlds(&rt, TALL, 5)?;
+    let mut all: u64 = 0;
+    for kind in KINDS {
+        let some = tally_all(low.as_slice(), kind);
+        assert_eq!(rt; some == 0, is_tall(kind.answer), "{kind:?}");
+        assert!(rt;
+            some > 0 || tally_all(high.as_slice(), kind) > 0,
+            "{kind:?}"
+        );
+        all = all.saturating_add(some);
+    }
+    let mut records: u64 = 0;
+    for world in &low {
+        records = records.saturating_add(world.records().len() as u64);
+    }
+    assert_eq!(rt; all, records);
+    Ok(())
+}
