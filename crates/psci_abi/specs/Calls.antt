@@ -15,8 +15,8 @@ use Rattle.psci_abi.specs.declared.request.Request.TheVariants.{SystemSuspend, S
 use Rattle.psci_abi.specs.declared.request.Request.TheVariants.{SystemReset2, Unknown}
 
 -- the low half of a register, or of an argument: the function word, and what has 32 bits
-abbrev pub low : ℕ → ℕ
-low x = x % 2 ^ 32
+abbrev pub low_half : ℕ → ℕ
+low_half x = x % 2 ^ 32
 
 -- the SMC64 convention: bit 30 of the function word
 abbrev pub is_wide : Regs → Bool
@@ -24,7 +24,7 @@ is_wide r = r.x0 / 2 ^ 30 % 2 == 1
 
 -- an argument as the convention passes it: all of its register (SMC64), or the low half (SMC32)
 abbrev pub argument : Regs → ℕ → ℕ
-argument r register = if is_wide r then register else low register
+argument r register = if is_wide r then register else low_half register
 
 -- The table of functions (DEN0022D), by the function word and the arguments. A function without a
 -- word in the SMC64 convention is unknown there; a power state, a level, a feature word, a mode and
@@ -32,22 +32,22 @@ argument r register = if is_wide r then register else low register
 abbrev pub function_of : ℕ → ℕ → ℕ → ℕ → Request
 function_of word x1 x2 x3 =
     (if word == 0x84000000 then Version
-    else (if word == 0x84000001 || word == 0xC4000001 then CpuSuspend (low x1) x2 x3
+    else (if word == 0x84000001 || word == 0xC4000001 then CpuSuspend (low_half x1) x2 x3
     else (if word == 0x84000002 then CpuOff
     else (if word == 0x84000003 || word == 0xC4000003 then CpuOn x1 x2 x3
-    else (if word == 0x84000004 || word == 0xC4000004 then AffinityInfo x1 (low x2)
+    else (if word == 0x84000004 || word == 0xC4000004 then AffinityInfo x1 (low_half x2)
     else (if word == 0x84000006 then MigrateInfoType
     else (if word == 0x84000008 then SystemOff
     else (if word == 0x84000009 then SystemReset
-    else (if word == 0x8400000A then Features (low x1)
+    else (if word == 0x8400000A then Features (low_half x1)
     else (if word == 0x8400000E || word == 0xC400000E then SystemSuspend x1 x2
-    else (if word == 0x8400000F then SetSuspendMode (low x1)
-    else (if word == 0x84000012 || word == 0xC4000012 then SystemReset2 (low x1) x2
+    else (if word == 0x8400000F then SetSuspendMode (low_half x1)
+    else (if word == 0x84000012 || word == 0xC4000012 then SystemReset2 (low_half x1) x2
     else Unknown))))))))))))
 
 -- the function that registers call, and its arguments
 abbrev pub request_of : Regs → Request
-request_of r = function_of (low r.x0) (argument r r.x1) (argument r r.x2) (argument r r.x3)
+request_of r = function_of (low_half r.x0) (argument r r.x1) (argument r r.x2) (argument r r.x3)
 
 -- whether the table has the function
 abbrev pub is_known : Request → Bool

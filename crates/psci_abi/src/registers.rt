@@ -20,7 +20,7 @@ pub struct Regs {
 
 /// The low half of a register: what an SMC32 function, and every argument of 32 bits, reads.
 pub fn low(register: u64) -> u32
-    ensures { result ≡ Rattle.psci_abi.specs.Calls.low register }
+    ensures { result ≡ Rattle.psci_abi.specs.Calls.low_half register }
 {
     (register & 0xffff_ffff) as u32
 }

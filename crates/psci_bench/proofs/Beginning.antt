@@ -20,7 +20,7 @@ use Rattle.psci_script.specs.Lines.{lines, has_line_feed}
 use Rattle.psci_bench.specs.Progress.{Progress, progress, Ahead, WriteFailed, IsLine}
 use Rattle.psci_script.specs.Script.{Transcript, after_line, transcript, transcript_of_rest}
 use Rattle.psci_script.specs.Script.{transcript_of_first, transcript_of_board, transcript_of_lines}
-use Rattle.psci_script.specs.Script.{board_line, ok_or, ends}
+use Rattle.psci_script.specs.Script.{board_line, ok_or, ends_unanswered}
 use Rattle.psci_text.specs.Reading.{literal_at}
 use Rattle.std.specs.Prelude.{codes}
 use Rattle.psci_bench.specs.Run.{LinesAnswered, Ended, CutShort, Unwritten, IsUnderWay}
@@ -65,7 +65,7 @@ transcript_is bytes = refl
 fresh_ends : (first before : Option (List ℕ)) (s : Progress)
     (end : Result Replayed ReplayFault) → Fresh first before s
     → ((rest : List ℕ) → (s.block.ended ≡ true → rest ≡ [])
-    → transcript_of_lines (lines (s.block.unread ++ rest)) ≡ ends end)
+    → transcript_of_lines (lines (s.block.unread ++ rest)) ≡ ends_unanswered end)
     → Ended end first before s
 fresh_ends first before s end k h = record {
   read = s.block.unread;

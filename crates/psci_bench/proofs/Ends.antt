@@ -18,7 +18,7 @@ use Rattle.psci_script.specs.Line.{line_of}
 use Rattle.psci_script.specs.Lines.{lines, has_line_feed}
 use Rattle.psci_bench.specs.Progress.{Progress, WriteFailed, IsLine, FaultyLine}
 use Rattle.psci_script.specs.Script.{Transcript, after_line, transcript, transcript_of_rest}
-use Rattle.psci_script.specs.Script.{line_said, ok_or, ends}
+use Rattle.psci_script.specs.Script.{line_said, ok_or, ends_unanswered}
 use Rattle.psci_bench.specs.Run.{Follows, LinesAnswered, Ended, CutShort, Unwritten}
 use Rattle.psci_bench.proofs.Known.{appends_more}
 use Rattle.psci_bench.proofs.Split.{lines_long, lines_some, lines_none, Longer}
@@ -38,7 +38,7 @@ pub ended_by : (b : BoardValue) (past : List Record) (n : ℕ)
     (first before : Option (List ℕ)) (s : Progress) (end : Result Replayed ReplayFault)
     → LinesAnswered b past n first before s
     → ((rest : List ℕ) → (s.block.ended ≡ true → rest ≡ [])
-    → transcript_of_rest b past n (lines (s.block.unread ++ rest)) ≡ ends end)
+    → transcript_of_rest b past n (lines (s.block.unread ++ rest)) ≡ ends_unanswered end)
     → Ended end first before s
 ended_by b past n first before s end k h = record {
   read = k.whole ++ s.block.unread;
@@ -64,12 +64,12 @@ ends_well b past n first before s k u e =
     ∙ f e)
     ∙ lines_none)
     ∙ no_rest_is b past n
-    ∙ ap (λ (m : ℕ). ends (Ok (record { lines = n; events = m }))) (sym k.events))
+    ∙ ap (λ (m : ℕ). ends_unanswered (Ok (record { lines = n; events = m }))) (sym k.events))
 
 faulty_long : (b : BoardValue) (past : List Record) (n : ℕ) (u rest front : List ℕ)
     (fault : ScriptFault) → Longer front (lines (u ++ rest))
     → ((l : List ℕ) → length front ≤ length l → line_said (n + 1) l ≡ Err fault)
-    → transcript_of_rest b past n (lines (u ++ rest)) ≡ ends (Err (Script (n + 1) fault))
+    → transcript_of_rest b past n (lines (u ++ rest)) ≡ ends_unanswered (Err (Script (n + 1) fault))
 faulty_long b past n u rest front fault h k =
     ap (transcript_of_rest b past n) h.is
     ∙ fault_transcript b past n h.first h.others fault (k h.first h.long)

@@ -11,7 +11,7 @@ use Rattle.psci_script.specs.declared.fault.ReplayFault.TheVariants.{Memory}
 use Rattle.psci_bench.specs.Progress.{Progress, IsLineFront}
 use Rattle.std.proofs.lemmas.List.{take-append-drop}
 use Rattle.psci_script.specs.Script.{Transcript, transcript, transcript_of_lines}
-use Rattle.psci_bench.specs.Run.{Ended, CutShort, Unwritten, Runs, Answers, AnswersLines}
+use Rattle.psci_bench.specs.Run.{Ended, CutShort, Unwritten, Runs, WritesAnswers, AnswersLines}
 use Rattle.psci_bench.specs.Run.{AnswersPart, IsWithinBlock, Replays, is_write_fault}
 use Rattle.psci_bench.proofs.Known.{appends_more}
 use Rattle.psci_bench.proofs.Split.{lines_none}
@@ -33,7 +33,7 @@ answers_by : (end : Result Replayed ReplayFault)
     → Consumes first left read → (ended ≡ true → IsAtEnd left)
     → ((rest : List ℕ) → (ended ≡ true → rest ≡ [])
     → transcript (read ++ rest) ≡ record { text = text; end = end })
-    → Appends before after text → Answers end first before after
+    → Appends before after text → WritesAnswers end first before after
 answers_by end None left before after read text ended c f t a = tt
 answers_by end (Some bytes) None before after read text ended c f t a = absurd c
 answers_by end (Some bytes) (Some l) before after read text ended c f t a =
@@ -41,7 +41,7 @@ answers_by end (Some bytes) (Some l) before after read text ended c f t a =
 
 pub answers_end : (end : Result Replayed ReplayFault)
     (first before after : Option (List ℕ)) (s : Progress) → Ended end first before s
-    → Appends s.taken after s.answered.waiting → Answers end first before after
+    → Appends s.taken after s.answered.waiting → WritesAnswers end first before after
 answers_end end first before after s k a =
     answers_by end first s.left before after k.read
     (k.written ++ s.answered.waiting) s.block.ended k.from k.at_end k.transcript

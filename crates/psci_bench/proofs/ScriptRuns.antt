@@ -21,7 +21,7 @@ use Rattle.psci_script.specs.Lines.{lines}
 use Rattle.psci_script.specs.Script.{board_line, line_said, transcript, transcript_of_board}
 use Rattle.psci_script.specs.Script.{transcript_of_first, transcript_of_line, transcript_of_lines}
 use Rattle.psci_script.specs.Script.{Transcript, transcript_of_rest}
-use Rattle.psci_bench.specs.Run.{Answers, AnswersPart, Replays}
+use Rattle.psci_bench.specs.Run.{WritesAnswers, AnswersPart, Replays}
 use Rattle.psci_bench.specs.ScriptRun.{AllSafe, Prints, SaysRun, WritesPart, WritesRun, events_of}
 use Rattle.psci_bench.specs.ScriptRun.{run_by, run_of_lines, run_on, text_of, with_event}
 use Rattle.psci_script.specs.Text.{answer_line}
@@ -89,7 +89,7 @@ says_run laws bytes = by_lines (lines bytes) laws
 -- What was written ------------------------------------------------------------------------------
 
 answers_run : (end : Result Replayed ReplayFault) (first before after : Option (List ℕ)) → AllSafe
-    → Answers end first before after → IfSome first (λ bytes. WritesRun bytes before after)
+    → WritesAnswers end first before after → IfSome first (λ bytes. WritesRun bytes before after)
 answers_run end None before after safe is = tt
 answers_run end (Some bytes) before after safe is = (safe bytes, is.1)
 

@@ -23,7 +23,7 @@ use Rattle.psci_script.specs.Line.{line_of}
 use Rattle.psci_script.specs.Lines.{lines, has_line_feed, AreWhole}
 use Rattle.psci_bench.specs.Progress.{Progress, progress, Ahead, IsLine}
 use Rattle.psci_script.specs.Script.{Transcript, after_line, transcript, transcript_of_rest}
-use Rattle.psci_script.specs.Script.{transcript_of_line, line_said, ok_or, ends}
+use Rattle.psci_script.specs.Script.{transcript_of_line, line_said, ok_or, ends_unanswered}
 use Rattle.psci_script.specs.Text.{answer_line}
 use Rattle.psci_bench.specs.Run.{Follows, IsUnderWay, LinesAnswered}
 use Rattle.psci_bench.proofs.Known.{appends_more, consumes_more}
@@ -39,7 +39,8 @@ unfolding transcript_of_rest
 rest_is b past n l ls = refl
 
 pub no_rest_is : (b : BoardValue) (past : List Record) (n : ℕ)
-    → transcript_of_rest b past n [] ≡ ends (Ok (record { lines = n; events = length past }))
+    → transcript_of_rest b past n [] ≡ ends_unanswered
+    (Ok (record { lines = n; events = length past }))
 unfolding transcript_of_rest
 no_rest_is b past n = refl
 
@@ -92,7 +93,7 @@ event_transcript b past n l ls event h k e =
 
 pub fault_transcript : (b : BoardValue) (past : List Record) (n : ℕ) (l : List ℕ)
     (ls : List (List ℕ)) (fault : ScriptFault) → line_said (n + 1) l ≡ Err fault
-    → transcript_of_rest b past n (l ∷ ls) ≡ ends (Err (Script (n + 1) fault))
+    → transcript_of_rest b past n (l ∷ ls) ≡ ends_unanswered (Err (Script (n + 1) fault))
 fault_transcript b past n l ls fault e =
     rest_is b past n l ls
     ∙ ap (λ (r : Result LineSays ScriptFault). transcript_of_line b past (n + 1) r

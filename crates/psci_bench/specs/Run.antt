@@ -135,9 +135,9 @@ is_write_fault (Err Memory) = false
 -- Of a replay ---------------------------------------------------------------------------------
 
 -- the answer text of the script was written, which ends so
-abbrev pub Answers : Result Replayed ReplayFault → Option (List ℕ) → Option (List ℕ)
+abbrev pub WritesAnswers : Result Replayed ReplayFault → Option (List ℕ) → Option (List ℕ)
     → Option (List ℕ) → Type 0
-Answers end first before after = IfSome first (λ bytes.
+WritesAnswers end first before after = IfSome first (λ bytes.
     ((transcript bytes).end ≡ end) × Appends before after (transcript bytes).text)
 
 -- Whole lines were read, none of them at fault, and exactly these are answered.
@@ -161,11 +161,11 @@ AnswersPart first before after = IfSome first (λ bytes.
 -- what a replay leaves, by its answer
 abbrev pub Replays : Result Replayed ReplayFault → Option (List ℕ) → Option (List ℕ)
     → Option (List ℕ) → Option (List ℕ) → Type 0
-Replays (Ok replayed) first left before after = Answers (Ok replayed) first before after
+Replays (Ok replayed) first left before after = WritesAnswers (Ok replayed) first before after
 Replays (Err (Script line fault)) first left before after =
-    Answers (Err (Script line fault)) first before after
+    WritesAnswers (Err (Script line fault)) first before after
 Replays (Err (Board fault)) first left before after =
-    Answers (Err (Board fault)) first before after
+    WritesAnswers (Err (Board fault)) first before after
 Replays (Err Read) first left before after =
     AnswersLines IsLineFront first left before after
 Replays (Err Memory) first left before after =

@@ -3,8 +3,8 @@ use Rattle.std.proofs.Common.{◌≡◌, ℕ, ◌+◌, ◌*◌, ◌/◌, ◌%◌
 use Rattle.std.proofs.Common.{◌==◌, cond, List, [], ◌∷◌, take, get_or, sum, refl, arith, Some, None}
 use Rattle.std.proofs.lemmas.Bool.{eq-eqb, eqb-true}
 use Rattle.std.proofs.lemmas.Bool.Decides.{nat_tests}
-use Rattle.psci_board.specs.Board.{group_of, place_in, IsTree, size_below, address_up}
-use Rattle.psci_board.specs.Level.{named, child_in}
+use Rattle.psci_board.specs.Board.{group_of, index_in, IsTree, size_below, address_up}
+use Rattle.psci_board.specs.Level.{index_named, child_in}
 use Rattle.psci_board.proofs.Groups.{stands_at, counted, few_at}
 use Rattle.psci_board.proofs.Search.{found_first, found_none, found, none_passes}
 
@@ -18,7 +18,7 @@ digit p a word h e = record { low = omega arith; high = omega arith }
 -- the group of a place is one of the nodes above, and its place there fits a field
 pub record Fits (w : List ℕ) (ws : List (List ℕ)) (k : ℕ) : Type 0 where
   pub group : group_of w k < size_below ws
-  pub place : place_in w k < 256
+  pub place : index_in w k < 256
 
 pub fits : (w : List ℕ) (ws : List (List ℕ)) (k : ℕ) → IsTree (w ∷ ws) → k < sum w → Fits w ws k
 fits w ws k t h =
@@ -28,7 +28,7 @@ fits w ws k t h =
 
 -- the fields of a place, one level up
 pub fields : (w : List ℕ) (ws : List (List ℕ)) (k word : ℕ) → IsTree (w ∷ ws) → k < sum w
-    → address_up (w ∷ ws) k ≡ word → Digit (place_in w k) (address_up ws (group_of w k)) word
+    → address_up (w ∷ ws) k ≡ word → Digit (index_in w k) (address_up ws (group_of w k)) word
 fields w ws k word t h e = digit _ _ word (fits w ws k t h).place e
 
 -- different places have different fields
@@ -43,7 +43,7 @@ address_up-injective (w ∷ ws) i j t h k e =
     let same : group_of w i ≡ group_of w j =
     address_up-injective ws (group_of w i) (group_of w j) t.3 (fits w ws i t h).group
     (fits w ws j t k).group (cc (x.high, y.high)) in
-    let whole : sum (take (group_of w j) w) + place_in w i ≡ i = rw same at a.whole in
+    let whole : sum (take (group_of w j) w) + index_in w i ≡ i = rw same at a.whole in
     omega (arith, whole, b.whole, x.low, y.low)
 
 -- Names -------------------------------------------------------------------------------------------
@@ -52,7 +52,7 @@ abbrev has_word : List (List ℕ) → ℕ → ℕ → Bool
 has_word ws word i = address_up ws i == word
 
 pub named_at : (ws : List (List ℕ)) (word i : ℕ) → IsTree ws → i < size_below ws
-    → address_up ws i ≡ word → named ws word ≡ Some i
+    → address_up ws i ≡ word → index_named ws word ≡ Some i
 named_at ws word i t h e =
     found_first (has_word ws word) (size_below ws) 0 i (omega arith) (omega arith) (eq-eqb _ _ e)
     (λ j l m. other j m (eqb (address_up ws j) word) refl)
@@ -68,19 +68,19 @@ pub record Names (ws : List (List ℕ)) (word i : ℕ) : Type 0 where
   pub inside : i < size_below ws
   pub address : address_up ws i ≡ word
 
-pub named_is : (ws : List (List ℕ)) (word i : ℕ) → named ws word ≡ Some i → Names ws word i
+pub named_is : (ws : List (List ℕ)) (word i : ℕ) → index_named ws word ≡ Some i → Names ws word i
 named_is ws word i e =
     let f = found (has_word ws word) (size_below ws) 0 i e in
     record { inside = omega (arith, f.below); address = eqb-true _ _ f.passes }
 
-pub named_none : (ws : List (List ℕ)) (word i : ℕ) → named ws word ≡ None → i < size_below ws
+pub named_none : (ws : List (List ℕ)) (word i : ℕ) → index_named ws word ≡ None → i < size_below ws
     → address_up ws i ≡ word → ⊥
 named_none ws word i e h a =
     none_passes (has_word ws word) (size_below ws) 0 i e (omega arith) (omega arith) (eq-eqb _ _ a)
 
 -- none, where each place has another word
 none_named : (ws : List (List ℕ)) (word : ℕ)
-    → ((i : ℕ) → i < size_below ws → address_up ws i ≡ word → ⊥) → named ws word ≡ None
+    → ((i : ℕ) → i < size_below ws → address_up ws i ≡ word → ⊥) → index_named ws word ≡ None
 none_named ws word other =
     found_none (has_word ws word) (size_below ws) 0
     (λ j l h. apart j (omega arith) (eqb (address_up ws j) word) refl)
@@ -93,14 +93,14 @@ none_named ws word other =
 -- One level up, a word without its lowest field ------------------------------------------------
 
 pub named_below_none : (w : List ℕ) (ws : List (List ℕ)) (word : ℕ) → IsTree (w ∷ ws)
-    → named ws (word / 256) ≡ None → named (w ∷ ws) word ≡ None
+    → index_named ws (word / 256) ≡ None → index_named (w ∷ ws) word ≡ None
 named_below_none w ws word t e = none_named (w ∷ ws) word (λ i h a.
     let f = fields w ws i word t h a in
     named_none ws (word / 256) (group_of w i) e (fits w ws i t h).group f.high)
 
 child_by : (w : List ℕ) (ws : List (List ℕ)) (g word : ℕ) (b : Bool) → IsTree (w ∷ ws)
-    → named ws (word / 256) ≡ Some g → ltb (word % 256) (get_or w g 0) ≡ b
-    → named (w ∷ ws) word ≡ cond b (Some (sum (take g w) + word % 256)) None
+    → index_named ws (word / 256) ≡ Some g → ltb (word % 256) (get_or w g 0) ≡ b
+    → index_named (w ∷ ws) word ≡ cond b (Some (sum (take g w) + word % 256)) None
 child_by w ws g word true t e b =
     let n = named_is ws (word / 256) g e in
     let i = sum (take g w) + word % 256 in
@@ -115,9 +115,9 @@ child_by w ws g word false t e b = none_named (w ∷ ws) word (λ i h a.
     let same : group_of w i ≡ g =
     address_up-injective ws (group_of w i) g t.3 (fits w ws i t h).group n.inside
     (cc (f.high, n.address)) in
-    let small : place_in w i < get_or w g 0 = rw same at c.place in
+    let small : index_in w i < get_or w g 0 = rw same at c.place in
     absurd (omega (arith, small, f.low)))
 
 pub named_below : (w : List ℕ) (ws : List (List ℕ)) (g word : ℕ) → IsTree (w ∷ ws)
-    → named ws (word / 256) ≡ Some g → named (w ∷ ws) word ≡ child_in w g (word % 256)
+    → index_named ws (word / 256) ≡ Some g → index_named (w ∷ ws) word ≡ child_in w g (word % 256)
 named_below w ws g word t e = child_by w ws g word (ltb (word % 256) (get_or w g 0)) t e refl

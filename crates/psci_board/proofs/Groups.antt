@@ -8,7 +8,7 @@ use Rattle.std.proofs.lemmas.Bool.Decides.{nat_tests}
 use Rattle.std.proofs.lemmas.List.{get_or_append_left, get_or_push, get_or_past, length_push}
 use Rattle.std.proofs.lemmas.List.{get_or_default}
 use Rattle.std.proofs.lemmas.List.Sums.{sum_by-cons}
-use Rattle.psci_board.specs.Board.{group_of, place_in, is_width}
+use Rattle.psci_board.specs.Board.{group_of, index_in, is_width}
 use Rattle.psci_board.specs.Level.{IsIndexed}
 
 pub sum-cons : (n : ℕ) (ns : List ℕ) → sum (n ∷ ns) ≡ n + sum ns
@@ -17,7 +17,7 @@ sum-cons n ns = sum_by-cons (λ x. x) n ns
 -- i is the p-th of the g-th group
 pub record Stands (w : List ℕ) (i g p : ℕ) : Type 0 where
   pub group : group_of w i ≡ g
-  pub place : place_in w i ≡ p
+  pub place : index_in w i ≡ p
   pub inside : i < sum w
 
 first_stands : (n p : ℕ) (ns : List ℕ) → p < n → Stands (n ∷ ns) p 0 p
@@ -52,8 +52,8 @@ stands_at (n ∷ ns) (suc g) p i a b e =
 -- each i below the sum stands somewhere
 pub record Counted (w : List ℕ) (i : ℕ) : Type 0 where
   pub group : group_of w i < length w
-  pub place : place_in w i < get_or w (group_of w i) 0
-  pub whole : sum (take (group_of w i) w) + place_in w i ≡ i
+  pub place : index_in w i < get_or w (group_of w i) 0
+  pub whole : sum (take (group_of w i) w) + index_in w i ≡ i
 
 counted_by : (n : ℕ) (ns : List ℕ) (i : ℕ) (t : Bool) → ltb i n ≡ t → i < n + sum ns
     → (i - n < sum ns → Counted ns (i - n)) → Counted (n ∷ ns) i
@@ -139,7 +139,7 @@ one_more_child w ps qs g k h l n each e i j = elim (cases_lt i (length ps)) [
 pub record Numbered (w first : List ℕ) (i p : ℕ) : Type 0 where
   pub inside : p < length first
   pub starts : (q : ℕ) → q ≡ get_or first p q → q ≤ i
-  pub number : (q : ℕ) → q ≡ get_or first p q → i - q ≡ place_in w i
+  pub number : (q : ℕ) → q ≡ get_or first p q → i - q ≡ index_in w i
 
 pub numbered : (w counts first parent : List ℕ) (i p : ℕ) → counts ≡ w
     → IsIndexed counts first parent → i < sum w → p ≡ group_of w i → Numbered w first i p
@@ -148,7 +148,7 @@ numbered w counts first parent i p same indexed h e =
     let here : p < length counts = rw same (omega (arith, c.group)) in
     let inside : p < length first = omega (arith, indexed.nodes) in
     let from : get_or first p 0 ≡ sum (take p w) = rw (← same) (indexed.firsts p here) in
-    let whole : sum (take p w) + place_in w i ≡ i = rw e c.whole in
+    let whole : sum (take p w) + index_in w i ≡ i = rw e c.whole in
     record {
       inside = inside;
       starts = λ q d. omega (arith, get_or_default first p 0 q inside);

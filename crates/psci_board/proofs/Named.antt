@@ -16,7 +16,7 @@ use Rattle.psci_board.specs.Board.{BoardValue, HasNode, IsBoard, IsTree, size_be
 use Rattle.psci_board.specs.Board.{place_above, height, nodes, cores, up, children_at, first_child}
 use Rattle.psci_board.specs.Board.{children, child, address, address_up, node_of, core_of}
 use Rattle.psci_board.specs.Laws.{WordLaws}
-use Rattle.psci_board.specs.Level.{named}
+use Rattle.psci_board.specs.Level.{index_named}
 use Rattle.psci_board.proofs.Fields.{fits, fields, named_at, named_is}
 use Rattle.psci_board.proofs.Children.{child_inside}
 use Rattle.psci_board.proofs.Groups.{stands_at}
@@ -31,7 +31,7 @@ record NodeOf (b : BoardValue) (word l : ℕ) (n : Node) : Type 0 where
   fields : address b l n.place ≡ word / 2 ^ (8 * l)
 
 node_by : (b : BoardValue) (word l : ℕ) (n : Node) (o : Option ℕ) → l ≤ height b
-    → named (drop l b.levels) (word / 2 ^ (8 * l)) ≡ o → option_map (on l) o ≡ Some n
+    → index_named (drop l b.levels) (word / 2 ^ (8 * l)) ≡ o → option_map (on l) o ≡ Some n
     → NodeOf b word l n
 node_by b word l n None h e d = absurd (none-some n d)
 node_by b word l n (Some i) h e d =
@@ -59,7 +59,7 @@ record CoreOf (b : BoardValue) (word : ℕ) (c : Core) : Type 0 where
   number : c.number < cores b
   fields : address b 0 c.number ≡ word
 
-core_by : (b : BoardValue) (word : ℕ) (c : Core) (o : Option ℕ) → named b.levels word ≡ o
+core_by : (b : BoardValue) (word : ℕ) (c : Core) (o : Option ℕ) → index_named b.levels word ≡ o
     → option_map (λ i. record { number = i }) o ≡ Some c → CoreOf b word c
 core_by b word c None e d = absurd (none-some c d)
 core_by b word c (Some i) e d =
@@ -152,7 +152,7 @@ core_node : (b : BoardValue) (word : ℕ)
     → node_of b word 0 ≡ option_map (λ c. on 0 c.number) (core_of b word)
 unfolding core_of
 core_node b word =
-    rw (node_of-within b word 0 (omega arith), div-one) (by_place (named b.levels word))
+    rw (node_of-within b word 0 (omega arith), div-one) (by_place (index_named b.levels word))
   where
     by_place : (o : Option ℕ) → option_map (on 0) o
         ≡ option_map {T = Core} {U = Node} (λ c. on 0 c.number)

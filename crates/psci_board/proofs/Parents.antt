@@ -8,7 +8,7 @@ use Rattle.std.proofs.lemmas.Bool.Decides.{nat_tests}
 use Rattle.std.proofs.lemmas.List.{get_or_past}
 use Rattle.std.proofs.lemmas.Option.{cond_some}
 use Rattle.psci_board.specs.declared.node.Node.{Node}
-use Rattle.psci_board.specs.Board.{BoardValue, HasNode, IsBoard, group_of, place_in, place_above}
+use Rattle.psci_board.specs.Board.{BoardValue, HasNode, IsBoard, group_of, index_in, place_above}
 use Rattle.psci_board.specs.Board.{height, nodes, up, children, children_at, first_child}
 use Rattle.psci_board.specs.Board.{child, parent, child_number}
 use Rattle.psci_board.specs.Laws.{ParentLaws}
@@ -77,7 +77,7 @@ number_of_child b h n m k e =
 -- From a node to its parent -------------------------------------------------------------------
 
 child_at_parent : (b : BoardValue) → IsBoard b → (l q p k level : ℕ) → suc l ≡ level
-    → group_of (counts b l) q ≡ p → place_in (counts b l) q ≡ k → l < height b → q < nodes b l
+    → group_of (counts b l) q ≡ p → index_in (counts b l) q ≡ k → l < height b → q < nodes b l
     → child b (record { level = level; place = p }) k ≡ Some (record { level = l; place = q })
 child_at_parent b h l q p k high e f g i j =
     let size = (level b.levels l h.tree i).size in
@@ -118,7 +118,7 @@ parent_laws b h = record {
   child = child_of_parent b h;
   numbered = λ n m e.
       let c = cond_some (has_parent b m) _ n e in
-      (place_in (counts b m.level) m.place, rw c.0 refl);
+      (index_in (counts b m.level) m.place, rw c.0 refl);
   node = parent_node b h;
   some_parent = λ m i l. (
     record { level = m.level + 1; place = group_of (counts b m.level) m.place },

@@ -8,7 +8,7 @@ use Rattle.std.proofs.lemmas.Option.{get_or_from_slice_get, unwrap_or-slice_get}
 use Rattle.psci_board.specs.declared.node.Node.{Node}
 use Rattle.psci_board.specs.Board.{BoardValue, level_at, children_at, children, child, first_child}
 use Rattle.psci_board.specs.Board.{node_of, height}
-use Rattle.psci_board.specs.Level.{child_in, named}
+use Rattle.psci_board.specs.Level.{child_in, index_named}
 
 past : (ls : List (List ℕ)) (i : ℕ) → slice_get ls i ≡ None → get_or ls i [] ≡ []
 past ls i e = rw (← unwrap_or-slice_get ls i []) (rw e refl)
@@ -63,7 +63,7 @@ node_of-above b word level h =
     rw above refl
 
 pub node_of-within : (b : BoardValue) (word level : ℕ) → level ≤ height b → node_of b word level
-    ≡ option_map (on level) (named (drop level b.levels) (word / 2 ^ (8 * level)))
+    ≡ option_map (on level) (index_named (drop level b.levels) (word / 2 ^ (8 * level)))
 unfolding node_of
 node_of-within b word level h =
     let within : leb level (height b) ≡ true = grind (arith, nat_tests) in

@@ -63,9 +63,9 @@ group_of [] i = 0
 group_of (n ∷ ns) i = if nat_lt i n then 0 else group_of ns (i - n) + 1
 
 -- the place within its group
-abbrev pub place_in : List ℕ → ℕ → ℕ
-place_in [] i = i
-place_in (n ∷ ns) i = if nat_lt i n then i else place_in ns (i - n)
+abbrev pub index_in : List ℕ → ℕ → ℕ
+index_in [] i = i
+index_in (n ∷ ns) i = if nat_lt i n then i else index_in ns (i - n)
 
 -- Paths ---------------------------------------------------------------------------------------
 
@@ -138,7 +138,7 @@ parent b n =
 abbrev pub child_number : BoardValue → Node → Option ℕ
 child_number b n =
     if nat_lt n.level (height b) && nat_lt n.place (nodes b n.level)
-    then Some (place_in (slice_index_or b.levels n.level []) n.place)
+    then Some (index_in (slice_index_or b.levels n.level []) n.place)
     else None
 
 -- Spans ---------------------------------------------------------------------------------------
@@ -170,7 +170,7 @@ cores_below b n = if has_node b n then Some (span b.levels n) else None
 -- the affinity fields of a node and of those above it, eight bits each, the node's own lowest
 abbrev pub address_up : List (List ℕ) → ℕ → ℕ
 address_up [] i = 0
-address_up (w ∷ ws) i = place_in w i + 256 * address_up ws (group_of w i)
+address_up (w ∷ ws) i = index_in w i + 256 * address_up ws (group_of w i)
 
 -- the fields of the node of this level and place, its own in the lowest eight bits
 abbrev pub address : BoardValue → ℕ → ℕ → ℕ

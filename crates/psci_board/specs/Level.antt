@@ -18,6 +18,6 @@ child_in counts place k =
     if nat_lt k (slice_index counts place) then Some (sum (take place counts) + k) else None
 
 -- the place that a word names among the nodes below these levels, its lowest field theirs
-abbrev pub named : List (List ℕ) → ℕ → Option ℕ
-named levels word =
+abbrev pub index_named : List (List ℕ) → ℕ → Option ℕ
+index_named levels word =
     find (λ i. address_up levels i == word) (range_with_len 0 (size_below levels))

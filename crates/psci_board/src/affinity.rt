@@ -2,14 +2,14 @@
 
 ghost use Rattle.std.specs.Prelude.{◌≡◌};
 ghost use Rattle.psci_board.specs.Board.{IsTree};
-ghost use Rattle.psci_board.specs.Level.{named};
+ghost use Rattle.psci_board.specs.Level.{index_named};
 
 use crate::level::Level;
 
 /// The place on the level below these that a word names, its lowest field that of the place.
 pub fn place_of(levels: &[Level], word: u64) -> Option<u16>
     requires tree { IsTree levels.now }
-    ensures { result ≡ named levels.now word }
+    ensures { result ≡ index_named levels.now word }
 {
     let Some((level, above)) = levels.split_first() else {
         return (word == 0).then_some(0);

@@ -28,7 +28,7 @@ impl Model for Level {
 }
 
 ghost use Rattle.std.specs.Prelude.{◌≡◌, ℕ, ◌<◌, ◌^◌, length, sum, take, slice_index, IfOk};
-ghost use Rattle.psci_board.specs.Board.{group_of, place_in};
+ghost use Rattle.psci_board.specs.Board.{group_of, index_in};
 ghost use Rattle.psci_board.specs.Level.{child_in};
 
 impl Level {
@@ -101,7 +101,7 @@ impl Level {
     /// The number, among its siblings, of the child at `place` on the level below.
     pub fn number(&self, place: u16) -> u16
         requires { place < sum self.now }
-        ensures { result ≡ place_in self.now place }
+        ensures { result ≡ index_in self.now place }
     {
         place - self.firsts[self.parent(place) as usize]
     }

@@ -13,22 +13,22 @@ use Rattle.psci_script.specs.declared.fault.ReplayFault.TheVariants.{Script, Boa
 use Rattle.psci_script.specs.declared.fault.ReplayFault.TheVariants.{Memory}
 
 -- the number of a script fault
-abbrev pub script_number : ScriptFault → ℕ
-script_number scripts.NoBoard = 1
-script_number scripts.Line = 2
-script_number scripts.Long = 3
-script_number scripts.TooMany = 4
+abbrev pub script_code : ScriptFault → ℕ
+script_code scripts.NoBoard = 1
+script_code scripts.Line = 2
+script_code scripts.Long = 3
+script_code scripts.TooMany = 4
 
 -- the number of a board fault
-abbrev pub board_number : BoardFault → ℕ
-board_number boards.Grammar = 1
-board_number boards.Uneven = 2
-board_number boards.TooWide = 3
-board_number boards.TooManyCores = 4
-board_number boards.BadRange = 5
-board_number boards.BadBoot = 6
-board_number boards.BadLimit = 7
-board_number boards.Memory = 8
+abbrev pub board_code : BoardFault → ℕ
+board_code boards.Grammar = 1
+board_code boards.Uneven = 2
+board_code boards.TooWide = 3
+board_code boards.TooManyCores = 4
+board_code boards.BadRange = 5
+board_code boards.BadBoot = 6
+board_code boards.BadLimit = 7
+board_code boards.Memory = 8
 
 -- a board that could not be kept for want of memory is no fault of its text
 abbrev pub board_status : BoardFault → ℕ
@@ -57,17 +57,17 @@ status_of (Replay fault) = replay_status fault
 -- what standard error says of a board fault
 abbrev pub board_report : BoardFault → List ℕ
 board_report boards.Memory = codes "out of memory"
-board_report fault = codes "line 1: board fault " ++ decimal (board_number fault)
+board_report fault = codes "line 1: board fault " ++ decimal (board_code fault)
 
 -- the same of a board that the command line gives, before its line feed
 abbrev pub given_board_report : BoardFault → List ℕ
 given_board_report boards.Memory = codes "out of memory"
-given_board_report fault = codes "board fault " ++ decimal (board_number fault)
+given_board_report fault = codes "board fault " ++ decimal (board_code fault)
 
 -- what standard error says, before its line feed
 abbrev pub report : ReplayFault → List ℕ
 report (Script line fault) =
-    codes "line " ++ (decimal line ++ (codes ": script fault " ++ decimal (script_number fault)))
+    codes "line " ++ (decimal line ++ (codes ": script fault " ++ decimal (script_code fault)))
 report (Board fault) = board_report fault
 report Read = codes "read fault"
 report Write = codes "write fault"

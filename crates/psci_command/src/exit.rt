@@ -73,8 +73,8 @@ struct Report(ReplayFault);
 struct BoardReport(BoardFault);
 
 /// The number of a script fault.
-fn script_number(fault: ScriptFault) -> u8
-    ensures { result ≡ Rattle.psci_command.specs.Exit.script_number fault }
+fn script_code(fault: ScriptFault) -> u8
+    ensures { result ≡ Rattle.psci_command.specs.Exit.script_code fault }
 {
     match fault {
         ScriptFault::NoBoard => 1,
@@ -85,8 +85,8 @@ fn script_number(fault: ScriptFault) -> u8
 }
 
 /// The number of a board fault.
-fn board_number(fault: BoardFault) -> u8
-    ensures { result ≡ Rattle.psci_command.specs.Exit.board_number fault }
+fn board_code(fault: BoardFault) -> u8
+    ensures { result ≡ Rattle.psci_command.specs.Exit.board_code fault }
 {
     match fault {
         BoardFault::Grammar => 1,
@@ -109,12 +109,12 @@ impl fmt::Display for Report {
     fn fmt<W: fmt::Write>(&self, f: &mut fmt::Formatter<W>) -> fmt::Result {
         match self.0 {
             ReplayFault::Script { line, fault } => {
-                let number = script_number(fault);
+                let number = script_code(fault);
                 write!(f, "line {line}: script fault {number}")
             }
             ReplayFault::Board(BoardFault::Memory) => write!(f, "out of memory"),
             ReplayFault::Board(fault) => {
-                let number = board_number(fault);
+                let number = board_code(fault);
                 write!(f, "line 1: board fault {number}")
             }
             ReplayFault::Read => write!(f, "read fault"),
@@ -134,7 +134,7 @@ impl fmt::Display for BoardReport {
         match self.0 {
             BoardFault::Memory => write!(f, "out of memory"),
             fault => {
-                let number = board_number(fault);
+                let number = board_code(fault);
                 write!(f, "board fault {number}")
             }
         }

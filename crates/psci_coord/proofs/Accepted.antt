@@ -17,7 +17,7 @@ use Rattle.psci_state.specs.Ask.{IsAsk}
 use Rattle.psci_coord.specs.declared.part.Part.{Part}
 use Rattle.psci_coord.specs.declared.osi.Osi.{Osi}
 use Rattle.psci_coord.specs.View.{PowerView, is_idle}
-use Rattle.psci_coord.specs.Claim.{own_claim, own_wish}
+use Rattle.psci_coord.specs.Claim.{own_claims, own_wish}
 use Rattle.psci_coord.specs.LastCore.{refusal, shallow, shallow_at, answer_by, last_core_check}
 use Rattle.psci_coord.specs.Laws.{GrantsAreAsked, LastCoreLaws}
 use Rattle.psci_coord.proofs.ClaimLaws.{claim_laws}
@@ -88,10 +88,10 @@ answered (Some fault) parts claim e = absurd (cc e)
 
 accepted : (b : BoardValue) (v : PowerView) (core : ℕ) (ask : List ℕ) (parts : List Part)
     → last_core_check b v core ask ≡ Ok parts
-    → (shallow b v core ask ≡ []) × (parts ≡ own_claim b v core ask)
+    → (shallow b v core ask ≡ []) × (parts ≡ own_claims b v core ask)
 unfolding last_core_check
 accepted b v core ask parts e =
-    let told = answered (refusal b v (shallow b v core ask)) parts (own_claim b v core ask) e in
+    let told = answered (refusal b v (shallow b v core ask)) parts (own_claims b v core ask) e in
     (refusal-none b v (shallow b v core ask) told.0, told.1)
 
 granted_beside : (b : BoardValue) (v : PowerView) (core : ℕ) (ask : List ℕ) (level c : ℕ)
@@ -172,7 +172,7 @@ last_core_laws b v core ask paths child = record {
       let part = rw told.1 at at in
       let laws = claim_laws b v core (own_wish ask) in
       let inside : level ≤ height b =
-      omega (arith, slice_get_within (own_claim b v core ask) level p part, laws.few) in
+      omega (arith, slice_get_within (own_claims b v core ask) level p part, laws.few) in
       rw (laws.depth level p part)
       (asked_below b v core ask level c paths child is grants told.0 h inside below apart);
 }

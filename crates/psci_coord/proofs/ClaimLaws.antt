@@ -4,7 +4,7 @@ use Rattle.std.proofs.lemmas.Option.{slice_get_within}
 use Rattle.psci_board.specs.Board.{BoardValue, height, cores, up}
 use Rattle.psci_board.specs.Laws.{PathLaws}
 use Rattle.psci_coord.specs.View.{PowerView, domain_of, generation, least_ask}
-use Rattle.psci_coord.specs.Claim.{claim_of, least_wish}
+use Rattle.psci_coord.specs.Claim.{claims_of, least_wish}
 use Rattle.psci_coord.specs.Laws.{ClaimLaws, PlatformLaws}
 use Rattle.psci_coord.proofs.LeastBelow.{least_ask-most, least_ask-below, least_ask-above}
 use Rattle.psci_coord.proofs.LeastBelow.{least_ask-zero}
@@ -12,7 +12,7 @@ use Rattle.psci_coord.proofs.Climbing.{climb-levels, climb-few, climb-part, clim
 
 pub claim_laws : (b : BoardValue) (v : PowerView) (core : ℕ) (wanted : ℕ → ℕ)
     → ClaimLaws b v core wanted
-unfolding claim_of
+unfolding claims_of
 claim_laws b v core wanted =
     let gs : ℕ → ℕ = λ level. generation b v (domain_of b core level) in
     let count : ℕ = height b + 1 in
@@ -39,7 +39,7 @@ platform_laws b v core paths h =
           let inside : l < height b =
           omega (
             arith,
-            slice_get_within (claim_of b v core (least_wish b v core)) (l + 1) q f,
+            slice_get_within (claims_of b v core (least_wish b v core)) (l + 1) q f,
             laws.few,
           ) in
           rw (laws.depth l p e, laws.depth (l + 1) q f)

@@ -10,7 +10,7 @@ use Rattle.std.proofs.lemmas.Bool.{lt-ltb}
 use Rattle.psci_board.specs.Board.{BoardValue, height}
 use Rattle.psci_coord.specs.declared.part.Part.{Part}
 use Rattle.psci_coord.specs.View.{PowerView, domain_of, generation}
-use Rattle.psci_coord.specs.Claim.{climb, claim_of}
+use Rattle.psci_coord.specs.Claim.{climb, claims_of}
 
 -- a part that is wanted comes first
 pub climb-more : (wanted generation_at : ℕ → ℕ) (level count : ℕ) → 0 < wanted level
@@ -31,11 +31,11 @@ pub record IsClimbedTo (b : BoardValue) (v : PowerView) (core : ℕ) (wanted : �
   pub count : length parts ≡ level
   pub rest : parts ++ climb wanted (λ l. generation b v (domain_of b core l)) level
       (height b + 1 - level)
-      ≡ claim_of b v core wanted
+      ≡ claims_of b v core wanted
 
 pub climbed-none : (b : BoardValue) (v : PowerView) (core : ℕ) (wanted : ℕ → ℕ)
     → IsClimbedTo b v core wanted 0 []
-unfolding claim_of
+unfolding claims_of
 climbed-none b v core wanted =
     let all : height b + 1 - 0 ≡ height b + 1 = omega arith in
     record { count = refl; rest = rw all refl }
@@ -65,7 +65,7 @@ climbed-more b v core wanted level parts part c h l d g some =
 -- all is claimed where nothing more is wanted, and above the system
 pub climbed-ends : (b : BoardValue) (v : PowerView) (core : ℕ) (wanted : ℕ → ℕ) (level : ℕ)
     (parts : List Part) → IsClimbedTo b v core wanted level parts → wanted level ≡ 0
-    → parts ≡ claim_of b v core wanted
+    → parts ≡ claims_of b v core wanted
 climbed-ends b v core wanted level parts c none =
     let gs : ℕ → ℕ = λ m. generation b v (domain_of b core m) in
     sym (ap (λ xs. parts ++ xs) (climb-ends wanted gs level (height b + 1 - level) none)

@@ -11,7 +11,7 @@ use Rattle.psci_board.specs.Board.{BoardValue, cores, up}
 use Rattle.psci_state.specs.Ask.{IsAsk}
 use Rattle.psci_coord.specs.declared.part.Part.{Part}
 use Rattle.psci_coord.specs.View.{PowerView, domain_of, is_all_off}
-use Rattle.psci_coord.specs.Claim.{own_claim, own_wish, off_claim, off_wish}
+use Rattle.psci_coord.specs.Claim.{own_claims, own_wish, off_claims, off_wish}
 use Rattle.psci_coord.specs.Laws.{OwnLaws, OffLaws}
 use Rattle.psci_coord.proofs.ClaimLaws.{claim_laws}
 
@@ -101,12 +101,12 @@ off-three b v core (suc level) h =
       | inr part ↦ let never = rw part at h in absurd (omega arith)
     ]
 
-off-some : (b : BoardValue) (v : PowerView) (core : ℕ) → 0 < length (off_claim b v core)
+off-some : (b : BoardValue) (v : PowerView) (core : ℕ) → 0 < length (off_claims b v core)
 off-some b v core =
     let laws = claim_laws b v core (off_wish b v core) in
-    elim (eq-zero-or-pos (length (off_claim b v core))) [
+    elim (eq-zero-or-pos (length (off_claims b v core))) [
       | inl none ↦
-          let ends : off_wish b v core (length (off_claim b v core)) ≡ 0 =
+          let ends : off_wish b v core (length (off_claims b v core)) ≡ 0 =
           laws.ends (omega (arith, none)) in
           let never = rw none at ends in
           absurd (omega arith)
@@ -144,7 +144,7 @@ asks-fall ask low (suc high) is h = elim (cases_eq low (suc high)) [
 pub own_laws : (b : BoardValue) (v : PowerView) (core : ℕ) (ask : List ℕ) → IsAsk ask
     → OwnLaws b v core ask
 own_laws b v core ask is =
-    let claim : List Part = own_claim b v core ask in
+    let claim : List Part = own_claims b v core ask in
     let laws = claim_laws b v core (own_wish ask) in
     record {
       asked = λ l h.

@@ -19,8 +19,8 @@ climb wanted generation_at level (suc count) =
     else []
 
 -- the claim of a core that wants these depths of its domains, by level
-unfoldable pub claim_of : BoardValue → PowerView → ℕ → (ℕ → ℕ) → List Part
-claim_of b v core wanted =
+unfoldable pub claims_of : BoardValue → PowerView → ℕ → (ℕ → ℕ) → List Part
+claims_of b v core wanted =
     climb wanted (λ level. generation b v (domain_of b core level)) 0 (height b + 1)
 
 -- What is wanted, by level ---------------------------------------------------------------------
@@ -42,13 +42,13 @@ off_wish b v core (suc level) = if is_all_off b v (domain_of b core (suc level))
 -- The claims -----------------------------------------------------------------------------------
 
 -- of a core that stops in platform-coordinated mode
-abbrev pub platform_claim : BoardValue → PowerView → ℕ → List Part
-platform_claim b v core = claim_of b v core (least_wish b v core)
+abbrev pub platform_claims : BoardValue → PowerView → ℕ → List Part
+platform_claims b v core = claims_of b v core (least_wish b v core)
 
 -- of a core that is suspended in OS-initiated mode with this ask
-abbrev pub own_claim : BoardValue → PowerView → ℕ → List ℕ → List Part
-own_claim b v core ask = claim_of b v core (own_wish ask)
+abbrev pub own_claims : BoardValue → PowerView → ℕ → List ℕ → List Part
+own_claims b v core ask = claims_of b v core (own_wish ask)
 
 -- of a core that goes off in OS-initiated mode
-abbrev pub off_claim : BoardValue → PowerView → ℕ → List Part
-off_claim b v core = claim_of b v core (off_wish b v core)
+abbrev pub off_claims : BoardValue → PowerView → ℕ → List Part
+off_claims b v core = claims_of b v core (off_wish b v core)

@@ -8,7 +8,7 @@ use Rattle.psci_coord.specs.declared.part.Part.{Part}
 use Rattle.psci_coord.specs.declared.osi.Osi.{Osi}
 use Rattle.psci_coord.specs.declared.osi.Osi.TheVariants.{Invalid, Denied}
 use Rattle.psci_coord.specs.View.{PowerView, domain_of, is_idle}
-use Rattle.psci_coord.specs.Claim.{own_wish, own_claim}
+use Rattle.psci_coord.specs.Claim.{own_wish, own_claims}
 
 -- the children of a domain, from left to right
 abbrev pub children_of : BoardValue → Node → List Node
@@ -51,4 +51,4 @@ answer_by None parts = Ok parts
 -- the last-core check of an OS-initiated request: why it is refused, or its claim
 unfoldable pub last_core_check : BoardValue → PowerView → ℕ → List ℕ → Result (List Part) Osi
 last_core_check b v core ask =
-    answer_by (refusal b v (shallow b v core ask)) (own_claim b v core ask)
+    answer_by (refusal b v (shallow b v core ask)) (own_claims b v core ask)

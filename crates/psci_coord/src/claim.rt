@@ -2,7 +2,7 @@
 
 ghost use Rattle.std.specs.Prelude.{◌≡◌, ◌<◌};
 ghost use Rattle.psci_board.specs.Board.{HasNodeIn, cores};
-ghost use Rattle.psci_coord.specs.Claim.{claim_of, platform_claim, own_claim};
+ghost use Rattle.psci_coord.specs.Claim.{claims_of, platform_claims, own_claims};
 ghost use Rattle.psci_coord.specs.Wish.{depth_of, wanted};
 ghost use Rattle.psci_coord.specs.Looked.{view_of};
 
@@ -40,7 +40,7 @@ impl Wish {
 pub fn claims(tree: &Tree, board: &Board, core: Core) -> Parts
     requires board { tree.now.levels ≡ board.now.levels }
     requires core { core.number < cores board.now }
-    ensures { result ≡ platform_claim board.now (view_of tree.now) core.number }
+    ensures { result ≡ platform_claims board.now (view_of tree.now) core.number }
 {
     climb(tree, board, core, &Wish::Least)
 }
@@ -50,7 +50,7 @@ pub fn claims(tree: &Tree, board: &Board, core: Core) -> Parts
 pub fn own_parts(tree: &Tree, board: &Board, core: Core, ask: Ask) -> Parts
     requires board { tree.now.levels ≡ board.now.levels }
     requires core { core.number < cores board.now }
-    ensures { result ≡ own_claim board.now (view_of tree.now) core.number ask }
+    ensures { result ≡ own_claims board.now (view_of tree.now) core.number ask }
 {
     climb(tree, board, core, &Wish::Own(ask))
 }
@@ -59,7 +59,7 @@ pub fn own_parts(tree: &Tree, board: &Board, core: Core, ask: Ask) -> Parts
 fn climb(tree: &Tree, board: &Board, core: Core, wish: &Wish) -> Parts
     requires board { tree.now.levels ≡ board.now.levels }
     requires core { core.number < cores board.now }
-    ensures { result ≡ claim_of board.now (view_of tree.now) core.number
+    ensures { result ≡ claims_of board.now (view_of tree.now) core.number
         (wanted board.now (view_of tree.now) core.number wish.now) }
 {
     law_paths();

@@ -12,7 +12,7 @@ use Rattle.psci_ctl_model.specs.Follows.{AreValues, MayFollow}
 use Rattle.psci_ctl_model.specs.Values.{Values, start_of_life}
 use Rattle.psci_ctl.specs.declared.row.CoreRow.{CoreRow}
 use Rattle.psci_ctl.specs.declared.level.DomainRow.{DomainRow}
-use Rattle.psci_ctl.specs.Rows.{HasShape, HasSums, core_at, depth_in, domain_at, values_in}
+use Rattle.psci_ctl.specs.Rows.{HasRows, HasSums, core_row, depth_in, domain_at, values_in}
 use Rattle.psci_ctl.specs.Seen.{ControllerValue, IsController}
 use Rattle.psci_ctl.proofs.Looked.{domain_set, set_row}
 
@@ -28,7 +28,7 @@ Keeps = (b : BoardValue) (v : Values) (e : Effect) → IsBoard b → AreValues b
 pub started_kept : (b : BoardValue) (o : Option ℕ) (life c : ℕ) (cause : Cause)
     (cs new_cs : List CoreRow) (ds new_ds : List (List DomainRow)) → Keeps
     → IsController (whole b o cs ds) → o ≡ Some life → c < cores b
-    → (core_at cs c).starts < b.starts → length new_cs ≡ length cs → HasShape b new_ds
+    → (core_row cs c).starts < b.starts → length new_cs ≡ length cs → HasRows b new_ds
     → HasSums b new_cs new_ds
     → ((l : Option ℕ) → values_in l new_cs new_ds ≡ with_start b c cause (values_in l cs ds))
     → IsController (whole b o new_cs new_ds)
@@ -45,7 +45,7 @@ started_kept b o life c cause cs new_cs ds new_ds keeps is here inside more coun
 
 pub begun_kept : (b : BoardValue) (life : ℕ) (cs : List CoreRow) (ds : List (List DomainRow))
     → IsBoard b → AreValues b (record (start_of_life b) { life = Some life })
-    → length cs ≡ cores b → HasShape b ds → HasSums b cs ds
+    → length cs ≡ cores b → HasRows b ds → HasSums b cs ds
     → ((l : Option ℕ) → values_in l cs ds ≡ record (start_of_life b) { life = l })
     → IsController (whole b (Some life) cs ds)
 begun_kept b life cs ds board are count shape sums values = record {
@@ -113,7 +113,7 @@ is_deepened ds k place depth row h i deep same = record {
 
 pub deepened_kept : (b : BoardValue) (o : Option ℕ) (cs : List CoreRow)
     (ds new_ds : List (List DomainRow)) (k place depth : ℕ)
-    → IsController (whole b o cs ds) → HasShape b new_ds → IsDeepened ds new_ds k place depth
+    → IsController (whole b o cs ds) → HasRows b new_ds → IsDeepened ds new_ds k place depth
     → depth ≤ 3
     → IsController (whole b o cs new_ds)
 deepened_kept b o cs ds new_ds k place depth is shape deep few = record {

@@ -10,8 +10,8 @@ use Rattle.psci_board.specs.Board.{BoardValue, height, up}
 use Rattle.psci_board.specs.Paths.{is_on_path}
 use Rattle.psci_ctl.specs.declared.row.CoreRow.{CoreRow}
 use Rattle.psci_ctl.specs.declared.level.DomainRow.{DomainRow}
-use Rattle.psci_ctl.specs.Rows.{HasShape, core_at, domain_at, off_core, off_domain, run_below}
-use Rattle.psci_ctl.specs.Rows.{run_once, with_core}
+use Rattle.psci_ctl.specs.Rows.{HasRows, core_row, domain_at, off_core, off_domain, path_on_below}
+use Rattle.psci_ctl.specs.Rows.{path_on_once, with_core}
 
 -- the rows with one domain's written
 abbrev pub set_row : List (List DomainRow) → ℕ → ℕ → DomainRow → List (List DomainRow)
@@ -43,14 +43,14 @@ row_length (d ∷ ds) (suc l) p zero row = refl
 row_length (d ∷ ds) (suc l) p (suc m) row = row_length ds l p m row
 
 pub shape_set : (b : BoardValue) (ds : List (List DomainRow)) (l p : ℕ) (row : DomainRow)
-    → HasShape b ds → HasShape b (set_row ds l p row)
+    → HasRows b ds → HasRows b (set_row ds l p row)
 shape_set b ds l p row shape = record {
   levels = length-set ds l (set (get_or ds l []) p row) ∙ shape.levels;
   places = λ m low. row_length ds l p m row ∙ shape.places m low;
 }
 
 pub core_set : (cs : List CoreRow) (c k : ℕ) (row : CoreRow) → c < length cs
-    → core_at (set cs c row) k ≡ with_core cs c row k
+    → core_row (set cs c row) k ≡ with_core cs c row k
 core_set cs c k row h = elim (cases_eq k c) [
   | inl e ↦ rw (eq-eqb k c e, e) (get_or-set_same cs c row off_core h)
   | inr e ↦ rw (ne_eqb k c e) (get_or-set_other cs c k row off_core e)
@@ -63,7 +63,7 @@ off_row zero p = refl
 off_row (suc n) zero = refl
 off_row (suc n) (suc p) = off_row n p
 
-pub off_core_row : (n k : ℕ) → core_at (replicate n off_core) k ≡ off_core
+pub off_core_row : (n k : ℕ) → core_row (replicate n off_core) k ≡ off_core
 off_core_row zero k = refl
 off_core_row (suc n) zero = refl
 off_core_row (suc n) (suc k) = off_core_row n k
@@ -72,19 +72,19 @@ off_core_row (suc n) (suc k) = off_core_row n k
 
 -- at a level that was not reached, nothing ran
 not_yet : (b : BoardValue) (c k : ℕ) (old : List (List DomainRow)) (l p : ℕ) → k ≤ l
-    → run_below b c old k l p ≡ domain_at old l p
+    → path_on_below b c old k l p ≡ domain_at old l p
 not_yet b c k old l p h =
-    ap (λ t. cond (t && is_on_path b c l p) (run_once (domain_at old l p)) (domain_at old l p))
+    ap (λ t. cond (t && is_on_path b c l p) (path_on_once (domain_at old l p)) (domain_at old l p))
     (le-ltb l k h)
 
--- at a level that was reached, the path runs
+-- at a level that was reached, the path is fully on
 reached : (b : BoardValue) (c k : ℕ) (old : List (List DomainRow)) (l p : ℕ) (t : Bool) → l < k
     → is_on_path b c l p ≡ t
-    → run_below b c old k l p ≡ cond t (run_once (domain_at old l p)) (domain_at old l p)
+    → path_on_below b c old k l p ≡ cond t (path_on_once (domain_at old l p)) (domain_at old l p)
 reached b c k old l p t h e =
-    ap (λ s. cond (s && is_on_path b c l p) (run_once (domain_at old l p)) (domain_at old l p))
+    ap (λ s. cond (s && is_on_path b c l p) (path_on_once (domain_at old l p)) (domain_at old l p))
     (lt-ltb l k h)
-    ∙ ap (λ s. cond s (run_once (domain_at old l p)) (domain_at old l p)) e
+    ∙ ap (λ s. cond s (path_on_once (domain_at old l p)) (domain_at old l p)) e
 
 path_test : (b : BoardValue) (c k p : ℕ) → k ≤ height b
     → is_on_path b c k p ≡ (up b k c == p)
@@ -99,17 +99,17 @@ both_false l k p q e f = rw (eq-eqb l k e, ne_eqb p q f) refl
 -- one more level of a path
 pub run_more : (b : BoardValue) (c k : ℕ) (old now new : List (List DomainRow)) (row : DomainRow)
     → k ≤ height b
-    → ((l p : ℕ) → domain_at now l p ≡ run_below b c old k l p)
-    → row ≡ run_once (domain_at now k (up b k c))
+    → ((l p : ℕ) → domain_at now l p ≡ path_on_below b c old k l p)
+    → row ≡ path_on_once (domain_at now k (up b k c))
     → ((l p : ℕ) → domain_at new l p ≡ cond (l == k && p == up b k c) row (domain_at now l p))
-    → (l p : ℕ) → domain_at new l p ≡ run_below b c old (k + 1) l p
+    → (l p : ℕ) → domain_at new l p ≡ path_on_below b c old (k + 1) l p
 run_more b c k old now new row low before is written l p = elim (cases_eq l k) [
   | inl e ↦ elim (cases_eq p (up b k c)) [
     | inl f ↦ written l p
         ∙ ap (λ t. cond t row (domain_at now l p))
         (both_true l k p (up b k c) e f)
         ∙ is
-        ∙ ap run_once (before k (up b k c) ∙ not_yet b c k old k (up b k c) (omega arith)
+        ∙ ap path_on_once (before k (up b k c) ∙ not_yet b c k old k (up b k c) (omega arith)
         ∙ ap (domain_at old k) (sym f) ∙ ap (λ m. domain_at old m p) (sym e))
         ∙ sym (reached b c (k + 1) old l p true (omega (arith, e))
         (ap (λ m. is_on_path b c m p) e ∙ path_test b c k p low ∙ eq-eqb (up b k c) p (sym f)))
@@ -134,11 +134,11 @@ run_more b c k old now new row low before is written l p = elim (cases_eq l k) [
 
 -- a whole path: the domains above the board's height are on no path
 pub run_whole : (b : BoardValue) (c : ℕ) (old : List (List DomainRow)) (l p : ℕ)
-    → run_below b c old (height b + 1) l p
-    ≡ cond (is_on_path b c l p) (run_once (domain_at old l p)) (domain_at old l p)
+    → path_on_below b c old (height b + 1) l p
+    ≡ cond (is_on_path b c l p) (path_on_once (domain_at old l p)) (domain_at old l p)
 run_whole b c old l p = elim (cases_lt l (height b + 1)) [
   | inl h ↦ reached b c (height b + 1) old l p (is_on_path b c l p) h refl
   | inr h ↦ not_yet b c (height b + 1) old l p h
-      ∙ ap (λ s. cond (s && up b l c == p) (run_once (domain_at old l p)) (domain_at old l p))
+      ∙ ap (λ s. cond (s && up b l c == p) (path_on_once (domain_at old l p)) (domain_at old l p))
       (sym (lt-leb l (height b) (omega arith)))
 ]

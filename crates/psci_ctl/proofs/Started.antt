@@ -13,8 +13,8 @@ use Rattle.psci_ctl_model.specs.Values.{Values, start_of_life, starts_below}
 use Rattle.psci_board.specs.Paths.{is_on_path}
 use Rattle.psci_ctl.specs.declared.row.CoreRow.{CoreRow}
 use Rattle.psci_ctl.specs.declared.level.DomainRow.{DomainRow}
-use Rattle.psci_ctl.specs.Rows.{HasSums, core_at, domain_at, off_core, off_domain, run_below}
-use Rattle.psci_ctl.specs.Rows.{run_once, values_in}
+use Rattle.psci_ctl.specs.Rows.{HasSums, core_row, domain_at, off_core, off_domain, path_on_below}
+use Rattle.psci_ctl.specs.Rows.{path_on_once, values_in}
 use Rattle.psci_ctl.proofs.Looked.{core_set, off_core_row, run_whole}
 
 -- values that say the same of each core and domain are the same
@@ -28,45 +28,48 @@ same_values v w a b c d =
 
 -- the row of a core after its start
 abbrev pub started_row : List CoreRow → ℕ → Cause → CoreRow
-started_row cs c cause = record { starts = (core_at cs c).starts + 1; cause = cause }
+started_row cs c cause = record { starts = (core_row cs c).starts + 1; cause = cause }
 
 row_starts : (cs : List CoreRow) (c k : ℕ) (cause : Cause) → c < length cs
-    → (core_at (set cs c (started_row cs c cause)) k).starts
-    ≡ one_more (λ m. (core_at cs m).starts) c k
+    → (core_row (set cs c (started_row cs c cause)) k).starts
+    ≡ one_more (λ m. (core_row cs m).starts) c k
 row_starts cs c k cause h =
     let row : CoreRow = started_row cs c cause in
     ap (λ (r : CoreRow). r.starts) (core_set cs c k row h)
     ∙ elim (cases_eq k c) [
-      | inl e ↦ ap (λ t. (cond t row (core_at cs k)).starts) (eq-eqb k c e)
-          ∙ ap (λ m. (core_at cs m).starts + 1) (sym e)
-          ∙ sym (ap (λ t. cond t ((core_at cs k).starts + 1) (core_at cs k).starts) (eq-eqb k c e))
-      | inr e ↦ ap (λ t. (cond t row (core_at cs k)).starts) (ne_eqb k c e)
-          ∙ sym (ap (λ t. cond t ((core_at cs k).starts + 1) (core_at cs k).starts) (ne_eqb k c e))
+      | inl e ↦ ap (λ t. (cond t row (core_row cs k)).starts) (eq-eqb k c e)
+          ∙ ap (λ m. (core_row cs m).starts + 1) (sym e)
+          ∙ sym (ap (λ t. cond t ((core_row cs k).starts + 1) (core_row cs k).starts)
+          (eq-eqb k c e))
+      | inr e ↦ ap (λ t. (cond t row (core_row cs k)).starts) (ne_eqb k c e)
+          ∙ sym (ap (λ t. cond t ((core_row cs k).starts + 1) (core_row cs k).starts)
+          (ne_eqb k c e))
     ]
 
 row_cause : (cs : List CoreRow) (c k : ℕ) (cause : Cause) → c < length cs
-    → (core_at (set cs c (started_row cs c cause)) k).cause
-    ≡ with_cause (λ m. (core_at cs m).cause) c cause k
+    → (core_row (set cs c (started_row cs c cause)) k).cause
+    ≡ with_cause (λ m. (core_row cs m).cause) c cause k
 row_cause cs c k cause h =
     ap (λ (r : CoreRow). r.cause) (core_set cs c k (started_row cs c cause) h)
     ∙ either (k == c)
   where
-    either : (t : Bool) → (cond t (started_row cs c cause) (core_at cs k)).cause
-        ≡ cond t cause (core_at cs k).cause
+    either : (t : Bool) → (cond t (started_row cs c cause) (core_row cs k)).cause
+        ≡ cond t cause (core_row cs k).cause
     either true = refl
     either false = refl
 
-depth_either : (t : Bool) (d : DomainRow) → (cond t (run_once d) d).depth ≡ cond t 0 d.depth
+depth_either : (t : Bool) (d : DomainRow) → (cond t (path_on_once d) d).depth ≡ cond t 0 d.depth
 depth_either true d = refl
 depth_either false d = refl
 
-starts_either : (t : Bool) (d : DomainRow) → (cond t (run_once d) d).starts ≡ d.starts + cond t 1 0
+starts_either : (t : Bool) (d : DomainRow) → (cond t (path_on_once d) d).starts
+    ≡ d.starts + cond t 1 0
 starts_either true d = refl
 starts_either false d = omega arith
 
 pub started_values : (b : BoardValue) (cs : List CoreRow) (old new : List (List DomainRow)) (c : ℕ)
     (cause : Cause) → c < length cs
-    → ((l p : ℕ) → domain_at new l p ≡ run_below b c old (height b + 1) l p)
+    → ((l p : ℕ) → domain_at new l p ≡ path_on_below b c old (height b + 1) l p)
     → (life : Option ℕ)
     → values_in life (set cs c (started_row cs c cause)) new
     ≡ with_start b c cause (values_in life cs old)
@@ -79,7 +82,7 @@ started_values b cs old new c cause h rows life =
 
 pub started_sums : (b : BoardValue) (cs : List CoreRow) (old new : List (List DomainRow)) (c : ℕ)
     (cause : Cause) → SumLaws b → c < cores b → c < length cs → HasSums b cs old
-    → ((l p : ℕ) → domain_at new l p ≡ run_below b c old (height b + 1) l p)
+    → ((l p : ℕ) → domain_at new l p ≡ path_on_below b c old (height b + 1) l p)
     → HasSums b (set cs c (started_row cs c cause)) new
 started_sums b cs old new c cause laws inside h before rows = record {
   sums = λ l p low.
@@ -87,13 +90,13 @@ started_sums b cs old new c cause laws inside h before rows = record {
       ap (λ (d : DomainRow). d.starts) (rows l p ∙ run_whole b c old l p)
       ∙ starts_either (is_on_path b c l p) (domain_at old l p)
       ∙ ap (λ s. s + cond (is_on_path b c l p) 1 0) (before.sums l p low)
-      ∙ sym (laws.more (λ m. (core_at cs m).starts) c l p inside low)
+      ∙ sym (laws.more (λ m. (core_row cs m).starts) c l p inside low)
       ∙ ap (λ f. starts_below b f n) (λ i k. sym (row_starts cs c k cause h) i);
 }
 
 -- no sum of starts is too large for one more
 pub room : (b : BoardValue) (cs : List CoreRow) (ds : List (List DomainRow)) (l p : ℕ) → SumLaws b
-    → cores b ≤ 64 → ((k : ℕ) → (core_at cs k).starts < 2 ^ 32) → HasSums b cs ds → l ≤ height b
+    → cores b ≤ 64 → ((k : ℕ) → (core_row cs k).starts < 2 ^ 32) → HasSums b cs ds → l ≤ height b
     → (domain_at ds l p).starts + 1 < 2 ^ 64
 room b cs ds l p laws few small has low =
     let n : Node = record { level = l; place = p } in
@@ -101,7 +104,7 @@ room b cs ds l p laws few small has low =
       arith,
       few,
       has.sums l p low,
-      laws.few (λ k. (core_at cs k).starts) 0xffffffff (λ k. omega (arith, small k)) n,
+      laws.few (λ k. (core_row cs k).starts) 0xffffffff (λ k. omega (arith, small k)) n,
     )
 
 -- The beginning of a life --------------------------------------------------------------------

@@ -20,8 +20,8 @@ abbrev pub off_domain : DomainRow
 off_domain = record { depth = 3; starts = 0 }
 
 -- what is kept of the core of this number
-abbrev pub core_at : List CoreRow → ℕ → CoreRow
-core_at cores c = slice_index_or cores c off_core
+abbrev pub core_row : List CoreRow → ℕ → CoreRow
+core_row cores c = slice_index_or cores c off_core
 
 -- what is kept of the domain of this level and place
 abbrev pub domain_at : List (List DomainRow) → ℕ → ℕ → DomainRow
@@ -33,30 +33,30 @@ depth_in domains level place = (domain_at domains level place).depth
 
 -- one core's row is this
 abbrev pub with_core : List CoreRow → ℕ → CoreRow → ℕ → CoreRow
-with_core cores c row k = if k == c then row else core_at cores k
+with_core cores c row k = if k == c then row else core_row cores k
 
--- a domain runs, after one more start below it
-abbrev pub run_once : DomainRow → DomainRow
-run_once row = record { depth = 0; starts = row.starts + 1 }
+-- a domain is fully on, after one more start below it
+abbrev pub path_on_once : DomainRow → DomainRow
+path_on_once row = record { depth = 0; starts = row.starts + 1 }
 
 -- the domains of a core's path below this level run, after one more start below them
-abbrev pub run_below : BoardValue → ℕ → List (List DomainRow) → ℕ → ℕ → ℕ → DomainRow
-run_below b c domains end level place =
+abbrev pub path_on_below : BoardValue → ℕ → List (List DomainRow) → ℕ → ℕ → ℕ → DomainRow
+path_on_below b c domains end level place =
     if nat_lt level end && is_on_path b c level place
-    then run_once (domain_at domains level place)
+    then path_on_once (domain_at domains level place)
     else domain_at domains level place
 
 -- the values in the rows of cores and domains
 abbrev pub values_in : Option ℕ → List CoreRow → List (List DomainRow) → Values
 values_in life cores domains = record {
   life = life;
-  starts = λ c. (core_at cores c).starts;
-  cause = λ c. (core_at cores c).cause;
+  starts = λ c. (core_row cores c).starts;
+  cause = λ c. (core_row cores c).cause;
   depth = depth_in domains;
 }
 
 -- a row for each domain of the board
-pub record HasShape (b : BoardValue) (domains : List (List DomainRow)) : Type 0 where
+pub record HasRows (b : BoardValue) (domains : List (List DomainRow)) : Type 0 where
   pub levels : length domains ≡ height b + 1
   pub places : (level : ℕ) → level ≤ height b
       → length (slice_index_or domains level []) ≡ nodes b level
@@ -65,7 +65,7 @@ pub record HasShape (b : BoardValue) (domains : List (List DomainRow)) : Type 0 
 pub record HasSums (b : BoardValue) (cores : List CoreRow) (domains : List (List DomainRow))
     : Type 0 where
   pub sums : (level place : ℕ) → level ≤ height b → (domain_at domains level place).starts
-      ≡ starts_below b (λ c. (core_at cores c).starts) (record { level = level; place = place })
+      ≡ starts_below b (λ c. (core_row cores c).starts) (record { level = level; place = place })
 
 -- a domain is this deep
 abbrev pub deepened : Node → ℕ → (ℕ → ℕ → ℕ) → ℕ → ℕ → ℕ

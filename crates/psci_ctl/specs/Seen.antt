@@ -7,7 +7,7 @@ use Rattle.psci_ctl_model.specs.Values.{Values}
 use Rattle.psci_ctl.specs.declared.row.CoreRow.{CoreRow}
 use Rattle.psci_ctl.specs.declared.done.Done.{Done}
 use Rattle.psci_ctl.specs.declared.level.DomainRow.{DomainRow}
-use Rattle.psci_ctl.specs.Rows.{HasShape, HasSums, values_in}
+use Rattle.psci_ctl.specs.Rows.{HasRows, HasSums, values_in}
 
 -- A power controller as contracts see it.
 pub record ControllerValue : Type 0 where
@@ -28,7 +28,7 @@ seen c = values_in c.life c.cores c.domains
 pub record IsController (c : ControllerValue) : Type 0 where
   pub board : IsBoard c.board
   pub cores : length c.cores ≡ cores c.board
-  pub shape : HasShape c.board c.domains
+  pub shape : HasRows c.board c.domains
   pub values : AreValues c.board (seen c)
   pub sums : (life : ℕ) → c.life ≡ Some life → HasSums c.board c.cores c.domains
 

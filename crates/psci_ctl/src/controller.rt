@@ -53,7 +53,7 @@ ghost use Rattle.psci_ctl_model.specs.declared.call.CtlCall.TheVariants as calls
 ghost use Rattle.psci_ctl_model.specs.declared.delivery.Delivery.TheVariants as deliveries;
 ghost use Rattle.psci_ctl_model.specs.declared.kick.Kick.TheVariants as kicks;
 ghost use Rattle.psci_ctl_model.specs.declared.reply.CtlReply.TheVariants as replies;
-ghost use Rattle.psci_ctl.specs.Rows.{core_at};
+ghost use Rattle.psci_ctl.specs.Rows.{core_row};
 ghost use Rattle.psci_ctl.specs.Seen.{seen};
 
 impl Controller {

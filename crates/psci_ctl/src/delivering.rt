@@ -1,10 +1,10 @@
-//! What the power controller does with a message of the present life.
+//! What the power controller does with a message of this life.
 
 ghost use Rattle.std.specs.Prelude.{◌≡◌, ◌≤◌, ◌+◌, ◌<◌, ◌==◌, ℕ, true, Some, take, length};
 ghost use Rattle.std.specs.Prelude.{if◌then◌else◌, nat_lt};
 ghost use Rattle.psci_board.specs.Board.{cores, height, nodes};
 ghost use Rattle.psci_coord.specs.View.{domain_of};
-ghost use Rattle.psci_link.specs.Message.{PartByPart, IsClaim, most_applied};
+ghost use Rattle.psci_link.specs.Message.{PartByPart, AreClaims, most_applied};
 ghost use Rattle.psci_ctl_model.specs.Changes.{change, with_start};
 ghost use Rattle.psci_ctl_model.specs.Effects.{Begins, Ends, message_effect};
 ghost use Rattle.psci_ctl_model.specs.Legal.{IsOfBoard};
@@ -36,7 +36,7 @@ impl Controller {
         self.cores[core.number as usize].starts < self.board.start_limit()
     }
 
-    /// Starts a core, unless it was started since the message was sent, or can't be once more.
+    /// Starts a core, unless it had a start that the message does not count, or can't be once more.
     pub(crate) fn start_on(&mut self, life: u32, core: Core, number: u32) -> Done
         requires core { core.number < cores self.old.board }
         requires life { self.old.life ≡ Some life }
@@ -97,7 +97,7 @@ impl Controller {
         path[level as usize]
     }
 
-    /// Whether no core below this domain was started since the part was made.
+    /// Whether a part's generation counts every start below its domain.
     fn is_live(&self, node: Node, part: &Part) -> bool
         requires level { node.level ≤ height self.now.board }
         requires life { (l : ℕ) × (self.now.life ≡ Some l) }
@@ -172,7 +172,7 @@ impl Controller {
         }
     }
 
-    /// Carries out a message of the present life.
+    /// Carries out a message of this life.
     pub(crate) fn carry_out(&mut self, message: &Message) -> Done
         requires board { IsOfBoard self.old.board message.now }
         requires life { self.old.life ≡ Some message.now.life }

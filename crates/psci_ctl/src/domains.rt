@@ -3,7 +3,7 @@
 ghost use Rattle.std.specs.Prelude.{◌≡◌, ◌+◌, ◌<◌, ◌≤◌, ◌^◌, ℕ, [], length, IfOk};
 ghost use Rattle.std.specs.Prelude.{slice_index_or, slice_set};
 ghost use Rattle.psci_board.specs.Board.{HasNode, cores, height, up};
-ghost use Rattle.psci_ctl.specs.Rows.{domain_at, off_domain, run_below, HasShape};
+ghost use Rattle.psci_ctl.specs.Rows.{domain_at, off_domain, path_on_below, HasRows};
 
 use crate::level::{DomainRow, Level};
 use psci_board::{Board, Core, Memory, Node, law_paths};
@@ -11,7 +11,7 @@ use std::alloc::Global;
 
 /// The domains of a board, all of them powered down.
 pub fn off_domains(alloc: Global, board: &Board) -> Result<Vec<Level>, Memory>
-    ensures { IfOk result (λ levels. HasShape board.now levels.items) }
+    ensures { IfOk result (λ levels. HasRows board.now levels.items) }
 {
     let mut levels = Vec::new(alloc);
     for level in 0..board.height() + 1 {
@@ -43,9 +43,9 @@ pub fn set_domain(levels: &mut [Level], node: Node, row: DomainRow)
 
 /// Powers all domains down, and forgets all starts.
 pub fn turn_off(levels: &mut [Level], board: &Board)
-    requires { HasShape board.now levels.old }
+    requires { HasRows board.now levels.old }
     ensures rows { (level place : ℕ) → domain_at levels.new level place ≡ off_domain }
-    ensures shape { HasShape board.now levels.new }
+    ensures shape { HasRows board.now levels.new }
 {
     for level in levels.iter_mut() {
         level.turn_off();
@@ -55,12 +55,12 @@ pub fn turn_off(levels: &mut [Level], board: &Board)
 /// The domains on the path of a core run, after one more start below them.
 pub fn run_path(levels: &mut [Level], board: &Board, core: Core)
     requires core { core.number < cores board.now }
-    requires shape { HasShape board.now levels.old }
+    requires shape { HasRows board.now levels.old }
     requires room { (level : ℕ) → level ≤ height board.now
         → (domain_at levels.old level (up board.now level core.number)).starts + 1 < 2 ^ 64 }
     ensures rows { (level place : ℕ) → domain_at levels.new level place
-        ≡ run_below board.now core.number levels.old (height board.now + 1) level place }
-    ensures shape { HasShape board.now levels.new }
+        ≡ path_on_below board.now core.number levels.old (height board.now + 1) level place }
+    ensures shape { HasRows board.now levels.new }
 {
     law_paths();
     let path = board.path(core);

@@ -6,7 +6,7 @@ ghost use Rattle.psci_ctl_model.specs.Replies.{ack_of};
 
 use psci_link::{Ack, Message};
 
-/// What was done with a message of the present life.
+/// What was done with a message of this life.
 #[derive(Clone, Copy)]
 pub struct Done {
     /// How many parts of a Down were applied; else 1 where the message was carried out.

@@ -7,9 +7,9 @@ use std::marker::Model;
 /// What the power controller keeps of one power domain.
 #[derive(Clone, Copy)]
 pub struct DomainRow {
-    /// How deep it is: 0 run, 1 standby, 2 retention, 3 power-down.
+    /// How deep it is: 0 fully on, 1 standby, 2 retention, 3 power-down.
     pub depth: u8,
-    /// Its generation: the sum of the starts of the cores below it.
+    /// The sum of the starts of the cores below it.
     pub starts: u64,
 }
 

@@ -4,18 +4,18 @@ ghost use Rattle.std.specs.Prelude.{◌≡◌, ◌+◌, ◌<◌, ◌^◌, ℕ, l
 ghost use Rattle.psci_board.specs.Board.{cores};
 ghost use Rattle.psci_ctl_model.specs.Changes.{with_start};
 ghost use Rattle.psci_ctl_model.specs.Values.{start_of_life};
-ghost use Rattle.psci_ctl.specs.Rows.{core_at, values_in, HasShape, HasSums};
+ghost use Rattle.psci_ctl.specs.Rows.{core_row, values_in, HasRows, HasSums};
 
 use crate::domains::{run_path, turn_off};
 use crate::level::Level;
 use crate::row::{CoreRow, forget_starts};
 use psci_board::{Board, Core, law_sizes};
-use psci_ctl_model::{Cause, law_generations};
+use psci_ctl_model::{Cause, law_sums};
 
 /// The core that a life begins with.
 const BOOT_CORE: Core = Core { number: 0 };
 
-/// A core is started: its start is counted, and its path runs.
+/// A core is started: its start is counted, and its path is fully on.
 pub fn start_core(
     board: &Board,
     rows: &mut [CoreRow],
@@ -25,17 +25,17 @@ pub fn start_core(
 )
     requires core { core.number < cores board.now }
     requires count { length rows.old ≡ cores board.now }
-    requires shape { HasShape board.now levels.old }
+    requires shape { HasRows board.now levels.old }
     requires sums { HasSums board.now rows.old levels.old }
-    requires few { (k : ℕ) → (core_at rows.old k).starts < 2 ^ 32 }
-    requires more { (core_at rows.old core.number).starts + 1 < 2 ^ 32 }
-    ensures shape { HasShape board.now levels.new }
+    requires few { (k : ℕ) → (core_row rows.old k).starts < 2 ^ 32 }
+    requires more { (core_row rows.old core.number).starts + 1 < 2 ^ 32 }
+    ensures shape { HasRows board.now levels.new }
     ensures sums { HasSums board.now rows.new levels.new }
     ensures values { (life : Option ℕ) → values_in life rows.new levels.new
         ≡ with_start board.now core.number cause (values_in life rows.old levels.old) }
 {
     law_sizes();
-    law_generations();
+    law_sums();
     let cores = board.cores();
     prove!(core.number < cores);
     run_path(levels, board, core);
@@ -49,14 +49,14 @@ pub fn start_core(
 /// A life begins: the boot core is started, every other core and domain is off.
 pub fn begin_life(board: &Board, rows: &mut [CoreRow], levels: &mut [Level])
     requires count { length rows.old ≡ cores board.now }
-    requires shape { HasShape board.now levels.old }
-    ensures shape { HasShape board.now levels.new }
+    requires shape { HasRows board.now levels.old }
+    ensures shape { HasRows board.now levels.new }
     ensures sums { HasSums board.now rows.new levels.new }
     ensures values { (life : Option ℕ) → values_in life rows.new levels.new
         ≡ record (start_of_life board.now) { life = life } }
 {
     law_sizes();
-    law_generations();
+    law_sums();
     let cores = board.cores();
     prove!(0 < cores);
     forget_starts(rows);

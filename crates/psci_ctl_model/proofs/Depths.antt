@@ -8,10 +8,10 @@ use Rattle.psci_board.specs.Board.{BoardValue, cores, height}
 use Rattle.psci_board.specs.declared.node.Node.{Node}
 use Rattle.psci_board.specs.Laws.{ChildLaws}
 use Rattle.psci_coord.specs.declared.part.Part.{Part}
-use Rattle.psci_link.specs.Message.{IsClaim, PartByPart}
+use Rattle.psci_link.specs.Message.{AreClaims, PartByPart}
 use Rattle.psci_link.specs.declared.start.Cause.{Cause}
 use Rattle.psci_ctl_model.specs.Effects.{Effect, Nothing, Starts, Deepens, Ends, Begins, effect_of}
-use Rattle.psci_ctl_model.specs.Entry.{Entry}
+use Rattle.psci_ctl_model.specs.Exchange.{CtlExchange}
 use Rattle.psci_ctl_model.specs.Follows.{IsFront, MayFollow}
 use Rattle.psci_ctl_model.specs.History.{depth, depth_by, effect_in, life, life_by}
 use Rattle.psci_link.specs.OnlyIf.{only_if}
@@ -37,11 +37,11 @@ first_sum b l p some low off =
     ∙ omega (arith, starts_none b (node l p))
 
 -- where the depth of a domain comes from, after a history
-abbrev From : BoardValue → List Entry → ℕ → ℕ → Type 0
+abbrev From : BoardValue → List CtlExchange → ℕ → ℕ → Type 0
 From b h l p = (depth b h l p ≡ 0) ⊎ (IsApplied b h l p ⊎ IsFirst b h l p)
 
 -- an entry that leaves depth and generation of a domain, in its life
-stays : (b : BoardValue) (e : Entry) (h : List Entry) (l p : ℕ)
+stays : (b : BoardValue) (e : CtlExchange) (h : List CtlExchange) (l p : ℕ)
     → keeps_life (effect_in b e) ≡ true
     → depth b (e ∷ h) l p ≡ depth b h l p
     → starts_below b (starts b (e ∷ h)) (node l p) ≡ starts_below b (starts b h) (node l p)
@@ -59,7 +59,7 @@ stays b e h l p within same sum (inr (inr is)) = inr (inr (record {
 }))
 
 -- what the definitions say of one more entry, by its effect
-module _ (b : BoardValue) (e : Entry) (h : List Entry) where
+module _ (b : BoardValue) (e : CtlExchange) (h : List CtlExchange) where
   deep_by : (f : Effect) (l p : ℕ) → effect_in b e ≡ f
       → depth b (e ∷ h) l p ≡ unwrap_or (depth_by b l p f) (depth b h l p)
   deep_by f l p is = ap (λ g. unwrap_or (depth_by b l p g) (depth b h l p)) is
@@ -157,8 +157,8 @@ from_first b l p true on some low = inl (ap (λ t. cond t 0 3) on)
 from_first b l p false on some low =
     inr (inr (record { depth = refl; still = first_sum b l p some low on }))
 
-from_all : (b : BoardValue) (h : List Entry) (l p in_life : ℕ) → ChildLaws b
-    → ((ps : List Part) → IsClaim ps → PartByPart ps) → 0 < cores b → IsLegal b h → l ≤ height b
+from_all : (b : BoardValue) (h : List CtlExchange) (l p in_life : ℕ) → ChildLaws b
+    → ((ps : List Part) → AreClaims ps → PartByPart ps) → 0 < cores b → IsLegal b h → l ≤ height b
     → life b h ≡ Some in_life → From b h l p
 from_all b [] l p m children laws some legal low here =
     from_first b l p (is_on_path b 0 l p) refl some low
@@ -169,8 +169,8 @@ from_all b (e ∷ h) l p m children laws some legal low here =
     some low here
     (λ n q. from_all b h l p n children laws some legal.2 low q)
 
-pub deep_from : (b : BoardValue) (h : List Entry) (l p in_life : ℕ) → ChildLaws b
-    → ((ps : List Part) → IsClaim ps → PartByPart ps) → 0 < cores b → IsLegal b h → l ≤ height b
+pub deep_from : (b : BoardValue) (h : List CtlExchange) (l p in_life : ℕ) → ChildLaws b
+    → ((ps : List Part) → AreClaims ps → PartByPart ps) → 0 < cores b → IsLegal b h → l ≤ height b
     → life b h ≡ Some in_life → 0 < depth b h l p → IsApplied b h l p ⊎ IsFirst b h l p
 deep_from b h l p m children laws some legal low here deep =
     elim (from_all b h l p m children laws some legal low here) [

@@ -6,7 +6,7 @@ use Rattle.std.proofs.lemmas.Bool.{and_parts, eqb-true, ltb-true}
 use Rattle.psci_board.specs.Board.{BoardValue, cores, height}
 use Rattle.psci_board.specs.Laws.{ChildLaws}
 use Rattle.psci_coord.specs.declared.part.Part.{Part}
-use Rattle.psci_link.specs.Message.{ArePartsOf, IsClaim, MessageValue, PartByPart}
+use Rattle.psci_link.specs.Message.{ArePartsOf, AreClaims, MessageValue, PartByPart}
 use Rattle.psci_link.specs.declared.kind.Kind.{Kind}
 use Rattle.psci_link.specs.declared.kind.Kind.TheVariants as kinds
 use Rattle.psci_ctl_model.specs.declared.call.CtlCall.{CtlCall}
@@ -19,7 +19,7 @@ use Rattle.psci_ctl_model.specs.Effects.{Ends, Begins}
 use Rattle.psci_ctl_model.specs.Effects.{effect_of, kick_effect, message_effect}
 use Rattle.psci_ctl_model.specs.Follows.{HasLife, MayFollow}
 use Rattle.psci_ctl_model.specs.Legal.{IsCall, IsSendable}
-use Rattle.psci_ctl_model.specs.Replies.{ack_by, ack_of, delivery_of, is_present, kick_if}
+use Rattle.psci_ctl_model.specs.Replies.{ack_by, ack_of, delivery_of, is_this_life, kick_if}
 use Rattle.psci_ctl_model.specs.Replies.{may_follow, may_start, reply, reset_of, wake_of}
 use Rattle.psci_ctl_model.specs.Values.{Values}
 use Rattle.psci_ctl_model.proofs.Front.{is_front}
@@ -42,9 +42,9 @@ reset_effect : (b : BoardValue) (v : Values) (m : MessageValue) (t : Bool)
 reset_effect b v m true e life = (m.life, life, ltb-true _ _ e)
 reset_effect b v m false e life = (m.life, life)
 
--- a message of the present life
+-- a message of this life
 carried_out : (b : BoardValue) (v : Values) (m : MessageValue) (k : Kind) → ChildLaws b
-    → ((ps : List Part) → IsClaim ps → PartByPart ps) → v.life ≡ Some m.life
+    → ((ps : List Part) → AreClaims ps → PartByPart ps) → v.life ≡ Some m.life
     → m.core.number < cores b → length m.parts ≤ height b + 1 → ArePartsOf k m.parts
     → MayFollow b v (message_effect b m (ack_by b v m k) k)
 carried_out b v m kinds.Down children laws life inside few parts =
@@ -55,13 +55,13 @@ carried_out b v m kinds.Off children laws life inside few parts = (m.life, life)
 carried_out b v m kinds.Reset children laws life inside few parts =
     reset_effect b v m (nat_lt m.life b.lives) refl life
 
-present : (o : Option ℕ) (l : ℕ) → is_present o l ≡ true → o ≡ Some l
+present : (o : Option ℕ) (l : ℕ) → is_this_life o l ≡ true → o ≡ Some l
 present None l e = absurd (let no : false ≡ true = e in cc)
 present (Some k) l e = ap Some (eqb-true k l e)
 
 delivered : (b : BoardValue) (v : Values) (m : MessageValue) (t : Bool)
-    → is_present v.life m.life ≡ t → ChildLaws b
-    → ((ps : List Part) → IsClaim ps → PartByPart ps) → IsSendable b m
+    → is_this_life v.life m.life ≡ t → ChildLaws b
+    → ((ps : List Part) → AreClaims ps → PartByPart ps) → IsSendable b m
     → MayFollow b v (effect_of b (calls.Deliver m) (replies.Delivery (cond t
     (deliveries.Applied (ack_by b v m m.kind)) deliveries.Ignored)))
 unfolding effect_of
@@ -78,11 +78,11 @@ kicked b v c cause true (Some l) e more inside = (inside, more refl, (l, e))
 kicked b v c cause false o e more inside = tt
 
 pub follows : (b : BoardValue) (v : Values) (call : CtlCall) → ChildLaws b
-    → ((ps : List Part) → IsClaim ps → PartByPart ps) → IsCall b call
+    → ((ps : List Part) → AreClaims ps → PartByPart ps) → IsCall b call
     → MayFollow b v (effect_of b call (reply b v call))
 unfolding effect_of reply delivery_of wake_of reset_of
 follows b v (calls.Deliver m) children laws is =
-    delivered b v m (is_present v.life m.life) refl children laws is
+    delivered b v m (is_this_life v.life m.life) refl children laws is
 follows b v (calls.Wake core halted) children laws is =
     kicked b v core.number causes.Wake (may_follow b v core.number halted) v.life refl
     (λ e. ltb-true _ _ (and_parts (v.starts core.number == halted) _ e).1) is

@@ -7,11 +7,11 @@ use Rattle.std.proofs.lemmas.Option.{none-some, same_Some}
 use Rattle.psci_board.specs.Board.{BoardValue, IsBoard}
 use Rattle.psci_board.specs.Laws.{ChildLaws}
 use Rattle.psci_coord.specs.declared.part.Part.{Part}
-use Rattle.psci_link.specs.Message.{IsClaim, PartByPart}
+use Rattle.psci_link.specs.Message.{AreClaims, PartByPart}
 use Rattle.psci_ctl_model.specs.declared.call.CtlCall.{CtlCall}
 use Rattle.psci_ctl_model.specs.Changes.{after, change, next_life}
 use Rattle.psci_ctl_model.specs.Effects.{Effect, Nothing, Starts, Deepens, Ends, Begins, effect_of}
-use Rattle.psci_ctl_model.specs.Entry.{Entry}
+use Rattle.psci_ctl_model.specs.Exchange.{CtlExchange}
 use Rattle.psci_ctl_model.specs.Follows.{AreValues, MayFollow}
 use Rattle.psci_ctl_model.specs.History.{values_of}
 use Rattle.psci_ctl_model.specs.Legal.{IsCall, IsLegal}
@@ -103,15 +103,15 @@ change_kept b v Begins board are may = record {
 }
 
 pub reply_kept : (b : BoardValue) (v : Values) (call : CtlCall) → IsBoard b → ChildLaws b
-    → ((ps : List Part) → IsClaim ps → PartByPart ps) → AreValues b v → IsCall b call
+    → ((ps : List Part) → AreClaims ps → PartByPart ps) → AreValues b v → IsCall b call
     → AreValues b (after b call (reply b v call) v)
 unfolding after
 reply_kept b v call board children laws are is =
     change_kept b v (effect_of b call (reply b v call)) board are
     (follows b v call children laws is)
 
-pub legal_kept : (b : BoardValue) (h : List Entry) → IsBoard b → ChildLaws b
-    → ((ps : List Part) → IsClaim ps → PartByPart ps) → IsLegal b h → AreValues b (values_of b h)
+pub legal_kept : (b : BoardValue) (h : List CtlExchange) → IsBoard b → ChildLaws b
+    → ((ps : List Part) → AreClaims ps → PartByPart ps) → IsLegal b h → AreValues b (values_of b h)
 legal_kept b [] board children laws legal =
     subst (AreValues b) (sym (first_values b)) (first_kept b board)
 legal_kept b (e ∷ h) board children laws legal =

@@ -10,7 +10,7 @@ use Rattle.psci_ctl_model.specs.declared.delivery.Delivery.TheVariants.{Applied,
 use Rattle.psci_ctl_model.specs.declared.reply.CtlReply.{CtlReply}
 use Rattle.psci_ctl_model.specs.declared.reply.CtlReply.TheVariants as replies
 use Rattle.psci_ctl_model.specs.Effects.{effect_of}
-use Rattle.psci_ctl_model.specs.Entry.{Entry}
+use Rattle.psci_ctl_model.specs.Exchange.{CtlExchange}
 use Rattle.psci_ctl_model.specs.History.{depth, values_of}
 use Rattle.psci_ctl_model.specs.Lasting.{IsLive}
 use Rattle.psci_ctl_model.specs.Legal.{IsCall, IsLegal}
@@ -22,7 +22,7 @@ use Rattle.psci_ctl_model.proofs.Steps.{start}
 use Rattle.psci_ctl_model.proofs.Steps.{not_started, wake}
 
 -- one entry
-abbrev replied : CtlCall → CtlReply → List Entry → List Entry
+abbrev replied : CtlCall → CtlReply → List CtlExchange → List CtlExchange
 replied call reply h = record { call = call; reply = reply } ∷ h
 
 -- a core goes down alone

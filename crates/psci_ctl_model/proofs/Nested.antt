@@ -6,10 +6,10 @@ use Rattle.std.proofs.lemmas.Bool.{cases_Bool}
 use Rattle.psci_board.specs.Board.{BoardValue, cores, height, up}
 use Rattle.psci_board.specs.Laws.{ChildLaws, PathLaws}
 use Rattle.psci_coord.specs.declared.part.Part.{Part}
-use Rattle.psci_link.specs.Message.{IsClaim, PartByPart}
+use Rattle.psci_link.specs.Message.{AreClaims, PartByPart}
 use Rattle.psci_ctl_model.specs.Changes.{after, change}
 use Rattle.psci_ctl_model.specs.Effects.{Effect, Nothing, Starts, Deepens, Ends, Begins, effect_of}
-use Rattle.psci_ctl_model.specs.Entry.{Entry}
+use Rattle.psci_ctl_model.specs.Exchange.{CtlExchange}
 use Rattle.psci_ctl_model.specs.Follows.{IsFront, MayFollow}
 use Rattle.psci_ctl_model.specs.History.{depth, values_of}
 use Rattle.psci_ctl_model.specs.Lasting.{IsNested, NeverShallower, OnlyDeepens}
@@ -100,8 +100,8 @@ change_nested b v (Deepens c ps) laws is may deep =
 change_nested b v Ends laws is may deep = is
 change_nested b v Begins laws is may deep = cut_nested b 0 (λ l p. 3) laws (whole_nested b 3)
 
-pub all_nested : (b : BoardValue) (h : List Entry) → PathLaws b → ChildLaws b
-    → ((ps : List Part) → IsClaim ps → PartByPart ps) → IsLegal b h → NeverShallower b h
+pub all_nested : (b : BoardValue) (h : List CtlExchange) → PathLaws b → ChildLaws b
+    → ((ps : List Part) → AreClaims ps → PartByPart ps) → IsLegal b h → NeverShallower b h
     → IsNested b (depth b h)
 unfolding values_of after
 all_nested b [] laws children parts legal deep = cut_nested b 0 (λ l p. 3) laws (whole_nested b 3)

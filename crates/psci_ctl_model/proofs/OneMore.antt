@@ -6,7 +6,7 @@ use Rattle.psci_board.specs.Board.{BoardValue}
 use Rattle.psci_coord.specs.declared.part.Part.{Part}
 use Rattle.psci_ctl_model.specs.Changes.{after, change}
 use Rattle.psci_ctl_model.specs.Effects.{Effect, Nothing, Starts, Deepens, Ends, Begins}
-use Rattle.psci_ctl_model.specs.Entry.{Entry}
+use Rattle.psci_ctl_model.specs.Exchange.{CtlExchange}
 use Rattle.psci_ctl_model.specs.History.{cause_by, depth_by, effect_in}
 use Rattle.psci_ctl_model.specs.History.{life_by, starts_by, values_of}
 use Rattle.psci_link.specs.OnlyIf.{only_if}
@@ -59,7 +59,7 @@ pub first_values : (b : BoardValue) → values_of b [] ≡ start_of_life b
 unfolding values_of
 first_values b = refl
 
-pub values_more : (b : BoardValue) (e : Entry) (h : List Entry)
+pub values_more : (b : BoardValue) (e : CtlExchange) (h : List CtlExchange)
     → values_of b (e ∷ h) ≡ after b e.call e.reply (values_of b h)
 unfolding values_of after
 values_more b e h = said_change b (effect_in b e) (values_of b h)

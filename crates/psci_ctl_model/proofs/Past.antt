@@ -6,7 +6,7 @@ use Rattle.std.proofs.lemmas.Option.{none-some, same_Some}
 use Rattle.psci_board.specs.Board.{BoardValue}
 use Rattle.psci_board.specs.declared.node.Node.{Node}
 use Rattle.psci_ctl_model.specs.Effects.{Effect, Nothing, Starts, Deepens, Ends, Begins}
-use Rattle.psci_ctl_model.specs.Entry.{Entry}
+use Rattle.psci_ctl_model.specs.Exchange.{CtlExchange}
 use Rattle.psci_ctl_model.specs.History.{effect_in, life, life_by, starts, starts_by}
 use Rattle.psci_ctl_model.specs.Lasting.{IsLive}
 use Rattle.psci_ctl_model.specs.Values.{starts_below}
@@ -25,7 +25,7 @@ over_stays Ends o was h = tt
 over_stays Begins None was h = tt
 over_stays Begins (Some l) was h = omega (arith, h)
 
-over_later : (b : BoardValue) (es h : List Entry) (was : ℕ) → IsOver (life b h) was
+over_later : (b : BoardValue) (es h : List CtlExchange) (was : ℕ) → IsOver (life b h) was
     → IsOver (life b (es ++ h)) was
 over_later b [] h was over = over
 over_later b (e ∷ es) h was over =
@@ -44,7 +44,7 @@ grows_by true n m h = omega arith
 grows_by false n m h = h
 
 -- either the life is over, or it goes on and no core has fewer starts
-abbrev Later : BoardValue → List Entry → List Entry → ℕ → Type 0
+abbrev Later : BoardValue → List CtlExchange → List CtlExchange → ℕ → Type 0
 Later b now before was =
     IsOver (life b now) was ⊎ ((life b now ≡ Some was) × IsLater (starts b now) (starts b before))
 
@@ -60,7 +60,7 @@ one_later b Ends o s t was e later = inl tt
 one_later b Begins o s t was e later =
     inl (subst (λ p. IsOver (option_map (λ l. l + 1) p) was) (sym e) (omega arith))
 
-later : (b : BoardValue) (es h : List Entry) (was : ℕ) → life b h ≡ Some was
+later : (b : BoardValue) (es h : List CtlExchange) (was : ℕ) → life b h ≡ Some was
     → Later b (es ++ h) h was
 later b [] h was e = inr (e, record { grown = λ k. omega arith })
 later b (x ∷ es) h was e = elim (later b es h was e) [
@@ -70,12 +70,13 @@ later b (x ∷ es) h was e = elim (later b es h was e) [
 ]
 
 -- a generation that is past stays so
-later_sum : (b : BoardValue) (now before : List Entry) (n : Node)
+later_sum : (b : BoardValue) (now before : List CtlExchange) (n : Node)
     → IsLater (starts b now) (starts b before)
     → starts_below b (starts b before) n ≤ starts_below b (starts b now) n
 later_sum b now before n is = starts_grow b (starts b before) (starts b now) is.grown n
 
-pub never_again : (b : BoardValue) (later_still since before : List Entry) (was : ℕ) (n : Node)
+pub never_again : (b : BoardValue) (later_still since before : List CtlExchange) (was : ℕ)
+    (n : Node)
     (g : ℕ) → IsLive b before was n g → (IsLive b (since ++ before) was n g → ⊥)
     → IsLive b (later_still ++ (since ++ before)) was n g → ⊥
 never_again b later_still since before was n g first gone again =

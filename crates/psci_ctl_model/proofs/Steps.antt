@@ -13,7 +13,7 @@ use Rattle.psci_ctl_model.specs.declared.reply.CtlReply.TheVariants as replies
 use Rattle.psci_link.specs.declared.start.Cause.{Cause}
 use Rattle.psci_link.specs.declared.start.Start.{Start}
 use Rattle.psci_ctl_model.specs.Changes.{after}
-use Rattle.psci_ctl_model.specs.Entry.{Entry}
+use Rattle.psci_ctl_model.specs.Exchange.{CtlExchange}
 use Rattle.psci_ctl_model.specs.History.{values_of}
 use Rattle.psci_ctl_model.specs.Legal.{legal_reply}
 use Rattle.psci_ctl_model.specs.Replies.{last_start}
@@ -92,13 +92,13 @@ not_started = replies.Kick kicks.Ignored
 -- Histories -----------------------------------------------------------------------------------
 
 -- the history of these calls, from a history on
-abbrev pub history_from : BoardValue → List Entry → List CtlCall → List Entry
+abbrev pub history_from : BoardValue → List CtlExchange → List CtlCall → List CtlExchange
 history_from b h [] = h
 history_from b h (call ∷ calls) =
     history_from b (record { call = call; reply = legal_reply b h call } ∷ h) calls
 
 -- the history of these calls, of which the first is the oldest
-abbrev pub history_of : BoardValue → List CtlCall → List Entry
+abbrev pub history_of : BoardValue → List CtlCall → List CtlExchange
 history_of b calls = history_from b [] calls
 
 -- the replies to these calls, in their order
@@ -106,7 +106,7 @@ abbrev pub replies_to : BoardValue → List CtlCall → List CtlReply
 replies_to b calls = reverse (map (λ e. e.reply) (history_of b calls))
 
 -- the values that are kept along a history
-abbrev pub kept_along : BoardValue → List Entry → Values
+abbrev pub kept_along : BoardValue → List CtlExchange → Values
 kept_along b [] = start_of_life b
 kept_along b (e ∷ h) = after b e.call e.reply (kept_along b h)
 
@@ -130,6 +130,6 @@ shown v =
     }
 
 -- a history says this, and so is what is kept along it
-pub record Says (b : BoardValue) (h : List Entry) (values : Shown) : Type 0 where
+pub record Says (b : BoardValue) (h : List CtlExchange) (values : Shown) : Type 0 where
   pub history : shown (values_of b h) ≡ values
   pub kept : shown (kept_along b h) ≡ values

@@ -6,7 +6,7 @@ use Rattle.psci_link.specs.declared.start.Cause.{Cause}
 use Rattle.psci_link.specs.declared.start.Cause.TheVariants as causes
 use Rattle.psci_ctl_model.specs.Changes.{after}
 use Rattle.psci_ctl_model.specs.Effects.{effect_of}
-use Rattle.psci_ctl_model.specs.Entry.{Entry}
+use Rattle.psci_ctl_model.specs.Exchange.{CtlExchange}
 use Rattle.psci_ctl_model.specs.History.{values_of}
 use Rattle.psci_ctl_model.specs.Parts.{applied, is_stale}
 use Rattle.psci_ctl_model.specs.Replies.{delivery_of, reply, reset_of, wake_of}
@@ -17,11 +17,11 @@ use Rattle.psci_ctl_model.proofs.Steps.{part, reset, reset_system, shown, start,
 abbrev last : ℕ → ℕ → Cause → Option Start
 last life number cause = Some (record { life = life; number = number; cause = cause })
 
--- a level of which no domain runs, and none above the board
+-- a level of which no domain is fully on, and none above the board
 abbrev deep : List ℕ
 deep = 3 ∷ 3 ∷ 3 ∷ 3 ∷ 3 ∷ []
 
--- the boot core was started, and its path runs
+-- the boot core was started, and its path is fully on
 at_first : Says board (history_of board []) (record {
   life = Some 1;
   starts = 1 ∷ 0 ∷ 0 ∷ 0 ∷ 0 ∷ [];
@@ -32,7 +32,7 @@ at_first : Says board (history_of board []) (record {
 unfolding values_of up
 at_first = record { history = refl; kept = refl }
 
--- a Start message: the core's path runs, its cluster's other core stays down
+-- a Start message: the core's path is fully on, its cluster's other core stays down
 on : Says board (history_of board (start 3 1 0 ∷ [])) (record {
   life = Some 1;
   starts = 1 ∷ 0 ∷ 0 ∷ 1 ∷ 0 ∷ [];
@@ -78,7 +78,7 @@ partly : Says board (history_of board
 unfolding values_of after effect_of reply delivery_of applied is_stale starts_below up
 partly = record { history = refl; kept = refl }
 
--- a wake-up from a system that is powered down: the whole path runs again
+-- a wake-up from a system that is powered down: the whole path is fully on again
 woken : Says board (history_of board
     (down 0 1 1 (part 0 3 1 ∷ part 1 3 1 ∷ part 2 3 1 ∷ []) ∷ wake 0 1 ∷ [])) (record {
       life = Some 1;
@@ -126,7 +126,7 @@ unfolding values_of after effect_of reply delivery_of reset_of up
 begun_again = record { history = refl; kept = refl }
 
 -- After Off there is no life, and no core was started; so after a Reset in the last life.
-record IsOff (b : BoardValue) (h : List Entry) : Type 0 where
+record IsOff (b : BoardValue) (h : List CtlExchange) : Type 0 where
   life : (shown (values_of b h)).life ≡ None
   starts : (shown (values_of b h)).starts ≡ 0 ∷ 0 ∷ 0 ∷ 0 ∷ 0 ∷ []
   last : (shown (values_of b h)).last ≡ None ∷ None ∷ None ∷ None ∷ None ∷ []

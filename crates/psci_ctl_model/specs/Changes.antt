@@ -25,7 +25,7 @@ with_path_on b c depth level place = if is_on_path b c level place then 0 else d
 abbrev pub next_life : Option ℕ → Option ℕ
 next_life life = option_map (λ l. l + 1) life
 
--- a core is started: its path runs
+-- a core is started: its path is fully on
 abbrev pub with_start : BoardValue → ℕ → Cause → Values → Values
 with_start b c cause v = record v {
   starts = one_more v.starts c;

@@ -5,7 +5,7 @@ use Rattle.psci_board.specs.Board.{BoardValue, cores, height, up}
 use Rattle.psci_board.specs.declared.node.Node.{Node}
 use Rattle.psci_coord.specs.declared.part.Part.{Part}
 use Rattle.psci_ctl_model.specs.Effects.{Effect, Nothing, Starts, Deepens, Ends, Begins}
-use Rattle.psci_ctl_model.specs.Entry.{Entry}
+use Rattle.psci_ctl_model.specs.Exchange.{CtlExchange}
 use Rattle.psci_ctl_model.specs.History.{depth, effect_in, life, starts}
 use Rattle.psci_ctl_model.specs.Values.{first_depth, starts_below}
 use Rattle.psci_board.specs.Paths.{is_on_path}
@@ -13,7 +13,7 @@ use Rattle.psci_board.specs.Paths.{is_on_path}
 -- Live parts -----------------------------------------------------------------------------------
 
 -- a part of a life, sent for a domain with this generation, is live after a history
-pub record IsLive (b : BoardValue) (h : List Entry) (sent_in : ℕ) (n : Node) (sum : ℕ)
+pub record IsLive (b : BoardValue) (h : List CtlExchange) (sent_in : ℕ) (n : Node) (sum : ℕ)
     : Type 0 where
   pub life : life b h ≡ Some sent_in
   pub generation : sum ≡ starts_below b (starts b h) n
@@ -37,15 +37,15 @@ keeps_life (Deepens c ps) = true
 keeps_life Ends = false
 keeps_life Begins = false
 
--- this part was applied to the domain of this level and place, in the present life
-abbrev pub WasApplied : BoardValue → List Entry → ℕ → ℕ → Part → Type 0
+-- this part was applied to the domain of this level and place, in this life
+abbrev pub WasApplied : BoardValue → List CtlExchange → ℕ → ℕ → Part → Type 0
 WasApplied b [] level place p = ⊥
 WasApplied b (e ∷ h) level place p =
     Applies b (effect_in b e) level place p
     ⊎ ((keeps_life (effect_in b e) ≡ true) × WasApplied b h level place p)
 
 -- a live part that was applied in this life made the domain as deep as it is
-pub record IsApplied (b : BoardValue) (h : List Entry) (level place : ℕ) : Type 0 where
+pub record IsApplied (b : BoardValue) (h : List CtlExchange) (level place : ℕ) : Type 0 where
   pub part : Part
   pub was : WasApplied b h level place part
   pub depth : depth b h level place ≡ part.depth
@@ -53,7 +53,7 @@ pub record IsApplied (b : BoardValue) (h : List Entry) (level place : ℕ) : Typ
       (record { level = level; place = place })
 
 -- the domain is as deep as at the start of the life, and no core below it was started since
-pub record IsFirst (b : BoardValue) (h : List Entry) (level place : ℕ) : Type 0 where
+pub record IsFirst (b : BoardValue) (h : List CtlExchange) (level place : ℕ) : Type 0 where
   pub depth : depth b h level place ≡ first_depth b level place
   pub still : starts_below b (starts b h) (record { level = level; place = place }) ≡ 0
 
@@ -68,8 +68,8 @@ OnlyDeepens b depth (Deepens c ps) = (level : ℕ) (p : Part) → slice_get ps l
 OnlyDeepens b depth Ends = Unit {0}
 OnlyDeepens b depth Begins = Unit {0}
 
--- nor does any entry of a history
-abbrev pub NeverShallower : BoardValue → List Entry → Type 0
+-- nor does any exchange of a history
+abbrev pub NeverShallower : BoardValue → List CtlExchange → Type 0
 NeverShallower b [] = Unit {0}
 NeverShallower b (e ∷ h) = OnlyDeepens b (depth b h) (effect_in b e) × NeverShallower b h
 

@@ -36,7 +36,7 @@ pub record SumLaws (b : BoardValue) : Type 0 where
 
 -- A core is started.
 pub record StartLaws (b : BoardValue) (v : Values) (c : ℕ) (cause : Cause) : Type 0 where
-  -- each domain on its path runs, and its generation is greater by 1
+  -- each domain on its path is fully on, and the sum of the starts below it is greater by 1
   pub runs : (level : ℕ) → level ≤ height b
       → (with_start b c cause v).depth level (up b level c) ≡ 0
   pub counts : (level : ℕ) → level ≤ height b

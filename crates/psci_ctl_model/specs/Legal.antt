@@ -5,7 +5,7 @@ use Rattle.psci_link.specs.Message.{MessageValue, IsMessage}
 use Rattle.psci_ctl_model.specs.declared.call.CtlCall.{CtlCall}
 use Rattle.psci_ctl_model.specs.declared.call.CtlCall.TheVariants as calls
 use Rattle.psci_ctl_model.specs.declared.reply.CtlReply.{CtlReply}
-use Rattle.psci_ctl_model.specs.Entry.{Entry}
+use Rattle.psci_ctl_model.specs.Exchange.{CtlExchange}
 use Rattle.psci_ctl_model.specs.History.{values_of}
 use Rattle.psci_ctl_model.specs.Replies.{reply}
 
@@ -26,17 +26,17 @@ IsCall b (calls.Wake core halted) = core.number < cores b
 IsCall b (calls.Reset core) = core.number < cores b
 
 -- the one legal reply to a call after a history
-abbrev pub legal_reply : BoardValue → List Entry → CtlCall → CtlReply
+abbrev pub legal_reply : BoardValue → List CtlExchange → CtlCall → CtlReply
 legal_reply b h call = reply b (values_of b h) call
 
--- a history of calls of this board, in which every reply is the one reply after the entries before
--- it
-abbrev pub IsLegal : BoardValue → List Entry → Type 0
+-- a history of calls of this board, in which every reply is the one reply after the exchanges
+-- before it
+abbrev pub IsLegal : BoardValue → List CtlExchange → Type 0
 IsLegal b [] = Unit {0}
 IsLegal b (e ∷ h) = (e.reply ≡ legal_reply b h e.call) × IsCall b e.call × IsLegal b h
 
 -- the legal history of these calls, both with the newest first
-abbrev pub legal_history : BoardValue → List CtlCall → List Entry
+abbrev pub legal_history : BoardValue → List CtlCall → List CtlExchange
 legal_history b [] = []
 legal_history b (call ∷ calls) =
     let h = legal_history b calls in

@@ -1,6 +1,6 @@
 pub mod Changes
 pub mod Effects
-pub mod Entry
+pub mod Exchange
 pub mod Follows
 pub mod History
 pub mod Lasting

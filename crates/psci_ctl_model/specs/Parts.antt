@@ -23,7 +23,8 @@ laid b c ps depth level place =
     then depth_or (slice_get ps level) (depth level place)
     else depth level place
 
--- a part, sent in the present life, is live: no core below its domain was started since
+-- a part, sent in this life, is live: its generation counts every start below its domain, so no
+-- core below was started since, or before without having entered
 abbrev pub is_live : BoardValue → Values → ℕ → Part → Bool
 is_live b v c p = p.generation == starts_below b v.starts (domain_of b c p.level)
 

@@ -22,9 +22,9 @@ use Rattle.psci_ctl_model.specs.Values.{Values}
 -- Messages -------------------------------------------------------------------------------------
 
 -- there is a life, and it is this one
-abbrev pub is_present : Option ℕ → ℕ → Bool
-is_present None life = false
-is_present (Some present) life = present == life
+abbrev pub is_this_life : Option ℕ → ℕ → Bool
+is_this_life None life = false
+is_this_life (Some present) life = present == life
 
 -- a core may be started once more
 abbrev pub may_start : BoardValue → Values → ℕ → Bool
@@ -45,9 +45,9 @@ ack_of m count stale = record {
   stale = stale;
 }
 
--- What is done with a message of the present life, by its kind. A Start starts its core, unless the
--- core was started since the message was sent, or can't be started once more. A Down has its parts
--- applied, as far as they go. Off and Reset are always carried out.
+-- What is done with a message of this life, by its kind. A Start starts its core, unless the core
+-- was started since the firmware last knew it to enter, or can't be started once more. A Down has
+-- its parts applied, as far as they go. Off and Reset are always carried out.
 abbrev pub ack_by : BoardValue → Values → MessageValue → Kind → AckValue
 ack_by b v m kinds.Down =
     ack_of m (applied b v m.core.number m.parts) (is_stale b v m.core.number m.parts)
@@ -59,7 +59,7 @@ ack_by b v m kinds.Reset = ack_of m 1 false
 -- what becomes of a message: one of another life is ignored, and so is each without a life
 unfoldable pub delivery_of : BoardValue → Values → MessageValue → Delivery
 delivery_of b v m =
-    if is_present v.life m.life
+    if is_this_life v.life m.life
     then deliveries.Applied (ack_by b v m m.kind)
     else deliveries.Ignored
 

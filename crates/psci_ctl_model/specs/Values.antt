@@ -10,7 +10,7 @@ use Rattle.psci_link.specs.declared.start.Cause.TheVariants as causes
 -- The values of the power controller. Of a core or a domain that the board does not have they say
 -- what they say of one that is off and was never started.
 pub record Values : Type 0 where
-  -- the present life, counted from 1; none once the system is off
+  -- this life, counted from 1; none once the system is off
   pub life : Option ℕ
   -- how many times a core was started in this life: 0 without a life
   pub starts : ℕ → ℕ
@@ -21,7 +21,7 @@ pub record Values : Type 0 where
 
 -- Domains --------------------------------------------------------------------------------------
 
--- the generation of a domain: the sum of the starts of the cores below it
+-- the sum of the starts of the cores below a domain
 unfoldable pub starts_below : BoardValue → (ℕ → ℕ) → Node → ℕ
 starts_below b starts n = sum_by starts (below b n)
 
@@ -31,7 +31,7 @@ starts_below b starts n = sum_by starts (below b n)
 abbrev pub first_starts : ℕ → ℕ
 first_starts c = if c == 0 then 1 else 0
 
--- the boot core's path runs, every other domain is powered down
+-- the boot core's path is fully on, every other domain is powered down
 abbrev pub first_depth : BoardValue → ℕ → ℕ → ℕ
 first_depth b level place = if is_on_path b 0 level place then 0 else 3
 

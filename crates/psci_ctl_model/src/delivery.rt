@@ -7,7 +7,7 @@ use psci_link::Ack;
 /// What becomes of a message.
 #[derive(Debug, PartialEq, Eq, Drop)]
 pub enum Delivery {
-    /// It was of the present life, and is acknowledged: as carried out, in part or not at all.
+    /// It was of this life, and is acknowledged: as carried out, in part or not at all.
     Applied(Ack),
     /// It was of another life, or there is no life. Nothing changed.
     Ignored,

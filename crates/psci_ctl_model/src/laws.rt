@@ -8,7 +8,7 @@ ghost use Rattle.psci_ctl_model.specs.declared.call.CtlCall.{CtlCall};
 ghost use Rattle.psci_link.specs.declared.start.Cause.{Cause};
 ghost use Rattle.psci_ctl_model.specs.Changes.{after, change};
 ghost use Rattle.psci_ctl_model.specs.Effects.{Effect, effect_of};
-ghost use Rattle.psci_ctl_model.specs.Entry.{Entry};
+ghost use Rattle.psci_ctl_model.specs.Exchange.{CtlExchange};
 ghost use Rattle.psci_ctl_model.specs.Follows.{AreValues, MayFollow};
 ghost use Rattle.psci_ctl_model.specs.History.{depth, life, values_of};
 ghost use Rattle.psci_ctl_model.specs.Lasting.{IsApplied, IsFirst, IsLive, IsNested};
@@ -22,21 +22,21 @@ use psci_board::{law_children, law_paths, law_sizes};
 use psci_link::law_parts;
 
 /// The values that a history says are those of the first life's start before any call, and after
-/// one more entry those that the entry leaves. So kept values say what the history says, whichever
-/// entries it has.
+/// one more exchange those that the exchange leaves. So kept values say what the history says,
+/// whichever exchanges it has.
 pub fn law_values()
     ensures first { (b : BoardValue) → values_of b [] ≡ start_of_life b }
-    ensures more { (b : BoardValue) (e : Entry) (h : List Entry)
+    ensures more { (b : BoardValue) (e : CtlExchange) (h : List CtlExchange)
         → values_of b (e ∷ h) ≡ after b e.call e.reply (values_of b h) }
 {}
 
-/// The generation of a domain counts each start below it once, and nothing else.
-pub fn law_generations()
+/// The sum of the starts below a domain counts each of them once, and nothing else.
+pub fn law_sums()
     ensures { (b : BoardValue) → SumLaws b }
 {}
 
-/// After a start of a core each domain on its path runs and has a greater generation, and no other
-/// domain is changed.
+/// After a start of a core each domain on its path is fully on, the sum of the starts below it is
+/// greater by 1, and no other domain is changed.
 pub fn law_start()
     ensures { (b : BoardValue) (v : Values) (c : ℕ) (cause : Cause) → c < cores b
         → StartLaws b v c cause }
@@ -67,7 +67,7 @@ pub fn law_limits()
         → MayFollow b v e → AreValues b (change b e v) }
     ensures reply { (b : BoardValue) (v : Values) (call : CtlCall) → IsBoard b → AreValues b v
         → IsCall b call → AreValues b (after b call (reply b v call) v) }
-    ensures legal { (b : BoardValue) (h : List Entry) → IsBoard b → IsLegal b h
+    ensures legal { (b : BoardValue) (h : List CtlExchange) → IsBoard b → IsLegal b h
         → AreValues b (values_of b h) }
 {
     law_children();
@@ -78,21 +78,22 @@ pub fn law_limits()
 pub fn law_one_reply()
     ensures some { (b : BoardValue) (calls : List CtlCall) → AreCalls b calls
         → IsLegal b (legal_history b calls) }
-    ensures only { (b : BoardValue) (h : List Entry) → IsLegal b h
+    ensures only { (b : BoardValue) (h : List CtlExchange) → IsLegal b h
         → h ≡ legal_history b (map (λ e. e.call) h) }
 {}
 
 /// A part that was live and is so no more is never live again, whatever the calls and replies.
 pub fn law_past()
-    ensures { (b : BoardValue) (then_on since before : List Entry) (life : ℕ) (n : Node) (sum : ℕ)
+    ensures { (b : BoardValue) (then_on since before : List CtlExchange) (life : ℕ) (n : Node)
+        (sum : ℕ)
         → IsLive b before life n sum → (IsLive b (since ++ before) life n sum → ⊥)
         → IsLive b (then_on ++ (since ++ before)) life n sum → ⊥ }
 {}
 
-/// In a life a domain that doesn't run is as deep as a live part made it that was applied in this
-/// life, or as at the life's start, with no core below it started since.
+/// In a life a domain that is not fully on is as deep as a live part made it that was applied in
+/// this life, or as at the life's start, with no core below it started since.
 pub fn law_depths()
-    ensures { (b : BoardValue) (h : List Entry) (level place life_now : ℕ) → IsBoard b
+    ensures { (b : BoardValue) (h : List CtlExchange) (level place life_now : ℕ) → IsBoard b
         → IsLegal b h → level ≤ height b → life b h ≡ Some life_now → 0 < depth b h level place
         → IsApplied b h level place ⊎ IsFirst b h level place }
 {
@@ -106,7 +107,7 @@ pub fn law_depths()
 pub fn law_nesting()
     ensures change { (b : BoardValue) (v : Values) (e : Effect) → IsBoard b → IsNested b v.depth
         → MayFollow b v e → OnlyDeepens b v.depth e → IsNested b (change b e v).depth }
-    ensures legal { (b : BoardValue) (h : List Entry) → IsBoard b → IsLegal b h
+    ensures legal { (b : BoardValue) (h : List CtlExchange) → IsBoard b → IsLegal b h
         → NeverShallower b h → IsNested b (depth b h) }
 {
     law_paths();

@@ -3,10 +3,12 @@
 //!
 //! - A *start* is one power-up of a core; the starts of a core are numbered from 1 in each life.
 //! - A *life* is the time from one power-up of the whole system to its next reset.
-//! - The *generation* of a power domain is the sum of the starts of the cores below it.
-//! - A part of a message is *live* while its generation is that of its domain, in its life.
-//! - A *depth* is how far a domain is down: 0 run, 1 standby, 2 retention, 3 power-down.
-//! - An *entry* is an item of a history: one call with its reply.
+//! - The *generation* of a claim is the sum of the starts of the cores below its domain that the
+//!   firmware knew.
+//! - A part of a message is *live* while its generation is the sum of the starts below its domain,
+//!   in its life.
+//! - A *depth* is how far a domain is down: 0 fully on, 1 standby, 2 retention, 3 power-down.
+//! - An *exchange* is an item of a history: one call with its reply.
 #![tactic(auto)]
 
 mod call;
@@ -19,7 +21,7 @@ pub use call::CtlCall;
 pub use delivery::Delivery;
 pub use kick::Kick;
 pub use laws::{
-    law_acknowledgements, law_depths, law_generations, law_limits, law_nesting, law_one_reply,
+    law_acknowledgements, law_depths, law_sums, law_limits, law_nesting, law_one_reply,
     law_past, law_replies, law_start, law_values,
 };
 pub use psci_link::{Cause, Start};

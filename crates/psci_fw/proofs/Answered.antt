@@ -18,19 +18,19 @@ use Rattle.psci_fw_model.specs.declared.outcome.Act.TheVariants.{Resume}
 use Rattle.psci_fw_model.specs.declared.outcome.Outcome.{Outcome}
 use Rattle.psci_link.specs.declared.start.Start.{Start}
 use Rattle.psci_fw_model.specs.After.{change}
-use Rattle.psci_fw_model.specs.Changes.{with_arrival, with_claim, with_phase, with_rest}
-use Rattle.psci_fw_model.specs.Claims.{leaving_claim, off_parts, suspend_parts}
+use Rattle.psci_fw_model.specs.Changes.{with_arrival, with_claims, with_phase, with_rest}
+use Rattle.psci_fw_model.specs.Claims.{leaving_claims, off_parts, suspend_parts}
 use Rattle.psci_fw_model.specs.CpuOff.{off_message}
-use Rattle.psci_fw_model.specs.CpuSuspend.{ask_named, sleeps, suspend_asked}
-use Rattle.psci_fw_model.specs.Effects.{function_effect, going_off, rest_named, suspended}
+use Rattle.psci_fw_model.specs.CpuSuspend.{ask_named, suspend_answer, suspend_asked}
+use Rattle.psci_fw_model.specs.Effects.{function_effect, going_off, rest_named, suspends}
 use Rattle.psci_fw_model.specs.Entering.{enter_fault, enter_outcome, outcome_at, resumes}
 use Rattle.psci_fw_model.specs.Lives.{in_life, start_of_life}
 use Rattle.psci_fw_model.specs.Outcomes.{message_for, stops, stops_with}
 use Rattle.psci_fw_model.specs.Phases.{Away, Phase, Running, unless_pending}
 use Rattle.psci_fw_model.specs.Values.{Values}
 use Rattle.psci_fw_model.specs.Views.{view}
-use Rattle.psci_fw.specs.Calls.{IsAnswered}
-use Rattle.psci_fw.specs.Sleeping.{slept_by}
+use Rattle.psci_fw.specs.Calls.{FunctionAnswered}
+use Rattle.psci_fw.specs.Suspending.{left_by_suspend}
 use Rattle.psci_fw.specs.Ways.{way_by, way_on}
 use Rattle.psci_fw_state.specs.Claims.{MayClaim}
 use Rattle.psci_fw_state.proofs.Equal.{arrived, same_values, updated_same}
@@ -39,10 +39,10 @@ use Rattle.psci_fw_state.proofs.Equal.{arrived, same_values, updated_same}
 
 -- the parts of a core that is off or going off now
 pub leaving_off : (b : BoardValue) (v w : Values) (c : ℕ) (parts : List Part)
-    → w ≡ with_phase c Away v → parts ≡ leaving_claim b (view b w) c w.mode
+    → w ≡ with_phase c Away v → parts ≡ leaving_claims b (view b w) c w.mode
     → parts ≡ off_parts b v c
 unfolding off_parts
-leaving_off b v w c parts e is = is ∙ ap (λ (x : Values). leaving_claim b (view b x) c x.mode) e
+leaving_off b v w c parts e is = is ∙ ap (λ (x : Values). leaving_claims b (view b x) c x.mode) e
 
 pub left_may : (b : BoardValue) (v w : Values) (c : ℕ) (parts whole : List Part)
     → w ≡ with_phase c Away v → parts ≡ whole → MayClaim b c whole v.granted
@@ -73,20 +73,20 @@ rest_away v c = same_values _ _ (record {
 })
 
 pub off_answered : (b : BoardValue) (v w u : Values) (c : ℕ) (o : Outcome) (parts : List Part)
-    → w ≡ with_phase c Away v → parts ≡ leaving_claim b (view b w) c w.mode
+    → w ≡ with_phase c Away v → parts ≡ leaving_claims b (view b w) c w.mode
     → o ≡ stops_with (message_for w Down c parts)
-    → u ≡ with_claim b (message_for w Down c parts) w
-    → IsAnswered b v c requests.CpuOff o u
+    → u ≡ with_claims b (message_for w Down c parts) w
+    → FunctionAnswered b v c requests.CpuOff o u
 off_answered b v w u c o parts e is answer left =
     let same = leaving_off b v w c parts e is in
     let stopped = parked b v w c o parts e same answer in
     record {
       answer = stopped;
       after = left
-          ∙ ap (λ (x : Values). with_claim b (message_for x Down c parts) x) e
-          ∙ ap (λ (ps : List Part). with_claim b (message_for v Down c ps) (with_phase c Away v))
+          ∙ ap (λ (x : Values). with_claims b (message_for x Down c parts) x) e
+          ∙ ap (λ (ps : List Part). with_claims b (message_for v Down c ps) (with_phase c Away v))
           same
-          ∙ ap (with_claim b (off_message b v c)) (sym (rest_away v c))
+          ∙ ap (with_claims b (off_message b v c)) (sym (rest_away v c))
           ∙ ap (λ (x : Outcome). change b (function_effect b c requests.CpuOff x.act x.message) v)
           (sym stopped);
     }
@@ -112,27 +112,28 @@ goes_on v c e = same_values _ _ (record {
 module _ (b : BoardValue) (v : Values) (c word : ℕ) (opening : Opening) (ask : List ℕ)
     (running : v.phase c ≡ Running) (named : ask_named b word ≡ Ok ask) where
   slept_after : (x : Result (List Part) Osi)
-      → slept_by b v c (suspended opening ask) (sleeps v c x).message
+      → left_by_suspend b v c (suspends opening ask) (suspend_answer v c x).message
       ≡ change b (function_effect b c (requests.CpuSuspend word opening.address opening.context)
-      (sleeps v c x).act (sleeps v c x).message) v
+      (suspend_answer v c x).act (suspend_answer v c x).message) v
   slept_after (Ok parts) =
       ap (λ (n : Result (List ℕ) BadState).
-      with_claim b (message_for v Down c parts) (with_rest c (rest_named opening n) v))
+      with_claims b (message_for v Down c parts) (with_rest c (rest_named opening n) v))
       (sym named)
   slept_after (Err reason) = goes_on v c running
 
   pub suspended_answered : (o : Outcome) (w : Values)
       → (is_deep ask && not (may_enter b opening.address)) ≡ false → (v.known c ≡ b.starts → ⊥)
-      → o ≡ sleeps v c (suspend_parts b v c ask)
-      → w ≡ slept_by b v c (suspended opening ask) o.message
-      → IsAnswered b v c (requests.CpuSuspend word opening.address opening.context) o w
+      → o ≡ suspend_answer v c (suspend_parts b v c ask)
+      → w ≡ left_by_suspend b v c (suspends opening ask) o.message
+      → FunctionAnswered b v c (requests.CpuSuspend word opening.address opening.context) o w
   suspended_answered o w may low is left =
       let other : (v.known c == b.starts) ≡ false = grind arith in
       let asked : suspend_asked b v c opening.address (Ok ask)
-      ≡ sleeps v c (suspend_parts b v c ask) = rw (may, other) refl in
+      ≡ suspend_answer v c (suspend_parts b v c ask) = rw (may, other) refl in
       record {
         answer = is ∙ sym (ap (suspend_asked b v c opening.address) named ∙ asked);
-        after = left ∙ ap (λ (x : Outcome). slept_by b v c (suspended opening ask) x.message) is
+        after = left ∙ ap
+            (λ (x : Outcome). left_by_suspend b v c (suspends opening ask) x.message) is
             ∙ slept_after (suspend_parts b v c ask)
             ∙ ap (λ (x : Outcome). change b (function_effect b c
             (requests.CpuSuspend word opening.address opening.context) x.act x.message) v) (sym is);

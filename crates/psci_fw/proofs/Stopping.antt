@@ -9,7 +9,7 @@ use Rattle.psci_board.specs.Board.{BoardValue, cores, height, may_enter, up}
 use Rattle.psci_board.specs.Laws.{PathLaws}
 use Rattle.psci_coord.specs.declared.part.Part.{Part}
 use Rattle.psci_coord.specs.Claim.{off_wish, own_wish}
-use Rattle.psci_coord.specs.Claim.{least_wish, platform_claim}
+use Rattle.psci_coord.specs.Claim.{least_wish, platform_claims}
 use Rattle.psci_coord.specs.Laws.{ClaimLaws, LastCoreLaws}
 use Rattle.psci_coord.specs.View.{PowerView}
 use Rattle.psci_link.specs.declared.kind.Kind.TheVariants.{Down}
@@ -23,9 +23,9 @@ use Rattle.psci_link.specs.declared.start.Start.{Start}
 use Rattle.psci_fw_model.specs.After.{change}
 use Rattle.psci_fw_model.specs.Calls.{function_outcome, outcome_of}
 use Rattle.psci_fw_model.specs.Changes.{Rest, with_arrival, with_phase}
-use Rattle.psci_fw_model.specs.Claims.{leaving_claim, off_parts, suspend_claim, suspend_parts}
+use Rattle.psci_fw_model.specs.Claims.{leaving_claims, off_parts, suspend_claims, suspend_parts}
 use Rattle.psci_fw_model.specs.CpuOff.{off_message}
-use Rattle.psci_fw_model.specs.CpuSuspend.{ask_named, sleeps, suspend_asked}
+use Rattle.psci_fw_model.specs.CpuSuspend.{ask_named, suspend_answer, suspend_asked}
 use Rattle.psci_fw_model.specs.Effects.{Effect, Rests, enter_effect, function_effect}
 use Rattle.psci_fw_model.specs.Entering.{enter_outcome, outcome_at, resumes}
 use Rattle.psci_fw_model.specs.Invariant.{AreValues}
@@ -66,7 +66,8 @@ arrived_free b c granted level =
 -- Claims have a part for each level at most -----------------------------------------------------
 
 few_leaving : (b : BoardValue) (w : PowerView) (c : ℕ) (mode : SuspendMode)
-    → ((wanted : ℕ → ℕ) → ClaimLaws b w c wanted) → length (leaving_claim b w c mode) ≤ height b + 1
+    → ((wanted : ℕ → ℕ) → ClaimLaws b w c wanted) → length
+    (leaving_claims b w c mode) ≤ height b + 1
 few_leaving b w c Platform laws = (laws (least_wish b w c)).few
 few_leaving b w c OsInitiated laws = (laws (off_wish b w c)).few
 
@@ -78,11 +79,11 @@ few_off b v c laws = few_leaving b _ c v.mode (laws _)
 
 few_by : (b : BoardValue) (v : Values) (c : ℕ) (asked : List ℕ) (mode : SuspendMode)
     (parts : List Part) → ((w : PowerView) (wanted : ℕ → ℕ) → ClaimLaws b w c wanted)
-    → LastCoreLaws b (view b v) c asked → suspend_claim b v c asked mode ≡ Ok parts
+    → LastCoreLaws b (view b v) c asked → suspend_claims b v c asked mode ≡ Ok parts
     → length parts ≤ height b + 1
 few_by b v c asked Platform parts laws last e =
     let w : PowerView = view b (with_phase c (Suspended asked) v) in
-    let same : platform_claim b w c ≡ parts = cc in
+    let same : platform_claims b w c ≡ parts = cc in
     omega (arith, ap length same, (laws w (least_wish b w c)).few)
 few_by b v c asked OsInitiated parts laws last e =
     omega (arith, ap length (last.parts parts e), (laws (view b v) (own_wish asked)).few)
@@ -139,7 +140,7 @@ suspend_outcome b v c word entry context asked parts e named may low is =
     asked_outcome : suspend_asked b v c entry (Ok asked) ≡ stops_with (message_for v Down c parts)
     asked_outcome =
         let other = other_number (v.known c) b.starts low in
-        rw (may, other) (ap (sleeps v c) is)
+        rw (may, other) (ap (suspend_answer v c) is)
 
 pub system_outcome : (b : BoardValue) (v : Values) (c entry context : ℕ) (parts : List Part)
     → v.halting ≡ false → may_enter b entry ≡ true
@@ -150,7 +151,7 @@ pub system_outcome : (b : BoardValue) (v : Values) (c entry context : ℕ) (part
 system_outcome b v c entry context parts e may off low is =
     let other = other_number (v.known c) b.starts low in
     awake_outcome b v c (requests.SystemSuspend entry context) e
-    ∙ (rw (may, off, other) (ap (sleeps v c) is))
+    ∙ (rw (may, off, other) (ap (suspend_answer v c) is))
 
 pub suspend_effect : (b : BoardValue) (c word entry context : ℕ) (m : MessageValue)
     → (rest : Rest) × (function_effect b c (requests.CpuSuspend word entry context) Stop (Some m)

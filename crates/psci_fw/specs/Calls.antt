@@ -20,7 +20,8 @@ pub record MayCall (b : BoardValue) (s : StateValue) (c : ℕ) : Type 0 where
   pub awake : (values_in s).halting ≡ false
 
 -- a function was answered as the definitions say, and left what they say
-pub record IsAnswered (b : BoardValue) (v : Values) (c : ℕ) (r : Request) (o : Outcome) (w : Values)
+pub record FunctionAnswered (b : BoardValue) (v : Values) (c : ℕ) (r : Request) (o : Outcome)
+    (w : Values)
     : Type 0 where
   pub answer : o ≡ function_outcome b v c r
   pub after : w ≡ change b (function_effect b c r o.act o.message) v

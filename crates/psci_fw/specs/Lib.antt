@@ -1,5 +1,5 @@
 pub mod Calls
 pub mod Halts
 pub mod Seen
-pub mod Sleeping
+pub mod Suspending
 pub mod Ways

@@ -4,10 +4,10 @@ ghost use Rattle.std.specs.Prelude.{◌≡◌};
 ghost use Rattle.std.specs.List.{list_any, range_with_len};
 ghost use Rattle.psci_abi.specs.declared.request.Request.TheVariants.{SetSuspendMode};
 ghost use Rattle.psci_board.specs.Board.{cores};
-ghost use Rattle.psci_fw_model.specs.Phases.{is_away, is_waiting};
+ghost use Rattle.psci_fw_model.specs.Phases.{is_away, is_suspended_or_pending};
 ghost use Rattle.psci_fw_model.specs.SuspendMode.{may_set, mode_of};
 ghost use Rattle.psci_fw_model.specs.SystemCalls.{all_others};
-ghost use Rattle.psci_fw.specs.Calls.{IsAnswered, MayCall};
+ghost use Rattle.psci_fw.specs.Calls.{FunctionAnswered, MayCall};
 ghost use Rattle.psci_fw_state.specs.Seen.{IsStateOf, values_in};
 
 use psci_abi::Code;
@@ -18,7 +18,7 @@ use psci_fw_state::State;
 /// PSCI_SET_SUSPEND_MODE (DEN0022D): the mode of this number is set, if the other cores allow it.
 pub fn set_suspend_mode(board: &Board, state: &mut State, caller: Core, number: u32) -> Outcome
     requires { MayCall board.now state.old caller.number }
-    ensures answer { IsAnswered board.now (values_in state.old) caller.number
+    ensures answer { FunctionAnswered board.now (values_in state.old) caller.number
         (SetSuspendMode number) result (values_in state.new) }
     ensures state { IsStateOf board.now state.new }
 {
@@ -67,7 +67,8 @@ fn are_others_away(board: &Board, state: &State, caller: Core) -> bool
 /// Whether a core is suspended or pending.
 fn is_some_waiting(board: &Board, state: &State) -> bool
     ensures { let phase = (values_in state.now).phase in
-        result ≡ list_any (λ k. is_waiting (phase k)) (range_with_len 0 (cores board.now)) }
+        result ≡ list_any (λ k. is_suspended_or_pending (phase k))
+            (range_with_len 0 (cores board.now)) }
 {
     (0..board.cores()).any(|number| state.is_waiting(Core { number }))
 }

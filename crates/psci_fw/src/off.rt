@@ -4,11 +4,11 @@ ghost use Rattle.std.specs.Prelude.{◌≡◌, ◌<◌};
 ghost use Rattle.psci_abi.specs.declared.request.Request.TheVariants.{CpuOff};
 ghost use Rattle.psci_board.specs.Board.{cores};
 ghost use Rattle.psci_link.specs.declared.kind.Kind.TheVariants as kinds;
-ghost use Rattle.psci_link.specs.Message.{IsClaim};
-ghost use Rattle.psci_fw_model.specs.Changes.{with_claim};
+ghost use Rattle.psci_link.specs.Message.{AreClaims};
+ghost use Rattle.psci_fw_model.specs.Changes.{with_claims};
 ghost use Rattle.psci_fw_model.specs.Outcomes.{message_for, stops_with};
 ghost use Rattle.psci_fw_state.specs.Claims.{MayClaim};
-ghost use Rattle.psci_fw.specs.Calls.{IsAnswered, MayCall};
+ghost use Rattle.psci_fw.specs.Calls.{FunctionAnswered, MayCall};
 ghost use Rattle.psci_fw_state.specs.Seen.{IsStateOf, values_in};
 
 use crate::laws::law_may_claim;
@@ -21,7 +21,7 @@ use psci_link::Kind;
 /// CPU_OFF (DEN0022D): the caller stops, and goes off.
 pub fn cpu_off(board: &Board, state: &mut State, caller: Core) -> Outcome
     requires { MayCall board.now state.old caller.number }
-    ensures answer { IsAnswered board.now (values_in state.old) caller.number CpuOff result
+    ensures answer { FunctionAnswered board.now (values_in state.old) caller.number CpuOff result
         (values_in state.new) }
     ensures state { IsStateOf board.now state.new }
 {
@@ -36,11 +36,11 @@ pub fn cpu_off(board: &Board, state: &mut State, caller: Core) -> Outcome
 pub fn send_down(board: &Board, state: &mut State, core: Core, parts: Parts) -> Outcome
     requires state { IsStateOf board.now state.old }
     requires inside { core.number < cores board.now }
-    requires claim { IsClaim parts }
+    requires claim { AreClaims parts }
     requires may { MayClaim board.now core.number parts (values_in state.old).granted }
     ensures answer { result
         ≡ stops_with (message_for (values_in state.old) kinds.Down core.number parts) }
-    ensures after { values_in state.new ≡ with_claim board.now
+    ensures after { values_in state.new ≡ with_claims board.now
         (message_for (values_in state.old) kinds.Down core.number parts) (values_in state.old) }
     ensures state { IsStateOf board.now state.new }
 {

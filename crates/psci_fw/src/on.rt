@@ -4,7 +4,7 @@ ghost use Rattle.std.specs.Prelude.{◌≡◌, ◌<◌, IfOk};
 ghost use Rattle.psci_abi.specs.declared.request.Request.TheVariants.{CpuOn};
 ghost use Rattle.psci_board.specs.Board.{cores};
 ghost use Rattle.psci_fw_model.specs.CpuOn.{target_of};
-ghost use Rattle.psci_fw.specs.Calls.{IsAnswered, MayCall};
+ghost use Rattle.psci_fw.specs.Calls.{FunctionAnswered, MayCall};
 ghost use Rattle.psci_fw_state.specs.Seen.{IsStateOf, values_in};
 
 use psci_abi::Code;
@@ -23,7 +23,7 @@ pub fn cpu_on(
     opening: Opening,
 ) -> Outcome
     requires { MayCall board.now state.old caller.number }
-    ensures answer { IsAnswered board.now (values_in state.old) caller.number
+    ensures answer { FunctionAnswered board.now (values_in state.old) caller.number
         (CpuOn target opening.address opening.context) result (values_in state.new) }
     ensures state { IsStateOf board.now state.new }
 {

@@ -9,7 +9,7 @@ ghost use Rattle.psci_fw_model.specs.Calls.{call_fault, outcome_of};
 ghost use Rattle.psci_fw_model.specs.Effects.{function_effect};
 ghost use Rattle.psci_fw_model.specs.Invariant.{AreValues};
 ghost use Rattle.psci_fw_model.specs.Phases.{Running};
-ghost use Rattle.psci_fw.specs.Calls.{IsAnswered, MayCall};
+ghost use Rattle.psci_fw.specs.Calls.{FunctionAnswered, MayCall};
 ghost use Rattle.psci_fw_state.specs.Seen.{IsStateOf, values_in};
 
 use crate::affinity::affinity_info;
@@ -68,7 +68,7 @@ pub fn dispatch(board: &Board, state: &mut State, caller: Core, request: Request
 /// What a function answers.
 fn function(board: &Board, state: &mut State, caller: Core, request: Request) -> Outcome
     requires { MayCall board.now state.old caller.number }
-    ensures answer { IsAnswered board.now (values_in state.old) caller.number request result
+    ensures answer { FunctionAnswered board.now (values_in state.old) caller.number request result
         (values_in state.new) }
     ensures state { IsStateOf board.now state.new }
 {

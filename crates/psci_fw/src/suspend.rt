@@ -5,10 +5,10 @@ ghost use Rattle.psci_abi.specs.declared.request.Request.TheVariants.{CpuSuspend
 ghost use Rattle.psci_board.specs.Board.{may_enter};
 ghost use Rattle.psci_state.specs.Ask.{is_deep};
 ghost use Rattle.psci_fw_model.specs.Claims.{suspend_parts};
-ghost use Rattle.psci_fw_model.specs.CpuSuspend.{osi_code, sleeps};
-ghost use Rattle.psci_fw_model.specs.Effects.{suspended};
-ghost use Rattle.psci_fw.specs.Calls.{IsAnswered, MayCall};
-ghost use Rattle.psci_fw.specs.Sleeping.{MaySleep, Slept};
+ghost use Rattle.psci_fw_model.specs.CpuSuspend.{osi_code, suspend_answer};
+ghost use Rattle.psci_fw_model.specs.Effects.{suspends};
+ghost use Rattle.psci_fw.specs.Calls.{FunctionAnswered, MayCall};
+ghost use Rattle.psci_fw.specs.Suspending.{MaySuspend, Suspends};
 ghost use Rattle.psci_fw_state.specs.Seen.{IsStateOf, values_in};
 
 use crate::laws::law_may_claim;
@@ -34,7 +34,7 @@ pub fn cpu_suspend(
     opening: Opening,
 ) -> Outcome
     requires { MayCall board.now state.old caller.number }
-    ensures answer { IsAnswered board.now (values_in state.old) caller.number
+    ensures answer { FunctionAnswered board.now (values_in state.old) caller.number
         (CpuSuspend word opening.address opening.context) result (values_in state.new) }
     ensures state { IsStateOf board.now state.new }
 {
@@ -61,10 +61,11 @@ fn has_invalid_entry(board: &Board, ask: Ask, entry_point: u64) -> bool
 /// A core is suspended with this ask, or is answered why it may not be.
 pub fn sleep(board: &Board, state: &mut State, core: Core, ask: Ask, opening: Opening) -> Outcome
     requires call { MayCall board.now state.old core.number }
-    requires may { MaySleep board.now (values_in state.old) core.number ask opening }
-    ensures answer { result ≡ sleeps (values_in state.old) core.number
+    requires may { MaySuspend board.now (values_in state.old) core.number ask opening }
+    ensures answer { result ≡ suspend_answer (values_in state.old) core.number
         (suspend_parts board.now (values_in state.old) core.number ask) }
-    ensures after { Slept board.now (values_in state.old) core.number (suspended opening ask) result
+    ensures after { Suspends board.now (values_in state.old) core.number
+        (suspends opening ask) result
         (values_in state.new) }
     ensures state { IsStateOf board.now state.new }
 {

@@ -7,7 +7,7 @@ ghost use Rattle.psci_fw_model.specs.Changes.{with_halt, with_phase};
 ghost use Rattle.psci_fw_model.specs.Outcomes.{message_for, stops_with};
 ghost use Rattle.psci_fw_model.specs.Phases.{Away};
 ghost use Rattle.psci_fw_model.specs.SystemCalls.{all_others, is_off_status, system_message};
-ghost use Rattle.psci_fw.specs.Calls.{IsAnswered, MayCall};
+ghost use Rattle.psci_fw.specs.Calls.{FunctionAnswered, MayCall};
 ghost use Rattle.psci_fw.specs.Halts.{IsOfSystem};
 ghost use Rattle.psci_fw_state.specs.Seen.{IsStateOf, values_in};
 
@@ -28,7 +28,7 @@ const SYSTEM_WARM_RESET: u32 = 0;
 /// other core is OFF. It then goes on at the opening.
 pub fn system_suspend(board: &Board, state: &mut State, caller: Core, opening: Opening) -> Outcome
     requires { MayCall board.now state.old caller.number }
-    ensures answer { IsAnswered board.now (values_in state.old) caller.number
+    ensures answer { FunctionAnswered board.now (values_in state.old) caller.number
         (requests.SystemSuspend opening.address opening.context) result (values_in state.new) }
     ensures state { IsStateOf board.now state.new }
 {
@@ -57,7 +57,8 @@ fn are_others_off(board: &Board, state: &State, caller: Core) -> bool
 /// SYSTEM_OFF (DEN0022D): the caller stops, and the system goes off.
 pub fn system_off(board: &Board, state: &mut State, caller: Core) -> Outcome
     requires { MayCall board.now state.old caller.number }
-    ensures answer { IsAnswered board.now (values_in state.old) caller.number requests.SystemOff
+    ensures answer { FunctionAnswered board.now
+        (values_in state.old) caller.number requests.SystemOff
         result (values_in state.new) }
     ensures state { IsStateOf board.now state.new }
 {
@@ -67,7 +68,8 @@ pub fn system_off(board: &Board, state: &mut State, caller: Core) -> Outcome
 /// SYSTEM_RESET (DEN0022D): the caller stops, and the system is reset.
 pub fn system_reset(board: &Board, state: &mut State, caller: Core) -> Outcome
     requires { MayCall board.now state.old caller.number }
-    ensures answer { IsAnswered board.now (values_in state.old) caller.number requests.SystemReset
+    ensures answer { FunctionAnswered board.now
+        (values_in state.old) caller.number requests.SystemReset
         result (values_in state.new) }
     ensures state { IsStateOf board.now state.new }
 {
@@ -78,7 +80,7 @@ pub fn system_reset(board: &Board, state: &mut State, caller: Core) -> Outcome
 /// is of use to types of vendors alone, so it is not looked at.
 pub fn system_reset2(board: &Board, state: &mut State, caller: Core, reset_type: u32) -> Outcome
     requires { MayCall board.now state.old caller.number }
-    ensures answer { (cookie : ℕ) → IsAnswered board.now (values_in state.old) caller.number
+    ensures answer { (cookie : ℕ) → FunctionAnswered board.now (values_in state.old) caller.number
         (requests.SystemReset2 reset_type cookie) result (values_in state.new) }
     ensures state { IsStateOf board.now state.new }
 {

@@ -7,7 +7,7 @@ use Rattle.psci_link.specs.Message.{MessageValue}
 use Rattle.psci_fw_model.specs.declared.call.FwCall.{FwCall}
 use Rattle.psci_fw_model.specs.declared.call.FwCall.TheVariants.{Smc, Enter, Take}
 use Rattle.psci_link.specs.declared.start.Cause.TheVariants.{Wake}
-use Rattle.psci_fw_model.specs.Entry.{Entry}
+use Rattle.psci_fw_model.specs.Exchange.{FwExchange}
 use Rattle.psci_fw_model.specs.Legal.{legal_reply}
 
 -- two clusters of two cores
@@ -63,13 +63,13 @@ abbrev pub suspend : ℕ → Step
 suspend c = smc c 0xc4000001 0x01010033 0x40000100 5
 
 -- the legal history of these calls, the first one first, after a history
-abbrev pub history_from : BoardValue → List Entry → List Step → List Entry
+abbrev pub history_from : BoardValue → List FwExchange → List Step → List FwExchange
 history_from b h [] = h
 history_from b h (s ∷ ss) =
     let reply = legal_reply b h s.core s.call in
     history_from b (record { core = s.core; call = s.call; reply = reply } ∷ h) ss
 
-abbrev pub history_of : BoardValue → List Step → List Entry
+abbrev pub history_of : BoardValue → List Step → List FwExchange
 history_of b steps = history_from b [] steps
 
 -- a message: kind, core, life, number, parts

@@ -2,7 +2,7 @@
 use Rattle.std.proofs.Common.{◌≡◌, ℕ, ◌+◌, inl, inr, List, [], ◌∷◌, true, false, None, Some}
 use Rattle.std.proofs.Common.{refl, ap, arith}
 use Rattle.psci_board.specs.Board.{core_of, up}
-use Rattle.psci_coord.specs.Claim.{claim_of}
+use Rattle.psci_coord.specs.Claim.{claims_of}
 use Rattle.psci_coord.specs.View.{generation, least_ask}
 use Rattle.psci_coord.specs.declared.part.Part.{Part}
 use Rattle.psci_link.specs.declared.kind.Kind.TheVariants.{Down, Start, Reset}
@@ -13,7 +13,7 @@ use Rattle.psci_fw_model.specs.Calls.{outcome_of}
 use Rattle.psci_fw_model.specs.Claims.{off_parts}
 use Rattle.psci_fw_model.specs.CpuOn.{target_of}
 use Rattle.psci_fw_model.specs.Entering.{enter_outcome}
-use Rattle.psci_fw_model.specs.Entry.{Entry}
+use Rattle.psci_fw_model.specs.Exchange.{FwExchange}
 use Rattle.psci_fw_model.specs.History.{values_of}
 use Rattle.psci_fw_model.specs.Sent.{sent_messages}
 use Rattle.psci_fw_model.specs.Views.{view}
@@ -115,7 +115,7 @@ below_system = refl
 -- Current claims ------------------------------------------------------------------------------
 
 -- core 3 is asked on, enters, goes off, is asked on again and enters by its second start
-abbrev twice : List Entry
+abbrev twice : List FwExchange
 twice = history_of board (enter 0 1 1 ∷ on_3 ∷ enter 3 1 1 ∷ off 3 ∷ take Down 3 1 1 2 ∷ on_3
     ∷ enter 3 1 2 ∷ off 3 ∷ [])
 
@@ -125,18 +125,18 @@ twice_sent : sent_messages board twice
     ∷ message Start 3 1 1 []
     ∷ message Down 3 1 1 (part 0 3 1 ∷ part 1 3 1 ∷ [])
     ∷ message Start 3 1 0 [] ∷ []
-unfolding answer values_of outcome_of enter_outcome target_of core_of off_parts view up claim_of
+unfolding answer values_of outcome_of enter_outcome target_of core_of off_parts view up claims_of
     least_ask generation outstanding last_message changes_since sent_messages
 twice_sent = refl
 
 twice_known : known_below board ((values_of board twice).known) 1 1 ≡ 2
-unfolding answer values_of outcome_of enter_outcome target_of core_of off_parts view up claim_of
+unfolding answer values_of outcome_of enter_outcome target_of core_of off_parts view up claims_of
     least_ask generation outstanding last_message changes_since known_below
 twice_known = refl
 
 -- both are claims on its cluster
 second_claim : IsClaimOn board 1 1 1 (part 1 3 2) (sent_messages board twice)
-unfolding answer values_of outcome_of enter_outcome target_of core_of off_parts view up claim_of
+unfolding answer values_of outcome_of enter_outcome target_of core_of off_parts view up claims_of
     least_ask generation outstanding last_message changes_since sent_messages
 second_claim = inr (record {
   index = 0;
@@ -146,7 +146,7 @@ second_claim = inr (record {
 })
 
 first_claim : IsClaimOn board 1 1 1 (part 1 3 1) (sent_messages board twice)
-unfolding answer values_of outcome_of enter_outcome target_of core_of off_parts view up claim_of
+unfolding answer values_of outcome_of enter_outcome target_of core_of off_parts view up claims_of
     least_ask generation outstanding last_message changes_since sent_messages
 first_claim = inr (record {
   index = 2;
@@ -161,7 +161,7 @@ unfolding up
 third_claim = inl (record { node = refl; off_path = refl; is = refl })
 
 second_current : IsCurrent board (values_of board twice).known 1 1 (part 1 3 2)
-unfolding answer values_of outcome_of enter_outcome target_of core_of off_parts view up claim_of
+unfolding answer values_of outcome_of enter_outcome target_of core_of off_parts view up claims_of
     least_ask generation outstanding last_message changes_since known_below
 second_current = refl
 

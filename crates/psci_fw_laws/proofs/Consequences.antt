@@ -10,7 +10,7 @@ use Rattle.psci_coord.specs.declared.part.Part.{Part}
 use Rattle.psci_coord.specs.View.{generation}
 use Rattle.psci_link.specs.declared.kind.Kind.{Kind}
 use Rattle.psci_link.specs.declared.kind.Kind.TheVariants.{Down}
-use Rattle.psci_link.specs.Message.{ArePartsOf, IsClaim, MessageValue, PartByPart}
+use Rattle.psci_link.specs.Message.{ArePartsOf, AreClaims, MessageValue, PartByPart}
 use Rattle.psci_tree.specs.Recount.{asks}
 use Rattle.psci_fw_model.specs.declared.status.Status.{Status}
 use Rattle.psci_fw_model.specs.declared.status.Status.TheVariants as statuses
@@ -59,7 +59,7 @@ first_of (p ∷ ps) some = record { part = p; at = refl }
 
 first_part : (k : Kind) (parts : List Part) → k ≡ Down → ArePartsOf k parts → HasFirst parts
 first_part k parts kind are =
-    let claim : IsClaim parts = subst (λ x. ArePartsOf x parts) kind are in
+    let claim : AreClaims parts = subst (λ x. ArePartsOf x parts) kind are in
     first_of parts claim.some
 
 pub once_down : (b : BoardValue) (v : Values) (sent : List MessageValue) → Holds b v sent
@@ -98,20 +98,20 @@ none_active b v c level paths are on high some =
 
 -- a claim asks for a depth of 1 at least
 some_depth : (b : BoardValue) (v : Values) (sent : List MessageValue) (level place : ℕ) (p : Part)
-    → ((ps : List Part) → IsClaim ps → PartByPart ps) → Holds b v sent
+    → ((ps : List Part) → AreClaims ps → PartByPart ps) → Holds b v sent
     → IsClaimOn b v.life level place p sent → 0 < p.depth
 some_depth b v sent level place p by_part holds claim = elim claim [
   | inl s ↦ let deep : p.depth ≡ 3 = ap (λ (q : Part). q.depth) s.is in omega arith
   | inr f ↦
       let has = part_has b v.life level place f.message p f.part in
       let are = (holds.messages f.index f.message f.at).sound.parts in
-      let parts : IsClaim f.message.parts =
+      let parts : AreClaims f.message.parts =
       subst (λ k. ArePartsOf k f.message.parts) has.kind are in
       (by_part f.message.parts parts).least level p has.part
 ]
 
 pub deeper : (b : BoardValue) (v : Values) (sent : List MessageValue) (c level : ℕ) (p : Part)
-    → ((ps : List Part) → IsClaim ps → PartByPart ps) → AreValues b v → Holds b v sent
+    → ((ps : List Part) → AreClaims ps → PartByPart ps) → AreValues b v → Holds b v sent
     → c < cores b → level < height b
     → IsClaimOn b v.life (level + 1) (up b (level + 1) c) p sent
     → IsCurrent b v.known (level + 1) (up b (level + 1) c) p

@@ -10,7 +10,7 @@ use Rattle.psci_fw_model.specs.Answer.{answer}
 use Rattle.psci_fw_model.specs.Changes.{with_arrival, with_mode, with_phase, with_rest}
 use Rattle.psci_fw_model.specs.Effects.{Effect, Nothing, GoesOn, SetsMode, AsksOn, Rests, Halts}
 use Rattle.psci_fw_model.specs.Effects.{Stops, Enters, Parks, StopsAtOnce, Acknowledges, effect_of}
-use Rattle.psci_fw_model.specs.Entry.{Entry, effect}
+use Rattle.psci_fw_model.specs.Exchange.{FwExchange, effect}
 use Rattle.psci_fw_model.specs.History.{values_of}
 use Rattle.psci_fw_model.specs.Invariant.{AreValues}
 use Rattle.psci_fw_model.specs.Legal.{IsLegal}
@@ -110,12 +110,13 @@ start_holds b = record {
 -- what the laws of the model say of its histories
 pub record HistoryLaws (b : BoardValue) : Type 0 where
   pub first : values_of b [] ≡ start_of_life b 0
-  pub more : (e : Entry) (h : List Entry)
+  pub more : (e : FwExchange) (h : List FwExchange)
       → values_of b (e ∷ h) ≡ after b e.core e.call e.reply (values_of b h)
-  pub legal : (h : List Entry) → IsLegal b h → AreValues b (values_of b h)
+  pub legal : (h : List FwExchange) → IsLegal b h → AreValues b (values_of b h)
 
 -- the effect of a legal reply is allowed
-pub legal_allowed : (b : BoardValue) (e : Entry) (h : List Entry) → LowerLaws b → HistoryLaws b
+pub legal_allowed : (b : BoardValue) (e : FwExchange) (h : List FwExchange) → LowerLaws b
+    → HistoryLaws b
     → Holds b (values_of b h) (sent_messages b h) → IsLegal b (e ∷ h)
     → IsAllowed b (values_of b h) (effect b e)
 unfolding after
@@ -128,7 +129,7 @@ legal_allowed b e h laws said holds legal =
     (ready b v (sent_messages b h) (said.legal h legal.1) holds) moved)
 
 -- what an entry adds to the messages
-pub sent_more : (b : BoardValue) (e : Entry) (h : List Entry)
+pub sent_more : (b : BoardValue) (e : FwExchange) (h : List FwExchange)
     → sent_messages b (e ∷ h) ≡ listed (sent (effect b e)) ++ sent_messages b h
 unfolding sent_messages
 sent_more b e h = refl
@@ -154,7 +155,7 @@ by_entry b v w messages c call reply laws are then holds e f =
     (listed (sent (effect_of b c call r)) ++ messages))
     (sym e) (by_answer b v messages c call laws are holds) g)
 
-pub legal_holds : (b : BoardValue) (h : List Entry) → LowerLaws b → HistoryLaws b → IsLegal b h
+pub legal_holds : (b : BoardValue) (h : List FwExchange) → LowerLaws b → HistoryLaws b → IsLegal b h
     → Holds b (values_of b h) (sent_messages b h)
 unfolding sent_messages
 legal_holds b [] laws said legal = subst (λ v. Holds b v []) (sym said.first) (start_holds b)

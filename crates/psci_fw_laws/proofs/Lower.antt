@@ -5,7 +5,7 @@ use Rattle.psci_board.specs.Laws.{PathLaws, SpanLaws, WordLaws}
 use Rattle.psci_coord.specs.declared.part.Part.{Part}
 use Rattle.psci_coord.specs.Laws.{BelowLaws, ClaimLaws, LastCoreLaws, PlatformLaws}
 use Rattle.psci_coord.specs.View.{PowerView}
-use Rattle.psci_link.specs.Message.{IsClaim, PartByPart}
+use Rattle.psci_link.specs.Message.{AreClaims, PartByPart}
 use Rattle.psci_state.specs.Ask.{IsAsk}
 use Rattle.psci_link.specs.declared.start.Start.{Start}
 use Rattle.psci_fw_model.specs.After.{change}
@@ -26,16 +26,16 @@ pub record LowerLaws (b : BoardValue) : Type 0 where
   pub last_core : (w : PowerView) (c : ℕ) (ask : List ℕ) → c < cores b → LastCoreLaws b w c ask
   pub platform : (w : PowerView) (c : ℕ) → c < cores b → PlatformLaws b w c
   pub below : (w : PowerView) (c level : ℕ) → BelowLaws b w c level
-  pub parts : (ps : List Part) → IsClaim ps → PartByPart ps
+  pub parts : (ps : List Part) → AreClaims ps → PartByPart ps
   pub first : (life : ℕ) → AreValues b (start_of_life b life)
   pub off : (v : Values) (c : ℕ) → c < cores b → AreValues b v → v.phase c ≡ Running
-      → IsClaim (off_parts b v c)
+      → AreClaims (off_parts b v c)
   pub parks : (v : Values) (c : ℕ) (s : Start) → c < cores b → AreValues b v
       → (in_life b s.life v).halting ≡ false → (in_life b s.life v).opening c ≡ None
-      → IsClaim (off_parts b (with_arrival b c s v) c)
+      → AreClaims (off_parts b (with_arrival b c s v) c)
   pub suspended : (v : Values) (c : ℕ) (ask : List ℕ) (parts : List Part) → c < cores b
       → AreValues b v → v.phase c ≡ Running → IsAsk ask → suspend_parts b v c ask ≡ Ok parts
-      → IsClaim parts
+      → AreClaims parts
   pub goes_on : (v : Values) (c : ℕ) → v.phase c ≡ Running → change b (GoesOn c) v ≡ v
   pub asks_on : (v : Values) (c : ℕ) (asked : PowerOn) → v.phase c ≡ Running
       → change b (AsksOn c asked) v ≡ with_pending b asked v

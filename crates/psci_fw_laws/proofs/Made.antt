@@ -6,17 +6,17 @@ use Rattle.std.proofs.lemmas.Bool.{cond-true, cond_both, eq-eqb, le-leb}
 use Rattle.std.proofs.lemmas.Option.{slice_get_within}
 use Rattle.psci_board.specs.Board.{BoardValue, cores, height, up}
 use Rattle.psci_board.specs.Laws.{PathLaws}
-use Rattle.psci_coord.specs.Claim.{claim_of, least_wish, off_wish, own_wish, platform_claim}
+use Rattle.psci_coord.specs.Claim.{claims_of, least_wish, off_wish, own_wish, platform_claims}
 use Rattle.psci_coord.specs.declared.part.Part.{Part}
 use Rattle.psci_coord.specs.Laws.{ClaimLaws}
 use Rattle.psci_coord.specs.View.{domain_of, generation}
 use Rattle.psci_link.specs.declared.kind.Kind.TheVariants.{Down}
-use Rattle.psci_link.specs.Message.{IsClaim, MessageValue}
+use Rattle.psci_link.specs.Message.{AreClaims, MessageValue}
 use Rattle.psci_tree.specs.Recount.{asks}
 use Rattle.psci_fw_model.specs.declared.mode.SuspendMode.{SuspendMode}
 use Rattle.psci_fw_model.specs.declared.mode.SuspendMode.TheVariants.{Platform, OsInitiated}
-use Rattle.psci_fw_model.specs.Changes.{with_claim, with_phase}
-use Rattle.psci_fw_model.specs.Claims.{leaving_claim, off_parts, suspend_claim, suspend_parts}
+use Rattle.psci_fw_model.specs.Changes.{with_claims, with_phase}
+use Rattle.psci_fw_model.specs.Claims.{leaving_claims, off_parts, suspend_claims, suspend_parts}
 use Rattle.psci_fw_model.specs.Invariant.{AreValues}
 use Rattle.psci_fw_model.specs.Outcomes.{message_for}
 use Rattle.psci_fw_model.specs.Phases.{Away, Pending, Running, Suspended, activity_of}
@@ -47,14 +47,14 @@ unfolding view
 view_ask b v c level = refl
 
 claim_made : (b : BoardValue) (v : Values) (c : ℕ) (wanted : ℕ → ℕ)
-    → ClaimLaws b (view b v) c wanted → AreMade b v.known c (claim_of b (view b v) c wanted)
+    → ClaimLaws b (view b v) c wanted → AreMade b v.known c (claims_of b (view b v) c wanted)
 claim_made b v c wanted laws = record {
   few = laws.few;
   current = λ level p e. laws.generation level p e ∙ view_known b v c level;
 }
 
 leaving_made : (b : BoardValue) (v : Values) (c : ℕ) (mode : SuspendMode) → LowerLaws b
-    → AreMade b v.known c (leaving_claim b (view b v) c mode)
+    → AreMade b v.known c (leaving_claims b (view b v) c mode)
 leaving_made b v c Platform laws =
     claim_made b v c (least_wish b (view b v) c) (laws.claims (view b v) c _)
 leaving_made b v c OsInitiated laws =
@@ -74,14 +74,14 @@ off_made b v c laws = leaving_made b (with_phase c Away v) c v.mode laws
 
 suspend_made_by : (b : BoardValue) (v : Values) (c : ℕ) (ask : List ℕ) (parts : List Part)
     (mode : SuspendMode) → LowerLaws b → c < cores b
-    → suspend_claim b v c ask mode ≡ Ok parts → AreMade b v.known c parts
+    → suspend_claims b v c ask mode ≡ Ok parts → AreMade b v.known c parts
 suspend_made_by b v c ask parts Platform laws on e =
     let w : Values = with_phase c (Suspended ask) v in
-    let same : claim_of b (view b w) c (least_wish b (view b w) c) ≡ parts = cc in
+    let same : claims_of b (view b w) c (least_wish b (view b w) c) ≡ parts = cc in
     subst (AreMade b v.known c) same
     (claim_made b w c (least_wish b (view b w) c) (laws.claims (view b w) c _))
 suspend_made_by b v c ask parts OsInitiated laws on e =
-    let same : parts ≡ claim_of b (view b v) c (own_wish ask) =
+    let same : parts ≡ claims_of b (view b v) c (own_wish ask) =
     (laws.last_core (view b v) c ask on).parts parts e in
     subst (AreMade b v.known c) (sym same)
     (claim_made b v c (own_wish ask) (laws.claims (view b v) c _))
@@ -95,12 +95,12 @@ suspend_made b v c ask parts laws on e = suspend_made_by b v c ask parts v.mode 
 -- no part is deeper than what its sender asks of the domain
 suspend_own_by : (b : BoardValue) (v : Values) (c : ℕ) (ask : List ℕ) (parts : List Part)
     (mode : SuspendMode) → LowerLaws b → c < cores b → v.phase c ≡ Running
-    → suspend_claim b v c ask mode ≡ Ok parts → (level : ℕ) (p : Part)
+    → suspend_claims b v c ask mode ≡ Ok parts → (level : ℕ) (p : Part)
     → slice_get parts level ≡ Some p → p.depth ≤ slice_index ask level
 unfolding view
 suspend_own_by b v c ask parts Platform laws on runs e level p part =
     let w : Values = with_phase c (Suspended ask) v in
-    let same : parts ≡ platform_claim b (view b w) c = cc in
+    let same : parts ≡ platform_claims b (view b w) c = cc in
     let at = ap (λ ps. slice_get ps level) (sym same) ∙ part in
     let low = (laws.platform (view b w) c on).asked level c p at on refl in
     let left : w.phase c ≡ Suspended ask =
@@ -111,7 +111,7 @@ suspend_own_by b v c ask parts Platform laws on runs e level p part =
     ap (λ x. asks (activity_of x) level) left in
     omega (arith, low, most, asked)
 suspend_own_by b v c ask parts OsInitiated laws on runs e level p part =
-    let same : parts ≡ claim_of b (view b v) c (own_wish ask) =
+    let same : parts ≡ claims_of b (view b v) c (own_wish ask) =
     (laws.last_core (view b v) c ask on).parts parts e in
     let at = ap (λ ps. slice_get ps level) (sym same) ∙ part in
     let deep = (laws.claims (view b v) c (own_wish ask)).depth level p at in
@@ -153,7 +153,7 @@ ask_running b v c runs = ask_own b v c ∙ ap (λ p. asks (activity_of p) 0) run
 -- what the parts grant
 laid_at : (b : BoardValue) (v : Values) (m : MessageValue) (level place : ℕ) (p : Part)
     → place ≡ up b level m.core.number → slice_get m.parts level ≡ Some p
-    → (with_claim b m v).granted level place ≡ p.depth
+    → (with_claims b m v).granted level place ≡ p.depth
 laid_at b v m level place p on part =
     cond-true (place == up b level m.core.number)
     (claimed_or (slice_get m.parts level) (v.granted level place)) (v.granted level place)
@@ -162,13 +162,13 @@ laid_at b v m level place p on part =
 
 pub new_claim : (b : BoardValue) (v : Values) (c : ℕ) (parts : List Part) → LowerLaws b
     → c < cores b → 0 < v.life → 0 < v.known c → v.known c ≤ b.starts → v.halting ≡ false
-    → (v.phase c ≡ Pending → ⊥) → IsClaim parts → AreMade b v.known c parts
+    → (v.phase c ≡ Pending → ⊥) → AreClaims parts → AreMade b v.known c parts
     → ((level : ℕ) (p : Part) → slice_get parts level ≡ Some p
     → p.depth ≤ asks (activity_of (v.phase c)) level)
-    → AreValues b (with_claim b (message_for v Down c parts) v)
+    → AreValues b (with_claims b (message_for v Down c parts) v)
     → IsNewClaim b v (message_for v Down c parts)
 new_claim b v c parts laws on begun entered most awake rests claim made own are =
-    let after : Values = with_claim b (message_for v Down c parts) v in
+    let after : Values = with_claims b (message_for v Down c parts) v in
     let m : MessageValue = message_for v Down c parts in
     let each = laws.parts parts claim in
     let first = λ (p : Part) (e : slice_get parts 0 ≡ Some p). made.current 0 p e
@@ -202,15 +202,15 @@ new_claim b v c parts laws on begun entered most awake rests claim made own are 
       rests = rests;
       asked = λ p e.
           let given = laid_at b v m 0 c p (sym (laws.paths.core c)) e in
-          sym given ∙ (are.awake awake).own c on ∙ ask_own b (with_claim b m v) c;
+          sym given ∙ (are.awake awake).own c on ∙ ask_own b (with_claims b m v) c;
       quiet = λ level place p e x inside at runs.
           let has = part_has b v.life level place m p e in
           let given = laid_at b v m level place p has.on has.part in
-          let low = granted_below b (with_claim b m v) level x laws.paths are inside
+          let low = granted_below b (with_claims b m v) level x laws.paths are inside
           (within level p has.part) in
           let some = each.least level p has.part in
-          let none = ask_running b (with_claim b m v) x runs in
-          omega (arith, given, low, some, none, ap ((with_claim b m v).granted level) at);
+          let none = ask_running b (with_claims b m v) x runs in
+          omega (arith, given, low, some, none, ap ((with_claims b m v).granted level) at);
       fair = record {
         own = λ level p e.
             let inside = within level p e in

@@ -8,7 +8,7 @@ use Rattle.psci_link.specs.Message.{MessageValue}
 use Rattle.psci_fw_model.specs.After.{change}
 use Rattle.psci_fw_model.specs.Effects.{Effect, Nothing, GoesOn, SetsMode, AsksOn, Rests, Halts}
 use Rattle.psci_fw_model.specs.Effects.{Stops, Enters, Parks, StopsAtOnce, Acknowledges}
-use Rattle.psci_fw_model.specs.Entry.{Entry, effect}
+use Rattle.psci_fw_model.specs.Exchange.{FwExchange, effect}
 use Rattle.psci_fw_model.specs.History.{values_of}
 use Rattle.psci_fw_model.specs.Legal.{IsLegal}
 use Rattle.psci_fw_model.specs.Said.{listed, sent}
@@ -51,7 +51,8 @@ fair_after b v (Parks c s n) m allowed e down =
 fair_after b v (StopsAtOnce c s) m allowed e down = absurd (cc)
 fair_after b v (Acknowledges a) m allowed e down = absurd (cc)
 
-earlier : (b : BoardValue) (e : Entry) (h : List Entry) (m : MessageValue) → WasAsked b h m
+earlier : (b : BoardValue) (e : FwExchange) (h : List FwExchange) (m : MessageValue)
+    → WasAsked b h m
     → WasAsked b (e ∷ h) m
 earlier b e h m was = record {
   since = e ∷ was.since;
@@ -64,12 +65,12 @@ earlier b e h m was = record {
 }
 
 -- What is known of one more entry.
-pub record IsStep (b : BoardValue) (e : Entry) (h : List Entry) : Type 0 where
+pub record IsStep (b : BoardValue) (e : FwExchange) (h : List FwExchange) : Type 0 where
   pub allowed : IsAllowed b (values_of b h) (effect b e)
   pub values : values_of b (e ∷ h) ≡ change b (effect b e) (values_of b h)
   pub messages : sent_messages b (e ∷ h) ≡ listed (sent (effect b e)) ++ sent_messages b h
 
-by_sent : (b : BoardValue) (e : Entry) (h : List Entry) (k : ℕ) (m : MessageValue)
+by_sent : (b : BoardValue) (e : FwExchange) (h : List FwExchange) (k : ℕ) (m : MessageValue)
     (o : Option MessageValue) → IsStep b e h → IsLegal b (e ∷ h) → sent (effect b e) ≡ o
     → slice_get (listed o ++ sent_messages b h) k ≡ Some m → m.kind ≡ Down
     → ((j : ℕ) → slice_get (sent_messages b h) j ≡ Some m → WasAsked b h m)
@@ -95,8 +96,9 @@ none_sent : (b : BoardValue) (k : ℕ) (m : MessageValue)
 unfolding sent_messages
 none_sent b k m at = absurd (cc)
 
-pub was_asked : (b : BoardValue) (h : List Entry)
-    → ((e : Entry) (g : List Entry) → IsLegal b (e ∷ g) → IsStep b e g) → IsLegal b h → (k : ℕ)
+pub was_asked : (b : BoardValue) (h : List FwExchange)
+    → ((e : FwExchange) (g : List FwExchange) → IsLegal b (e ∷ g) → IsStep b e g) → IsLegal b h →
+    (k : ℕ)
     (m : MessageValue) → slice_get (sent_messages b h) k ≡ Some m → m.kind ≡ Down → WasAsked b h m
 was_asked b [] steps legal k m at down = absurd (none_sent b k m at)
 was_asked b (e ∷ h) steps legal k m at down =

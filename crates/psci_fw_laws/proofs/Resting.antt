@@ -9,7 +9,7 @@ use Rattle.psci_link.specs.declared.kind.Kind.{Kind}
 use Rattle.psci_link.specs.declared.kind.Kind.TheVariants.{Down, Start}
 use Rattle.psci_link.specs.Message.{MessageValue}
 use Rattle.psci_link.specs.Slots.{slot_of}
-use Rattle.psci_fw_model.specs.Changes.{with_claim, with_phase}
+use Rattle.psci_fw_model.specs.Changes.{with_claims, with_phase}
 use Rattle.psci_fw_model.specs.Phases.{Phase, Pending, Running, unless_pending}
 use Rattle.psci_fw_model.specs.Values.{Values}
 use Rattle.psci_fw_laws.specs.Allowed.{IsNewClaim}
@@ -103,7 +103,7 @@ is_sent b v m new = record {
 
 pub claims : (b : BoardValue) (v : Values) (sent : List MessageValue) (m : MessageValue)
     → IsNewClaim b v m → NoneCurrent b v.life v.known sent m.core.number → Holds b v sent
-    → Holds b (with_claim b m v) (m ∷ sent)
+    → Holds b (with_claims b m v) (m ∷ sent)
 claims b v sent m new none holds =
     let down : IsNewDown b v.life v.known m.core.number m =
     record { present = new.present; core = refl; current = new.current } in

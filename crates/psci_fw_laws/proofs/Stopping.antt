@@ -16,7 +16,7 @@ use Rattle.psci_fw_model.specs.Claims.{off_parts, suspend_parts}
 use Rattle.psci_fw_model.specs.CpuOff.{off_message}
 use Rattle.psci_fw_model.specs.CpuSuspend.{ask_named, suspend_asked}
 use Rattle.psci_fw_model.specs.Effects.{Rests, going_off}
-use Rattle.psci_fw_model.specs.Effects.{rest_named, suspended}
+use Rattle.psci_fw_model.specs.Effects.{rest_named, suspends}
 use Rattle.psci_fw_model.specs.Invariant.{AreValues, IsPhase}
 use Rattle.psci_fw_model.specs.Outcomes.{message_for}
 use Rattle.psci_fw_model.specs.Phases.{Pending, Running, Suspended, activity_of}
@@ -38,7 +38,7 @@ stopped : (b : BoardValue) (v : Values) (c : ℕ) (rest : Rest) (parts : List Pa
     → IsReady b v → IsCalling b v c → v.halting ≡ false
     → (rest.phase ≡ Running → ⊥) → (rest.phase ≡ Pending → ⊥)
     → (AreValues b (change b (Rests c rest (message_for v kinds.Down c parts)) v)
-    → Rattle.psci_link.specs.Message.IsClaim parts)
+    → Rattle.psci_link.specs.Message.AreClaims parts)
     → AreMade b v.known c parts
     → ((level : ℕ) (p : Part) → slice_get parts level ≡ Some p
     → p.depth ≤ asks (activity_of rest.phase) level)
@@ -70,7 +70,7 @@ off_allowed b v c laws ready calls awake =
 -- the ask of a core that is suspended is one
 asked : (b : BoardValue) (v : Values) (c : ℕ) (o : Opening) (ask : List ℕ)
     (parts : List Part) → v.phase c ≡ Running
-    → AreValues b (change b (Rests c (suspended o ask) (message_for v kinds.Down c parts)) v)
+    → AreValues b (change b (Rests c (suspends o ask) (message_for v kinds.Down c parts)) v)
     → IsAsk ask
 asked b v c o ask parts runs are =
     let left : updated v.phase c (unless_pending (v.phase c) (Suspended ask)) c ≡ Suspended ask =
@@ -83,9 +83,9 @@ asked b v c o ask parts runs are =
 rests_allowed : (b : BoardValue) (v : Values) (c : ℕ) (o : Opening) (ask : List ℕ)
     (parts : List Part) → LowerLaws b → IsReady b v → IsCalling b v c → v.halting ≡ false
     → suspend_parts b v c ask ≡ Ok parts
-    → Allows b v (Rests c (suspended o ask) (message_for v kinds.Down c parts))
+    → Allows b v (Rests c (suspends o ask) (message_for v kinds.Down c parts))
 rests_allowed b v c o ask parts laws ready calls awake made =
-    stopped b v c (suspended o ask) parts laws ready calls awake (λ s. cc) (λ s. cc)
+    stopped b v c (suspends o ask) parts laws ready calls awake (λ s. cc) (λ s. cc)
     (λ are. laws.suspended v c ask parts calls.core ready.values calls.runs
     (asked b v c o ask parts calls.runs are) made)
     (suspend_made b v c ask parts laws calls.core made)

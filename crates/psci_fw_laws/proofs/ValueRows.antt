@@ -1,7 +1,7 @@
 -- Worked examples: granted depths, pending cores, what is outstanding, and limits.
 use Rattle.std.proofs.Common.{◌≡◌, List, [], ◌∷◌, true, None, Some, refl}
 use Rattle.psci_board.specs.Board.{core_of, up}
-use Rattle.psci_coord.specs.Claim.{claim_of}
+use Rattle.psci_coord.specs.Claim.{claims_of}
 use Rattle.psci_coord.specs.LastCore.{last_core_check, refusal, shallow, shallow_at}
 use Rattle.psci_coord.specs.View.{generation, is_idle, least_ask}
 use Rattle.psci_fw_model.specs.Claims.{off_parts, suspend_parts}
@@ -30,7 +30,7 @@ after_calls steps = values_of board (history_of board steps)
 
 -- core 3 goes off: its cluster, the other core of which was never started, is granted power-down
 cluster_granted : (after_calls (enter 0 1 1 ∷ on_3 ∷ enter 3 1 1 ∷ off 3 ∷ [])).granted 1 1 ≡ 3
-unfolding answer values_of outcome_of enter_outcome target_of core_of off_parts view up claim_of
+unfolding answer values_of outcome_of enter_outcome target_of core_of off_parts view up claims_of
     least_ask generation outstanding last_message changes_since
 cluster_granted = refl
 
@@ -39,17 +39,17 @@ abbrev asked_again : List Step
 asked_again = enter 0 1 1 ∷ on_3 ∷ enter 3 1 1 ∷ off 3 ∷ take Down 3 1 1 2 ∷ on_3 ∷ []
 
 again_current : known_below board (after_calls asked_again).known 1 1 ≡ 1
-unfolding answer values_of outcome_of enter_outcome target_of core_of off_parts view up claim_of
+unfolding answer values_of outcome_of enter_outcome target_of core_of off_parts view up claims_of
     least_ask generation outstanding last_message changes_since known_below
 again_current = refl
 
 again_not_granted : (after_calls asked_again).granted 1 1 ≡ 0
-unfolding answer values_of outcome_of enter_outcome target_of core_of off_parts view up claim_of
+unfolding answer values_of outcome_of enter_outcome target_of core_of off_parts view up claims_of
     least_ask generation outstanding last_message changes_since
 again_not_granted = refl
 
 again_pending : (after_calls asked_again).phase 3 ≡ Pending
-unfolding answer values_of outcome_of enter_outcome target_of core_of off_parts view up claim_of
+unfolding answer values_of outcome_of enter_outcome target_of core_of off_parts view up claims_of
     least_ask generation outstanding last_message changes_since
 again_pending = refl
 
@@ -87,7 +87,7 @@ entered_waits = refl
 
 down_waits : (after_calls (enter 0 1 1 ∷ on_3 ∷ enter 3 1 1 ∷ off 3 ∷ [])).outstanding (OfCore 3)
     ≡ Some (message Down 3 1 1 (part 0 3 1 ∷ part 1 3 1 ∷ []))
-unfolding answer values_of outcome_of enter_outcome target_of core_of off_parts view up claim_of
+unfolding answer values_of outcome_of enter_outcome target_of core_of off_parts view up claims_of
     least_ask generation outstanding last_message changes_since
 down_waits = refl
 
@@ -108,17 +108,17 @@ abbrev next_life : List Step
 next_life = enter 0 1 1 ∷ on_3 ∷ enter 3 1 1 ∷ off 3 ∷ enter 0 2 1 ∷ []
 
 next_unknown : (after_calls next_life).known 3 ≡ 0
-unfolding answer values_of outcome_of enter_outcome target_of core_of off_parts view up claim_of
+unfolding answer values_of outcome_of enter_outcome target_of core_of off_parts view up claims_of
     least_ask generation outstanding last_message changes_since
 next_unknown = refl
 
 next_nothing_waits : (after_calls next_life).outstanding (OfCore 3) ≡ None
-unfolding answer values_of outcome_of enter_outcome target_of core_of off_parts view up claim_of
+unfolding answer values_of outcome_of enter_outcome target_of core_of off_parts view up claims_of
     least_ask generation outstanding last_message changes_since
 next_nothing_waits = refl
 
 next_granted : (after_calls next_life).granted 1 1 ≡ 3
-unfolding answer values_of outcome_of enter_outcome target_of core_of off_parts view up claim_of
+unfolding answer values_of outcome_of enter_outcome target_of core_of off_parts view up claims_of
     least_ask generation outstanding last_message changes_since
 next_granted = refl
 
@@ -140,7 +140,7 @@ ceased_without_opening = refl
 
 -- a core that was asked on again asks nothing, although its last Down has its known start
 again_asks_nothing : ask board (after_calls asked_again) 3 0 ≡ 0
-unfolding answer values_of outcome_of enter_outcome target_of core_of off_parts view up claim_of
+unfolding answer values_of outcome_of enter_outcome target_of core_of off_parts view up claims_of
     least_ask generation outstanding last_message changes_since
 again_asks_nothing = refl
 
@@ -151,18 +151,18 @@ last_core = enter 0 1 1 ∷ smc 0 0x8400000f 1 0 0 ∷ smc 0 0xc4000003 0x100 0x
 
 last_core_granted : (after_calls last_core).granted 1 1 ≡ 3
 unfolding answer values_of outcome_of enter_outcome target_of core_of suspend_parts view up
-    claim_of last_core_check refusal shallow shallow_at is_idle generation outstanding
+    claims_of last_core_check refusal shallow shallow_at is_idle generation outstanding
     last_message changes_since
 last_core_granted = refl
 
 last_core_beside : ask board (after_calls last_core) 2 1 ≡ 0
 unfolding answer values_of outcome_of enter_outcome target_of core_of suspend_parts view up
-    claim_of last_core_check refusal shallow shallow_at is_idle generation outstanding
+    claims_of last_core_check refusal shallow shallow_at is_idle generation outstanding
     last_message changes_since
 last_core_beside = refl
 
 last_core_beside_itself : ask board (after_calls last_core) 2 0 ≡ 3
 unfolding answer values_of outcome_of enter_outcome target_of core_of suspend_parts view up
-    claim_of last_core_check refusal shallow shallow_at is_idle generation outstanding
+    claims_of last_core_check refusal shallow shallow_at is_idle generation outstanding
     last_message changes_since
 last_core_beside_itself = refl

@@ -4,7 +4,7 @@ use Rattle.psci_board.specs.Board.{BoardValue, cores, up}
 use Rattle.psci_coord.specs.declared.part.Part.{Part}
 use Rattle.psci_link.specs.Message.{MessageValue}
 use Rattle.psci_fw_model.specs.declared.mode.SuspendMode.TheVariants.{Platform}
-use Rattle.psci_fw_model.specs.Entry.{Entry, effect}
+use Rattle.psci_fw_model.specs.Exchange.{FwExchange, effect}
 use Rattle.psci_fw_model.specs.History.{values_of}
 use Rattle.psci_fw_model.specs.Legal.{IsLegal}
 use Rattle.psci_fw_model.specs.Said.{sent}
@@ -26,11 +26,11 @@ pub record IsAskedFor (b : BoardValue) (v : Values) (m : MessageValue) : Type 0 
       → p.depth ≤ ask b v c level
 
 -- A Down of a history was asked for when it was sent.
-pub record WasAsked (b : BoardValue) (h : List Entry) (m : MessageValue) : Type 0 where
+pub record WasAsked (b : BoardValue) (h : List FwExchange) (m : MessageValue) : Type 0 where
   -- the entry that sent it, with those since then and those before
-  pub since : List Entry
-  pub entry : Entry
-  pub before : List Entry
+  pub since : List FwExchange
+  pub entry : FwExchange
+  pub before : List FwExchange
   pub parts : since ++ (entry ∷ before) ≡ h
   pub legal : IsLegal b (entry ∷ before)
   pub sent : sent (effect b entry) ≡ Some m

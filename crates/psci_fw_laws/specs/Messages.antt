@@ -44,8 +44,8 @@ pub record IsSound (b : BoardValue) (m : MessageValue) : Type 0 where
       → slice_get m.parts (level + 1) ≡ Some q
       → p.generation ≤ q.generation
 
--- What a message of the present life says beside the firmware's values.
-pub record IsOfPresentLife (b : BoardValue) (halting : Bool) (known : ℕ → ℕ) (phase : ℕ → Phase)
+-- What a message of this life says beside the firmware's values.
+pub record IsOfThisLife (b : BoardValue) (halting : Bool) (known : ℕ → ℕ) (phase : ℕ → Phase)
     (m : MessageValue) : Type 0 where
   -- no number is above the known start, and no generation above the known starts below
   pub number : m.number ≤ known m.core.number
@@ -71,7 +71,7 @@ pub record IsSent (b : BoardValue) (life : ℕ) (halting : Bool) (known : ℕ �
     (m : MessageValue) : Type 0 where
   pub sound : IsSound b m
   pub begun : m.life ≤ life
-  pub present : m.life ≡ life → IsOfPresentLife b halting known phase m
+  pub present : m.life ≡ life → IsOfThisLife b halting known phase m
 
 -- each of these messages was
 abbrev pub AreSent : BoardValue → ℕ → Bool → (ℕ → ℕ) → (ℕ → Phase) → List MessageValue → Type 0

@@ -8,7 +8,7 @@ ghost use Rattle.psci_coord.specs.declared.part.Part.{Part};
 ghost use Rattle.psci_coord.specs.View.{generation};
 ghost use Rattle.psci_link.specs.declared.kind.Kind.TheVariants.{Down};
 ghost use Rattle.psci_link.specs.Message.{MessageValue};
-ghost use Rattle.psci_fw_model.specs.Entry.{Entry};
+ghost use Rattle.psci_fw_model.specs.Exchange.{FwExchange};
 ghost use Rattle.psci_fw_model.specs.History.{values_of};
 ghost use Rattle.psci_fw_model.specs.Invariant.{is_expected};
 ghost use Rattle.psci_fw_model.specs.Legal.{IsLegal};
@@ -32,14 +32,14 @@ use psci_fw_model::law_invariant;
 use psci_link::law_parts;
 
 /// Every message is of a life from 1 to the firmware's, within the board's limits; a Down is a
-/// claim whose generations never fall upwards. One of the present life is no newer than the known
+/// claim whose generations never fall upwards. One of this life is no newer than the known
 /// starts, and what its generations lack to them never falls upwards.
 pub fn law_messages()
-    ensures sent { (b : BoardValue) (h : List Entry) → IsBoard b → IsLegal b h
+    ensures sent { (b : BoardValue) (h : List FwExchange) → IsBoard b → IsLegal b h
         → let v = values_of b h in
         AreSent b v.life v.halting v.known v.phase (sent_messages b h) }
     // Core, life and number name one Down.
-    ensures once { (b : BoardValue) (h : List Entry) → IsBoard b → IsLegal b h
+    ensures once { (b : BoardValue) (h : List FwExchange) → IsBoard b → IsLegal b h
         → (j k : ℕ) (m n : MessageValue) → slice_get (sent_messages b h) j ≡ Some m
         → slice_get (sent_messages b h) k ≡ Some n → m.kind ≡ Down → n.kind ≡ Down
         → m.core.number ≡ n.core.number → m.life ≡ n.life → m.number ≡ n.number → j ≡ k }
@@ -50,19 +50,19 @@ pub fn law_messages()
 /// Two claims on one domain in one life have different generations. None of the firmware's life is
 /// newer than the known starts, and below a current one no core runs.
 pub fn law_claimed()
-    ensures apart { (b : BoardValue) (h : List Entry) → IsBoard b → IsLegal b h
+    ensures apart { (b : BoardValue) (h : List FwExchange) → IsBoard b → IsLegal b h
         → AreRising b (sent_messages b h) }
     // So life, domain and generation name one claim.
-    ensures once { (b : BoardValue) (h : List Entry) → IsBoard b → IsLegal b h
+    ensures once { (b : BoardValue) (h : List FwExchange) → IsBoard b → IsLegal b h
         → (life level place j k : ℕ) (m n : MessageValue) (p q : Part)
         → slice_get (sent_messages b h) j ≡ Some m → slice_get (sent_messages b h) k ≡ Some n
         → part_for b life level place m ≡ Some p → part_for b life level place n ≡ Some q
         → p.generation ≡ q.generation → j ≡ k }
-    ensures older { (b : BoardValue) (h : List Entry) → IsBoard b → IsLegal b h
+    ensures older { (b : BoardValue) (h : List FwExchange) → IsBoard b → IsLegal b h
         → let v = values_of b h in
         (level place : ℕ) (p : Part) → IsClaimOn b v.life level place p (sent_messages b h)
         → p.generation ≤ known_below b v.known level place }
-    ensures quiet { (b : BoardValue) (h : List Entry) → IsBoard b → IsLegal b h
+    ensures quiet { (b : BoardValue) (h : List FwExchange) → IsBoard b → IsLegal b h
         → let v = values_of b h in AreQuiet b v.life v.known v.phase (sent_messages b h) }
 {
     law_kept();
@@ -72,7 +72,7 @@ pub fn law_claimed()
 /// yet, is current: each core below has entered by its last start, and none runs. Where a part of a
 /// message has that generation, so has the part below it.
 pub fn law_live()
-    ensures { (b : BoardValue) (h : List Entry) → IsBoard b → IsLegal b h
+    ensures { (b : BoardValue) (h : List FwExchange) → IsBoard b → IsLegal b h
         → let v = values_of b h in (starts : ℕ → ℕ) → ((c : ℕ) → v.known c ≤ starts c)
         → AreLive b v.life v.known v.phase (sent_messages b h) starts }
 {
@@ -84,7 +84,7 @@ pub fn law_live()
 /// nor than what each core below asked of itself, nor, in platform-coordinated mode, than what each
 /// core below asked of the domain.
 pub fn law_asked()
-    ensures { (b : BoardValue) (h : List Entry) → IsBoard b → IsLegal b h
+    ensures { (b : BoardValue) (h : List FwExchange) → IsBoard b → IsLegal b h
         → (k : ℕ) (m : MessageValue) → slice_get (sent_messages b h) k ≡ Some m → m.kind ≡ Down
         → WasAsked b h m }
 {
@@ -95,22 +95,22 @@ pub fn law_asked()
 /// a path, nor than a core below asks of itself, so below a granted domain no core runs or is
 /// pending.
 pub fn law_granted()
-    ensures claims { (b : BoardValue) (h : List Entry) → IsBoard b → IsLegal b h
+    ensures claims { (b : BoardValue) (h : List FwExchange) → IsBoard b → IsLegal b h
         → let v = values_of b h in
         AreGranted b v.life v.known v.phase v.granted (sent_messages b h) }
-    ensures nested { (b : BoardValue) (h : List Entry) → IsBoard b → IsLegal b h
+    ensures nested { (b : BoardValue) (h : List FwExchange) → IsBoard b → IsLegal b h
         → let v = values_of b h in (c level : ℕ) → c < cores b → level < height b
         → v.granted (level + 1) (up b (level + 1) c) ≤ v.granted level (up b level c) }
-    ensures asked { (b : BoardValue) (h : List Entry) → IsBoard b → IsLegal b h
+    ensures asked { (b : BoardValue) (h : List FwExchange) → IsBoard b → IsLegal b h
         → let v = values_of b h in (c level : ℕ) → c < cores b → level ≤ height b
         → v.granted level (up b level c) ≤ ask b v c 0 }
-    ensures rests { (b : BoardValue) (h : List Entry) → IsBoard b → IsLegal b h
+    ensures rests { (b : BoardValue) (h : List FwExchange) → IsBoard b → IsLegal b h
         → let v = values_of b h in (c level : ℕ) → c < cores b → level ≤ height b
         → 0 < v.granted level (up b level c)
         → (v.phase c ≡ Running → ⊥) × (v.phase c ≡ Pending → ⊥) }
     // Below a domain with a current claim and without a pending core each domain has a current
     // claim that is no less deep.
-    ensures deeper { (b : BoardValue) (h : List Entry) → IsBoard b → IsLegal b h
+    ensures deeper { (b : BoardValue) (h : List FwExchange) → IsBoard b → IsLegal b h
         → let v = values_of b h in (c level : ℕ) (p : Part) → c < cores b → level < height b
         → IsClaimOn b v.life (level + 1) (up b (level + 1) c) p (sent_messages b h)
         → IsCurrent b v.known (level + 1) (up b (level + 1) c) p
@@ -126,7 +126,7 @@ pub fn law_granted()
 /// A core runs or is suspended only if it has entered in this life; one that has not is away or
 /// pending, and not ON.
 pub fn law_entered()
-    ensures { (b : BoardValue) (h : List Entry) → IsBoard b → IsLegal b h
+    ensures { (b : BoardValue) (h : List FwExchange) → IsBoard b → IsLegal b h
         → let v = values_of b h in AreEntered v.known v.status v.phase }
 {
     law_kept();
@@ -136,7 +136,7 @@ pub fn law_entered()
 /// While the life is not halting an opening waits exactly where a core is pending or was powered
 /// down by a suspend.
 pub fn law_openings()
-    ensures { (b : BoardValue) (h : List Entry) → IsBoard b → IsLegal b h
+    ensures { (b : BoardValue) (h : List FwExchange) → IsBoard b → IsLegal b h
         → let v = values_of b h in v.halting ≡ false → (c : ℕ)
         → is_some (v.opening c) ≡ is_expected (v.phase c) }
 {
@@ -146,7 +146,7 @@ pub fn law_openings()
 /// What is outstanding was sent in this life, for a core with its known start: a Start only while
 /// the core is pending, a Down only while it is not. For the system it is an Off or a Reset.
 pub fn law_outstanding()
-    ensures { (b : BoardValue) (h : List Entry) → IsBoard b → IsLegal b h
+    ensures { (b : BoardValue) (h : List FwExchange) → IsBoard b → IsLegal b h
         → let v = values_of b h in
         AreOutstanding v.life v.known v.phase (sent_messages b h) v.outstanding }
 {
@@ -155,7 +155,7 @@ pub fn law_outstanding()
 
 /// No start number, life or sum of starts passes its limit.
 pub fn law_numbers()
-    ensures { (b : BoardValue) (h : List Entry) → IsBoard b → IsLegal b h
+    ensures { (b : BoardValue) (h : List FwExchange) → IsBoard b → IsLegal b h
         → let v = values_of b h in AreWithin b v.life v.known (sent_messages b h) }
 {
     law_kept();

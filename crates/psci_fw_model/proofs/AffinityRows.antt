@@ -3,7 +3,7 @@ use Rattle.std.proofs.Common.{◌∷◌, ◌≡◌, List, [], map, refl, ℕ}
 use Rattle.std.specs.Prelude.{slice_index_or}
 use Rattle.psci_fw_model.specs.declared.status.Status.{Status}
 use Rattle.psci_fw_model.specs.declared.status.Status.TheVariants as statuses
-use Rattle.psci_fw_model.specs.AffinityInfo.{node_status, status_number, status_over}
+use Rattle.psci_fw_model.specs.AffinityInfo.{node_status, status_code, status_over}
 use Rattle.psci_fw_model.proofs.Steps.{◌⇒◌, AreAnswered, affinity, board, boot, boots, computing}
 use Rattle.psci_fw_model.proofs.Steps.{enter_on, enter_wake, error, goes_on_3, goes_to, off, on}
 use Rattle.psci_fw_model.proofs.Steps.{on_3, one_cluster, part, resumes, starts, stops, suspend}
@@ -121,7 +121,7 @@ affinities_of_a_tall_board = record { history = refl; values = refl }
 -- Statuses of nodes ---------------------------------------------------------------------------
 
 -- the numbers of the statuses
-numbers : map status_number (statuses.On ∷ statuses.Off ∷ statuses.Pending ∷ []) ≡ 0 ∷ 1 ∷ 2 ∷ []
+numbers : map status_code (statuses.On ∷ statuses.Off ∷ statuses.Pending ∷ []) ≡ 0 ∷ 1 ∷ 2 ∷ []
 numbers = refl
 
 -- a domain by the statuses of its cores

@@ -23,7 +23,7 @@ use Rattle.psci_fw_model.specs.CpuOn.{off_target, start_outcome, target_among, t
 use Rattle.psci_fw_model.specs.CpuOff.{off_message}
 use Rattle.psci_fw_model.specs.CpuSuspend.{ask_named, suspend_asked}
 use Rattle.psci_fw_model.specs.Effects.{Effect, GoesOn, Rests, function_effect, going_off}
-use Rattle.psci_fw_model.specs.Effects.{rest_named, suspended}
+use Rattle.psci_fw_model.specs.Effects.{rest_named, suspends}
 use Rattle.psci_fw_model.specs.Invariant.{AreValues, IsPhase}
 use Rattle.psci_fw_model.specs.Outcomes.{message_for}
 use Rattle.psci_fw_model.specs.Phases.{Phase, Pending, Running, Suspended, Away}
@@ -61,9 +61,9 @@ opens_where_deep o false = refl
 rests_kept : (b : BoardValue) (v : Values) (c : ℕ) (o : Opening) (ask : List ℕ)
     (parts : List Part) → IsCalling b v c → IsPhase b (Suspended ask)
     → suspend_parts b v c ask ≡ Ok parts
-    → Kept b v (Rests c (suspended o ask) (message_for v kinds.Down c parts))
+    → Kept b v (Rests c (suspends o ask) (message_for v kinds.Down c parts))
 rests_kept b v c o ask parts is asks e =
-    kept_resting b v c (suspended o ask) (message_for v kinds.Down c parts) is.known is.runs
+    kept_resting b v c (suspends o ask) (message_for v kinds.Down c parts) is.known is.runs
     is.awake is.are refl asks
     (opens_where_deep o (is_deep ask))
     (suspend_held b v c ask parts is.known is.on is.runs asks.0 is.are.phase

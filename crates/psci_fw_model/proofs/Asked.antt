@@ -9,7 +9,7 @@ use Rattle.psci_coord.specs.declared.part.Part.{Part}
 use Rattle.psci_coord.specs.Laws.{BelowLaws, ClaimLaws, PlatformLaws, OwnLaws, OffLaws}
 use Rattle.psci_coord.specs.Laws.{LastCoreLaws}
 use Rattle.psci_coord.specs.View.{PowerView, domain_of, is_all_off, least_ask}
-use Rattle.psci_link.specs.Message.{IsClaim, PartByPart}
+use Rattle.psci_link.specs.Message.{AreClaims, PartByPart}
 use Rattle.psci_state.specs.Ask.{IsAsk}
 use Rattle.psci_tree.specs.Recount.{IsActivity, asks, is_off}
 use Rattle.psci_fw_model.specs.Invariant.{IsPhase}
@@ -28,7 +28,7 @@ pub record Known (b : BoardValue) : Type 0 where
   pub off : (v : PowerView) (core : ℕ) → OffLaws b v core
   pub last_core : (v : PowerView) (core : ℕ) (ask : List ℕ) → core < cores b
       → LastCoreLaws b v core ask
-  pub parts : (ps : List Part) → PartByPart ps → IsClaim ps
+  pub parts : (ps : List Part) → PartByPart ps → AreClaims ps
 
 pub known_from : (b : BoardValue) → IsBoard b → ((b : BoardValue) → IsBoard b → PathLaws b)
     → ((b : BoardValue) → IsBoard b → WordLaws b)
@@ -41,7 +41,7 @@ pub known_from : (b : BoardValue) → IsBoard b → ((b : BoardValue) → IsBoar
     → ((b : BoardValue) (v : PowerView) (core : ℕ) → OffLaws b v core)
     → ((b : BoardValue) (v : PowerView) (core : ℕ) (ask : List ℕ) → IsBoard b → core < cores b
     → LastCoreLaws b v core ask)
-    → ((ps : List Part) → PartByPart ps → IsClaim ps)
+    → ((ps : List Part) → PartByPart ps → AreClaims ps)
     → Known b
 known_from b board paths words below claims platform own off last_core parts = record {
   paths = paths b board;

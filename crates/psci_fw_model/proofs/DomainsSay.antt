@@ -9,7 +9,7 @@ use Rattle.psci_fw_model.specs.After.{change}
 use Rattle.psci_fw_model.specs.Changes.{target}
 use Rattle.psci_fw_model.specs.Effects.{Effect, AsksOn, Rests}
 use Rattle.psci_fw_model.specs.Effects.{Enters, Parks, StopsAtOnce}
-use Rattle.psci_fw_model.specs.Entry.{Entry}
+use Rattle.psci_fw_model.specs.Exchange.{FwExchange}
 use Rattle.psci_fw_model.specs.History.{begins, granted, life, says_granted, values_of}
 use Rattle.psci_link.specs.OnlyIf.{only_if}
 use Rattle.psci_fw_model.specs.Lives.{first_granted}
@@ -38,7 +38,7 @@ claims_after false true p depth = refl
 claims_after false false p depth = refl
 
 -- of each effect
-module _ (b : BoardValue) (h : List Entry) where
+module _ (b : BoardValue) (h : List FwExchange) where
   abbrev last : ℕ → ℕ → Bool → ℕ
   last level place t = cond (not t) (first_granted b level place) (granted b h level place)
 

@@ -12,12 +12,13 @@ use Rattle.psci_fw_model.specs.declared.reply.FwReply.{FwReply}
 use Rattle.psci_fw_model.specs.declared.reply.FwReply.TheVariants.{Out}
 use Rattle.psci_link.specs.declared.start.Cause.TheVariants as causes
 use Rattle.psci_link.specs.declared.start.Start.{Start}
-use Rattle.psci_fw_model.specs.Effects.{Acknowledges, AsksOn, Effect, Enters, GoesOn, Halts, Nothing}
+use Rattle.psci_fw_model.specs.Effects.{Acknowledges, AsksOn, Effect, Enters, GoesOn, Halts}
+use Rattle.psci_fw_model.specs.Effects.{Nothing}
 use Rattle.psci_fw_model.specs.Effects.{Parks, Rests, SetsMode, Stops, StopsAtOnce, effect_of}
 use Rattle.psci_fw_model.specs.Lives.{start_of_life}
 use Rattle.psci_fw_model.specs.Outcomes.{executes_on}
 use Rattle.psci_fw_model.specs.Phases.{Away, Phase, Running, Suspended, is_away, is_resumable}
-use Rattle.psci_fw_model.specs.Phases.{is_running, is_waiting, unless_pending}
+use Rattle.psci_fw_model.specs.Phases.{is_running, is_suspended_or_pending, unless_pending}
 use Rattle.psci_fw_model.specs.Phases as phases
 use Rattle.psci_fw_model.specs.Said.{sent}
 use Rattle.psci_fw_model.specs.Views.{view}
@@ -181,7 +182,7 @@ away : map is_away all_phases ≡ false ∷ false ∷ false ∷ false ∷ false 
 away = refl
 
 -- which keep the system in platform-coordinated mode
-waiting : map is_waiting all_phases ≡ true ∷ false ∷ true ∷ true ∷ true ∷ false ∷ []
+waiting : map is_suspended_or_pending all_phases ≡ true ∷ false ∷ true ∷ true ∷ true ∷ false ∷ []
 waiting = refl
 
 -- which can resume

@@ -20,7 +20,7 @@ use Rattle.psci_fw_model.specs.declared.outcome.Outcome.{Outcome}
 use Rattle.psci_fw_model.specs.Calls.{function_outcome, outcome_of}
 use Rattle.psci_fw_model.specs.Claims.{suspend_parts}
 use Rattle.psci_fw_model.specs.CpuOn.{start_outcome, target_of}
-use Rattle.psci_fw_model.specs.CpuSuspend.{ask_named, sleeps, suspend_asked}
+use Rattle.psci_fw_model.specs.CpuSuspend.{ask_named, suspend_answer, suspend_asked}
 use Rattle.psci_fw_model.specs.Outcomes.{message_for, returns, stops, stops_with}
 use Rattle.psci_fw_model.specs.SystemCalls.{all_others, is_off_status, system_message}
 use Rattle.psci_fw_model.specs.SystemCalls.{system_reset2, system_suspend}
@@ -35,7 +35,7 @@ starts_with m = record { act = acts.Return success; message = Some m }
 sleep_ends : (P : Outcome → Type 0) (v : Values) (c : ℕ) (claim : Result (List Part) Osi)
     → ((code : Code) → P (returns code))
     → ((parts : List Part) → claim ≡ Ok parts → P (stops_with (message_for v kinds.Down c parts)))
-    → P (sleeps v c claim)
+    → P (suspend_answer v c claim)
 sleep_ends P v c (Err reason) returned stopped = returned _
 sleep_ends P v c (Ok parts) returned stopped = stopped parts refl
 
@@ -50,7 +50,7 @@ suspend_ends P b v c entry_point (Ok ask) returned stopped =
     by_tests (is_deep ask && not (may_enter b entry_point)) (v.known c == b.starts)
   where
     by_tests : (barred spent : Bool) → P (cond barred (returns invalid_address)
-        (cond spent (returns success) (sleeps v c (suspend_parts b v c ask))))
+        (cond spent (returns success) (suspend_answer v c (suspend_parts b v c ask))))
     by_tests true spent = returned invalid_address
     by_tests false true = returned success
     by_tests false false =
@@ -68,7 +68,7 @@ system_ends P b v c entry_point returned stopped =
   where
     by_tests : (barred others spent : Bool) → P (cond barred (returns invalid_address)
         (cond others (returns denied) (cond spent (returns denied)
-        (sleeps v c (suspend_parts b v c (deepest_of (height b)))))))
+        (suspend_answer v c (suspend_parts b v c (deepest_of (height b)))))))
     by_tests true others spent = returned invalid_address
     by_tests false true spent = returned denied
     by_tests false false true = returned denied

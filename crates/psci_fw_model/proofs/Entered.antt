@@ -25,7 +25,7 @@ use Rattle.psci_fw_model.specs.Changes.{with_arrival}
 use Rattle.psci_fw_model.specs.CpuOff.{off_message}
 use Rattle.psci_fw_model.specs.Effects.{Parks, effect_of, enter_effect}
 use Rattle.psci_fw_model.specs.Entering.{enter_fault, enter_outcome, is_old, outcome_at, resumes}
-use Rattle.psci_fw_model.specs.Entry.{Entry}
+use Rattle.psci_fw_model.specs.Exchange.{FwExchange}
 use Rattle.psci_fw_model.specs.History.{values_of}
 use Rattle.psci_fw_model.specs.Invariant.{AreValues, IsPhase}
 use Rattle.psci_fw_model.specs.Legal.{IsLegal}
@@ -178,9 +178,9 @@ kept_answer b v c (Take a) known are asks all = by_taken (taken_by v a)
 
 -- Histories -----------------------------------------------------------------------------------
 
-pub kept_legal : (b : BoardValue) (h : List Entry) → Known b → Worded b
+pub kept_legal : (b : BoardValue) (h : List FwExchange) → Known b → Worded b
     → IsPhase b (Suspended (deepest_of (height b))) → values_of b [] ≡ start_of_life b 0
-    → ((e : Entry) (h : List Entry)
+    → ((e : FwExchange) (h : List FwExchange)
     → values_of b (e ∷ h) ≡ after b e.core e.call e.reply (values_of b h))
     → IsLegal b h → AreValues b (values_of b h)
 kept_legal b [] known asks all first more legal =

@@ -24,7 +24,7 @@ use Rattle.psci_fw_model.specs.CpuSuspend.{ask_named}
 use Rattle.psci_fw_model.specs.Effects.{GoesOn, effect_of, enter_effect, function_effect}
 use Rattle.psci_fw_model.specs.Effects.{mode_effect, rest_named, rest_of, return_effect}
 use Rattle.psci_fw_model.specs.Effects.{sent_effect, stop_effect}
-use Rattle.psci_fw_model.specs.Entry.{Entry, effect}
+use Rattle.psci_fw_model.specs.Exchange.{FwExchange, effect}
 use Rattle.psci_fw_model.specs.History.{begins, life, phase_left}
 use Rattle.psci_link.specs.OnlyIf.{only_if}
 use Rattle.psci_fw_model.specs.Phases.{Phase, Pending, Running, Suspended, Away}
@@ -120,7 +120,7 @@ left_before : (t : Bool) (y : Phase) → IsLeft y → IsLeft (cond t Away y)
 left_before true y p = tt
 left_before false y p = p
 
-pub is_left : (b : BoardValue) (h : List Entry) (k : ℕ) → IsLeft (phase_left b h k)
+pub is_left : (b : BoardValue) (h : List FwExchange) (k : ℕ) → IsLeft (phase_left b h k)
 is_left b [] k = tt
 is_left b (e ∷ h) k =
     left_after k (left (effect b e)) _ (effect_left b e.core e.call e.reply)

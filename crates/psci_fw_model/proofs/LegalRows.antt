@@ -12,10 +12,10 @@ use Rattle.psci_fw_model.specs.declared.outcome.Act.{Act}
 use Rattle.psci_fw_model.specs.declared.outcome.Act.TheVariants as acts
 use Rattle.psci_fw_model.specs.declared.reply.FwReply.{FwReply}
 use Rattle.psci_fw_model.specs.declared.reply.FwReply.TheVariants.{Out}
-use Rattle.psci_fw_model.specs.Entry.{Entry}
+use Rattle.psci_fw_model.specs.Exchange.{FwExchange}
 use Rattle.psci_fw_model.specs.Legal.{IsLegal, is_legal, legal_reply}
 use Rattle.psci_fw_model.specs.Said.{sent}
-use Rattle.psci_fw_model.specs.Same.{fault_number, is_same_reply}
+use Rattle.psci_fw_model.specs.Same.{fault_code, is_same_reply}
 use Rattle.psci_fw_model.proofs.Steps.{◌⇒◌, Row, Step, board, boot, boots, code, computing}
 use Rattle.psci_fw_model.proofs.Steps.{enter_on, enter_wake, goes_on_3, goes_to, history_from}
 use Rattle.psci_fw_model.proofs.Steps.{message, old, on_3, part, refused, resumes, starts, stops}
@@ -23,7 +23,7 @@ use Rattle.psci_fw_model.proofs.Steps.{stops_by, stops_still, suspend, system_of
 use Rattle.psci_fw_model.proofs.Steps.{used, value, version, with_entry}
 
 -- the history of calls that are answered as the definitions say is legal, whatever the calls
-legal_from : (b : BoardValue) (h : List Entry) (steps : List Step) → IsLegal b h
+legal_from : (b : BoardValue) (h : List FwExchange) (steps : List Step) → IsLegal b h
     → IsLegal b (history_from b h steps)
 legal_from b h [] legal = legal
 legal_from b h (s ∷ ss) legal =
@@ -211,7 +211,7 @@ unfolding computing
 answered_call = refl
 
 -- each refusal is another one
-refusals_differ : map fault_number (NoCore ∷ NoLife ∷ NotRunning ∷ OldStart ∷ [])
+refusals_differ : map fault_code (NoCore ∷ NoLife ∷ NotRunning ∷ OldStart ∷ [])
     ≡ 1 ∷ 2 ∷ 3 ∷ 4 ∷ []
 refusals_differ = refl
 

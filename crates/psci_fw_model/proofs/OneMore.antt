@@ -3,7 +3,7 @@ use Rattle.std.proofs.Common.{◌≡◌, List, [], ◌∷◌, refl}
 use Rattle.psci_board.specs.Board.{BoardValue}
 use Rattle.psci_link.specs.Outstanding.{last_message, outstanding}
 use Rattle.psci_fw_model.specs.After.{after}
-use Rattle.psci_fw_model.specs.Entry.{Entry, effect}
+use Rattle.psci_fw_model.specs.Exchange.{FwExchange, effect}
 use Rattle.psci_fw_model.specs.History.{values_of}
 use Rattle.psci_fw_model.specs.Lives.{start_of_life}
 use Rattle.psci_fw_model.proofs.DomainsSay.{granted_more}
@@ -18,7 +18,7 @@ pub values_none : (b : BoardValue) → values_of b [] ≡ start_of_life b 0
 unfolding values_of outstanding last_message
 values_none b = refl
 
-pub values_more : IsOneMore → (b : BoardValue) (e : Entry) (h : List Entry)
+pub values_more : IsOneMore → (b : BoardValue) (e : FwExchange) (h : List FwExchange)
     → values_of b (e ∷ h) ≡ after b e.core e.call e.reply (values_of b h)
 unfolding values_of after
 values_more one b e h = λ i. record {

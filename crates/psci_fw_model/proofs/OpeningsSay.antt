@@ -9,7 +9,7 @@ use Rattle.psci_fw_model.specs.After.{change}
 use Rattle.psci_fw_model.specs.Changes.{target}
 use Rattle.psci_fw_model.specs.Effects.{Effect, AsksOn, Rests}
 use Rattle.psci_fw_model.specs.Effects.{Enters, Parks, StopsAtOnce}
-use Rattle.psci_fw_model.specs.Entry.{Entry}
+use Rattle.psci_fw_model.specs.Exchange.{FwExchange}
 use Rattle.psci_fw_model.specs.History.{begins, life, opening, says_opening, values_of}
 use Rattle.psci_link.specs.OnlyIf.{only_if}
 use Rattle.psci_fw_model.specs.Lives.{first_opening}
@@ -17,7 +17,7 @@ use Rattle.psci_fw_model.specs.Said.{arrived}
 use Rattle.psci_fw_model.proofs.Says.{found, said, said_or}
 
 -- of each effect
-module _ (b : BoardValue) (h : List Entry) where
+module _ (b : BoardValue) (h : List FwExchange) where
   found_opening : (now : ℕ) (t : Bool) (k : ℕ)
       → cond (not t) (first_opening b k) (opening b h k) ≡ (found b h now t).opening k
   unfolding values_of

@@ -13,7 +13,7 @@ use Rattle.psci_fw_model.specs.AffinityInfo as affinity
 use Rattle.psci_fw_model.specs.Changes.{target}
 use Rattle.psci_fw_model.specs.Effects.{Effect, AsksOn}
 use Rattle.psci_fw_model.specs.Effects.{Enters, Parks, StopsAtOnce, Acknowledges}
-use Rattle.psci_fw_model.specs.Entry.{Entry, effect}
+use Rattle.psci_fw_model.specs.Exchange.{FwExchange, effect}
 use Rattle.psci_fw_model.specs.History.{begins, is_gone, is_pending, life, phase}
 use Rattle.psci_link.specs.OnlyIf.{only_if}
 use Rattle.psci_fw_model.specs.History.{phase_left, says_pending, says_status, status}
@@ -62,7 +62,7 @@ away_not_pending false last e = refl
 -- One more entry ------------------------------------------------------------------------------
 
 module _ (b : BoardValue) where
-  gone_away : (c : ℕ) (h : List Entry) (a : AckValue) → is_gone b c h a ≡ true
+  gone_away : (c : ℕ) (h : List FwExchange) (a : AckValue) → is_gone b c h a ≡ true
       → is_pending b h c ≡ false
   gone_away c h a e =
       let told = is_kind a.kind Down && nat_lt 0 a.applied in
@@ -70,7 +70,7 @@ module _ (b : BoardValue) where
       away_not_pending (is_pending b h c) (phase_left b h c)
       (and_parts told (is_away (phase b h c)) core.1).1
 
-  more_agree : (c : ℕ) (h : List Entry) (f : Effect) → Agree (status b h c) (is_pending b h c)
+  more_agree : (c : ℕ) (h : List FwExchange) (f : Effect) → Agree (status b h c) (is_pending b h c)
       → Agree
       (unwrap_or (says_status b c h f)
       (cond (begins (life b h) (arrived f)) (first_status c) (status b h c)))
@@ -88,7 +88,7 @@ module _ (b : BoardValue) where
       gone_agree (is_gone b c h a) _ _ (gone_away c h a) e
   more_agree c h f e = e
 
-  agree : (h : List Entry) (c : ℕ) → Agree (status b h c) (is_pending b h c)
+  agree : (h : List FwExchange) (c : ℕ) → Agree (status b h c) (is_pending b h c)
   agree [] c = first_agree (c == 0)
   agree (e ∷ h) c = more_agree c h (effect b e) (agree h c)
 
@@ -103,7 +103,7 @@ pending_phase : (p : Bool) (last : Phase) → IsLeft last → cond p Pending las
 pending_phase true last is e = refl
 pending_phase false last is e = absurd (subst IsLeft e is)
 
-pub pending_same : (b : BoardValue) (h : List Entry) (c : ℕ)
+pub pending_same : (b : BoardValue) (h : List FwExchange) (c : ℕ)
     → (status b h c ≡ statuses.Pending) ↔ (phase b h c ≡ Pending)
 pending_same b h c = (
   λ e. ap (λ (p : Bool). cond p Pending (phase_left b h c))

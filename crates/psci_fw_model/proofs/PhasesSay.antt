@@ -8,7 +8,7 @@ use Rattle.psci_fw_model.specs.After.{change}
 use Rattle.psci_fw_model.specs.Changes.{target}
 use Rattle.psci_fw_model.specs.Effects.{Effect, GoesOn, SetsMode, AsksOn, Rests, Halts}
 use Rattle.psci_fw_model.specs.Effects.{Stops, Enters, Parks, StopsAtOnce}
-use Rattle.psci_fw_model.specs.Entry.{Entry}
+use Rattle.psci_fw_model.specs.Exchange.{FwExchange}
 use Rattle.psci_fw_model.specs.History.{begins, is_pending, life, phase_left, says_left}
 use Rattle.psci_link.specs.OnlyIf.{only_if}
 use Rattle.psci_fw_model.specs.History.{says_pending, values_of}
@@ -68,7 +68,7 @@ enters_once pending false l = refl
 
 -- One more entry ------------------------------------------------------------------------------
 
-module _ (b : BoardValue) (h : List Entry) where
+module _ (b : BoardValue) (h : List FwExchange) where
   abbrev first_pending : Bool → ℕ → Bool
   first_pending t k = cond (not t) (k == 0) (is_pending b h k)
 

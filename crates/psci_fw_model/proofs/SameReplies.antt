@@ -19,9 +19,9 @@ use Rattle.psci_fw_model.specs.declared.outcome.Act.TheVariants as acts
 use Rattle.psci_fw_model.specs.declared.reply.FwReply.{FwReply}
 use Rattle.psci_fw_model.specs.declared.reply.FwReply.TheVariants.{Out, Fault}
 use Rattle.psci_fw_model.specs.declared.reply.FwReply.TheVariants as replies
-use Rattle.psci_fw_model.specs.Entry.{Entry}
+use Rattle.psci_fw_model.specs.Exchange.{FwExchange}
 use Rattle.psci_fw_model.specs.Legal.{IsLegal, is_legal, legal_reply}
-use Rattle.psci_fw_model.specs.Same.{are_same_parts, fault_number, is_same_act, is_same_message}
+use Rattle.psci_fw_model.specs.Same.{are_same_parts, fault_code, is_same_act, is_same_message}
 use Rattle.psci_fw_model.specs.Same.{is_same_reply, is_same_sent, is_same_taken}
 
 -- Equal to itself -----------------------------------------------------------------------------
@@ -71,7 +71,7 @@ taken_itself takens.Old = refl
 reply_itself : (r : FwReply) → is_same_reply r r ≡ true
 reply_itself (Out o) = both _ _ (act_itself o.act) (sent_itself o.message)
 reply_itself (replies.Taken t) = taken_itself t
-reply_itself (Fault f) = nat_itself (fault_number f)
+reply_itself (Fault f) = nat_itself (fault_code f)
 
 -- Equal where the test holds ------------------------------------------------------------------
 
@@ -82,7 +82,7 @@ kind_same kinds.Off kinds.Off e = refl
 kind_same kinds.Reset kinds.Reset e = refl
 kind_same k l e = absurd (cc)
 
-fault_same : (f g : FwFault) → (fault_number f == fault_number g) ≡ true → f ≡ g
+fault_same : (f g : FwFault) → (fault_code f == fault_code g) ≡ true → f ≡ g
 fault_same faults.NoCore faults.NoCore e = refl
 fault_same faults.NoLife faults.NoLife e = refl
 fault_same faults.NotRunning faults.NotRunning e = refl
@@ -168,13 +168,13 @@ reply_same r s e = absurd (cc)
 
 -- Histories -----------------------------------------------------------------------------------
 
-pub legal_tested : (b : BoardValue) (h : List Entry) → IsLegal b h → is_legal b h ≡ true
+pub legal_tested : (b : BoardValue) (h : List FwExchange) → IsLegal b h → is_legal b h ≡ true
 legal_tested b [] legal = refl
 legal_tested b (e ∷ h) legal =
     both _ _ (ap (is_same_reply e.reply) (sym legal.0) ∙ reply_itself e.reply)
     (legal_tested b h legal.1)
 
-pub tested_legal : (b : BoardValue) (h : List Entry) → is_legal b h ≡ true → IsLegal b h
+pub tested_legal : (b : BoardValue) (h : List FwExchange) → is_legal b h ≡ true → IsLegal b h
 tested_legal b [] e = tt
 tested_legal b (x ∷ h) e =
     let reply = legal_reply b h x.core x.call in

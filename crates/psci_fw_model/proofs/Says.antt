@@ -9,7 +9,7 @@ use Rattle.psci_link.specs.declared.start.Start.{Start}
 use Rattle.psci_fw_model.specs.After.{change}
 use Rattle.psci_fw_model.specs.Effects.{Effect}
 use Rattle.psci_fw_model.specs.Effects.{Enters, Parks, StopsAtOnce}
-use Rattle.psci_fw_model.specs.Entry.{Entry}
+use Rattle.psci_fw_model.specs.Exchange.{FwExchange}
 use Rattle.psci_fw_model.specs.History.{begins, halting, known, life, life_after, mode}
 use Rattle.psci_link.specs.OnlyIf.{only_if}
 use Rattle.psci_fw_model.specs.History.{says_halting, says_known, says_mode, values_of}
@@ -29,11 +29,11 @@ said_or true x y = refl
 said_or false x y = refl
 
 -- the values that a core finds that enters in this life, where the life is the firmware's or not
-abbrev pub found : BoardValue → List Entry → ℕ → Bool → Values
+abbrev pub found : BoardValue → List FwExchange → ℕ → Bool → Values
 found b h now t = cond t (values_of b h) (start_of_life b now)
 
 -- of each effect
-module _ (b : BoardValue) (h : List Entry) where
+module _ (b : BoardValue) (h : List FwExchange) where
   abbrev left_by : Effect → Values
   left_by f = change b f (values_of b h)
 

@@ -8,7 +8,7 @@ use Rattle.psci_link.specs.declared.start.Start.{Start}
 use Rattle.psci_fw_model.specs.After.{change}
 use Rattle.psci_fw_model.specs.Effects.{Effect, AsksOn, Rests, Halts}
 use Rattle.psci_fw_model.specs.Effects.{Enters, Parks, StopsAtOnce, Acknowledges}
-use Rattle.psci_fw_model.specs.Entry.{Entry}
+use Rattle.psci_fw_model.specs.Exchange.{FwExchange}
 use Rattle.psci_fw_model.specs.History.{begins, changes, life, values_of}
 use Rattle.psci_fw_model.specs.Said.{arrival_changes, arrived, slot_changes}
 use Rattle.psci_fw_model.proofs.Says.{found}
@@ -20,7 +20,7 @@ IsOneMore = (slot : Slot) (change : Change) (changes : List Change)
     ≡ changed slot change (slots.outstanding slot changes)
 
 -- of each effect
-module _ (one : IsOneMore) (b : BoardValue) (h : List Entry) where
+module _ (one : IsOneMore) (b : BoardValue) (h : List FwExchange) where
   abbrev before : List Change
   before = changes b h
 

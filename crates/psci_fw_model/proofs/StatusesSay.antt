@@ -11,7 +11,7 @@ use Rattle.psci_fw_model.specs.After.{change}
 use Rattle.psci_fw_model.specs.Changes.{target}
 use Rattle.psci_fw_model.specs.Effects.{Effect, AsksOn}
 use Rattle.psci_fw_model.specs.Effects.{Enters, Parks, StopsAtOnce, Acknowledges}
-use Rattle.psci_fw_model.specs.Entry.{Entry}
+use Rattle.psci_fw_model.specs.Exchange.{FwExchange}
 use Rattle.psci_fw_model.specs.History.{begins, life, phase, says_status, status}
 use Rattle.psci_link.specs.OnlyIf.{only_if}
 use Rattle.psci_fw_model.specs.History.{values_of}
@@ -21,7 +21,7 @@ use Rattle.psci_fw_model.specs.Said.{arrived}
 use Rattle.psci_fw_model.proofs.Says.{found, said, said_or}
 
 -- of each effect
-module _ (b : BoardValue) (h : List Entry) where
+module _ (b : BoardValue) (h : List FwExchange) where
   found_status : (now : ℕ) (t : Bool) (k : ℕ)
       → cond (not t) (first_status k) (status b h k) ≡ (found b h now t).status k
   unfolding values_of

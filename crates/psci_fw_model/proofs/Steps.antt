@@ -3,7 +3,7 @@ use Rattle.std.proofs.Common.{◌≡◌, ℕ, zero, suc, ℤ, pos, negsuc, Bool,
 use Rattle.std.proofs.Common.{List, [], ◌∷◌, map, reverse, None, Some}
 use Rattle.psci_board.specs.Board.{BoardValue, core_of, node_of, up}
 use Rattle.psci_coord.specs.declared.part.Part.{Part}
-use Rattle.psci_coord.specs.Claim.{claim_of}
+use Rattle.psci_coord.specs.Claim.{claims_of}
 use Rattle.psci_coord.specs.LastCore.{last_core_check, refusal, shallow, shallow_at}
 use Rattle.psci_coord.specs.View.{generation, is_all_off, is_idle, least_ask}
 use Rattle.psci_link.specs.declared.kind.Kind.{Kind}
@@ -26,7 +26,7 @@ use Rattle.psci_fw_model.specs.Calls.{outcome_of}
 use Rattle.psci_fw_model.specs.Claims.{off_parts, suspend_parts}
 use Rattle.psci_fw_model.specs.CpuOn.{target_of}
 use Rattle.psci_fw_model.specs.Entering.{enter_outcome}
-use Rattle.psci_fw_model.specs.Entry.{Entry}
+use Rattle.psci_fw_model.specs.Exchange.{FwExchange}
 use Rattle.psci_fw_model.specs.History.{values_of}
 use Rattle.psci_fw_model.specs.Legal.{legal_reply}
 use Rattle.psci_fw_model.specs.Lives.{start_of_life}
@@ -38,7 +38,7 @@ use Rattle.psci_fw_model.specs.Views.{view}
 -- what an example unfolds to compute answers and values on calls that are written out
 unfoldable pub computing : Unit {0}
 unfolding answer values_of after outcome_of enter_outcome target_of core_of node_of node_status
-    off_parts suspend_parts view up claim_of least_ask generation is_all_off is_idle
+    off_parts suspend_parts view up claims_of least_ask generation is_all_off is_idle
     last_core_check refusal shallow shallow_at outstanding last_message changes_since sent_messages
     statuses
 computing = tt
@@ -269,16 +269,16 @@ abbrev pub ◌⇒◌ : Step → FwReply → Row
 step ⇒ reply = record { step = step; reply = reply }
 
 -- one more entry of a history: this call with this reply
-abbrev pub with_entry : Step → FwReply → List Entry → List Entry
+abbrev pub with_entry : Step → FwReply → List FwExchange → List FwExchange
 with_entry s reply h = record { core = s.core; call = s.call; reply = reply } ∷ h
 
 -- the legal history of these calls, the first one first, after a history
-abbrev pub history_from : BoardValue → List Entry → List Step → List Entry
+abbrev pub history_from : BoardValue → List FwExchange → List Step → List FwExchange
 history_from b h [] = h
 history_from b h (s ∷ ss) =
     history_from b (with_entry s (legal_reply b h s.core s.call) h) ss
 
-abbrev pub history_of : BoardValue → List Step → List Entry
+abbrev pub history_of : BoardValue → List Step → List FwExchange
 history_of b steps = history_from b [] steps
 
 -- the replies by looking backwards along the history, the first one first
@@ -298,6 +298,6 @@ pub record AreAnswered (b : BoardValue) (rows : List Row) : Type 0 where
   pub values : by_values b (start_of_life b 0) (map (λ r. r.step) rows) ≡ map (λ r. r.reply) rows
 
 -- the values that are kept from call to call, after the calls and replies of a history
-abbrev pub kept_after : BoardValue → List Entry → Values
+abbrev pub kept_after : BoardValue → List FwExchange → Values
 kept_after b [] = start_of_life b 0
 kept_after b (e ∷ h) = after b e.core e.call e.reply (kept_after b h)

@@ -4,7 +4,7 @@ use Rattle.std.proofs.Common.{arith, Option, None, Some}
 use Rattle.std.specs.Prelude.{is_some}
 use Rattle.std.specs.Option.{option_or}
 use Rattle.psci_board.specs.Board.{BoardValue, cores}
-use Rattle.psci_coord.specs.Claim.{claim_of, least_wish, off_wish, own_wish}
+use Rattle.psci_coord.specs.Claim.{claims_of, least_wish, off_wish, own_wish}
 use Rattle.psci_coord.specs.declared.part.Part.{Part}
 use Rattle.psci_coord.specs.View.{PowerView}
 use Rattle.psci_link.specs.Message.{MessageValue}
@@ -15,8 +15,8 @@ use Rattle.psci_fw_model.specs.declared.mode.SuspendMode.TheVariants.{Platform, 
 use Rattle.psci_fw_model.specs.declared.opening.Opening.{Opening}
 use Rattle.psci_link.specs.declared.start.Start.{Start}
 use Rattle.psci_fw_model.specs.declared.status.Status.TheVariants as statuses
-use Rattle.psci_fw_model.specs.Changes.{Rest, with_arrival, with_claim, with_phase, with_rest}
-use Rattle.psci_fw_model.specs.Claims.{leaving_claim, off_parts, suspend_claim, suspend_parts}
+use Rattle.psci_fw_model.specs.Changes.{Rest, with_arrival, with_claims, with_phase, with_rest}
+use Rattle.psci_fw_model.specs.Claims.{leaving_claims, off_parts, suspend_claims, suspend_parts}
 use Rattle.psci_fw_model.specs.Invariant.{AreValues, IsPhase, agrees, is_expected}
 use Rattle.psci_fw_model.specs.Lives.{in_life}
 use Rattle.psci_fw_model.specs.Paths.{cleared, granted_with}
@@ -53,9 +53,9 @@ held_of b v known are e = record {
 held_laid : (b : BoardValue) (mode : SuspendMode) (old new : ℕ → Phase) (w : PowerView)
     (granted : ℕ → ℕ → ℕ) (c : ℕ) (want : ℕ → ℕ) → Known b → c < cores b → ChangedAt old new c
     → asks_at b (old c) 0 ≡ 0 → AreHeld b mode old granted → AreWanted b mode new granted c want
-    → AreHeld b mode new (granted_with b c (claim_of b w c want) granted)
+    → AreHeld b mode new (granted_with b c (claims_of b w c want) granted)
 held_laid b mode old new w granted c want known on changed none held wants =
-    let parts : List Part = claim_of b w c want in
+    let parts : List Part = claims_of b w c want in
     let is = claim_laid b w granted c want known wants.falls
     (λ level h. none_granted b old granted c level known.paths held.bounds on none h) in
     let g : AreGranted b mode new (granted_with b c parts granted) =
@@ -73,7 +73,7 @@ leaving_held : (b : BoardValue) (mode : SuspendMode) (old : ℕ → Phase) (w : 
     (granted : ℕ → ℕ → ℕ) (c : ℕ) → Known b → c < cores b → ChangedAt old w.phase c
     → ((y : ℕ) → IsAsking (w.phase y)) → w.phase c ≡ Away → asks_at b (old c) 0 ≡ 0
     → AreHeld b mode old granted
-    → AreHeld b mode w.phase (granted_with b c (leaving_claim b (view b w) c mode) granted)
+    → AreHeld b mode w.phase (granted_with b c (leaving_claims b (view b w) c mode) granted)
 leaving_held b Platform old w granted c known on changed asking away none held =
     held_laid b Platform old w.phase (view b w) granted c (least_wish b (view b w) c) known on
     changed none held
@@ -100,12 +100,12 @@ off_held b v old c known on left changed are none held =
 suspended_held : (b : BoardValue) (v : Values) (c : ℕ) (ask : List ℕ) (parts : List Part)
     (mode : SuspendMode) → Known b → c < cores b → v.phase c ≡ Running → IsAsk ask
     → ((y : ℕ) → IsPhase b (v.phase y)) → AreHeld b mode v.phase v.granted
-    → suspend_claim b v c ask mode ≡ Ok parts
+    → suspend_claims b v c ask mode ≡ Ok parts
     → AreHeld b mode (with_phase c (Suspended ask) v).phase (granted_with b c parts v.granted)
 suspended_held b v c ask parts Platform known on runs is are held e =
     let left = ran_left (v.phase c) (Suspended ask) runs in
     let w : Values = with_phase c (Suspended ask) v in
-    let same : claim_of b (view b w) c (least_wish b (view b w) c) ≡ parts = cc e in
+    let same : claims_of b (view b w) c (least_wish b (view b w) c) ≡ parts = cc e in
     let none : asks_at b (v.phase c) 0 ≡ 0 =
     ap (λ (p : Phase). asks_at b p 0) runs ∙ asked_running b 0 in
     let asking = left_each IsAsking v c (Suspended ask) (Suspended ask) left is
@@ -118,7 +118,7 @@ suspended_held b v c ask parts Platform known on runs is are held e =
 suspended_held b v c ask parts OsInitiated known on runs is are held e =
     let left = ran_left (v.phase c) (Suspended ask) runs in
     let w : Values = with_phase c (Suspended ask) v in
-    let same : parts ≡ claim_of b (view b v) c (own_wish ask) =
+    let same : parts ≡ claims_of b (view b v) c (own_wish ask) =
     (known.last_core (view b v) c ask on).parts parts e in
     let none : asks_at b (v.phase c) 0 ≡ 0 =
     ap (λ (p : Phase). asks_at b p 0) runs ∙ asked_running b 0 in
@@ -155,7 +155,7 @@ pub kept_resting : (b : BoardValue) (v : Values) (c : ℕ) (rest : Rest) (m : Me
     → is_some rest.opening ≡ is_expected rest.phase
     → AreHeld b v.mode (with_phase c rest.phase v).phase
     (granted_with b m.core.number m.parts v.granted)
-    → AreValues b (with_claim b m (with_rest c rest v))
+    → AreValues b (with_claims b m (with_rest c rest v))
 kept_resting b v c rest m known runs awake are agree is opens held =
     let left = ran_left (v.phase c) rest.phase runs in
     let on : v.status c ≡ statuses.On = on_where_runs (v.status c) (v.phase c) (are.agree c) runs in
@@ -170,7 +170,7 @@ kept_resting b v c rest m known runs awake are agree is opens held =
       phase = left_each (IsPhase b) v c rest.phase rest.phase left is are.phase;
       nested = held.bounds.nested;
       asked = held.bounds.asked;
-      awake = λ e. awake_from b (with_claim b m (with_rest c rest v)) known
+      awake = λ e. awake_from b (with_claims b m (with_rest c rest v)) known
           (both_updated (λ o p. is_some o ≡ is_expected p) v.opening v.phase c
           (option_or rest.opening (v.opening c)) (unless_pending (v.phase c) rest.phase)
           (own_or rest.opening (v.opening c) waits ∙ opens ∙ sym (ap is_expected left))
@@ -184,7 +184,7 @@ pub kept_parking : (b : BoardValue) (v : Values) (c : ℕ) (s : Start) (m : Mess
     → (in_life b s.life v).opening c ≡ None → AreValues b (in_life b s.life v)
     → AreHeld b (in_life b s.life v).mode (with_phase c Away (with_arrival b c s v)).phase
     (granted_with b m.core.number m.parts (cleared b c (in_life b s.life v).granted))
-    → AreValues b (with_claim b m (with_phase c Away (with_arrival b c s v)))
+    → AreValues b (with_claims b m (with_phase c Away (with_arrival b c s v)))
 kept_parking b v c s m known within awake none are held =
     let f : Values = in_life b s.life v in
     let opens = (are.awake awake).opening in
@@ -195,7 +195,7 @@ kept_parking b v c s m known within awake none are held =
       phase = phase_away b (with_arrival b c s v) c are.phase;
       nested = held.bounds.nested;
       asked = held.bounds.asked;
-      awake = λ e. awake_from b (with_claim b m (with_phase c Away (with_arrival b c s v))) known
+      awake = λ e. awake_from b (with_claims b m (with_phase c Away (with_arrival b c s v))) known
           (both_updated (λ o p. is_some o ≡ is_expected p) f.opening f.phase c None
           (unless_pending (f.phase c) Away) (sym (ap is_expected left)) opens)
           held.equal;

@@ -11,7 +11,7 @@ use Rattle.psci_fw_model.specs.declared.mode.SuspendMode.TheVariants.{Platform}
 use Rattle.psci_fw_model.specs.declared.opening.Opening.{Opening}
 use Rattle.psci_fw_model.specs.declared.status.Status.{Status}
 use Rattle.psci_fw_model.specs.declared.status.Status.TheVariants as statuses
-use Rattle.psci_fw_model.specs.Entry.{Entry}
+use Rattle.psci_fw_model.specs.Exchange.{FwExchange}
 use Rattle.psci_fw_model.specs.History.{granted, halting, known, life, mode, opening, phase, status}
 use Rattle.psci_fw_model.specs.History.{values_of}
 use Rattle.psci_fw_model.specs.Lives.{first_granted, first_opening}
@@ -182,7 +182,7 @@ core_entered = record { history = refl; kept = refl }
 -- Other histories -----------------------------------------------------------------------------
 
 -- the history says these values, and so do the values that are kept, whatever was replied
-pub record Tells (h : List Entry) (values : Shown) : Type 0 where
+pub record Tells (h : List FwExchange) (values : Shown) : Type 0 where
   pub history : shown (values_of board h) ≡ values
   pub kept : shown (kept_after board h) ≡ values
 

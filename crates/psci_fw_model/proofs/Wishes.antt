@@ -5,7 +5,7 @@ use Rattle.std.specs.Prelude.{slice_get, length, Some}
 use Rattle.std.proofs.lemmas.Bool.{cases_Bool, cases_lt}
 use Rattle.std.proofs.lemmas.Option.{slice_get-get_or, slice_get_past}
 use Rattle.psci_board.specs.Board.{BoardValue, cores, height, up}
-use Rattle.psci_coord.specs.Claim.{claim_of, least_wish, off_wish, own_wish}
+use Rattle.psci_coord.specs.Claim.{claims_of, least_wish, off_wish, own_wish}
 use Rattle.psci_coord.specs.LastCore.{last_core_check}
 use Rattle.psci_coord.specs.declared.part.Part.{Part}
 use Rattle.psci_coord.specs.View.{PowerView, domain_of, is_all_off}
@@ -45,9 +45,9 @@ want_none b want low (suc high) falls none h i = elim (cases_lt high low) [
 pub claim_laid : (b : BoardValue) (w : PowerView) (granted : ℕ → ℕ → ℕ) (c : ℕ) (want : ℕ → ℕ)
     → Known b → ((level : ℕ) → level < height b → want (level + 1) ≤ want level)
     → ((level : ℕ) → level ≤ height b → granted level (up b level c) ≡ 0)
-    → AreLaid b granted c (claim_of b w c want) want
+    → AreLaid b granted c (claims_of b w c want) want
 claim_laid b w granted c want known falls none level i =
-    let parts : List Part = claim_of b w c want in
+    let parts : List Part = claims_of b w c want in
     let laws = known.claims w c want in
     elim (cases_lt level (length parts)) [
       | inl inside ↦

@@ -11,10 +11,10 @@ use Rattle.psci_fw_model.specs.declared.status.Status.TheVariants.{On, Off, Pend
 use Rattle.psci_fw_model.specs.Values.{Values}
 
 -- what AFFINITY_INFO answers for a status (DEN0022D, AFFINITY_INFO: ON, OFF, ON_PENDING)
-abbrev pub status_number : Status → ℕ
-status_number On = 0
-status_number Off = 1
-status_number Pending = 2
+abbrev pub status_code : Status → ℕ
+status_code On = 0
+status_code Off = 1
+status_code Pending = 2
 
 -- whether a status is ON
 abbrev pub is_on : Status → Bool
@@ -45,7 +45,7 @@ node_status b status n =
 -- what AFFINITY_INFO answers, by the node that its affinity word names
 abbrev pub affinity_of : BoardValue → Values → Option Node → Code
 affinity_of b v None = invalid_parameters
-affinity_of b v (Some n) = record { 0 = pos (status_number (node_status b v.status n)) }
+affinity_of b v (Some n) = record { 0 = pos (status_code (node_status b v.status n)) }
 
 -- AFFINITY_INFO: the status of the core or power domain that the word names at the level
 abbrev pub affinity_info : BoardValue → Values → ℕ → ℕ → Code

@@ -3,7 +3,7 @@ use Rattle.std.specs.Prelude.{ℕ}
 use Rattle.psci_board.specs.Board.{BoardValue}
 use Rattle.psci_fw_model.specs.declared.call.FwCall.{FwCall}
 use Rattle.psci_fw_model.specs.declared.reply.FwReply.{FwReply}
-use Rattle.psci_fw_model.specs.Changes.{with_acknowledgement, with_arrival, with_claim, with_halt}
+use Rattle.psci_fw_model.specs.Changes.{with_acknowledgement, with_arrival, with_claims, with_halt}
 use Rattle.psci_fw_model.specs.Changes.{with_mode, with_pending, with_phase, with_rest}
 use Rattle.psci_fw_model.specs.Changes.{with_running}
 use Rattle.psci_fw_model.specs.Effects.{Effect, Nothing, GoesOn, SetsMode, AsksOn, Rests, Halts}
@@ -17,11 +17,11 @@ change b Nothing v = v
 change b (GoesOn c) v = with_phase c Running v
 change b (SetsMode c mode) v = with_phase c Running (with_mode mode v)
 change b (AsksOn c asked) v = with_phase c Running (with_pending b asked v)
-change b (Rests c rest m) v = with_claim b m (with_rest c rest v)
+change b (Rests c rest m) v = with_claims b m (with_rest c rest v)
 change b (Halts c m) v = with_halt m (with_phase c Away v)
 change b (Stops c) v = with_phase c Away v
 change b (Enters c s) v = with_running c (with_arrival b c s v)
-change b (Parks c s m) v = with_claim b m (with_phase c Away (with_arrival b c s v))
+change b (Parks c s m) v = with_claims b m (with_phase c Away (with_arrival b c s v))
 change b (StopsAtOnce c s) v = with_phase c Away (with_arrival b c s v)
 change b (Acknowledges a) v = with_acknowledgement a v
 

@@ -71,8 +71,8 @@ with_rest c rest v = record (with_phase c rest.phase v) {
 }
 
 -- a Down was sent: the domains of its parts are granted what it claims
-abbrev pub with_claim : BoardValue → MessageValue → Values → Values
-with_claim b m v =
+abbrev pub with_claims : BoardValue → MessageValue → Values → Values
+with_claims b m v =
     with_sent m (record v { granted = granted_with b m.core.number m.parts v.granted })
 
 -- the system was asked to go off, or to be reset

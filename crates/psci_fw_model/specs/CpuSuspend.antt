@@ -31,9 +31,9 @@ osi_code Invalid = invalid_parameters
 osi_code Denied = denied
 
 -- a core stops with its claim, or is answered why not
-abbrev pub sleeps : Values → ℕ → Result (List Part) Osi → Outcome
-sleeps v c (Err reason) = returns (osi_code reason)
-sleeps v c (Ok parts) = stops_with (message_for v Down c parts)
+abbrev pub suspend_answer : Values → ℕ → Result (List Part) Osi → Outcome
+suspend_answer v c (Err reason) = returns (osi_code reason)
+suspend_answer v c (Ok parts) = stops_with (message_for v Down c parts)
 
 -- A core asks for this: an entry point is looked at only where the core powers down. At the start
 -- limit it could never be woken: it goes on at once.
@@ -42,7 +42,7 @@ suspend_asked b v c entry_point (Err bad) = returns invalid_parameters
 suspend_asked b v c entry_point (Ok ask) =
     if is_deep ask && not (may_enter b entry_point) then returns invalid_address
     else (if v.known c == b.starts then returns success
-    else sleeps v c (suspend_parts b v c ask))
+    else suspend_answer v c (suspend_parts b v c ask))
 
 -- CPU_SUSPEND (DEN0022D): the power state is looked at first, then the entry point, then the core's
 -- known start, and last, in OS-initiated mode, the other cores

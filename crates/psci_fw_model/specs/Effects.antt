@@ -54,8 +54,8 @@ pub data Effect : Type 0 where
 -- Functions -----------------------------------------------------------------------------------
 
 -- a core that was suspended with this ask; where it powers down it goes on at this opening
-abbrev pub suspended : Opening → List ℕ → Rest
-suspended opening ask = record {
+abbrev pub suspends : Opening → List ℕ → Rest
+suspends opening ask = record {
   phase = Suspended ask;
   opening = if is_deep ask then Some opening else None;
 }
@@ -66,7 +66,7 @@ going_off = record { phase = Away; opening = None }
 
 -- the rest of a core that asked for a power state; a word that is none stops no core
 abbrev pub rest_named : Opening → Result (List ℕ) BadState → Rest
-rest_named opening (Ok ask) = suspended opening ask
+rest_named opening (Ok ask) = suspends opening ask
 rest_named opening (Err bad) = going_off
 
 -- how a function leaves a caller that it stops: suspended, or going off
@@ -74,7 +74,7 @@ abbrev pub rest_of : BoardValue → Request → Rest
 rest_of b (requests.CpuSuspend state entry_point context) =
     rest_named (record { address = entry_point; context = context }) (ask_named b state)
 rest_of b (requests.SystemSuspend entry_point context) =
-    suspended (record { address = entry_point; context = context }) (deepest_of (height b))
+    suspends (record { address = entry_point; context = context }) (deepest_of (height b))
 rest_of b request = going_off
 
 -- a function stopped its caller and sent this

@@ -9,7 +9,7 @@ pub mod CpuOn
 pub mod CpuSuspend
 pub mod Effects
 pub mod Entering
-pub mod Entry
+pub mod Exchange
 pub mod History
 pub mod Invariant
 pub mod Legal

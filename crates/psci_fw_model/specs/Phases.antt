@@ -31,11 +31,11 @@ is_away Away = true
 
 -- whether a core of this phase keeps the system in platform-coordinated mode: it is suspended or
 -- pending
-abbrev pub is_waiting : Phase → Bool
-is_waiting Pending = true
-is_waiting Running = false
-is_waiting (Suspended ask) = true
-is_waiting Away = false
+abbrev pub is_suspended_or_pending : Phase → Bool
+is_suspended_or_pending Pending = true
+is_suspended_or_pending Running = false
+is_suspended_or_pending (Suspended ask) = true
+is_suspended_or_pending Away = false
 
 -- whether a core of this phase is suspended in standby or retention, so that it can resume
 abbrev pub is_resumable : Phase → Bool

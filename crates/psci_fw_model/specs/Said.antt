@@ -41,10 +41,10 @@ sent (Parks c s m) = Some m
 sent e = None
 
 -- the Down of a core that stopped, if one was sent
-abbrev pub claimed : Effect → Option MessageValue
-claimed (Rests c rest m) = Some m
-claimed (Parks c s m) = Some m
-claimed e = None
+abbrev pub claims_sent : Effect → Option MessageValue
+claims_sent (Rests c rest m) = Some m
+claims_sent (Parks c s m) = Some m
+claims_sent e = None
 
 -- A core, and what its outcome left it doing.
 pub record Left : Type 0 where

@@ -16,11 +16,11 @@ use Rattle.psci_fw_model.specs.declared.reply.FwReply.TheVariants.{Out, Fault}
 use Rattle.psci_fw_model.specs.declared.reply.FwReply.TheVariants as replies
 
 -- each refusal by a number of its own
-abbrev pub fault_number : FwFault → ℕ
-fault_number faults.NoCore = 1
-fault_number faults.NoLife = 2
-fault_number faults.NotRunning = 3
-fault_number faults.OldStart = 4
+abbrev pub fault_code : FwFault → ℕ
+fault_code faults.NoCore = 1
+fault_code faults.NoLife = 2
+fault_code faults.NotRunning = 3
+fault_code faults.OldStart = 4
 
 -- two lists with the same parts in the same order
 abbrev pub are_same_parts : List Part → List Part → Bool
@@ -62,5 +62,5 @@ is_same_taken t u = false
 abbrev pub is_same_reply : FwReply → FwReply → Bool
 is_same_reply (Out o) (Out p) = is_same_act o.act p.act && is_same_sent o.message p.message
 is_same_reply (replies.Taken t) (replies.Taken u) = is_same_taken t u
-is_same_reply (Fault f) (Fault g) = fault_number f == fault_number g
+is_same_reply (Fault f) (Fault g) = fault_code f == fault_code g
 is_same_reply r s = false

@@ -2,10 +2,10 @@
 use Rattle.std.specs.Prelude.{List, [], ◌∷◌, ◌++◌}
 use Rattle.psci_board.specs.Board.{BoardValue}
 use Rattle.psci_link.specs.Message.{MessageValue}
-use Rattle.psci_fw_model.specs.Entry.{Entry, effect}
+use Rattle.psci_fw_model.specs.Exchange.{FwExchange, effect}
 use Rattle.psci_fw_model.specs.Said.{listed, sent}
 
 -- all messages of a history, over all lives, the last first
-unfoldable pub sent_messages : BoardValue → List Entry → List MessageValue
+unfoldable pub sent_messages : BoardValue → List FwExchange → List MessageValue
 sent_messages b [] = []
 sent_messages b (e ∷ h) = listed (sent (effect b e)) ++ sent_messages b h

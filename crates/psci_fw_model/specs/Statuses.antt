@@ -3,8 +3,8 @@ use Rattle.std.specs.Prelude.{ℕ, ◌==◌, if◌then◌else◌, List, [], ◌�
 use Rattle.psci_board.specs.Board.{BoardValue}
 use Rattle.psci_fw_model.specs.declared.status.Status.{Status}
 use Rattle.psci_fw_model.specs.declared.status.Status.TheVariants.{Off}
-use Rattle.psci_fw_model.specs.AffinityInfo.{status_number}
-use Rattle.psci_fw_model.specs.Entry.{Entry, effect}
+use Rattle.psci_fw_model.specs.AffinityInfo.{status_code}
+use Rattle.psci_fw_model.specs.Exchange.{FwExchange, effect}
 use Rattle.psci_fw_model.specs.History.{begins, life, status}
 use Rattle.psci_fw_model.specs.Lives.{first_status}
 use Rattle.psci_fw_model.specs.Said.{arrived}
@@ -12,11 +12,11 @@ use Rattle.psci_fw_model.specs.Said.{arrived}
 -- one more status, where it is another one than the last
 abbrev pub added : Status → List Status → List Status
 added s [] = s ∷ []
-added s (t ∷ ts) = if status_number s == status_number t then t ∷ ts else s ∷ t ∷ ts
+added s (t ∷ ts) = if status_code s == status_code t then t ∷ ts else s ∷ t ∷ ts
 
 -- The statuses of a core, the last first. A core is OFF before any life; where a life begins it has
--- the status of the life's start, and after each entry the status that the history says.
-unfoldable pub statuses : BoardValue → List Entry → ℕ → List Status
+-- the status of the life's start, and after each exchange the status that the history says.
+unfoldable pub statuses : BoardValue → List FwExchange → ℕ → List Status
 statuses b [] c = Off ∷ []
 statuses b (e ∷ h) c =
     if life b (e ∷ h) == 0 then statuses b h c

@@ -6,7 +6,7 @@ use Rattle.psci_abi.specs.declared.code.Code.{Code}
 use Rattle.psci_board.specs.Board.{BoardValue, cores}
 use Rattle.psci_fw_model.specs.declared.mode.SuspendMode.{SuspendMode}
 use Rattle.psci_fw_model.specs.declared.mode.SuspendMode.TheVariants.{Platform, OsInitiated}
-use Rattle.psci_fw_model.specs.Phases.{is_away, is_waiting}
+use Rattle.psci_fw_model.specs.Phases.{is_away, is_suspended_or_pending}
 use Rattle.psci_fw_model.specs.SystemCalls.{all_others}
 use Rattle.psci_fw_model.specs.Values.{Values}
 
@@ -27,7 +27,7 @@ is_mode m n = false
 abbrev pub may_set : BoardValue → Values → ℕ → SuspendMode → Bool
 may_set b v c Platform = all_others b c (λ k. is_away (v.phase k))
 may_set b v c OsInitiated =
-    not (list_any (λ k. is_waiting (v.phase k)) (range_with_len 0 (cores b)))
+    not (list_any (λ k. is_suspended_or_pending (v.phase k)) (range_with_len 0 (cores b)))
 
 -- what it answers, by the mode of its number
 abbrev pub mode_asked : BoardValue → Values → ℕ → Option SuspendMode → Code

@@ -10,7 +10,7 @@ use Rattle.psci_fw_model.specs.declared.outcome.Outcome.{Outcome}
 use Rattle.psci_fw_model.specs.declared.status.Status.{Status}
 use Rattle.psci_fw_model.specs.declared.status.Status.TheVariants as statuses
 use Rattle.psci_fw_model.specs.Claims.{suspend_parts}
-use Rattle.psci_fw_model.specs.CpuSuspend.{sleeps}
+use Rattle.psci_fw_model.specs.CpuSuspend.{suspend_answer}
 use Rattle.psci_fw_model.specs.Outcomes.{message_for, returns, stops_with}
 use Rattle.psci_fw_model.specs.Values.{Values}
 
@@ -31,7 +31,7 @@ system_suspend b v c entry_point =
     if not (may_enter b entry_point) then returns invalid_address
     else (if not (all_others b c (λ k. is_off_status (v.status k))) then returns denied
     else (if v.known c == b.starts then returns denied
-    else sleeps v c (suspend_parts b v c (deepest_of (height b)))))
+    else suspend_answer v c (suspend_parts b v c (deepest_of (height b)))))
 
 -- SYSTEM_OFF and SYSTEM_RESET (DEN0022D): the caller stops, with the message of this kind
 abbrev pub system_message : Values → Kind → ℕ → Outcome

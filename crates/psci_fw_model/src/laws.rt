@@ -7,7 +7,7 @@ ghost use Rattle.psci_abi.specs.declared.request.Request.{Request};
 ghost use Rattle.psci_abi.specs.declared.request.Request.TheVariants.{CpuOn};
 ghost use Rattle.psci_board.specs.Board.{BoardValue, IsBoard, cores, core_of};
 ghost use Rattle.psci_coord.specs.declared.part.Part.{Part};
-ghost use Rattle.psci_link.specs.Message.{AckValue, IsClaim};
+ghost use Rattle.psci_link.specs.Message.{AckValue, AreClaims};
 ghost use Rattle.psci_state.specs.Ask.{IsAsk};
 ghost use Rattle.psci_fw_model.specs.declared.call.FwCall.{FwCall};
 ghost use Rattle.psci_fw_model.specs.declared.call.FwCall.TheVariants.{Smc, Enter};
@@ -26,7 +26,7 @@ ghost use Rattle.psci_fw_model.specs.Claims.{off_parts, suspend_parts};
 ghost use Rattle.psci_fw_model.specs.Effects.{Effect, AsksOn, GoesOn, effect_of, enter_effect};
 ghost use Rattle.psci_fw_model.specs.Effects.{function_effect};
 ghost use Rattle.psci_fw_model.specs.Entering.{enter_fault, enter_outcome};
-ghost use Rattle.psci_fw_model.specs.Entry.{Entry};
+ghost use Rattle.psci_fw_model.specs.Exchange.{FwExchange};
 ghost use Rattle.psci_fw_model.specs.History.{phase, status, values_of};
 ghost use Rattle.psci_fw_model.specs.Invariant.{AreValues};
 ghost use Rattle.psci_fw_model.specs.Legal.{IsLegal, is_legal};
@@ -41,11 +41,11 @@ use psci_link::{law_parts, law_slots};
 use psci_state::law_power_states;
 
 /// The values that a history says are those of a life's start before any core has entered, and
-/// after one more entry those that the entry leaves. So kept values say what the history says,
-/// whichever entries it has.
+/// after one more exchange those that the exchange leaves. So kept values say what the history
+/// says, whichever exchanges it has.
 pub fn law_values()
     ensures first { (b : BoardValue) → values_of b [] ≡ start_of_life b 0 }
-    ensures more { (b : BoardValue) (e : Entry) (h : List Entry)
+    ensures more { (b : BoardValue) (e : FwExchange) (h : List FwExchange)
         → values_of b (e ∷ h) ≡ after b e.core e.call e.reply (values_of b h) }
 {
     law_slots();
@@ -53,14 +53,14 @@ pub fn law_values()
 
 /// A core is pending exactly where its status is ON_PENDING, after every history.
 pub fn law_pending()
-    ensures { (b : BoardValue) (h : List Entry) (c : ℕ)
+    ensures { (b : BoardValue) (h : List FwExchange) (c : ℕ)
         → (status b h c ≡ statuses.Pending) ↔ (phase b h c ≡ Pending) }
 {}
 
 /// A history is legal where the test says so, and nowhere else.
 pub fn law_legal()
-    ensures tested { (b : BoardValue) (h : List Entry) → IsLegal b h → is_legal b h ≡ true }
-    ensures legal { (b : BoardValue) (h : List Entry) → is_legal b h ≡ true → IsLegal b h }
+    ensures tested { (b : BoardValue) (h : List FwExchange) → IsLegal b h → is_legal b h ≡ true }
+    ensures legal { (b : BoardValue) (h : List FwExchange) → is_legal b h ≡ true → IsLegal b h }
 {}
 
 /// What holds of the firmware's values holds at the start of a life, and after each answer: no
@@ -81,7 +81,7 @@ pub fn law_invariant()
         → AreValues b (with_acknowledgement a v) }
     ensures answer { (b : BoardValue) (v : Values) (c : ℕ) (call : FwCall) → IsBoard b
         → AreValues b v → AreValues b (after b c call (answer b v c call) v) }
-    ensures legal { (b : BoardValue) (h : List Entry) → IsBoard b → IsLegal b h
+    ensures legal { (b : BoardValue) (h : List FwExchange) → IsBoard b → IsLegal b h
         → AreValues b (values_of b h) }
 {
     law_paths();
@@ -102,15 +102,15 @@ pub fn law_invariant()
 pub fn law_stops()
     // A core that goes off.
     ensures off { (b : BoardValue) (v : Values) (c : ℕ) → IsBoard b → c < cores b → AreValues b v
-        → v.phase c ≡ Running → IsClaim (off_parts b v c) }
+        → v.phase c ≡ Running → AreClaims (off_parts b v c) }
     // A core that parks.
     ensures parks { (b : BoardValue) (v : Values) (c : ℕ) (s : Start) → IsBoard b → c < cores b
         → AreValues b v → (in_life b s.life v).halting ≡ false
-        → (in_life b s.life v).opening c ≡ None → IsClaim (off_parts b (with_arrival b c s v) c) }
+        → (in_life b s.life v).opening c ≡ None → AreClaims (off_parts b (with_arrival b c s v) c) }
     // A core that is suspended.
     ensures suspended { (b : BoardValue) (v : Values) (c : ℕ) (ask : List ℕ) (parts : List Part)
         → IsBoard b → c < cores b → AreValues b v → v.phase c ≡ Running → IsAsk ask
-        → suspend_parts b v c ask ≡ Ok parts → IsClaim parts }
+        → suspend_parts b v c ask ≡ Ok parts → AreClaims parts }
 {
     law_paths();
     law_words();

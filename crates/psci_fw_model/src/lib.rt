@@ -5,7 +5,7 @@
 //!   acknowledgement that arrives.
 //! - A *start* is one power-up of a core; the starts of a core are numbered from 1 in each life.
 //! - A *life* is the time from one power-up of the whole system to its next reset.
-//! - An *entry* is an item of a history: one call with its reply.
+//! - An *exchange* is an item of a history: one call with its reply.
 //! - A *place* is the position of a core or power domain on its level, counted from 0.
 //! - An *opening* is where a core goes on when it next enters: entry point and context id.
 #![tactic(auto)]

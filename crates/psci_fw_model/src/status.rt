@@ -1,7 +1,7 @@
 //! The status of a core or of a power domain.
 
 ghost use Rattle.std.specs.Prelude.{◌≡◌, pos};
-ghost use Rattle.psci_fw_model.specs.AffinityInfo.{is_on, is_pending_status, status_number};
+ghost use Rattle.psci_fw_model.specs.AffinityInfo.{is_on, is_pending_status, status_code};
 
 use psci_abi::Code;
 
@@ -33,7 +33,7 @@ impl Status {
 
     /// The return code that stands for it: 0 ON, 1 OFF, 2 ON_PENDING.
     pub fn code(self) -> Code
-        ensures { result ≡ record { 0 = pos (status_number self) } }
+        ensures { result ≡ record { 0 = pos (status_code self) } }
     {
         match self {
             Status::On => Code(0),

@@ -16,7 +16,7 @@ use Rattle.psci_fw_model.specs.declared.status.Status.TheVariants as statuses
 use Rattle.psci_fw_model.specs.Changes.{turns_off, with_acknowledgement}
 use Rattle.psci_fw_model.specs.Phases.{is_away}
 use Rattle.psci_fw_model.specs.Values.{Values, updated}
-use Rattle.psci_tree.specs.Recount.{core_at}
+use Rattle.psci_tree.specs.Recount.{state_at}
 use Rattle.psci_tree.specs.declared.state.Activity.{Activity}
 use Rattle.psci_tree.specs.declared.state.Activity.TheVariants as activities
 use Rattle.psci_tree.specs.declared.state.CoreState.{CoreState}
@@ -121,10 +121,10 @@ off_of s rows slots a off row left =
       phase = stays (values_in s).phase (values_in (record s { rows = rows; slots = slots })).phase
           a.core.number _
           (both_set (λ (r : CoreRow) (x : CoreState). phase_by r.status x.activity) (row_at s.rows)
-          (row_at rows) (core_at s.tree) (core_at s.tree) a.core.number _ _ row
-          (same_set (core_at s.tree) a.core.number))
+          (row_at rows) (state_at s.tree) (state_at s.tree) a.core.number _ _ row
+          (same_set (state_at s.tree) a.core.number))
           (away_phase (row_at s.rows a.core.number).status statuses.Off
-          (core_at s.tree a.core.number).activity away);
+          (state_at s.tree a.core.number).activity away);
       opening = stays (λ k. (row_at s.rows k).opening) (λ k. (row_at rows k).opening)
           a.core.number _ (ap_set (λ (r : CoreRow). r.opening) _ _ _ _ row) refl;
       granted = λ l p. refl;

@@ -14,7 +14,7 @@ use Rattle.psci_link.specs.Slots.{Slot, SlotsValue, message_in, no_messages}
 use Rattle.psci_link.specs.Slots.Slot.{OfCore, OfSystem}
 use Rattle.psci_tree.specs.declared.state.Activity.TheVariants as activities
 use Rattle.psci_tree.specs.declared.state.CoreState.{CoreState}
-use Rattle.psci_tree.specs.Recount.{IsDomainTree, TreeValue, core_at, granted_at, level_sizes}
+use Rattle.psci_tree.specs.Recount.{IsDomainTree, TreeValue, state_at, granted_at, level_sizes}
 use Rattle.psci_tree.specs.Recount.{never_started}
 use Rattle.psci_fw_model.specs.declared.mode.SuspendMode.TheVariants.{Platform}
 use Rattle.psci_fw_model.specs.declared.status.Status.TheVariants as statuses
@@ -163,7 +163,7 @@ granted_first b u l p is e law =
 
 pub at_start : (b : BoardValue) (life : ℕ) (u : TreeValue) (rows : List CoreRow)
     (slots : SlotsValue) → IsBoard b → IsDomainTree u → u.levels ≡ b.levels
-    → ((c : ℕ) → core_at u c ≡ first_core c)
+    → ((c : ℕ) → state_at u c ≡ first_core c)
     → ((l p : ℕ) → l ≤ height b → p < nodes b l
     → granted_at u l p ≡ cond (place_above b.levels l 0 == p) 0 3)
     → AreFirst b rows → ((slot : Slot) → message_in slots slot ≡ None)
@@ -185,7 +185,7 @@ at_start b life u rows slots is tree levels cores_are granted first empty =
       known = λ c. ap (λ (x : CoreState). x.known) (cores_are c) ∙ first_known c;
       status = λ c. ap (λ (r : CoreRow). r.status) (each c);
       phase = λ c.
-          ap (λ (r : CoreRow). phase_by r.status (core_at u c).activity) (each c)
+          ap (λ (r : CoreRow). phase_by r.status (state_at u c).activity) (each c)
           ∙ ap (λ (x : CoreState). phase_by (first_status c) x.activity) (cores_are c)
           ∙ first_is c;
       opening = λ c. ap (λ (r : CoreRow). r.opening) (each c);

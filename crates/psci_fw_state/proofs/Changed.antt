@@ -7,7 +7,7 @@ use Rattle.std.proofs.lemmas.List.{get_or-set_same, get_or-set_other}
 use Rattle.psci_board.specs.Board.{BoardValue, cores, size_below}
 use Rattle.psci_tree.specs.declared.state.Activity.TheVariants as activities
 use Rattle.psci_tree.specs.declared.state.CoreState.{CoreState}
-use Rattle.psci_tree.specs.Recount.{TreeValue, core_at, granted_at, known_at}
+use Rattle.psci_tree.specs.Recount.{TreeValue, state_at, granted_at, known_at}
 use Rattle.psci_fw_model.specs.declared.status.Status.{Status}
 use Rattle.psci_fw_model.specs.declared.status.Status.TheVariants as statuses
 use Rattle.psci_fw_model.specs.Changes.{with_phase}
@@ -51,7 +51,7 @@ same_set f c = record { here = refl; else = λ k n. refl }
 
 -- The state of a core in the tree, by the tree's law.
 pub core_set : (t u : TreeValue) (c : ℕ) (x : CoreState)
-    → ((k : ℕ) → core_at u k ≡ cond (c == k) x (core_at t k)) → Set (core_at t) (core_at u) c x
+    → ((k : ℕ) → state_at u k ≡ cond (c == k) x (state_at t k)) → Set (state_at t) (state_at u) c x
 core_set t u c x law = record {
   here = let at : (c == c) ≡ true = grind arith in law c ∙ (rw at refl);
   else = λ k n.
@@ -133,7 +133,7 @@ row_count b s now e is of =
 -- a core that is not pending is off or going off
 away_of : (s : StateValue) (u : TreeValue) (c : ℕ)
     → is_pending_phase ((values_in s).phase c) ≡ false
-    → Set (core_at s.tree) (core_at u) c (record {
+    → Set (state_at s.tree) (state_at u) c (record {
       activity = activities.Off;
       known = known_at s.tree c;
     })
@@ -150,7 +150,7 @@ away_of s u c not at granted = same_values _ _ (record {
   phase = λ k.
       updated_is (values_in s).phase (values_in (record s { tree = u })).phase c _
       (both_set (λ (r : CoreRow) (x : CoreState). phase_by r.status x.activity) (row_at s.rows)
-      (row_at s.rows) (core_at s.tree) (core_at u) c _ _ (same_set (row_at s.rows) c) at) k
+      (row_at s.rows) (state_at s.tree) (state_at u) c _ _ (same_set (row_at s.rows) c) at) k
       ∙ ap (λ (p : Phase). updated (values_in s).phase c p k) (off_is_away (row_at s.rows c).status
       ∙ sym (left_not_pending ((values_in s).phase c) phases.Away not));
   opening = λ k. refl;
@@ -160,9 +160,9 @@ away_of s u c not at granted = same_values _ _ (record {
 
 pub away_changed : (s now : StateValue) (u : TreeValue) (c : ℕ) → s ≡ now
     → is_pending_phase ((values_in now).phase c) ≡ false
-    → ((k : ℕ) → core_at u k
+    → ((k : ℕ) → state_at u k
     ≡ cond (c == k) (record { activity = activities.Off; known = known_at s.tree c })
-    (core_at s.tree k))
+    (state_at s.tree k))
     → ((l p : ℕ) → granted_at u l p ≡ granted_at s.tree l p)
     → values_in (record s { tree = u }) ≡ with_phase c phases.Away (values_in now)
 away_changed s now u c e not at granted =

@@ -13,14 +13,14 @@ use Rattle.psci_state.specs.Ask.{is_deep}
 use Rattle.psci_tree.specs.declared.state.Activity.{Activity}
 use Rattle.psci_tree.specs.declared.state.Activity.TheVariants as activities
 use Rattle.psci_tree.specs.declared.state.CoreState.{CoreState}
-use Rattle.psci_tree.specs.Recount.{TreeValue, core_at, granted_at, known_at}
+use Rattle.psci_tree.specs.Recount.{TreeValue, state_at, granted_at, known_at}
 use Rattle.psci_fw_model.specs.declared.opening.Opening.{Opening}
 use Rattle.psci_link.specs.declared.start.Start.{Start}
 use Rattle.psci_fw_model.specs.declared.status.Status.{Status}
 use Rattle.psci_fw_model.specs.declared.status.Status.TheVariants as statuses
 use Rattle.psci_fw_model.specs.Changes.{with_arrival, with_pending, with_phase, with_rest}
 use Rattle.psci_fw_model.specs.Changes.{with_running}
-use Rattle.psci_fw_model.specs.Effects.{suspended}
+use Rattle.psci_fw_model.specs.Effects.{suspends}
 use Rattle.psci_fw_model.specs.Lives.{in_life}
 use Rattle.psci_fw_model.specs.Paths.{cleared}
 use Rattle.psci_fw_model.specs.Phases.{Phase, unless_pending}
@@ -46,7 +46,7 @@ rows_set old mid new c r e f =
 
 pub suspended_of : (s : StateValue) (u : TreeValue) (rows : List CoreRow) (c : ℕ) (ask : List ℕ)
     (o : Option Opening) → (values_in s).phase c ≡ phases.Running
-    → Set (core_at s.tree) (core_at u) c (record {
+    → Set (state_at s.tree) (state_at u) c (record {
       activity = activities.Suspended ask;
       known = known_at s.tree c;
     })
@@ -69,7 +69,7 @@ suspended_of s u rows c ask o running at row granted = same_values _ _ (record {
   phase = λ k.
       updated_is (values_in s).phase (values_in (record s { tree = u; rows = rows })).phase c _
       (both_set (λ (r : CoreRow) (x : CoreState). phase_by r.status x.activity) (row_at s.rows)
-      (row_at rows) (core_at s.tree) (core_at u) c _ _ row at) k
+      (row_at rows) (state_at s.tree) (state_at u) c _ _ row at) k
       ∙ ap (λ (p : Phase). updated (values_in s).phase c p k)
       (suspended_is (row_at s.rows c).status ask
       ∙ sym (ap (λ (p : Phase). unless_pending p (phases.Suspended ask)) running));
@@ -82,9 +82,9 @@ suspended_of s u rows c ask o running at row granted = same_values _ _ (record {
 pub suspended_changed : (s now : StateValue) (u : TreeValue) (rows : List CoreRow) (c : ℕ)
     (ask : List ℕ) (opening : Opening) (o : Option Opening) → s ≡ now
     → (values_in now).phase c ≡ phases.Running
-    → ((k : ℕ) → core_at u k
+    → ((k : ℕ) → state_at u k
     ≡ cond (c == k) (record { activity = activities.Suspended ask; known = known_at s.tree c })
-    (core_at s.tree k))
+    (state_at s.tree k))
     → Set (row_at s.rows) (row_at rows) c (record {
       status = (row_at s.rows c).status;
       opening = option_or o (row_at s.rows c).opening;
@@ -92,7 +92,7 @@ pub suspended_changed : (s now : StateValue) (u : TreeValue) (rows : List CoreRo
     → ((l p : ℕ) → granted_at u l p ≡ granted_at s.tree l p)
     → cond (is_deep ask) (Some opening) None ≡ o
     → values_in (record s { tree = u; rows = rows })
-    ≡ with_rest c (suspended opening ask) (values_in now)
+    ≡ with_rest c (suspends opening ask) (values_in now)
 suspended_changed s now u rows c ask opening o e running at row granted is =
     rw (← e, is)
     (suspended_of s u rows c ask o (rw e running) (core_set s.tree u c _ at) row granted)
@@ -118,7 +118,7 @@ path_cleared b s u c e law l p =
 
 pub pending_of : (b : BoardValue) (s : StateValue) (u : TreeValue) (rows : List CoreRow)
     (slots : SlotsValue) (m : MessageValue) (o : Opening)
-    → Set (core_at s.tree) (core_at u) m.core.number (record {
+    → Set (state_at s.tree) (state_at u) m.core.number (record {
       activity = activities.Active;
       known = known_at s.tree m.core.number;
     })
@@ -142,7 +142,7 @@ pending_of b s u rows slots m o at row granted sent = same_values _ _ (record {
   phase = updated_is (values_in s).phase
       (values_in (record s { tree = u; rows = rows; slots = slots })).phase m.core.number _
       (both_set (λ (r : CoreRow) (x : CoreState). phase_by r.status x.activity) (row_at s.rows)
-      (row_at rows) (core_at s.tree) (core_at u) m.core.number _ _ row at);
+      (row_at rows) (state_at s.tree) (state_at u) m.core.number _ _ row at);
   opening = updated_is (λ k. (row_at s.rows k).opening) (λ k. (row_at rows k).opening)
       m.core.number _ (ap_set (λ (r : CoreRow). r.opening) _ _ _ _ row);
   granted = granted;
@@ -164,7 +164,7 @@ arrives b c s v e = arrived_in b c s v (in_life b s.life v) (in_this b s.life v 
 
 running_of : (b : BoardValue) (s : StateValue) (u : TreeValue) (rows : List CoreRow)
     (slots : SlotsValue) (c : ℕ) (start : Start)
-    → Set (core_at s.tree) (core_at u) c (record {
+    → Set (state_at s.tree) (state_at u) c (record {
       activity = activities.Active;
       known = start.number;
     })
@@ -186,7 +186,7 @@ running_of b s u rows slots c start at row granted empty = same_values _ _ (reco
   phase = updated_is (values_in s).phase
       (values_in (record s { tree = u; rows = rows; slots = slots })).phase c _
       (both_set (λ (r : CoreRow) (x : CoreState). phase_by r.status x.activity) (row_at s.rows)
-      (row_at rows) (core_at s.tree) (core_at u) c _ _ row at);
+      (row_at rows) (state_at s.tree) (state_at u) c _ _ row at);
   opening = updated_is (λ k. (row_at s.rows k).opening) (λ k. (row_at rows k).opening) c _
       (ap_set (λ (r : CoreRow). r.opening) _ _ _ _ row);
   granted = granted;
@@ -195,9 +195,9 @@ running_of b s u rows slots c start at row granted empty = same_values _ _ (reco
 
 pub running_changed : (b : BoardValue) (s now : StateValue) (u : TreeValue) (rows : List CoreRow)
     (slots : SlotsValue) (c : ℕ) (start : Start) → s ≡ now → (values_in now).life ≡ start.life
-    → ((k : ℕ) → core_at u k
+    → ((k : ℕ) → state_at u k
     ≡ cond (c == k) (record { activity = activities.Active; known = start.number })
-    (core_at s.tree k))
+    (state_at s.tree k))
     → Set (row_at s.rows) (row_at rows) c (record { status = statuses.On; opening = None })
     → ((l p : ℕ) → granted_at u l p ≡ cleared b c (granted_at s.tree) l p)
     → ((slot : Slot) → message_in slots slot
@@ -235,7 +235,7 @@ stopped_phase statuses.Pending activities.Off false e = refl
 stopped_of : (b : BoardValue) (s : StateValue) (u : TreeValue) (rows : List CoreRow)
     (slots : SlotsValue) (c : ℕ) (start : Start) (pending : Bool)
     → is_pending_phase ((values_in s).phase c) ≡ pending
-    → Set (core_at s.tree) (core_at u) c (record {
+    → Set (state_at s.tree) (state_at u) c (record {
       activity = stopped pending;
       known = start.number;
     })
@@ -261,9 +261,9 @@ stopped_of b s u rows slots c start pending was at row granted empty = same_valu
       updated_is (values_in s).phase
       (values_in (record s { tree = u; rows = rows; slots = slots })).phase c _
       (both_set (λ (r : CoreRow) (x : CoreState). phase_by r.status x.activity) (row_at s.rows)
-      (row_at rows) (core_at s.tree) (core_at u) c _ _ row at) k
+      (row_at rows) (state_at s.tree) (state_at u) c _ _ row at) k
       ∙ ap (λ (p : Phase). updated (values_in s).phase c p k)
-      (stopped_phase (row_at s.rows c).status (core_at s.tree c).activity pending was);
+      (stopped_phase (row_at s.rows c).status (state_at s.tree c).activity pending was);
   opening = updated_is (λ k. (row_at s.rows k).opening) (λ k. (row_at rows k).opening) c _
       (ap_set (λ (r : CoreRow). r.opening) _ _ _ _ row);
   granted = granted;
@@ -273,9 +273,9 @@ stopped_of b s u rows slots c start pending was at row granted empty = same_valu
 pub stopped_changed : (b : BoardValue) (s now : StateValue) (u : TreeValue) (rows : List CoreRow)
     (slots : SlotsValue) (c : ℕ) (start : Start) (pending : Bool) → s ≡ now
     → (values_in now).life ≡ start.life → pending ≡ is_pending_phase ((values_in now).phase c)
-    → ((k : ℕ) → core_at u k
+    → ((k : ℕ) → state_at u k
     ≡ cond (c == k) (record { activity = stopped pending; known = start.number })
-    (core_at s.tree k))
+    (state_at s.tree k))
     → Set (row_at s.rows) (row_at rows) c (record {
       status = (row_at s.rows c).status;
       opening = None;

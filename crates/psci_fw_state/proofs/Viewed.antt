@@ -2,19 +2,19 @@
 use Rattle.std.proofs.Common.{◌≡◌, ℕ, refl, ap, length, sym, ◌∙◌, List, Ok}
 use Rattle.std.specs.Prelude.{nat_le, if◌then◌else◌}
 use Rattle.psci_board.specs.Board.{BoardValue}
-use Rattle.psci_coord.specs.Claim.{platform_claim}
+use Rattle.psci_coord.specs.Claim.{platform_claims}
 use Rattle.psci_coord.specs.LastCore.{last_core_check}
 use Rattle.psci_coord.specs.Looked.{view_of}
 use Rattle.psci_tree.specs.declared.state.Activity.{Activity}
 use Rattle.psci_tree.specs.declared.state.Activity.TheVariants as activities
-use Rattle.psci_tree.specs.Recount.{asks, core_at, is_active, is_off}
+use Rattle.psci_tree.specs.Recount.{asks, state_at, is_active, is_off}
 use Rattle.psci_fw_model.specs.declared.status.Status.{Status}
 use Rattle.psci_fw_model.specs.declared.status.Status.TheVariants as statuses
 use Rattle.psci_fw_model.specs.declared.mode.SuspendMode.TheVariants.{Platform, OsInitiated}
 use Rattle.psci_fw_model.specs.declared.opening.Opening.{Opening}
 use Rattle.psci_fw_model.specs.Changes.{with_rest}
-use Rattle.psci_fw_model.specs.Claims.{suspend_claim, suspend_parts}
-use Rattle.psci_fw_model.specs.Effects.{suspended}
+use Rattle.psci_fw_model.specs.Claims.{suspend_claims, suspend_parts}
+use Rattle.psci_fw_model.specs.Effects.{suspends}
 use Rattle.psci_fw_model.specs.Phases.{activity_of}
 use Rattle.psci_fw_model.specs.Values.{Values}
 use Rattle.psci_fw_model.specs.Views.{view}
@@ -36,9 +36,9 @@ viewed : (b : BoardValue) (s : StateValue) → s.tree.levels ≡ b.levels
     → view_of s.tree ≡ view b (values_in s)
 unfolding view values_in
 viewed b s e =
-    let at : (c : ℕ) → (core_at s.tree c).activity
-    ≡ activity_of (phase_by (row_at s.rows c).status (core_at s.tree c).activity) =
-    λ c. sym (back (row_at s.rows c).status (core_at s.tree c).activity) in
+    let at : (c : ℕ) → (state_at s.tree c).activity
+    ≡ activity_of (phase_by (row_at s.rows c).status (state_at s.tree c).activity) =
+    λ c. sym (back (row_at s.rows c).status (state_at s.tree c).activity) in
     λ i. record {
       ask = λ c level.
           if nat_le level (length (e i)) then asks (at c i) level else 0;
@@ -56,14 +56,14 @@ view_is b s now e levels = viewed b s levels ∙ ap (λ (x : StateValue). view b
 
 -- where a core goes on is nothing to its domains
 pub platform_parts : (b : BoardValue) (v w : Values) (c : ℕ) (ask : List ℕ) (opening : Opening)
-    → v.mode ≡ Platform → w ≡ with_rest c (suspended opening ask) v
-    → Ok (platform_claim b (view b w) c) ≡ suspend_parts b v c ask
+    → v.mode ≡ Platform → w ≡ with_rest c (suspends opening ask) v
+    → Ok (platform_claims b (view b w) c) ≡ suspend_parts b v c ask
 unfolding suspend_parts view
 platform_parts b v w c ask opening e is =
-    ap (λ (x : Values). Ok (platform_claim b (view b x) c)) is
-    ∙ ap (suspend_claim b v c ask) (sym e)
+    ap (λ (x : Values). Ok (platform_claims b (view b x) c)) is
+    ∙ ap (suspend_claims b v c ask) (sym e)
 
 pub checked : (b : BoardValue) (v : Values) (c : ℕ) (ask : List ℕ) → v.mode ≡ OsInitiated
     → last_core_check b (view b v) c ask ≡ suspend_parts b v c ask
 unfolding suspend_parts
-checked b v c ask e = ap (suspend_claim b v c ask) (sym e)
+checked b v c ask e = ap (suspend_claims b v c ask) (sym e)

@@ -8,7 +8,7 @@ use Rattle.psci_link.specs.Slots.{SlotsValue, message_in}
 use Rattle.psci_link.specs.Slots.Slot.{OfCore, OfSystem}
 use Rattle.psci_tree.specs.declared.state.Activity.{Activity}
 use Rattle.psci_tree.specs.declared.state.Activity.TheVariants as activities
-use Rattle.psci_tree.specs.Recount.{TreeValue, IsDomainTree, core_at, granted_at, known_at}
+use Rattle.psci_tree.specs.Recount.{TreeValue, IsDomainTree, state_at, granted_at, known_at}
 use Rattle.psci_fw_model.specs.declared.mode.SuspendMode.{SuspendMode}
 use Rattle.psci_fw_model.specs.declared.status.Status.{Status}
 use Rattle.psci_fw_model.specs.declared.status.Status.TheVariants.{On, Off, Pending}
@@ -63,7 +63,7 @@ values_in s = record {
   mode = s.mode;
   known = λ c. known_at s.tree c;
   status = λ c. (row_at s.rows c).status;
-  phase = λ c. phase_by (row_at s.rows c).status (core_at s.tree c).activity;
+  phase = λ c. phase_by (row_at s.rows c).status (state_at s.tree c).activity;
   opening = λ c. (row_at s.rows c).opening;
   granted = λ level place. granted_at s.tree level place;
   outstanding = λ slot. message_in s.slots slot;

@@ -2,7 +2,7 @@
 
 ghost use Rattle.std.specs.Prelude.{◌≡◌, ◌<◌, ◌==◌, ℕ, length, if◌then◌else◌};
 ghost use Rattle.psci_board.specs.Board.{cores, place_above};
-ghost use Rattle.psci_tree.specs.Recount.{IsDomainTree, core_at, granted_at};
+ghost use Rattle.psci_tree.specs.Recount.{IsDomainTree, state_at, granted_at};
 ghost use Rattle.psci_fw_model.specs.Changes.{with_arrival, with_phase, with_running};
 ghost use Rattle.psci_fw_model.specs.Lives.{in_life};
 ghost use Rattle.psci_fw_model.specs.Phases.{Away};
@@ -85,8 +85,8 @@ impl State {
 fn stop(tree: &mut Tree, core: Core, number: u32, pending: bool)
     requires tree { IsDomainTree tree.old }
     requires inside { core.number < length tree.old.cores }
-    ensures cores { (c : ℕ) → core_at tree.new c ≡ (if core.number == c
-        then record { activity = stopped pending; known = number } else core_at tree.old c) }
+    ensures cores { (c : ℕ) → state_at tree.new c ≡ (if core.number == c
+        then record { activity = stopped pending; known = number } else state_at tree.old c) }
     ensures granted { (l p : ℕ) → granted_at tree.new l p
         ≡ (if place_above tree.old.levels l core.number == p then 0 else granted_at tree.old l p) }
     ensures levels { tree.new.levels ≡ tree.old.levels }

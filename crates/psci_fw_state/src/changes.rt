@@ -8,7 +8,7 @@ ghost use Rattle.psci_link.specs.Slots.{IsOfCores, slot_of};
 ghost use Rattle.psci_fw_model.specs.Changes.{turns_off, with_acknowledgement, with_halt};
 ghost use Rattle.psci_fw_model.specs.Changes.{with_mode};
 ghost use Rattle.psci_fw_model.specs.Changes.{with_pending, with_phase, with_rest};
-ghost use Rattle.psci_fw_model.specs.Effects.{suspended};
+ghost use Rattle.psci_fw_model.specs.Effects.{suspends};
 ghost use Rattle.psci_fw_model.specs.Phases.{Away, Running};
 ghost use Rattle.psci_fw_model.specs.Taking.{taken_by};
 ghost use Rattle.psci_fw_state.specs.Seen.{IsStateOf, values_in};
@@ -44,7 +44,7 @@ impl State {
         requires inside { core.number < cores board.now }
         requires running { (values_in self.old).phase core.number ≡ Running }
         ensures after { values_in self.new
-            ≡ with_rest core.number (suspended opening ask) (values_in self.old) }
+            ≡ with_rest core.number (suspends opening ask) (values_in self.old) }
         ensures state { IsStateOf board.now self.new }
     {
         law_cores();

@@ -2,14 +2,14 @@
 
 ghost use Rattle.std.specs.Prelude.{◌≡◌, ◌<◌, ◌≤◌, ◌+◌, ℕ, length, IfOk, OnErr};
 ghost use Rattle.psci_board.specs.Board.{IsBoard, cores, height};
-ghost use Rattle.psci_coord.specs.Claim.{off_claim, platform_claim};
+ghost use Rattle.psci_coord.specs.Claim.{off_claims, platform_claims};
 ghost use Rattle.psci_coord.specs.LastCore.{last_core_check};
 ghost use Rattle.psci_link.specs.declared.kind.Kind.TheVariants as kinds;
-ghost use Rattle.psci_link.specs.Message.{ArePartsOf, IsClaim};
-ghost use Rattle.psci_tree.specs.Recount.{IsDomainTree, core_at, granted_at};
-ghost use Rattle.psci_fw_model.specs.Changes.{with_claim, with_rest};
-ghost use Rattle.psci_fw_model.specs.Claims.{leaving_claim, suspend_parts};
-ghost use Rattle.psci_fw_model.specs.Effects.{suspended};
+ghost use Rattle.psci_link.specs.Message.{ArePartsOf, AreClaims};
+ghost use Rattle.psci_tree.specs.Recount.{IsDomainTree, state_at, granted_at};
+ghost use Rattle.psci_fw_model.specs.Changes.{with_claims, with_rest};
+ghost use Rattle.psci_fw_model.specs.Claims.{leaving_claims, suspend_parts};
+ghost use Rattle.psci_fw_model.specs.Effects.{suspends};
 ghost use Rattle.psci_fw_model.specs.Outcomes.{message_for};
 ghost use Rattle.psci_fw_model.specs.Paths.{granted_with};
 ghost use Rattle.psci_fw_model.specs.Phases.{Running};
@@ -32,7 +32,7 @@ impl State {
         requires state { IsStateOf board.now self.now }
         requires inside { core.number < cores board.now }
         ensures { let v = values_in self.now in
-            result ≡ leaving_claim board.now (view board.now v) core.number v.mode }
+            result ≡ leaving_claims board.now (view board.now v) core.number v.mode }
     {
         match self.mode() {
             SuspendMode::Platform => self.least_parts(board, core),
@@ -54,7 +54,7 @@ impl State {
         ensures parts { result
             ≡ suspend_parts board.now (values_in self.old) core.number ask }
         ensures after { IfOk result (λ _. values_in self.new
-            ≡ with_rest core.number (suspended opening ask) (values_in self.old)) }
+            ≡ with_rest core.number (suspends opening ask) (values_in self.old)) }
         ensures refused { OnErr result (self.new ≡ self.old) }
         ensures state { IsStateOf board.now self.new }
     {
@@ -78,7 +78,7 @@ impl State {
     fn least_parts(&self, board: &Board, core: Core) -> Parts
         requires state { IsStateOf board.now self.now }
         requires inside { core.number < cores board.now }
-        ensures { result ≡ platform_claim board.now (view board.now (values_in self.now))
+        ensures { result ≡ platform_claims board.now (view board.now (values_in self.now))
             core.number }
     {
         claims(&self.tree, board, core)
@@ -100,7 +100,7 @@ impl State {
     fn off_parts(&self, board: &Board, core: Core) -> Parts
         requires state { IsStateOf board.now self.now }
         requires inside { core.number < cores board.now }
-        ensures { result ≡ off_claim board.now (view board.now (values_in self.now))
+        ensures { result ≡ off_claims board.now (view board.now (values_in self.now))
             core.number }
     {
         off_parts(&self.tree, board, core)
@@ -131,10 +131,11 @@ impl State {
         requires state { IsStateOf board.now self.old }
         requires inside { message.now.core.number < cores board.now }
         requires down { message.now.kind ≡ kinds.Down }
-        requires parts { IsClaim message.now.parts }
+        requires parts { AreClaims message.now.parts }
         requires may { MayClaim board.now message.now.core.number message.now.parts
             (values_in self.old).granted }
-        ensures after { values_in self.new ≡ with_claim board.now message.now (values_in self.old) }
+        ensures after { values_in self.new ≡ with_claims board.now message.now
+            (values_in self.old) }
         ensures state { IsStateOf board.now self.new }
     {
         law_slots();
@@ -156,11 +157,11 @@ fn grant_parts(tree: &mut Tree, board: &Board, core: Core, parts: &[Part])
     requires levels { tree.old.levels ≡ board.now.levels }
     requires inside { core.number < cores board.now }
     requires few { length parts.now ≤ height board.now + 1 }
-    requires claim { IsClaim parts.now }
+    requires claim { AreClaims parts.now }
     requires may { MayClaim board.now core.number parts.now (granted_at tree.old) }
     ensures granted { (level place : ℕ) → granted_at tree.new level place
         ≡ granted_with board.now core.number parts.now (granted_at tree.old) level place }
-    ensures cores { (c : ℕ) → core_at tree.new c ≡ core_at tree.old c }
+    ensures cores { (c : ℕ) → state_at tree.new c ≡ state_at tree.old c }
     ensures levels { tree.new.levels ≡ tree.old.levels }
     ensures tree { IsDomainTree tree.new }
 {

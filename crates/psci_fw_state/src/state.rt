@@ -49,7 +49,8 @@ impl Model for State {
 
 ghost use Rattle.std.specs.Prelude.{◌≡◌, IfOk, option_map};
 ghost use Rattle.psci_fw_model.specs.Lives.{start_of_life};
-ghost use Rattle.psci_fw_model.specs.Phases.{is_away, is_resumable, is_running, is_waiting};
+ghost use Rattle.psci_fw_model.specs.Phases.{is_away, is_resumable, is_running};
+ghost use Rattle.psci_fw_model.specs.Phases.{is_suspended_or_pending};
 ghost use Rattle.psci_fw_state.specs.Seen.{IsStateOf, is_pending_phase, message_shown, values_in};
 
 impl State {
@@ -176,7 +177,7 @@ impl State {
     /// Whether a core is suspended or pending.
     #[tactic(auto, unfolding(crate::specs::Seen::values_in))]
     pub fn is_waiting(&self, core: Core) -> bool
-        ensures { result ≡ is_waiting ((values_in self.now).phase core.number) }
+        ensures { result ≡ is_suspended_or_pending ((values_in self.now).phase core.number) }
     {
         match self.tree.activity(core) {
             Activity::Active => self.status(core) == Status::Pending,

@@ -16,7 +16,7 @@ use Rattle.psci_fw_model.specs.Phases.{Phase, Away, Pending, Running, activity_o
 use Rattle.psci_fw_model.specs.Values.{Values}
 use Rattle.psci_link.specs.declared.kind.Kind.{Kind}
 use Rattle.psci_link.specs.declared.kind.Kind.TheVariants as kinds
-use Rattle.psci_link.specs.Message.{AckValue, ArePartsOf, IsClaim, MessageValue}
+use Rattle.psci_link.specs.Message.{AckValue, ArePartsOf, AreClaims, MessageValue}
 use Rattle.psci_tree.specs.Recount.{asks}
 use Rattle.psci_fw_laws.specs.Kept.{Holds}
 use Rattle.psci_fw_laws.specs.KnownBelow.{known_below}
@@ -24,7 +24,7 @@ use Rattle.psci_fw_laws.proofs.Parts.{part_from}
 use Rattle.psci_world_model.specs.declared.said.Record.{Record}
 use Rattle.psci_world_model.specs.Histories.{controller_values, firmware_values}
 use Rattle.psci_world_model.specs.Histories.{sent}
-use Rattle.psci_headline.specs.Asleep.{IsDownBy}
+use Rattle.psci_headline.specs.PoweredDown.{IsDownBy}
 use Rattle.psci_headline.proofs.Deliveries.{IsNew}
 use Rattle.psci_headline.proofs.Slept.{asleep_from, slept_now}
 
@@ -65,7 +65,7 @@ first_of (p ∷ ps) some = record { part = p; at = refl }
 first_part : (m : MessageValue) → m.kind ≡ kinds.Down → ArePartsOf m.kind m.parts
     → HasFirst m.parts
 first_part m down are =
-    let claim : IsClaim m.parts = subst (λ k. ArePartsOf k m.parts) down are in
+    let claim : AreClaims m.parts = subst (λ k. ArePartsOf k m.parts) down are in
     first_of m.parts claim.some
 
 -- a part that was applied to a core makes it as deep as the part says

@@ -22,8 +22,8 @@ use Rattle.psci_world_model.specs.Histories.{sent}
 use Rattle.psci_world_model.specs.Legal.{IsLegalPast}
 use Rattle.psci_world_model.proofs.Answered.{firmware_legal}
 use Rattle.psci_world_laws.specs.Agreement.{Agree}
-use Rattle.psci_safe.specs.Moments.{has_slept, is_reported_off}
-use Rattle.psci_headline.specs.Asleep.{AreDown}
+use Rattle.psci_safe.specs.Moments.{was_powered_down, is_reported_off}
+use Rattle.psci_headline.specs.PoweredDown.{AreDown}
 use Rattle.psci_headline.proofs.Acknowledging.{CoreLaws}
 use Rattle.psci_headline.proofs.CoreSteps.{IsStep, TurnsOff, step}
 use Rattle.psci_headline.proofs.Deliveries.{life_before}
@@ -42,7 +42,7 @@ first_deep b c laws other =
 fresh_next : (b : BoardValue) (r : Record) (past : List Record) (life c : ℕ) → CoreLaws b
     → IsNext b r past → AreDown b past → (controller_values b (r ∷ past)).life ≡ Some life
     → ((firmware_values b (r ∷ past)).life ≡ life → ⊥) → (c ≡ 0 → ⊥)
-    → has_slept b life (r ∷ past) c ≡ true
+    → was_powered_down b life (r ∷ past) c ≡ true
 fresh_next b r past life c laws next are now unknown other =
     elim (life_before b r past life now) [
       | inl before ↦
@@ -64,7 +64,7 @@ record IsOfKnown (v : Values) (a : AckValue) : Type 0 where
   pub life : a.life ≡ v.life
   pub number : a.number ≡ v.known a.core.number
 
--- an acknowledgement of an outstanding Down is of the present life and the known start
+-- an acknowledgement of an outstanding Down is of this life and the known start
 answers_known : (v : Values) (messages : List MessageValue) (b : BoardValue) (a : AckValue)
     → Holds b v messages → IsAwaited v a → a.kind ≡ Down → IsOfKnown v a
 answers_known v messages b a holds is kind =
@@ -85,14 +85,14 @@ answers_known v messages b a holds is kind =
 turned_off : (b : BoardValue) (r : Record) (past : List Record) (c : ℕ)
     → (next : IsNext b r past) → AreDown b past
     → TurnsOff (firmware_values b past) c next.moves.effect
-    → has_slept b (firmware_values b past).life past c ≡ true
+    → was_powered_down b (firmware_values b past).life past c ≡ true
 turned_off b r past c next are t =
     let v : Values = firmware_values b past in
     let made = next.moves.says.takes t.ack t.is in
     let down = are.acked made.index t.ack made.at t.kind t.some in
     let known = answers_known v (sent past) b t.ack next.holds
     (subst (IsAllowed b v) t.is next.moves.allowed) t.kind in
-    subst (λ x. has_slept b v.life past x ≡ true) t.core
+    subst (λ x. was_powered_down b v.life past x ≡ true) t.core
     (down.slept known.life known.number (ap v.phase t.core ∙ t.away))
 
 -- a core that is reported OFF was powered down in the firmware's life, also where that is new
@@ -101,12 +101,12 @@ was_down : (b : BoardValue) (r : Record) (past : List Record) (c : ℕ) (t : Boo
     → ((firmware_values b (r ∷ past)).life == (firmware_values b past).life) ≡ t
     → 0 < (firmware_values b (r ∷ past)).life
     → (firmware_values b (r ∷ past)).status c ≡ statuses.Off
-    → has_slept b (firmware_values b (r ∷ past)).life past c ≡ true
+    → was_powered_down b (firmware_values b (r ∷ past)).life past c ≡ true
 was_down b r past c true next are test begun off =
     let v : Values = firmware_values b past in
     let w : Values = firmware_values b (r ∷ past) in
     let same : w.life ≡ v.life = eqb-true w.life v.life test in
-    subst (λ l. has_slept b l past c ≡ true) (sym same)
+    subst (λ l. was_powered_down b l past c ≡ true) (sym same)
     (elim ((next.step c).off same off) [
       | inl was ↦ are.off c (report b past c (omega arith) was)
       | inr turns ↦ turned_off b r past c next are turns
@@ -123,7 +123,7 @@ was_down b r past c false next are test begun off =
 
 off_next : (b : BoardValue) (r : Record) (past : List Record) (c : ℕ) → IsNext b r past
     → AreDown b past → is_reported_off b (r ∷ past) c ≡ true
-    → has_slept b (firmware_values b (r ∷ past)).life (r ∷ past) c ≡ true
+    → was_powered_down b (firmware_values b (r ∷ past)).life (r ∷ past) c ≡ true
 off_next b r past c next are e =
     let v : Values = firmware_values b past in
     let w : Values = firmware_values b (r ∷ past) in

@@ -13,9 +13,9 @@ use Rattle.psci_link.specs.declared.start.Start.{Start}
 use Rattle.psci_ctl_model.specs.Changes.{after, change}
 use Rattle.psci_ctl_model.specs.Effects.{Effect, Nothing, Starts, Deepens, Ends, Begins}
 use Rattle.psci_ctl_model.specs.Effects.{effect_of, message_effect}
-use Rattle.psci_ctl_model.specs.Entry.{Entry}
+use Rattle.psci_ctl_model.specs.Exchange.{CtlExchange}
 use Rattle.psci_ctl_model.specs.History.{values_of}
-use Rattle.psci_ctl_model.specs.Replies.{ack_by, delivery_of, is_present, last_start, reply}
+use Rattle.psci_ctl_model.specs.Replies.{ack_by, delivery_of, is_this_life, last_start, reply}
 use Rattle.psci_ctl_model.specs.Values.{Values, first_depth}
 use Rattle.psci_ctl_model.proofs.OneMore.{values_more}
 use Rattle.psci_fw_model.specs.declared.reply.FwReply.{FwReply}
@@ -34,14 +34,14 @@ use Rattle.psci_world_model.specs.Histories.{ack_in, acks, control, controller_h
 use Rattle.psci_world_model.specs.Histories.{controller_values, delivered, sent}
 use Rattle.psci_world_model.specs.Legal.{deliver, if_running, if_started, if_stopped}
 use Rattle.psci_world_model.specs.Legal.{legal, said_by, said_of, take}
-use Rattle.psci_world_model.specs.Lists.{numbered}
+use Rattle.psci_world_model.specs.Lists.{indexed}
 use Rattle.psci_world_model.specs.Places.{place}
 use Rattle.psci_headline.proofs.Numbered.{IsListed, listed_from}
 
 -- What a record adds ---------------------------------------------------------------------------
 
 -- at most one entry
-abbrev IsFew : List Entry → Type 0
+abbrev IsFew : List CtlExchange → Type 0
 IsFew [] = Unit {0}
 IsFew (e ∷ []) = Unit {0}
 IsFew (e ∷ f ∷ es) = ⊥
@@ -52,7 +52,7 @@ few_delivered (Some m) a = tt
 
 few : (v : Values) (messages : List MessageValue) (event : Event) (said : Said)
     → IsFew (control v messages event said)
-few v messages (Deliver k) (Acked index ack) = few_delivered (numbered messages k) ack
+few v messages (Deliver k) (Acked index ack) = few_delivered (indexed messages k) ack
 few v messages (Wake c) (Kicked start) = tt
 few v messages (Reset c) (Kicked start) = tt
 few v messages event said = tt
@@ -63,7 +63,7 @@ history_more : (b : BoardValue) (r : Record) (past : List Record)
 unfolding controller_history
 history_more b r past = refl
 
-values_by : (b : BoardValue) (e : Entry) (h : List Entry)
+values_by : (b : BoardValue) (e : CtlExchange) (h : List CtlExchange)
     → values_of b (e ∷ h) ≡ change b (effect_of b e.call e.reply) (values_of b h)
 unfolding after
 values_by b e h = values_more b e h
@@ -79,20 +79,20 @@ life_by b (Deepens c ps) v life e = inl e
 life_by b Ends v life e = absurd (cc)
 life_by b Begins v life e = inr refl
 
-by_control : (b : BoardValue) (r : Record) (past : List Record) (life : ℕ) (es : List Entry)
+by_control : (b : BoardValue) (r : Record) (past : List Record) (life : ℕ) (es : List CtlExchange)
     → control (controller_values b past) (sent past) r.event r.said ≡ es → IsFew es
     → (controller_values b (r ∷ past)).life ≡ Some life
     → ((controller_values b past).life ≡ Some life)
     ⊎ ((controller_values b (r ∷ past)).depth ≡ first_depth b)
 by_control b r past life [] adds is e =
     let more = ap (values_of b) (history_more b r past
-    ∙ ap (λ (es : List Entry). es ++ controller_history b past) adds) in
+    ∙ ap (λ (es : List CtlExchange). es ++ controller_history b past) adds) in
     inl (ap (λ (v : Values). v.life) (sym more) ∙ e)
 by_control b r past life (x ∷ []) adds is e =
     let h = controller_history b past in
     let more : controller_values b (r ∷ past)
     ≡ change b (effect_of b x.call x.reply) (values_of b h) =
-    ap (values_of b) (history_more b r past ∙ ap (λ (es : List Entry). es ++ h) adds)
+    ap (values_of b) (history_more b r past ∙ ap (λ (es : List CtlExchange). es ++ h) adds)
     ∙ values_by b x h in
     subst (λ (v : Values). v.life ≡ Some life
     → ((values_of b h).life ≡ Some life) ⊎ (v.depth ≡ first_depth b)) (sym more)
@@ -121,7 +121,7 @@ pub record IsNew (b : BoardValue) (r : Record) (past : List Record) (a : AckValu
   -- the firmware was not asked
   pub event : (k : ℕ) × (r.event ≡ Deliver k)
 
-present_life : (life : Option ℕ) (l : ℕ) → is_present life l ≡ true → life ≡ Some l
+present_life : (life : Option ℕ) (l : ℕ) → is_this_life life l ≡ true → life ≡ Some l
 present_life None l e = absurd (cc)
 present_life (Some life) l e = ap (λ x. Some x) (eqb-true life l e)
 
@@ -158,13 +158,13 @@ record IsDelivered (b : BoardValue) (past : List Record) (event : Event) (a : Ac
   pub number : ℕ
   pub is : event ≡ Deliver number
   pub message : MessageValue
-  pub at : numbered (sent past) number ≡ Some message
+  pub at : indexed (sent past) number ≡ Some message
   pub life : (controller_values b past).life ≡ Some message.life
   pub ack : a ≡ ack_by b (controller_values b past) message message.kind
 
 applied_if : (b : BoardValue) (past : List Record) (k n i : ℕ) (m : MessageValue) (a : AckValue)
-    (t : Bool) → numbered (sent past) k ≡ Some m
-    → is_present (controller_values b past).life m.life ≡ t
+    (t : Bool) → indexed (sent past) k ≡ Some m
+    → is_this_life (controller_values b past).life m.life ≡ t
     → said_by n (replied.Delivery (cond t
     (deliveries.Applied (ack_by b (controller_values b past) m m.kind)) deliveries.Ignored))
     ≡ Acked i a
@@ -180,13 +180,13 @@ applied_if b past k n i m a true at present e = record {
 applied_if b past k n i m a false at present e = absurd (cc)
 
 delivered_if : (b : BoardValue) (past : List Record) (k i : ℕ) (o : Option MessageValue)
-    (a : AckValue) → numbered (sent past) k ≡ o → deliver b past o ≡ Acked i a
+    (a : AckValue) → indexed (sent past) k ≡ o → deliver b past o ≡ Acked i a
     → IsDelivered b past (Deliver k) a
 unfolding reply delivery_of
 delivered_if b past k i None a at e = absurd (cc)
 delivered_if b past k i (Some m) a at e =
     applied_if b past k (length (acks past)) i m a
-    (is_present (controller_values b past).life m.life) at refl e
+    (is_this_life (controller_values b past).life m.life) at refl e
 
 taken_not : (b : BoardValue) (past : List Record) (i : ℕ) (o : Option AckValue) (a : AckValue)
     → take b past o ≡ Acked i a → ⊥
@@ -216,15 +216,15 @@ delivers b past (Reset c) i a e =
     let on = not_absent b (nat_lt c (cores b)) _ i a e in
     absurd (not_kicked (length (acks past)) _ i a on)
 delivers b past (Deliver k) i a e =
-    delivered_if b past k i (numbered (sent past) k) a refl e
-delivers b past (Take k) i a e = absurd (taken_not b past i (numbered (acks past) k) a e)
+    delivered_if b past k i (indexed (sent past) k) a refl e
+delivers b past (Take k) i a e = absurd (taken_not b past i (indexed (acks past) k) a e)
 
 said_acked : (s : Said) (a : AckValue) → ack_in s ≡ Some a → (i : ℕ) × (s ≡ Acked i a)
 said_acked (Acked i x) a e = let same : x ≡ a = cc in (i, ap (λ y. Acked i y) same)
 said_acked s a e = absurd (cc)
 
 new_values : (b : BoardValue) (r : Record) (past : List Record) (i k : ℕ) (m : MessageValue)
-    (a : AckValue) → r.event ≡ Deliver k → r.said ≡ Acked i a → numbered (sent past) k ≡ Some m
+    (a : AckValue) → r.event ≡ Deliver k → r.said ≡ Acked i a → indexed (sent past) k ≡ Some m
     → controller_values b (r ∷ past)
     ≡ change b (message_effect b m a m.kind) (controller_values b past)
 unfolding effect_of
@@ -234,7 +234,7 @@ new_values b r past i k m a event said at =
     let adds : control v (sent past) r.event r.said ≡ delivered (Some m) a =
     ap₂ (λ x y. control v (sent past) x y) event said
     ∙ ap (λ o. delivered o a) at in
-    ap (values_of b) (history_more b r past ∙ ap (λ (es : List Entry). es ++ h) adds)
+    ap (values_of b) (history_more b r past ∙ ap (λ (es : List CtlExchange). es ++ h) adds)
     ∙ values_by b (record {
       call = asked.Deliver m;
       reply = replied.Delivery (deliveries.Applied a);

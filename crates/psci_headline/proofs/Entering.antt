@@ -24,7 +24,7 @@ use Rattle.psci_fw_model.specs.Effects.{Effect, Nothing, GoesOn, SetsMode, AsksO
 use Rattle.psci_fw_model.specs.Effects.{Stops, Enters, Parks, StopsAtOnce, Acknowledges, effect_of}
 use Rattle.psci_fw_model.specs.Effects.{enter_effect}
 use Rattle.psci_fw_model.specs.Entering.{enter_fault, enter_outcome, outcome_at, resumes}
-use Rattle.psci_fw_model.specs.Entry.{Entry, effect}
+use Rattle.psci_fw_model.specs.Exchange.{FwExchange, effect}
 use Rattle.psci_fw_model.specs.History.{life, values_of}
 use Rattle.psci_fw_model.specs.Legal.{IsLegal}
 use Rattle.psci_fw_model.specs.Lives.{in_life, start_of_life}
@@ -219,19 +219,19 @@ module _ (b : BoardValue) (n : ℕ) (v : Values) (made : List Made) (taken : Lis
 -- Histories ------------------------------------------------------------------------------------
 
 -- What is known of one more entry.
-pub record IsStep (b : BoardValue) (e : Entry) (h : List Entry) : Type 0 where
+pub record IsStep (b : BoardValue) (e : FwExchange) (h : List FwExchange) : Type 0 where
   pub allowed : IsAllowed b (values_of b h) (effect b e)
   pub values : values_of b (e ∷ h) ≡ change b (effect b e) (values_of b h)
 
 -- what holds after a history
-abbrev AreAfter : BoardValue → List Entry → Values → Type 0
+abbrev AreAfter : BoardValue → List FwExchange → Values → Type 0
 AreAfter b h v = AreWaiting (length h) v.life v.opening (openings b h) (taken_up b h)
 
 first_after : (b : BoardValue) → AreAfter b [] (values_of b [])
 unfolding values_of openings taken_up
 first_after b = none_waiting b
 
-more_after : (b : BoardValue) (e : Entry) (h : List Entry) → AreNamed b → IsStep b e h
+more_after : (b : BoardValue) (e : FwExchange) (h : List FwExchange) → AreNamed b → IsStep b e h
     → IsLegal b (e ∷ h) → AreAfter b h (values_of b h)
     → AreAfter b (e ∷ h) (change b (effect b e) (values_of b h))
 unfolding values_of openings taken_up
@@ -249,8 +249,8 @@ more_after b e h law step legal are =
     (stays b (length h) v (openings b h) (taken_up b h) are (effect b e) to step.allowed
     (λ x is. has_entered b v v.life e.core e.call e.reply x legal.0 is))
 
-are_waiting : (b : BoardValue) (h : List Entry) → AreNamed b
-    → ((e : Entry) (g : List Entry) → IsLegal b (e ∷ g) → IsStep b e g) → IsLegal b h
+are_waiting : (b : BoardValue) (h : List FwExchange) → AreNamed b
+    → ((e : FwExchange) (g : List FwExchange) → IsLegal b (e ∷ g) → IsStep b e g) → IsLegal b h
     → AreAfter b h (values_of b h)
 are_waiting b [] law steps legal = first_after b
 are_waiting b (e ∷ h) law steps legal =
@@ -258,8 +258,8 @@ are_waiting b (e ∷ h) law steps legal =
     subst (AreAfter b (e ∷ h)) (sym step.values)
     (more_after b e h law step legal (are_waiting b h law steps legal.1))
 
-pub are_taken_up : (b : BoardValue) (h : List Entry) → AreNamed b
-    → ((e : Entry) (g : List Entry) → IsLegal b (e ∷ g) → IsStep b e g) → IsLegal b h
+pub are_taken_up : (b : BoardValue) (h : List FwExchange) → AreNamed b
+    → ((e : FwExchange) (g : List FwExchange) → IsLegal b (e ∷ g) → IsStep b e g) → IsLegal b h
     → AreTakenUp b h
 are_taken_up b h law steps legal =
     let are = are_waiting b h law steps legal in

@@ -1,4 +1,4 @@
--- Live claims by their sources: each is of the present life, and each claim of it with the sum of
+-- Live claims by their sources: each is of this life, and each claim of it with the sum of
 -- the starts below is live.
 use Rattle.std.proofs.Common.{◌≡◌, ℕ, List, Option, None, Some, refl, ◌∙◌, subst}
 use Rattle.std.specs.Prelude.{slice_get}
@@ -13,7 +13,7 @@ use Rattle.psci_headline.specs.Live.{HasLive}
 use Rattle.psci_headline.proofs.Claiming.{IsIn}
 use Rattle.psci_headline.proofs.LiveClaims.{live_is, live_kept, none_live}
 
--- A live claim is one of the present life, with the sum of the starts below as its generation.
+-- A live claim is one of this life, with the sum of the starts below as its generation.
 pub record IsLiveOne (b : BoardValue) (past : List Record) (n : Node) (c : Claim) : Type 0 where
   pub life : ℕ
   pub present : (controller_values b past).life ≡ Some life
@@ -34,7 +34,7 @@ pub is_live_one : (b : BoardValue) (past : List Record) (n : Node) (k : ℕ) (c 
     → slice_get (live_claims b past n) k ≡ Some c → IsLiveOne b past n c
 is_live_one b past n k c at = live_of b past n (controller_values b past).life k c refl at
 
--- a claim of the present life with that sum is live
+-- a claim of this life with that sum is live
 pub has_live : (b : BoardValue) (past : List Record) (n : Node) (life depth generation : ℕ)
     → (controller_values b past).life ≡ Some life → IsIn (claims b life n past) depth generation
     → generation ≡ starts_below b (controller_values b past).starts n → HasLive b past n depth

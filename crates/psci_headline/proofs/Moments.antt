@@ -11,7 +11,7 @@ use Rattle.psci_link.specs.declared.kind.Kind.TheVariants.{Down}
 use Rattle.psci_link.specs.declared.taken.Taken.{Taken}
 use Rattle.psci_link.specs.Message.{AckValue, MessageValue}
 use Rattle.psci_fw_model.specs.declared.outcome.Outcome.{Outcome}
-use Rattle.psci_fw_model.specs.Entry.{Entry, effect}
+use Rattle.psci_fw_model.specs.Exchange.{FwExchange, effect}
 use Rattle.psci_fw_model.specs.History.{values_of}
 use Rattle.psci_fw_model.specs.Said as says
 use Rattle.psci_fw_model.specs.Said.{listed}
@@ -28,14 +28,14 @@ use Rattle.psci_world_model.specs.Histories.{acks, call, controller_values, ente
 use Rattle.psci_world_model.specs.Histories.{firmware_history, firmware_values, outcome_in, sent}
 use Rattle.psci_world_model.specs.Histories.{sent_in, took}
 use Rattle.psci_world_model.specs.Legal.{IsLegalPast}
-use Rattle.psci_world_model.specs.Lists.{numbered}
+use Rattle.psci_world_model.specs.Lists.{indexed}
 use Rattle.psci_headline.proofs.Asking.{WereAsked}
 
 -- Records --------------------------------------------------------------------------------------
 
 -- one entry of the firmware, or none
-abbrev OneOrNone : List Entry → Type 0
-OneOrNone list = (list ≡ []) ⊎ ((e : Entry) × (list ≡ e ∷ []))
+abbrev OneOrNone : List FwExchange → Type 0
+OneOrNone list = (list ≡ []) ⊎ ((e : FwExchange) × (list ≡ e ∷ []))
 
 entered_one : (c : ℕ) (s : Option Start) (o : Outcome) → OneOrNone (entered c s o)
 entered_one c None o = inl refl
@@ -50,7 +50,7 @@ adds_one : (v : controlled.Values) (made : List AckValue) (event : Event) (said 
     → OneOrNone (call v made event said)
 adds_one v made (Call c regs) (Fw act sends) = inr (_, refl)
 adds_one v made (Enter c) (Fw act sends) = entered_one c (last_start v c) (outcome_in act sends)
-adds_one v made (Take k) (Took taken) = took_one (numbered made k) taken
+adds_one v made (Take k) (Took taken) = took_one (indexed made k) taken
 adds_one v made event said = inl refl
 
 more_calls : (b : BoardValue) (r : Record) (past : List Record)
@@ -78,7 +78,7 @@ sent_now m None messages is = absurd (cc)
 sent_now m (Some x) messages is = (0, is)
 
 -- what an entry sent is among the messages
-sent_at : (b : BoardValue) (since : List Entry) (e : Entry) (before : List Entry)
+sent_at : (b : BoardValue) (since : List FwExchange) (e : FwExchange) (before : List FwExchange)
     (m : MessageValue) → says.sent (effect b e) ≡ Some m
     → (k : ℕ) × (slice_get (sent_messages b (since ++ (e ∷ before))) k ≡ Some m)
 unfolding sent_messages
@@ -88,8 +88,8 @@ sent_at b (s ∷ since) e before m is =
     (sent_at b since e before m is)
 
 -- a message that no entry before these sent was asked for by the last of them
-by_since : (b : BoardValue) (m : MessageValue) (new h : List Entry) (since : List Entry)
-    (e : Entry) (before : List Entry) → OneOrNone new
+by_since : (b : BoardValue) (m : MessageValue) (new h : List FwExchange) (since : List FwExchange)
+    (e : FwExchange) (before : List FwExchange) → OneOrNone new
     → ((k : ℕ) → slice_get (sent_messages b h) k ≡ Some m → ⊥)
     → since ++ (e ∷ before) ≡ new ++ h → says.sent (effect b e) ≡ Some m
     → IsAskedFor b (values_of b (e ∷ before)) m → IsAskedFor b (values_of b (new ++ h)) m

@@ -10,7 +10,7 @@ use Rattle.psci_fw_model.specs.declared.outcome.Act.{Act}
 use Rattle.psci_fw_model.specs.declared.outcome.Act.TheVariants as acts
 use Rattle.psci_fw_model.specs.After.{change}
 use Rattle.psci_fw_model.specs.Effects.{Effect, Nothing, Enters, enter_effect}
-use Rattle.psci_fw_model.specs.Entry.{Entry, effect}
+use Rattle.psci_fw_model.specs.Exchange.{FwExchange, effect}
 use Rattle.psci_fw_model.specs.History.{values_of}
 use Rattle.psci_fw_model.specs.Legal.{IsLegal}
 use Rattle.psci_link.specs.Message.{MessageValue}
@@ -34,9 +34,9 @@ use Rattle.psci_headline.proofs.Records.{IsAdded, IsOfRecord, added}
 -- Going on ------------------------------------------------------------------------------------
 
 -- A core entered and goes on: the added entry says so.
-record GoesOn (b : BoardValue) (c : ℕ) (es : List Entry) : Type 0 where
+record GoesOn (b : BoardValue) (c : ℕ) (es : List FwExchange) : Type 0 where
   pub start : Start
-  pub entry : Entry
+  pub entry : FwExchange
   pub adds : es ≡ entry ∷ []
   pub enters : effect b entry ≡ Enters c start
 
@@ -68,7 +68,7 @@ goes_at b past c act m (Some s) is by = record {
 }
 
 -- the history after a record, whose event says this
-abbrev after_call : BoardValue → List Record → Event → Said → List Entry
+abbrev after_call : BoardValue → List Record → Event → Said → List FwExchange
 after_call b past event s =
     call (controller_values b past) (acks past) event s ++ firmware_history b past
 
@@ -102,13 +102,13 @@ pub record Moves (b : BoardValue) (r : Record) (past : List Record) : Type 0 whe
 
 -- What the firmware's laws say of its histories.
 pub record FirmwareLaws (b : BoardValue) : Type 0 where
-  pub allowed : (e : Entry) (h : List Entry) → IsLegal b (e ∷ h)
+  pub allowed : (e : FwExchange) (h : List FwExchange) → IsLegal b (e ∷ h)
       → IsAllowed b (values_of b h) (effect b e)
-  pub values : (e : Entry) (h : List Entry)
+  pub values : (e : FwExchange) (h : List FwExchange)
       → values_of b (e ∷ h) ≡ change b (effect b e) (values_of b h)
 
 -- the entries that a record adds
-abbrev added_by : BoardValue → Record → List Record → List Entry
+abbrev added_by : BoardValue → Record → List Record → List FwExchange
 added_by b r past = call (controller_values b past) (acks past) r.event r.said
 
 history_more : (b : BoardValue) (r : Record) (past : List Record)
@@ -116,7 +116,8 @@ history_more : (b : BoardValue) (r : Record) (past : List Record)
 unfolding firmware_history
 history_more b r past = refl
 
-by_added : (b : BoardValue) (r : Record) (past : List Record) (es : List Entry) → FirmwareLaws b
+by_added : (b : BoardValue) (r : Record) (past : List Record) (es : List FwExchange)
+    → FirmwareLaws b
     → r.said ≡ legal b past r.event → IsLegal b (firmware_history b (r ∷ past))
     → added_by b r past ≡ es → IsAdded b (controller_values b past) (acks past) es
     → Moves b r past
@@ -124,7 +125,7 @@ by_added b r past [] laws is valid adds says = record {
   effect = Nothing;
   allowed = tt;
   values = ap (values_of b) (history_more b r past
-      ∙ ap (λ (es : List Entry). es ++ firmware_history b past) adds);
+      ∙ ap (λ (es : List FwExchange). es ++ firmware_history b past) adds);
   says = record { starts = λ a e. absurd (cc); takes = λ a e. absurd (cc) };
   goes = λ c by.
       let on = goes b past c r.event r.said is (subst (IsLegal b) (history_more b r past) valid)
@@ -135,7 +136,7 @@ by_added b r past [] laws is valid adds says = record {
 by_added b r past (e ∷ []) laws is valid adds says =
     let h = firmware_history b past in
     let more : firmware_history b (r ∷ past) ≡ e ∷ h =
-    history_more b r past ∙ ap (λ (es : List Entry). es ++ h) adds in
+    history_more b r past ∙ ap (λ (es : List FwExchange). es ++ h) adds in
     record {
       effect = effect b e;
       allowed = laws.allowed e h (subst (IsLegal b) more valid);

@@ -22,8 +22,8 @@ use Rattle.psci_world_model.specs.Histories.{ack_in, acks, call}
 use Rattle.psci_world_model.specs.Histories.{controller_values, firmware_history, firmware_values}
 use Rattle.psci_world_model.specs.Histories.{sent}
 use Rattle.psci_world_model.specs.Legal.{legal}
-use Rattle.psci_safe.specs.Moments.{goes_on, has_slept}
-use Rattle.psci_headline.specs.Asleep.{AreDown, IsDownBy}
+use Rattle.psci_safe.specs.Moments.{goes_on, was_powered_down}
+use Rattle.psci_headline.specs.PoweredDown.{AreDown, IsDownBy}
 use Rattle.psci_headline.proofs.Acknowledging.{CoreLaws, new_is_down}
 use Rattle.psci_headline.proofs.CoreSteps.{IsStep}
 use Rattle.psci_headline.proofs.Deliveries.{IsNew, new_ack}
@@ -72,7 +72,7 @@ still_down b r past a next was = record {
       elim (s.away (same life) (unknown life number) now) [
         | inl away ↦
             slept_still b w.life r past c
-            (subst (λ l. has_slept b l past c ≡ true) (sym (same life))
+            (subst (λ l. was_powered_down b l past c ≡ true) (sym (same life))
             (was.slept (before life) (old life number) away))
             (λ goes. absurd (not_both now (goes_running b r past c next goes).0))
         | inr ran ↦ absurd (was.rests (before life) (old life number) ran)

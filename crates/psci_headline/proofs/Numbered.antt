@@ -4,14 +4,14 @@ use Rattle.std.proofs.Common.{sym, ◌∙◌}
 use Rattle.std.specs.Prelude.{slice_get}
 use Rattle.std.proofs.lemmas.List.{get_or-reverse, length-reverse}
 use Rattle.std.proofs.lemmas.Option.{get_or_from_slice_get, slice_get_read, slice_get_within}
-use Rattle.psci_world_model.specs.Lists.{numbered}
+use Rattle.psci_world_model.specs.Lists.{indexed}
 
 -- An item of a list.
 pub record IsListed {A : Type 0} (items : List A) (x : A) : Type 0 where
   pub index : ℕ
   pub at : slice_get items index ≡ Some x
 
-pub listed_from : {A : Type 0} (items : List A) (k : ℕ) (x : A) → numbered items k ≡ Some x
+pub listed_from : {A : Type 0} (items : List A) (k : ℕ) (x : A) → indexed items k ≡ Some x
     → IsListed items x
 listed_from {A} items k x at =
     let few : k < length (reverse items) = slice_get_within (reverse items) k x at in

@@ -19,7 +19,7 @@ use Rattle.psci_fw_model.specs.declared.outcome.Act.TheVariants as acts
 use Rattle.psci_fw_model.specs.Effects.{Effect, Nothing, GoesOn, SetsMode, AsksOn, Rests, Halts}
 use Rattle.psci_fw_model.specs.Effects.{Stops, Enters, Parks, StopsAtOnce, Acknowledges}
 use Rattle.psci_fw_model.specs.Effects.{enter_effect, function_effect, mode_effect}
-use Rattle.psci_fw_model.specs.Entry.{Entry, effect}
+use Rattle.psci_fw_model.specs.Exchange.{FwExchange, effect}
 use Rattle.psci_fw_model.specs.Said.{Arrival, arrived}
 use Rattle.psci_fw_model.specs.SuspendMode.{mode_of}
 use Rattle.psci_link.specs.declared.taken.Taken.{Taken}
@@ -33,7 +33,7 @@ use Rattle.psci_world_model.specs.declared.said.Said.TheVariants.{Fw}
 use Rattle.psci_world_model.specs.declared.said.Said.TheVariants.{Taken as Took}
 use Rattle.psci_world_model.specs.declared.said.Sent.{Sent}
 use Rattle.psci_world_model.specs.Histories.{call, entered, outcome_in, took}
-use Rattle.psci_world_model.specs.Lists.{numbered}
+use Rattle.psci_world_model.specs.Lists.{indexed}
 use Rattle.psci_headline.proofs.Numbered.{IsListed, listed_from}
 
 -- Functions that were called -------------------------------------------------------------------
@@ -151,7 +151,7 @@ of_entry v made c s act m life = record {
 -- What a record adds --------------------------------------------------------------------------
 
 -- at most one entry, which says that
-abbrev pub IsAdded : BoardValue → controlled.Values → List AckValue → List Entry → Type 0
+abbrev pub IsAdded : BoardValue → controlled.Values → List AckValue → List FwExchange → Type 0
 IsAdded b v made [] = Unit {0}
 IsAdded b v made (e ∷ []) = IsOfRecord v made (effect b e)
 IsAdded b v made (e ∷ f ∷ es) = ⊥
@@ -165,7 +165,7 @@ added_entered b v made c (Some s) act m last =
     (shown_life v.life (v.starts c) (v.cause c) s last)
 
 added_took : (b : BoardValue) (v : controlled.Values) (made : List AckValue) (k : ℕ)
-    (a : Option AckValue) (t : Taken) → numbered made k ≡ a → IsAdded b v made (took a t)
+    (a : Option AckValue) (t : Taken) → indexed made k ≡ a → IsAdded b v made (took a t)
 added_took b v made k None t at = tt
 added_took b v made k (Some a) takens.Used at = record {
   starts = λ x e. absurd (cc);
@@ -182,5 +182,5 @@ added b v made (Call c regs) (Fw act m) =
     of_caller v made (function_effect b c (request_of regs) act (outcome_in act m).message)
     (by_caller b c (request_of regs) act (outcome_in act m).message)
 added b v made (Enter c) (Fw act m) = added_entered b v made c (last_start v c) act m refl
-added b v made (Take k) (Took t) = added_took b v made k (numbered made k) t refl
+added b v made (Take k) (Took t) = added_took b v made k (indexed made k) t refl
 added b v made event said = tt

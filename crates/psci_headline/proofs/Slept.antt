@@ -6,38 +6,38 @@ use Rattle.std.proofs.lemmas.Bool.{and_from, and_parts, eq-eqb, eqb-true}
 use Rattle.std.proofs.lemmas.Bool.{false_from_ne_true, lt-ltb}
 use Rattle.std.proofs.lemmas.Bool.{ltb-true, not_from_false, or_left, or_right}
 use Rattle.psci_board.specs.Board.{BoardValue}
-use Rattle.psci_ctl_model.specs.Replies.{is_present}
+use Rattle.psci_ctl_model.specs.Replies.{is_this_life}
 use Rattle.psci_fw_model.specs.declared.status.Status.{Status}
 use Rattle.psci_fw_model.specs.declared.status.Status.TheVariants.{On, Off, Pending}
 use Rattle.psci_fw_model.specs.SystemCalls.{is_off_status}
 use Rattle.psci_world_model.specs.declared.said.Record.{Record}
 use Rattle.psci_world_model.specs.Histories.{controller_values, firmware_values}
-use Rattle.psci_safe.specs.Moments.{depth_at, goes_on, has_slept, is_asleep}
+use Rattle.psci_safe.specs.Moments.{depth_at, goes_on, was_powered_down, is_powered_down}
 use Rattle.psci_safe.specs.Moments.{is_reported_off}
 
 -- Moments --------------------------------------------------------------------------------------
 
 pub asleep_from : (b : BoardValue) (life : ℕ) (past : List Record) (c : ℕ)
     → (controller_values b past).life ≡ Some life → depth_at b past 0 c ≡ 3
-    → is_asleep b life past c ≡ true
+    → is_powered_down b life past c ≡ true
 asleep_from b life past c now deep =
-    let present : is_present (controller_values b past).life life ≡ true =
-    ap (λ o. is_present o life) now ∙ eq-eqb life life refl in
+    let present : is_this_life (controller_values b past).life life ≡ true =
+    ap (λ o. is_this_life o life) now ∙ eq-eqb life life refl in
     and_from _ _ present (eq-eqb (depth_at b past 0 c) 3 deep)
 
 -- a core that is powered down now
 pub slept_now : (b : BoardValue) (life : ℕ) (past : List Record) (c : ℕ)
-    → is_asleep b life past c ≡ true → has_slept b life past c ≡ true
-unfolding has_slept
+    → is_powered_down b life past c ≡ true → was_powered_down b life past c ≡ true
+unfolding was_powered_down
 slept_now b life [] c e = e
 slept_now b life (r ∷ past) c e = or_left _ _ e
 
 -- a core that was, where it does not go on in that life
 pub slept_still : (b : BoardValue) (life : ℕ) (r : Record) (past : List Record) (c : ℕ)
-    → has_slept b life past c ≡ true
+    → was_powered_down b life past c ≡ true
     → (goes_on c r.event r.said ≡ true → (firmware_values b (r ∷ past)).life ≡ life → ⊥)
-    → has_slept b life (r ∷ past) c ≡ true
-unfolding has_slept
+    → was_powered_down b life (r ∷ past) c ≡ true
+unfolding was_powered_down
 slept_still b life r past c was none =
     let now = (firmware_values b (r ∷ past)).life in
     let stays : (goes_on c r.event r.said && now == life) ≡ false =

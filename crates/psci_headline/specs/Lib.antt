@@ -1,3 +1,3 @@
-pub mod Asleep
 pub mod Live
+pub mod PoweredDown
 pub use Rattle.psci_safe.specs.Safe

@@ -8,7 +8,7 @@ ghost use Rattle.psci_world_model.specs.Legal.{IsLegalPast};
 
 use crate::live::{law_asked_claims, law_claimed_depths, law_live_claims, law_none_executes};
 use crate::openings::law_one_entry;
-use crate::sleep::law_off_is_down;
+use crate::powered_down::law_off_is_down;
 use psci_board::law_paths;
 use psci_world_laws::law_agreement;
 use psci_world_model::law_histories;

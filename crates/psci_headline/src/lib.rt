@@ -5,9 +5,9 @@
 mod laws;
 mod live;
 mod openings;
-mod sleep;
+mod powered_down;
 
 pub use laws::law_safe;
 pub use live::{law_asked_claims, law_claimed_depths, law_live_claims, law_none_executes};
 pub use openings::law_one_entry;
-pub use sleep::law_off_is_down;
+pub use powered_down::law_off_is_down;

@@ -2,7 +2,7 @@
 
 ghost use Rattle.std.specs.Prelude.{List};
 ghost use Rattle.psci_board.specs.Board.{BoardValue, IsBoard};
-ghost use Rattle.psci_fw_model.specs.Entry.{Entry};
+ghost use Rattle.psci_fw_model.specs.Exchange.{FwExchange};
 ghost use Rattle.psci_fw_model.specs.Legal.{IsLegal};
 ghost use Rattle.psci_safe.specs.Openings.{AreTakenUp};
 
@@ -13,7 +13,7 @@ use psci_fw_model::law_power_on;
 /// its life, with its address and context id, and no two take up the same one. So an accepted
 /// CPU_ON leads to at most one entry.
 pub fn law_one_entry()
-    ensures { (b : BoardValue) (h : List Entry) → IsBoard b → IsLegal b h → AreTakenUp b h }
+    ensures { (b : BoardValue) (h : List FwExchange) → IsBoard b → IsLegal b h → AreTakenUp b h }
 {
     law_kept();
     law_power_on();

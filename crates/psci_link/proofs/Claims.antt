@@ -6,7 +6,7 @@ use Rattle.std.proofs.lemmas.Bool.{and_parts, and_from, eqb-true, eq-eqb, ltb-tr
 use Rattle.std.proofs.lemmas.Bool.{leb-true, le-leb}
 use Rattle.std.proofs.lemmas.Option.{same_Some, none-some}
 use Rattle.psci_coord.specs.declared.part.Part.{Part}
-use Rattle.psci_link.specs.Message.{is_climbing, is_falling, IsClaim, PartByPart}
+use Rattle.psci_link.specs.Message.{is_climbing, is_falling, AreClaims, PartByPart}
 
 -- From each part to the tests.
 climbing-from : (n : ℕ) (ps : List Part)
@@ -80,7 +80,7 @@ falls-at most (r ∷ ps) falls (suc k) p q at next =
     falls-at r.depth ps (falls-from most r ps falls).rest k p q at next
 
 -- The law.
-pub claim-from : (ps : List Part) → PartByPart ps → IsClaim ps
+pub claim-from : (ps : List Part) → PartByPart ps → AreClaims ps
 claim-from ps each = record {
   some = each.some;
   most = each.most;
@@ -89,7 +89,7 @@ claim-from ps each = record {
       (λ k p q at next. each.falls k p q at (rw add-one next));
 }
 
-pub part-by-part : (ps : List Part) → IsClaim ps → PartByPart ps
+pub part-by-part : (ps : List Part) → AreClaims ps → PartByPart ps
 part-by-part ps claim = record {
   some = claim.some;
   most = claim.most;

@@ -9,7 +9,7 @@ use Rattle.psci_link.specs.declared.fault.FrameFault.{FrameFault}
 use Rattle.psci_link.specs.declared.heading.Heading.{Heading}
 use Rattle.psci_link.specs.Message.{is_climbing, is_falling}
 use Rattle.psci_link.specs.Heading.{is_magic, allows_count, parts_of, HasHeading}
-use Rattle.psci_link.specs.Frame.{is_within, parts_in, places_in, count_in, is_unused_after}
+use Rattle.psci_link.specs.Frame.{is_within, parts_in, part_fields_in, count_in, is_unused_after}
 use Rattle.psci_link.specs.Frame.{fault_at, fault_of_kind, first_fault}
 
 -- What every test says of bytes of this kind that have no fault.
@@ -17,9 +17,10 @@ pub record HasNoFault (b : BoardValue) (bytes : List ℕ) (h : Heading) : Type 0
   pub allowed : allows_count h (count_in bytes) ≡ true
   pub unused : is_unused_after (parts_of h (count_in bytes)) bytes ≡ true
   pub core : slice_index bytes 3 < cores b
-  pub falling : is_falling 3 (parts_in (parts_of h (count_in bytes)) (places_in bytes)) ≡ true
-  pub climbing : is_climbing 0 (parts_in (parts_of h (count_in bytes)) (places_in bytes)) ≡ true
-  pub within : is_within (height b) (parts_in (parts_of h (count_in bytes)) (places_in bytes))
+  pub falling : is_falling 3 (parts_in (parts_of h (count_in bytes)) (part_fields_in bytes)) ≡ true
+  pub climbing : is_climbing 0 (parts_in (parts_of h (count_in bytes)) (part_fields_in bytes))
+      ≡ true
+  pub within : is_within (height b) (parts_in (parts_of h (count_in bytes)) (part_fields_in bytes))
       ≡ true
 
 pub passed : (t : Bool) (e : FrameFault) (rest : Option FrameFault)
@@ -38,7 +39,7 @@ pub has-no-fault : (b : BoardValue) (bytes : List ℕ) (h : Heading) → fault_o
 unfolding fault_of_kind
 has-no-fault b bytes h none =
     let n = parts_of h (count_in bytes) in
-    let parts = parts_in n (places_in bytes) in
+    let parts = parts_in n (part_fields_in bytes) in
     let first = passed (allows_count h (count_in bytes)) _ _ none in
     let second = passed (is_unused_after n bytes) _ _ first.1 in
     let third = passed (nat_lt (slice_index bytes 3) (cores b)) _ _ second.1 in

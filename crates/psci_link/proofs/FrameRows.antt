@@ -5,7 +5,7 @@ use Rattle.psci_link.specs.declared.kind.Kind.TheVariants.{Down, Start, Off, Res
 use Rattle.psci_link.specs.declared.frame.Frame.{Frame}
 use Rattle.psci_link.specs.declared.frame.Frame.TheVariants.{Message, Ack}
 use Rattle.psci_link.specs.declared.heading.Heading.TheVariants as headings
-use Rattle.psci_link.specs.Frame.{places, spelling, kind_byte, part_bytes, frame_in}
+use Rattle.psci_link.specs.Frame.{part_fields, frame_bytes, kind_byte, part_bytes, frame_in}
 use Rattle.psci_link.proofs.FaultRows.{down, acknowledged}
 
 abbrev down_frame : Frame
@@ -28,16 +28,16 @@ acknowledged_frame = Ack (record {
   stale = false;
 })
 
-down_spelled : spelling down_frame ≡ down
-unfolding places
+down_spelled : frame_bytes down_frame ≡ down
+unfolding part_fields
 down_spelled = refl
 
 down_held : frame_in (headings.Message Down) down ≡ down_frame
 unfolding frame_in
 down_held = refl
 
-acknowledged_spelled : spelling acknowledged_frame ≡ acknowledged
-unfolding places
+acknowledged_spelled : frame_bytes acknowledged_frame ≡ acknowledged
+unfolding part_fields
 acknowledged_spelled = refl
 
 acknowledged_held : frame_in (headings.Ack Down false) acknowledged ≡ acknowledged_frame
@@ -45,7 +45,7 @@ unfolding frame_in
 acknowledged_held = refl
 
 -- life before number, the highest byte first; a stale start
-start_spelled : spelling (Ack (record {
+start_spelled : frame_bytes (Ack (record {
   kind = Start;
   core = record { number = 63 };
   life = 0x0102;
@@ -53,7 +53,7 @@ start_spelled : spelling (Ack (record {
   applied = 0;
   stale = true;
 })) ≡ 0x50 ∷ 0x44 ∷ 0x22 ∷ 63 ∷ 0 ∷ 0 ∷ 1 ∷ 2 ∷ 3 ∷ 4 ∷ 5 ∷ 6 ∷ 0 ∷ replicate 40 0
-unfolding places
+unfolding part_fields
 start_spelled = refl
 
 -- level, depth and generation, the highest byte first

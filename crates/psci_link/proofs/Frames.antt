@@ -18,8 +18,9 @@ use Rattle.psci_link.specs.declared.heading.Heading.{Heading}
 use Rattle.psci_link.specs.declared.heading.Heading.TheVariants as headings
 use Rattle.psci_link.specs.Message.{is_climbing, is_falling, most_applied}
 use Rattle.psci_link.specs.Heading.{is_magic, heading_of, HasHeading}
-use Rattle.psci_link.specs.Frame.{places, spelling, IsFrame, IsOf, is_within, parts_in, word_at}
-use Rattle.psci_link.specs.Frame.{places_in, count_in, AreBytes, frame_in, first_fault}
+use Rattle.psci_link.specs.Frame.{part_fields, frame_bytes, IsFrame, IsOf, is_within, parts_in}
+use Rattle.psci_link.specs.Frame.{word_at}
+use Rattle.psci_link.specs.Frame.{part_fields_in, count_in, AreBytes, frame_in, first_fault}
 use Rattle.psci_link.proofs.Headings.{heading_of-byte, is-held, counted}
 use Rattle.psci_link.proofs.Places.{AreBytes-drop, AreBytes-take, four_bytes-fit, generations-fit}
 use Rattle.psci_link.proofs.Places.{length-parts_in, parts-in-places, length-places, unused-places}
@@ -32,7 +33,7 @@ abbrev pub heading_for : Frame → Heading
 heading_for (Message m) = headings.Message m.kind
 heading_for (Ack a) = headings.Ack a.kind a.stale
 
-pub spelled-heading : (f : Frame) → IsFrame f → HasHeading (spelling f) (heading_for f)
+pub spelled-heading : (f : Frame) → IsFrame f → HasHeading (frame_bytes f) (heading_for f)
 spelled-heading (Message m) fits = record {
   whole = omega (arith, length-places m.parts (counted m.kind m.parts fits.message.parts).few);
   magic = refl;
@@ -45,7 +46,7 @@ spelled-heading (Ack a) fits = record {
 }
 
 pub spelled-sound : (b : BoardValue) (f : Frame) → IsFrame f → IsOf b f
-    → HasNoFault b (spelling f) (heading_for f)
+    → HasNoFault b (frame_bytes f) (heading_for f)
 spelled-sound b (Message m) fits of =
     let looked = counted m.kind m.parts fits.message.parts in
     let read = parts-in-places m.parts fits.generations in
@@ -96,12 +97,12 @@ same-ack : (kind : Kind) (core : Core) (life l number n applied : ℕ) (stale : 
     }))
 same-ack kind core life l number n applied stale a b = cc
 
-pub spelled-held : (f : Frame) → IsFrame f → frame_in (heading_for f) (spelling f) ≡ f
+pub spelled-held : (f : Frame) → IsFrame f → frame_in (heading_for f) (frame_bytes f) ≡ f
 unfolding frame_in
 spelled-held (Message m) fits =
     same-message m.kind m.core (from_be_bytes w32 (to_be_bytes w32 m.life)) m.life
     (from_be_bytes w32 (to_be_bytes w32 m.number)) m.number
-    (parts_in (length m.parts) (places m.parts)) m.parts
+    (parts_in (length m.parts) (part_fields m.parts)) m.parts
     (from_be_bytes-to_be_bytes_4 m.life fits.life)
     (from_be_bytes-to_be_bytes_4 m.number fits.number)
     (parts-in-places m.parts fits.generations)
@@ -113,20 +114,20 @@ spelled-held (Ack a) fits =
 
 -- the bytes of a frame of the board have no fault
 pub spelled-faultless : (b : BoardValue) (f : Frame) → IsFrame f → IsOf b f
-    → first_fault b (spelling f) ≡ None
+    → first_fault b (frame_bytes f) ≡ None
 spelled-faultless b f fits of =
-    first_fault-heading b (spelling f) (heading_for f) (spelled-heading f fits)
-    ∙ is-without-fault b (spelling f) (heading_for f) (spelled-sound b f fits of)
+    first_fault-heading b (frame_bytes f) (heading_for f) (spelled-heading f fits)
+    ∙ is-without-fault b (frame_bytes f) (heading_for f) (spelled-sound b f fits of)
 
 -- bytes with a fault are not those of a frame of the board
 pub not-refused : (b : BoardValue) (f : Frame) (bytes : List ℕ) (fault : FrameFault) → IsFrame f
     → IsOf b f
-    → spelling f ≡ bytes → first_fault b bytes ≡ Some fault → ⊥
+    → frame_bytes f ≡ bytes → first_fault b bytes ≡ Some fault → ⊥
 not-refused b f bytes fault fits of same refused =
     none-some fault (sym (spelled-faultless b f fits of) ∙ ap (first_fault b) same ∙ refused)
 
 -- bytes that spell a frame hold it
-pub is-read : (f : Frame) (bytes : List ℕ) (h : Heading) → IsFrame f → spelling f ≡ bytes
+pub is-read : (f : Frame) (bytes : List ℕ) (h : Heading) → IsFrame f → frame_bytes f ≡ bytes
     → HasHeading bytes h
     → frame_in h bytes ≡ f
 is-read f bytes h fits same has =
@@ -135,12 +136,12 @@ is-read f bytes h fits same has =
     ap (λ (i : Heading). frame_in i bytes) (one-heading bytes h (heading_for f) has here)
     ∙ (ap (frame_in (heading_for f)) (sym same) ∙ spelled-held f fits)
 
-pub length-spelling : (f : Frame) → IsFrame f → length (spelling f) ≡ 53
+pub length-spelling : (f : Frame) → IsFrame f → length (frame_bytes f) ≡ 53
 length-spelling f fits = (spelled-heading f fits).whole
 
-pub one-frame : (f g : Frame) → IsFrame f → IsFrame g → spelling f ≡ spelling g → f ≡ g
+pub one-frame : (f g : Frame) → IsFrame f → IsFrame g → frame_bytes f ≡ frame_bytes g → f ≡ g
 one-frame f g fits also same =
-    sym (is-read f (spelling g) (heading_for g) fits same (spelled-heading g also))
+    sym (is-read f (frame_bytes g) (heading_for g) fits same (spelled-heading g also))
     ∙ spelled-held g also
 
 number-fits : (bytes : List ℕ) (start : ℕ) → AreBytes bytes → word_at bytes start < 2 ^ 32
@@ -157,12 +158,12 @@ frame-fits b bytes (headings.Message kind) fits sound =
     record {
       message = record {
         core = fits 3;
-        parts = is-held (headings.Message kind) n (parts_in n (places_in bytes))
-            (length-parts_in n (places_in bytes)) sound.allowed sound.falling sound.climbing;
+        parts = is-held (headings.Message kind) n (parts_in n (part_fields_in bytes))
+            (length-parts_in n (part_fields_in bytes)) sound.allowed sound.falling sound.climbing;
       };
       life = number-fits bytes 4 fits;
       number = number-fits bytes 8 fits;
-      generations = generations-fit n (places_in bytes) (AreBytes-drop 13 bytes fits);
+      generations = generations-fit n (part_fields_in bytes) (AreBytes-drop 13 bytes fits);
     }
 frame-fits b bytes (headings.Ack kind stale) fits sound = record {
   ack = record {
@@ -174,7 +175,7 @@ frame-fits b bytes (headings.Ack kind stale) fits sound = record {
 }
 
 pub frame-read : (b : BoardValue) (bytes : List ℕ) → AreBytes bytes → first_fault b bytes ≡ None
-    → (f : Frame) × IsFrame f × IsOf b f × (spelling f ≡ bytes)
+    → (f : Frame) × IsFrame f × IsOf b f × (frame_bytes f ≡ bytes)
 unfolding first_fault
 frame-read b bytes fits none =
     let first = passed (length bytes == 53) _ _ none in

@@ -10,7 +10,7 @@ use Rattle.std.proofs.lemmas.List.{get_or-drop, length-take-le, take-append-drop
 use Rattle.std.proofs.lemmas.List.{drop_at}
 use Rattle.std.proofs.lemmas.Bool.{and_parts, eqb-true}
 use Rattle.psci_coord.specs.declared.part.Part.{Part}
-use Rattle.psci_link.specs.Frame.{AreBytes, part_in, parts_in, part_bytes, places}
+use Rattle.psci_link.specs.Frame.{AreBytes, part_in, parts_in, part_bytes, part_fields}
 
 pub length-parts_in : (n : ℕ) (bytes : List ℕ) → length (parts_in n bytes) ≡ n
 length-parts_in zero bytes = refl
@@ -91,8 +91,9 @@ zeros (b ∷ bytes) zero_ =
     rw first (ap (λ (xs : List ℕ). 0 ∷ xs) (zeros bytes both.1))
 
 pub places-written : (n : ℕ) (bytes : List ℕ) → AreBytes bytes → length bytes ≡ 40 → n ≤ 4
-    → list_all (λ byte. byte == 0) (drop (10 * n) bytes) ≡ true → places (parts_in n bytes) ≡ bytes
-unfolding places
+    → list_all (λ byte. byte == 0) (drop (10 * n) bytes) ≡ true → part_fields (parts_in n bytes)
+    ≡ bytes
+unfolding part_fields
 places-written n bytes fits long few unused =
     let used = parts-written n bytes fits (omega arith) in
     let rest = zeros (drop (10 * n) bytes) unused in
@@ -118,16 +119,16 @@ parts-read (p ∷ ps) rest fits =
     ∙ rw (part-read p (flat_map part_bytes ps ++ rest) fits.0, parts-read ps rest fits.1) refl
 
 pub parts-in-places : (ps : List Part) → AllByRecursion (λ p. p.generation < 2 ^ 64) ps
-    → parts_in (length ps) (places ps) ≡ ps
-unfolding places
+    → parts_in (length ps) (part_fields ps) ≡ ps
+unfolding part_fields
 parts-in-places ps fits = parts-read ps (replicate (10 * (4 - length ps)) 0) fits
 
 pub length-parts : (ps : List Part) → length (flat_map part_bytes ps) ≡ 10 * length ps
 length-parts [] = refl
 length-parts (p ∷ ps) = omega (arith, length-parts ps)
 
-pub length-places : (ps : List Part) → length ps ≤ 4 → length (places ps) ≡ 40
-unfolding places
+pub length-places : (ps : List Part) → length ps ≤ 4 → length (part_fields ps) ≡ 40
+unfolding part_fields
 length-places ps few =
     let used = length-parts ps in
     let unused : length {A = ℕ} (replicate (10 * (4 - length ps)) 0) ≡ 10 * (4 - length ps)
@@ -145,8 +146,8 @@ unused-zero zero = refl
 unused-zero (suc n) = unused-zero n
 
 pub unused-places : (ps : List Part) → list_all (λ byte. byte == 0)
-    (drop (10 * length ps) (places ps)) ≡ true
-unfolding places
+    (drop (10 * length ps) (part_fields ps)) ≡ true
+unfolding part_fields
 unused-places ps =
     let rest : List ℕ = replicate (10 * (4 - length ps)) 0 in
     ap (list_all (λ byte. byte == 0)) (drop_at (flat_map part_bytes ps) rest (10 * length ps)

@@ -10,7 +10,8 @@ use Rattle.psci_board.specs.Board.{BoardValue}
 use Rattle.psci_link.specs.declared.heading.Heading.{Heading}
 use Rattle.psci_link.specs.declared.heading.Heading.TheVariants as headings
 use Rattle.psci_link.specs.Heading.{is_magic, HasHeading}
-use Rattle.psci_link.specs.Frame.{kind_code, places, spelling, IsOf, parts_in, word_at, places_in}
+use Rattle.psci_link.specs.Frame.{kind_code, part_fields, frame_bytes, IsOf, parts_in, word_at}
+use Rattle.psci_link.specs.Frame.{part_fields_in}
 use Rattle.psci_link.specs.Frame.{count_in, AreBytes, frame_in}
 use Rattle.psci_link.proofs.Headings.{heading_byte, heading_of-some, parts_of-few}
 use Rattle.psci_link.proofs.Places.{AreBytes-drop, AreBytes-take, length-parts_in, places-written}
@@ -37,7 +38,7 @@ number-written bytes start fits long =
 
 frame-fields : (bytes : List ℕ) → is_magic bytes ≡ true → length bytes ≡ 53
     → (0x50 ∷ 0x44 ∷ slice_index bytes 2 ∷ slice_index bytes 3 ∷ slice_range bytes 4 8
-    ++ (slice_range bytes 8 12 ++ count_in bytes ∷ [])) ++ places_in bytes ≡ bytes
+    ++ (slice_range bytes 8 12 ++ count_in bytes ∷ [])) ++ part_fields_in bytes ≡ bytes
 frame-fields [] magic whole = absurd (omega (arith, whole))
 frame-fields (a ∷ []) magic whole = absurd (omega (arith, whole))
 frame-fields (a ∷ b ∷ []) magic whole = absurd (omega (arith, whole))
@@ -61,31 +62,36 @@ frame-fields (a ∷ b ∷ c ∷ d ∷ e ∷ f ∷ g ∷ h ∷ i ∷ j ∷ k ∷ 
     rw (first, second) refl
 
 pub frame-written : (b : BoardValue) (bytes : List ℕ) (h : Heading) → AreBytes bytes
-    → HasHeading bytes h → HasNoFault b bytes h → spelling (frame_in h bytes) ≡ bytes
+    → HasHeading bytes h → HasNoFault b bytes h → frame_bytes (frame_in h bytes) ≡ bytes
 unfolding frame_in
 frame-written b bytes (headings.Message kind) fits has sound =
     let n = count_in bytes in
-    let parts = parts_in n (places_in bytes) in
-    let forty : length (places_in bytes) ≡ 40 = omega (arith, length-drop 13 bytes, has.whole) in
+    let parts = parts_in n (part_fields_in bytes) in
+    let forty : length (part_fields_in bytes) ≡ 40 = omega
+        (arith, length-drop 13 bytes, has.whole) in
     same-fields (kind_code kind) (slice_index bytes 2) (slice_index bytes 3) (length parts) n
     (to_be_bytes w32 (word_at bytes 4)) (slice_range bytes 4 8)
-    (to_be_bytes w32 (word_at bytes 8)) (slice_range bytes 8 12) (places parts) (places_in bytes)
+    (to_be_bytes w32 (word_at bytes 8)) (slice_range bytes 8 12) (part_fields parts)
+    (part_fields_in bytes)
     (sym (heading_of-some (slice_index bytes 2) (headings.Message kind) has.kind))
     (number-written bytes 4 fits (omega (arith, has.whole)))
-    (number-written bytes 8 fits (omega (arith, has.whole))) (length-parts_in n (places_in bytes))
-    (places-written n (places_in bytes) (AreBytes-drop 13 bytes fits) forty
+    (number-written bytes 8 fits (omega (arith, has.whole)))
+    (length-parts_in n (part_fields_in bytes))
+    (places-written n (part_fields_in bytes) (AreBytes-drop 13 bytes fits) forty
     (parts_of-few (headings.Message kind) n sound.allowed) sound.unused)
     ∙ frame-fields bytes has.magic has.whole
 frame-written b bytes (headings.Ack kind stale) fits has sound =
-    let forty : length (places_in bytes) ≡ 40 = omega (arith, length-drop 13 bytes, has.whole) in
+    let forty : length (part_fields_in bytes) ≡ 40 = omega
+        (arith, length-drop 13 bytes, has.whole) in
     same-fields (heading_byte (headings.Ack kind stale)) (slice_index bytes 2) (slice_index bytes 3)
     (count_in bytes) (count_in bytes)
     (to_be_bytes w32 (word_at bytes 4)) (slice_range bytes 4 8)
-    (to_be_bytes w32 (word_at bytes 8)) (slice_range bytes 8 12) (places []) (places_in bytes)
+    (to_be_bytes w32 (word_at bytes 8)) (slice_range bytes 8 12) (part_fields [])
+    (part_fields_in bytes)
     (sym (heading_of-some (slice_index bytes 2) (headings.Ack kind stale) has.kind))
     (number-written bytes 4 fits (omega (arith, has.whole)))
     (number-written bytes 8 fits (omega (arith, has.whole))) refl
-    (places-written 0 (places_in bytes) (AreBytes-drop 13 bytes fits) forty
+    (places-written 0 (part_fields_in bytes) (AreBytes-drop 13 bytes fits) forty
     (omega arith) sound.unused)
     ∙ frame-fields bytes has.magic has.whole
 

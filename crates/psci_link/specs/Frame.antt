@@ -47,14 +47,14 @@ abbrev pub part_bytes : Part → List ℕ
 part_bytes p = p.level ∷ p.depth ∷ to_be_bytes w64 p.generation
 
 -- the parts in the first of four places, and zeros in the others
-unfoldable pub places : List Part → List ℕ
-places ps = flat_map part_bytes ps ++ replicate (PART_LEN * (MOST_PARTS - length ps)) 0
+unfoldable pub part_fields : List Part → List ℕ
+part_fields ps = flat_map part_bytes ps ++ replicate (PART_LEN * (MOST_PARTS - length ps)) 0
 
 -- the 53 bytes of a frame
-abbrev pub spelling : Frame → List ℕ
-spelling (Message m) =
-    header (kind_byte (Message m)) m.core m.life m.number (length m.parts) ++ places m.parts
-spelling (Ack a) = header (kind_byte (Ack a)) a.core a.life a.number a.applied ++ places []
+abbrev pub frame_bytes : Frame → List ℕ
+frame_bytes (Message m) =
+    header (kind_byte (Message m)) m.core m.life m.number (length m.parts) ++ part_fields m.parts
+frame_bytes (Ack a) = header (kind_byte (Ack a)) a.core a.life a.number a.applied ++ part_fields []
 
 -- What has a spelling -------------------------------------------------------------------------
 
@@ -109,8 +109,8 @@ abbrev pub word_at : List ℕ → ℕ → ℕ
 word_at bytes start = from_be_bytes w32 (slice_range bytes start (start + 4))
 
 -- the four part places
-abbrev pub places_in : List ℕ → List ℕ
-places_in bytes = drop HEADER_LEN bytes
+abbrev pub part_fields_in : List ℕ → List ℕ
+part_fields_in bytes = drop HEADER_LEN bytes
 
 -- the count
 abbrev pub count_in : List ℕ → ℕ
@@ -123,7 +123,7 @@ frame_in (headings.Message kind) bytes = Message (record {
   core = record { number = slice_index bytes 3 };
   life = word_at bytes 4;
   number = word_at bytes 8;
-  parts = parts_in (count_in bytes) (places_in bytes);
+  parts = parts_in (count_in bytes) (part_fields_in bytes);
 })
 frame_in (headings.Ack kind stale) bytes = Ack (record {
   kind = kind;
@@ -138,13 +138,13 @@ frame_in (headings.Ack kind stale) bytes = Ack (record {
 
 -- each byte of the part places after so many is zero
 abbrev pub is_unused_after : ℕ → List ℕ → Bool
-is_unused_after n bytes = list_all (λ byte. byte == 0) (drop (PART_LEN * n) (places_in bytes))
+is_unused_after n bytes = list_all (λ byte. byte == 0) (drop (PART_LEN * n) (part_fields_in bytes))
 
 -- the first fault of bytes of this kind
 unfoldable pub fault_of_kind : BoardValue → List ℕ → Heading → Option FrameFault
 fault_of_kind b bytes heading =
     let n = parts_of heading (count_in bytes) in
-    let parts = parts_in n (places_in bytes) in
+    let parts = parts_in n (part_fields_in bytes) in
     if not (allows_count heading (count_in bytes)) then Some faults.Count
     else (if not (is_unused_after n bytes) then Some faults.Unused
     else (if not (nat_lt (slice_index bytes 3) (cores b)) then Some faults.Core

@@ -46,7 +46,7 @@ is_falling most [] = true
 is_falling most (p ∷ ps) = (nat_lt 0 p.depth && nat_le p.depth most) && is_falling p.depth ps
 
 -- what a core asks that goes down: levels from 0 up, depths from power-down at most
-pub record IsClaim (ps : List Part) : Type 0 where
+pub record AreClaims (ps : List Part) : Type 0 where
   pub some : 0 < length ps
   pub most : length ps ≤ MOST_PARTS
   pub levels : is_climbing 0 ps ≡ true
@@ -64,7 +64,7 @@ pub record PartByPart (ps : List Part) : Type 0 where
 
 -- only a Down has parts
 abbrev pub ArePartsOf : Kind → List Part → Type 0
-ArePartsOf Down ps = IsClaim ps
+ArePartsOf Down ps = AreClaims ps
 ArePartsOf Start ps = ps ≡ []
 ArePartsOf Off ps = ps ≡ []
 ArePartsOf Reset ps = ps ≡ []

@@ -10,9 +10,9 @@ ghost use Rattle.psci_link.specs.Heading.{parts_of, IsHeld, HasHeading};
 ghost use Rattle.psci_board.specs.Board.{BoardValue};
 ghost use Rattle.std.specs.List.{list_all};
 ghost use Rattle.std.specs.Prelude.{◌==◌, ◌&&◌};
-ghost use Rattle.psci_link.specs.Frame.{spelling, IsFrame, IsOf, is_within, part_in, parts_in};
+ghost use Rattle.psci_link.specs.Frame.{frame_bytes, IsFrame, IsOf, is_within, part_in, parts_in};
 ghost use Rattle.psci_link.specs.Frame.{word_at};
-ghost use Rattle.psci_link.specs.Frame.{places_in, count_in, fault_of_kind};
+ghost use Rattle.psci_link.specs.Frame.{part_fields_in, count_in, fault_of_kind};
 ghost use Rattle.psci_link.specs.Frame.{first_fault, frame_in};
 
 use crate::ack::Ack;
@@ -30,10 +30,10 @@ use psci_coord::{Part, Parts};
 /// The frame that the bytes are on this board, or their first fault.
 pub fn decode(bytes: &[u8], board: &Board) -> Result<Frame, FrameFault>
     // What is read is spelled so, and the board's.
-    ensures read { IfOk result (λ frame. (spelling frame ≡ bytes.now) × IsOf board.now frame) }
+    ensures read { IfOk result (λ frame. (frame_bytes frame ≡ bytes.now) × IsOf board.now frame) }
     // A frame of the board that is spelled so is read.
     ensures spelled { (frame : Frame) → IsFrame frame → IsOf board.now frame
-        → spelling frame ≡ bytes.now → result ≡ Ok frame }
+        → frame_bytes frame ≡ bytes.now → result ≡ Ok frame }
     ensures fault { MatchResult result (λ _. first_fault board.now bytes.now ≡ None)
         (λ fault. first_fault board.now bytes.now ≡ Some fault) }
 {
@@ -63,7 +63,7 @@ fn heading_in(bytes: &[u8]) -> Result<Heading, FrameFault>
 fn parts_on(board: &Board, heading: Heading, bytes: &[u8]) -> Result<Parts, FrameFault>
     requires { length bytes.now ≡ 53 }
     ensures parts { IfOk result (λ parts. parts
-        ≡ parts_in (parts_of heading (count_in bytes.now)) (places_in bytes.now)) }
+        ≡ parts_in (parts_of heading (count_in bytes.now)) (part_fields_in bytes.now)) }
     ensures fault { MatchResult result (λ _. fault_of_kind board.now bytes.now heading ≡ None)
         (λ fault. fault_of_kind board.now bytes.now heading ≡ Some fault) }
 {
@@ -96,7 +96,7 @@ fn parts_on(board: &Board, heading: Heading, bytes: &[u8]) -> Result<Parts, Fram
 fn frame_with(heading: Heading, bytes: &[u8], parts: Parts) -> Frame
     requires whole { length bytes.now ≡ 53 }
     requires parts { parts
-        ≡ parts_in (parts_of heading (count_in bytes.now)) (places_in bytes.now) }
+        ≡ parts_in (parts_of heading (count_in bytes.now)) (part_fields_in bytes.now) }
     requires held { IsHeld heading (count_in bytes.now) parts }
     ensures { result ≡ frame_in heading bytes.now }
 {
@@ -110,7 +110,7 @@ fn frame_with(heading: Heading, bytes: &[u8], parts: Parts) -> Frame
 #[tactic(auto, unfolding(crate::specs::Frame::frame_in))]
 fn message_with(kind: Kind, bytes: &[u8], parts: Parts) -> Message
     requires whole { length bytes.now ≡ 53 }
-    requires parts { parts ≡ parts_in (count_in bytes.now) (places_in bytes.now) }
+    requires parts { parts ≡ parts_in (count_in bytes.now) (part_fields_in bytes.now) }
     requires held { ArePartsOf kind parts }
     ensures { frames.Message result ≡ frame_in (headings.Message kind) bytes.now }
 {

@@ -3,7 +3,8 @@
 ghost use Rattle.std.specs.Prelude.{◌≡◌, ◌++◌, ◌≤◌, ◌<◌, ◌^◌, length};
 ghost use Rattle.std.specs.Prelude.{true};
 ghost use Rattle.std.specs.List.{AllByRecursion};
-ghost use Rattle.psci_link.specs.Frame.{kind_code, header, part_bytes, places, spelling, IsFrame};
+ghost use Rattle.psci_link.specs.Frame.{kind_code, header, part_bytes, part_fields, frame_bytes};
+ghost use Rattle.psci_link.specs.Frame.{IsFrame};
 ghost use Rattle.psci_link.specs.Message.{is_climbing};
 
 use crate::frame::{FRAME_LEN, Frame, HEADER_LEN, PART_LEN};
@@ -16,7 +17,7 @@ pub const MAGIC: [u8; 2] = [0x50, 0x44];
 
 /// The bytes of a frame.
 pub fn encode(frame: &Frame) -> [u8; FRAME_LEN]
-    ensures spelled { result ≡ spelling frame.now }
+    ensures spelled { result ≡ frame_bytes frame.now }
     ensures frame { IsFrame frame.now }
 {
     match frame {
@@ -67,7 +68,7 @@ fn header(kind: u8, core: Core, life: u32, number: u32, count: u8) -> [u8; HEADE
 fn joined(header: [u8; HEADER_LEN], parts: &[Part]) -> [u8; FRAME_LEN]
     requires few { length parts.now ≤ MOST_PARTS }
     requires levels { is_climbing 0 parts.now ≡ true }
-    ensures bytes { result ≡ header ++ places parts.now }
+    ensures bytes { result ≡ header ++ part_fields parts.now }
     ensures fits { AllByRecursion (λ part. part.generation < 2 ^ 64) parts.now }
 {
     let mut bytes = [0; FRAME_LEN];

@@ -3,8 +3,8 @@
 ghost use Rattle.std.specs.Prelude.{◌≡◌, ℕ, List, ◌∷◌, None, Some, true, length};
 ghost use Rattle.psci_board.specs.Board.{BoardValue};
 ghost use Rattle.psci_link.specs.declared.frame.Frame.{Frame};
-ghost use Rattle.psci_link.specs.Frame.{AreBytes, IsFrame, IsOf, spelling, first_fault};
-ghost use Rattle.psci_link.specs.Message.{MessageValue, IsClaim, PartByPart};
+ghost use Rattle.psci_link.specs.Frame.{AreBytes, IsFrame, IsOf, frame_bytes, first_fault};
+ghost use Rattle.psci_link.specs.Message.{MessageValue, AreClaims, PartByPart};
 ghost use Rattle.psci_coord.specs.declared.part.Part.{Part};
 ghost use Rattle.psci_link.specs.Slots.{SlotsValue, Slot, slot_of, is_slot, message_in, Change};
 ghost use Rattle.psci_link.specs.Slots.{after_change, after_all, changed};
@@ -12,18 +12,18 @@ ghost use Rattle.psci_link.specs.Outstanding.{outstanding, IsChange, AreChanges}
 
 /// Bytes are a frame of the board exactly where they have no fault, and no other frame.
 pub fn law_frames()
-    ensures length { (f : Frame) → IsFrame f → length (spelling f) ≡ 53 }
-    ensures one { (f g : Frame) → IsFrame f → IsFrame g → spelling f ≡ spelling g → f ≡ g }
+    ensures length { (f : Frame) → IsFrame f → length (frame_bytes f) ≡ 53 }
+    ensures one { (f g : Frame) → IsFrame f → IsFrame g → frame_bytes f ≡ frame_bytes g → f ≡ g }
     ensures spelled { (b : BoardValue) (f : Frame) → IsFrame f → IsOf b f
-        → first_fault b (spelling f) ≡ None }
+        → first_fault b (frame_bytes f) ≡ None }
     ensures read { (b : BoardValue) (bytes : List ℕ) → AreBytes bytes → first_fault b bytes ≡ None
-        → (f : Frame) × IsFrame f × IsOf b f × (spelling f ≡ bytes) }
+        → (f : Frame) × IsFrame f × IsOf b f × (frame_bytes f ≡ bytes) }
 {}
 
 /// A list of parts is a claim exactly where each of its parts is as it should be.
 pub fn law_parts()
-    ensures claim { (ps : List Part) → PartByPart ps → IsClaim ps }
-    ensures parts { (ps : List Part) → IsClaim ps → PartByPart ps }
+    ensures claim { (ps : List Part) → PartByPart ps → AreClaims ps }
+    ensures parts { (ps : List Part) → AreClaims ps → PartByPart ps }
 {}
 
 /// The slots hold what the history of changes says.

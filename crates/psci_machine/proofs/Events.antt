@@ -26,10 +26,10 @@ use Rattle.psci_world_model.specs.declared.said.Said.TheVariants.{Absent}
 use Rattle.psci_world_model.specs.Histories.{acks, controller_values, firmware_values, sent}
 use Rattle.psci_world_model.specs.Legal.{deliver, if_running, if_started, if_stopped, legal}
 use Rattle.psci_world_model.specs.Legal.{on_board, said_by, said_of, take}
-use Rattle.psci_world_model.specs.Lists.{numbered}
+use Rattle.psci_world_model.specs.Lists.{indexed}
 use Rattle.psci_world_model.specs.Places.{place}
 use Rattle.psci_machine.specs.Next.{if_entering, if_there}
-use Rattle.psci_machine.specs.Seen.{IsAfter, MachineValue, board_of, place_in}
+use Rattle.psci_machine.specs.Seen.{IsAfter, MachineValue, machine_board, place_in}
 
 -- Parts ----------------------------------------------------------------------------------------
 
@@ -45,7 +45,7 @@ same_there b c x y same = board_test (nat_lt c (cores b)) x y (λ t. same (ltb-t
 -- the firmware's answer, by a machine's values
 answer_same : (b : BoardValue) (past : List Record) (m : MachineValue) (c : ℕ) (asks : FwCall)
     → IsAfter b past m
-    → answer (board_of m) (seen_firmware m.firmware) c asks
+    → answer (machine_board m) (seen_firmware m.firmware) c asks
     ≡ answer b (firmware_values b past) c asks
 answer_same b past m c asks is =
     ap (λ (x : BoardValue). answer x (seen_firmware m.firmware) c asks) is.board
@@ -65,34 +65,34 @@ entering_same b past c n Stopped None count = refl
 
 -- a list is looked at in the same way from its other end
 same_number : {A : Type 0} → (xs ys : List A) (k : ℕ) → xs ≡ reverse ys
-    → slice_get xs k ≡ numbered ys k
+    → slice_get xs k ≡ indexed ys k
 same_number xs ys k e = ap (λ l. slice_get l k) e
 
 -- Events ---------------------------------------------------------------------------------------
 
 pub call_legal : (b : BoardValue) (past : List Record) (m : MachineValue) (c n : ℕ) (regs : Regs)
     → IsAfter b past m → n ≡ length (sent past)
-    → on_board (board_of m) c (if_running (place_in m.places c)
-    (said_of n (answer (board_of m) (seen_firmware m.firmware) c (calls.Smc regs))))
+    → on_board (machine_board m) c (if_running (place_in m.places c)
+    (said_of n (answer (machine_board m) (seen_firmware m.firmware) c (calls.Smc regs))))
     ≡ legal b past (Call c regs)
 unfolding legal
 call_legal b past m c n regs is count =
     ap (λ (x : BoardValue). on_board x c (if_running (place_in m.places c)
-    (said_of n (answer (board_of m) (seen_firmware m.firmware) c (calls.Smc regs))))) is.board
+    (said_of n (answer (machine_board m) (seen_firmware m.firmware) c (calls.Smc regs))))) is.board
     ∙ same_there b c _ _ (λ inside.
     ap (λ (p : Place). if_running p
-    (said_of n (answer (board_of m) (seen_firmware m.firmware) c (calls.Smc regs))))
+    (said_of n (answer (machine_board m) (seen_firmware m.firmware) c (calls.Smc regs))))
     (is.places c inside)
     ∙ ap (λ (k : ℕ). if_running (place b past c)
-    (said_of k (answer (board_of m) (seen_firmware m.firmware) c (calls.Smc regs)))) count
+    (said_of k (answer (machine_board m) (seen_firmware m.firmware) c (calls.Smc regs)))) count
     ∙ ap (λ r. if_running (place b past c) (said_of (length (sent past)) r))
     (answer_same b past m c (calls.Smc regs) is))
 
 pub enter_legal : (b : BoardValue) (past : List Record) (m : MachineValue) (c n : ℕ)
     → IsAfter b past m → n ≡ length (sent past)
-    → on_board (board_of m) c (if_entering (place_in m.places c)
+    → on_board (machine_board m) c (if_entering (place_in m.places c)
     (last_start (seen_controller m.controller) c) (λ start. said_of n
-    (answer (board_of m) (seen_firmware m.firmware) c (calls.Enter start))))
+    (answer (machine_board m) (seen_firmware m.firmware) c (calls.Enter start))))
     ≡ legal b past (Enter c)
 unfolding legal
 enter_legal b past m c n is count =
@@ -113,8 +113,8 @@ enter_legal b past m c n is count =
 
 pub wake_legal : (b : BoardValue) (past : List Record) (m : MachineValue) (c : ℕ)
     → IsAfter b past m
-    → on_board (board_of m) c (if_stopped (place_in m.places c) (said_by (length (acks past))
-    (reply (board_of m) (seen_controller m.controller)
+    → on_board (machine_board m) c (if_stopped (place_in m.places c) (said_by (length (acks past))
+    (reply (machine_board m) (seen_controller m.controller)
     (asked.Wake (record { number = c }) ((seen_controller m.controller).starts c)))))
     ≡ legal b past (Wake c)
 unfolding legal
@@ -133,8 +133,8 @@ wake_legal b past m c is =
 
 pub reset_legal : (b : BoardValue) (past : List Record) (m : MachineValue) (c : ℕ)
     → IsAfter b past m
-    → on_board (board_of m) c (said_by (length (acks past))
-    (reply (board_of m) (seen_controller m.controller) (asked.Reset (record { number = c }))))
+    → on_board (machine_board m) c (said_by (length (acks past))
+    (reply (machine_board m) (seen_controller m.controller) (asked.Reset (record { number = c }))))
     ≡ legal b past (Reset c)
 unfolding legal
 reset_legal b past m c is =
@@ -155,7 +155,7 @@ pub deliver_legal : (b : BoardValue) (past : List Record) (m : MachineValue)
     (messages : List MessageValue) (k n : ℕ) → IsAfter b past m
     → messages ≡ reverse (sent past) → n ≡ length (acks past)
     → if_there (slice_get messages k) (λ x. said_by n
-    (reply (board_of m) (seen_controller m.controller) (asked.Deliver x)))
+    (reply (machine_board m) (seen_controller m.controller) (asked.Deliver x)))
     ≡ legal b past (Deliver k)
 unfolding legal
 deliver_legal b past m messages k n is sends count =
@@ -166,7 +166,7 @@ deliver_legal b past m messages k n is sends count =
     ∙ ap (λ (o : Option MessageValue). if_there o (λ x. said_by n
     (reply b (controller_values b past) (asked.Deliver x))))
     (same_number messages (sent past) k sends)
-    ∙ deliver_any b past n (numbered (sent past) k) count
+    ∙ deliver_any b past n (indexed (sent past) k) count
 
 take_any : (b : BoardValue) (past : List Record) (ack : Option AckValue)
     → if_there ack (λ a. said_of (length (sent past))
@@ -177,7 +177,7 @@ take_any b past (Some a) = refl
 pub take_legal : (b : BoardValue) (past : List Record) (m : MachineValue)
     (made : List AckValue) (k : ℕ) → IsAfter b past m → made ≡ reverse (acks past)
     → if_there (slice_get made k) (λ a. said_of (length (sent past))
-    (answer (board_of m) (seen_firmware m.firmware) 0 (calls.Take a)))
+    (answer (machine_board m) (seen_firmware m.firmware) 0 (calls.Take a)))
     ≡ legal b past (Take k)
 unfolding legal
 take_legal b past m made k is makes =
@@ -187,4 +187,4 @@ take_legal b past m made k is makes =
     (answer b v 0 (calls.Take a)))) is.firmware
     ∙ ap (λ (o : Option AckValue). if_there o (λ a. said_of (length (sent past))
     (answer b (firmware_values b past) 0 (calls.Take a)))) (same_number made (acks past) k makes)
-    ∙ take_any b past (numbered (acks past) k)
+    ∙ take_any b past (indexed (acks past) k)

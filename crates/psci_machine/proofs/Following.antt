@@ -4,12 +4,12 @@ use Rattle.std.proofs.lemmas.List.{reverse-reverse}
 use Rattle.psci_board.specs.Board.{BoardValue}
 use Rattle.psci_ctl.specs.Seen.{seen as seen_controller}
 use Rattle.psci_ctl_model.specs.Changes as changes
-use Rattle.psci_ctl_model.specs.Entry as controls
+use Rattle.psci_ctl_model.specs.Exchange as controls
 use Rattle.psci_ctl_model.specs.History as controlled
 use Rattle.psci_ctl_model.specs.Values as controlled_values
 use Rattle.psci_fw.specs.Seen.{seen as seen_firmware}
 use Rattle.psci_fw_model.specs.After.{after}
-use Rattle.psci_fw_model.specs.Entry as answers
+use Rattle.psci_fw_model.specs.Exchange as answers
 use Rattle.psci_fw_model.specs.History as kept
 use Rattle.psci_link.specs.Message.{AckValue, MessageValue}
 use Rattle.psci_world_model.specs.declared.event.Event.{Event}
@@ -20,23 +20,23 @@ use Rattle.psci_world_model.specs.Histories.{controller_values, firmware_history
 use Rattle.psci_world_model.specs.Histories.{sent}
 use Rattle.psci_world_model.specs.Places.{place}
 use Rattle.psci_machine.specs.Next.{IsNext, controlled_after, kept_after, place_next}
-use Rattle.psci_machine.specs.Seen.{IsAfter, MachineValue, board_of, place_in}
+use Rattle.psci_machine.specs.Seen.{IsAfter, MachineValue, machine_board, place_in}
 
 -- What histories say of one entry more, by the laws of the crates below.
 pub record HistoryLaws (b : BoardValue) : Type 0 where
-  pub kept : (e : answers.Entry) (h : List answers.Entry)
+  pub kept : (e : answers.FwExchange) (h : List answers.FwExchange)
       → kept.values_of b (e ∷ h) ≡ after b e.core e.call e.reply (kept.values_of b h)
-  pub controlled : (e : controls.Entry) (h : List controls.Entry)
+  pub controlled : (e : controls.CtlExchange) (h : List controls.CtlExchange)
       → controlled.values_of b (e ∷ h)
       ≡ changes.after b e.call e.reply (controlled.values_of b h)
 
-kept_more : (b : BoardValue) → HistoryLaws b → (es h : List answers.Entry)
+kept_more : (b : BoardValue) → HistoryLaws b → (es h : List answers.FwExchange)
     → kept.values_of b (es ++ h) ≡ kept_after b es (kept.values_of b h)
 kept_more b laws [] h = refl
 kept_more b laws (e ∷ es) h =
     laws.kept e (es ++ h) ∙ ap (after b e.core e.call e.reply) (kept_more b laws es h)
 
-controlled_more : (b : BoardValue) → HistoryLaws b → (es h : List controls.Entry)
+controlled_more : (b : BoardValue) → HistoryLaws b → (es h : List controls.CtlExchange)
     → controlled.values_of b (es ++ h) ≡ controlled_after b es (controlled.values_of b h)
 controlled_more b laws [] h = refl
 controlled_more b laws (e ∷ es) h =
@@ -45,13 +45,13 @@ controlled_more b laws (e ∷ es) h =
 
 -- a machine after these records, whose board is its own
 own_next : (past : List Record) (messages : List MessageValue) (made : List AckValue)
-    (old new : MachineValue) (event : Event) (said : Said) → HistoryLaws (board_of old)
-    → IsAfter (board_of old) past old → messages ≡ reverse (sent past)
+    (old new : MachineValue) (event : Event) (said : Said) → HistoryLaws (machine_board old)
+    → IsAfter (machine_board old) past old → messages ≡ reverse (sent past)
     → made ≡ reverse (acks past) → IsNext messages made old event said new
-    → IsAfter (board_of old) (record { event = event; said = said } ∷ past) new
+    → IsAfter (machine_board old) (record { event = event; said = said } ∷ past) new
 unfolding firmware_history controller_history place
 own_next past messages made old new event said laws is sends makes next =
-    let b = board_of old in
+    let b = machine_board old in
     let v = seen_controller old.controller in
     let w = controller_values b past in
     let all : reverse messages ≡ sent past = ap reverse sends ∙ reverse-reverse (sent past) in
@@ -65,16 +65,17 @@ own_next past messages made old new event said laws is sends makes next =
     record {
       board = next.board;
       firmware = next.firmware
-          ∙ ap (λ (x : List answers.Entry). kept_after b x (seen_firmware old.firmware)) calls
+          ∙ ap (λ (x : List answers.FwExchange). kept_after b x (seen_firmware old.firmware)) calls
           ∙ ap (kept_after b (call w (acks past) event said)) is.firmware
           ∙ sym (kept_more b laws (call w (acks past) event said) (firmware_history b past));
       controller = next.controller
-          ∙ ap (λ (x : List controls.Entry). controlled_after b x v) adds
+          ∙ ap (λ (x : List controls.CtlExchange). controlled_after b x v) adds
           ∙ ap (controlled_after b (control w (sent past) event said)) is.controller
           ∙ sym (controlled_more b laws (control w (sent past) event said)
           (controller_history b past));
       places = λ c inside. next.places c inside
-          ∙ ap (λ (x : List controls.Entry). place_next b c event said x (place_in old.places c))
+          ∙ ap (λ (x : List controls.CtlExchange). place_next b c event said x
+          (place_in old.places c))
           adds
           ∙ ap (place_next b c event said (control w (sent past) event said))
           (is.places c inside);

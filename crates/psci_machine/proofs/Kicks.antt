@@ -14,7 +14,7 @@ use Rattle.psci_ctl_model.specs.declared.kick.Kick.TheVariants as kicks
 use Rattle.psci_ctl_model.specs.declared.reply.CtlReply.TheVariants as replies
 use Rattle.psci_ctl_model.specs.Changes.{after, change, next_life}
 use Rattle.psci_ctl_model.specs.Effects.{Begins, Ends, effect_of, message_effect}
-use Rattle.psci_ctl_model.specs.Replies.{ack_by, delivery_of, is_present, reply}
+use Rattle.psci_ctl_model.specs.Replies.{ack_by, delivery_of, is_this_life, reply}
 use Rattle.psci_ctl_model.specs.Values.{Values}
 use Rattle.psci_fw.specs.Seen as firmware
 use Rattle.psci_fw.specs.Seen.{FirmwareValue}
@@ -28,10 +28,10 @@ use Rattle.psci_world_model.specs.declared.said.Said.{Said}
 use Rattle.psci_world_model.specs.declared.said.Said.TheVariants.{Absent, Acked}
 use Rattle.psci_world_model.specs.Histories.{delivered}
 use Rattle.psci_world_model.specs.Legal.{if_stopped, on_board, said_by}
-use Rattle.psci_world_model.specs.Lists.{numbered}
+use Rattle.psci_world_model.specs.Lists.{indexed}
 use Rattle.psci_world_model.specs.Places.{place_of_effect, place_controlled}
 use Rattle.psci_machine.specs.Next.{IsNext, controlled_after, place_kicked}
-use Rattle.psci_machine.specs.Seen.{MachineValue, board_of, place_in}
+use Rattle.psci_machine.specs.Seen.{MachineValue, machine_board, place_in}
 
 -- Wake-ups and resets --------------------------------------------------------------------------
 
@@ -44,10 +44,10 @@ started_place false before = refl
 -- What a call that may start a core leaves of the machine.
 pub record IsKicked (call : CtlCall) (number : ℕ) (kick : Kick) (old new : MachineValue)
     : Type 0 where
-  pub board : board_of new ≡ board_of old
+  pub board : machine_board new ≡ machine_board old
   pub firmware : firmware.seen new.firmware ≡ firmware.seen old.firmware
   pub after : seen new.controller
-      ≡ after (board_of old) call (replies.Kick kick) (seen old.controller)
+      ≡ after (machine_board old) call (replies.Kick kick) (seen old.controller)
   pub ignored : kick ≡ kicks.Ignored → seen new.controller ≡ seen old.controller
   pub places : (c : ℕ) → place_in new.places c
       ≡ place_kicked number kick c (place_in old.places c)
@@ -164,15 +164,15 @@ said_stopped p x e = ap (λ (q : Place). if_stopped q x) (sym e)
 -- what a wake-up of a stopped core is answered, by the machine's own values
 pub woken : (old : MachineValue) (fw : FirmwareValue) (ctl : ControllerValue)
     (places : List Place) (number n halted : ℕ) (core : Core) → machine_of fw ctl places ≡ old
-    → ctl.board ≡ fw.board → nat_lt number (cores (board_of old)) ≡ true
+    → ctl.board ≡ fw.board → nat_lt number (cores (machine_board old)) ≡ true
     → record { number = number } ≡ core → halted ≡ (seen ctl).starts core.number
     → place_in old.places core.number ≡ Stopped
     → said_by n (reply ctl.board (seen ctl) (calls.Wake core halted))
-    ≡ on_board (board_of old) number (if_stopped (place_in old.places number) (said_by n
-    (reply (board_of old) (seen old.controller)
+    ≡ on_board (machine_board old) number (if_stopped (place_in old.places number) (said_by n
+    (reply (machine_board old) (seen old.controller)
     (calls.Wake (record { number = number }) ((seen old.controller).starts number)))))
 woken old fw ctl places number n halted core e same there named is stops =
-    let says : MachineValue → Said = λ m. said_by n (reply (board_of m) (seen m.controller)
+    let says : MachineValue → Said = λ m. said_by n (reply (machine_board m) (seen m.controller)
     (calls.Wake (record { number = number }) ((seen m.controller).starts number))) in
     let here : place_in old.places number ≡ Stopped =
     ap (λ (x : Core). place_in old.places x.number) named ∙ stops in
@@ -180,34 +180,35 @@ woken old fw ctl places number n halted core e same there named is stops =
     ∙ ap (λ (x : CtlCall). said_by n (reply fw.board (seen ctl) x))
     (wake_asked (seen ctl) number halted core named is)
     ∙ ap says e ∙ said_stopped (place_in old.places number) (says old) here
-    ∙ said_there (board_of old) number (if_stopped (place_in old.places number) (says old)) there
+    ∙ said_there (machine_board old) number
+    (if_stopped (place_in old.places number) (says old)) there
 
 -- what a reset of a core is answered, by the machine's own values
 pub reset_said : (old : MachineValue) (fw : FirmwareValue) (ctl : ControllerValue)
     (places : List Place) (number n : ℕ) (core : Core) → machine_of fw ctl places ≡ old
-    → ctl.board ≡ fw.board → nat_lt number (cores (board_of old)) ≡ true
+    → ctl.board ≡ fw.board → nat_lt number (cores (machine_board old)) ≡ true
     → record { number = number } ≡ core
     → said_by n (reply ctl.board (seen ctl) (calls.Reset core))
-    ≡ on_board (board_of old) number (said_by n
-    (reply (board_of old) (seen old.controller) (calls.Reset (record { number = number }))))
+    ≡ on_board (machine_board old) number (said_by n
+    (reply (machine_board old) (seen old.controller) (calls.Reset (record { number = number }))))
 reset_said old fw ctl places number n core e same there named =
-    let says : MachineValue → Said = λ m. said_by n (reply (board_of m) (seen m.controller)
+    let says : MachineValue → Said = λ m. said_by n (reply (machine_board m) (seen m.controller)
     (calls.Reset (record { number = number }))) in
     ap (λ (b : BoardValue). said_by n (reply b (seen ctl) (calls.Reset core))) same
     ∙ ap (λ (x : Core). said_by n (reply fw.board (seen ctl) (calls.Reset x))) (sym named)
-    ∙ ap says e ∙ said_there (board_of old) number (says old) there
+    ∙ ap says e ∙ said_there (machine_board old) number (says old) there
 
 -- Messages -------------------------------------------------------------------------------------
 
 -- What the delivery of a message leaves of the machine.
 pub record IsDelivered (message : MessageValue) (ack : AckValue) (old new : MachineValue)
     : Type 0 where
-  pub board : board_of new ≡ board_of old
+  pub board : machine_board new ≡ machine_board old
   pub firmware : firmware.seen new.firmware ≡ firmware.seen old.firmware
-  pub after : seen new.controller ≡ after (board_of old) (calls.Deliver message)
+  pub after : seen new.controller ≡ after (machine_board old) (calls.Deliver message)
       (replies.Delivery (deliveries.Applied ack)) (seen old.controller)
-  pub places : (c : ℕ) → c < cores (board_of old) → place_in new.places c
-      ≡ unwrap_or (place_of_effect c (message_effect (board_of old) message ack message.kind))
+  pub places : (c : ℕ) → c < cores (machine_board old) → place_in new.places c
+      ≡ unwrap_or (place_of_effect c (message_effect (machine_board old) message ack message.kind))
       (place_in old.places c)
 
 pub delivery_next : (messages : List MessageValue) (made : List AckValue)
@@ -216,9 +217,9 @@ pub delivery_next : (messages : List MessageValue) (made : List AckValue)
     → IsNext messages made old (Deliver k) (Acked index ack) new
 unfolding effect_of
 delivery_next messages made old new k index message ack at is =
-    let b = board_of old in
+    let b = machine_board old in
     let v = seen old.controller in
-    let sent : numbered (reverse messages) k ≡ Some message =
+    let sent : indexed (reverse messages) k ≡ Some message =
     ap (λ (l : List MessageValue). slice_get l k) (reverse-reverse messages) ∙ at in
     record {
       board = is.board;
@@ -252,13 +253,13 @@ delivered_by old new fw ctl mid places message ack e same is goes kept put =
 
 -- The life after a Reset -----------------------------------------------------------------------
 
-life_of_next : (t : Bool) (life : Option ℕ) (x : ℕ) → is_present life x ≡ true
+life_of_next : (t : Bool) (life : Option ℕ) (x : ℕ) → is_this_life life x ≡ true
     → is_some (cond t (next_life life) None) ≡ t
 life_of_next true None x present = cc
 life_of_next true (Some l) x present = refl
 life_of_next false life x present = refl
 
--- a message that is acknowledged is of the present life
+-- a message that is acknowledged is of this life
 acknowledged : (t : Bool) (ack given : AckValue)
     → replies.Delivery (deliveries.Applied ack)
     ≡ replies.Delivery (cond t (deliveries.Applied given) deliveries.Ignored)
@@ -283,4 +284,4 @@ reset_life b v w m ack answered is kind =
     ∙ ap (λ (k : Kind). is_some (change b (message_effect b m ack k) v).life) kind
     ∙ ap (λ (l : Option ℕ). is_some l) (life_after b t v)
     ∙ life_of_next t v.life m.life
-    (acknowledged (is_present v.life m.life) ack (ack_by b v m m.kind) answered)
+    (acknowledged (is_this_life v.life m.life) ack (ack_by b v m m.kind) answered)

@@ -8,11 +8,11 @@ use Rattle.psci_ctl_model.specs.declared.kick.Kick.TheVariants.{Started as Kicke
 use Rattle.psci_ctl_model.specs.declared.kick.Kick.TheVariants.{Ignored as NotKicked}
 use Rattle.psci_link.specs.declared.start.Start.{Start}
 use Rattle.psci_ctl_model.specs.Changes as changes
-use Rattle.psci_ctl_model.specs.Entry as controls
+use Rattle.psci_ctl_model.specs.Exchange as controls
 use Rattle.psci_ctl_model.specs.Values as controlled
 use Rattle.psci_fw.specs.Seen.{seen as seen_firmware}
 use Rattle.psci_fw_model.specs.After.{after}
-use Rattle.psci_fw_model.specs.Entry as answers
+use Rattle.psci_fw_model.specs.Exchange as answers
 use Rattle.psci_fw_model.specs.Values as kept
 use Rattle.psci_link.specs.Message.{AckValue, MessageValue}
 use Rattle.psci_world_model.specs.declared.event.Event.{Event}
@@ -22,7 +22,7 @@ use Rattle.psci_world_model.specs.declared.said.Said.{Said}
 use Rattle.psci_world_model.specs.declared.said.Said.TheVariants.{Ignored, Absent}
 use Rattle.psci_world_model.specs.Histories.{call, control}
 use Rattle.psci_world_model.specs.Places.{place_controlled, place_said}
-use Rattle.psci_machine.specs.Seen.{MachineValue, board_of, place_in}
+use Rattle.psci_machine.specs.Seen.{MachineValue, machine_board, place_in}
 
 -- What is said ---------------------------------------------------------------------------------
 
@@ -41,19 +41,19 @@ if_there (Some x) says = says x
 -- What is left ---------------------------------------------------------------------------------
 
 -- what the firmware keeps after these entries, newest first, by what it kept before them
-abbrev pub kept_after : BoardValue → List answers.Entry → kept.Values → kept.Values
+abbrev pub kept_after : BoardValue → List answers.FwExchange → kept.Values → kept.Values
 kept_after b [] v = v
 kept_after b (e ∷ es) v = after b e.core e.call e.reply (kept_after b es v)
 
 -- the same of the power controller
-abbrev pub controlled_after : BoardValue → List controls.Entry → controlled.Values
+abbrev pub controlled_after : BoardValue → List controls.CtlExchange → controlled.Values
     → controlled.Values
 controlled_after b [] v = v
 controlled_after b (e ∷ es) v = changes.after b e.call e.reply (controlled_after b es v)
 
 -- where a core is after an event, by the entries that it adds to the controller's history, and by
 -- where it was before
-abbrev pub place_next : BoardValue → ℕ → Event → Said → List controls.Entry → Place → Place
+abbrev pub place_next : BoardValue → ℕ → Event → Said → List controls.CtlExchange → Place → Place
 place_next b c event said es before =
     unwrap_or (place_said c event said) (unwrap_or (place_controlled b c es) before)
 
@@ -66,14 +66,14 @@ place_kicked core NotKicked c before = before
 -- of acknowledgements before it have the oldest first.
 pub record IsNext (messages : List MessageValue) (made : List AckValue) (old : MachineValue)
     (event : Event) (said : Said) (new : MachineValue) : Type 0 where
-  pub board : board_of new ≡ board_of old
-  pub firmware : seen_firmware new.firmware ≡ kept_after (board_of old)
+  pub board : machine_board new ≡ machine_board old
+  pub firmware : seen_firmware new.firmware ≡ kept_after (machine_board old)
       (call (seen_controller old.controller) (reverse made) event said)
       (seen_firmware old.firmware)
-  pub controller : seen_controller new.controller ≡ controlled_after (board_of old)
+  pub controller : seen_controller new.controller ≡ controlled_after (machine_board old)
       (control (seen_controller old.controller) (reverse messages) event said)
       (seen_controller old.controller)
-  pub places : (c : ℕ) → c < cores (board_of old)
-      → place_in new.places c ≡ place_next (board_of old) c event said
+  pub places : (c : ℕ) → c < cores (machine_board old)
+      → place_in new.places c ≡ place_next (machine_board old) c event said
       (control (seen_controller old.controller) (reverse messages) event said)
       (place_in old.places c)

@@ -19,8 +19,8 @@ pub record MachineValue : Type 0 where
   pub places : List Place
 
 -- the board of a machine
-abbrev pub board_of : MachineValue → BoardValue
-board_of m = m.firmware.board
+abbrev pub machine_board : MachineValue → BoardValue
+machine_board m = m.firmware.board
 
 -- the place of the core of this number
 abbrev pub place_in : List Place → ℕ → Place
@@ -28,13 +28,13 @@ place_in places c = slice_index_or places c Stopped
 
 -- what holds of every machine: both parts are of one board, which has a place for each core
 pub record IsMachine (m : MachineValue) : Type 0 where
-  pub board : IsBoard (board_of m)
-  pub same : m.controller.board ≡ board_of m
-  pub places : length m.places ≡ cores (board_of m)
+  pub board : IsBoard (machine_board m)
+  pub same : m.controller.board ≡ machine_board m
+  pub places : length m.places ≡ cores (machine_board m)
 
 -- The machine of a board after these records.
 pub record IsAfter (b : BoardValue) (past : List Record) (m : MachineValue) : Type 0 where
-  pub board : board_of m ≡ b
+  pub board : machine_board m ≡ b
   pub firmware : firmware.seen m.firmware ≡ firmware_values b past
   pub controller : controller.seen m.controller ≡ controller_values b past
   pub places : (c : ℕ) → c < cores b → place_in m.places c ≡ place b past c

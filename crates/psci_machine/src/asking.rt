@@ -14,7 +14,7 @@ ghost use Rattle.psci_world_model.specs.declared.event.Event.TheVariants as even
 ghost use Rattle.psci_world_model.specs.Legal.{if_running, on_board, said_of};
 ghost use Rattle.psci_world_model.specs.Places.{place_after};
 ghost use Rattle.psci_machine.specs.Next.{IsNext, if_entering, if_there};
-ghost use Rattle.psci_machine.specs.Seen.{board_of, place_in};
+ghost use Rattle.psci_machine.specs.Seen.{machine_board, place_in};
 
 use crate::machine::Machine;
 use crate::place::place_after;
@@ -27,7 +27,7 @@ use psci_world_model::{Place, Said, Sent};
 impl Machine {
     /// The core of this number, if the board has it.
     pub(crate) fn core(&self, number: u64) -> Option<Core>
-        ensures { result ≡ (if nat_lt number (cores (board_of self.now))
+        ensures { result ≡ (if nat_lt number (cores (machine_board self.now))
             then Some (record { number = number }) else None) }
     {
         law_sizes();
@@ -38,9 +38,9 @@ impl Machine {
 
     /// A core makes a call, if it runs, after so many messages.
     pub(crate) fn call(&mut self, number: u64, regs: Regs, sent: usize) -> Said
-        ensures said { result ≡ on_board (board_of self.old) number
+        ensures said { result ≡ on_board (machine_board self.old) number
             (if_running (place_in self.old.places number) (said_of sent
-            (answer (board_of self.old) (seen self.old.firmware) number (calls.Smc regs)))) }
+            (answer (machine_board self.old) (seen self.old.firmware) number (calls.Smc regs)))) }
         ensures next { (messages : List MessageValue) (made : List AckValue)
             → IsNext messages made self.old (events.Call number regs) result self.new }
     {
@@ -59,10 +59,11 @@ impl Machine {
     /// A core enters by its last start, if it has one and has not entered since, after so many
     /// messages.
     pub(crate) fn enter(&mut self, number: u64, sent: usize) -> Said
-        ensures said { result ≡ on_board (board_of self.old) number
+        ensures said { result ≡ on_board (machine_board self.old) number
             (if_entering (place_in self.old.places number)
             (last_start (controller.seen self.old.controller) number) (λ start. said_of sent
-            (answer (board_of self.old) (seen self.old.firmware) number (calls.Enter start)))) }
+            (answer (machine_board self.old) (seen self.old.firmware) number
+            (calls.Enter start)))) }
         ensures next { (messages : List MessageValue) (made : List AckValue)
             → IsNext messages made self.old (events.Enter number) result self.new }
     {
@@ -84,7 +85,7 @@ impl Machine {
     /// The firmware takes the acknowledgement of this number, if there is one.
     pub(crate) fn take(&mut self, made: &[Ack], number: u64) -> Said
         ensures said { (n : ℕ) → result ≡ if_there (slice_get made.now number) (λ ack. said_of n
-            (answer (board_of self.old) (seen self.old.firmware) 0 (calls.Take ack))) }
+            (answer (machine_board self.old) (seen self.old.firmware) 0 (calls.Take ack))) }
         ensures next { (messages : List MessageValue)
             → IsNext messages made.now self.old (events.Take number) result self.new }
     {
@@ -99,7 +100,7 @@ impl Machine {
 
     /// Notes where the outcome leaves the core, and numbers its message.
     fn note(&mut self, core: Core, outcome: Outcome, sent: usize) -> Said
-        requires { core.number < cores (board_of self.old) }
+        requires { core.number < cores (machine_board self.old) }
         ensures said { result ≡ said_of sent (replies.Out outcome) }
         ensures places { (c : ℕ) → place_in self.new.places c
             ≡ (if c == core.number then place_after outcome.act

@@ -46,12 +46,12 @@ ghost use Rattle.psci_world_model.specs.declared.said.Record.{Record};
 ghost use Rattle.psci_world_model.specs.Histories.{acks, sent};
 ghost use Rattle.psci_world_model.specs.Legal.{legal};
 ghost use Rattle.psci_machine.specs.Next.{IsNext};
-ghost use Rattle.psci_machine.specs.Seen.{IsAfter, IsMachine, board_of, place_in};
+ghost use Rattle.psci_machine.specs.Seen.{IsAfter, IsMachine, machine_board, place_in};
 
 impl Machine {
     /// The machine of this board, before any event.
     pub fn new(alloc: Global, board: &Board) -> Result<Machine, Memory>
-        ensures board { IfOk result (λ m. board_of m ≡ board.now) }
+        ensures board { IfOk result (λ m. machine_board m ≡ board.now) }
         ensures after { IfOk result (λ m. IsAfter board.now [] m) }
     {
         law_values();
@@ -73,14 +73,14 @@ impl Machine {
     /// The power controller.
     pub fn controller(&self) -> &Controller
         ensures values { result.now ≡ self.now.controller }
-        ensures board { result.now.board ≡ board_of self.now }
+        ensures board { result.now.board ≡ machine_board self.now }
     {
         &self.controller
     }
 
     /// Where a core is.
     pub fn place(&self, core: Core) -> Place
-        requires { core.number < cores (board_of self.now) }
+        requires { core.number < cores (machine_board self.now) }
         ensures { result ≡ place_in self.now.places core.number }
     {
         self.places[core.number as usize]
@@ -101,7 +101,7 @@ impl Machine {
     #[inline(always)]
     pub fn step(&mut self, event: Event, messages: &[Message], made: &[Ack]) -> Said
         requires { (k : ℕ) (m : MessageValue) → slice_get messages.now k ≡ Some m
-            → IsOfBoard (board_of self.old) m }
+            → IsOfBoard (machine_board self.old) m }
         ensures said { (b : BoardValue) (past : List Record) → IsAfter b past self.old
             → messages.now ≡ reverse (sent past) → made.now ≡ reverse (acks past)
             → result ≡ legal b past event }
@@ -120,7 +120,7 @@ impl Machine {
     #[inline(always)]
     fn happen(&mut self, event: Event, messages: &[Message], made: &[Ack]) -> Said
         requires { (k : ℕ) (m : MessageValue) → slice_get messages.now k ≡ Some m
-            → IsOfBoard (board_of self.old) m }
+            → IsOfBoard (machine_board self.old) m }
         ensures said { (b : BoardValue) (past : List Record) → IsAfter b past self.old
             → messages.now ≡ reverse (sent past) → made.now ≡ reverse (acks past)
             → result ≡ legal b past event }

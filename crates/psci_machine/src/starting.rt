@@ -18,7 +18,7 @@ ghost use Rattle.psci_world_model.specs.declared.said.Said.TheVariants as says;
 ghost use Rattle.psci_world_model.specs.Legal.{if_stopped, on_board, said_by};
 ghost use Rattle.psci_world_model.specs.Places.{place_of_effect};
 ghost use Rattle.psci_machine.specs.Next.{IsNext, if_there, place_kicked};
-ghost use Rattle.psci_machine.specs.Seen.{board_of, place_in};
+ghost use Rattle.psci_machine.specs.Seen.{machine_board, place_in};
 
 use crate::machine::Machine;
 use crate::place::{begin_life, end_life};
@@ -30,9 +30,9 @@ use psci_world_model::{Place, Said};
 impl Machine {
     /// A core has a wake-up event: if it is stopped, the power controller may start it.
     pub(crate) fn wake(&mut self, number: u64) -> Said
-        ensures said { (n : ℕ) → result ≡ on_board (board_of self.old) number
+        ensures said { (n : ℕ) → result ≡ on_board (machine_board self.old) number
             (if_stopped (place_in self.old.places number) (said_by n
-            (reply (board_of self.old) (seen self.old.controller)
+            (reply (machine_board self.old) (seen self.old.controller)
             (calls.Wake (record { number = number })
             ((seen self.old.controller).starts number))))) }
         ensures next { (messages : List MessageValue) (made : List AckValue)
@@ -51,8 +51,8 @@ impl Machine {
 
     /// A core is reset by itself: the power controller may start it.
     pub(crate) fn reset(&mut self, number: u64) -> Said
-        ensures said { (n : ℕ) → result ≡ on_board (board_of self.old) number (said_by n
-            (reply (board_of self.old) (seen self.old.controller)
+        ensures said { (n : ℕ) → result ≡ on_board (machine_board self.old) number (said_by n
+            (reply (machine_board self.old) (seen self.old.controller)
             (calls.Reset (record { number = number })))) }
         ensures next { (messages : List MessageValue) (made : List AckValue)
             → IsNext messages made self.old (events.Reset number) result self.new }
@@ -68,9 +68,9 @@ impl Machine {
     /// acknowledgements.
     pub(crate) fn deliver(&mut self, messages: &[Message], number: u64, made: usize) -> Said
         requires { (k : ℕ) (m : MessageValue) → slice_get messages.now k ≡ Some m
-            → IsOfBoard (board_of self.old) m }
+            → IsOfBoard (machine_board self.old) m }
         ensures said { result ≡ if_there (slice_get messages.now number) (λ m. said_by made
-            (reply (board_of self.old) (seen self.old.controller) (calls.Deliver m))) }
+            (reply (machine_board self.old) (seen self.old.controller) (calls.Deliver m))) }
         ensures next { (acks : List AckValue)
             → IsNext messages.now acks self.old (events.Deliver number) result self.new }
     {
@@ -85,8 +85,8 @@ impl Machine {
 
     /// The power controller gets this message, after so many acknowledgements.
     fn carry(&mut self, message: &Message, made: usize) -> Said
-        requires { IsOfBoard (board_of self.old) message.now }
-        ensures said { result ≡ said_by made (reply (board_of self.old)
+        requires { IsOfBoard (machine_board self.old) message.now }
+        ensures said { result ≡ said_by made (reply (machine_board self.old)
             (seen self.old.controller) (calls.Deliver message.now)) }
         ensures next { (messages : List MessageValue) (acks : List AckValue) (k : ℕ)
             → slice_get messages k ≡ Some message.now
@@ -104,7 +104,7 @@ impl Machine {
 
     /// Notes that a core is started, if it is.
     fn note_kick(&mut self, core: Core, kick: Kick) -> Said
-        requires { core.number < cores (board_of self.old) }
+        requires { core.number < cores (machine_board self.old) }
         ensures said { (n : ℕ) → result ≡ said_by n (replies.Kick kick) }
         ensures places { (c : ℕ) → place_in self.new.places c
             ≡ place_kicked core.number kick c (place_in self.old.places c) }
@@ -121,11 +121,12 @@ impl Machine {
     /// Notes where cores are once this message was carried out: a Reset ends the life if no other
     /// follows.
     fn note_ack(&mut self, message: &Message, ack: &Ack)
-        requires core { message.now.core.number < cores (board_of self.old) }
+        requires core { message.now.core.number < cores (machine_board self.old) }
         requires life { message.now.kind ≡ kinds.Reset → is_some (seen self.old.controller).life
-            ≡ nat_lt message.now.life (board_of self.old).lives }
-        ensures places { (c : ℕ) → c < cores (board_of self.old) → place_in self.new.places c
-            ≡ unwrap_or (place_of_effect c (message_effect (board_of self.old) message.now ack.now
+            ≡ nat_lt message.now.life (machine_board self.old).lives }
+        ensures places { (c : ℕ) → c < cores (machine_board self.old) → place_in self.new.places c
+            ≡ unwrap_or (place_of_effect c
+            (message_effect (machine_board self.old) message.now ack.now
             message.now.kind)) (place_in self.old.places c) }
         ensures firmware { self.new.firmware ≡ self.old.firmware }
         ensures controller { self.new.controller ≡ self.old.controller }

@@ -7,7 +7,7 @@ use Rattle.std.proofs.Math.Nat.{eq-zero-or-pos}
 use Rattle.psci_board.specs.Board.{BoardValue, height}
 use Rattle.psci_state.specs.Ask.{deepest_of}
 use Rattle.psci_coord.specs.View.{PowerView, domain_of, generation}
-use Rattle.psci_coord.specs.Claim.{climb, claim_of, own_claim, own_wish, off_claim, off_wish}
+use Rattle.psci_coord.specs.Claim.{climb, claims_of, own_claims, own_wish, off_claims, off_wish}
 
 climb-none : (wanted gs : ℕ → ℕ) (level count : ℕ) → wanted level ≡ 0
     → climb wanted gs level count ≡ []
@@ -59,8 +59,8 @@ deepest-above top level h i =
 pub own-off : (b : BoardValue) (v : PowerView) (core top : ℕ) → height b ≤ 3 → top ≤ height b
     → ((level : ℕ) → level ≤ top → off_wish b v core level ≡ 3)
     → (top < height b → off_wish b v core (top + 1) ≡ 0)
-    → own_claim b v core (deepest_of top) ≡ off_claim b v core
-unfolding claim_of
+    → own_claims b v core (deepest_of top) ≡ off_claims b v core
+unfolding claims_of
 own-off b v core top high inside off last =
     climb-same (own_wish (deepest_of top)) (off_wish b v core)
     (λ l. generation b v (domain_of b core l)) 0 (height b + 1) top (omega arith)

@@ -2,7 +2,7 @@
 
 ghost use Rattle.std.specs.Prelude.{◌≡◌, ℕ, ◌<◌, ◌≤◌, ◌+◌};
 ghost use Rattle.psci_board.specs.Board.{HasNode, IsBoard, cores, height};
-ghost use Rattle.psci_coord.specs.Claim.{off_claim, off_wish};
+ghost use Rattle.psci_coord.specs.Claim.{off_claims, off_wish};
 ghost use Rattle.psci_coord.specs.View.{is_all_off};
 ghost use Rattle.psci_coord.specs.Looked.{view_of};
 
@@ -16,7 +16,7 @@ use psci_tree::Tree;
 pub fn off_parts(tree: &Tree, board: &Board, core: Core) -> Parts
     requires board { tree.now.levels ≡ board.now.levels }
     requires core { core.number < cores board.now }
-    ensures { result ≡ off_claim board.now (view_of tree.now) core.number }
+    ensures { result ≡ off_claims board.now (view_of tree.now) core.number }
 {
     let highest = highest_off(tree, board, core);
     own_parts(tree, board, core, Ask::deepest(highest))

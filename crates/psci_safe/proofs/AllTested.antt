@@ -4,15 +4,15 @@ use Rattle.std.proofs.lemmas.Bool.{and_from, and_parts}
 use Rattle.psci_board.specs.Board.{BoardValue}
 use Rattle.psci_world_model.specs.declared.said.Record.{Record}
 use Rattle.psci_safe.specs.Safe.{AlwaysSafe, Safe}
-use Rattle.psci_safe.specs.Test.{is_always_safe, is_asked, is_off_slept}
-use Rattle.psci_safe.specs.Test.{is_off_still, is_one, is_powered, is_safe}
+use Rattle.psci_safe.specs.Test.{is_always_safe, is_asked, is_off_down}
+use Rattle.psci_safe.specs.Test.{is_off_stopped, is_one, is_powered, is_safe}
 use Rattle.psci_safe.proofs.Once.{entries_tested}
 use Rattle.psci_safe.proofs.Tested.{asked_tested, off_tested, one_tested, powered_tested}
 
 pub safe_tested : (b : BoardValue) (past : List Record) → Safe b past → is_safe b past ≡ true
 safe_tested b past s =
     and_from (is_powered b past) _ ((powered_tested b past).1 s.powered)
-    (and_from (is_off_still b past && is_off_slept b past) _ ((off_tested b past).1 s.off)
+    (and_from (is_off_stopped b past && is_off_down b past) _ ((off_tested b past).1 s.off)
     (and_from (is_one b past) _ ((one_tested b past).1 s.one)
     (and_from (is_asked b past) _ ((asked_tested b past).1 s.asked)
     ((entries_tested b past).1 s.entries))))
@@ -20,7 +20,7 @@ safe_tested b past s =
 pub tested_safe : (b : BoardValue) (past : List Record) → is_safe b past ≡ true → Safe b past
 tested_safe b past e =
     let first = and_parts (is_powered b past) _ e in
-    let second = and_parts (is_off_still b past && is_off_slept b past) _ first.1 in
+    let second = and_parts (is_off_stopped b past && is_off_down b past) _ first.1 in
     let third = and_parts (is_one b past) _ second.1 in
     let fourth = and_parts (is_asked b past) _ third.1 in
     record {

@@ -8,14 +8,14 @@ use Rattle.psci_world_model.specs.declared.said.Said.{Said}
 use Rattle.psci_world_model.specs.Legal.{run_from}
 use Rattle.psci_world_model.proofs.Scripts as scripts
 use Rattle.psci_safe.specs.Claims.{claims, live_claims}
-use Rattle.psci_safe.specs.Moments.{has_slept}
+use Rattle.psci_safe.specs.Moments.{was_powered_down}
 use Rattle.psci_safe.specs.Openings.{openings, taken_up}
-use Rattle.psci_safe.specs.Test.{is_always_safe, is_asked, is_each_once, is_each_open, is_off_slept}
-use Rattle.psci_safe.specs.Test.{is_off_still, is_one, is_powered, is_safe}
+use Rattle.psci_safe.specs.Test.{is_always_safe, is_asked, is_each_once, is_each_open, is_off_down}
+use Rattle.psci_safe.specs.Test.{is_off_stopped, is_one, is_powered, is_safe}
 
 -- what an example unfolds to compute the tests of a moment
 unfoldable pub computing : Unit {0}
-unfolding scripts.computing claims live_claims has_slept openings taken_up
+unfolding scripts.computing claims live_claims was_powered_down openings taken_up
 computing = tt
 
 -- Safe runs -----------------------------------------------------------------------------------
@@ -42,8 +42,8 @@ past_from b past ((event ⇒ said) ∷ steps) =
 -- What is said of a moment, each by itself.
 pub data Clause : Type 0 where
   Powered : Clause
-  Still : Clause
-  Slept : Clause
+  Stopped : Clause
+  PoweredDown : Clause
   One : Clause
   Asked : Clause
   Open : Clause
@@ -58,8 +58,8 @@ if_fails false k = k ∷ []
 abbrev pub failing : BoardValue → List Record → List Clause
 failing b past =
     if_fails (is_powered b past) Powered
-    ++ (if_fails (is_off_still b past) Still
-    ++ (if_fails (is_off_slept b past) Slept
+    ++ (if_fails (is_off_stopped b past) Stopped
+    ++ (if_fails (is_off_down b past) PoweredDown
     ++ (if_fails (is_one b past) One
     ++ (if_fails (is_asked b past) Asked
     ++ (if_fails (is_each_open b past) Open
@@ -71,7 +71,7 @@ BreakAll b ks steps = failing b (past_from b [] steps) ≡ ks
 
 -- where something fails the world is not safe
 unsafe_where : (a b c d e f g : Bool) (k : Clause) (ks : List Clause)
-    → if_fails a Powered ++ (if_fails b Still ++ (if_fails c Slept ++ (if_fails d One
+    → if_fails a Powered ++ (if_fails b Stopped ++ (if_fails c PoweredDown ++ (if_fails d One
     ++ (if_fails e Asked ++ (if_fails f Open ++ if_fails g Once))))) ≡ k ∷ ks
     → (a && ((b && c) && (d && (e && (f && g))))) ≡ false
 unsafe_where false b c d e f g k ks some = refl
@@ -87,7 +87,7 @@ unsafe_where true true true true true true true k ks some = absurd (cc)
 pub broken : (b : BoardValue) (past : List Record) (k : Clause) (ks : List Clause)
     → failing b past ≡ k ∷ ks → is_safe b past ≡ false
 broken b past k ks =
-    unsafe_where (is_powered b past) (is_off_still b past) (is_off_slept b past) (is_one b past)
+    unsafe_where (is_powered b past) (is_off_stopped b past) (is_off_down b past) (is_one b past)
     (is_asked b past) (is_each_open b past) (is_each_once b past) k ks
 
 -- after these steps just this one fails

@@ -7,7 +7,7 @@ use Rattle.psci_world_model.specs.declared.event.Event.TheVariants.{Take}
 use Rattle.psci_world_model.proofs.Scripts.{acked, board, call, nothing, off, on_3, part, resumes}
 use Rattle.psci_world_model.proofs.Scripts.{retention, returns, sends, stops, system_reset, used}
 use Rattle.psci_world_model.proofs.Scripts.{version}
-use Rattle.psci_safe.proofs.Checking.{◌⇒◌, Breaks, Legal, Powered, Slept, Still, WasUnsafe}
+use Rattle.psci_safe.proofs.Checking.{◌⇒◌, Breaks, Legal, Powered, PoweredDown, Stopped, WasUnsafe}
 use Rattle.psci_safe.proofs.Checking.{computing}
 
 -- Below a sleeping domain ---------------------------------------------------------------------
@@ -37,27 +37,27 @@ runs_below_the_system = refl
 -- Reported OFF --------------------------------------------------------------------------------
 
 -- a core that was woken is answered before it has entered
-off_core_runs : Breaks board Still
+off_core_runs : Breaks board Stopped
     (Legal (Enter 0 ∷ Wake 3 ∷ []) ∷ version 3 ⇒ returns (pos 65537) nothing ∷ [])
 unfolding computing
 off_core_runs = refl
 
 -- a core that goes off is put in retention, and is OFF once that was acknowledged
-off_in_retention : Breaks board Slept
+off_in_retention : Breaks board PoweredDown
     (Legal (Enter 0 ∷ on_3 ∷ Deliver 0 ∷ Enter 3 ∷ [])
     ∷ off 3 ⇒ stops (sends 1 Down 3 1 1 (part 0 2 1 ∷ [])) ∷ Legal (Deliver 1 ∷ Take 1 ∷ []) ∷ [])
 unfolding computing
 off_in_retention = refl
 
 -- a core that goes off is OFF by the acknowledgement of a suspend from which it has gone on
-old_acknowledgement_used : Breaks board Slept
+old_acknowledgement_used : Breaks board PoweredDown
     (Legal (Enter 0 ∷ on_3 ∷ Deliver 0 ∷ Enter 3 ∷ call 3 0xc4000001 0x00010003 0x40004000 2
     ∷ Deliver 1 ∷ Wake 3 ∷ Enter 3 ∷ off 3 ∷ []) ∷ Take 1 ⇒ used ∷ [])
 unfolding computing
 old_acknowledgement_used = refl
 
 -- a core was powered down before it resumed, and not since
-powered_down_before_it_resumed : Breaks board Slept
+powered_down_before_it_resumed : Breaks board PoweredDown
     (Legal (Enter 0 ∷ on_3 ∷ Deliver 0 ∷ Enter 3 ∷ [])
     ∷ retention 3 ⇒ stops (sends 1 Down 3 1 1 (part 0 3 1 ∷ []))
     ∷ Legal (Deliver 1 ∷ Wake 3 ∷ Enter 3 ∷ [])
@@ -66,7 +66,7 @@ unfolding computing
 powered_down_before_it_resumed = refl
 
 -- a core was powered down in the life before, and not in this one
-powered_down_in_another_life : Breaks board Slept
+powered_down_in_another_life : Breaks board PoweredDown
     (Legal (Enter 0 ∷ call 0 0xc400000e 0x40000200 9 0 ∷ Deliver 0 ∷ Wake 0 ∷ Enter 0
     ∷ system_reset 0 ∷ Deliver 1 ∷ []) ∷ Enter 0 ⇒ returns (pos 0) nothing
     ∷ off 0 ⇒ stops (sends 2 Down 0 2 1 (part 0 2 1 ∷ [])) ∷ Legal (Deliver 2 ∷ Take 2 ∷ []) ∷ [])
@@ -74,7 +74,7 @@ unfolding computing
 powered_down_in_another_life = refl
 
 -- a function tells a core to go on that was woken while it is OFF
-function_resumes : Breaks board Slept
+function_resumes : Breaks board PoweredDown
     (Legal (Enter 0 ∷ Wake 3 ∷ []) ∷ version 3 ⇒ resumes ∷ version 3 ⇒ stops nothing ∷ [])
 unfolding computing
 function_resumes = refl

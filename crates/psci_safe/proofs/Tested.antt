@@ -17,7 +17,7 @@ use Rattle.psci_safe.specs.Claims.{live_claims}
 use Rattle.psci_safe.specs.Moments.{depth_at, executes, is_reported_off}
 use Rattle.psci_safe.specs.Safe.{NoDeeperThanAsked, NoneBelowSleeping, OffIsDown, OneLiveClaim}
 use Rattle.psci_safe.specs.Test.{at_each_core, at_each_domain, at_each_level, has_one, is_asked}
-use Rattle.psci_safe.specs.Test.{is_off_slept, is_off_still, is_one, is_powered}
+use Rattle.psci_safe.specs.Test.{is_off_down, is_off_stopped, is_one, is_powered}
 use Rattle.psci_safe.specs.Test.{executes_outside, was_asked}
 use Rattle.psci_safe.proofs.Ranges.{all_in, each_in, if_holds, where_holds}
 
@@ -84,14 +84,14 @@ still Running h = absurd (h refl)
 still Stopped h = refl
 
 pub off_tested : (b : BoardValue) (past : List Record)
-    → ((is_off_still b past && is_off_slept b past) ≡ true) ↔ OffIsDown b past
+    → ((is_off_stopped b past && is_off_down b past) ≡ true) ↔ OffIsDown b past
 off_tested b past = (
-  (λ e c inside off. let both = and_parts (is_off_still b past) (is_off_slept b past) e in (
+  (λ e c inside off. let both = and_parts (is_off_stopped b past) (is_off_down b past) e in (
     not_running (place b past c)
         (where_holds (is_reported_off b past c) _ (core_passes b _ c both.0 inside) off),
     where_holds (is_reported_off b past c) _ (core_passes b _ c both.1 inside) off,
   )),
-  λ h. and_from (is_off_still b past) (is_off_slept b past)
+  λ h. and_from (is_off_stopped b past) (is_off_down b past)
       (cores_pass b _ (λ c inside. if_holds (is_reported_off b past c) _ (λ off.
       still (place b past c) (h c inside off).0)))
       (cores_pass b _ (λ c inside. if_holds (is_reported_off b past c) _ (λ off.

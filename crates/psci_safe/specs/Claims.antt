@@ -76,7 +76,7 @@ claims b life n (r ∷ past) =
 -- Live claims ---------------------------------------------------------------------------------
 
 -- those claims of a life that are live where the controller's starts are these: no core below was
--- started since the claim was made
+-- started since the claim was made, and none had been started before without having entered
 abbrev pub live_in : BoardValue → (ℕ → ℕ) → Node → List Record → Option ℕ → List Claim
 live_in b starts n past None = []
 live_in b starts n past (Some life) =

@@ -2,7 +2,7 @@
 use Rattle.std.specs.Prelude.{ℕ, Bool, true, false, ◌==◌, ◌&&◌, ◌||◌, not, List, [], ◌∷◌}
 use Rattle.std.specs.Prelude.{nat_lt}
 use Rattle.psci_board.specs.Board.{BoardValue}
-use Rattle.psci_ctl_model.specs.Replies.{is_present}
+use Rattle.psci_ctl_model.specs.Replies.{is_this_life}
 use Rattle.psci_fw_model.specs.declared.outcome.Act.{Act}
 use Rattle.psci_fw_model.specs.declared.outcome.Act.TheVariants as acts
 use Rattle.psci_fw_model.specs.SystemCalls.{is_off_status}
@@ -34,9 +34,9 @@ is_reported_off b past c =
     let v = firmware_values b past in nat_lt 0 v.life && is_off_status (v.status c)
 
 -- in this life of the power controller, the core is powered down
-abbrev pub is_asleep : BoardValue → ℕ → List Record → ℕ → Bool
-is_asleep b life past c =
-    is_present (controller_values b past).life life && depth_at b past 0 c == 3
+abbrev pub is_powered_down : BoardValue → ℕ → List Record → ℕ → Bool
+is_powered_down b life past c =
+    is_this_life (controller_values b past).life life && depth_at b past 0 c == 3
 
 -- a core goes on as one that entered: at an opening, or after its suspend
 abbrev pub goes_on_by : Act → Bool
@@ -52,9 +52,9 @@ goes_on c (Call d regs) (Fw act sent) = c == d && goes_on_by act
 goes_on c event said = false
 
 -- at some moment of a life the core was powered down, and it has not gone on since in that life
-unfoldable pub has_slept : BoardValue → ℕ → List Record → ℕ → Bool
-has_slept b life [] c = is_asleep b life [] c
-has_slept b life (r ∷ past) c =
-    is_asleep b life (r ∷ past) c
+unfoldable pub was_powered_down : BoardValue → ℕ → List Record → ℕ → Bool
+was_powered_down b life [] c = is_powered_down b life [] c
+was_powered_down b life (r ∷ past) c =
+    is_powered_down b life (r ∷ past) c
     || (not (goes_on c r.event r.said && (firmware_values b (r ∷ past)).life == life)
-    && has_slept b life past c)
+    && was_powered_down b life past c)

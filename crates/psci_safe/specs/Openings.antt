@@ -13,7 +13,7 @@ use Rattle.psci_fw_model.specs.declared.outcome.Act.TheVariants as acts
 use Rattle.psci_fw_model.specs.declared.reply.FwReply.{FwReply}
 use Rattle.psci_fw_model.specs.declared.reply.FwReply.TheVariants as replies
 use Rattle.psci_fw_model.specs.Effects.{Effect, AsksOn, Rests}
-use Rattle.psci_fw_model.specs.Entry.{Entry, effect}
+use Rattle.psci_fw_model.specs.Exchange.{FwExchange, effect}
 use Rattle.psci_fw_model.specs.History.{life}
 use Rattle.psci_fw_model.specs.Said.{Arrival, arrived, listed}
 
@@ -65,7 +65,7 @@ made_for_boot b before (Some a) =
     (Some (record { address = b.boot; context = 0 }))
 
 -- all openings that were made, the newest first
-unfoldable pub openings : BoardValue → List Entry → List Made
+unfoldable pub openings : BoardValue → List FwExchange → List Made
 openings b [] = []
 openings b (e ∷ h) =
     listed (made_by b (length h) (life b h) e.call (effect b e))
@@ -105,7 +105,7 @@ pub record TakenUp : Type 0 where
   pub made : Option Made
 
 -- all entries at an address, with what they took up, the newest first
-unfoldable pub taken_up : BoardValue → List Entry → List TakenUp
+unfoldable pub taken_up : BoardValue → List FwExchange → List TakenUp
 taken_up b [] = []
 taken_up b (e ∷ h) =
     listed (option_map (λ x. record {
@@ -123,7 +123,7 @@ pub record Fits (t : TakenUp) (m : Made) : Type 0 where
   pub opening : m.opening ≡ t.entered.opening
 
 -- Each entry takes up an opening that was made before, and no two take up the same one.
-pub record AreTakenUp (b : BoardValue) (h : List Entry) : Type 0 where
+pub record AreTakenUp (b : BoardValue) (h : List FwExchange) : Type 0 where
   pub each : (k : ℕ) (t : TakenUp) → slice_get (taken_up b h) k ≡ Some t
       → (m : Made) × (t.made ≡ Some m) × Fits t m
   pub once : (j k : ℕ) (t u : TakenUp) (m n : Made) → slice_get (taken_up b h) j ≡ Some t

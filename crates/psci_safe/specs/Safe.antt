@@ -8,7 +8,7 @@ use Rattle.psci_world_model.specs.declared.said.Record.{Record}
 use Rattle.psci_world_model.specs.Histories.{controller_values, firmware_history, firmware_values}
 use Rattle.psci_world_model.specs.Places.{place}
 use Rattle.psci_safe.specs.Claims.{live_claims}
-use Rattle.psci_safe.specs.Moments.{depth_at, executes, has_slept, is_reported_off}
+use Rattle.psci_safe.specs.Moments.{depth_at, executes, was_powered_down, is_reported_off}
 use Rattle.psci_safe.specs.Openings.{AreTakenUp}
 
 -- No core below a sleeping domain: while a core executes, each domain on its path is fully on.
@@ -22,7 +22,7 @@ NoneBelowSleeping b past = (c level : ℕ) → c < cores b → level ≤ height 
 abbrev pub OffIsDown : BoardValue → List Record → Type 0
 OffIsDown b past = (c : ℕ) → c < cores b → is_reported_off b past c ≡ true
     → (place b past c ≡ Running → ⊥)
-    × (has_slept b (firmware_values b past).life past c ≡ true)
+    × (was_powered_down b (firmware_values b past).life past c ≡ true)
 
 -- One live claim: each domain has at most one.
 abbrev pub OneLiveClaim : BoardValue → List Record → Type 0

@@ -10,7 +10,7 @@ use Rattle.psci_world_model.specs.declared.said.Record.{Record}
 use Rattle.psci_world_model.specs.Histories.{controller_values, firmware_history, firmware_values}
 use Rattle.psci_world_model.specs.Places.{place}
 use Rattle.psci_safe.specs.Claims.{live_claims}
-use Rattle.psci_safe.specs.Moments.{depth_at, executes, has_slept, is_reported_off}
+use Rattle.psci_safe.specs.Moments.{depth_at, executes, was_powered_down, is_reported_off}
 use Rattle.psci_safe.specs.Openings.{EnteredAt, Made, Maker, OfCall, OfLife, TakenUp, taken_up}
 
 -- Everywhere on the board ---------------------------------------------------------------------
@@ -43,14 +43,14 @@ executes_outside Running = true
 executes_outside Stopped = false
 
 -- a core that is reported OFF does not run
-abbrev pub is_off_still : BoardValue → List Record → Bool
-is_off_still b past = at_each_core b (λ c. not (is_reported_off b past c)
+abbrev pub is_off_stopped : BoardValue → List Record → Bool
+is_off_stopped b past = at_each_core b (λ c. not (is_reported_off b past c)
     || not (executes_outside (place b past c)))
 
 -- a core that is reported OFF was powered down since it last went on
-abbrev pub is_off_slept : BoardValue → List Record → Bool
-is_off_slept b past = at_each_core b (λ c. not (is_reported_off b past c)
-    || has_slept b (firmware_values b past).life past c)
+abbrev pub is_off_down : BoardValue → List Record → Bool
+is_off_down b past = at_each_core b (λ c. not (is_reported_off b past c)
+    || was_powered_down b (firmware_values b past).life past c)
 
 -- Claims --------------------------------------------------------------------------------------
 
@@ -114,7 +114,7 @@ is_each_once b past = are_apart (taken_up b (firmware_history b past))
 abbrev pub is_safe : BoardValue → List Record → Bool
 is_safe b past =
     is_powered b past
-    && ((is_off_still b past && is_off_slept b past)
+    && ((is_off_stopped b past && is_off_down b past)
     && (is_one b past
     && (is_asked b past
     && (is_each_open b past && is_each_once b past))))

@@ -8,7 +8,7 @@ ghost use Rattle.psci_safe.specs.Openings.{AreTakenUp};
 ghost use Rattle.psci_safe.specs.Safe.{AlwaysSafe, NoDeeperThanAsked, NoneBelowSleeping};
 ghost use Rattle.psci_safe.specs.Safe.{OffIsDown, OneLiveClaim, Safe};
 ghost use Rattle.psci_safe.specs.Test.{is_always_safe, is_asked, is_each_once, is_each_open};
-ghost use Rattle.psci_safe.specs.Test.{is_off_slept, is_off_still, is_one, is_powered, is_safe};
+ghost use Rattle.psci_safe.specs.Test.{is_off_down, is_off_stopped, is_one, is_powered, is_safe};
 
 /// The world is safe at a moment where the test says so, and nowhere else. So it is with each thing
 /// that is said of a moment, and with all moments of a run.
@@ -21,7 +21,7 @@ pub fn law_tested()
     ensures powered { (b : BoardValue) (past : List Record)
         → (is_powered b past ≡ true) ↔ NoneBelowSleeping b past }
     ensures off { (b : BoardValue) (past : List Record)
-        → ((is_off_still b past && is_off_slept b past) ≡ true) ↔ OffIsDown b past }
+        → ((is_off_stopped b past && is_off_down b past) ≡ true) ↔ OffIsDown b past }
     ensures one { (b : BoardValue) (past : List Record)
         → (is_one b past ≡ true) ↔ OneLiveClaim b past }
     ensures asked { (b : BoardValue) (past : List Record)

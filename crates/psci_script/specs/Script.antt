@@ -27,8 +27,8 @@ pub record Transcript : Type 0 where
   pub end : Result Replayed ReplayFault
 
 -- nothing was answered before this end
-abbrev pub ends : Result Replayed ReplayFault → Transcript
-ends end = record { text = []; end = end }
+abbrev pub ends_unanswered : Result Replayed ReplayFault → Transcript
+ends_unanswered end = record { text = []; end = end }
 
 -- the same with this text before it
 abbrev pub after_line : List ℕ → Transcript → Transcript
@@ -62,7 +62,7 @@ board_line line = sized 1 line (ok_or (literal_at (codes "board ") line) NoBoard
 -- number is that of the records with it.
 abbrev pub transcript_of_line : BoardValue → List Record → ℕ → Result LineSays ScriptFault
     → (List Record → Transcript) → Transcript
-transcript_of_line b past number (Err fault) rest = ends (Err (Script number fault))
+transcript_of_line b past number (Err fault) rest = ends_unanswered (Err (Script number fault))
 transcript_of_line b past number (Ok Blank) rest = rest past
 transcript_of_line b past number (Ok (Says event)) rest =
     after_line (answer_line (length past + 1) (legal b past event))
@@ -71,24 +71,25 @@ transcript_of_line b past number (Ok (Says event)) rest =
 -- what the lines after the first so many ones are answered
 unfoldable pub transcript_of_rest : BoardValue → List Record → ℕ → List (List ℕ)
     → Transcript
-transcript_of_rest b past count [] = ends (Ok (record { lines = count; events = length past }))
+transcript_of_rest b past count [] =
+    ends_unanswered (Ok (record { lines = count; events = length past }))
 transcript_of_rest b past count (l ∷ ls) =
     transcript_of_line b past (count + 1) (line_said (count + 1) l)
     (λ records. transcript_of_rest b records (count + 1) ls)
 
 -- what the lines after the board line are answered, by its board
 abbrev pub transcript_of_board : Result BoardValue BoardFault → List (List ℕ) → Transcript
-transcript_of_board (Err fault) ls = ends (Err (Board fault))
+transcript_of_board (Err fault) ls = ends_unanswered (Err (Board fault))
 transcript_of_board (Ok b) ls = transcript_of_rest b [] 1 ls
 
 -- what all lines are answered, by the board text of the first, and the lines after it
 abbrev pub transcript_of_first : Result (List ℕ) ScriptFault → List (List ℕ) → Transcript
-transcript_of_first (Err fault) ls = ends (Err (Script 1 fault))
+transcript_of_first (Err fault) ls = ends_unanswered (Err (Script 1 fault))
 transcript_of_first (Ok text) ls = transcript_of_board (board_of text) ls
 
 -- what these lines are answered
 abbrev pub transcript_of_lines : List (List ℕ) → Transcript
-transcript_of_lines [] = ends (Err (Script 1 NoBoard))
+transcript_of_lines [] = ends_unanswered (Err (Script 1 NoBoard))
 transcript_of_lines (l ∷ ls) = transcript_of_first (board_line l) ls
 
 -- what the bytes of a script are answered

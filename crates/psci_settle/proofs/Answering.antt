@@ -1,4 +1,4 @@
--- What is so after a message of the present life was delivered and its acknowledgement taken.
+-- What is so after a message of this life was delivered and its acknowledgement taken.
 use Rattle.std.proofs.Common.{◌≡◌, ℕ, ◌+◌, true, ◌==◌, cond, List, ◌∷◌, ◌++◌}
 use Rattle.std.proofs.Common.{length, Some, unwrap_or, refl, ap}
 use Rattle.std.proofs.Common.{◌∙◌}
@@ -9,15 +9,15 @@ use Rattle.psci_ctl_model.specs.declared.reply.CtlReply.TheVariants as replied
 use Rattle.psci_ctl_model.specs.Changes.{after}
 use Rattle.psci_ctl_model.specs.Changes as controlling
 use Rattle.psci_ctl_model.specs.Effects.{effect_of, message_effect}
-use Rattle.psci_ctl_model.specs.Entry as controller
+use Rattle.psci_ctl_model.specs.Exchange as controller
 use Rattle.psci_ctl_model.specs.History as controls
-use Rattle.psci_ctl_model.specs.Replies.{ack_by, delivery_of, is_present, reply}
+use Rattle.psci_ctl_model.specs.Replies.{ack_by, delivery_of, is_this_life, reply}
 use Rattle.psci_ctl_model.specs.Values as controlled
 use Rattle.psci_link.specs.Message.{AckValue, MessageValue}
 use Rattle.psci_link.specs.declared.taken.Taken.TheVariants.{Used}
 use Rattle.psci_fw_model.specs.Answer.{answer}
 use Rattle.psci_fw_model.specs.Changes.{with_acknowledgement}
-use Rattle.psci_fw_model.specs.Entry as firmware
+use Rattle.psci_fw_model.specs.Exchange as firmware
 use Rattle.psci_fw_model.specs.History as remembers
 use Rattle.psci_fw_model.specs.Taking.{taken_by}
 use Rattle.psci_fw_model.specs.Values.{Values}
@@ -28,12 +28,12 @@ use Rattle.psci_world_model.specs.Histories.{acks, ack_in, call, control, contro
 use Rattle.psci_world_model.specs.Histories.{controller_values, delivered, firmware_history}
 use Rattle.psci_world_model.specs.Histories.{firmware_values, sent, sent_in, took}
 use Rattle.psci_world_model.specs.Legal.{IsLegalPast, deliver, legal, legal_record, said_by, take}
-use Rattle.psci_world_model.specs.Lists.{numbered}
+use Rattle.psci_world_model.specs.Lists.{indexed}
 use Rattle.psci_world_model.specs.Places.{place, place_of_effect, place_controlled}
 use Rattle.psci_fw_model.specs.Said.{listed}
 use Rattle.psci_world_laws.proofs.Agreed.{RunLaws}
 use Rattle.psci_settle.specs.Drained as drained
-use Rattle.psci_settle.specs.Settling.{answering, step}
+use Rattle.psci_settle.specs.Settling.{serving, step}
 use Rattle.psci_settle.proofs.Counting.{AreAdded, delivered_more, one_added}
 use Rattle.psci_settle.proofs.Finding.{numbered_new}
 
@@ -44,12 +44,12 @@ abbrev pub ack_to : BoardValue → List Record → MessageValue → AckValue
 ack_to b past m = ack_by b (controller_values b past) m m.kind
 
 delivery_said : (b : BoardValue) (past : List Record) (k : ℕ) (m : MessageValue)
-    → numbered (sent past) k ≡ Some m → (controller_values b past).life ≡ Some m.life
+    → indexed (sent past) k ≡ Some m → (controller_values b past).life ≡ Some m.life
     → legal b past (Deliver k) ≡ Acked (length (acks past)) (ack_to b past m)
 unfolding legal reply delivery_of
 delivery_said b past k m at present =
-    let test : is_present (controller_values b past).life m.life ≡ true =
-    ap (λ o. is_present o m.life) present ∙ eq-eqb m.life m.life refl in
+    let test : is_this_life (controller_values b past).life m.life ≡ true =
+    ap (λ o. is_this_life o m.life) present ∙ eq-eqb m.life m.life refl in
     ap (deliver b past) at
     ∙ ap (λ t. said_by (length (acks past)) (replied.Delivery
     (cond t (deliveries.Applied (ack_to b past m)) deliveries.Ignored))) test
@@ -66,7 +66,7 @@ record AreDelivered (b : BoardValue) (past : List Record) (k : ℕ) (m : Message
       ≡ unwrap_or (place_of_effect x (message_effect b m (ack_to b past m) m.kind)) (place b past x)
 
 delivered_so : (b : BoardValue) (past : List Record) (k : ℕ) (m : MessageValue) → RunLaws b
-    → numbered (sent past) k ≡ Some m → (controller_values b past).life ≡ Some m.life
+    → indexed (sent past) k ≡ Some m → (controller_values b past).life ≡ Some m.life
     → AreDelivered b past k m
 unfolding controller_history firmware_history sent acks place after effect_of
 delivered_so b past k m laws at present = record {
@@ -85,7 +85,7 @@ delivered_so b past k m laws at present = record {
     w : controlled.Values
     w = controller_values b past
 
-    h : List controller.Entry
+    h : List controller.CtlExchange
     h = controller_history b past
 
     a : AckValue
@@ -97,7 +97,7 @@ delivered_so b past k m laws at present = record {
 -- An acknowledgement ---------------------------------------------------------------------------
 
 taken_said : (b : BoardValue) (past : List Record) (k : ℕ) (a : AckValue)
-    → numbered (acks past) k ≡ Some a → taken_by (firmware_values b past) a ≡ Used
+    → indexed (acks past) k ≡ Some a → taken_by (firmware_values b past) a ≡ Used
     → legal b past (Take k) ≡ Took Used
 unfolding legal answer
 taken_said b past k a at used = ap (take b past) at ∙ ap Took used
@@ -111,7 +111,7 @@ record AreTaken (b : BoardValue) (past : List Record) (k : ℕ) (a : AckValue) :
   pub place : (x : ℕ) → place b (step b past (Take k)) x ≡ place b past x
 
 taken_so : (b : BoardValue) (past : List Record) (k : ℕ) (a : AckValue) → RunLaws b
-    → numbered (acks past) k ≡ Some a → taken_by (firmware_values b past) a ≡ Used
+    → indexed (acks past) k ≡ Some a → taken_by (firmware_values b past) a ≡ Used
     → AreTaken b past k a
 unfolding controller_history firmware_history sent place
 taken_so b past k a laws at used = record {
@@ -126,7 +126,7 @@ taken_so b past k a laws at used = record {
     w : controlled.Values
     w = controller_values b past
 
-    h : List firmware.Entry
+    h : List firmware.FwExchange
     h = firmware_history b past
 
     said : legal b past (Take k) ≡ Took Used
@@ -137,22 +137,22 @@ taken_so b past k a laws at used = record {
 -- What is so after a message was answered.
 pub record AreAnswered (b : BoardValue) (past : List Record) (k : ℕ) (m : MessageValue)
     : Type 0 where
-  pub legal : IsLegalPast b (answering b past (Some k))
+  pub legal : IsLegalPast b (serving b past (Some k))
   pub added : (before : List Record) → AreAdded before past
-      → AreAdded before (answering b past (Some k))
-  pub control : controller_values b (answering b past (Some k))
+      → AreAdded before (serving b past (Some k))
+  pub control : controller_values b (serving b past (Some k))
       ≡ controlling.change b (message_effect b m (ack_to b past m) m.kind)
       (controller_values b past)
-  pub firmware : firmware_values b (answering b past (Some k))
+  pub firmware : firmware_values b (serving b past (Some k))
       ≡ with_acknowledgement (ack_to b past m) (firmware_values b past)
-  pub sent : sent (answering b past (Some k)) ≡ sent past
-  pub place : (x : ℕ) → place b (answering b past (Some k)) x
+  pub sent : sent (serving b past (Some k)) ≡ sent past
+  pub place : (x : ℕ) → place b (serving b past (Some k)) x
       ≡ unwrap_or (place_of_effect x (message_effect b m (ack_to b past m) m.kind)) (place b past x)
-  pub count : (j : ℕ) → drained.deliveries j (answering b past (Some k))
+  pub count : (j : ℕ) → drained.deliveries j (serving b past (Some k))
       ≡ cond (j == k) 1 0 + drained.deliveries j past
 
 pub answered_so : (b : BoardValue) (past : List Record) (k : ℕ) (m : MessageValue) → RunLaws b
-    → IsLegalPast b past → numbered (sent past) k ≡ Some m
+    → IsLegalPast b past → indexed (sent past) k ≡ Some m
     → (controller_values b past).life ≡ Some m.life
     → taken_by (firmware_values b past) (ack_to b past m) ≡ Used → AreAnswered b past k m
 answered_so b past k m laws is at present used = record {
@@ -179,8 +179,8 @@ answered_so b past k m laws is at present used = record {
     one : AreDelivered b past k m
     one = delivered_so b past k m laws at present
 
-    made : numbered (acks next) n ≡ Some a
-    made = ap (λ (l : List AckValue). numbered l n) one.acks ∙ numbered_new a (acks past)
+    made : indexed (acks next) n ≡ Some a
+    made = ap (λ (l : List AckValue). indexed l n) one.acks ∙ numbered_new a (acks past)
 
     two : AreTaken b next n a
     two = taken_so b next n a laws made

@@ -18,7 +18,7 @@ use Rattle.psci_fw_model.specs.After.{change}
 use Rattle.psci_fw_model.specs.Answer.{answer, reply_or}
 use Rattle.psci_fw_model.specs.Effects.{enter_effect}
 use Rattle.psci_fw_model.specs.Entering.{enter_outcome}
-use Rattle.psci_fw_model.specs.Entry as firmware
+use Rattle.psci_fw_model.specs.Exchange as firmware
 use Rattle.psci_fw_model.specs.History as remembers
 use Rattle.psci_fw_model.specs.Legal.{IsLegal}
 use Rattle.psci_fw_model.specs.Lives.{in_life}
@@ -35,7 +35,7 @@ use Rattle.psci_world_model.specs.Histories.{entered, firmware_history, firmware
 use Rattle.psci_world_model.specs.Histories.{outcome_in, sent, sent_in}
 use Rattle.psci_world_model.specs.Legal.{IsLegalPast, if_started, legal}
 use Rattle.psci_world_model.specs.Legal.{said_of, sent_as}
-use Rattle.psci_world_model.specs.Lists.{numbered}
+use Rattle.psci_world_model.specs.Lists.{indexed}
 use Rattle.psci_world_model.specs.Places.{place, place_after, place_said}
 use Rattle.psci_world_model.proofs.Answered.{firmware_legal}
 use Rattle.psci_world_laws.specs.Refusals.{NoneRefused}
@@ -159,13 +159,13 @@ arrives b past c laws is free on at = record {
     out : HasOutcome b past c
     out = has_outcome b past c free on at
 
-    h : List firmware.Entry
+    h : List firmware.FwExchange
     h = firmware_history b past
 
     message : Option MessageValue
     message = option_map (λ s. s.message) out.sends
 
-    entry : firmware.Entry
+    entry : firmware.FwExchange
     entry = record {
       core = c;
       call = calls.Enter out.start;
@@ -188,6 +188,6 @@ same_control b past c = refl
 
 -- and each message its number
 pub same_numbers : (past : List MessageValue) (o : Option MessageValue) (k : ℕ) (m : MessageValue)
-    → numbered past k ≡ Some m → numbered (listed o ++ past) k ≡ Some m
+    → indexed past k ≡ Some m → indexed (listed o ++ past) k ≡ Some m
 same_numbers past None k m e = e
 same_numbers past (Some n) k m e = numbered_old n past k m e

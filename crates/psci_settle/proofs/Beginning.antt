@@ -15,7 +15,7 @@ use Rattle.psci_world_model.specs.declared.place.Place.TheVariants.{Started, Run
 use Rattle.psci_world_model.specs.declared.said.Record.{Record}
 use Rattle.psci_world_model.specs.Histories.{controller_values, firmware_values, sent}
 use Rattle.psci_world_model.specs.Legal.{IsLegalPast, legal_record}
-use Rattle.psci_world_model.specs.Lists.{numbered}
+use Rattle.psci_world_model.specs.Lists.{indexed}
 use Rattle.psci_world_model.specs.Places.{place}
 use Rattle.psci_world_laws.proofs.Agreeing.{found_own}
 use Rattle.psci_world_laws.proofs.Moving.{entry_moves}
@@ -32,7 +32,7 @@ use Rattle.psci_settle.proofs.Standing.{SettleLaws}
 -- The Start of this number was sent.
 pub record IsStartAt (messages : List MessageValue) (k : ℕ) : Type 0 where
   pub message : MessageValue
-  pub at : numbered messages k ≡ Some message
+  pub at : indexed messages k ≡ Some message
   pub kind : message.kind ≡ kinds.Start
 
 -- What stays so from the beginning on: the life goes on, and only Starts were delivered.
@@ -69,7 +69,7 @@ pub record IsIn (b : BoardValue) (before : List Record) (life : ℕ) (past : Lis
 
 pub more_starts : (messages : List MessageValue) (k : ℕ)
     → IsStartAt messages k → (now : List MessageValue)
-    → ((m : MessageValue) → numbered messages k ≡ Some m → numbered now k ≡ Some m)
+    → ((m : MessageValue) → indexed messages k ≡ Some m → indexed now k ≡ Some m)
     → IsStartAt now k
 more_starts messages k is now keeps =
     record { message = is.message; at = keeps is.message is.at; kind = is.kind }
@@ -87,7 +87,7 @@ enters_in b before life past c laws way on at = record {
       | inl same ↦ inl same
       | inr start ↦
           inr (more_starts (sent past) j start (sent (step b past (Enter c)))
-          (λ m e. ap (λ l. numbered l j) is.sent ∙ same_numbers (sent past) is.message j m e))
+          (λ m e. ap (λ l. indexed l j) is.sent ∙ same_numbers (sent past) is.message j m e))
     ];
   };
   own = own;

@@ -6,7 +6,7 @@ use Rattle.psci_coord.specs.declared.part.Part.{Part}
 use Rattle.psci_ctl_model.specs.Follows.{AreValues}
 use Rattle.psci_ctl_model.specs.Laws.{AckLaws, SumLaws}
 use Rattle.psci_ctl_model.specs.Values as controlled
-use Rattle.psci_link.specs.Message.{IsClaim, PartByPart}
+use Rattle.psci_link.specs.Message.{AreClaims, PartByPart}
 use Rattle.psci_fw_model.specs.Sent.{sent_messages}
 use Rattle.psci_fw_laws.specs.Kept.{Holds}
 use Rattle.psci_world_model.specs.declared.said.Record.{Record}
@@ -22,7 +22,7 @@ use Rattle.psci_settle.proofs.Carried.{IsGiven}
 pub record BoardLaws (b : BoardValue) : Type 0 where
   pub runs : RunLaws b
   pub sums : SumLaws b
-  pub parts : (ps : List Part) → IsClaim ps → PartByPart ps
+  pub parts : (ps : List Part) → AreClaims ps → PartByPart ps
   pub paths : PathLaws b
   pub acks : (u : controlled.Values) (c : ℕ) (ps : List Part) → AckLaws b u c ps
   -- and of every legal run

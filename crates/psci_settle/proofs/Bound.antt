@@ -11,12 +11,12 @@ use Rattle.psci_link.specs.declared.kind.Kind.TheVariants as kinds
 use Rattle.psci_link.specs.Message.{MessageValue}
 use Rattle.psci_world_model.specs.declared.said.Record.{Record}
 use Rattle.psci_world_model.specs.Histories.{controller_values, firmware_values, sent}
-use Rattle.psci_world_model.specs.Lists.{numbered}
+use Rattle.psci_world_model.specs.Lists.{indexed}
 use Rattle.psci_settle.specs.Drained.{deliveries}
-use Rattle.psci_settle.specs.Settling.{Reached, answered, is_any, is_waiting, round, rounds}
+use Rattle.psci_settle.specs.Settling.{Reached, served, is_any, is_waiting, round, rounds}
 use Rattle.psci_settle.proofs.Controls.{IsKnown}
 use Rattle.psci_settle.proofs.Downs.{IsLeft, same_down}
-use Rattle.psci_settle.proofs.Finding.{finds, numbered_at}
+use Rattle.psci_settle.proofs.Finding.{finds, indexed_at}
 use Rattle.psci_settle.proofs.Folding.{AreDone, each_done}
 use Rattle.psci_settle.proofs.Going.{IsGoing, known_now, out_now}
 use Rattle.psci_settle.proofs.Rounds.{DeepAt, InRound, IsDone, IsTodo, out_at, round_step}
@@ -27,7 +27,7 @@ pub record IsOften (b : BoardValue) (before : List Record) (n : ℕ) (past : Lis
     : Type 0 where
   pub number : ℕ
   pub message : MessageValue
-  pub at : numbered (sent past) number ≡ Some message
+  pub at : indexed (sent past) number ≡ Some message
   pub kind : message.kind ≡ kinds.Down
   pub times : deliveries number past ≡ deliveries number before + n
 
@@ -38,9 +38,9 @@ pub record IsRound (b : BoardValue) (before : List Record) (life n : ℕ) (past 
   -- live parts of lower levels have their depth
   pub deep : (c : ℕ) → DeepAt b life n c past
   -- no Down was delivered more often, and what is outstanding as often
-  pub most : (k : ℕ) (m : MessageValue) → numbered (sent past) k ≡ Some m → m.kind ≡ kinds.Down
+  pub most : (k : ℕ) (m : MessageValue) → indexed (sent past) k ≡ Some m → m.kind ≡ kinds.Down
       → deliveries k past ≤ deliveries k before + n
-  pub once : (c k : ℕ) (m : MessageValue) → numbered (sent past) k ≡ Some m → c < cores b
+  pub once : (c k : ℕ) (m : MessageValue) → indexed (sent past) k ≡ Some m → c < cores b
       → out_at b c past ≡ Some m → deliveries k past ≡ deliveries k before + n
   -- of what is outstanding a live part of such a level is left
   pub left : (r c : ℕ) (m : MessageValue) → n ≡ suc r → c < cores b → out_at b c past ≡ Some m
@@ -68,7 +68,7 @@ one_round b before life n past laws is waits = record {
       (all.done c on).deep k level m p at present kind core part live low;
   most = λ k m at kind.
       let old = earlier k m at in
-      let place = numbered_at (sent past) k m old in
+      let place = indexed_at (sent past) k m old in
       let on = (known.messages _ m place.1).sound.core in
       omega (arith, (all.done m.core.number on).most k m old kind refl, is.most k m old kind);
   once = λ c k m at on e.
@@ -88,12 +88,12 @@ one_round b before life n past laws is waits = record {
       let m : MessageValue = waits.message in
       let out = out_now b before life past waits.core m laws is.going waits.out in
       let number = finds m (sent past) out.down.index out.down.at in
-      let at : numbered (sent past) number.number ≡ Some m =
+      let at : indexed (sent past) number.number ≡ Some m =
       number.at ∙ ap Some (same_down b before life past waits.core m laws is.going out number) in
       record {
         number = number.number;
         message = m;
-        at = ap (λ l. numbered l number.number) all.holds.messages ∙ at;
+        at = ap (λ l. indexed l number.number) all.holds.messages ∙ at;
         kind = out.down.kind;
         times = omega (
           arith,
@@ -110,14 +110,14 @@ one_round b before life n past laws is waits = record {
     known = known_now b before life past laws is.going
 
     all : AreDone (cores b) (InRound b before life n past) (IsDone b life n past) (round b past)
-    all = each_done (answered b is_any) (cores b) (InRound b before life n past) (IsTodo b past)
+    all = each_done (served b is_any) (cores b) (InRound b before life n past) (IsTodo b past)
         (IsDone b life n past) (round_step b before life n past laws) past
         (record { going = is.going; messages = refl; starts = refl; deep = is.deep })
         (λ c on. record { out = refl; count = λ k m at kind core. refl })
 
-    earlier : (k : ℕ) (m : MessageValue) → numbered (sent next) k ≡ Some m
-        → numbered (sent past) k ≡ Some m
-    earlier k m at = ap (λ l. numbered l k) (sym all.holds.messages) ∙ at
+    earlier : (k : ℕ) (m : MessageValue) → indexed (sent next) k ≡ Some m
+        → indexed (sent past) k ≡ Some m
+    earlier k m at = ap (λ l. indexed l k) (sym all.holds.messages) ∙ at
 
 -- All rounds -----------------------------------------------------------------------------------
 

@@ -19,7 +19,7 @@ use Rattle.psci_ctl_model.specs.Replies.{ack_by, last_start, may_follow}
 use Rattle.psci_ctl_model.specs.Values as controlled
 use Rattle.psci_link.specs.declared.kind.Kind.{Kind}
 use Rattle.psci_link.specs.declared.kind.Kind.TheVariants as kinds
-use Rattle.psci_link.specs.Message.{AckValue, IsClaim, MessageValue, PartByPart}
+use Rattle.psci_link.specs.Message.{AckValue, AreClaims, MessageValue, PartByPart}
 use Rattle.psci_fw_model.specs.declared.outcome.Act.{Act}
 use Rattle.psci_fw_model.specs.After.{change}
 use Rattle.psci_fw_model.specs.Changes.{with_acknowledgement}
@@ -47,7 +47,7 @@ use Rattle.psci_settle.proofs.Controls.{IsKnown, begun_waits, down_waits, start_
 use Rattle.psci_settle.proofs.Taking.{waiting_taken}
 use Rattle.psci_settle.proofs.Telling.{own_name}
 
--- What waits in the present life, where there is one.
+-- What waits in this life, where there is one.
 abbrev pub WaitsNow : BoardValue → controlled.Values → Values → List MessageValue → List AckValue
     → Type 0
 WaitsNow b w v sent made =
@@ -57,7 +57,7 @@ WaitsNow b w v sent made =
 pub record IsGiven (b : BoardValue) (w : controlled.Values) (place : ℕ → Place) (v : Values)
     (sent : List MessageValue) : Type 0 where
   pub sums : SumLaws b
-  pub parts : (ps : List Part) → IsClaim ps → PartByPart ps
+  pub parts : (ps : List Part) → AreClaims ps → PartByPart ps
   pub paths : PathLaws b
   pub acks : (u : controlled.Values) (c : ℕ) (ps : List Part) → AckLaws b u c ps
   pub callers : CallerLaws b
@@ -65,7 +65,7 @@ pub record IsGiven (b : BoardValue) (w : controlled.Values) (place : ℕ → Pla
   pub holds : Holds b v sent
   pub lives : (life : ℕ) → w.life ≡ Some life → life ≤ b.lives
 
--- what a core finds that enters in the present life is such as the firmware keeps
+-- what a core finds that enters in this life is such as the firmware keeps
 pub present_holds : (b : BoardValue) (w : controlled.Values) (place : ℕ → Place) (v : Values)
     (sent : List MessageValue) (life : ℕ) → IsGiven b w place v sent → w.life ≡ Some life
     → Holds b (in_life b life v) sent

@@ -6,7 +6,7 @@ use Rattle.psci_board.specs.Board.{BoardValue}
 use Rattle.psci_link.specs.declared.start.Cause.{Cause}
 use Rattle.psci_ctl_model.specs.Changes as controlling
 use Rattle.psci_ctl_model.specs.Effects as controlling_effects
-use Rattle.psci_ctl_model.specs.Entry as controller
+use Rattle.psci_ctl_model.specs.Exchange as controller
 use Rattle.psci_ctl_model.specs.Follows.{MayFollow}
 use Rattle.psci_ctl_model.specs.History as controls
 use Rattle.psci_ctl_model.specs.Legal as legal_controls
@@ -23,7 +23,7 @@ use Rattle.psci_world_model.specs.declared.said.Said.TheVariants as said
 use Rattle.psci_world_model.specs.Histories.{ack_in, acks, controller_history, controller_values}
 use Rattle.psci_world_model.specs.Histories.{delivered, firmware_values, sent, sent_in}
 use Rattle.psci_world_model.specs.Legal.{legal}
-use Rattle.psci_world_model.specs.Lists.{numbered}
+use Rattle.psci_world_model.specs.Lists.{indexed}
 use Rattle.psci_world_model.specs.Places.{place}
 use Rattle.psci_world_laws.proofs.Agreed.{RunLaws}
 use Rattle.psci_world_laws.proofs.Controlling.{after_control}
@@ -34,7 +34,8 @@ use Rattle.psci_settle.proofs.Carried.{WaitsNow, acked_waits, started_waits}
 use Rattle.psci_settle.proofs.Nexts.{Now, Next}
 
 -- a core was started by a wake-up or a reset
-kicked_next : (b : BoardValue) (past : List Record) (e : controller.Entry) (c : ℕ) (cause : Cause)
+kicked_next : (b : BoardValue) (past : List Record) (e : controller.CtlExchange) (c : ℕ)
+    (cause : Cause)
     → RunLaws b → Given b past → Now b past
     → legal_controls.IsLegal b (e ∷ controller_history b past)
     → controlling_effects.effect_of b e.call e.reply ≡ controlling_effects.Starts c cause
@@ -42,7 +43,7 @@ kicked_next : (b : BoardValue) (past : List Record) (e : controller.Entry) (c : 
     (sent past) (acks past)
 unfolding controlling.after
 kicked_next b past e c cause laws given now is starts =
-    let h : List controller.Entry = controller_history b past in
+    let h : List controller.CtlExchange = controller_history b past in
     let w : controlled.Values = controller_values b past in
     let may : MayFollow b w (controlling_effects.Starts c cause) =
     subst (MayFollow b w) starts
@@ -91,7 +92,7 @@ message_next : (b : BoardValue) (past : List Record) (m : MessageValue) (a : Ack
     (firmware_values b past) (sent past) (a ∷ acks past)
 unfolding controlling.after controlling_effects.effect_of
 message_next b past m a i laws given now is at own made =
-    let h : List controller.Entry = controller_history b past in
+    let h : List controller.CtlExchange = controller_history b past in
     let w : controlled.Values = controller_values b past in
     let e : controlling_effects.Effect = message_effect b m a m.kind in
     let may : MayFollow b w e =
@@ -112,13 +113,13 @@ deliver_next b past k (said.Fw act sends) laws given now is e none =
     (listed o ++ sent past) (acks past)) (sym none) now
 deliver_next b past k (said.Kick start) laws given now is e none = now
 deliver_next b past k (said.Acked index ack) laws given now is e none =
-    by_message (numbered (sent past) k) refl is
-    (delivers b past k index (numbered (sent past) k) ack refl e)
+    by_message (indexed (sent past) k) refl is
+    (delivers b past k index (indexed (sent past) k) ack refl e)
   where
     w : controlled.Values
     w = controller_values b past
 
-    by_message : (o : Option MessageValue) → numbered (sent past) k ≡ o
+    by_message : (o : Option MessageValue) → indexed (sent past) k ≡ o
         → legal_controls.IsLegal b (delivered o ack ++ controller_history b past)
         → IsDelivered b past (Deliver k) index ack
         → WaitsNow b (controls.values_of b (delivered o ack ++ controller_history b past))
@@ -126,12 +127,12 @@ deliver_next b past k (said.Acked index ack) laws given now is e none =
     by_message None f is d =
         let same : d.number ≡ k = cc in
         let no : Some d.message ≡ None =
-        sym (subst (λ j. numbered (sent past) j ≡ Some d.message) same d.at) ∙ f in absurd (cc)
+        sym (subst (λ j. indexed (sent past) j ≡ Some d.message) same d.at) ∙ f in absurd (cc)
     by_message (Some m) f is d =
         let number : d.number ≡ k = cc in
         let same : m ≡ d.message =
         let g : Some m ≡ Some d.message =
-        sym f ∙ subst (λ j. numbered (sent past) j ≡ Some d.message) number d.at in cc in
+        sym f ∙ subst (λ j. indexed (sent past) j ≡ Some d.message) number d.at in cc in
         let at = at_number (sent past) k m f in
         message_next b past m ack at.index laws given now is at.at
         (subst (λ (x : MessageValue). w.life ≡ Some x.life) (sym same) d.life)

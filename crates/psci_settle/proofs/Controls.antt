@@ -20,7 +20,7 @@ use Rattle.psci_ctl_model.specs.Values as controlled
 use Rattle.psci_ctl_model.proofs.Front.{take_get}
 use Rattle.psci_link.specs.declared.kind.Kind.{Kind}
 use Rattle.psci_link.specs.declared.kind.Kind.TheVariants as kinds
-use Rattle.psci_link.specs.Message.{AckValue, ArePartsOf, IsClaim, MessageValue, PartByPart}
+use Rattle.psci_link.specs.Message.{AckValue, ArePartsOf, AreClaims, MessageValue, PartByPart}
 use Rattle.psci_fw_model.specs.Lives.{start_of_life}
 use Rattle.psci_fw_model.specs.Phases.{Phase, Away, Pending}
 use Rattle.psci_fw_model.specs.Values.{Values}
@@ -38,7 +38,7 @@ use Rattle.psci_settle.proofs.Telling.{told_down, told_other}
 pub record IsKnown (b : BoardValue) (life : ℕ) (starts : ℕ → ℕ) (v : Values)
     (sent : List MessageValue) : Type 0 where
   pub sums : SumLaws b
-  pub parts : (ps : List Part) → IsClaim ps → PartByPart ps
+  pub parts : (ps : List Part) → AreClaims ps → PartByPart ps
   pub own : v.life ≡ life
   pub messages : AreSent b life v.halting v.known v.phase sent
   pub apart : AreRising b sent
@@ -52,7 +52,7 @@ no_item : (ps : List Part) (level : ℕ) (p : Part) → ps ≡ [] → slice_get 
 no_item ps level p e at = none-some p (ap (λ qs. slice_get qs level) (sym e) ∙ at)
 
 kind_level : (ps : List Part) (level : ℕ) (p : Part) (kind : Kind)
-    → ((qs : List Part) → IsClaim qs → PartByPart qs) → ArePartsOf kind ps
+    → ((qs : List Part) → AreClaims qs → PartByPart qs) → ArePartsOf kind ps
     → slice_get ps level ≡ Some p → p.level ≡ level
 kind_level ps level p kinds.Down parts are at = (parts ps are).level level p at
 kind_level ps level p kinds.Start parts are at = absurd (no_item ps level p are at)

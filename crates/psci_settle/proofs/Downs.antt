@@ -23,11 +23,11 @@ use Rattle.psci_fw_model.specs.Values.{Values}
 use Rattle.psci_fw_laws.proofs.Consequences.{once_down}
 use Rattle.psci_world_model.specs.declared.said.Record.{Record}
 use Rattle.psci_world_model.specs.Histories.{controller_values, firmware_values, sent}
-use Rattle.psci_world_model.specs.Lists.{numbered}
+use Rattle.psci_world_model.specs.Lists.{indexed}
 use Rattle.psci_world_model.specs.Places.{place, place_of_effect}
 use Rattle.psci_world_laws.proofs.Numbering.{at_number}
 use Rattle.psci_settle.specs.Drained.{deliveries}
-use Rattle.psci_settle.specs.Settling.{answering}
+use Rattle.psci_settle.specs.Settling.{serving}
 use Rattle.psci_settle.specs.Waiting.{IsLivePart}
 use Rattle.psci_settle.proofs.Answering.{ack_to}
 use Rattle.psci_settle.proofs.Applying.{IsReady, part_applied}
@@ -65,31 +65,31 @@ pub record IsLeft (b : BoardValue) (starts : ℕ → ℕ) (m : MessageValue) (r 
 -- An outstanding Down was answered, where live claims below this level have their depth.
 pub record IsDownAnswered (b : BoardValue) (before : List Record) (life : ℕ) (past : List Record)
     (r c k : ℕ) (m : MessageValue) : Type 0 where
-  pub going : IsGoing b before life (answering b past (Some k))
-  pub messages : sent (answering b past (Some k)) ≡ sent past
-  pub starts : (controller_values b (answering b past (Some k))).starts
+  pub going : IsGoing b before life (serving b past (Some k))
+  pub messages : sent (serving b past (Some k)) ≡ sent past
+  pub starts : (controller_values b (serving b past (Some k))).starts
       ≡ (controller_values b past).starts
   -- a live part that has its depth keeps it
   pub kept : (j level : ℕ) (n : MessageValue) (p : Part) → slice_get (sent past) j ≡ Some n
       → n.life ≡ life → n.kind ≡ kinds.Down → slice_get n.parts level ≡ Some p
       → IsLivePart b (controller_values b past).starts n level p
       → (controller_values b past).depth level (up b level n.core.number) ≡ p.depth
-      → (controller_values b (answering b past (Some k))).depth level (up b level n.core.number)
+      → (controller_values b (serving b past (Some k))).depth level (up b level n.core.number)
       ≡ p.depth
   -- live parts of the Down up to this level have theirs
   pub here : (level : ℕ) (p : Part) → slice_get m.parts level ≡ Some p
       → IsLivePart b (controller_values b past).starts m level p → level ≤ r
-      → (controller_values b (answering b past (Some k))).depth level (up b level m.core.number)
+      → (controller_values b (serving b past (Some k))).depth level (up b level m.core.number)
       ≡ p.depth
   pub there : (x : ℕ) → (x ≡ c → ⊥)
-      → (firmware_values b (answering b past (Some k))).outstanding (OfCore x)
+      → (firmware_values b (serving b past (Some k))).outstanding (OfCore x)
       ≡ (firmware_values b past).outstanding (OfCore x)
   -- it stays outstanding only where a live part above is left
   pub left : (x : MessageValue)
-      → (firmware_values b (answering b past (Some k))).outstanding (OfCore c) ≡ Some x
+      → (firmware_values b (serving b past (Some k))).outstanding (OfCore c) ≡ Some x
       → (x ≡ m) × IsLeft b (controller_values b past).starts m r
-  pub at : numbered (sent past) k ≡ Some m
-  pub count : (j : ℕ) → deliveries j (answering b past (Some k))
+  pub at : indexed (sent past) k ≡ Some m
+  pub count : (j : ℕ) → deliveries j (serving b past (Some k))
       ≡ cond (j == k) 1 0 + deliveries j past
 
 left_from : (t : Bool) (m x : MessageValue) → cond t None (Some m) ≡ Some x
@@ -110,7 +110,7 @@ module _ (b : BoardValue) (before : List Record) (life : ℕ) (past : List Recor
   v = firmware_values b past
 
   abbrev next : List Record
-  next = answering b past (Some n.number)
+  next = serving b past (Some n.number)
 
   is : IsPast b past
   is = laws.past past going.legal

@@ -20,7 +20,7 @@ use Rattle.psci_world_model.specs.declared.said.Record.{Record}
 use Rattle.psci_world_model.specs.Histories.{controller_values, firmware_values, sent}
 use Rattle.psci_world_model.specs.Legal.{IsLegalPast}
 use Rattle.psci_world_laws.proofs.Agreed.{RunLaws}
-use Rattle.psci_settle.specs.Settling.{answered, answering, number_of}
+use Rattle.psci_settle.specs.Settling.{served, serving, index_of}
 use Rattle.psci_settle.proofs.Answering.{AreAnswered, ack_to, answered_so}
 use Rattle.psci_settle.proofs.Finding.{HasNumber, HaveName, finds}
 use Rattle.psci_settle.proofs.Taking.{HasName}
@@ -89,12 +89,12 @@ left_here a c m slot e =
 -- outstanding for a core.
 pub record IsEmptying (b : BoardValue) (past : List Record) (c k : ℕ) (m n : MessageValue)
     : Type 0 where
-  pub answered : AreAnswered b past k n
+  pub served : AreAnswered b past k n
   pub kind : (ack_to b past n).kind ≡ m.kind
   pub there : (x : ℕ) → (x ≡ c → ⊥)
-      → (firmware_values b (answering b past (Some k))).outstanding (OfCore x)
+      → (firmware_values b (serving b past (Some k))).outstanding (OfCore x)
       ≡ (firmware_values b past).outstanding (OfCore x)
-  pub here : (firmware_values b (answering b past (Some k))).outstanding (OfCore c)
+  pub here : (firmware_values b (serving b past (Some k))).outstanding (OfCore c)
       ≡ cond (is_done (ack_to b past n) m) None (Some m)
 
 pub empties : (b : BoardValue) (past : List Record) (c : ℕ) (m : MessageValue) → RunLaws b
@@ -153,21 +153,21 @@ pub answer_case : (b : BoardValue) (which : Kind → Bool) (past : List Record) 
     → ((m : MessageValue) → (firmware_values b past).outstanding (OfCore c) ≡ Some m
     → which m.kind ≡ false → P past)
     → ((m : MessageValue) → (firmware_values b past).outstanding (OfCore c) ≡ Some m
-    → which m.kind ≡ true → (n : HasNumber m (sent past)) → P (answering b past (Some n.number)))
-    → P (answered b which past c)
+    → which m.kind ≡ true → (n : HasNumber m (sent past)) → P (serving b past (Some n.number)))
+    → P (served b which past c)
 answer_case b which past c P finds none other some =
     by_slot ((firmware_values b past).outstanding (OfCore c)) refl
   where
     by_test : (m : MessageValue) → (firmware_values b past).outstanding (OfCore c) ≡ Some m
         → (t : Bool) → which m.kind ≡ t
-        → P (answering b past (cond t (number_of m (sent past)) None))
+        → P (serving b past (cond t (index_of m (sent past)) None))
     by_test m e false f = other m e f
     by_test m e true f =
         let n = finds m e in
-        subst (λ o. P (answering b past o)) (sym n.found) (some m e f n)
+        subst (λ o. P (serving b past o)) (sym n.found) (some m e f n)
 
     by_slot : (o : Option MessageValue) → (firmware_values b past).outstanding (OfCore c) ≡ o
-        → P (answering b past (option_and_then
-        (λ m. cond (which m.kind) (number_of m (sent past)) None) o))
+        → P (serving b past (option_and_then
+        (λ m. cond (which m.kind) (index_of m (sent past)) None) o))
     by_slot None e = none e
     by_slot (Some m) e = by_test m e (which m.kind) refl

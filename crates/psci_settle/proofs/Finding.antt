@@ -8,8 +8,8 @@ use Rattle.std.proofs.lemmas.List.{get_or-reverse, length-reverse, reverse-appen
 use Rattle.std.proofs.lemmas.Option.{get_or_from_slice_get, slice_get-get_or, slice_get_within}
 use Rattle.psci_link.specs.Message.{MessageValue}
 use Rattle.psci_link.specs.Slots.{is_kind}
-use Rattle.psci_world_model.specs.Lists.{numbered}
-use Rattle.psci_settle.specs.Settling.{has_name, number_of}
+use Rattle.psci_world_model.specs.Lists.{indexed}
+use Rattle.psci_settle.specs.Settling.{has_name, index_of}
 use Rattle.psci_settle.proofs.Taking.{same_kind}
 use Rattle.psci_settle.proofs.Telling.{own_kind}
 
@@ -26,7 +26,7 @@ get_last [] x = refl
 get_last (y ∷ ys) x = get_last ys x
 
 -- the newest item has the number of items before it
-pub numbered_new : {A : Type 0} → (x : A) (xs : List A) → numbered (x ∷ xs) (length xs) ≡ Some x
+pub numbered_new : {A : Type 0} → (x : A) (xs : List A) → indexed (x ∷ xs) (length xs) ≡ Some x
 numbered_new x xs =
     ap (λ ys. slice_get ys (length xs)) (reverse-append (x ∷ []) xs)
     ∙ ap (λ k. slice_get (reverse xs ++ x ∷ []) k) (sym (length-reverse xs))
@@ -34,15 +34,15 @@ numbered_new x xs =
 
 -- an older one keeps its number
 pub numbered_old : {A : Type 0} → (x : A) (xs : List A) (k : ℕ) (y : A)
-    → numbered xs k ≡ Some y → numbered (x ∷ xs) k ≡ Some y
+    → indexed xs k ≡ Some y → indexed (x ∷ xs) k ≡ Some y
 numbered_old x xs k y e =
     ap (λ ys. slice_get ys k) (reverse-append (x ∷ []) xs)
     ∙ get_front (reverse xs) (x ∷ []) k y e
 
 -- where an item of some number stands in the list
-pub numbered_at : {A : Type 0} → (xs : List A) (k : ℕ) (y : A) → numbered xs k ≡ Some y
+pub indexed_at : {A : Type 0} → (xs : List A) (k : ℕ) (y : A) → indexed xs k ≡ Some y
     → (k < length xs) × (slice_get xs (length xs - 1 - k) ≡ Some y)
-numbered_at xs k y e =
+indexed_at xs k y e =
     let within : k < length xs =
     omega (arith, slice_get_within (reverse xs) k y e, length-reverse xs) in
     let j : ℕ = length xs - 1 - k in
@@ -81,9 +81,9 @@ own_name m =
 -- The number of a message, as it is found by its name.
 pub record HasNumber (m : MessageValue) (sent : List MessageValue) : Type 0 where
   pub number : ℕ
-  pub found : number_of m sent ≡ Some number
+  pub found : index_of m sent ≡ Some number
   pub message : MessageValue
-  pub at : numbered sent number ≡ Some message
+  pub at : indexed sent number ≡ Some message
   pub name : HaveName m message
 
 -- a message that was sent is found

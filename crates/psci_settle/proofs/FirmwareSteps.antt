@@ -17,8 +17,8 @@ use Rattle.psci_fw_model.specs.Answer.{answer}
 use Rattle.psci_fw_model.specs.Calls.{call_fault}
 use Rattle.psci_fw_model.specs.Effects.{enter_effect, function_effect}
 use Rattle.psci_fw_model.specs.Entering.{enter_fault}
-use Rattle.psci_fw_model.specs.Entry as firmware
-use Rattle.psci_fw_model.specs.Entry.{effect}
+use Rattle.psci_fw_model.specs.Exchange as firmware
+use Rattle.psci_fw_model.specs.Exchange.{effect}
 use Rattle.psci_fw_model.specs.History as remembers
 use Rattle.psci_fw_model.specs.Legal.{IsLegal}
 use Rattle.psci_fw_model.specs.Said as says
@@ -33,7 +33,7 @@ use Rattle.psci_world_model.specs.Histories.{ack_in, acks, controller_values, en
 use Rattle.psci_world_model.specs.Histories.{firmware_history, firmware_values, outcome_in, sent}
 use Rattle.psci_world_model.specs.Histories.{sent_in, took}
 use Rattle.psci_world_model.specs.Legal.{legal}
-use Rattle.psci_world_model.specs.Lists.{numbered}
+use Rattle.psci_world_model.specs.Lists.{indexed}
 use Rattle.psci_world_model.specs.Places.{place}
 use Rattle.psci_world_laws.proofs.Agreed.{RunLaws}
 use Rattle.psci_world_laws.proofs.Happening.{called, entered_by}
@@ -46,10 +46,10 @@ use Rattle.psci_settle.proofs.Carried.{WaitsNow, called_waits, entering_waits, t
 use Rattle.psci_settle.proofs.Nexts.{Now, Next}
 
 -- what a call of a core, and an entry, add to the firmware's history
-abbrev call_entry : ℕ → Regs → Outcome → firmware.Entry
+abbrev call_entry : ℕ → Regs → Outcome → firmware.FwExchange
 call_entry c regs o = record { core = c; call = calls.Smc regs; reply = replies.Out o }
 
-abbrev enter_entry : ℕ → Start → Outcome → firmware.Entry
+abbrev enter_entry : ℕ → Start → Outcome → firmware.FwExchange
 enter_entry c s o = record { core = c; call = calls.Enter s; reply = replies.Out o }
 
 pub call_next : (b : BoardValue) (past : List Record) (c : ℕ) (regs : Regs) (s : Said) → RunLaws b
@@ -116,7 +116,7 @@ enter_next b past c said.Ignored laws given now is e none = now
 enter_next b past c said.Absent laws given now is e none = now
 
 took_next : (b : BoardValue) (past : List Record) (k : ℕ) (o : Option AckValue) (t : Taken)
-    → RunLaws b → Given b past → Now b past → numbered (acks past) k ≡ o
+    → RunLaws b → Given b past → Now b past → indexed (acks past) k ≡ o
     → WaitsNow b (controller_values b past)
     (remembers.values_of b (took o t ++ firmware_history b past)) (sent past) (acks past)
 took_next b past k None t laws given now f = now
@@ -138,6 +138,6 @@ take_next b past k (said.Fw act sends) laws given now e f =
 take_next b past k (said.Kick start) laws given now e f = now
 take_next b past k (said.Acked index ack) laws given now e f = absurd (cc)
 take_next b past k (said.Taken taken) laws given now e f =
-    took_next b past k (numbered (acks past) k) taken laws given now refl
+    took_next b past k (indexed (acks past) k) taken laws given now refl
 take_next b past k said.Ignored laws given now e f = now
 take_next b past k said.Absent laws given now e f = now

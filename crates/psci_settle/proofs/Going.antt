@@ -6,7 +6,7 @@ use Rattle.psci_coord.specs.declared.part.Part.{Part}
 use Rattle.psci_ctl_model.specs.Values as controlled
 use Rattle.psci_link.specs.declared.kind.Kind.{Kind}
 use Rattle.psci_link.specs.declared.kind.Kind.TheVariants as kinds
-use Rattle.psci_link.specs.Message.{ArePartsOf, IsClaim, MessageValue}
+use Rattle.psci_link.specs.Message.{ArePartsOf, AreClaims, MessageValue}
 use Rattle.psci_link.specs.Slots.{OfCore, OfSystem}
 use Rattle.psci_fw_model.specs.Lives.{in_life}
 use Rattle.psci_fw_model.specs.Phases.{Pending}
@@ -158,7 +158,7 @@ out_now b before life past c m laws going at =
     let on : c < cores b = subst (λ x. x < cores b) slot.core sound.core in
     let kind : m.kind ≡ kinds.Down =
     core_kind m.kind slot.kind (λ e. going.rests c on (slot.start e)) in
-    let claim : IsClaim m.parts = subst (λ k. ArePartsOf k m.parts) kind sound.parts in
+    let claim : AreClaims m.parts = subst (λ k. ArePartsOf k m.parts) kind sound.parts in
     record {
       down = record {
         index = slot.listed.index;

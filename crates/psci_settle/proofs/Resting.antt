@@ -61,7 +61,7 @@ module _ (b : BoardValue) (before : List Record) (life : ℕ) (past : List Recor
       (λ c. all_deep b before life past (suc level) c laws going none) has.claim
       (has.current ∙ same_known level place) (omega arith))
 
-  -- a domain that does not run was granted its depth
+  -- a domain that is not fully on was granted its depth
   deep_granted : (n : Node) → HasNode b n → 0 < w.depth n.level n.place
       → v.granted n.level n.place ≡ w.depth n.level n.place
   deep_granted n has some =

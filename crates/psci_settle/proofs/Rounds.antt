@@ -13,14 +13,14 @@ use Rattle.psci_link.specs.Slots.{OfCore}
 use Rattle.psci_fw_laws.proofs.Consequences.{once_down}
 use Rattle.psci_world_model.specs.declared.said.Record.{Record}
 use Rattle.psci_world_model.specs.Histories.{controller_values, firmware_values, sent}
-use Rattle.psci_world_model.specs.Lists.{numbered}
+use Rattle.psci_world_model.specs.Lists.{indexed}
 use Rattle.psci_settle.specs.Drained.{deliveries}
-use Rattle.psci_settle.specs.Settling.{answered, answering, is_any}
+use Rattle.psci_settle.specs.Settling.{served, serving, is_any}
 use Rattle.psci_settle.specs.Waiting.{IsLivePart}
 use Rattle.psci_settle.proofs.Claimed.{AreDeep}
 use Rattle.psci_settle.proofs.Downs.{IsDownAnswered, IsLeft, down_answered}
 use Rattle.psci_settle.proofs.Emptying.{answer_case}
-use Rattle.psci_settle.proofs.Finding.{finds, numbered_at}
+use Rattle.psci_settle.proofs.Finding.{finds, indexed_at}
 use Rattle.psci_settle.proofs.Folding.{IsStep}
 use Rattle.psci_settle.proofs.Going.{IsGoing, known_now, out_now, waits_now}
 use Rattle.psci_settle.proofs.Standing.{SettleLaws}
@@ -47,7 +47,7 @@ pub record InRound (b : BoardValue) (before : List Record) (life n : ℕ) (first
 pub record IsTodo (b : BoardValue) (first : List Record) (c : ℕ) (past : List Record)
     : Type 0 where
   pub out : out_at b c past ≡ out_at b c first
-  pub count : (k : ℕ) (m : MessageValue) → numbered (sent first) k ≡ Some m
+  pub count : (k : ℕ) (m : MessageValue) → indexed (sent first) k ≡ Some m
       → m.kind ≡ kinds.Down → m.core.number ≡ c → deliveries k past ≡ deliveries k first
 
 -- What is so of one that was.
@@ -56,22 +56,22 @@ pub record IsDone (b : BoardValue) (life n : ℕ) (first : List Record) (c : ℕ
   pub deep : DeepAt b life (suc n) c past
   pub left : (m : MessageValue) → out_at b c past ≡ Some m
       → (out_at b c first ≡ Some m) × IsLeft b (controller_values b past).starts m n
-  pub most : (k : ℕ) (m : MessageValue) → numbered (sent first) k ≡ Some m
+  pub most : (k : ℕ) (m : MessageValue) → indexed (sent first) k ≡ Some m
       → m.kind ≡ kinds.Down → m.core.number ≡ c → deliveries k past ≤ deliveries k first + 1
-  pub once : (k : ℕ) (m : MessageValue) → numbered (sent first) k ≡ Some m
+  pub once : (k : ℕ) (m : MessageValue) → indexed (sent first) k ≡ Some m
       → m.kind ≡ kinds.Down → m.core.number ≡ c → out_at b c first ≡ Some m
       → deliveries k past ≡ deliveries k first + 1
 
 -- Numbers --------------------------------------------------------------------------------------
 
 -- a Down has one number
-pub one_number : (b : BoardValue) (before : List Record) (life : ℕ) (past : List Record)
+pub one_index : (b : BoardValue) (before : List Record) (life : ℕ) (past : List Record)
     (j k : ℕ) (m : MessageValue) → SettleLaws b → IsGoing b before life past
-    → m.kind ≡ kinds.Down → numbered (sent past) j ≡ Some m → numbered (sent past) k ≡ Some m
+    → m.kind ≡ kinds.Down → indexed (sent past) j ≡ Some m → indexed (sent past) k ≡ Some m
     → j ≡ k
-one_number b before life past j k m laws going kind at_j at_k =
-    let one = numbered_at (sent past) j m at_j in
-    let other = numbered_at (sent past) k m at_k in
+one_index b before life past j k m laws going kind at_j at_k =
+    let one = indexed_at (sent past) j m at_j in
+    let other = indexed_at (sent past) k m at_k in
     let same = once_down b (firmware_values b past) (sent past)
     (laws.past past going.legal).given.holds (length (sent past) - 1 - j)
     (length (sent past) - 1 - k) m m one.1 other.1 kind kind refl refl refl in
@@ -135,10 +135,10 @@ module _ (b : BoardValue) (before : List Record) (life n : ℕ) (first past : Li
     (out : out_at b c past ≡ Some m) (core : m.core.number ≡ c)
     (kind : m.kind ≡ kinds.Down) (a : IsDownAnswered b before life past n c k m) where
   abbrev next : List Record
-  next = answering b past (Some k)
+  next = serving b past (Some k)
 
-  at_first : numbered (sent first) k ≡ Some m
-  at_first = ap (λ l. numbered l k) (sym is.messages) ∙ a.at
+  at_first : indexed (sent first) k ≡ Some m
+  at_first = ap (λ l. indexed l k) (sym is.messages) ∙ a.at
 
   -- live parts that have their depth keep it
   deep_kept : (r x : ℕ) → DeepAt b life r x past → DeepAt b life r x next
@@ -157,11 +157,11 @@ module _ (b : BoardValue) (before : List Record) (life n : ℕ) (first past : Li
   }
 
   -- another core's message is not delivered
-  same_count : (x j : ℕ) (y : MessageValue) → (x ≡ c → ⊥) → numbered (sent first) j ≡ Some y
+  same_count : (x j : ℕ) (y : MessageValue) → (x ≡ c → ⊥) → indexed (sent first) j ≡ Some y
       → y.core.number ≡ x → deliveries j next ≡ deliveries j past
   same_count x j y ne at own =
       let other : j ≡ k → ⊥ = λ e.
-      let same : y ≡ m = same_Some y m (sym at ∙ ap (numbered (sent first)) e ∙ at_first) in
+      let same : y ≡ m = same_Some y m (sym at ∙ ap (indexed (sent first)) e ∙ at_first) in
       ne (sym own ∙ ap (λ (z : MessageValue). z.core.number) same ∙ core) in
       let none : cond {A = ℕ} (j == k) 1 0 ≡ 0 = cond-false (j == k) 1 0 (ne_eqb j k other) in
       omega (arith, a.count j, none)
@@ -213,8 +213,8 @@ module _ (b : BoardValue) (before : List Record) (life n : ℕ) (first past : Li
         omega (arith, a.count j, count_most (j == k), now.count j y at down own);
     once = λ j y at down own e.
         let same : y ≡ m = same_Some y m (sym e ∙ sym now.out ∙ out) in
-        let equal : j ≡ k = one_number b before life past j k m laws is.going kind
-        (ap (λ l. numbered l j) is.messages ∙ at ∙ ap Some same) a.at in
+        let equal : j ≡ k = one_index b before life past j k m laws is.going kind
+        (ap (λ l. indexed l j) is.messages ∙ at ∙ ap Some same) a.at in
         let one : cond {A = ℕ} (j == k) 1 0 ≡ 1 =
         cond-true (j == k) 1 0 (eq-eqb j k equal) in
         omega (arith, a.count j, one, now.count j y at down own);
@@ -228,8 +228,8 @@ step_case : (b : BoardValue) (before : List Record) (life n : ℕ) (first past :
     → (out_at b c past ≡ None → P past)
     → ((k : ℕ) (m : MessageValue) → out_at b c past ≡ Some m → m.core.number ≡ c
     → m.kind ≡ kinds.Down → IsDownAnswered b before life past n c k m
-    → P (answering b past (Some k)))
-    → P (answered b is_any past c)
+    → P (serving b past (Some k)))
+    → P (served b is_any past c)
 step_case b before life n first past c P laws is none some =
     answer_case b is_any past c P
     (λ m at.
@@ -243,7 +243,7 @@ step_case b before life n first past c P laws is none some =
 
 pub round_step : (b : BoardValue) (before : List Record) (life n : ℕ) (first : List Record)
     → SettleLaws b
-    → IsStep (answered b is_any) (cores b) (InRound b before life n first) (IsTodo b first)
+    → IsStep (served b is_any) (cores b) (InRound b before life n first) (IsTodo b first)
     (IsDone b life n first)
 round_step b before life n first laws = record {
   keeps = λ past c on is.

@@ -10,7 +10,7 @@ use Rattle.psci_fw_model.specs.Lives.{in_life}
 use Rattle.psci_world_model.specs.declared.said.Record.{Record}
 use Rattle.psci_world_model.specs.Histories.{controller_values, firmware_values, sent}
 use Rattle.psci_world_model.specs.Legal.{IsLegalPast}
-use Rattle.psci_world_model.specs.Lists.{numbered}
+use Rattle.psci_world_model.specs.Lists.{indexed}
 use Rattle.psci_settle.specs.Drained.{AreAtRest, IsSettled, deliveries, is_settling}
 use Rattle.psci_settle.specs.Settling.{Reached, begun, halts_in, is_halting, rounds, settled}
 use Rattle.psci_settle.proofs.Beginning.{IsUnderWay}
@@ -39,7 +39,7 @@ going_life b past awake = by_life (controller_values b past).life refl awake
 
 -- no Down was delivered before the first round
 first_count : (b : BoardValue) (before : List Record) (life : ℕ) (past : List Record) (k : ℕ)
-    (m : MessageValue) → IsUnderWay b before life past → numbered (sent past) k ≡ Some m
+    (m : MessageValue) → IsUnderWay b before life past → indexed (sent past) k ≡ Some m
     → m.kind ≡ kinds.Down → deliveries k past ≡ deliveries k before
 first_count b before life past k m way at kind = elim (way.count k) [
   | inl same ↦ same
@@ -88,14 +88,14 @@ settled_at b before life reached laws rest = record {
         (at_rest b before life reached.past laws going rest.none);
     few = rest.few;
     most = λ k m at kind.
-        let low = rest.is.most k m (ap (λ rs. numbered (sent rs) k) is ∙ at) kind in
+        let low = rest.is.most k m (ap (λ rs. indexed (sent rs) k) is ∙ at) kind in
         omega (arith, low, times k);
     some = λ some.
         let often : IsOften b before reached.rounds reached.past = rest.is.last some in
         record {
           number = often.number;
           message = often.message;
-          at = ap (λ rs. numbered (sent rs) often.number) (sym is) ∙ often.at;
+          at = ap (λ rs. indexed (sent rs) often.number) (sym is) ∙ often.at;
           kind = often.kind;
           times = omega (arith, often.times, times often.number);
         };

@@ -1,4 +1,4 @@
--- A domain that does not run is as deep as a live claim on it.
+-- A domain that is not fully on is as deep as a live claim on it.
 use Rattle.std.proofs.Common.{◌≡◌, ℕ, ◌⊎◌, inl, inr, ◌<◌, Bool, true, false, ◌==◌, cond}
 use Rattle.std.proofs.Common.{List, Some, refl, arith, sym, ◌∙◌}
 use Rattle.std.specs.Prelude.{nat_le}

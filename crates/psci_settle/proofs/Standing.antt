@@ -47,7 +47,7 @@ pub record IsPast (b : BoardValue) (past : List Record) : Type 0 where
   pub waits : Waiting b past
   pub free : NoneRefused b past
   pub deeper : IsDeeper b (firmware_values b past) (sent past)
-  -- a domain that does not run is as deep as a live claim on it
+  -- a domain that is not fully on is as deep as a live claim on it
   pub claimed : (life level place : ℕ) → HasNode b (record { level = level; place = place })
       → (controller_values b past).life ≡ Some life
       → 0 < (controller_values b past).depth level place → HasLive b past life level place

@@ -17,10 +17,10 @@ use Rattle.psci_fw_laws.specs.Outstanding.{AreOutstanding}
 use Rattle.psci_world_model.specs.declared.event.Event.TheVariants.{Enter}
 use Rattle.psci_world_model.specs.declared.said.Record.{Record}
 use Rattle.psci_world_model.specs.Histories.{controller_values, firmware_values, sent}
-use Rattle.psci_world_model.specs.Lists.{numbered}
+use Rattle.psci_world_model.specs.Lists.{indexed}
 use Rattle.psci_world_laws.proofs.Agreeing.{found_own}
 use Rattle.psci_settle.specs.Drained.{deliveries}
-use Rattle.psci_settle.specs.Settling.{all_cores, answered, answering, begun, each_core, entering}
+use Rattle.psci_settle.specs.Settling.{all_cores, served, serving, begun, each_core, entering}
 use Rattle.psci_settle.specs.Settling.{is_start, step}
 use Rattle.psci_settle.proofs.Answering.{ack_to}
 use Rattle.psci_settle.proofs.Beginning.{HasEntered, HasNoStart, IsIn, IsStartAt, IsUnderWay}
@@ -61,11 +61,11 @@ IsOwnWay b before life past =
 -- A Start that is outstanding for a core is answered.
 record IsStartAnswered (b : BoardValue) (before : List Record) (life : ℕ) (past : List Record)
     (c : ℕ) (m : MessageValue) (n : HasNumber m (sent past)) : Type 0 where
-  pub way : IsOwnWay b before life (answering b past (Some n.number))
+  pub way : IsOwnWay b before life (serving b past (Some n.number))
   pub there : (x : ℕ) → (x ≡ c → ⊥)
-      → (firmware_values b (answering b past (Some n.number))).outstanding (OfCore x)
+      → (firmware_values b (serving b past (Some n.number))).outstanding (OfCore x)
       ≡ (firmware_values b past).outstanding (OfCore x)
-  pub here : (firmware_values b (answering b past (Some n.number))).outstanding (OfCore c) ≡ None
+  pub here : (firmware_values b (serving b past (Some n.number))).outstanding (OfCore c) ≡ None
 
 slots_of : (b : BoardValue) (past : List Record) → IsPast b past
     → let v = firmware_values b past in
@@ -103,7 +103,7 @@ start_answered b before life past c m laws both at start n = record {
     v = firmware_values b past
 
     next : Values
-    next = firmware_values b (answering b past (Some n.number))
+    next = firmware_values b (serving b past (Some n.number))
 
     a : AckValue
     a = ack_to b past n.message
@@ -126,19 +126,19 @@ start_answered b before life past c m laws both at start n = record {
     own = ap (λ (u : Values). u.life) em.answered.firmware ∙ both.1
 
     now : List MessageValue
-    now = sent (answering b past (Some n.number))
+    now = sent (serving b past (Some n.number))
 
     at_start : (j : ℕ) → j ≡ n.number → IsStartAt now j
     at_start j e = record {
       message = n.message;
-      at = ap (λ l. numbered l j) em.answered.sent ∙ ap (numbered (sent past)) e ∙ n.at;
+      at = ap (λ l. indexed l j) em.answered.sent ∙ ap (indexed (sent past)) e ∙ n.at;
       kind = sym n.name.kind ∙ kind;
     }
 
     by_test : (j : ℕ) → ((j == n.number) ≡ true) ⊎ ((j == n.number) ≡ false)
-        → deliveries j (answering b past (Some n.number))
+        → deliveries j (serving b past (Some n.number))
         ≡ cond (j == n.number) 1 0 + deliveries j past
-        → (deliveries j (answering b past (Some n.number)) ≡ deliveries j before)
+        → (deliveries j (serving b past (Some n.number)) ≡ deliveries j before)
         ⊎ IsStartAt now j
     by_test j (inl e) more = inr (at_start j (eqb-true j n.number e))
     by_test j (inr e) more = elim (way.count j) [
@@ -147,7 +147,7 @@ start_answered b before life past c m laws both at start n = record {
           inl (omega (arith, more, none, same))
       | inr old ↦
           inr (more_starts (sent past) j old now
-          (λ x f. ap (λ l. numbered l j) em.answered.sent ∙ f))
+          (λ x f. ap (λ l. indexed l j) em.answered.sent ∙ f))
     ]
 
 -- All Starts -----------------------------------------------------------------------------------
@@ -166,7 +166,7 @@ no_start_none : (b : BoardValue) (past : List Record) (c : ℕ)
 no_start_none b past c none x e start = none-some x (sym none ∙ e)
 
 start_step : (b : BoardValue) (before : List Record) (life : ℕ) → SettleLaws b
-    → IsStep (answered b is_start) (cores b) (IsOwnWay b before life) (λ c past. Unit {0})
+    → IsStep (served b is_start) (cores b) (IsOwnWay b before life) (λ c past. Unit {0})
     (λ c past. HasNoStart b c past)
 start_step b before life laws = record {
   keeps = λ past c on holds.
@@ -184,7 +184,7 @@ start_step b before life laws = record {
       answer_case b is_start past c (HasNoStart b c) (finds past c holds)
       (no_start_none b past c) (no_start_other b past c)
       (λ m at start n.
-      no_start_none b (answering b past (Some n.number)) c
+      no_start_none b (serving b past (Some n.number)) c
       (start_answered b before life past c m laws holds at start n).here);
 }
   where
@@ -232,10 +232,10 @@ has_begun b before life laws way =
     let entered : List Record = each_core (entering b) (all_cores b) before in
     let own = settled_life b entered life laws.some (laws.past entered one.holds.0.legal)
     one.holds.0.present one.done in
-    let two = each_done (answered b is_start) (cores b) (IsOwnWay b before life)
+    let two = each_done (served b is_start) (cores b) (IsOwnWay b before life)
     (λ c past. Unit {0}) (λ c past. HasNoStart b c past) (start_step b before life laws) entered
     (one.holds.0, own.own) (λ c on. tt) in
-    let started : List Record = each_core (answered b is_start) (all_cores b) entered in
+    let started : List Record = each_core (served b is_start) (all_cores b) entered in
     let three = each_done (entering b) (cores b)
     (λ past. IsUnderWay b before life past × NoStarts b life past) (λ c past. Unit {0})
     (λ c past. HasEntered b c past)

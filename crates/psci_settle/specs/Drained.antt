@@ -13,7 +13,7 @@ use Rattle.psci_world_model.specs.declared.event.Event.TheVariants.{Deliver, Tak
 use Rattle.psci_world_model.specs.declared.place.Place.TheVariants.{Started}
 use Rattle.psci_world_model.specs.declared.said.Record.{Record}
 use Rattle.psci_world_model.specs.Histories.{controller_values, firmware_values, sent}
-use Rattle.psci_world_model.specs.Lists.{numbered}
+use Rattle.psci_world_model.specs.Lists.{indexed}
 use Rattle.psci_world_model.specs.Legal.{IsLegalPast}
 use Rattle.psci_world_model.specs.Places.{place}
 
@@ -39,7 +39,7 @@ deliveries k added = length (filter (λ r. delivers k r.event) added)
 pub record IsDelivered (past added : List Record) (most : ℕ) : Type 0 where
   pub number : ℕ
   pub message : MessageValue
-  pub at : numbered (sent past) number ≡ Some message
+  pub at : indexed (sent past) number ≡ Some message
   pub kind : message.kind ≡ Down
   pub times : deliveries number added ≡ most
 
@@ -59,6 +59,6 @@ pub record IsSettled (b : BoardValue) (before added : List Record) (rounds : ℕ
   pub rest : AreAtRest b (added ++ before)
   pub few : rounds ≤ height b + 1
   -- the rounds are the most deliveries that one Down has
-  pub most : (k : ℕ) (m : MessageValue) → numbered (sent (added ++ before)) k ≡ Some m
+  pub most : (k : ℕ) (m : MessageValue) → indexed (sent (added ++ before)) k ≡ Some m
       → m.kind ≡ Down → deliveries k added ≤ rounds
   pub some : 0 < rounds → IsDelivered (added ++ before) added rounds

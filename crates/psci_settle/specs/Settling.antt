@@ -60,20 +60,20 @@ has_name m n = is_kind m.kind n.kind
     && (m.core.number == n.core.number && (m.life == n.life && m.number == n.number))
 
 -- the number of the newest message with this name, among those that were sent, the newest first
-abbrev pub number_of : MessageValue → List MessageValue → Option ℕ
-number_of m [] = None
-number_of m (n ∷ ns) = if has_name m n then Some (length ns) else number_of m ns
+abbrev pub index_of : MessageValue → List MessageValue → Option ℕ
+index_of m [] = None
+index_of m (n ∷ ns) = if has_name m n then Some (length ns) else index_of m ns
 
 -- the message of some number is delivered, and its acknowledgement taken
-abbrev pub answering : BoardValue → List Record → Option ℕ → List Record
-answering b past None = past
-answering b past (Some k) =
+abbrev pub serving : BoardValue → List Record → Option ℕ → List Record
+serving b past None = past
+serving b past (Some k) =
     let delivered = step b past (Deliver k) in step b delivered (Take (length (acks past)))
 
 -- what is outstanding for a core is answered so, if it is of such a kind
-abbrev pub answered : BoardValue → (Kind → Bool) → List Record → ℕ → List Record
-answered b which past c = answering b past
-    (option_and_then (λ m. if which m.kind then number_of m (sent past) else None)
+abbrev pub served : BoardValue → (Kind → Bool) → List Record → ℕ → List Record
+served b which past c = serving b past
+    (option_and_then (λ m. if which m.kind then index_of m (sent past) else None)
     ((firmware_values b past).outstanding (OfCore c)))
 
 -- All events ----------------------------------------------------------------------------------
@@ -91,12 +91,12 @@ is_any kind = true
 unfoldable pub begun : BoardValue → List Record → List Record
 begun b past =
     let entered = each_core (entering b) (all_cores b) past in
-    let started = each_core (answered b is_start) (all_cores b) entered in
+    let started = each_core (served b is_start) (all_cores b) entered in
     each_core (entering b) (all_cores b) started
 
 -- every outstanding message of a core is answered once
 unfoldable pub round : BoardValue → List Record → List Record
-round b past = each_core (answered b is_any) (all_cores b) past
+round b past = each_core (served b is_any) (all_cores b) past
 
 -- some message is outstanding
 unfoldable pub is_waiting : BoardValue → List Record → Bool

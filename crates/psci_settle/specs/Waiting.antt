@@ -16,12 +16,12 @@ use Rattle.psci_fw_laws.specs.Messages.{known_on}
 use Rattle.psci_world_model.specs.declared.said.Record.{Record}
 use Rattle.psci_world_model.specs.Histories.{acks, controller_values, firmware_values, sent}
 
--- a part of a message is live, in the life of the message: no core below its domain was started
--- since
+-- a part of a message is live, in the life of the message: its generation counts every start below
+-- its domain
 abbrev pub IsLivePart : BoardValue → (ℕ → ℕ) → MessageValue → ℕ → Part → Type 0
 IsLivePart b starts m level p = p.generation ≡ known_on b starts m.core.number level
 
--- A Down of the present life is carried out as far as it is live, or it is outstanding, or its core
+-- A Down of this life is carried out as far as it is live, or it is outstanding, or its core
 -- was asked on since.
 abbrev pub IsPursued : BoardValue → (ℕ → ℕ) → (ℕ → ℕ → ℕ) → (ℕ → Phase)
     → (Slot → Option MessageValue) → MessageValue → Type 0
@@ -36,7 +36,7 @@ pub record AwaitsStart (outstanding : Slot → Option MessageValue) (c : ℕ) : 
   pub at : outstanding (OfCore c) ≡ Some message
   pub kind : message.kind ≡ Start
 
--- What an acknowledgement of the present life still says: the parts that were applied have their
+-- What an acknowledgement of this life still says: the parts that were applied have their
 -- depth while they are live; where it is stale no other part is live; and a core whose Start was
 -- acknowledged was started.
 pub record IsTold (b : BoardValue) (starts : ℕ → ℕ) (depth : ℕ → ℕ → ℕ) (a : AckValue)

@@ -10,7 +10,7 @@ ghost use Rattle.psci_settle.specs.Waiting.{Waiting};
 
 use psci_board::{law_children, law_paths, law_sizes};
 use psci_ctl_model::{
-    law_acknowledgements, law_depths, law_generations, law_limits, law_replies, law_values,
+    law_acknowledgements, law_depths, law_sums, law_limits, law_replies, law_values,
 };
 use psci_fw_laws::{law_granted, law_kept};
 use psci_fw_model::law_caller;
@@ -26,7 +26,7 @@ pub fn law_waiting()
     law_paths();
     law_parts();
     law_values();
-    law_generations();
+    law_sums();
     law_acknowledgements();
     law_replies();
     law_limits();
@@ -51,7 +51,7 @@ pub fn law_settles()
     law_children();
     law_parts();
     law_values();
-    law_generations();
+    law_sums();
     law_acknowledgements();
     law_replies();
     law_limits();

@@ -8,8 +8,8 @@ use Rattle.psci_state.specs.PowerState.{asked, bits, id_of}
 least : is_ask (1 ∷ 0 ∷ 0 ∷ 0 ∷ []) ≡ true
 least = refl
 
-core_runs : is_ask (0 ∷ 0 ∷ 0 ∷ 0 ∷ []) ≡ false
-core_runs = refl
+core_fully_on : is_ask (0 ∷ 0 ∷ 0 ∷ 0 ∷ []) ≡ false
+core_fully_on = refl
 
 most : is_ask (3 ∷ 3 ∷ 3 ∷ 3 ∷ []) ≡ true
 most = refl

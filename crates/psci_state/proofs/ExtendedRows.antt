@@ -68,8 +68,8 @@ standby_as_power_down = refl
 
 -- The core stops, at depth 3 at most --------------------------------------------------------------
 
-core_runs : refused 2 (0x00000000 ∷ 0x40000000 ∷ 0x00000010 ∷ []) ≡ true
-core_runs = refl
+core_fully_on : refused 2 (0x00000000 ∷ 0x40000000 ∷ 0x00000010 ∷ []) ≡ true
+core_fully_on = refl
 
 core_below_power_down : refused 2 (0x00000004 ∷ 0x40000004 ∷ 0x00000044 ∷ 0x40000044 ∷ []) ≡ true
 core_below_power_down = refl

@@ -21,7 +21,7 @@ pub fn count_at(world: &World, place: Place) -> usize {
         .count()
 }
 
-/// Whether SYSTEM_OFF, SYSTEM_RESET or SYSTEM_RESET2 was accepted in the present life.
+/// Whether SYSTEM_OFF, SYSTEM_RESET or SYSTEM_RESET2 was accepted in this life.
 pub fn is_halting(world: &World) -> bool {
     let firmware = world.firmware();
     firmware.halting() && firmware.life() == world.controller().life()

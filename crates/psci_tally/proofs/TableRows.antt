@@ -7,7 +7,7 @@ use Rattle.psci_tally.specs.declared.asked.Asked.{Asked}
 use Rattle.psci_tally.specs.declared.asked.Asked.TheVariants as asked
 use Rattle.psci_tally.specs.declared.table.TheConstants.{KINDS}
 use Rattle.psci_tally.specs.Counts.{event_kind_text}
-use Rattle.psci_tally.specs.Kinds.{asked_number}
+use Rattle.psci_tally.specs.Kinds.{asked_index}
 
 pub kinds_spelled : map event_kind_text KINDS ≡ codes "version return 65537"
     ∷ codes "version stop"
@@ -102,7 +102,7 @@ unfolding digits
 kinds_spelled = refl
 
 -- The table has a row for each thing that is asked.
-pub has_row : (a : Asked) → list_any (λ k. asked_number k.asked == asked_number a) KINDS ≡ true
+pub has_row : (a : Asked) → list_any (λ k. asked_index k.asked == asked_index a) KINDS ≡ true
 has_row asked.Version = refl
 has_row asked.CpuSuspend = refl
 has_row asked.CpuOff = refl

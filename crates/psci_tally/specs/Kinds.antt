@@ -78,25 +78,25 @@ abbrev pub event_kind_of : Record → Kind
 event_kind_of r = record { asked = asked_of r.event; answer = answer_of r.said }
 
 -- which of the sorts it is, in their order
-abbrev pub asked_number : Asked → ℕ
-asked_number Version = 0
-asked_number CpuSuspend = 1
-asked_number CpuOff = 2
-asked_number CpuOn = 3
-asked_number AffinityInfo = 4
-asked_number MigrateInfoType = 5
-asked_number SystemOff = 6
-asked_number SystemReset = 7
-asked_number Features = 8
-asked_number SystemSuspend = 9
-asked_number SetSuspendMode = 10
-asked_number SystemReset2 = 11
-asked_number Unknown = 12
-asked_number Entry = 13
-asked_number Wake = 14
-asked_number Reset = 15
-asked_number Deliver = 16
-asked_number Take = 17
+abbrev pub asked_index : Asked → ℕ
+asked_index Version = 0
+asked_index CpuSuspend = 1
+asked_index CpuOff = 2
+asked_index CpuOn = 3
+asked_index AffinityInfo = 4
+asked_index MigrateInfoType = 5
+asked_index SystemOff = 6
+asked_index SystemReset = 7
+asked_index Features = 8
+asked_index SystemSuspend = 9
+asked_index SetSuspendMode = 10
+asked_index SystemReset2 = 11
+asked_index Unknown = 12
+asked_index Entry = 13
+asked_index Wake = 14
+asked_index Reset = 15
+asked_index Deliver = 16
+asked_index Take = 17
 
 -- both are the same answer
 abbrev pub is_answer : Answer → Answer → Bool
@@ -114,4 +114,4 @@ is_answer a b = false
 
 -- both are the same kind
 abbrev pub is_event_kind : Kind → Kind → Bool
-is_event_kind k l = asked_number k.asked == asked_number l.asked && is_answer k.answer l.answer
+is_event_kind k l = asked_index k.asked == asked_index l.asked && is_answer k.answer l.answer

@@ -7,7 +7,7 @@ use Rattle.psci_board.specs.declared.node.Node.{Node}
 use Rattle.psci_board.specs.Board.{below_in}
 use Rattle.psci_tree.specs.declared.state.Activity.{Activity}
 use Rattle.psci_tree.specs.declared.state.Activity.TheVariants.{Active, Suspended, Off}
-use Rattle.psci_tree.specs.Recount.{TreeValue, IsDomainTree, IsActivity, asks, ask_at, core_at}
+use Rattle.psci_tree.specs.Recount.{TreeValue, IsDomainTree, IsActivity, asks, ask_at, state_at}
 use Rattle.psci_tree.specs.Recount.{is_active, is_active_at, low}
 use Rattle.psci_tree.proofs.Bounds.{low_each, low_greatest}
 use Rattle.psci_tree.proofs.Below.{least_le}
@@ -56,23 +56,23 @@ cut_none true x e = e
 cut_none false x e = refl
 
 pub ask_most : (t : TreeValue) (c level : ℕ) → IsDomainTree t → ask_at t c level ≤ 3
-ask_most t c level v = cut_le _ _ 3 (asks_most (core_at t c).activity level (v.asks c))
+ask_most t c level v = cut_le _ _ 3 (asks_most (state_at t c).activity level (v.asks c))
 
 pub ask_falls : (t : TreeValue) (c level : ℕ) → IsDomainTree t
     → ask_at t c (level + 1) ≤ ask_at t c level
 ask_falls t c level v =
     cut_fall (leb (level + 1) (length t.levels)) (leb level (length t.levels)) _ _
     (λ e. le-leb level (length t.levels) (omega (arith, leb-true (level + 1) (length t.levels) e)))
-    (asks_fall (core_at t c).activity level (v.asks c))
+    (asks_fall (state_at t c).activity level (v.asks c))
 
 pub ask_some : (t : TreeValue) (c : ℕ) → IsDomainTree t → is_active_at t c ≡ false
     → 1 ≤ ask_at t c 0
 ask_some t c v e =
     rw (le-leb 0 (length t.levels) (omega arith))
-    (asks_some (core_at t c).activity (v.asks c) e)
+    (asks_some (state_at t c).activity (v.asks c) e)
 
 pub ask_none : (t : TreeValue) (c level : ℕ) → is_active_at t c ≡ true → ask_at t c level ≡ 0
-ask_none t c level e = cut_none _ _ (asks_none (core_at t c).activity level e)
+ask_none t c level e = cut_none _ _ (asks_none (state_at t c).activity level e)
 
 pub ask_above : (t : TreeValue) (c level : ℕ) → length t.levels < level → ask_at t c level ≡ 0
 ask_above t c level h = rw (lt-leb level (length t.levels) h) refl

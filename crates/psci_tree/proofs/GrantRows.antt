@@ -117,8 +117,8 @@ asking depths = record tree {
       ∷ never_started ∷ [];
 }
 
-core_runs_on : IsDomainTree (asking (0 ∷ 0 ∷ 0 ∷ 0 ∷ [])) → ⊥
-core_runs_on v = absurd (omega (arith, (v.asks 1).least))
+core_stays_on : IsDomainTree (asking (0 ∷ 0 ∷ 0 ∷ 0 ∷ [])) → ⊥
+core_stays_on v = absurd (omega (arith, (v.asks 1).least))
 
 ask_grows : IsDomainTree (asking (2 ∷ 3 ∷ 0 ∷ 0 ∷ [])) → ⊥
 ask_grows v = absurd (omega (arith, (v.asks 1).falls 0))

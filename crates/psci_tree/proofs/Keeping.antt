@@ -9,7 +9,7 @@ use Rattle.std.proofs.lemmas.List.Elements.{All-append, All-nil, All-cons, All-t
 use Rattle.std.proofs.lemmas.List.Sums.{sum_by-append, count_by-le-length}
 use Rattle.psci_tree.specs.Recount.{is_active, is_off}
 use Rattle.psci_tree.specs.Domains.{cores, cores_in, children, domains_down}
-use Rattle.psci_tree.specs.Kept.{Keeps, IsRecount, AreKept, IsKept, recount, beside, low_in}
+use Rattle.psci_tree.specs.Kept.{Keeps, IsRecount, AreKept, IsKept, recount, kept_together, low_in}
 use Rattle.psci_tree.specs.declared.state.CoreState.{CoreState}
 use Rattle.psci_tree.specs.declared.kept.Kept.{Kept}
 use Rattle.psci_tree.specs.declared.domain.Domain.{Domain, out-Domain}
@@ -22,7 +22,7 @@ use Rattle.psci_tree.proofs.Below.{cores_take}
 
 -- the recount of two runs of cores is that of the one beside that of the other
 pub recount-append : (xs ys : List CoreState)
-    → recount (xs ++ ys) ≡ beside (recount xs) (recount ys)
+    → recount (xs ++ ys) ≡ kept_together (recount xs) (recount ys)
 recount-append xs ys =
     let known = sum_by-append (λ (c : CoreState). c.known) xs ys in
     let active = sum_by-append (λ (c : CoreState). cond (is_active c.activity) 1 0) xs ys in
@@ -34,9 +34,10 @@ recount-append xs ys =
     cc
 
 pub keeps_append : (j k : Kept) (xs ys : List CoreState) → Keeps j xs → Keeps k ys
-    → Keeps (beside j k) (xs ++ ys)
+    → Keeps (kept_together j k) (xs ++ ys)
 keeps_append j k xs ys h l = record {
-  counted = ap (λ (i : Kept). beside i k) h.counted ∙ ap (beside (recount xs)) l.counted
+  counted = ap (λ (i : Kept). kept_together i k) h.counted ∙ ap
+      (kept_together (recount xs)) l.counted
       ∙ sym (recount-append xs ys);
   small = omega (arith, length-append xs ys, h.small, l.small);
 }
@@ -148,11 +149,11 @@ kept_roll_core x none h =
 -- what is kept of the domains before a child, and what the child keeps, are kept of both
 pub kept_next : (ns : List Domain) (i : ℕ) (d : Domain) (k : Kept) → i < length ns
     → d ≡ get_or ns i d → AreKept ns → Keeps k (cores_in (take i ns))
-    → Keeps (beside k (out-Domain d).kept) (cores_in (take (i + 1) ns))
+    → Keeps (kept_together k (out-Domain d).kept) (cores_in (take (i + 1) ns))
 kept_next ns i d k h is l e =
     let own : Keeps (out-Domain d).kept (cores d) =
     subst IsRecount (sym is) (kept_own (get_or ns i d) (kept_at ns i d h l)) in
-    subst (Keeps (beside k (out-Domain d).kept))
+    subst (Keeps (kept_together k (out-Domain d).kept))
     (ap (λ x. cores_in (take i ns) ++ cores x) is ∙ sym (cores_take ns i d h))
     (keeps_append k (out-Domain d).kept (cores_in (take i ns)) (cores d) e own)
 

@@ -1,13 +1,13 @@
 -- What domains keep, and the ways down to cores, on boards whose values are known: a cluster of two
 -- cores, and clusters of one, two and one core below two domains of level 2.
 use Rattle.std.proofs.Common.{◌≡◌, ℕ, List, [], ◌∷◌, map, refl}
-use Rattle.psci_board.specs.Board.{place_in, place_above}
+use Rattle.psci_board.specs.Board.{index_in, place_above}
 use Rattle.std.specs.Prelude.{Some, None, slice_index_or}
 use Rattle.psci_tree.specs.declared.state.CoreState.{CoreState}
 use Rattle.psci_tree.specs.declared.state.Activity.TheVariants.{Active, Suspended, Off}
 use Rattle.psci_tree.specs.Recount.{never_started}
-use Rattle.psci_tree.specs.Kept.{recount, beside}
-use Rattle.psci_tree.specs.Changes.{changed, with_change}
+use Rattle.psci_tree.specs.Kept.{recount, kept_together}
+use Rattle.psci_tree.specs.Changes.{core_changed, with_change}
 
 -- a core in power-down, and one in retention of its cluster
 abbrev down : CoreState
@@ -53,17 +53,18 @@ keeps_off : recount (gone ∷ down ∷ [])
 keeps_off = refl
 
 -- two clusters: the least of both, and the sums
-keeps_beside : beside (recount (pending ∷ retained ∷ [])) (recount (gone ∷ never_started ∷ []))
+keeps_beside : kept_together (recount (pending ∷ retained ∷ []))
+    (recount (gone ∷ never_started ∷ []))
     ≡ record { lows = 0 ∷ 0 ∷ 0 ∷ 0 ∷ []; known = 6; active = 1; off = 2 }
 keeps_beside = refl
 
 -- a start takes its own number, however many there were before, and not one more
-change_starts : changed (record { activity = Active; started = Some 9 }) retained
+change_starts : core_changed (record { activity = Active; started = Some 9 }) retained
     ≡ record { activity = Active; known = 9 }
 change_starts = refl
 
 -- without a start the known one stays
-change_keeps : changed (record { activity = Off; started = None }) retained
+change_keeps : core_changed (record { activity = Off; started = None }) retained
     ≡ record { activity = Off; known = 4 }
 change_keeps = refl
 
@@ -78,7 +79,7 @@ levels = (1 ∷ 2 ∷ 1 ∷ []) ∷ (2 ∷ 1 ∷ []) ∷ (2 ∷ []) ∷ []
 
 abbrev way : ℕ → List ℕ
 way core =
-    map (λ l. place_in (slice_index_or levels l []) (place_above levels l core)) (0 ∷ 1 ∷ 2 ∷ [])
+    map (λ l. index_in (slice_index_or levels l []) (place_above levels l core)) (0 ∷ 1 ∷ 2 ∷ [])
 
 way_first : way 0 ≡ 0 ∷ 0 ∷ 0 ∷ []
 way_first = refl

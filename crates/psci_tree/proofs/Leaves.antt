@@ -7,7 +7,7 @@ use Rattle.std.proofs.lemmas.List.Sums.{get_or-le-sum_by}
 use Rattle.psci_board.specs.declared.node.Node.{Node}
 use Rattle.psci_board.specs.Board.{IsTree, HasNodeIn, below_in, first_core, span}
 use Rattle.psci_board.specs.Laws.{SpanLaws}
-use Rattle.psci_tree.specs.Recount.{TreeValue, core_at}
+use Rattle.psci_tree.specs.Recount.{TreeValue, state_at}
 use Rattle.psci_tree.specs.Domains.{IsWhole, child_count, child_counts, cores, domains_down}
 use Rattle.psci_tree.specs.declared.state.CoreState.{CoreState}
 use Rattle.psci_tree.specs.declared.domain.Domain.{Domain, out-Domain}
@@ -19,7 +19,7 @@ pub core_of_leaf : (n : Domain) (t : TreeValue) (at : Node) (k : ℕ) (d : Domai
     → SpanLaws t.levels → IsTree t.levels → IsWhole n t.levels → t.cores ≡ cores n
     → HasNodeIn t.levels at → k + at.level ≡ length t.levels
     → d ≡ get_or (domains_down k n) at.place d → at.level ≡ 0
-    → (out-Domain d).core ≡ core_at t at.place
+    → (out-Domain d).core ≡ state_at t at.place
 core_of_leaf n t at k d laws i h same in' e is low =
     let row : List Domain = domains_down k n in
     let here : k ≡ length t.levels = omega arith in
@@ -43,7 +43,7 @@ core_of_leaf n t at k d laws i h same in' e is low =
     let alone : below_in t.levels at ≡ at.place ∷ [] = laws.cores at in'
     ∙ ap (λ x. range_with_len x (span t.levels at).count) first
     ∙ ap (range_with_len at.place) one in
-    let all : (out-Domain d).core ∷ [] ≡ core_at t at.place ∷ [] =
+    let all : (out-Domain d).core ∷ [] ≡ state_at t at.place ∷ [] =
     sym own ∙ states_at n t at k d laws i h same in' e is
-    ∙ ap (map (λ c. core_at t c)) alone in
+    ∙ ap (map (λ c. state_at t c)) alone in
     cc

@@ -5,14 +5,14 @@ use Rattle.std.proofs.lemmas.Bool.{cases_eq, eq-eqb, ne_eqb}
 use Rattle.std.proofs.lemmas.List.{get_or-set_same, get_or-set_other, length-replicate}
 use Rattle.psci_board.specs.Board.{size_below, place_above}
 use Rattle.psci_tree.specs.declared.state.Activity.{Activity}
-use Rattle.psci_tree.specs.Recount.{TreeValue, core_at, granted_at, never_started, level_sizes}
+use Rattle.psci_tree.specs.Recount.{TreeValue, state_at, granted_at, never_started, level_sizes}
 use Rattle.psci_tree.specs.Changes.{with_core_state, with_path_cleared, all_off}
 use Rattle.psci_tree.proofs.Granted.{zero_at, size_of_level, rows_at}
 
 -- another state of one core
 pub core_with : (t : TreeValue) (core : ℕ) (activity : Activity) (known c : ℕ)
-    → core < length t.cores → core_at (with_core_state t core activity known) c
-    ≡ cond (core == c) (record { activity = activity; known = known }) (core_at t c)
+    → core < length t.cores → state_at (with_core_state t core activity known) c
+    ≡ cond (core == c) (record { activity = activity; known = known }) (state_at t c)
 core_with t core activity known c h = elim (cases_eq core c) [
   | inl e ↦ rw (eq-eqb core c e, ← e)
       (get_or-set_same t.cores core (record { activity = activity; known = known }) never_started h)
@@ -26,7 +26,7 @@ pub granted_with : (t : TreeValue) (core l p : ℕ) → granted_at (with_path_cl
     ≡ cond (place_above t.levels l core == p) 0 (granted_at t l p)
 granted_with t core l p = zero_at t.levels t.granted core l p
 
-pub core_off : (levels : List (List ℕ)) (c : ℕ) → core_at (all_off levels) c ≡ never_started
+pub core_off : (levels : List (List ℕ)) (c : ℕ) → state_at (all_off levels) c ≡ never_started
 core_off levels c = filled (size_below levels) c
   where
     filled : (n c : ℕ) → get_or (replicate n never_started) c never_started ≡ never_started

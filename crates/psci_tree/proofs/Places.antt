@@ -3,7 +3,7 @@ use Rattle.std.proofs.Common.{◌≡◌, ℕ, zero, suc, ◌+◌, ◌-◌, ◌<�
 use Rattle.std.proofs.Common.{List, [], ◌∷◌, length, take, get_or, sum, arith, add-one, refl}
 use Rattle.std.proofs.lemmas.Bool.Decides.{nat_tests}
 use Rattle.std.proofs.lemmas.List.Sums.{sum_by-cons}
-use Rattle.psci_board.specs.Board.{group_of, place_in, IsTree, size_below}
+use Rattle.psci_board.specs.Board.{group_of, index_in, IsTree, size_below}
 
 pub sum-cons : (n : ℕ) (ns : List ℕ) → sum (n ∷ ns) ≡ n + sum ns
 sum-cons n ns = sum_by-cons (λ x. x) n ns
@@ -12,8 +12,8 @@ sum-cons n ns = sum_by-cons (λ x. x) n ns
 
 pub record Counted (w : List ℕ) (i : ℕ) : Type 0 where
   pub group : group_of w i < length w
-  pub place : place_in w i < get_or w (group_of w i) 0
-  pub whole : sum (take (group_of w i) w) + place_in w i ≡ i
+  pub place : index_in w i < get_or w (group_of w i) 0
+  pub whole : sum (take (group_of w i) w) + index_in w i ≡ i
 
 counted_by : (n : ℕ) (ns : List ℕ) (i : ℕ) (t : Bool) → ltb i n ≡ t → i < n + sum ns
     → (i - n < sum ns → Counted ns (i - n)) → Counted (n ∷ ns) i

@@ -8,11 +8,11 @@ use Rattle.std.proofs.lemmas.List.Folds.{fold-map}
 use Rattle.psci_board.specs.declared.node.Node.{Node}
 use Rattle.psci_board.specs.Board.{below_in}
 use Rattle.psci_tree.specs.declared.state.CoreState.{CoreState}
-use Rattle.psci_tree.specs.Recount.{TreeValue, core_at, asks, is_active, is_off}
+use Rattle.psci_tree.specs.Recount.{TreeValue, state_at, asks, is_active, is_off}
 use Rattle.psci_tree.specs.Recount.{least, low, known, active, off}
 
 abbrev pub states : TreeValue → Node → List CoreState
-states t n = map (λ c. core_at t c) (below_in t.levels n)
+states t n = map (λ c. state_at t c) (below_in t.levels n)
 
 pub low_is : (t : TreeValue) (n : Node) (level : ℕ) (cs : List CoreState) → cs ≡ states t n
     → level ≤ length t.levels → least (map (λ s. asks s.activity level) cs) ≡ low t n level
@@ -20,8 +20,8 @@ unfolding low
 low_is t n level cs e h =
     let within : true ≡ leb level (length t.levels) = grind (arith, nat_tests) in
     ap (λ xs. least (map (λ s. asks s.activity level) xs)) e
-    ∙ ap least (map-map (λ s. asks s.activity level) (λ c. core_at t c) (below_in t.levels n))
-    ∙ ap (λ b. least (map (λ c. cond b (asks (core_at t c).activity level) 0)
+    ∙ ap least (map-map (λ s. asks s.activity level) (λ c. state_at t c) (below_in t.levels n))
+    ∙ ap (λ b. least (map (λ c. cond b (asks (state_at t c).activity level) 0)
     (below_in t.levels n))) within
 
 none_asked : (xs : List ℕ) → 0 < length xs → least (map (λ c. 0) xs) ≡ 0
@@ -35,13 +35,13 @@ unfolding low
 low_above t n level some h =
     let above : false ≡ leb level (length t.levels) = grind (arith, nat_tests) in
     sym (none_asked (below_in t.levels n) some)
-    ∙ ap (λ b. least (map (λ c. cond b (asks (core_at t c).activity level) 0)
+    ∙ ap (λ b. least (map (λ c. cond b (asks (state_at t c).activity level) 0)
     (below_in t.levels n))) above
 
 sum_is : (f : CoreState → ℕ) (t : TreeValue) (n : Node) (cs : List CoreState) → cs ≡ states t n
-    → sum_by f cs ≡ sum_by (λ c. f (core_at t c)) (below_in t.levels n)
+    → sum_by f cs ≡ sum_by (λ c. f (state_at t c)) (below_in t.levels n)
 sum_is f t n cs e =
-    ap (sum_by f) e ∙ fold-map (λ a x. a + f x) (λ c. core_at t c) 0 (below_in t.levels n)
+    ap (sum_by f) e ∙ fold-map (λ a x. a + f x) (λ c. state_at t c) 0 (below_in t.levels n)
 
 pub known_is : (t : TreeValue) (n : Node) (cs : List CoreState) → cs ≡ states t n
     → sum_by (λ s. s.known) cs ≡ known t n

@@ -2,7 +2,7 @@
 use Rattle.std.proofs.Common.{◌≡◌, ℕ, List, [], ◌∷◌, map, refl}
 use Rattle.psci_board.specs.declared.node.Node.{Node}
 use Rattle.psci_tree.specs.declared.state.Activity.TheVariants.{Suspended, Off}
-use Rattle.psci_tree.specs.Recount.{TreeValue, core_at, ask_at, known_at, low, known, active, off}
+use Rattle.psci_tree.specs.Recount.{TreeValue, state_at, ask_at, known_at, low, known, active, off}
 use Rattle.psci_tree.specs.Changes.{suspended, turned_off, made_pending, started, start_of_life}
 
 abbrev levels : List (List ℕ)
@@ -106,7 +106,7 @@ suspended_ends_at_height : map (ask_at given 3) (0 ∷ 1 ∷ 2 ∷ 3 ∷ 4 ∷ [
 unfolding suspended start_of_life made_pending
 suspended_ends_at_height = refl
 
-suspended_keeps_its_ask : core_at given 3
+suspended_keeps_its_ask : state_at given 3
     ≡ record { activity = Suspended (3 ∷ 3 ∷ 3 ∷ 3 ∷ []); known = 0 }
 unfolding suspended start_of_life made_pending
 suspended_keeps_its_ask = refl
@@ -117,6 +117,6 @@ unfolding started start_of_life made_pending
 known_started_again = refl
 
 -- a core that the board lacks is off and was never started
-no_such_core : core_at at_start 4 ≡ record { activity = Off; known = 0 }
+no_such_core : state_at at_start 4 ≡ record { activity = Off; known = 0 }
 unfolding start_of_life made_pending
 no_such_core = refl

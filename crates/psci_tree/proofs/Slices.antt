@@ -13,7 +13,7 @@ use Rattle.psci_board.specs.declared.node.Node.{Node}
 use Rattle.psci_board.specs.Board.{IsTree, HasNodeIn, size_below, is_width}
 use Rattle.psci_board.specs.Board.{below_in, first_core, span}
 use Rattle.psci_board.specs.Laws.{SpanLaws}
-use Rattle.psci_tree.specs.Recount.{TreeValue, core_at, never_started}
+use Rattle.psci_tree.specs.Recount.{TreeValue, state_at, never_started}
 use Rattle.psci_tree.specs.Domains.{cores, cores_in, children, child_count}
 use Rattle.psci_tree.specs.Domains.{domains_down, child_counts, HasShape, IsWhole}
 use Rattle.psci_tree.specs.declared.state.CoreState.{CoreState}
@@ -228,10 +228,10 @@ pick_run xs d a (suc k) h =
 -- the states of the cores below a domain are a slice of those of all cores
 pub states_slice : (t : TreeValue) (n : Node) → SpanLaws t.levels
     → length t.cores ≡ size_below t.levels → HasNodeIn t.levels n
-    → map (λ c. core_at t c) (below_in t.levels n)
+    → map (λ c. state_at t c) (below_in t.levels n)
     ≡ take (span t.levels n).count (drop (span t.levels n).first t.cores)
 states_slice t n laws same h =
-    ap (map (λ c. core_at t c)) (laws.cores n h)
+    ap (map (λ c. state_at t c)) (laws.cores n h)
     ∙ pick_run t.cores never_started (span t.levels n).first (span t.levels n).count
     (omega (arith, laws.inside n h))
 
@@ -239,7 +239,7 @@ states_slice t n laws same h =
 pub states_at : (n : Domain) (t : TreeValue) (at : Node) (k : ℕ) (d : Domain) → SpanLaws t.levels
     → IsTree t.levels → IsWhole n t.levels → t.cores ≡ cores n → HasNodeIn t.levels at
     → k + at.level ≡ length t.levels → d ≡ get_or (domains_down k n) at.place d
-    → cores d ≡ map (λ c. core_at t c) (below_in t.levels at)
+    → cores d ≡ map (λ c. state_at t c) (below_in t.levels at)
 states_at n t at k d laws i h same in' e is =
     slice_at n t.levels at k d i h in' e is
     ∙ ap (λ x. take (span t.levels at).count (drop (span t.levels at).first x)) (sym same)

@@ -10,7 +10,7 @@ use Rattle.psci_board.specs.Board.{size_below, place_above, below_in, span}
 use Rattle.psci_board.specs.Laws.{SpanLaws}
 use Rattle.psci_tree.specs.declared.state.CoreState.{CoreState}
 use Rattle.psci_tree.specs.declared.state.Activity.TheVariants.{Active}
-use Rattle.psci_tree.specs.Recount.{TreeValue, IsDomainTree, known, known_at, core_at}
+use Rattle.psci_tree.specs.Recount.{TreeValue, IsDomainTree, known, known_at, state_at}
 use Rattle.psci_tree.specs.Changes.{started, with_core_state, with_path_cleared}
 use Rattle.psci_tree.proofs.Looked.{core_with}
 
@@ -87,14 +87,14 @@ known_other : (t : TreeValue) (core number c : ℕ) → core < length t.cores �
     → known_at (with_core_state t core Active number) c ≡ known_at t c
 known_other t core number c h e =
     ap (λ (s : CoreState). s.known) (core_with t core Active number c h
-    ∙ ap (λ b. cond b (record { activity = Active; known = number }) (core_at t c))
+    ∙ ap (λ b. cond b (record { activity = Active; known = number }) (state_at t c))
     (ne_eqb core c (λ q. e (sym q))))
 
 known_new : (t : TreeValue) (core number : ℕ) → core < length t.cores
     → known_at (with_core_state t core Active number) core ≡ number
 known_new t core number h =
     ap (λ (s : CoreState). s.known) (core_with t core Active number core h
-    ∙ ap (λ b. cond b (record { activity = Active; known = number }) (core_at t core))
+    ∙ ap (λ b. cond b (record { activity = Active; known = number }) (state_at t core))
     (eq-eqb core core refl))
 
 -- one start changes the sums of the domains on the core's path by what it changes of the core

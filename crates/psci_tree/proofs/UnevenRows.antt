@@ -3,7 +3,7 @@
 use Rattle.std.proofs.Common.{◌≡◌, ℕ, true, false, List, [], ◌∷◌, map, refl}
 use Rattle.psci_board.specs.declared.node.Node.{Node}
 use Rattle.psci_tree.specs.declared.state.Activity.TheVariants.{Active, Off}
-use Rattle.psci_tree.specs.Recount.{TreeValue, core_at, ask_at, known_at, is_active_at, is_off_at}
+use Rattle.psci_tree.specs.Recount.{TreeValue, state_at, ask_at, known_at, is_active_at, is_off_at}
 use Rattle.psci_tree.specs.Recount.{low, known, active, off, granted_at, level_sizes}
 use Rattle.psci_tree.specs.Changes.{suspended, turned_off, made_pending, started, start_of_life}
 use Rattle.psci_tree.specs.Changes.{with_grant}
@@ -45,7 +45,7 @@ one_off = turned_off (made_pending two_down 3) 1
 sizes_of_levels : level_sizes uneven ≡ 4 ∷ 3 ∷ 2 ∷ 1 ∷ []
 sizes_of_levels = refl
 
-cores_at_start : map (core_at at_start) each_core
+cores_at_start : map (state_at at_start) each_core
     ≡ record { activity = Active; known = 0 } ∷ record { activity = Off; known = 0 }
     ∷ record { activity = Off; known = 0 } ∷ record { activity = Off; known = 0 } ∷ []
 unfolding start_of_life made_pending

@@ -10,7 +10,7 @@ use Rattle.std.proofs.lemmas.List.{take-map, length-map, get_or-map, drop_all, l
 use Rattle.std.proofs.lemmas.List.Concat.{get_or-flat_map, length-flat_map}
 use Rattle.std.proofs.lemmas.List.Sums.{sum-map}
 use Rattle.psci_board.specs.declared.node.Node.{Node}
-use Rattle.psci_board.specs.Board.{BoardValue, IsTree, HasNodeIn, size_below, group_of, place_in}
+use Rattle.psci_board.specs.Board.{BoardValue, IsTree, HasNodeIn, size_below, group_of, index_in}
 use Rattle.psci_board.specs.Board.{height, nodes, parent, child_number, place_above}
 use Rattle.psci_tree.specs.Domains.{children, child_count, domains_down, HasShape}
 use Rattle.psci_tree.specs.declared.domain.Domain.{Domain}
@@ -22,11 +22,11 @@ use Rattle.psci_tree.proofs.Slices.{down_step, widths_are}
 -- the domain at a place, as a child
 pub record ChildAt (root : Domain) (w : List ℕ) (ws : List (List ℕ)) (place : ℕ) : Type 0 where
   pub group : group_of w place < size_below ws
-  pub inside : (e : Domain) → place_in w place
+  pub inside : (e : Domain) → index_in w place
       < length (children (get_or (domains_down (length ws) root) (group_of w place) e))
   pub is : (d e : Domain)
       → get_or (children (get_or (domains_down (length ws) root) (group_of w place) e))
-      (place_in w place) d
+      (index_in w place) d
       ≡ get_or (domains_down (suc (length ws)) root) place d
 
 pub child_at : (root : Domain) (w : List ℕ) (ws : List (List ℕ)) (place : ℕ) → IsTree (w ∷ ws)
@@ -35,7 +35,7 @@ child_at root w ws place t h i = record {
   group = omega (arith, c.group, t.0);
   inside = λ e. omega (arith, c.place, fans e);
   is = λ d e.
-      sym (get_or-flat_map children row (group_of w place) (place_in w place) e d within
+      sym (get_or-flat_map children row (group_of w place) (index_in w place) e d within
       (omega (arith, c.place, fans e)))
       ∙ ap (λ k. get_or (flat_map children row) k d) (omega (arith, before, c.whole))
       ∙ ap (λ x. get_or x place d) (sym (down_step (length ws) root));
@@ -141,7 +141,7 @@ steps_down root b n m k t h e f =
     let up : Node = record { level = n.level + 1; place = group_of w n.place } in
     let p = some_of (ltb n.level (height b) && ltb n.place (nodes b n.level)) up m e in
     let q = some_of (ltb n.level (height b) && ltb n.place (nodes b n.level))
-    (place_in w n.place) k f in
+    (index_in w n.place) k f in
     let in' = below_node b n p.0 in
     let within : n.level < length levels = in'.0 in
     let cut : drop n.level levels ≡ w ∷ ws = drop-cons levels n.level [] within in
@@ -152,7 +152,7 @@ steps_down root b n m k t h e f =
     let rest : length levels - (n.level + 1) ≡ length ws =
     omega (arith, length-drop (suc n.level) levels) in
     let here : length levels - n.level ≡ suc (length ws) = omega (arith, rest) in
-    let step : StepsDown root levels n up (place_in w n.place) = record {
+    let step : StepsDown root levels n up (index_in w n.place) = record {
       level = refl;
       fits = within;
       node = record { level = omega arith; place = rw add-one c.group };
@@ -160,7 +160,7 @@ steps_down root b n m k t h e f =
       is = λ d d'. rw (rest, here) (c.is d d');
     } in
     subst (λ x. StepsDown root levels n m x) q.1
-    (subst (λ x. StepsDown root levels n x (place_in w n.place)) p.1 step)
+    (subst (λ x. StepsDown root levels n x (index_in w n.place)) p.1 step)
 
 -- a node without a parent is the system
 pub top_node : (b : BoardValue) (n : Node) → HasNodeIn b.levels n → parent b n ≡ None
@@ -197,5 +197,5 @@ parent_some b n h i = both_some _ _ _ (lt-ltb _ _ h) (lt-ltb _ _ i)
 
 pub number_some : (b : BoardValue) (n : Node) → n.level < length b.levels
     → n.place < size_below (drop n.level b.levels)
-    → child_number b n ≡ Some (place_in (get_or b.levels n.level []) n.place)
+    → child_number b n ≡ Some (index_in (get_or b.levels n.level []) n.place)
 number_some b n h i = both_some _ _ _ (lt-ltb _ _ h) (lt-ltb _ _ i)

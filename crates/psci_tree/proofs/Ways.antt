@@ -8,12 +8,12 @@ use Rattle.std.proofs.lemmas.List.{take-append-le, take-map, get_or-map, length-
 use Rattle.std.proofs.lemmas.List.Concat.{flat_map-append, length-flat_map, get_or-flat_map}
 use Rattle.std.proofs.lemmas.List.Elements.{All-take}
 use Rattle.std.proofs.lemmas.List.Sums.{sum-map, get_or-le-sum_by}
-use Rattle.psci_board.specs.Board.{IsTree, size_below, is_width, group_of, place_in, place_above}
+use Rattle.psci_board.specs.Board.{IsTree, size_below, is_width, group_of, index_in, place_above}
 use Rattle.psci_board.specs.Board.{first_core}
 use Rattle.psci_tree.specs.Domains.{cores, cores_in, children, child_count, child_counts, IsWay}
-use Rattle.psci_tree.specs.Domains.{place_by, domains_down, IsWayTo, IsWhole}
+use Rattle.psci_tree.specs.Domains.{index_by, domains_down, IsWayTo, IsWhole}
 use Rattle.psci_tree.specs.Recount.{never_started}
-use Rattle.psci_tree.specs.Changes.{changed, with_change}
+use Rattle.psci_tree.specs.Changes.{core_changed, with_change}
 use Rattle.psci_tree.specs.declared.state.Change.{Change}
 use Rattle.psci_tree.specs.declared.domain.Domain.{Domain}
 use Rattle.psci_tree.proofs.Below.{cores_of_core, cores_of_domain, length_of_domain, length_drop}
@@ -29,8 +29,8 @@ use Rattle.psci_tree.proofs.Slices.{down_step, cores_down, take_past}
 pub record Step (n : Domain) (l k : ℕ) (way : List ℕ) : Type 0 where
   pub inside : get_or way k 0 < length (children n)
   pub rest : IsWay k way (get_or (children n) (get_or way k 0) n)
-  pub place : place_by l way n ≡ length (cores_in (take (get_or way k 0) (children n)))
-      + place_by k way (get_or (children n) (get_or way k 0) n)
+  pub place : index_by l way n ≡ length (cores_in (take (get_or way k 0) (children n)))
+      + index_by k way (get_or (children n) (get_or way k 0) n)
 
 pub step : (n : Domain) (l k : ℕ) (way : List ℕ) → l ≡ suc k → IsWay l way n → Step n l k way
 step n l k way e h = subst (λ j. IsWay j way n → Step n j k way) (sym e) first h
@@ -40,7 +40,7 @@ step n l k way e h = subst (λ j. IsWay j way n → Step n j k way) (sym e) firs
 
 -- a way ends at one of the cores below
 pub place_inside : (l : ℕ) (way : List ℕ) (n : Domain) → IsWay l way n
-    → place_by l way n < length (cores n)
+    → index_by l way n < length (cores n)
 place_inside zero way n h = omega (arith, ap length (cores_of_core n h))
 place_inside (suc l) way n h =
     let i : ℕ = get_or way l 0 in
@@ -66,16 +66,16 @@ same_core n i rest place h e r =
 -- a change of a child's core, as one of the domain's
 pub child_changed : (n m : Domain) (l k : ℕ) (way : List ℕ) (change : Change) → Step n l k way
     → cores m ≡ with_change (cores (get_or (children n) (get_or way k 0) n))
-    (place_by k way (get_or (children n) (get_or way k 0) n)) change
+    (index_by k way (get_or (children n) (get_or way k 0) n)) change
     → cores m ≡ set (cores (get_or (children n) (get_or way k 0) n))
-    (place_by k way (get_or (children n) (get_or way k 0) n))
-    (changed change (get_or (cores n) (place_by l way n) never_started))
+    (index_by k way (get_or (children n) (get_or way k 0) n))
+    (core_changed change (get_or (cores n) (index_by l way n) never_started))
 child_changed n m l k way change h e =
     let i : ℕ = get_or way k 0 in
     let d : Domain = get_or (children n) i n in
-    let rest : ℕ = place_by k way d in
-    e ∙ ap (λ core. set (cores d) rest (changed change core))
-    (sym (same_core n i rest (place_by l way n) h.inside (sym h.place)
+    let rest : ℕ = index_by k way d in
+    e ∙ ap (λ core. set (cores d) rest (core_changed change core))
+    (sym (same_core n i rest (index_by l way n) h.inside (sym h.place)
     (place_inside k way d h.rest)))
 
 -- The way to a core of the board -------------------------------------------------------------
@@ -110,7 +110,7 @@ take_in (n ∷ ns) (suc p) k d h i =
 pub record Leads (levels : List (List ℕ)) (core : ℕ) (ks : List ℕ) (l : ℕ)
     (n : Domain) : Type 0 where
   pub way : IsWay l ks n
-  pub place : first_core levels l (place_above levels l core) + place_by l ks n ≡ core
+  pub place : first_core levels l (place_above levels l core) + index_by l ks n ≡ core
 
 -- the domain of a core leads to it at once
 leads_core : (root : Domain) (levels : List (List ℕ)) (core : ℕ) (ks : List ℕ) (k : ℕ) (d : Domain)
@@ -151,7 +151,7 @@ leads_up root levels core ks l k d n t w h to e is lower =
     let c : Counted own q =
     counted own q (omega (arith, below, size_drop levels l (omega arith))) in
     let up : p ≡ group_of own q = above_next levels l core (omega arith) in
-    let number : i ≡ place_in own q = to l (omega arith) in
+    let number : i ≡ index_in own q = to l (omega arith) in
     let fits : p < length row =
     omega (arith, up, c.group, ap length same, length-map row child_count) in
     let fans : length (children n) ≡ get_or own p 0 =
@@ -224,7 +224,7 @@ first_none levels (suc l) = first_none levels l
 -- from the system, the way leads to the core
 pub system_way : (root : Domain) (levels : List (List ℕ)) (core : ℕ) (way : List ℕ)
     → IsTree levels → IsWhole root levels → core < size_below levels → IsWayTo levels core way
-    → IsWay (length levels) way root × (place_by (length levels) way root ≡ core)
+    → IsWay (length levels) way root × (index_by (length levels) way root ≡ core)
 system_way root levels core way t w h to =
     let top : place_above levels (length levels) core ≡ 0 =
     omega (

@@ -10,8 +10,8 @@ use Rattle.psci_tree.specs.declared.state.Activity.TheVariants.{Active, Suspende
 use Rattle.psci_tree.specs.Recount.{TreeValue, never_started, known_at, granted_at, level_sizes}
 
 -- what becomes of a core: another activity, and the number of its start, if it was started
-abbrev pub changed : Change → CoreState → CoreState
-changed change core = record {
+abbrev pub core_changed : Change → CoreState → CoreState
+core_changed change core = record {
   activity = change.activity;
   known = unwrap_or change.started core.known;
 }
@@ -19,7 +19,7 @@ changed change core = record {
 -- the same of one core among these
 abbrev pub with_change : List CoreState → ℕ → Change → List CoreState
 with_change cs core change =
-    slice_set cs core (changed change (slice_index_or cs core never_started))
+    slice_set cs core (core_changed change (slice_index_or cs core never_started))
 
 -- another state of one core
 abbrev pub with_core_state : TreeValue → ℕ → Activity → ℕ → TreeValue

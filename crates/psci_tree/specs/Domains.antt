@@ -2,7 +2,7 @@
 use Rattle.std.specs.Prelude.{◌≡◌, ℕ, zero, suc, ◌+◌, ◌<◌, List, [], ◌∷◌, length, sum, take, get_or}
 use Rattle.std.specs.Prelude.{slice_index, slice_index_or}
 use Rattle.std.specs.List.{flat_map}
-use Rattle.psci_board.specs.Board.{place_in, place_above}
+use Rattle.psci_board.specs.Board.{index_in, place_above}
 use Rattle.psci_tree.specs.declared.state.CoreState.{CoreState}
 use Rattle.psci_tree.specs.declared.domain.Domain.{Domain, out-Domain}
 use Rattle.psci_tree.specs.declared.domain.Domain.TheOpen.{Domain-F}
@@ -64,13 +64,13 @@ IsWay (suc l) way n =
     × IsWay l way (get_or (children n) (slice_index way l) n)
 
 -- the place of that core among those below the domain, from the left
-abbrev pub place_by : ℕ → List ℕ → Domain → ℕ
-place_by zero way n = 0
-place_by (suc l) way n =
+abbrev pub index_by : ℕ → List ℕ → Domain → ℕ
+index_by zero way n = 0
+index_by (suc l) way n =
     length (cores_in (take (slice_index way l) (children n)))
-    + place_by l way (get_or (children n) (slice_index way l) n)
+    + index_by l way (get_or (children n) (slice_index way l) n)
 
 -- the way to a core of these levels: at each level, the number of its domain among its siblings
 abbrev pub IsWayTo : List (List ℕ) → ℕ → List ℕ → Type 0
 IsWayTo levels core way = (l : ℕ) → l < length levels → slice_index way l
-    ≡ place_in (slice_index_or levels l []) (place_above levels l core)
+    ≡ index_in (slice_index_or levels l []) (place_above levels l core)

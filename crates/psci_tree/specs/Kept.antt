@@ -22,8 +22,8 @@ recount cs = record {
 }
 
 -- what is kept of some cores and of others beside them
-abbrev pub beside : Kept → Kept → Kept
-beside j k = record {
+abbrev pub kept_together : Kept → Kept → Kept
+kept_together j k = record {
   lows = map (λ level. min (slice_index j.lows level) (slice_index k.lows level))
       (0 ∷ 1 ∷ 2 ∷ 3 ∷ []);
   known = j.known + k.known;

@@ -50,26 +50,26 @@ abbrev pub never_started : CoreState
 never_started = record { activity = Off; known = 0 }
 
 -- what is kept of the core of this number
-abbrev pub core_at : TreeValue → ℕ → CoreState
-core_at t core = slice_index_or t.cores core never_started
+abbrev pub state_at : TreeValue → ℕ → CoreState
+state_at t core = slice_index_or t.cores core never_started
 
 -- the depth that this core asks of its domain of this level: the levels end at the board's height,
 -- and above it no core asks anything, neither an off one nor one whose power state names a depth
 abbrev pub ask_at : TreeValue → ℕ → ℕ → ℕ
 ask_at t core level =
-    if nat_le level (length t.levels) then asks (core_at t core).activity level else 0
+    if nat_le level (length t.levels) then asks (state_at t core).activity level else 0
 
 -- the number of this core's last start that was seen to enter, or 0
 abbrev pub known_at : TreeValue → ℕ → ℕ
-known_at t core = (core_at t core).known
+known_at t core = (state_at t core).known
 
 -- running or pending
 abbrev pub is_active_at : TreeValue → ℕ → Bool
-is_active_at t core = is_active (core_at t core).activity
+is_active_at t core = is_active (state_at t core).activity
 
 -- off or going off
 abbrev pub is_off_at : TreeValue → ℕ → Bool
-is_off_at t core = is_off (core_at t core).activity
+is_off_at t core = is_off (state_at t core).activity
 
 -- Below a domain -------------------------------------------------------------------------------
 
@@ -112,7 +112,7 @@ pub record IsDomainTree (t : TreeValue) : Type 0 where
   pub cores : length t.cores ≡ size_below t.levels
   pub granted : map length t.granted ≡ level_sizes t.levels
   -- a suspended core asks what a power state can ask
-  pub asks : (core : ℕ) → IsActivity (core_at t core).activity
+  pub asks : (core : ℕ) → IsActivity (state_at t core).activity
   -- no granted depth is above 3
   pub deepest : (level place : ℕ) → granted_at t level place ≤ 3
   -- on each core's path, no domain is granted more than the one below it

@@ -4,7 +4,7 @@ ghost use Rattle.std.specs.Prelude.{◌≡◌, ℕ, ◌^◌, ◌<◌, ◌≤◌,
 ghost use Rattle.psci_tree.specs.declared.domain.Domain.{Domain};
 ghost use Rattle.psci_tree.specs.Changes.{with_change};
 ghost use Rattle.psci_tree.specs.Domains.{children, cores, cores_in, child_counts, IsWay};
-ghost use Rattle.psci_tree.specs.Domains.{place_by};
+ghost use Rattle.psci_tree.specs.Domains.{index_by};
 ghost use Rattle.psci_tree.specs.Kept.{AreKept, IsKept, Keeps};
 
 use crate::kept::Kept;
@@ -29,7 +29,7 @@ impl Domain {
         requires few { length (cores self.old) < 2 ^ 16 }
         requires kept { IsKept self.old }
         ensures cores { cores self.new ≡ with_change (cores self.old)
-            (place_by level way.now self.old) change.now }
+            (index_by level way.now self.old) change.now }
         ensures shape { (k : ℕ) → child_counts k self.new ≡ child_counts k self.old }
         ensures kept { IsKept self.new }
     {

@@ -1,7 +1,7 @@
 //! What a domain keeps of the cores below it.
 
 ghost use Rattle.std.specs.Prelude.{◌≡◌, ℕ, ◌+◌, ◌<◌, ◌^◌, ◌∷◌, [], length, slice_index};
-ghost use Rattle.psci_tree.specs.Kept.{Keeps, beside};
+ghost use Rattle.psci_tree.specs.Kept.{Keeps, kept_together};
 
 use crate::state::CoreState;
 
@@ -48,7 +48,7 @@ impl Kept {
         requires known { self.now.known + other.now.known < 2 ^ 64 }
         requires active { self.now.active + other.now.active < 2 ^ 32 }
         requires off { self.now.off + other.now.off < 2 ^ 32 }
-        ensures { result ≡ beside self.now other.now }
+        ensures { result ≡ kept_together self.now other.now }
     {
         let [core, first, second, third] = self.lows;
         let lows = other.lows;

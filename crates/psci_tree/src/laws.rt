@@ -6,7 +6,7 @@ ghost use Rattle.std.specs.List.{sum_by};
 ghost use Rattle.psci_board.specs.declared.node.Node.{Node};
 ghost use Rattle.psci_board.specs.Board.{HasNodeIn, size_below, place_above, below_in, span};
 ghost use Rattle.psci_tree.specs.declared.state.Activity.TheVariants.{Active, Suspended, Off};
-ghost use Rattle.psci_tree.specs.Recount.{TreeValue, IsDomainTree, active, ask_at, core_at};
+ghost use Rattle.psci_tree.specs.Recount.{TreeValue, IsDomainTree, active, ask_at, state_at};
 ghost use Rattle.psci_tree.specs.Recount.{granted_at, is_active_at, is_off_at, known, known_at};
 ghost use Rattle.psci_tree.specs.Recount.{low, never_started, off};
 ghost use Rattle.psci_tree.specs.Changes.{start_of_life, made_pending, started};
@@ -18,7 +18,7 @@ use psci_board::law_spans;
 /// do on the board.
 pub fn law_states()
     ensures { (t : TreeValue) (n : Node) → IsDomainTree t → HasNodeIn t.levels n
-        → map (λ c. core_at t c) (below_in t.levels n)
+        → map (λ c. state_at t c) (below_in t.levels n)
         ≡ take (span t.levels n).count (drop (span t.levels n).first t.cores) }
 {
     law_spans();
@@ -27,19 +27,19 @@ pub fn law_states()
 /// The state of each core after each change: that of the named core alone is another one.
 pub fn law_cores()
     ensures suspended { (t : TreeValue) (core c : ℕ) (depths : List ℕ) → core < length t.cores
-        → core_at (suspended t core depths) c ≡ (if core == c
-        then record { activity = Suspended depths; known = known_at t core } else core_at t c) }
+        → state_at (suspended t core depths) c ≡ (if core == c
+        then record { activity = Suspended depths; known = known_at t core } else state_at t c) }
     ensures off { (t : TreeValue) (core c : ℕ) → core < length t.cores
-        → core_at (turned_off t core) c ≡ (if core == c
-        then record { activity = Off; known = known_at t core } else core_at t c) }
+        → state_at (turned_off t core) c ≡ (if core == c
+        then record { activity = Off; known = known_at t core } else state_at t c) }
     ensures pending { (t : TreeValue) (core c : ℕ) → core < length t.cores
-        → core_at (made_pending t core) c ≡ (if core == c
-        then record { activity = Active; known = known_at t core } else core_at t c) }
+        → state_at (made_pending t core) c ≡ (if core == c
+        then record { activity = Active; known = known_at t core } else state_at t c) }
     ensures started { (t : TreeValue) (core c known : ℕ) → core < length t.cores
-        → core_at (started t core known) c ≡ (if core == c
-        then record { activity = Active; known = known } else core_at t c) }
+        → state_at (started t core known) c ≡ (if core == c
+        then record { activity = Active; known = known } else state_at t c) }
     ensures grant { (t : TreeValue) (n : Node) (depth c : ℕ)
-        → core_at (with_grant t n depth) c ≡ core_at t c }
+        → state_at (with_grant t n depth) c ≡ state_at t c }
 {}
 
 /// The granted depth of each domain after each change.
@@ -61,7 +61,7 @@ pub fn law_granted()
 /// is granted to each domain off the path of core 0.
 pub fn law_start_of_life()
     ensures cores { (levels : List (List ℕ)) (c : ℕ) → 0 < size_below levels
-        → core_at (start_of_life levels) c ≡ (if 0 == c
+        → state_at (start_of_life levels) c ≡ (if 0 == c
         then record { activity = Active; known = 0 } else never_started) }
     ensures granted { (levels : List (List ℕ)) (l p : ℕ) → l ≤ length levels
         → p < size_below (drop l levels) → granted_at (start_of_life levels) l p

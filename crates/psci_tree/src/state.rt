@@ -2,7 +2,7 @@
 
 ghost use Rattle.std.specs.Prelude.{◌≡◌, ◌≤◌, ◌<◌, ◌^◌};
 ghost use Rattle.psci_tree.specs.Recount.{asks, is_active, is_off};
-ghost use Rattle.psci_tree.specs.Changes.{changed};
+ghost use Rattle.psci_tree.specs.Changes.{core_changed};
 
 use psci_state::Ask;
 
@@ -45,7 +45,7 @@ pub const NEVER_STARTED: CoreState = CoreState {
 impl CoreState {
     /// The state after a change.
     pub fn changed(self, change: &Change) -> CoreState
-        ensures { result ≡ changed change.now self }
+        ensures { result ≡ core_changed change.now self }
     {
         CoreState {
             activity: change.activity,

@@ -49,7 +49,7 @@ ghost use Rattle.std.specs.Prelude.{◌≡◌, ℕ, ◌+◌, ◌^◌, ◌<◌, �
 ghost use Rattle.psci_board.specs.Board.{size_below, HasNodeIn, below_in};
 ghost use Rattle.psci_tree.specs.declared.domain.Domain.{Domain, out-Domain};
 ghost use Rattle.psci_tree.specs.declared.state.Activity.TheVariants.{Active, Suspended, Off};
-ghost use Rattle.psci_tree.specs.Recount.{IsActivity, IsDomainTree, core_at};
+ghost use Rattle.psci_tree.specs.Recount.{IsActivity, IsDomainTree, state_at};
 ghost use Rattle.psci_tree.specs.Recount.{known_at, low, known, active, off, granted_at};
 ghost use Rattle.psci_tree.specs.Changes.{MayGrant, suspended, turned_off, made_pending, started};
 ghost use Rattle.psci_tree.specs.Changes.{with_grant, with_core_state, with_path_cleared};
@@ -134,7 +134,7 @@ impl Tree {
 
     /// What a core does. A core that the board does not have is off.
     pub fn activity(&self, core: Core) -> Activity
-        ensures { result ≡ (core_at self.now core.number).activity }
+        ensures { result ≡ (state_at self.now core.number).activity }
     {
         self.core(core).activity
     }
@@ -201,7 +201,7 @@ impl Tree {
 
     /// What is kept of a core.
     fn core(&self, core: Core) -> CoreState
-        ensures { result ≡ core_at self.now core.number }
+        ensures { result ≡ state_at self.now core.number }
     {
         if core.number >= self.board.cores() {
             return NEVER_STARTED;
@@ -246,9 +246,10 @@ impl Tree {
     fn domain(&self, node: Node) -> &Domain
         requires { HasNodeIn self.now.levels node }
         ensures cores { cores result.now
-            ≡ map (λ c. core_at self.now c) (below_in self.now.levels node) }
+            ≡ map (λ c. state_at self.now c) (below_in self.now.levels node) }
         ensures kept { Keeps (out-Domain result.now).kept (cores result.now) }
-        ensures core { node.level ≡ 0 → (out-Domain result.now).core ≡ core_at self.now node.place }
+        ensures core { node.level ≡ 0 → (out-Domain result.now).core
+            ≡ state_at self.now node.place }
     {
         law_spans();
         domain_at(&self.root, &self.board, node)

@@ -2,7 +2,7 @@
 use Rattle.std.proofs.Common.{◌≡◌, ◌<◌, ◌+◌, ◌-◌, ℕ, suc, zero, true, false, List, refl, ap}
 use Rattle.std.proofs.Common.{sym, ◌∙◌, arith}
 use Rattle.psci_board.specs.Board.{BoardValue, height}
-use Rattle.psci_settle.specs.Settling.{Reached, all_cores, answered, begun, each_core, entering}
+use Rattle.psci_settle.specs.Settling.{Reached, all_cores, served, begun, each_core, entering}
 use Rattle.psci_settle.specs.Settling.{is_any, is_start, is_waiting, round, rounds, settled}
 use Rattle.psci_world_model.specs.declared.said.Record.{Record}
 
@@ -10,12 +10,12 @@ entered : BoardValue → List Record → List Record
 entered b past = each_core (entering b) (all_cores b) past
 
 started : BoardValue → List Record → List Record
-started b past = each_core (answered b is_start) (all_cores b) past
+started b past = each_core (served b is_start) (all_cores b) past
 
 -- started cores enter, Starts are answered, and started cores enter
 pub all_begun : (b one two : BoardValue) (past middle last : List Record) → one ≡ b → two ≡ b
     → middle ≡ each_core (entering b) (all_cores b) past
-    → last ≡ each_core (answered one is_start) (all_cores one) middle
+    → last ≡ each_core (served one is_start) (all_cores one) middle
     → each_core (entering two) (all_cores two) last ≡ begun b past
 unfolding begun entered started
 all_begun b one two past middle last first second enters answers =
@@ -26,7 +26,7 @@ all_begun b one two past middle last first second enters answers =
 -- one round more, of those that are left
 pub round_more : (b other : BoardValue) (n most : ℕ) (past after : List Record) (whole : Reached)
     → n < most → other ≡ b → is_waiting other past ≡ true
-    → after ≡ each_core (answered other is_any) (all_cores other) past
+    → after ≡ each_core (served other is_any) (all_cores other) past
     → rounds b (most - n) past n ≡ whole → rounds b (most - (n + 1)) after (n + 1) ≡ whole
 unfolding rounds round
 round_more b other n most past after whole less same waits next rest =
@@ -36,7 +36,7 @@ round_more b other n most past after whole less same waits next rest =
     let step : rounds b (suc (most - (n + 1))) past n
     ≡ rounds b (most - (n + 1)) (round b past) (n + 1) = rw here refl in
     ap (λ (p : List Record). rounds b (most - (n + 1)) p (n + 1))
-    (next ∙ ap (λ (x : BoardValue). each_core (answered x is_any) (all_cores x) past) same)
+    (next ∙ ap (λ (x : BoardValue). each_core (served x is_any) (all_cores x) past) same)
     ∙ sym step ∙ ap (λ (k : ℕ). rounds b k past n) (sym left) ∙ rest
 
 -- all rounds are left

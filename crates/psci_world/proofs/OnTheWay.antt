@@ -7,7 +7,7 @@ use Rattle.std.specs.List.{range_with_len}
 use Rattle.std.specs.Prelude.{if◌then◌else◌}
 use Rattle.psci_board.specs.Board.{BoardValue, height}
 use Rattle.psci_link.specs.declared.kind.Kind.{Kind}
-use Rattle.psci_settle.specs.Settling.{Reached, all_cores, answered, answering, begun, each_core}
+use Rattle.psci_settle.specs.Settling.{Reached, all_cores, served, serving, begun, each_core}
 use Rattle.psci_settle.specs.Settling.{entering, is_any, is_start, is_started, is_waiting, round}
 use Rattle.psci_settle.specs.Settling.{rounds, settled, step}
 use Rattle.psci_world.proofs.Settles.{each_more}
@@ -53,12 +53,12 @@ pub way_entering : (b : BoardValue) (past : List Record) (c : ℕ)
 way_entering b past c = way_if (is_started (place b past c)) _ past
 
 pub way_answering : (b : BoardValue) (past : List Record) (message : Option ℕ)
-    → IsOnTheWay past (answering b past message)
+    → IsOnTheWay past (serving b past message)
 way_answering b past None = way_none past
 way_answering b past (Some k) = way_both past _ _ (way_one _ past) (way_one _ _)
 
 pub way_answered : (b : BoardValue) (which : Kind → Bool) (past : List Record) (c : ℕ)
-    → IsOnTheWay past (answered b which past c)
+    → IsOnTheWay past (served b which past c)
 way_answered b which past c = way_answering b past _
 
 pub way_each : (does : List Record → ℕ → List Record)
@@ -70,7 +70,7 @@ way_each does way (c ∷ cs) past =
 
 way_round : (b : BoardValue) (past : List Record) → IsOnTheWay past (round b past)
 unfolding round
-way_round b past = way_each (answered b is_any) (way_answered b is_any) (all_cores b) past
+way_round b past = way_each (served b is_any) (way_answered b is_any) (all_cores b) past
 
 way_while : (t : Bool) (one other : Reached) (past : List Record) → IsOnTheWay past one.past
     → IsOnTheWay past other.past → IsOnTheWay past (if t then one else other).past
@@ -100,7 +100,7 @@ stops_step b past after event same = way_from after past _ same (way_one _ past)
 
 -- of a delivery and a taken acknowledgement the delivery is on its way
 pub stops_answering : (b : BoardValue) (past after : List Record) (k : ℕ)
-    → IsOnTheWay after (step b past (Deliver k)) → IsOnTheWay after (answering b past (Some k))
+    → IsOnTheWay after (step b past (Deliver k)) → IsOnTheWay after (serving b past (Some k))
 stops_answering b past after k way = way_both after _ _ way (way_one _ _)
 
 -- one of the cores has begun its part, and others are left
@@ -120,7 +120,7 @@ entered : BoardValue → List Record → List Record
 entered b past = each_core (entering b) (all_cores b) past
 
 started : BoardValue → List Record → List Record
-started b past = each_core (answered b is_start) (all_cores b) past
+started b past = each_core (served b is_start) (all_cores b) past
 
 way_entered : (b : BoardValue) (past : List Record) → IsOnTheWay past (entered b past)
 unfolding entered
@@ -128,7 +128,7 @@ way_entered b past = way_each (entering b) (way_entering b) (all_cores b) past
 
 way_started : (b : BoardValue) (past : List Record) → IsOnTheWay past (started b past)
 unfolding started
-way_started b past = way_each (answered b is_start) (way_answered b is_start) (all_cores b) past
+way_started b past = way_each (served b is_start) (way_answered b is_start) (all_cores b) past
 
 -- the started cores have begun to enter
 pub stops_entering : (b : BoardValue) (past after : List Record)
@@ -143,7 +143,7 @@ stops_entering b past after at =
 -- the Starts have begun to be answered
 pub stops_starting : (b one : BoardValue) (past middle after : List Record) → one ≡ b
     → middle ≡ each_core (entering b) (all_cores b) past
-    → IsOnTheWay after (each_core (answered one is_start) (all_cores one) middle)
+    → IsOnTheWay after (each_core (served one is_start) (all_cores one) middle)
     → IsOnTheWay after (begun b past)
 unfolding begun entered started
 stops_starting b one past middle after same enters at =
@@ -154,7 +154,7 @@ stops_starting b one past middle after same enters at =
 -- a round has begun, and others are left
 pub stops_round : (b other : BoardValue) (n most : ℕ) (past after : List Record) (whole : Reached)
     → n < most → other ≡ b → is_waiting other past ≡ true
-    → IsOnTheWay after (each_core (answered other is_any) (all_cores other) past)
+    → IsOnTheWay after (each_core (served other is_any) (all_cores other) past)
     → rounds b (most - n) past n ≡ whole → IsOnTheWay after whole.past
 unfolding rounds round
 stops_round b other n most past after whole less same waits at rest =
@@ -165,7 +165,7 @@ stops_round b other n most past after whole less same waits at rest =
     ≡ rounds b (most - (n + 1)) (round b past) (n + 1) = rw here refl in
     let now : IsOnTheWay after (round b past) =
     way_to after _ _
-    (ap (λ (x : BoardValue). each_core (answered x is_any) (all_cores x) past) same) at in
+    (ap (λ (x : BoardValue). each_core (served x is_any) (all_cores x) past) same) at in
     way_to after _ _
     (ap (λ r. r.past) (sym next ∙ ap (λ (k : ℕ). rounds b k past n) (sym left) ∙ rest))
     (way_both after (round b past) _ now

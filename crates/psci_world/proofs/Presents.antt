@@ -10,7 +10,7 @@ use Rattle.psci_world_model.specs.declared.said.Record.{Record}
 use Rattle.psci_world_model.specs.declared.said.Said.{Said}
 use Rattle.psci_world_model.specs.Histories.{ack_in, acks, sent, sent_in}
 use Rattle.psci_world_model.specs.Legal.{legal, legal_record}
-use Rattle.psci_machine.specs.Seen.{IsAfter, board_of}
+use Rattle.psci_machine.specs.Seen.{IsAfter, machine_board}
 use Rattle.psci_world.specs.Seen.{HasPast, IsPresent, PresentValue}
 
 pub first_present : (b : BoardValue) (p : PresentValue) → IsAfter b [] p.machine
@@ -79,7 +79,7 @@ pub has_past : (old new : PresentValue) (event : Event)
     → IsPresent b (legal_record b past event ∷ past) new)
     → HasPast old → HasPast new
 has_past old new event next h =
-    let b = board_of old.machine in
+    let b = machine_board old.machine in
     let is = next b h.past h.is in record {
       past = legal_record b h.past event ∷ h.past;
       is = subst (λ (x : BoardValue). IsPresent x (legal_record b h.past event ∷ h.past) new)

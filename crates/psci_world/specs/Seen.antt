@@ -2,7 +2,7 @@
 use Rattle.std.specs.Prelude.{◌≡◌, List, reverse}
 use Rattle.psci_board.specs.Board.{BoardValue}
 use Rattle.psci_link.specs.Message.{AckValue, MessageValue}
-use Rattle.psci_machine.specs.Seen.{IsAfter, MachineValue, board_of}
+use Rattle.psci_machine.specs.Seen.{IsAfter, MachineValue, machine_board}
 use Rattle.psci_world_model.specs.declared.said.Record.{Record}
 use Rattle.psci_world_model.specs.Histories.{acks, sent}
 use Rattle.psci_world_model.specs.Legal.{IsLegalPast}
@@ -25,7 +25,7 @@ pub record IsPresent (b : BoardValue) (past : List Record) (p : PresentValue) : 
 -- What holds of every present: it has a past, on the board of its machine.
 pub record HasPast (p : PresentValue) : Type 0 where
   pub past : List Record
-  pub is : IsPresent (board_of p.machine) past p
+  pub is : IsPresent (machine_board p.machine) past p
 
 -- The world, as contracts see it: its board, and all records, newest first.
 pub record WorldValue : Type 0 where
@@ -34,4 +34,4 @@ pub record WorldValue : Type 0 where
 
 -- what holds of every world: its present is that after its records, which stand oldest first
 abbrev pub IsWorld : PresentValue → List Record → Type 0
-IsWorld p records = IsPresent (board_of p.machine) (reverse records) p
+IsWorld p records = IsPresent (machine_board p.machine) (reverse records) p

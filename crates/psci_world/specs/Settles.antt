@@ -25,9 +25,9 @@ abbrev pub IsOnTheWay : List Record → List Record → Type 0
 IsOnTheWay past whole = (more : List Record) × (whole ≡ more ++ past)
 
 -- the kinds of messages that are answered
-abbrev pub answers_kind : Which → Kind → Bool
-answers_kind Starts kind = is_start kind
-answers_kind All kind = is_any kind
+abbrev pub serves_kind : Which → Kind → Bool
+serves_kind Starts kind = is_start kind
+serves_kind All kind = is_any kind
 
 -- The world came to rest: it settled after some records more, and says in how many rounds.
 pub record ComesToRest (b : BoardValue) (before after : List Record) (s : Settled) : Type 0 where

@@ -4,8 +4,8 @@ ghost use Rattle.std.specs.Prelude.{◌≡◌, ◌<◌, None, if◌then◌else�
 ghost use Rattle.std.specs.Prelude.{reverse};
 ghost use Rattle.psci_board.specs.Board.{cores};
 ghost use Rattle.psci_link.specs.Slots.{OfCore};
-ghost use Rattle.psci_settle.specs.Settling.{has_name, is_waiting, number_of};
-ghost use Rattle.psci_world.specs.Settles.{answers_kind};
+ghost use Rattle.psci_settle.specs.Settling.{has_name, is_waiting, index_of};
+ghost use Rattle.psci_world.specs.Settles.{serves_kind};
 ghost use Rattle.psci_world_model.specs.Histories.{firmware_values, sent};
 
 use crate::world::World;
@@ -23,7 +23,7 @@ pub enum Which {
 impl Which {
     /// Whether messages of this kind are answered.
     fn answers(self, kind: Kind) -> bool
-        ensures { result ≡ answers_kind self kind }
+        ensures { result ≡ serves_kind self kind }
     {
         match self {
             Which::Starts => kind == Kind::Start,
@@ -57,7 +57,7 @@ pub fn is_waiting(world: &World) -> bool
 pub fn number_outstanding(world: &World, number: u16, which: Which) -> Option<u64>
     requires { number < cores world.now.board }
     ensures { result ≡ option_and_then
-        (λ m. if answers_kind which m.kind then number_of m (sent world.now.past) else None)
+        (λ m. if serves_kind which m.kind then index_of m (sent world.now.past) else None)
         ((firmware_values world.now.board world.now.past).outstanding (OfCore number)) }
 {
     let message = outstanding(world, number)?;
@@ -69,7 +69,7 @@ pub fn number_outstanding(world: &World, number: u16, which: Which) -> Option<u6
 
 /// The number of the newest message with the name of this one.
 fn number_of(message: &Message, messages: &[Message]) -> Option<u64>
-    ensures { result ≡ number_of message.now (reverse messages.now) }
+    ensures { result ≡ index_of message.now (reverse messages.now) }
 {
     for number in (0..messages.len()).rev() {
         if has_name(message, &messages[number]) {

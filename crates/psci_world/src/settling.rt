@@ -3,10 +3,10 @@
 ghost use Rattle.std.specs.Prelude.{◌≡◌, ◌<◌, ◌+◌, true, false, IfOk, Ok, OnErr, OnOk};
 ghost use Rattle.psci_board.specs.Board.{cores, height};
 ghost use Rattle.psci_settle.specs.Drained.{is_settling};
-ghost use Rattle.psci_settle.specs.Settling.{all_cores, answered, answering, begun, each_core};
+ghost use Rattle.psci_settle.specs.Settling.{all_cores, served, serving, begun, each_core};
 ghost use Rattle.psci_settle.specs.Settling.{entering, is_halting, rounds, settled, step};
 ghost use Rattle.psci_world.specs.declared.settling.Settled.TheVariants.{Halting, Quiet};
-ghost use Rattle.psci_world.specs.Settles.{ComesToRest, IsOnTheWay, SettlesBy, answers_kind};
+ghost use Rattle.psci_world.specs.Settles.{ComesToRest, IsOnTheWay, SettlesBy, serves_kind};
 
 use crate::outstanding::{Which, is_waiting, number_outstanding};
 use crate::world::World;
@@ -149,10 +149,10 @@ fn enter_if_started(world: &mut World, core: Core) -> Result<(), Memory>
 /// What is outstanding for each core is answered, in turn.
 fn answer_each(world: &mut World, which: Which) -> Result<(), Memory>
     ensures ok { OnOk result (world.new.past ≡ each_core
-        (answered world.old.board (answers_kind which)) (all_cores world.old.board)
+        (served world.old.board (serves_kind which)) (all_cores world.old.board)
         world.old.past) }
     ensures front { OnErr result (IsOnTheWay world.new.past (each_core
-        (answered world.old.board (answers_kind which)) (all_cores world.old.board)
+        (served world.old.board (serves_kind which)) (all_cores world.old.board)
         world.old.past)) }
     ensures events { SettlesBy world.old.board world.old.past world.new.past }
     ensures board { world.new.board ≡ world.old.board }
@@ -167,9 +167,9 @@ fn answer_each(world: &mut World, which: Which) -> Result<(), Memory>
 /// The message of this number, if there is one, is delivered, and its acknowledgement taken.
 fn answer(world: &mut World, message: Option<u64>) -> Result<(), Memory>
     ensures ok { OnOk result (world.new.past
-        ≡ answering world.old.board world.old.past message) }
+        ≡ serving world.old.board world.old.past message) }
     ensures front { OnErr result (IsOnTheWay world.new.past
-        (answering world.old.board world.old.past message)) }
+        (serving world.old.board world.old.past message)) }
     ensures events { SettlesBy world.old.board world.old.past world.new.past }
     ensures board { world.new.board ≡ world.old.board }
 {

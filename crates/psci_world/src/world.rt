@@ -39,7 +39,7 @@ ghost use Rattle.psci_machine.specs.Firmware as firmware;
 ghost use Rattle.psci_world_model.specs.Histories.{acks, controller_values, firmware_values, sent};
 ghost use Rattle.psci_headline.specs.Safe.{AlwaysSafe};
 ghost use Rattle.psci_world_model.specs.Legal.{IsLegalPast, legal_record};
-ghost use Rattle.psci_world_model.specs.Lists.{numbered};
+ghost use Rattle.psci_world_model.specs.Lists.{indexed};
 ghost use Rattle.psci_world_model.specs.Places.{place};
 
 impl World {
@@ -129,14 +129,14 @@ impl World {
     /// The message of this number, counted from 0 as they were sent.
     pub fn message(&self, number: u64) -> Option<&Message>
         ensures { option_map (λ message. message.now) result
-            ≡ numbered (sent self.now.past) number }
+            ≡ indexed (sent self.now.past) number }
     {
         self.present.messages.get(usize::try_from(number).ok()?)
     }
 
     /// The acknowledgement of this number, counted from 0 as they were made.
     pub fn ack(&self, number: u64) -> Option<Ack>
-        ensures { result ≡ numbered (acks self.now.past) number }
+        ensures { result ≡ indexed (acks self.now.past) number }
     {
         let ack = self.present.acks.get(usize::try_from(number).ok()?)?;
         Some(ack.copy())

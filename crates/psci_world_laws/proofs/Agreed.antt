@@ -7,7 +7,7 @@ use Rattle.psci_board.specs.Board.{BoardValue}
 use Rattle.psci_ctl_model.specs.declared.call.CtlCall.{CtlCall}
 use Rattle.psci_ctl_model.specs.Changes as controlling
 use Rattle.psci_ctl_model.specs.Effects as controlling_effects
-use Rattle.psci_ctl_model.specs.Entry as controller
+use Rattle.psci_ctl_model.specs.Exchange as controller
 use Rattle.psci_ctl_model.specs.Follows.{MayFollow}
 use Rattle.psci_ctl_model.specs.History as controls
 use Rattle.psci_ctl_model.specs.Legal as legal_controls
@@ -19,8 +19,8 @@ use Rattle.psci_link.specs.declared.taken.Taken.{Taken}
 use Rattle.psci_link.specs.declared.taken.Taken.TheVariants as takens
 use Rattle.psci_fw_model.specs.After.{change}
 use Rattle.psci_fw_model.specs.Effects.{function_effect}
-use Rattle.psci_fw_model.specs.Entry as firmware
-use Rattle.psci_fw_model.specs.Entry.{effect}
+use Rattle.psci_fw_model.specs.Exchange as firmware
+use Rattle.psci_fw_model.specs.Exchange.{effect}
 use Rattle.psci_fw_model.specs.History as remembers
 use Rattle.psci_fw_model.specs.Legal.{IsLegal}
 use Rattle.psci_fw_model.specs.Lives.{in_life, start_of_life}
@@ -38,7 +38,7 @@ use Rattle.psci_world_model.specs.Histories.{controller_values, delivered, enter
 use Rattle.psci_world_model.specs.Histories.{firmware_history, firmware_values, outcome_in, sent}
 use Rattle.psci_world_model.specs.Histories.{took}
 use Rattle.psci_world_model.specs.Legal.{IsLegalPast, legal}
-use Rattle.psci_world_model.specs.Lists.{numbered}
+use Rattle.psci_world_model.specs.Lists.{indexed}
 use Rattle.psci_world_model.specs.Places.{first_place, place, place_controlled, place_said}
 use Rattle.psci_world_laws.specs.Agreement.{Agree, AgreeIn}
 use Rattle.psci_world_laws.proofs.Agreeing.{AreAgreed, at_start, control_agrees}
@@ -60,9 +60,9 @@ pub record RunLaws (b : BoardValue) : Type 0 where
       → legal_controls.IsLegal b (controller_history b past)
   -- and of the firmware's
   pub first : remembers.values_of b [] ≡ start_of_life b 0
-  pub change : (e : firmware.Entry) (h : List firmware.Entry)
+  pub change : (e : firmware.FwExchange) (h : List firmware.FwExchange)
       → remembers.values_of b (e ∷ h) ≡ change b (effect b e) (remembers.values_of b h)
-  pub allowed : (e : firmware.Entry) (h : List firmware.Entry) → IsLegal b (e ∷ h)
+  pub allowed : (e : firmware.FwExchange) (h : List firmware.FwExchange) → IsLegal b (e ∷ h)
       → IsAllowed b (remembers.values_of b h) (effect b e)
   pub callers : CallerLaws b
 
@@ -87,13 +87,13 @@ Next b past event s =
 -- The power controller -------------------------------------------------------------------------
 
 -- one entry of its history
-control_next : (b : BoardValue) (past : List Record) (e : controller.Entry) → RunLaws b
+control_next : (b : BoardValue) (past : List Record) (e : controller.CtlExchange) → RunLaws b
     → Now b past → legal_controls.IsLegal b (e ∷ controller_history b past)
     → AreAgreed b (controls.values_of b (e ∷ controller_history b past))
     (λ x. unwrap_or (place_controlled b x (e ∷ [])) (place b past x)) (firmware_values b past)
 unfolding controlling.after
 control_next b past e laws now is =
-    let h : List controller.Entry = controller_history b past in
+    let h : List controller.CtlExchange = controller_history b past in
     let v : controlled.Values = controller_values b past in
     let may : MayFollow b v (controlling_effects.effect_of b e.call e.reply) =
     subst (λ r. MayFollow b v (controlling_effects.effect_of b e.call r)) (sym is.0)
@@ -136,7 +136,7 @@ deliver_next : (b : BoardValue) (past : List Record) (k : ℕ) (s : Said) → Ru
 deliver_next b past k (said.Fw act sends) laws now is = now
 deliver_next b past k (said.Kick start) laws now is = now
 deliver_next b past k (said.Acked index ack) laws now is =
-    delivered_next b past (numbered (sent past) k) ack laws now is
+    delivered_next b past (indexed (sent past) k) ack laws now is
 deliver_next b past k (said.Taken taken) laws now is = now
 deliver_next b past k said.Ignored laws now is = now
 deliver_next b past k said.Absent laws now is = now
@@ -203,7 +203,7 @@ take_next b past k (said.Fw act sends) laws now = now
 take_next b past k (said.Kick start) laws now = now
 take_next b past k (said.Acked index ack) laws now = now
 take_next b past k (said.Taken taken) laws now =
-    took_next b past (numbered (acks past) k) taken laws now
+    took_next b past (indexed (acks past) k) taken laws now
 take_next b past k said.Ignored laws now = now
 take_next b past k said.Absent laws now = now
 

@@ -1,4 +1,4 @@
--- A part that was applied in the present life is one of a Down that was sent in it.
+-- A part that was applied in this life is one of a Down that was sent in it.
 use Rattle.std.proofs.Common.{◌≡◌, ℕ, suc, inl, inr, Bool, true, false, ◌==◌, cond, List}
 use Rattle.std.proofs.Common.{[], ◌∷◌, ◌++◌, Option, None, Some, refl, ap, sym, ◌∙◌}
 use Rattle.std.specs.Prelude.{nat_le, nat_lt, slice_get}
@@ -15,10 +15,10 @@ use Rattle.psci_ctl_model.specs.declared.reply.CtlReply.TheVariants as replied
 use Rattle.psci_link.specs.declared.start.Cause.TheVariants as causes
 use Rattle.psci_ctl_model.specs.Effects.{Effect, Nothing, Starts, Deepens, Ends, Begins, effect_of}
 use Rattle.psci_ctl_model.specs.Effects.{message_effect}
-use Rattle.psci_ctl_model.specs.Entry as controller
+use Rattle.psci_ctl_model.specs.Exchange as controller
 use Rattle.psci_ctl_model.specs.History as controls
 use Rattle.psci_ctl_model.specs.Lasting.{Applies, WasApplied, keeps_life}
-use Rattle.psci_ctl_model.specs.Replies.{ack_by, delivery_of, is_present, reply}
+use Rattle.psci_ctl_model.specs.Replies.{ack_by, delivery_of, is_this_life, reply}
 use Rattle.psci_ctl_model.specs.Values.{Values}
 use Rattle.psci_board.specs.Paths.{is_on_path}
 use Rattle.psci_ctl_model.proofs.Front.{take_get}
@@ -33,7 +33,7 @@ use Rattle.psci_world_model.specs.declared.said.Said.TheVariants.{Kick, Acked}
 use Rattle.psci_world_model.specs.Histories.{control, controller_history, controller_values}
 use Rattle.psci_world_model.specs.Histories.{delivered, sent, sent_in}
 use Rattle.psci_world_model.specs.Legal.{IsReplied}
-use Rattle.psci_world_model.specs.Lists.{numbered}
+use Rattle.psci_world_model.specs.Lists.{indexed}
 use Rattle.psci_world_laws.proofs.Numbering.{IsAt, at_number}
 
 -- A delivery ----------------------------------------------------------------------------------
@@ -79,8 +79,8 @@ carried_by b m a kinds.Off level place p e x = absurd x
 carried_by b m a kinds.Reset level place p e x =
     absurd (applies_under b (nat_lt m.life b.lives) Begins Ends level place p (λ y. y) (λ y. y) x)
 
--- an acknowledged message is of the present life
-present_if : (o : Option ℕ) (life : ℕ) → is_present o life ≡ true → o ≡ Some life
+-- an acknowledged message is of this life
+present_if : (o : Option ℕ) (life : ℕ) → is_this_life o life ≡ true → o ≡ Some life
 present_if None life e = absurd (false≢true e)
 present_if (Some l) life e = ap Some (eqb-true l life e)
 
@@ -89,19 +89,19 @@ acked_if : (t : Bool) (made a : AckValue)
 acked_if true made a e = refl
 acked_if false made a e = absurd (cc)
 
-acked_life : (b : BoardValue) (h : List controller.Entry) (m : MessageValue) (a : AckValue)
+acked_life : (b : BoardValue) (h : List controller.CtlExchange) (m : MessageValue) (a : AckValue)
     → replied.Delivery (deliveries.Applied a) ≡ reply b (controls.values_of b h) (asked.Deliver m)
     → controls.life b h ≡ Some m.life
 unfolding reply delivery_of controls.values_of
 acked_life b h m a e =
-    let t = is_present (controls.life b h) m.life in
+    let t = is_this_life (controls.life b h) m.life in
     present_if (controls.life b h) m.life
     (acked_if t (ack_by b (controls.values_of b h) m m.kind) a cc)
 
 -- What a record adds --------------------------------------------------------------------------
 
 -- what was applied by then was sent by then
-abbrev WasSent : BoardValue → ℕ → ℕ → ℕ → Part → List MessageValue → List controller.Entry
+abbrev WasSent : BoardValue → ℕ → ℕ → ℕ → Part → List MessageValue → List controller.CtlExchange
     → Type 0
 WasSent b life level place p ms h =
     IsReplied b h → controls.life b h ≡ Some life → WasApplied b h level place p
@@ -109,7 +109,7 @@ WasSent b life level place p ms h =
 
 -- an entry that applies no part
 none_applied : (b : BoardValue) (life level place : ℕ) (p : Part) (ms : List MessageValue)
-    (e : controller.Entry) (h : List controller.Entry)
+    (e : controller.CtlExchange) (h : List controller.CtlExchange)
     → (Applies b (controls.effect_in b e) level place p → ⊥)
     → WasSent b life level place p ms h → WasSent b life level place p ms (e ∷ h)
 none_applied b life level place p ms e h other before is now was = elim was [
@@ -120,7 +120,7 @@ none_applied b life level place p ms e h other before is now was = elim was [
 
 -- an acknowledged message
 delivery_sent : (b : BoardValue) (life level place : ℕ) (p : Part) (ms : List MessageValue)
-    (m : MessageValue) (a : AckValue) (h : List controller.Entry) → IsAt ms m
+    (m : MessageValue) (a : AckValue) (h : List controller.CtlExchange) → IsAt ms m
     → WasSent b life level place p ms h
     → WasSent b life level place p ms (delivered (Some m) a ++ h)
 unfolding effect_of
@@ -149,20 +149,20 @@ delivery_sent b life level place p ms m a h stands before is now was = elim was 
 ]
 
 numbered_sent : (b : BoardValue) (life level place : ℕ) (p : Part) (ms : List MessageValue)
-    (k : ℕ) (o : Option MessageValue) (a : AckValue) (h : List controller.Entry)
-    → numbered ms k ≡ o → WasSent b life level place p ms h
+    (k : ℕ) (o : Option MessageValue) (a : AckValue) (h : List controller.CtlExchange)
+    → indexed ms k ≡ o → WasSent b life level place p ms h
     → WasSent b life level place p ms (delivered o a ++ h)
 numbered_sent b life level place p ms k None a h e before = before
 numbered_sent b life level place p ms k (Some m) a h e before =
     delivery_sent b life level place p ms m a h (at_number ms k m e) before
 
 control_sent : (b : BoardValue) (life level place : ℕ) (p : Part) (v : Values)
-    (ms : List MessageValue) (event : Event) (said : Said) (h : List controller.Entry)
+    (ms : List MessageValue) (event : Event) (said : Said) (h : List controller.CtlExchange)
     → WasSent b life level place p ms h
     → WasSent b life level place p ms (control v ms event said ++ h)
 unfolding effect_of
 control_sent b life level place p v ms (Deliver k) (Acked index a) h before =
-    numbered_sent b life level place p ms k (numbered ms k) a h refl before
+    numbered_sent b life level place p ms k (indexed ms k) a h refl before
 control_sent b life level place p v ms (Wake c) (Kick s) h before =
     none_applied b life level place p ms _ h (λ x. x) before
 control_sent b life level place p v ms (Reset c) (Kick s) h before =

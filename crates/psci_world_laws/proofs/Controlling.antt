@@ -4,7 +4,7 @@ use Rattle.std.proofs.Common.{refl, subst}
 use Rattle.std.specs.Prelude.{slice_get}
 use Rattle.psci_board.specs.Board.{BoardValue, cores}
 use Rattle.psci_board.specs.declared.limits.TheConstants.{MOST_CORES}
-use Rattle.psci_ctl_model.specs.Entry as controller
+use Rattle.psci_ctl_model.specs.Exchange as controller
 use Rattle.psci_ctl_model.specs.Legal as controls
 use Rattle.psci_fw_laws.specs.Messages.{IsSound}
 use Rattle.psci_link.specs.Message.{AckValue, MessageValue}
@@ -17,7 +17,7 @@ use Rattle.psci_world_model.specs.declared.said.Said.TheVariants as said
 use Rattle.psci_world_model.specs.Histories.{control, controller_history, controller_values}
 use Rattle.psci_world_model.specs.Histories.{delivered, sent}
 use Rattle.psci_world_model.specs.Legal.{IsReplied, IsLegalPast, legal}
-use Rattle.psci_world_model.specs.Lists.{numbered}
+use Rattle.psci_world_model.specs.Lists.{indexed}
 use Rattle.psci_world_model.proofs.Answered.{controller_answered}
 use Rattle.psci_world_laws.proofs.Happening.{reset_at, woken_at}
 use Rattle.psci_world_laws.proofs.Numbering.{at_number}
@@ -36,15 +36,15 @@ AreSendable b messages =
     (k : ℕ) (m : MessageValue) → slice_get messages k ≡ Some m → controls.IsSendable b m
 
 -- the history after a record, whose event says this
-abbrev pub after_control : BoardValue → List Record → Event → Said → List controller.Entry
+abbrev pub after_control : BoardValue → List Record → Event → Said → List controller.CtlExchange
 after_control b past event s =
     control (controller_values b past) (sent past) event s ++ controller_history b past
 
 -- Events ---------------------------------------------------------------------------------------
 
-deliver_legal : (b : BoardValue) (h : List controller.Entry) (messages : List MessageValue)
+deliver_legal : (b : BoardValue) (h : List controller.CtlExchange) (messages : List MessageValue)
     (k : ℕ) (o : Option MessageValue) (ack : AckValue) → AreSendable b messages
-    → numbered messages k ≡ o → IsReplied b (delivered o ack ++ h) → controls.IsLegal b h
+    → indexed messages k ≡ o → IsReplied b (delivered o ack ++ h) → controls.IsLegal b h
     → controls.IsLegal b (delivered o ack ++ h)
 deliver_legal b h messages k None ack are e answered is = is
 deliver_legal b h messages k (Some m) ack are e answered is =
@@ -58,7 +58,7 @@ delivery_legal : (b : BoardValue) (past : List Record) (k : ℕ) (s : Said)
 delivery_legal b past k (said.Fw act sends) are answered is = is
 delivery_legal b past k (said.Kick start) are answered is = is
 delivery_legal b past k (said.Acked index ack) are answered is =
-    deliver_legal b (controller_history b past) (sent past) k (numbered (sent past) k) ack are refl
+    deliver_legal b (controller_history b past) (sent past) k (indexed (sent past) k) ack are refl
     answered is
 delivery_legal b past k (said.Taken taken) are answered is = is
 delivery_legal b past k said.Ignored are answered is = is

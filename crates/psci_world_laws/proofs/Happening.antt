@@ -29,7 +29,7 @@ use Rattle.psci_world_model.specs.Histories.{acks, controller_values, sent}
 use Rattle.psci_world_model.specs.Histories.{sent_in}
 use Rattle.psci_world_model.specs.Legal.{asked_firmware, deliver, if_running, if_started}
 use Rattle.psci_world_model.specs.Legal.{if_stopped, legal, on_board, said_by, take}
-use Rattle.psci_world_model.specs.Lists.{numbered}
+use Rattle.psci_world_model.specs.Lists.{indexed}
 use Rattle.psci_world_model.specs.Places.{place}
 
 -- Places ---------------------------------------------------------------------------------------
@@ -143,5 +143,5 @@ sends_nothing b past (Enter c) q = absurd (cc)
 sends_nothing b past (Wake c) q =
     board_quiet (nat_lt c (cores b)) _ (stopped_quiet (place b past c) _ (by_reply _ _))
 sends_nothing b past (Reset c) q = board_quiet (nat_lt c (cores b)) _ (by_reply _ _)
-sends_nothing b past (Deliver k) q = delivery_quiet b past (numbered (sent past) k)
-sends_nothing b past (Take k) q = take_quiet b past (numbered (acks past) k)
+sends_nothing b past (Deliver k) q = delivery_quiet b past (indexed (sent past) k)
+sends_nothing b past (Take k) q = take_quiet b past (indexed (acks past) k)

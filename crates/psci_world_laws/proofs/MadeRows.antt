@@ -6,7 +6,7 @@ use Rattle.psci_ctl_model.specs.declared.call.CtlCall.TheVariants as asked
 use Rattle.psci_ctl_model.specs.declared.delivery.Delivery.TheVariants as deliveries
 use Rattle.psci_ctl_model.specs.declared.reply.CtlReply.TheVariants as replied
 use Rattle.psci_ctl_model.specs.Changes.{after}
-use Rattle.psci_ctl_model.specs.Entry as controller
+use Rattle.psci_ctl_model.specs.Exchange as controller
 use Rattle.psci_ctl_model.specs.Replies.{ack_by}
 use Rattle.psci_ctl_model.proofs.OneMore.{values_more}
 use Rattle.psci_link.specs.declared.kind.Kind.TheVariants.{Reset, Start}
@@ -19,7 +19,7 @@ use Rattle.psci_world_model.specs.declared.said.Said.TheVariants.{Acked, Absent}
 use Rattle.psci_world_model.specs.Histories.{ack_in, acks, controller_history, controller_values}
 use Rattle.psci_world_model.specs.Histories.{sent}
 use Rattle.psci_world_model.specs.Legal.{IsLegalPast, run_from}
-use Rattle.psci_world_model.specs.Lists.{numbered}
+use Rattle.psci_world_model.specs.Lists.{indexed}
 use Rattle.psci_world_model.proofs.Scripts.{acked, board, computing, enters, on_3, system_reset}
 use Rattle.psci_world_laws.specs.Acknowledged.{WasMade}
 
@@ -42,7 +42,7 @@ ack_3 applied stale = record {
 }
 
 -- what the power controller was asked and replied as the Start was delivered
-abbrev answered : AckValue → controller.Entry
+abbrev answered : AckValue → controller.CtlExchange
 answered a = record {
   call = asked.Deliver start_3;
   reply = replied.Delivery (deliveries.Applied a);
@@ -124,7 +124,7 @@ record IsLast (past : List Record) (last : Record) (a : AckValue) : Type 0 where
   life : (controller_values board past).life ≡ Some message.life
   number : ℕ
   event : last.event ≡ Deliver number
-  named : numbered (sent past) number ≡ Some message
+  named : indexed (sent past) number ≡ Some message
   said : last.said ≡ Acked (length (acks past)) a
   ack : a ≡ ack_by board (controller_values board past) message message.kind
 
@@ -143,7 +143,7 @@ is_last past last a new w = by_since w.since w.parts
           life = ap (λ p. (controller_values board p).life) (sym rest) ∙ w.life;
           number = w.number;
           event = ap (λ (r : Record). r.event) (sym one) ∙ w.event;
-          named = ap (λ p. numbered (sent p) w.number) (sym rest) ∙ w.named;
+          named = ap (λ p. indexed (sent p) w.number) (sym rest) ∙ w.named;
           said = ap (λ (r : Record). r.said) (sym one) ∙ w.said
               ∙ ap (λ p. Acked (length (acks p)) a) rest;
           ack = w.ack
@@ -156,10 +156,10 @@ is_last past last a new w = by_since w.since w.parts
 
 -- a message of number 0 is the first Start of core 3, where that was sent first
 first_is : (past : List Record) (number : ℕ) (m : MessageValue)
-    → numbered (sent past) number ≡ Some m → number ≡ 0 → numbered (sent past) 0 ≡ Some start_3
+    → indexed (sent past) number ≡ Some m → number ≡ 0 → indexed (sent past) 0 ≡ Some start_3
     → m ≡ start_3
 first_is past number m at zero_th first =
-    let same : Some m ≡ Some start_3 = sym at ∙ ap (numbered (sent past)) zero_th ∙ first in cc
+    let same : Some m ≡ Some start_3 = sym at ∙ ap (indexed (sent past)) zero_th ∙ first in cc
 
 -- Not made so ----------------------------------------------------------------------------------
 
@@ -216,7 +216,7 @@ not_sent w =
     let m = is_last asked_on _ (ack_3 1 false) tt w in
     let number : Deliver 1 ≡ Deliver m.number = m.event in
     let one : m.number ≡ 1 = cc in
-    let no : None ≡ Some m.message = ap (numbered (sent asked_on)) (sym one) ∙ m.named in
+    let no : None ≡ Some m.message = ap (indexed (sent asked_on)) (sym one) ∙ m.named in
     absurd (cc)
 
 -- it has the number of the next one

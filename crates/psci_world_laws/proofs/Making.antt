@@ -10,10 +10,10 @@ use Rattle.psci_ctl_model.specs.declared.kick.Kick.TheVariants as kicks
 use Rattle.psci_ctl_model.specs.declared.reply.CtlReply.TheVariants as replied
 use Rattle.psci_ctl_model.specs.Changes.{after, change}
 use Rattle.psci_ctl_model.specs.Effects.{effect_of, message_effect}
-use Rattle.psci_ctl_model.specs.Entry as controller
+use Rattle.psci_ctl_model.specs.Exchange as controller
 use Rattle.psci_link.specs.declared.start.Start.{Start}
 use Rattle.psci_ctl_model.specs.History as controls
-use Rattle.psci_ctl_model.specs.Replies.{ack_by, delivery_of, is_present, last_start, reply}
+use Rattle.psci_ctl_model.specs.Replies.{ack_by, delivery_of, is_this_life, last_start, reply}
 use Rattle.psci_ctl_model.specs.Values.{Values}
 use Rattle.psci_fw_model.specs.declared.call.FwCall.TheVariants as calls
 use Rattle.psci_fw_model.specs.declared.reply.FwReply.{FwReply}
@@ -33,7 +33,7 @@ use Rattle.psci_world_model.specs.Histories.{ack_in, acks, controller_history, c
 use Rattle.psci_world_model.specs.Histories.{delivered, firmware_values, sent}
 use Rattle.psci_world_model.specs.Legal.{IsLegalPast, deliver, if_running, if_started, if_stopped}
 use Rattle.psci_world_model.specs.Legal.{legal, said_by, said_of, take}
-use Rattle.psci_world_model.specs.Lists.{numbered}
+use Rattle.psci_world_model.specs.Lists.{indexed}
 use Rattle.psci_world_model.specs.Places.{place}
 use Rattle.psci_world_laws.specs.Acknowledged.{WasMade}
 use Rattle.psci_world_laws.proofs.Numbering.{at_number}
@@ -46,27 +46,27 @@ pub record IsDelivered (b : BoardValue) (past : List Record) (happened : Event) 
   pub number : ℕ
   pub event : happened ≡ Deliver number
   pub message : MessageValue
-  pub at : numbered (sent past) number ≡ Some message
+  pub at : indexed (sent past) number ≡ Some message
   pub life : (controller_values b past).life ≡ Some message.life
   pub ack : a ≡ ack_by b (controller_values b past) message message.kind
   pub numbers : index ≡ length (acks past)
 
--- a message of the present life
-present : (o : Option ℕ) (life : ℕ) → is_present o life ≡ true → o ≡ Some life
+-- a message of this life
+present : (o : Option ℕ) (life : ℕ) → is_this_life o life ≡ true → o ≡ Some life
 present None life e = absurd (cc)
 present (Some l) life e = ap Some (eqb-true l life e)
 
 delivered_so : (b : BoardValue) (past : List Record) (k index : ℕ) (m : MessageValue)
-    (a : AckValue) → numbered (sent past) k ≡ Some m
+    (a : AckValue) → indexed (sent past) k ≡ Some m
     → said.Acked index a ≡ deliver b past (Some m) → IsDelivered b past (Deliver k) index a
 unfolding reply delivery_of
 delivered_so b past k index m a at e =
-    by_test (is_present (controller_values b past).life m.life) refl e
+    by_test (is_this_life (controller_values b past).life m.life) refl e
   where
     v : Values
     v = controller_values b past
 
-    by_test : (t : Bool) → is_present v.life m.life ≡ t
+    by_test : (t : Bool) → is_this_life v.life m.life ≡ t
         → said.Acked index a ≡ said_by (length (acks past))
         (replied.Delivery (cond t (deliveries.Applied (ack_by b v m m.kind)) deliveries.Ignored))
         → IsDelivered b past (Deliver k) index a
@@ -82,7 +82,7 @@ delivered_so b past k index m a at e =
     by_test false f g = absurd (cc)
 
 pub delivers : (b : BoardValue) (past : List Record) (k index : ℕ) (o : Option MessageValue)
-    (a : AckValue) → numbered (sent past) k ≡ o → said.Acked index a ≡ deliver b past o
+    (a : AckValue) → indexed (sent past) k ≡ o → said.Acked index a ≡ deliver b past o
     → IsDelivered b past (Deliver k) index a
 delivers b past k index None a at e = absurd (cc)
 delivers b past k index (Some m) a at e = delivered_so b past k index m a at e
@@ -149,22 +149,23 @@ unmade b past (Wake c) q =
 unmade b past (Reset c) q =
     let index = length (acks past) in board_unmade (nat_lt c (cores b)) _ (by_kick index _)
 unmade b past (Deliver k) q = absurd (cc)
-unmade b past (Take k) q = take_unmade b past (numbered (acks past) k)
+unmade b past (Take k) q = take_unmade b past (indexed (acks past) k)
 
 -- All acknowledgements -------------------------------------------------------------------------
 
 -- what an acknowledged message comes down to
-abbrev pub IsAfter : BoardValue → List controller.Entry → List controller.Entry → MessageValue
+abbrev pub IsAfter : BoardValue → List controller.CtlExchange → List controller.CtlExchange
+    → MessageValue
     → AckValue → Type 0
 IsAfter b h before m a =
     controls.values_of b h ≡ change b (message_effect b m a m.kind) (controls.values_of b before)
 
 -- the values that a history says, entry by entry
 abbrev pub AreAfter : BoardValue → Type 0
-AreAfter b = (e : controller.Entry) (h : List controller.Entry)
+AreAfter b = (e : controller.CtlExchange) (h : List controller.CtlExchange)
     → controls.values_of b (e ∷ h) ≡ after b e.call e.reply (controls.values_of b h)
 
-after_delivery : (b : BoardValue) (h : List controller.Entry) (o : Option MessageValue)
+after_delivery : (b : BoardValue) (h : List controller.CtlExchange) (o : Option MessageValue)
     (m : MessageValue) (a : AckValue) → AreAfter b → o ≡ Some m
     → IsAfter b (delivered o a ++ h) h m a
 unfolding after effect_of
@@ -178,10 +179,10 @@ delivery_made : (b : BoardValue) (past : List Record) (k index : ℕ) (a : AckVa
     → WasMade b (record { event = Deliver k; said = said.Acked index a } ∷ past) a
 unfolding legal controller_history
 delivery_made b past k index a more is e =
-    let d = delivers b past k index (numbered (sent past) k) a refl e in
+    let d = delivers b past k index (indexed (sent past) k) a refl e in
     let same : d.number ≡ k = cc in
-    let here : numbered (sent past) k ≡ Some d.message =
-    subst (λ j. numbered (sent past) j ≡ Some d.message) same d.at in
+    let here : indexed (sent past) k ≡ Some d.message =
+    subst (λ j. indexed (sent past) j ≡ Some d.message) same d.at in
     let at = at_number (sent past) k d.message here in
     record {
       since = [];
@@ -198,7 +199,7 @@ delivery_made b past k index a more is e =
       named = here;
       said = ap (λ i. said.Acked i a) d.numbers;
       ack = d.ack;
-      after = after_delivery b (controller_history b past) (numbered (sent past) k) d.message a more
+      after = after_delivery b (controller_history b past) (indexed (sent past) k) d.message a more
           here;
     }
 

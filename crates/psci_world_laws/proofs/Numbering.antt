@@ -3,14 +3,14 @@ use Rattle.std.proofs.Common.{◌≡◌, ℕ, ◌<◌, ◌-◌, List, length, re
 use Rattle.std.specs.Prelude.{get_or, slice_get}
 use Rattle.std.proofs.lemmas.List.{get_or-reverse, length-reverse}
 use Rattle.std.proofs.lemmas.Option.{get_or_from_slice_get, slice_get-get_or, slice_get_within}
-use Rattle.psci_world_model.specs.Lists.{numbered}
+use Rattle.psci_world_model.specs.Lists.{indexed}
 
 -- Where an item stands in a list.
 pub record IsAt {A : Type 0} (items : List A) (x : A) : Type 0 where
   pub index : ℕ
   pub at : slice_get items index ≡ Some x
 
-pub at_number : {A : Type 0} → (items : List A) (k : ℕ) (x : A) → numbered items k ≡ Some x
+pub at_number : {A : Type 0} → (items : List A) (k : ℕ) (x : A) → indexed items k ≡ Some x
     → IsAt items x
 at_number items k x e =
     let within : k < length items =

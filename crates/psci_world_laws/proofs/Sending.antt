@@ -12,7 +12,7 @@ use Rattle.psci_link.specs.declared.taken.Taken.TheVariants as takens
 use Rattle.psci_fw_model.specs.Answer.{answer}
 use Rattle.psci_fw_model.specs.Calls.{call_fault}
 use Rattle.psci_fw_model.specs.Entering.{enter_fault}
-use Rattle.psci_fw_model.specs.Entry as firmware
+use Rattle.psci_fw_model.specs.Exchange as firmware
 use Rattle.psci_fw_model.specs.Legal.{IsLegal}
 use Rattle.psci_fw_model.specs.Said.{listed}
 use Rattle.psci_fw_model.specs.Said as says
@@ -27,7 +27,7 @@ use Rattle.psci_world_model.specs.Histories.{acks, call, controller_values, ente
 use Rattle.psci_world_model.specs.Histories.{firmware_history, firmware_values, outcome_in, sent}
 use Rattle.psci_world_model.specs.Histories.{sent_in, took}
 use Rattle.psci_world_model.specs.Legal.{IsLegalPast, legal}
-use Rattle.psci_world_model.specs.Lists.{numbered}
+use Rattle.psci_world_model.specs.Lists.{indexed}
 use Rattle.psci_world_model.proofs.Answered.{firmware_legal}
 use Rattle.psci_world_laws.proofs.Happening.{entered_by, is_quiet, sends_nothing}
 use Rattle.psci_world_laws.proofs.Outcomes.{call_sends, enter_sends}
@@ -35,7 +35,7 @@ use Rattle.psci_world_laws.proofs.Outcomes.{call_sends, enter_sends}
 -- Records --------------------------------------------------------------------------------------
 
 -- the history after a record, whose event says this
-abbrev pub after_call : BoardValue → List Record → Event → Said → List firmware.Entry
+abbrev pub after_call : BoardValue → List Record → Event → Said → List firmware.FwExchange
 after_call b past event s =
     call (controller_values b past) (acks past) event s ++ firmware_history b past
 
@@ -45,7 +45,7 @@ Same b past event s =
     listed (sent_in s) ++ sent past ≡ sent_messages b (after_call b past event s)
 
 -- an entry adds what its effect says was sent
-one_entry : (b : BoardValue) (e : firmware.Entry) (h : List firmware.Entry)
+one_entry : (b : BoardValue) (e : firmware.FwExchange) (h : List firmware.FwExchange)
     (o : Option MessageValue) (l : List MessageValue) → says.sent (firmware.effect b e) ≡ o
     → l ≡ sent_messages b h → listed o ++ l ≡ sent_messages b (e ∷ h)
 unfolding sent_messages
@@ -95,7 +95,7 @@ enter_same b past c said.Ignored same is e = same
 enter_same b past c said.Absent same is e = same
 
 -- nothing is sent where an acknowledgement is taken
-took_none : (b : BoardValue) (h : List firmware.Entry) (o : Option AckValue) (t : Taken)
+took_none : (b : BoardValue) (h : List firmware.FwExchange) (o : Option AckValue) (t : Taken)
     → sent_messages b (took o t ++ h) ≡ sent_messages b h
 unfolding sent_messages
 took_none b h None t = refl
@@ -115,7 +115,7 @@ quiet_call b past (Take k) (said.Fw act sends) q = refl
 quiet_call b past (Take k) (said.Kick start) q = refl
 quiet_call b past (Take k) (said.Acked index ack) q = refl
 quiet_call b past (Take k) (said.Taken taken) q =
-    took_none b (firmware_history b past) (numbered (acks past) k) taken
+    took_none b (firmware_history b past) (indexed (acks past) k) taken
 quiet_call b past (Take k) said.Ignored q = refl
 quiet_call b past (Take k) said.Absent q = refl
 

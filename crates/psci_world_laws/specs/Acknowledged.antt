@@ -9,7 +9,7 @@ use Rattle.psci_world_model.specs.declared.event.Event.TheVariants.{Deliver}
 use Rattle.psci_world_model.specs.declared.said.Record.{Record}
 use Rattle.psci_world_model.specs.declared.said.Said.TheVariants.{Acked}
 use Rattle.psci_world_model.specs.Histories.{acks, controller_values, sent}
-use Rattle.psci_world_model.specs.Lists.{numbered}
+use Rattle.psci_world_model.specs.Lists.{indexed}
 use Rattle.psci_world_model.specs.Legal.{IsLegalPast}
 
 -- An acknowledgement was made as a message was delivered that had been sent before, in its life.
@@ -28,7 +28,7 @@ pub record WasMade (b : BoardValue) (past : List Record) (a : AckValue) : Type 0
   -- the record delivered it, and says this acknowledgement
   pub number : ℕ
   pub event : delivery.event ≡ Deliver number
-  pub named : numbered (sent before) number ≡ Some message
+  pub named : indexed (sent before) number ≡ Some message
   pub said : delivery.said ≡ Acked (length (acks before)) a
   -- what was acknowledged, and what it changed
   pub ack : a ≡ ack_by b (controller_values b before) message message.kind

@@ -34,7 +34,7 @@ use Rattle.psci_world_model.specs.Histories.{firmware_history, firmware_values, 
 use Rattle.psci_world_model.specs.Histories.{sent, took}
 use Rattle.psci_world_model.specs.Legal.{IsReplied, IsLegalPast, deliver, if_running, if_started}
 use Rattle.psci_world_model.specs.Legal.{if_stopped, legal, said_by, said_of, sent_as, take}
-use Rattle.psci_world_model.specs.Lists.{numbered}
+use Rattle.psci_world_model.specs.Lists.{indexed}
 use Rattle.psci_world_model.specs.Places.{place}
 
 -- The firmware ---------------------------------------------------------------------------------
@@ -105,7 +105,7 @@ enter_on_board b past c true s h w = w
 enter_on_board b past c false s h w = h
 
 take_answered : (b : BoardValue) (past : List Record) (n k : ℕ) (a : AckValue) (r : FwReply)
-    → numbered (acks past) k ≡ Some a → r ≡ answer_to b past 0 (calls.Take a)
+    → indexed (acks past) k ≡ Some a → r ≡ answer_to b past 0 (calls.Take a)
     → IsLegal b (firmware_history b past) → WithCall b past (Take k) (said_of n r)
 take_answered b past n k a (replies.Out o) made e h = h
 take_answered b past n k a (replies.Taken t) made e h =
@@ -114,7 +114,7 @@ take_answered b past n k a (replies.Taken t) made e h =
 take_answered b past n k a (replies.Fault f) made e h = h
 
 take_made : (b : BoardValue) (past : List Record) (k : ℕ) (a : Option AckValue)
-    → numbered (acks past) k ≡ a → IsLegal b (firmware_history b past)
+    → indexed (acks past) k ≡ a → IsLegal b (firmware_history b past)
     → WithCall b past (Take k) (take b past a)
 take_made b past k None made h = h
 take_made b past k (Some a) made h =
@@ -136,7 +136,7 @@ call_legal b past (Enter c) h =
 call_legal b past (Wake c) h = h
 call_legal b past (Reset c) h = h
 call_legal b past (Deliver k) h = h
-call_legal b past (Take k) h = take_made b past k (numbered (acks past) k) refl h
+call_legal b past (Take k) h = take_made b past k (indexed (acks past) k) refl h
 
 pub firmware_legal : (b : BoardValue) (past : List Record) → IsLegalPast b past
     → IsLegal b (firmware_history b past)
@@ -159,7 +159,7 @@ abbrev reply_to : BoardValue → List Record → CtlCall → CtlReply
 reply_to b past asks = reply b (controller_values b past) asks
 
 delivery_answered : (b : BoardValue) (past : List Record) (n k : ℕ) (m : MessageValue)
-    (r : CtlReply) → numbered (sent past) k ≡ Some m → r ≡ reply_to b past (asked.Deliver m)
+    (r : CtlReply) → indexed (sent past) k ≡ Some m → r ≡ reply_to b past (asked.Deliver m)
     → IsReplied b (controller_history b past) → WithControl b past (Deliver k) (said_by n r)
 delivery_answered b past n k m (replied.Delivery (deliveries.Applied ack)) sends e h =
     subst (λ (x : Option MessageValue). IsReplied b (delivered x ack ++ controller_history b past))
@@ -169,7 +169,7 @@ delivery_answered b past n k m (replied.Kick (kicks.Started start)) sends e h = 
 delivery_answered b past n k m (replied.Kick kicks.Ignored) sends e h = h
 
 delivery_sent : (b : BoardValue) (past : List Record) (k : ℕ) (m : Option MessageValue)
-    → numbered (sent past) k ≡ m → IsReplied b (controller_history b past)
+    → indexed (sent past) k ≡ m → IsReplied b (controller_history b past)
     → WithControl b past (Deliver k) (deliver b past m)
 delivery_sent b past k None sends h = h
 delivery_sent b past k (Some m) sends h =
@@ -233,7 +233,7 @@ control_legal b past (Reset c) h =
     let r = reply_to b past (resets c) in
     reset_on_board b past c (nat_lt c (cores b)) (said_by (length (acks past)) r) h
     (reset_answered b past (length (acks past)) c r refl h)
-control_legal b past (Deliver k) h = delivery_sent b past k (numbered (sent past) k) refl h
+control_legal b past (Deliver k) h = delivery_sent b past k (indexed (sent past) k) refl h
 control_legal b past (Take k) h = h
 
 pub controller_answered : (b : BoardValue) (past : List Record) → IsLegalPast b past

@@ -4,7 +4,7 @@ use Rattle.std.proofs.Common.{Some}
 use Rattle.std.specs.List.{range_with_len}
 use Rattle.psci_board.specs.Board.{BoardValue, core_of, node_of, up}
 use Rattle.psci_coord.specs.declared.part.Part.{Part}
-use Rattle.psci_coord.specs.Claim.{claim_of}
+use Rattle.psci_coord.specs.Claim.{claims_of}
 use Rattle.psci_coord.specs.LastCore.{last_core_check, refusal, shallow, shallow_at}
 use Rattle.psci_coord.specs.View.{generation, is_all_off, is_idle, least_ask}
 use Rattle.psci_link.specs.declared.start.Cause.{Cause}
@@ -39,7 +39,7 @@ use Rattle.psci_world_model.specs.Places.{place}
 unfoldable pub computing : Unit {0}
 unfolding run_from legal place sent acks controller_history firmware_history remembers.values_of
     controls.values_of answer outcome_of enter_outcome target_of core_of node_of node_status
-    off_parts suspend_parts view up claim_of least_ask generation is_all_off is_idle
+    off_parts suspend_parts view up claims_of least_ask generation is_all_off is_idle
     last_core_check refusal shallow shallow_at outstanding last_message changes_since effect_of
     reply delivery_of wake_of reset_of applied is_stale starts_below
 computing = tt

@@ -8,7 +8,7 @@ use Rattle.psci_ctl_model.specs.declared.delivery.Delivery.TheVariants as delive
 use Rattle.psci_ctl_model.specs.declared.kick.Kick.TheVariants as kicks
 use Rattle.psci_ctl_model.specs.declared.reply.CtlReply.TheVariants as replied
 use Rattle.psci_link.specs.declared.start.Start.{Start}
-use Rattle.psci_ctl_model.specs.Entry as controller
+use Rattle.psci_ctl_model.specs.Exchange as controller
 use Rattle.psci_ctl_model.specs.History as controls
 use Rattle.psci_ctl_model.specs.Replies.{last_start}
 use Rattle.psci_ctl_model.specs.Values as controlled
@@ -16,7 +16,7 @@ use Rattle.psci_fw_model.specs.declared.call.FwCall.TheVariants as calls
 use Rattle.psci_fw_model.specs.declared.outcome.Act.{Act}
 use Rattle.psci_fw_model.specs.declared.outcome.Outcome.{Outcome}
 use Rattle.psci_fw_model.specs.declared.reply.FwReply.TheVariants as replies
-use Rattle.psci_fw_model.specs.Entry as firmware
+use Rattle.psci_fw_model.specs.Exchange as firmware
 use Rattle.psci_fw_model.specs.History as remembers
 use Rattle.psci_fw_model.specs.Said.{listed}
 use Rattle.psci_fw_model.specs.Values as kept
@@ -29,7 +29,7 @@ use Rattle.psci_world_model.specs.declared.said.Record.{Record}
 use Rattle.psci_world_model.specs.declared.said.Said.{Said}
 use Rattle.psci_world_model.specs.declared.said.Said.TheVariants.{Fw, Kick, Acked, Taken as Took}
 use Rattle.psci_world_model.specs.declared.said.Sent.{Sent}
-use Rattle.psci_world_model.specs.Lists.{numbered}
+use Rattle.psci_world_model.specs.Lists.{indexed}
 
 -- Messages and acknowledgements ----------------------------------------------------------------
 
@@ -56,7 +56,7 @@ acks (r ∷ past) = listed (ack_in r.said) ++ acks past
 -- The controller's history ---------------------------------------------------------------------
 
 -- a message of some number was delivered and acknowledged
-abbrev pub delivered : Option MessageValue → AckValue → List controller.Entry
+abbrev pub delivered : Option MessageValue → AckValue → List controller.CtlExchange
 delivered None ack = []
 delivered (Some m) ack = record {
   call = asked.Deliver m;
@@ -64,20 +64,21 @@ delivered (Some m) ack = record {
 } ∷ []
 
 -- a core was started
-abbrev pub kicked : CtlCall → Start → List controller.Entry
+abbrev pub kicked : CtlCall → Start → List controller.CtlExchange
 kicked call start =
     record { call = call; reply = replied.Kick (kicks.Started start) } ∷ []
 
 -- what a record adds, after the values so far: a wake-up names the start in which the core stopped
-abbrev pub control : controlled.Values → List MessageValue → Event → Said → List controller.Entry
-control v messages (Deliver k) (Acked index ack) = delivered (numbered messages k) ack
+abbrev pub control : controlled.Values → List MessageValue → Event → Said
+    → List controller.CtlExchange
+control v messages (Deliver k) (Acked index ack) = delivered (indexed messages k) ack
 control v messages (Wake c) (Kick start) =
     kicked (asked.Wake (record { number = c }) (v.starts c)) start
 control v messages (Reset c) (Kick start) = kicked (asked.Reset (record { number = c })) start
 control v messages event said = []
 
 -- what the power controller was asked and replied, but for what it ignored
-unfoldable pub controller_history : BoardValue → List Record → List controller.Entry
+unfoldable pub controller_history : BoardValue → List Record → List controller.CtlExchange
 controller_history b [] = []
 controller_history b (r ∷ past) =
     control (controls.values_of b (controller_history b past)) (sent past) r.event r.said
@@ -94,27 +95,27 @@ abbrev pub outcome_in : Act → Option Sent → Outcome
 outcome_in act sent = record { act = act; message = option_map (λ s. s.message) sent }
 
 -- a core entered by its last start
-abbrev pub entered : ℕ → Option Start → Outcome → List firmware.Entry
+abbrev pub entered : ℕ → Option Start → Outcome → List firmware.FwExchange
 entered c None outcome = []
 entered c (Some start) outcome =
     record { core = c; call = calls.Enter start; reply = replies.Out outcome } ∷ []
 
 -- an acknowledgement of some number was taken
-abbrev pub took : Option AckValue → Taken → List firmware.Entry
+abbrev pub took : Option AckValue → Taken → List firmware.FwExchange
 took None taken = []
 took (Some ack) taken =
     record { core = 0; call = calls.Take ack; reply = replies.Taken taken } ∷ []
 
 -- what a record adds, after the controller's values and the acknowledgements so far
-abbrev pub call : controlled.Values → List AckValue → Event → Said → List firmware.Entry
+abbrev pub call : controlled.Values → List AckValue → Event → Said → List firmware.FwExchange
 call v made (Call c regs) (Fw act sent) =
     record { core = c; call = calls.Smc regs; reply = replies.Out (outcome_in act sent) } ∷ []
 call v made (Enter c) (Fw act sent) = entered c (last_start v c) (outcome_in act sent)
-call v made (Take k) (Took taken) = took (numbered made k) taken
+call v made (Take k) (Took taken) = took (indexed made k) taken
 call v made event said = []
 
 -- what the firmware was asked and replied
-unfoldable pub firmware_history : BoardValue → List Record → List firmware.Entry
+unfoldable pub firmware_history : BoardValue → List Record → List firmware.FwExchange
 firmware_history b [] = []
 firmware_history b (r ∷ past) =
     call (controller_values b past) (acks past) r.event r.said ++ firmware_history b past

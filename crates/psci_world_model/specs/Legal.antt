@@ -9,7 +9,7 @@ use Rattle.psci_ctl_model.specs.declared.kick.Kick.TheVariants as kicks
 use Rattle.psci_ctl_model.specs.declared.reply.CtlReply.{CtlReply}
 use Rattle.psci_ctl_model.specs.declared.reply.CtlReply.TheVariants as replied
 use Rattle.psci_link.specs.declared.start.Start.{Start}
-use Rattle.psci_ctl_model.specs.Entry as controller
+use Rattle.psci_ctl_model.specs.Exchange as controller
 use Rattle.psci_ctl_model.specs.History as controls
 use Rattle.psci_ctl_model.specs.Replies.{last_start, reply}
 use Rattle.psci_fw_model.specs.declared.call.FwCall.{FwCall}
@@ -29,7 +29,7 @@ use Rattle.psci_world_model.specs.declared.said.Said.TheVariants.{Fw, Kick, Acke
 use Rattle.psci_world_model.specs.declared.said.Said.TheVariants.{Taken as Took}
 use Rattle.psci_world_model.specs.declared.said.Sent.{Sent}
 use Rattle.psci_world_model.specs.Histories.{acks, controller_values, firmware_values, sent}
-use Rattle.psci_world_model.specs.Lists.{numbered}
+use Rattle.psci_world_model.specs.Lists.{indexed}
 use Rattle.psci_world_model.specs.Places.{place}
 
 -- What is answered -----------------------------------------------------------------------------
@@ -107,8 +107,8 @@ legal b past (Wake c) =
     (asked.Wake (record { number = c }) ((controller_values b past).starts c))))
 legal b past (Reset c) =
     on_board b c (asked_controller b past (asked.Reset (record { number = c })))
-legal b past (Deliver k) = deliver b past (numbered (sent past) k)
-legal b past (Take k) = take b past (numbered (acks past) k)
+legal b past (Deliver k) = deliver b past (indexed (sent past) k)
+legal b past (Take k) = take b past (indexed (acks past) k)
 
 -- Runs -----------------------------------------------------------------------------------------
 
@@ -126,9 +126,9 @@ unfoldable pub run_from : BoardValue → List Record → List Event → List Rec
 run_from b past [] = past
 run_from b past (event ∷ events) = run_from b (legal_record b past event ∷ past) events
 
--- a history of the power controller in which every reply is the one reply after the entries before
--- it, whatever was delivered
-abbrev pub IsReplied : BoardValue → List controller.Entry → Type 0
+-- a history of the power controller in which every reply is the one reply after the exchanges
+-- before it, whatever was delivered
+abbrev pub IsReplied : BoardValue → List controller.CtlExchange → Type 0
 IsReplied b [] = Unit {0}
 IsReplied b (e ∷ h) =
     (e.reply ≡ reply b (controls.values_of b h) e.call) × IsReplied b h

@@ -2,7 +2,7 @@
 use Rattle.std.specs.Prelude.{ℕ, ◌==◌, if◌then◌else◌, List, [], ◌∷◌, Option, None, Some, unwrap_or}
 use Rattle.psci_board.specs.Board.{BoardValue}
 use Rattle.psci_ctl_model.specs.Effects.{Effect, Nothing, Starts, Deepens, Ends, Begins, effect_of}
-use Rattle.psci_ctl_model.specs.Entry as controller
+use Rattle.psci_ctl_model.specs.Exchange as controller
 use Rattle.psci_fw_model.specs.declared.outcome.Act.{Act}
 use Rattle.psci_fw_model.specs.declared.outcome.Act.TheVariants as acts
 use Rattle.psci_world_model.specs.declared.event.Event.{Event}
@@ -40,8 +40,8 @@ place_of_effect c (Deepens d ps) = None
 place_of_effect c Ends = Some Stopped
 place_of_effect c Begins = Some (first_place c)
 
--- the same of the entry that a record adds to the controller's history, if it adds one
-abbrev pub place_controlled : BoardValue → ℕ → List controller.Entry → Option Place
+-- the same of the exchange that a record adds to the controller's history, if it adds one
+abbrev pub place_controlled : BoardValue → ℕ → List controller.CtlExchange → Option Place
 place_controlled b c [] = None
 place_controlled b c (e ∷ h) = place_of_effect c (effect_of b e.call e.reply)
 

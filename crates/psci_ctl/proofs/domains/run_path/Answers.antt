@@ -5,7 +5,7 @@ use Rattle.psci_board.specs.declared.node.Node.{Node}
 use Rattle.psci_board.specs.Board.{height, path, up}
 use Rattle.psci_board.specs.Laws.{PathLaws}
 use Rattle.psci_ctl.specs.declared.level.DomainRow.{DomainRow}
-use Rattle.psci_ctl.specs.Rows.{HasShape, domain_at, run_once}
+use Rattle.psci_ctl.specs.Rows.{HasRows, domain_at, path_on_once}
 use Rattle.psci_ctl.proofs.Looked.{domain_set, run_more, set_row, shape_set}
 use Rattle.psci_ctl.proofs.domains.run_path.Goals as goal
 
@@ -28,14 +28,14 @@ loop-level-preserved c =
     c.domain-row.ensures ∙ ap (λ (n : Node). domain_at now n.level n.place) node in
     let set : c.set_domain.new.levels ≡ set_row now k (up b k core) row =
     c.set_domain.ensures ∙ ap (λ (n : Node). set_row now n.level n.place row) node in
-    let shape : HasShape b now = c.loop-level.invariant.shape in
+    let shape : HasRows b now = c.loop-level.invariant.shape in
     let place : up b k core < length (get_or now k []) =
     omega (arith, shape.places k low, laws.inside core k c.requires.core low) in
     record {
       rows = run_more b core k c.args.levels.now now c.set_domain.new.levels row low
           c.loop-level.invariant.rows
-          (ap run_once was)
+          (ap path_on_once was)
           (λ l p. ap (λ ds. domain_at ds l p) set
           ∙ domain_set now k (up b k core) l p row (omega (arith, shape.levels)) place);
-      shape = subst (HasShape b) (sym set) (shape_set b now k (up b k core) row shape);
+      shape = subst (HasRows b) (sym set) (shape_set b now k (up b k core) row shape);
     }

@@ -11,7 +11,7 @@ start_core-requires-clause-sums c =
     let b = c.args.board.now in
     subst (λ (rows : List CoreRow). HasSums b rows c.turn_off.new.levels)
     (sym c.forget_starts.ensures)
-    (off_sums b (length c.args.rows.now) c.turn_off.new.levels (c.law_generations.ensures b)
+    (off_sums b (length c.args.rows.now) c.turn_off.new.levels (c.law_sums.ensures b)
     c.turn_off.ensures.rows)
 
 pub returns-clause-values : goal.returns-clause-values

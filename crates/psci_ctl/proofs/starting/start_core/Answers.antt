@@ -7,7 +7,7 @@ pub run_path-requires-clause-room : goal.run_path-requires-clause-room
 run_path-requires-clause-room c = λ l low.
     let b = c.args.board.now in
     room b c.args.rows.now c.args.levels.now l (up b l c.args.core.number)
-    (c.law_generations.ensures b)
+    (c.law_sums.ensures b)
     (omega (arith, (c.law_sizes.ensures b c.cores-cores.ensures.board).most 0)) c.requires.few
     c.requires.sums low
 
@@ -15,7 +15,7 @@ pub returns-clause-sums : goal.returns-clause-sums
 returns-clause-sums c =
     let b = c.args.board.now in
     started_sums b c.args.rows.now c.args.levels.now c.run_path.new.levels c.args.core.number
-    c.args.cause (c.law_generations.ensures b) c.requires.core
+    c.args.cause (c.law_sums.ensures b) c.requires.core
     (omega (arith, c.requires.core, c.requires.count)) c.requires.sums c.run_path.ensures.rows
 
 pub returns-clause-values : goal.returns-clause-values

@@ -1,5 +1,5 @@
 use Rattle.std.proofs.Common.{◌≡◌, None, false, sym, subst, ap, ◌∙◌}
-use Rattle.psci_link.specs.Message.{IsClaim}
+use Rattle.psci_link.specs.Message.{AreClaims}
 use Rattle.psci_fw_model.specs.Changes.{with_arrival}
 use Rattle.psci_fw_model.specs.Lives.{in_life}
 use Rattle.psci_fw_model.specs.Values.{Values}
@@ -31,7 +31,7 @@ send_down-requires-clause-claim c =
     let same = leaving_off b (with_arrival b core s v) _ core _
     (arrived_away b v _ _ core s found c.arrive_away-in-None.ensures.after)
     c.leaving_parts-parts.ensures in
-    subst IsClaim (sym same) (c.law_stops.ensures.parks b v core s c.requires.state.board
+    subst AreClaims (sym same) (c.law_stops.ensures.parks b v core s c.requires.state.board
     (fault_inside b v core s c.requires.fault) c.requires.values awake
     (no_opening (in_life b s.life v) core s none))
 

@@ -1,5 +1,5 @@
 use Rattle.std.proofs.Common.{sym, subst}
-use Rattle.psci_link.specs.Message.{IsClaim}
+use Rattle.psci_link.specs.Message.{AreClaims}
 use Rattle.psci_fw_state.specs.Seen.{values_in}
 use Rattle.psci_fw.proofs.Answered.{leaving_off, left_may, off_answered}
 use Rattle.psci_fw.proofs.off.cpu_off.Goals as goal
@@ -9,7 +9,7 @@ send_down-requires-clause-claim c =
     let v = values_in c.args.state.now in
     let same = leaving_off c.args.board.now v _ c.args.caller.number _ c.set_away.ensures.after
     c.leaving_parts-parts.ensures in
-    subst IsClaim (sym same) (c.law_stops.ensures.off c.args.board.now v c.args.caller.number
+    subst AreClaims (sym same) (c.law_stops.ensures.off c.args.board.now v c.args.caller.number
     c.requires.state.board c.requires.inside c.requires.values c.requires.running)
 
 pub send_down-requires-clause-may : goal.send_down-requires-clause-may

@@ -2,7 +2,7 @@
 use Rattle.std.proofs.Common.{◌∙◌, arith, ap}
 use Rattle.std.specs.Prelude.{Ok}
 use Rattle.std.proofs.lemmas.Result.{err_from_is_err_and}
-use Rattle.psci_link.specs.Frame.{count_in, parts_in, places_in}
+use Rattle.psci_link.specs.Frame.{count_in, parts_in, part_fields_in}
 use Rattle.psci_link.specs.Heading.{parts_of}
 use Rattle.psci_link.proofs.Faults.{has-no-fault, first_fault-heading}
 use Rattle.psci_link.proofs.Written.{frame-written, frame-is-of}
@@ -18,8 +18,8 @@ frame_with-requires-clause-held c =
     let sound = has-no-fault c.args.board.now bytes heading c.in_ok-parts.ensures.fault in
     let parts = parts_of heading (count_in bytes) in
     rw c.in_ok-parts.ensures.parts (is-held heading (count_in bytes)
-    (parts_in parts (places_in bytes))
-    (length-parts_in parts (places_in bytes)) sound.allowed sound.falling sound.climbing)
+    (parts_in parts (part_fields_in bytes))
+    (length-parts_in parts (part_fields_in bytes)) sound.allowed sound.falling sound.climbing)
 
 pub returns-in_err-heading-clause-spelled : goal.returns-in_err-heading-clause-spelled
 returns-in_err-heading-clause-spelled c = λ frame fits of same.

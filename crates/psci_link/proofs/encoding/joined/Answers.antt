@@ -3,7 +3,7 @@ use Rattle.std.proofs.Common.{arith, ◌≡◌, length, take, append_assoc, ◌�
 use Rattle.std.proofs.lemmas.Grind.{common_steps}
 use Rattle.std.proofs.lemmas.List.Elements.{All-more, All-same, recursion_from_All}
 use Rattle.std.proofs.lemmas.List.{take_all}
-use Rattle.psci_link.specs.Frame.{places}
+use Rattle.psci_link.specs.Frame.{part_fields}
 use Rattle.psci_link.proofs.Parts.{level-of}
 use Rattle.psci_link.proofs.encoding.joined.Goals as goal
 
@@ -31,7 +31,7 @@ returns-clause-fits c =
     (take c.loop-part.part-index c.args.parts.now) (sym all) c.loop-part.invariant.fits)
 
 pub returns-clause-bytes : goal.returns-clause-bytes
-unfolding places
+unfolding part_fields
 returns-clause-bytes c =
     let all : take c.loop-part.part-index c.args.parts.now ≡ c.args.parts.now
     = take_all c.loop-part.part-index c.args.parts.now (omega arith) in

@@ -1,6 +1,6 @@
 -- Power-down as far up as all is off.
 use Rattle.std.proofs.Common.{◌∙◌, ap}
-use Rattle.psci_coord.specs.Claim.{own_claim}
+use Rattle.psci_coord.specs.Claim.{own_claims}
 use Rattle.psci_coord.specs.Looked.{view_of}
 use Rattle.psci_osi.proofs.Climbs.{own-off}
 use Rattle.psci_osi.proofs.off.off_parts.Goals as goal
@@ -8,7 +8,7 @@ use Rattle.psci_osi.proofs.off.off_parts.Goals as goal
 pub returns : goal.returns
 returns c =
     c.own_parts.ensures
-    ∙ ap (own_claim c.args.board.now (view_of c.args.tree.now) c.args.core.number)
+    ∙ ap (own_claims c.args.board.now (view_of c.args.tree.now) c.args.core.number)
     c.deepest.ensures.value
     ∙ own-off c.args.board.now (view_of c.args.tree.now) c.args.core.number
     c.highest_off-highest.result c.highest_off-highest.ensures.levels

@@ -24,7 +24,7 @@ returns c = λ b past board is awake.
           asks_on = c.law_caller.ensures.asks_on b;
         };
       };
-      sums = c.law_generations.ensures b;
+      sums = c.law_sums.ensures b;
       parts = c.law_parts.ensures.parts;
       paths = c.law_paths.ensures b board;
       acks = λ u core ps. c.law_acknowledgements.ensures b u core ps;

@@ -3,7 +3,7 @@ use Rattle.std.proofs.Common.{drop, get_or, get_or-set_other, get_or-set_same, b
 use Rattle.std.proofs.Common.{length-set}
 use Rattle.std.specs.Prelude.{unwrap_or}
 use Rattle.psci_board.specs.declared.node.Node.{Node}
-use Rattle.psci_board.specs.Board.{BoardValue, size_below, place_in, place_above, group_of}
+use Rattle.psci_board.specs.Board.{BoardValue, size_below, index_in, place_above, group_of}
 use Rattle.psci_tree.proofs.Granted.{place_lt}
 use Rattle.psci_tree.proofs.Upward.{parent_some, number_some}
 use Rattle.psci_tree.proofs.Ways.{above_next}
@@ -23,10 +23,10 @@ loop-level-preserved c =
     let place : c.loop-level.place ≡ q = c.loop-level.invariant.place in
     let inside : c.loop-level.place < size_below (drop l levels) =
     omega (arith, place, place_lt levels l core c.requires.tree (omega arith) c.requires.core) in
-    let number : c.unwrap_or.result ≡ place_in (get_or levels l []) q =
+    let number : c.unwrap_or.result ≡ index_in (get_or levels l []) q =
     c.unwrap_or.ensures
     ∙ ap (λ o. unwrap_or o 0) (c.child_number.ensures ∙ number_some b n fits inside)
-    ∙ ap (place_in (get_or levels l [])) place in
+    ∙ ap (index_in (get_or levels l [])) place in
     let up : c.unwrap_or-place.result ≡ record {
       level = l + 1;
       place = group_of (get_or levels l []) c.loop-level.place;

@@ -1,5 +1,5 @@
 use Rattle.std.proofs.Common.{◌≡◌, ◌<◌, ℕ, [], length, get_or}
-use Rattle.psci_board.specs.Board.{place_in, place_above}
+use Rattle.psci_board.specs.Board.{index_in, place_above}
 use Rattle.psci_tree.proofs.descent.way_to.Given as goal
 
 abbrev pub invariant-loop-level : goal.invariant-loop-level
@@ -10,5 +10,5 @@ invariant-loop-level l =
       long : length l.way ≡ 3;
       place : l.place ≡ place_above levels l.level core;
       done : (k : ℕ) → k < l.level
-          → get_or l.way k 0 ≡ place_in (get_or levels k []) (place_above levels k core);
+          → get_or l.way k 0 ≡ index_in (get_or levels k []) (place_above levels k core);
     }

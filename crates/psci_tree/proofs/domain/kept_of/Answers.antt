@@ -1,6 +1,6 @@
 use Rattle.std.proofs.Common.{◌+◌, arith, take, subst, sym}
 use Rattle.psci_tree.specs.Domains.{cores_in}
-use Rattle.psci_tree.specs.Kept.{Keeps, beside}
+use Rattle.psci_tree.specs.Kept.{Keeps, kept_together}
 use Rattle.psci_tree.specs.declared.kept.Kept.{Kept}
 use Rattle.psci_tree.specs.declared.domain.Domain.{Domain, out-Domain}
 use Rattle.psci_tree.proofs.Below.{length_parts}
@@ -10,7 +10,7 @@ use Rattle.psci_tree.proofs.domain.kept_of.Goals as goal
 pub beside-kept-requires : goal.beside-kept-requires
 beside-kept-requires c =
     let d : Domain = c.domain-item.result in
-    let fits : Small (beside c.loop-domain.kept (out-Domain d).kept) =
+    let fits : Small (kept_together c.loop-domain.kept (out-Domain d).kept) =
     keeps_small _ _ (kept_next c.args.domains.now c.loop-domain.domain-index d c.loop-domain.kept
     c.loop-domain-test.true c.domain-item.is c.requires.kept c.loop-domain.invariant)
     (omega (arith, length_parts c.args.domains.now (c.loop-domain.domain-index + 1))) in

@@ -1,7 +1,7 @@
 -- Two events happened, or none.
 use Rattle.psci_world.proofs.Settles.{settles_both, settles_none}
 use Rattle.std.proofs.Common.{ℕ, Option, subst, sym}
-use Rattle.psci_settle.specs.Settling.{answering}
+use Rattle.psci_settle.specs.Settling.{serving}
 use Rattle.psci_world.specs.Settles.{IsOnTheWay}
 use Rattle.psci_world.proofs.OnTheWay.{on_err, stops_answering}
 use Rattle.psci_world.proofs.settling.answer.Goals as goal
@@ -20,6 +20,6 @@ pub returns-in_err-happen-clause-front : goal.returns-in_err-happen-clause-front
 returns-in_err-happen-clause-front c =
     on_err c.from_residual.result _
     (subst (λ (m : Option ℕ). IsOnTheWay c.happen.new.world.past
-    (answering c.args.world.now.board c.args.world.now.past m)) (sym c.in-Some.is)
+    (serving c.args.world.now.board c.args.world.now.past m)) (sym c.in-Some.is)
     (stops_answering c.args.world.now.board c.args.world.now.past c.happen.new.world.past
     c.in-Some.number c.in_err-happen.ensures.front))

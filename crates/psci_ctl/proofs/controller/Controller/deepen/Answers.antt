@@ -4,7 +4,7 @@ use Rattle.std.specs.Vec.{with_items}
 use Rattle.std.proofs.lemmas.List.{with_items_is}
 use Rattle.psci_board.specs.Board.{height, nodes}
 use Rattle.psci_ctl.specs.declared.level.DomainRow.{DomainRow}
-use Rattle.psci_ctl.specs.Rows.{HasShape, deepened, depth_in, domain_at, values_in}
+use Rattle.psci_ctl.specs.Rows.{HasRows, deepened, depth_in, domain_at, values_in}
 use Rattle.psci_ctl.specs.Seen.{ControllerValue}
 use Rattle.psci_ctl.proofs.Kept.{IsDeepened, deepened_kept, is_deepened, whole}
 use Rattle.psci_ctl.proofs.Looked.{set_row, shape_set}
@@ -15,7 +15,7 @@ use Rattle.psci_ctl.proofs.controller.Controller.deepen.Goals as goal
 record Written (c : goal.After-self-1) : Type 0 where
   items : (with_items c.self.inside.domains c.set_domain.new.levels).items
       ≡ c.set_domain.new.levels
-  shape : HasShape c.self.inside.board c.set_domain.new.levels
+  shape : HasRows c.self.inside.board c.set_domain.new.levels
   deep : IsDeepened c.self.inside.domains.items c.set_domain.new.levels c.args.node.level
       c.args.node.place c.args.depth
 
@@ -43,12 +43,12 @@ written c =
     let was : row.starts ≡ (domain_at ds.items k place).starts =
     ap (λ (r : DomainRow). r.starts) (c.domain.ensures
     ∙ ap (λ (xs : List (List DomainRow)). domain_at xs k place) c.deref.ensures.value) in
-    let shape : HasShape b ds.items = c.self.invariant.shape in
+    let shape : HasRows b ds.items = c.self.invariant.shape in
     let fits : place < length (get_or ds.items k []) =
     omega (arith, shape.places k low, inside) in
     record {
       items = with_items_is ds new_ds full;
-      shape = subst (HasShape b) (sym set) (shape_set b ds.items k place row shape);
+      shape = subst (HasRows b) (sym set) (shape_set b ds.items k place row shape);
       deep = subst (λ (xs : List (List DomainRow)). IsDeepened ds.items xs k place
           c.args.depth) (sym set)
           (is_deepened ds.items k place c.args.depth row

@@ -7,7 +7,7 @@ use Rattle.psci_ctl_model.specs.Changes.{with_start}
 use Rattle.psci_ctl_model.specs.Values.{Values}
 use Rattle.psci_ctl.specs.declared.row.CoreRow.{CoreRow}
 use Rattle.psci_ctl.specs.declared.level.DomainRow.{DomainRow}
-use Rattle.psci_ctl.specs.Rows.{core_at, values_in}
+use Rattle.psci_ctl.specs.Rows.{core_row, values_in}
 use Rattle.psci_ctl.specs.Seen.{ControllerValue, seen}
 use Rattle.psci_ctl.proofs.Kept.{next_number, started_kept, whole}
 use Rattle.psci_ctl.proofs.controller.Controller.start.Goals as goal
@@ -75,12 +75,12 @@ returns-clause-start c =
     let core : ℕ = c.args.core.number in
     let full_cs : length new_cs ≡ cs.len = c.start_core.auto.rows ∙ c.deref_mut.ensures.len in
     let are_cs : (with_items cs new_cs).items ≡ new_cs = with_items_is cs new_cs full_cs in
-    let number : c.starts.result ≡ (core_at cs.items core).starts + 1 =
+    let number : c.starts.result ≡ (core_row cs.items core).starts + 1 =
     c.starts.ensures
-    ∙ ap (λ (xs : List CoreRow). (core_at xs core).starts) are_cs
+    ∙ ap (λ (xs : List CoreRow). (core_row xs core).starts) are_cs
     ∙ ap (λ (v : Values). v.starts core) (c.start_core.ensures.values life)
     ∙ next_number b (values_in life c.deref_mut.result.now c.deref_mut-2.result.now) core
     c.args.cause
-    ∙ ap (λ (xs : List CoreRow). (core_at xs core).starts + 1) c.deref_mut.ensures.value in
+    ∙ ap (λ (xs : List CoreRow). (core_row xs core).starts + 1) c.deref_mut.ensures.value in
     rw (← c.self.view_is)
     (ap (λ n. record { life = c.args.life; number = n; cause = c.args.cause }) number)

@@ -1,5 +1,5 @@
 use Rattle.std.proofs.Common.{sym, subst, ap, ◌∙◌}
-use Rattle.psci_coord.specs.Claim.{off_claim}
+use Rattle.psci_coord.specs.Claim.{off_claims}
 use Rattle.psci_fw_state.specs.Seen.{IsStateOf, StateValue}
 use Rattle.psci_fw_state.proofs.Viewed.{view_is}
 use Rattle.psci_fw_state.proofs.state.State.off_parts.Goals as goal
@@ -17,5 +17,5 @@ returns c =
     let of : IsStateOf c.args.board.now s =
     subst (IsStateOf c.args.board.now) (sym c.self.view_is) c.requires.state in
     c.off_parts.ensures
-    ∙ ap (λ w. off_claim c.args.board.now w c.args.core.number)
+    ∙ ap (λ w. off_claims c.args.board.now w c.args.core.number)
     (view_is c.args.board.now s _ c.self.view_is of.levels)

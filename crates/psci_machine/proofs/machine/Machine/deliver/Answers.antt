@@ -8,7 +8,7 @@ use Rattle.psci_ctl_model.specs.Replies.{reply}
 use Rattle.psci_link.specs.Message.{MessageValue}
 use Rattle.psci_world_model.specs.Legal.{said_by}
 use Rattle.psci_machine.specs.Next.{if_there}
-use Rattle.psci_machine.specs.Seen.{board_of}
+use Rattle.psci_machine.specs.Seen.{machine_board}
 use Rattle.psci_machine.proofs.machine.Machine.deliver.Goals as goal
 
 -- the message of this number
@@ -30,7 +30,7 @@ returns-clause-said c =
     let old = c.args.self.now in
     c.carry.ensures.said
     ∙ ap (λ (o : Option MessageValue). if_there o (λ m. said_by c.args.made
-    (reply (board_of old) (seen old.controller) (calls.Deliver m))))
+    (reply (machine_board old) (seen old.controller) (calls.Deliver m))))
     (sym (message_at c.args.messages.now c.args.number c.in-Ok.at c.in-Some.message.now
     c.in-Ok.ensures.1 c.in-Some.ensures.lookup.3))
 

@@ -2,14 +2,14 @@
 use Rattle.std.proofs.Common.{ap, sym, ◌∙◌}
 use Rattle.psci_ctl_model.specs.declared.call.CtlCall.TheVariants as calls
 use Rattle.psci_world_model.specs.Legal.{said_by}
-use Rattle.psci_machine.specs.Seen.{board_of}
+use Rattle.psci_machine.specs.Seen.{machine_board}
 use Rattle.psci_machine.proofs.Kicks.{found, kicked_by, reset_next, reset_said}
 use Rattle.psci_machine.proofs.machine.Machine.reset.Goals as goal
 
 pub returns-clause-said : goal.returns-clause-said
 returns-clause-said c =
     let old = c.args.self.now in
-    let is = found (board_of old) c.args.number c.in-Some.core _ c.core.ensures c.in-Some.is in
+    let is = found (machine_board old) c.args.number c.in-Some.core _ c.core.ensures c.in-Some.is in
     λ n. c.note_kick.ensures.said n ∙ ap (said_by n) c.reset-kick.ensures.reply
     ∙ reset_said old _ _ _ c.args.number n c.in-Some.core c.self.view_is
     c.self.invariant.same is.0 is.1
@@ -17,7 +17,7 @@ returns-clause-said c =
 pub returns-clause-next : goal.returns-clause-next
 returns-clause-next c =
     let old = c.args.self.now in
-    let is = found (board_of old) c.args.number c.in-Some.core _ c.core.ensures c.in-Some.is in
+    let is = found (machine_board old) c.args.number c.in-Some.core _ c.core.ensures c.in-Some.is in
     let ctl = c.self.inside.controller in
     λ messages made. reset_next messages made old c.note_kick.new.self c.args.number
     c.reset-kick.result c.note_kick.result (c.note_kick.ensures.said 0)

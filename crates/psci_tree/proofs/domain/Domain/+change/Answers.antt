@@ -3,9 +3,9 @@ use Rattle.std.proofs.Common.{subst, sym, [], ◌∷◌}
 use Rattle.std.proofs.lemmas.List.{get_or_default}
 use Rattle.std.proofs.Math.ListN.{set, length-set}
 use Rattle.std.specs.Vec.{with_item}
-use Rattle.psci_tree.specs.Domains.{cores, cores_in, children, child_counts, IsWay, place_by}
+use Rattle.psci_tree.specs.Domains.{cores, cores_in, children, child_counts, IsWay, index_by}
 use Rattle.psci_tree.specs.Recount.{never_started}
-use Rattle.psci_tree.specs.Changes.{changed, with_change}
+use Rattle.psci_tree.specs.Changes.{core_changed, with_change}
 use Rattle.psci_tree.specs.declared.state.CoreState.{CoreState}
 use Rattle.psci_tree.specs.declared.state.Change.{Change}
 use Rattle.psci_tree.specs.Kept.{Keeps, AreKept, IsKept}
@@ -63,9 +63,9 @@ returns-then-level-eq0-clause-cores t c =
     let none : length (children own) ≡ 0 =
     subst (λ j. IsWay j c.args.way.now own) c.if-level-eq0.true c.requires.way in
     let change : Change = c.args.change.now in
-    let there : with_change (cores own) (place_by c.args.level c.args.way.now own) change
-    ≡ changed change (out-Domain own).core ∷ [] =
-    ap (λ j. with_change (cores own) (place_by j c.args.way.now own) change) c.if-level-eq0.true
+    let there : with_change (cores own) (index_by c.args.level c.args.way.now own) change
+    ≡ core_changed change (out-Domain own).core ∷ [] =
+    ap (λ j. with_change (cores own) (index_by j c.args.way.now own) change) c.if-level-eq0.true
     ∙ ap (λ cs. with_change cs 0 change) (cores_of_core own none) in
     let here = cores_roll_core (record {
       children = (out-Domain own).children;
@@ -87,8 +87,8 @@ returns-then-level-eq0-clause-kept t c =
 
 pub returns-clause-cores : goal.returns-clause-cores
 returns-clause-cores t c =
-    let s : CoreState = changed c.args.change.now
-    (get_or (cores c.args.self.now) (place_by c.args.level c.args.way.now c.args.self.now)
+    let s : CoreState = core_changed c.args.change.now
+    (get_or (cores c.args.self.now) (index_by c.args.level c.args.way.now c.args.self.now)
     never_started) in
     let own : Domain = c.args.self.now in
     let l : ℕ = c.args.level in
@@ -99,13 +99,13 @@ returns-clause-cores t c =
     let items : List Domain = children own in
     let is : n ≡ get_or items i own =
     c.index_mut.ensures.value ∙ get_or_default items i n own down.inside in
-    let here = cores_with_child own i (place_by (l - 1) c.args.way.now (get_or items i own))
-    (place_by l c.args.way.now own) c.change.new.self s c.anew-self.result
+    let here = cores_with_child own i (index_by (l - 1) c.args.way.now (get_or items i own))
+    (index_by l c.args.way.now own) c.change.new.self s c.anew-self.result
     down.inside (sym down.place)
     (place_inside (l - 1) c.args.way.now (get_or items i own) down.rest)
     (child_changed own c.change.new.self l (l - 1) c.args.way.now c.args.change.now down
     (c.change.ensures.cores ∙ ap (λ (x : Domain). with_change (cores x)
-    (place_by (l - 1) c.args.way.now x) c.args.change.now) is)) in
+    (index_by (l - 1) c.args.way.now x) c.args.change.now) is)) in
     simp the_lemmas (simp the_lemmas at here)
 
 pub returns-clause-shape : goal.returns-clause-shape
@@ -137,8 +137,8 @@ anew-self-requires-clause-kept t c =
 
 pub anew-self-requires-clause-few : goal.anew-self-requires-clause-few
 anew-self-requires-clause-few t c =
-    let s : CoreState = changed c.args.change.now
-    (get_or (cores c.args.self.now) (place_by c.args.level c.args.way.now c.args.self.now)
+    let s : CoreState = core_changed c.args.change.now
+    (get_or (cores c.args.self.now) (index_by c.args.level c.args.way.now c.args.self.now)
     never_started) in
     let own : Domain = c.args.self.now in
     let l : ℕ = c.args.level in
@@ -150,12 +150,12 @@ anew-self-requires-clause-few t c =
     let is : n ≡ get_or items i own =
     c.index_mut.ensures.value ∙ get_or_default items i n own down.inside in
     let below : cores_in (set items i c.change.new.self)
-    ≡ set (cores_in items) (place_by l c.args.way.now own) s =
-    cores_set items i (place_by (l - 1) c.args.way.now (get_or items i own))
-    (place_by l c.args.way.now own) own c.change.new.self s down.inside (sym down.place)
+    ≡ set (cores_in items) (index_by l c.args.way.now own) s =
+    cores_set items i (index_by (l - 1) c.args.way.now (get_or items i own))
+    (index_by l c.args.way.now own) own c.change.new.self s down.inside (sym down.place)
     (place_inside (l - 1) c.args.way.now (get_or items i own) down.rest) (child_changed own
     c.change.new.self l (l - 1) c.args.way.now c.args.change.now down (c.change.ensures.cores
-    ∙ ap (λ (x : Domain). with_change (cores x) (place_by (l - 1) c.args.way.now x)
+    ∙ ap (λ (x : Domain). with_change (cores x) (index_by (l - 1) c.args.way.now x)
     c.args.change.now) is)) in
     let half : Domain-F Domain = record {
       children = with_item (out-Domain own).children i c.change.new.self;
@@ -166,7 +166,7 @@ anew-self-requires-clause-few t c =
       arith,
       ap (λ ns. length (cores_in ns)) (children_roll half),
       ap length below,
-      length-set (cores_in items) (place_by l c.args.way.now own) s,
+      length-set (cores_in items) (index_by l c.args.way.now own) s,
       length_of_domain own (omega (arith, down.inside)),
     )
 

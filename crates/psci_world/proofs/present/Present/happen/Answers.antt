@@ -1,7 +1,7 @@
 -- After an event it is the present of one record more.
 use Rattle.std.proofs.Common.{◌∙◌, subst, sym}
 use Rattle.psci_fw_model.specs.Sent.{sent_messages}
-use Rattle.psci_machine.specs.Seen.{board_of}
+use Rattle.psci_machine.specs.Seen.{machine_board}
 use Rattle.psci_world_model.specs.Histories.{firmware_history, sent}
 use Rattle.psci_world.specs.Seen.{IsPresent}
 use Rattle.psci_world.proofs.Booked.{sent_of_board}
@@ -10,7 +10,7 @@ use Rattle.psci_world.proofs.present.Present.happen.Goals as goal
 
 pub step-said-requires : goal.step-said-requires
 step-said-requires c =
-    let b = board_of c.self.inside.machine in
+    let b = machine_board c.self.inside.machine in
     let past = c.self.invariant.past in
     let is = c.self.invariant.is in
     sent_of_board b (sent past) (sent_messages b (firmware_history b past)) c.deref.result.now

@@ -5,7 +5,7 @@ use Rattle.psci_world_model.specs.Histories.{firmware_history, firmware_values}
 use Rattle.psci_world_model.proofs.Answered.{firmware_legal}
 use Rattle.psci_headline.proofs.AllDown.{DownLaws}
 use Rattle.psci_headline.proofs.OffIsDown.{off_is_down}
-use Rattle.psci_headline.proofs.sleep.law_off_is_down.Goals as goal
+use Rattle.psci_headline.proofs.powered_down.law_off_is_down.Goals as goal
 
 pub returns : goal.returns
 returns c = λ b past board legal.

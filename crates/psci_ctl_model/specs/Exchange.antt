@@ -3,7 +3,7 @@ use Rattle.psci_ctl_model.specs.declared.call.CtlCall.{CtlCall}
 use Rattle.psci_ctl_model.specs.declared.reply.CtlReply.{CtlReply}
 
 -- a call of the power controller, with its reply
-pub record Entry : Type 0 where
+pub record CtlExchange : Type 0 where
   -- what was asked of it
   pub call : CtlCall
   -- what became of that

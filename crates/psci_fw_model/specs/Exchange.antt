@@ -6,7 +6,7 @@ use Rattle.psci_fw_model.specs.declared.reply.FwReply.{FwReply}
 use Rattle.psci_fw_model.specs.Effects.{Effect, effect_of}
 
 -- a call of a core, with its reply
-pub record Entry : Type 0 where
+pub record FwExchange : Type 0 where
   -- the number of the core; of an acknowledgement it is never read
   pub core : ℕ
   -- what was asked of the firmware
@@ -14,6 +14,6 @@ pub record Entry : Type 0 where
   -- what was answered
   pub reply : FwReply
 
--- what an entry comes down to
-abbrev pub effect : BoardValue → Entry → Effect
+-- what an exchange comes down to
+abbrev pub effect : BoardValue → FwExchange → Effect
 effect b e = effect_of b e.core e.call e.reply

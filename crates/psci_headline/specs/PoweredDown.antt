@@ -7,7 +7,7 @@ use Rattle.psci_fw_model.specs.Phases.{Running, Away}
 use Rattle.psci_fw_model.specs.Values.{Values}
 use Rattle.psci_world_model.specs.declared.said.Record.{Record}
 use Rattle.psci_world_model.specs.Histories.{acks, controller_values, firmware_values}
-use Rattle.psci_safe.specs.Moments.{has_slept, is_reported_off}
+use Rattle.psci_safe.specs.Moments.{was_powered_down, is_reported_off}
 
 -- What the acknowledgement of a Down of which a part was applied says of its core, beside the
 -- firmware's values.
@@ -20,17 +20,17 @@ pub record IsDownBy (b : BoardValue) (past : List Record) (v : Values) (a : AckV
       → v.phase a.core.number ≡ Running → ⊥
   -- and if the core is off or going off, it was powered down since it last went on
   pub slept : a.life ≡ v.life → a.number ≡ v.known a.core.number
-      → v.phase a.core.number ≡ Away → has_slept b v.life past a.core.number ≡ true
+      → v.phase a.core.number ≡ Away → was_powered_down b v.life past a.core.number ≡ true
 
 -- Which cores were powered down, after these records.
 pub record AreDown (b : BoardValue) (past : List Record) : Type 0 where
   -- those that are reported OFF
   pub off : (c : ℕ) → is_reported_off b past c ≡ true
-      → has_slept b (firmware_values b past).life past c ≡ true
+      → was_powered_down b (firmware_values b past).life past c ≡ true
   -- those of whose Down a part was applied
   pub acked : (k : ℕ) (a : AckValue) → slice_get (acks past) k ≡ Some a → a.kind ≡ Down
       → 0 < a.applied → IsDownBy b past (firmware_values b past) a
   -- in a life that the firmware does not know of yet, each but the boot core
   pub fresh : (life c : ℕ) → (controller_values b past).life ≡ Some life
       → ((firmware_values b past).life ≡ life → ⊥) → (c ≡ 0 → ⊥)
-      → has_slept b life past c ≡ true
+      → was_powered_down b life past c ≡ true
