@@ -4,8 +4,8 @@ use Rattle.std.proofs.Common.{◌∙◌, arith, append-nil, subst, Option, Some,
 use Rattle.std.proofs.Common.{IsErr, IsErrAnd, IfErr, inl, inr}
 use Rattle.std.proofs.lemmas.List.{length-take-le}
 use Rattle.psci_board.specs.Board.{BoardValue}
-use Rattle.psci_world_model.specs.declared.said.Record.{Record}
-use Rattle.psci_world_model.specs.Legal.{legal, legal_record}
+use Rattle.psci_world_spec.specs.declared.said.Record.{Record}
+use Rattle.psci_world_spec.specs.Legal.{legal, legal_record}
 use Rattle.psci_world.specs.Seen.{PresentValue}
 use Rattle.psci_script.specs.declared.grammar.Line.{Line as LineSays}
 use Rattle.psci_script.specs.declared.grammar.Line.TheVariants.{Blank, Event as Says}

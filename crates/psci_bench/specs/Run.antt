@@ -4,8 +4,8 @@ use Rattle.std.specs.Prelude.{◌<◌, ◌≤◌, ◌⊎◌, Option, None, Some,
 use Rattle.std.specs.Io.KnownBytes.{Appends, Consumes, IsAtEnd}
 use Rattle.psci_board.specs.Board.{BoardValue}
 use Rattle.psci_board.specs.Verdict.{board_of}
-use Rattle.psci_world_model.specs.declared.said.Record.{Record}
-use Rattle.psci_world_model.specs.Legal.{legal, legal_record}
+use Rattle.psci_world_spec.specs.declared.said.Record.{Record}
+use Rattle.psci_world_spec.specs.Legal.{legal, legal_record}
 use Rattle.psci_world.specs.Seen.{IsPresent, PresentValue}
 use Rattle.psci_script.specs.declared.fault.Replayed.{Replayed}
 use Rattle.psci_script.specs.declared.fault.ReplayFault.{ReplayFault}

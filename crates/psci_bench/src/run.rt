@@ -3,7 +3,7 @@
 ghost use Rattle.std.specs.Prelude.{◌≡◌, ◌+◌, ◌-◌, ◌^◌, ◌<◌, ◌≤◌, ℕ, List, length, false, Option};
 ghost use Rattle.std.specs.Prelude.{IfOk, IfErr, OnOk};
 ghost use Rattle.psci_board.specs.Board.{BoardValue};
-ghost use Rattle.psci_world_model.specs.declared.said.Record.{Record};
+ghost use Rattle.psci_world_spec.specs.declared.said.Record.{Record};
 ghost use Rattle.psci_world.specs.Seen.{IsPresent};
 ghost use Rattle.psci_script.specs.Limits.{longest_line, most_lines};
 ghost use Rattle.psci_bench.specs.Progress.{IsFirst, IsLine, OnlyGivenUp};

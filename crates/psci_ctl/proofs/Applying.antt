@@ -10,9 +10,9 @@ use Rattle.std.proofs.lemmas.Option.{slice_get-get_or}
 use Rattle.psci_board.specs.Board.{BoardValue, height, up}
 use Rattle.psci_coord.specs.declared.part.Part.{Part}
 use Rattle.psci_coord.specs.View.{domain_of}
-use Rattle.psci_ctl_model.specs.Parts.{applied, begins_stale, depth_or, is_applied, is_covered}
-use Rattle.psci_ctl_model.specs.Parts.{is_live, is_stale, laid}
-use Rattle.psci_ctl_model.specs.Values.{Values}
+use Rattle.psci_ctl_spec.specs.Parts.{applied, begins_stale, depth_or, is_applied, is_covered}
+use Rattle.psci_ctl_spec.specs.Parts.{is_live, is_stale, laid}
+use Rattle.psci_ctl_spec.specs.Values.{Values}
 use Rattle.psci_board.specs.Paths.{is_on_path}
 use Rattle.psci_ctl.specs.Rows.{with_depth}
 

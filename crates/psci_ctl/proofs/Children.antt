@@ -9,7 +9,7 @@ use Rattle.std.proofs.lemmas.List.Folds.{list_all_at}
 use Rattle.std.proofs.lemmas.Option.{same_Some}
 use Rattle.psci_board.specs.declared.node.Node.{Node}
 use Rattle.psci_board.specs.Board.{BoardValue, child, children, first_child}
-use Rattle.psci_ctl_model.specs.Parts.{is_covered}
+use Rattle.psci_ctl_spec.specs.Parts.{is_covered}
 
 all_from : (p : ℕ → Bool) (a n : ℕ) → ((i : ℕ) → i < n → p (a + i) ≡ true)
     → list_all p (range_with_len a n) ≡ true

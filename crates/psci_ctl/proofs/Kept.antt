@@ -6,10 +6,10 @@ use Rattle.std.proofs.Common.{Bool, true, false, ◌==◌, ◌&&◌, [], get_or}
 use Rattle.std.proofs.lemmas.Bool.{and_parts, eq-eqb, eqb-true, lt-ltb}
 use Rattle.psci_board.specs.Board.{BoardValue, IsBoard, cores}
 use Rattle.psci_link.specs.declared.start.Cause.{Cause}
-use Rattle.psci_ctl_model.specs.Changes.{change, next_life, with_start}
-use Rattle.psci_ctl_model.specs.Effects.{Effect, Starts, Ends, Begins}
-use Rattle.psci_ctl_model.specs.Follows.{AreValues, MayFollow}
-use Rattle.psci_ctl_model.specs.Values.{Values, start_of_life}
+use Rattle.psci_ctl_spec.specs.Changes.{change, next_life, with_start}
+use Rattle.psci_ctl_spec.specs.Effects.{Effect, Starts, Ends, Begins}
+use Rattle.psci_ctl_spec.specs.Follows.{AreValues, MayFollow}
+use Rattle.psci_ctl_spec.specs.Values.{Values, start_of_life}
 use Rattle.psci_ctl.specs.declared.row.CoreRow.{CoreRow}
 use Rattle.psci_ctl.specs.declared.level.DomainRow.{DomainRow}
 use Rattle.psci_ctl.specs.Rows.{HasRows, HasSums, core_row, depth_in, domain_at, values_in}

@@ -7,9 +7,9 @@ use Rattle.psci_board.specs.declared.node.Node.{Node}
 use Rattle.psci_board.specs.Board.{BoardValue, cores, height}
 use Rattle.psci_link.specs.declared.start.Cause.{Cause}
 use Rattle.psci_link.specs.declared.start.Cause.TheVariants as causes
-use Rattle.psci_ctl_model.specs.Changes.{one_more, with_cause, with_start}
-use Rattle.psci_ctl_model.specs.Laws.{SumLaws}
-use Rattle.psci_ctl_model.specs.Values.{Values, start_of_life, starts_below}
+use Rattle.psci_ctl_spec.specs.Changes.{one_more, with_cause, with_start}
+use Rattle.psci_ctl_spec.specs.Laws.{SumLaws}
+use Rattle.psci_ctl_spec.specs.Values.{Values, start_of_life, starts_below}
 use Rattle.psci_board.specs.Paths.{is_on_path}
 use Rattle.psci_ctl.specs.declared.row.CoreRow.{CoreRow}
 use Rattle.psci_ctl.specs.declared.level.DomainRow.{DomainRow}

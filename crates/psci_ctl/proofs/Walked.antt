@@ -9,8 +9,8 @@ use Rattle.psci_board.specs.Board.{height}
 use Rattle.psci_coord.specs.declared.part.Part.{Part}
 use Rattle.psci_coord.specs.View.{domain_of}
 use Rattle.psci_link.specs.Message.{PartByPart}
-use Rattle.psci_ctl_model.specs.Parts.{is_applied, is_covered, is_live, laid}
-use Rattle.psci_ctl_model.specs.Values.{Values, starts_below}
+use Rattle.psci_ctl_spec.specs.Parts.{is_applied, is_covered, is_live, laid}
+use Rattle.psci_ctl_spec.specs.Values.{Values, starts_below}
 use Rattle.psci_ctl.specs.Rows.{deepened, with_depth}
 use Rattle.psci_ctl.specs.Seen.{ControllerValue, seen}
 use Rattle.psci_ctl.proofs.Applying.{is_one, laid_more}

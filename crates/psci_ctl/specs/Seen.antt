@@ -2,8 +2,8 @@
 -- domain.
 use Rattle.std.specs.Prelude.{◌≡◌, ℕ, Bool, true, false, List, length, Option, Some}
 use Rattle.psci_board.specs.Board.{BoardValue, IsBoard, cores}
-use Rattle.psci_ctl_model.specs.Follows.{AreValues}
-use Rattle.psci_ctl_model.specs.Values.{Values}
+use Rattle.psci_ctl_spec.specs.Follows.{AreValues}
+use Rattle.psci_ctl_spec.specs.Values.{Values}
 use Rattle.psci_ctl.specs.declared.row.CoreRow.{CoreRow}
 use Rattle.psci_ctl.specs.declared.done.Done.{Done}
 use Rattle.psci_ctl.specs.declared.level.DomainRow.{DomainRow}

@@ -5,7 +5,7 @@ use crate::level::Level;
 use crate::row::{CoreRow, off_cores};
 use crate::starting::{begin_life, start_core};
 use psci_board::{Board, Core, Memory, Node};
-use psci_ctl_model::{Cause, Delivery, Kick, Start, law_limits};
+use psci_ctl_spec::{Cause, Delivery, Kick, Start, law_limits};
 use psci_link::Message;
 use std::alloc::Global;
 use std::marker::Model;
@@ -45,14 +45,14 @@ impl Model for Controller {
 
 ghost use Rattle.std.specs.Prelude.{◌≡◌, ◌<◌, ◌≤◌, ◌+◌, Option, None, Some, length, IfOk, IsSome};
 ghost use Rattle.psci_board.specs.Board.{HasNode, cores};
-ghost use Rattle.psci_ctl_model.specs.Changes.{after, change, with_start};
-ghost use Rattle.psci_ctl_model.specs.Legal.{IsOfBoard};
-ghost use Rattle.psci_ctl_model.specs.Replies.{last_start, next_start, reply};
-ghost use Rattle.psci_ctl_model.specs.Values.{start_of_life};
-ghost use Rattle.psci_ctl_model.specs.declared.call.CtlCall.TheVariants as calls;
-ghost use Rattle.psci_ctl_model.specs.declared.delivery.Delivery.TheVariants as deliveries;
-ghost use Rattle.psci_ctl_model.specs.declared.kick.Kick.TheVariants as kicks;
-ghost use Rattle.psci_ctl_model.specs.declared.reply.CtlReply.TheVariants as replies;
+ghost use Rattle.psci_ctl_spec.specs.Changes.{after, change, with_start};
+ghost use Rattle.psci_ctl_spec.specs.Legal.{IsOfBoard};
+ghost use Rattle.psci_ctl_spec.specs.Replies.{last_start, next_start, reply};
+ghost use Rattle.psci_ctl_spec.specs.Values.{start_of_life};
+ghost use Rattle.psci_ctl_spec.specs.declared.call.CtlCall.TheVariants as calls;
+ghost use Rattle.psci_ctl_spec.specs.declared.delivery.Delivery.TheVariants as deliveries;
+ghost use Rattle.psci_ctl_spec.specs.declared.kick.Kick.TheVariants as kicks;
+ghost use Rattle.psci_ctl_spec.specs.declared.reply.CtlReply.TheVariants as replies;
 ghost use Rattle.psci_ctl.specs.Rows.{core_row};
 ghost use Rattle.psci_ctl.specs.Seen.{seen};
 
@@ -126,7 +126,7 @@ impl Controller {
     /// without a life; else it is carried out as far as it can be, and acknowledged. A Start takes
     /// one step for each level; a Down one for each child of the domains on the sender's path,
     /// however many cores there are below; a Reset writes each row anew.
-    #[tactic(auto, unfolding(psci_ctl_model::specs::Changes::after, psci_ctl_model::specs::Effects::effect_of, psci_ctl_model::specs::Replies::reply, psci_ctl_model::specs::Replies::delivery_of))]
+    #[tactic(auto, unfolding(psci_ctl_spec::specs::Changes::after, psci_ctl_spec::specs::Effects::effect_of, psci_ctl_spec::specs::Replies::reply, psci_ctl_spec::specs::Replies::delivery_of))]
     pub fn deliver(&mut self, message: &Message) -> Delivery
         requires { IsOfBoard self.old.board message.now }
         ensures reply { replies.Delivery result
@@ -149,7 +149,7 @@ impl Controller {
     /// A core has a wake-up event, after it stopped in its start of number `halted` (0 where it was
     /// not started in this life). It is started, unless it was started since or can't be once more;
     /// without a life the event is ignored.
-    #[tactic(auto, unfolding(psci_ctl_model::specs::Changes::after, psci_ctl_model::specs::Effects::effect_of, psci_ctl_model::specs::Replies::reply, psci_ctl_model::specs::Replies::wake_of))]
+    #[tactic(auto, unfolding(psci_ctl_spec::specs::Changes::after, psci_ctl_spec::specs::Effects::effect_of, psci_ctl_spec::specs::Replies::reply, psci_ctl_spec::specs::Replies::wake_of))]
     pub fn wake(&mut self, core: Core, halted: u32) -> Kick
         requires { core.number < cores self.old.board }
         ensures reply { replies.Kick result
@@ -170,7 +170,7 @@ impl Controller {
 
     /// A core is reset by itself: it is started, unless it can't be once more; without a life the
     /// reset is ignored.
-    #[tactic(auto, unfolding(psci_ctl_model::specs::Changes::after, psci_ctl_model::specs::Effects::effect_of, psci_ctl_model::specs::Replies::reply, psci_ctl_model::specs::Replies::reset_of))]
+    #[tactic(auto, unfolding(psci_ctl_spec::specs::Changes::after, psci_ctl_spec::specs::Effects::effect_of, psci_ctl_spec::specs::Replies::reply, psci_ctl_spec::specs::Replies::reset_of))]
     pub fn reset(&mut self, core: Core) -> Kick
         requires { core.number < cores self.old.board }
         ensures reply { replies.Kick result

@@ -1,7 +1,7 @@
 //! Whether the domains below a domain are deep enough.
 
 ghost use Rattle.std.specs.Prelude.{◌≡◌};
-ghost use Rattle.psci_ctl_model.specs.Parts.{is_covered};
+ghost use Rattle.psci_ctl_spec.specs.Parts.{is_covered};
 ghost use Rattle.psci_ctl.specs.Rows.{depth_in};
 
 use crate::domains::domain;

@@ -2,7 +2,7 @@
 
 ghost use Rattle.std.specs.Prelude.{◌≡◌, ◌≤◌};
 ghost use Rattle.psci_link.specs.Message.{most_applied};
-ghost use Rattle.psci_ctl_model.specs.Replies.{ack_of};
+ghost use Rattle.psci_ctl_spec.specs.Replies.{ack_of};
 
 use psci_link::{Ack, Message};
 

@@ -1,5 +1,5 @@
 //! The power controller: it starts cores, and takes their power domains down as messages of the
-//! firmware ask. The words and the definitions are those of `psci_ctl_model`.
+//! firmware ask. The words and the definitions are those of `psci_ctl_spec`.
 //!
 //! - A *row* is what the power controller keeps of one core, or of one power domain.
 #![tactic(auto)]
@@ -16,7 +16,7 @@ mod starting;
 pub use controller::Controller;
 pub use psci_board::{Board, Core, Memory, Node};
 pub use psci_coord::{Part, Parts};
-pub use psci_ctl_model::{
+pub use psci_ctl_spec::{
     Cause, CtlCall, CtlReply, Delivery, Kick, Start, law_acknowledgements, law_depths,
     law_sums, law_limits, law_nesting, law_one_reply, law_past, law_replies, law_start,
     law_values,

@@ -5,7 +5,7 @@ ghost use Rattle.psci_board.specs.Board.{cores};
 ghost use Rattle.psci_ctl.specs.Rows.{off_core};
 
 use psci_board::{Board, Memory};
-use psci_ctl_model::Cause;
+use psci_ctl_spec::Cause;
 use std::alloc::Global;
 
 /// What the power controller keeps of one core.

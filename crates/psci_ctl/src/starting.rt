@@ -2,15 +2,15 @@
 
 ghost use Rattle.std.specs.Prelude.{◌≡◌, ◌+◌, ◌<◌, ◌^◌, ℕ, length, Option};
 ghost use Rattle.psci_board.specs.Board.{cores};
-ghost use Rattle.psci_ctl_model.specs.Changes.{with_start};
-ghost use Rattle.psci_ctl_model.specs.Values.{start_of_life};
+ghost use Rattle.psci_ctl_spec.specs.Changes.{with_start};
+ghost use Rattle.psci_ctl_spec.specs.Values.{start_of_life};
 ghost use Rattle.psci_ctl.specs.Rows.{core_row, values_in, HasRows, HasSums};
 
 use crate::domains::{run_path, turn_off};
 use crate::level::Level;
 use crate::row::{CoreRow, forget_starts};
 use psci_board::{Board, Core, law_sizes};
-use psci_ctl_model::{Cause, law_sums};
+use psci_ctl_spec::{Cause, law_sums};
 
 /// The core that a life begins with.
 const BOOT_CORE: Core = Core { number: 0 };

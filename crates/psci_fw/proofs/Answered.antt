@@ -10,25 +10,25 @@ use Rattle.psci_coord.specs.declared.part.Part.{Part}
 use Rattle.psci_link.specs.declared.kind.Kind.TheVariants.{Down}
 use Rattle.psci_state.specs.Ask.{is_deep}
 use Rattle.psci_state.specs.declared.fault.BadState.{BadState}
-use Rattle.psci_fw_model.specs.declared.fault.FwFault.{FwFault}
-use Rattle.psci_fw_model.specs.declared.fault.FwFault.TheVariants.{NoCore}
-use Rattle.psci_fw_model.specs.declared.opening.Opening.{Opening}
-use Rattle.psci_fw_model.specs.declared.outcome.Act.{Act}
-use Rattle.psci_fw_model.specs.declared.outcome.Act.TheVariants.{Resume}
-use Rattle.psci_fw_model.specs.declared.outcome.Outcome.{Outcome}
+use Rattle.psci_fw_spec.specs.declared.fault.FwFault.{FwFault}
+use Rattle.psci_fw_spec.specs.declared.fault.FwFault.TheVariants.{NoCore}
+use Rattle.psci_fw_spec.specs.declared.opening.Opening.{Opening}
+use Rattle.psci_fw_spec.specs.declared.outcome.Act.{Act}
+use Rattle.psci_fw_spec.specs.declared.outcome.Act.TheVariants.{Resume}
+use Rattle.psci_fw_spec.specs.declared.outcome.Outcome.{Outcome}
 use Rattle.psci_link.specs.declared.start.Start.{Start}
-use Rattle.psci_fw_model.specs.After.{change}
-use Rattle.psci_fw_model.specs.Changes.{with_arrival, with_claims, with_phase, with_rest}
-use Rattle.psci_fw_model.specs.Claims.{leaving_claims, off_parts, suspend_parts}
-use Rattle.psci_fw_model.specs.CpuOff.{off_message}
-use Rattle.psci_fw_model.specs.CpuSuspend.{ask_named, suspend_answer, suspend_asked}
-use Rattle.psci_fw_model.specs.Effects.{function_effect, going_off, rest_named, suspends}
-use Rattle.psci_fw_model.specs.Entering.{enter_fault, enter_outcome, outcome_at, resumes}
-use Rattle.psci_fw_model.specs.Lives.{in_life, start_of_life}
-use Rattle.psci_fw_model.specs.Outcomes.{message_for, stops, stops_with}
-use Rattle.psci_fw_model.specs.Phases.{Away, Phase, Running, unless_pending}
-use Rattle.psci_fw_model.specs.Values.{Values}
-use Rattle.psci_fw_model.specs.Views.{view}
+use Rattle.psci_fw_spec.specs.After.{change}
+use Rattle.psci_fw_spec.specs.Changes.{with_arrival, with_claims, with_phase, with_rest}
+use Rattle.psci_fw_spec.specs.Claims.{leaving_claims, off_parts, suspend_parts}
+use Rattle.psci_fw_spec.specs.CpuOff.{off_message}
+use Rattle.psci_fw_spec.specs.CpuSuspend.{ask_named, suspend_answer, suspend_asked}
+use Rattle.psci_fw_spec.specs.Effects.{function_effect, going_off, rest_named, suspends}
+use Rattle.psci_fw_spec.specs.Entering.{enter_fault, enter_outcome, outcome_at, resumes}
+use Rattle.psci_fw_spec.specs.Lives.{in_life, start_of_life}
+use Rattle.psci_fw_spec.specs.Outcomes.{message_for, stops, stops_with}
+use Rattle.psci_fw_spec.specs.Phases.{Away, Phase, Running, unless_pending}
+use Rattle.psci_fw_spec.specs.Values.{Values}
+use Rattle.psci_fw_spec.specs.Views.{view}
 use Rattle.psci_fw.specs.Calls.{FunctionAnswered}
 use Rattle.psci_fw.specs.Suspending.{left_by_suspend}
 use Rattle.psci_fw.specs.Ways.{way_by, way_on}

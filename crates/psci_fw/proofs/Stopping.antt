@@ -15,27 +15,27 @@ use Rattle.psci_coord.specs.View.{PowerView}
 use Rattle.psci_link.specs.declared.kind.Kind.TheVariants.{Down}
 use Rattle.psci_link.specs.Message.{MessageValue}
 use Rattle.psci_state.specs.Ask.{deepest_of, is_deep}
-use Rattle.psci_fw_model.specs.declared.mode.SuspendMode.{SuspendMode}
-use Rattle.psci_fw_model.specs.declared.mode.SuspendMode.TheVariants.{Platform, OsInitiated}
-use Rattle.psci_fw_model.specs.declared.outcome.Act.TheVariants.{Resume, Stop}
-use Rattle.psci_fw_model.specs.declared.outcome.Outcome.{Outcome}
+use Rattle.psci_fw_spec.specs.declared.mode.SuspendMode.{SuspendMode}
+use Rattle.psci_fw_spec.specs.declared.mode.SuspendMode.TheVariants.{Platform, OsInitiated}
+use Rattle.psci_fw_spec.specs.declared.outcome.Act.TheVariants.{Resume, Stop}
+use Rattle.psci_fw_spec.specs.declared.outcome.Outcome.{Outcome}
 use Rattle.psci_link.specs.declared.start.Start.{Start}
-use Rattle.psci_fw_model.specs.After.{change}
-use Rattle.psci_fw_model.specs.Calls.{function_outcome, outcome_of}
-use Rattle.psci_fw_model.specs.Changes.{Rest, with_arrival, with_phase}
-use Rattle.psci_fw_model.specs.Claims.{leaving_claims, off_parts, suspend_claims, suspend_parts}
-use Rattle.psci_fw_model.specs.CpuOff.{off_message}
-use Rattle.psci_fw_model.specs.CpuSuspend.{ask_named, suspend_answer, suspend_asked}
-use Rattle.psci_fw_model.specs.Effects.{Effect, Rests, enter_effect, function_effect}
-use Rattle.psci_fw_model.specs.Entering.{enter_outcome, outcome_at, resumes}
-use Rattle.psci_fw_model.specs.Invariant.{AreValues}
-use Rattle.psci_fw_model.specs.Lives.{in_life}
-use Rattle.psci_fw_model.specs.Outcomes.{message_for, stops, stops_with}
-use Rattle.psci_fw_model.specs.Paths.{cleared, granted_with}
-use Rattle.psci_fw_model.specs.Phases.{Running, Suspended, activity_of}
-use Rattle.psci_fw_model.specs.SystemCalls.{all_others, is_off_status}
-use Rattle.psci_fw_model.specs.Values.{Values}
-use Rattle.psci_fw_model.specs.Views.{ask, view}
+use Rattle.psci_fw_spec.specs.After.{change}
+use Rattle.psci_fw_spec.specs.Calls.{function_outcome, outcome_of}
+use Rattle.psci_fw_spec.specs.Changes.{Rest, with_arrival, with_phase}
+use Rattle.psci_fw_spec.specs.Claims.{leaving_claims, off_parts, suspend_claims, suspend_parts}
+use Rattle.psci_fw_spec.specs.CpuOff.{off_message}
+use Rattle.psci_fw_spec.specs.CpuSuspend.{ask_named, suspend_answer, suspend_asked}
+use Rattle.psci_fw_spec.specs.Effects.{Effect, Rests, enter_effect, function_effect}
+use Rattle.psci_fw_spec.specs.Entering.{enter_outcome, outcome_at, resumes}
+use Rattle.psci_fw_spec.specs.Invariant.{AreValues}
+use Rattle.psci_fw_spec.specs.Lives.{in_life}
+use Rattle.psci_fw_spec.specs.Outcomes.{message_for, stops, stops_with}
+use Rattle.psci_fw_spec.specs.Paths.{cleared, granted_with}
+use Rattle.psci_fw_spec.specs.Phases.{Running, Suspended, activity_of}
+use Rattle.psci_fw_spec.specs.SystemCalls.{all_others, is_off_status}
+use Rattle.psci_fw_spec.specs.Values.{Values}
+use Rattle.psci_fw_spec.specs.Views.{ask, view}
 use Rattle.psci_tree.specs.Recount.{asks}
 
 -- Nothing is granted on the path ----------------------------------------------------------------

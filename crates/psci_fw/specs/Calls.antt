@@ -2,13 +2,13 @@
 use Rattle.std.specs.Prelude.{◌≡◌, ◌<◌, ℕ, false}
 use Rattle.psci_abi.specs.declared.request.Request.{Request}
 use Rattle.psci_board.specs.Board.{BoardValue, cores}
-use Rattle.psci_fw_model.specs.declared.outcome.Outcome.{Outcome}
-use Rattle.psci_fw_model.specs.After.{change}
-use Rattle.psci_fw_model.specs.Calls.{function_outcome}
-use Rattle.psci_fw_model.specs.Effects.{function_effect}
-use Rattle.psci_fw_model.specs.Invariant.{AreValues}
-use Rattle.psci_fw_model.specs.Phases.{Running}
-use Rattle.psci_fw_model.specs.Values.{Values}
+use Rattle.psci_fw_spec.specs.declared.outcome.Outcome.{Outcome}
+use Rattle.psci_fw_spec.specs.After.{change}
+use Rattle.psci_fw_spec.specs.Calls.{function_outcome}
+use Rattle.psci_fw_spec.specs.Effects.{function_effect}
+use Rattle.psci_fw_spec.specs.Invariant.{AreValues}
+use Rattle.psci_fw_spec.specs.Phases.{Running}
+use Rattle.psci_fw_spec.specs.Values.{Values}
 use Rattle.psci_fw_state.specs.Seen.{IsStateOf, StateValue, values_in}
 
 -- a core may call a function: it is running, in a life that is not halting

@@ -4,11 +4,11 @@ use Rattle.psci_board.specs.Board.{BoardValue}
 use Rattle.psci_coord.specs.declared.part.Part.{Part}
 use Rattle.psci_link.specs.Message.{MessageValue}
 use Rattle.psci_state.specs.Ask.{IsAsk}
-use Rattle.psci_fw_model.specs.declared.opening.Opening.{Opening}
-use Rattle.psci_fw_model.specs.declared.outcome.Outcome.{Outcome}
-use Rattle.psci_fw_model.specs.Changes.{Rest, with_claims, with_rest}
-use Rattle.psci_fw_model.specs.Claims.{suspend_parts}
-use Rattle.psci_fw_model.specs.Values.{Values}
+use Rattle.psci_fw_spec.specs.declared.opening.Opening.{Opening}
+use Rattle.psci_fw_spec.specs.declared.outcome.Outcome.{Outcome}
+use Rattle.psci_fw_spec.specs.Changes.{Rest, with_claims, with_rest}
+use Rattle.psci_fw_spec.specs.Claims.{suspend_parts}
+use Rattle.psci_fw_spec.specs.Values.{Values}
 use Rattle.psci_fw_state.specs.Claims.{MayClaim}
 
 -- a core may be suspended with this ask: if it gets parts, they may be granted once it rests

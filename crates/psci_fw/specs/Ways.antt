@@ -1,11 +1,11 @@
 -- Where a core goes on that enters.
 use Rattle.std.specs.Prelude.{ℕ, Option, None, Some, if◌then◌else◌}
-use Rattle.psci_fw_model.specs.declared.opening.Opening.{Opening}
-use Rattle.psci_fw_model.specs.declared.outcome.Act.{Act}
-use Rattle.psci_fw_model.specs.declared.outcome.Act.TheVariants as acts
+use Rattle.psci_fw_spec.specs.declared.opening.Opening.{Opening}
+use Rattle.psci_fw_spec.specs.declared.outcome.Act.{Act}
+use Rattle.psci_fw_spec.specs.declared.outcome.Act.TheVariants as acts
 use Rattle.psci_link.specs.declared.start.Start.{Start}
-use Rattle.psci_fw_model.specs.Entering.{resumes}
-use Rattle.psci_fw_model.specs.Values.{Values}
+use Rattle.psci_fw_spec.specs.Entering.{resumes}
+use Rattle.psci_fw_spec.specs.Values.{Values}
 
 -- at its opening, or after its suspend where it has none
 abbrev pub way_by : Values → ℕ → Start → Option Opening → Option Act

@@ -2,17 +2,17 @@
 
 ghost use Rattle.std.specs.Prelude.{◌≡◌, ◌<◌, MatchResult, None, Some};
 ghost use Rattle.psci_board.specs.Board.{cores};
-ghost use Rattle.psci_fw_model.specs.After.{change};
-ghost use Rattle.psci_fw_model.specs.Effects.{enter_effect};
-ghost use Rattle.psci_fw_model.specs.Entering.{enter_fault, enter_outcome, is_old, resumes};
-ghost use Rattle.psci_fw_model.specs.Invariant.{AreValues};
+ghost use Rattle.psci_fw_spec.specs.After.{change};
+ghost use Rattle.psci_fw_spec.specs.Effects.{enter_effect};
+ghost use Rattle.psci_fw_spec.specs.Entering.{enter_fault, enter_outcome, is_old, resumes};
+ghost use Rattle.psci_fw_spec.specs.Invariant.{AreValues};
 ghost use Rattle.psci_fw_state.specs.Seen.{IsStateOf, values_in};
 ghost use Rattle.psci_fw.specs.Ways.{way_on};
 
 use crate::laws::law_may_claim;
 use crate::off::send_down;
 use psci_board::{Board, Core};
-use psci_fw_model::{Act, Cause, FwFault, Opening, Outcome, Start, law_stops};
+use psci_fw_spec::{Act, Cause, FwFault, Opening, Outcome, Start, law_stops};
 use psci_fw_state::State;
 
 /// Whether a core may enter by this start, or the first reason why it may not.

@@ -2,7 +2,7 @@
 
 use psci_abi::{Regs, read};
 use psci_board::{Board, Core, Memory, Node};
-use psci_fw_model::{FwFault, Outcome, Start, Status};
+use psci_fw_spec::{FwFault, Outcome, Start, Status};
 use psci_fw_state::State;
 use psci_link::{Ack, Message, Taken};
 use std::alloc::Global;
@@ -26,18 +26,18 @@ impl Model for Firmware {
 }
 
 ghost use Rattle.std.specs.Prelude.{◌≡◌, ℕ, IfOk, OnErr, option_map};
-ghost use Rattle.psci_fw_model.specs.declared.call.FwCall.TheVariants as calls;
-ghost use Rattle.psci_fw_model.specs.declared.reply.FwReply.TheVariants as replies;
-ghost use Rattle.psci_fw_model.specs.After.{after};
-ghost use Rattle.psci_fw_model.specs.Answer.{answer, reply_of};
-ghost use Rattle.psci_fw_model.specs.Lives.{start_of_life};
-ghost use Rattle.psci_fw_model.specs.Phases.{is_running};
+ghost use Rattle.psci_fw_spec.specs.declared.call.FwCall.TheVariants as calls;
+ghost use Rattle.psci_fw_spec.specs.declared.reply.FwReply.TheVariants as replies;
+ghost use Rattle.psci_fw_spec.specs.After.{after};
+ghost use Rattle.psci_fw_spec.specs.Answer.{answer, reply_of};
+ghost use Rattle.psci_fw_spec.specs.Lives.{start_of_life};
+ghost use Rattle.psci_fw_spec.specs.Phases.{is_running};
 ghost use Rattle.psci_fw.specs.Seen.{life_shown, seen, status_shown};
 ghost use Rattle.psci_fw_state.specs.Seen.{message_shown};
 
 use crate::entering::{check_start, enter};
 use crate::smc::{check_caller, dispatch};
-use psci_fw_model::law_invariant;
+use psci_fw_spec::law_invariant;
 
 impl Firmware {
     /// The firmware of this board, before any core has entered. It takes the memory of all its
@@ -58,7 +58,7 @@ impl Firmware {
     ///
     /// Refused with NoCore where the board has no such core, NoLife before any core has entered,
     /// and NotRunning where the core is not running.
-    #[tactic(auto, unfolding(psci_fw_model::specs::Answer::answer, psci_fw_model::specs::After::after))]
+    #[tactic(auto, unfolding(psci_fw_spec::specs::Answer::answer, psci_fw_spec::specs::After::after))]
     pub fn smc(&mut self, core: Core, regs: Regs) -> Result<Outcome, FwFault>
         ensures answer { reply_of result
             ≡ answer self.old.board (seen self.old) core.number (calls.Smc regs) }
@@ -80,7 +80,7 @@ impl Firmware {
     /// OldStart where the start is over or can't be: its life is an earlier one than the
     /// firmware's, its number is none that the board allows, or it is no later one than the core's
     /// known start in the firmware's life.
-    #[tactic(auto, unfolding(psci_fw_model::specs::Answer::answer, psci_fw_model::specs::After::after))]
+    #[tactic(auto, unfolding(psci_fw_spec::specs::Answer::answer, psci_fw_spec::specs::After::after))]
     pub fn enter(&mut self, core: Core, start: Start) -> Result<Outcome, FwFault>
         ensures answer { reply_of result
             ≡ answer self.old.board (seen self.old) core.number (calls.Enter start) }
@@ -97,7 +97,7 @@ impl Firmware {
 
     /// Takes an acknowledgement of the power controller: used where its message is outstanding,
     /// else old, and nothing changes.
-    #[tactic(auto, unfolding(psci_fw_model::specs::Answer::answer, psci_fw_model::specs::After::after))]
+    #[tactic(auto, unfolding(psci_fw_spec::specs::Answer::answer, psci_fw_spec::specs::After::after))]
     pub fn take(&mut self, ack: Ack) -> Taken
         ensures answer { (c : ℕ) → replies.Taken result
             ≡ answer self.old.board (seen self.old) c (calls.Take ack) }

@@ -6,20 +6,20 @@ ghost use Rattle.psci_board.specs.Board.{BoardValue, IsBoard, cores, height, may
 ghost use Rattle.psci_coord.specs.declared.part.Part.{Part};
 ghost use Rattle.psci_state.specs.Ask.{deepest_of, is_deep};
 ghost use Rattle.psci_link.specs.declared.start.Start.{Start};
-ghost use Rattle.psci_fw_model.specs.Changes.{with_arrival};
-ghost use Rattle.psci_fw_model.specs.Claims.{off_parts, suspend_parts};
-ghost use Rattle.psci_fw_model.specs.CpuSuspend.{ask_named};
-ghost use Rattle.psci_fw_model.specs.Entering.{enter_fault, resumes};
-ghost use Rattle.psci_fw_model.specs.Invariant.{AreValues};
-ghost use Rattle.psci_fw_model.specs.Lives.{in_life};
-ghost use Rattle.psci_fw_model.specs.Phases.{Running};
-ghost use Rattle.psci_fw_model.specs.SystemCalls.{all_others, is_off_status};
-ghost use Rattle.psci_fw_model.specs.Values.{Values};
+ghost use Rattle.psci_fw_spec.specs.Changes.{with_arrival};
+ghost use Rattle.psci_fw_spec.specs.Claims.{off_parts, suspend_parts};
+ghost use Rattle.psci_fw_spec.specs.CpuSuspend.{ask_named};
+ghost use Rattle.psci_fw_spec.specs.Entering.{enter_fault, resumes};
+ghost use Rattle.psci_fw_spec.specs.Invariant.{AreValues};
+ghost use Rattle.psci_fw_spec.specs.Lives.{in_life};
+ghost use Rattle.psci_fw_spec.specs.Phases.{Running};
+ghost use Rattle.psci_fw_spec.specs.SystemCalls.{all_others, is_off_status};
+ghost use Rattle.psci_fw_spec.specs.Values.{Values};
 ghost use Rattle.psci_fw_state.specs.Claims.{MayClaim};
 
 use psci_board::law_paths;
 use psci_coord::{law_claims, law_last_core};
-use psci_fw_model::law_invariant;
+use psci_fw_spec::law_invariant;
 
 /// The claims of cores that stop may be granted.
 pub fn law_may_claim()

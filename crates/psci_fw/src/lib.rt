@@ -1,5 +1,5 @@
 //! The power firmware: what it answers to the calls of the cores, and what it keeps for them. The
-//! words and the definitions are those of `psci_fw_model`.
+//! words and the definitions are those of `psci_fw_spec`.
 //!
 //! - The *state* of the firmware is all that a call changes.
 //! - A *row* is what the state keeps of one core beside the tree of power domains.
@@ -19,7 +19,7 @@ mod suspend;
 mod system;
 
 pub use firmware::Firmware;
-pub use psci_fw_model::{
+pub use psci_fw_spec::{
     Act, Cause, FwCall, FwFault, FwReply, Opening, Outcome, Start, Status, SuspendMode, law_caller,
     law_first_start, law_power_on, law_values,
 };

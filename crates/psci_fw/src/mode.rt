@@ -4,15 +4,15 @@ ghost use Rattle.std.specs.Prelude.{◌≡◌};
 ghost use Rattle.std.specs.List.{list_any, range_with_len};
 ghost use Rattle.psci_abi.specs.declared.request.Request.TheVariants.{SetSuspendMode};
 ghost use Rattle.psci_board.specs.Board.{cores};
-ghost use Rattle.psci_fw_model.specs.Phases.{is_away, is_suspended_or_pending};
-ghost use Rattle.psci_fw_model.specs.SuspendMode.{may_set, mode_of};
-ghost use Rattle.psci_fw_model.specs.SystemCalls.{all_others};
+ghost use Rattle.psci_fw_spec.specs.Phases.{is_away, is_suspended_or_pending};
+ghost use Rattle.psci_fw_spec.specs.SuspendMode.{may_set, mode_of};
+ghost use Rattle.psci_fw_spec.specs.SystemCalls.{all_others};
 ghost use Rattle.psci_fw.specs.Calls.{FunctionAnswered, MayCall};
 ghost use Rattle.psci_fw_state.specs.Seen.{IsStateOf, values_in};
 
 use psci_abi::Code;
 use psci_board::{Board, Core};
-use psci_fw_model::{Outcome, SuspendMode};
+use psci_fw_spec::{Outcome, SuspendMode};
 use psci_fw_state::State;
 
 /// PSCI_SET_SUSPEND_MODE (DEN0022D): the mode of this number is set, if the other cores allow it.

@@ -3,14 +3,14 @@
 ghost use Rattle.std.specs.Prelude.{◌≡◌, ◌<◌, IfOk};
 ghost use Rattle.psci_abi.specs.declared.request.Request.TheVariants.{CpuOn};
 ghost use Rattle.psci_board.specs.Board.{cores};
-ghost use Rattle.psci_fw_model.specs.CpuOn.{target_of};
+ghost use Rattle.psci_fw_spec.specs.CpuOn.{target_of};
 ghost use Rattle.psci_fw.specs.Calls.{FunctionAnswered, MayCall};
 ghost use Rattle.psci_fw_state.specs.Seen.{IsStateOf, values_in};
 
 use psci_abi::Code;
 use psci_board::{Board, Core};
 use psci_coord::Parts;
-use psci_fw_model::{Act, Opening, Outcome, Status};
+use psci_fw_spec::{Act, Opening, Outcome, Status};
 use psci_fw_state::State;
 use psci_link::Kind;
 
@@ -40,7 +40,7 @@ pub fn cpu_on(
 }
 
 /// The core that a CPU_ON starts, or the code of the first check that fails.
-#[tactic(auto, unfolding(psci_fw_model::specs::CpuOn::target_of))]
+#[tactic(auto, unfolding(psci_fw_spec::specs::CpuOn::target_of))]
 fn check_target(board: &Board, state: &State, target: u64, entry_point: u64) -> Result<Core, Code>
     ensures target { result ≡ target_of board.now (values_in state.now) target entry_point }
     ensures inside { IfOk result (λ core. core.number < cores board.now) }

@@ -4,11 +4,11 @@ ghost use Rattle.std.specs.Prelude.{◌≡◌, ◌<◌, MatchResult, None, Some}
 ghost use Rattle.psci_abi.specs.declared.format.Format.TheVariants.{Original};
 ghost use Rattle.psci_abi.specs.Calls.{features_of};
 ghost use Rattle.psci_board.specs.Board.{cores};
-ghost use Rattle.psci_fw_model.specs.After.{change};
-ghost use Rattle.psci_fw_model.specs.Calls.{call_fault, outcome_of};
-ghost use Rattle.psci_fw_model.specs.Effects.{function_effect};
-ghost use Rattle.psci_fw_model.specs.Invariant.{AreValues};
-ghost use Rattle.psci_fw_model.specs.Phases.{Running};
+ghost use Rattle.psci_fw_spec.specs.After.{change};
+ghost use Rattle.psci_fw_spec.specs.Calls.{call_fault, outcome_of};
+ghost use Rattle.psci_fw_spec.specs.Effects.{function_effect};
+ghost use Rattle.psci_fw_spec.specs.Invariant.{AreValues};
+ghost use Rattle.psci_fw_spec.specs.Phases.{Running};
 ghost use Rattle.psci_fw.specs.Calls.{FunctionAnswered, MayCall};
 ghost use Rattle.psci_fw_state.specs.Seen.{IsStateOf, values_in};
 
@@ -20,7 +20,7 @@ use crate::suspend::{FORMAT, cpu_suspend};
 use crate::system::{system_off, system_reset, system_reset2, system_suspend};
 use psci_abi::{Code, Request, features};
 use psci_board::{Board, Core};
-use psci_fw_model::{FwFault, Opening, Outcome};
+use psci_fw_spec::{FwFault, Opening, Outcome};
 use psci_fw_state::State;
 
 /// PSCI 1.1: the major version in bits 31:16, the minor one in bits 15:0.
@@ -47,7 +47,7 @@ pub fn check_caller(board: &Board, state: &State, core: Core) -> Result<(), FwFa
 }
 
 /// What a running core is answered to its request: in a halting life it stops, whatever it asks.
-#[tactic(auto, unfolding(psci_fw_model::specs::Calls::outcome_of))]
+#[tactic(auto, unfolding(psci_fw_spec::specs::Calls::outcome_of))]
 pub fn dispatch(board: &Board, state: &mut State, caller: Core, request: Request) -> Outcome
     requires state { IsStateOf board.now state.old }
     requires values { AreValues board.now (values_in state.old) }

@@ -8,12 +8,12 @@ use Rattle.psci_board.specs.Laws.{PathLaws}
 use Rattle.psci_link.specs.Message.{MessageValue}
 use Rattle.psci_link.specs.Slots.{OfCore}
 use Rattle.psci_link.specs.declared.start.Start.{Start}
-use Rattle.psci_fw_model.specs.declared.status.Status.TheVariants as statuses
-use Rattle.psci_fw_model.specs.AffinityInfo.{is_on}
-use Rattle.psci_fw_model.specs.Changes.{with_arrival, with_phase, with_running}
-use Rattle.psci_fw_model.specs.Lives.{first_phase, first_status, in_life, start_of_life}
-use Rattle.psci_fw_model.specs.Phases.{Phase, Running, unless_pending}
-use Rattle.psci_fw_model.specs.Values.{Values, updated}
+use Rattle.psci_fw_spec.specs.declared.status.Status.TheVariants as statuses
+use Rattle.psci_fw_spec.specs.AffinityInfo.{is_on}
+use Rattle.psci_fw_spec.specs.Changes.{with_arrival, with_phase, with_running}
+use Rattle.psci_fw_spec.specs.Lives.{first_phase, first_status, in_life, start_of_life}
+use Rattle.psci_fw_spec.specs.Phases.{Phase, Running, unless_pending}
+use Rattle.psci_fw_spec.specs.Values.{Values, updated}
 use Rattle.psci_fw_laws.specs.Allowed.{IsEntering}
 use Rattle.psci_fw_laws.specs.Claims.{AreRising}
 use Rattle.psci_fw_laws.specs.Messages.{AreSent}

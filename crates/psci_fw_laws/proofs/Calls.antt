@@ -4,11 +4,11 @@ use Rattle.psci_board.specs.Board.{BoardValue}
 use Rattle.psci_coord.specs.declared.part.Part.{Part}
 use Rattle.psci_link.specs.declared.kind.Kind.{Kind}
 use Rattle.psci_link.specs.Message.{MessageValue}
-use Rattle.psci_fw_model.specs.declared.call.FwCall.{FwCall}
-use Rattle.psci_fw_model.specs.declared.call.FwCall.TheVariants.{Smc, Enter, Take}
+use Rattle.psci_fw_spec.specs.declared.call.FwCall.{FwCall}
+use Rattle.psci_fw_spec.specs.declared.call.FwCall.TheVariants.{Smc, Enter, Take}
 use Rattle.psci_link.specs.declared.start.Cause.TheVariants.{Wake}
-use Rattle.psci_fw_model.specs.Exchange.{FwExchange}
-use Rattle.psci_fw_model.specs.Legal.{legal_reply}
+use Rattle.psci_fw_spec.specs.Exchange.{FwExchange}
+use Rattle.psci_fw_spec.specs.Legal.{legal_reply}
 
 -- two clusters of two cores
 abbrev pub board : BoardValue

@@ -8,15 +8,15 @@ use Rattle.psci_coord.specs.declared.part.Part.{Part}
 use Rattle.psci_link.specs.declared.kind.Kind.TheVariants.{Down, Start, Reset}
 use Rattle.psci_link.specs.Message.{MessageValue}
 use Rattle.psci_link.specs.Outstanding.{changes_since, last_message, outstanding}
-use Rattle.psci_fw_model.specs.Answer.{answer}
-use Rattle.psci_fw_model.specs.Calls.{outcome_of}
-use Rattle.psci_fw_model.specs.Claims.{off_parts}
-use Rattle.psci_fw_model.specs.CpuOn.{target_of}
-use Rattle.psci_fw_model.specs.Entering.{enter_outcome}
-use Rattle.psci_fw_model.specs.Exchange.{FwExchange}
-use Rattle.psci_fw_model.specs.History.{values_of}
-use Rattle.psci_fw_model.specs.Sent.{sent_messages}
-use Rattle.psci_fw_model.specs.Views.{view}
+use Rattle.psci_fw_spec.specs.Answer.{answer}
+use Rattle.psci_fw_spec.specs.Calls.{outcome_of}
+use Rattle.psci_fw_spec.specs.Claims.{off_parts}
+use Rattle.psci_fw_spec.specs.CpuOn.{target_of}
+use Rattle.psci_fw_spec.specs.Entering.{enter_outcome}
+use Rattle.psci_fw_spec.specs.Exchange.{FwExchange}
+use Rattle.psci_fw_spec.specs.History.{values_of}
+use Rattle.psci_fw_spec.specs.Sent.{sent_messages}
+use Rattle.psci_fw_spec.specs.Views.{view}
 use Rattle.psci_fw_laws.specs.Claims.{IsClaimOn, IsCurrent, IsFromStart, part_for}
 use Rattle.psci_fw_laws.specs.KnownBelow.{known_below}
 use Rattle.psci_fw_laws.proofs.Calls.{board, enter, history_of, message, off, on_3, part}

@@ -8,9 +8,9 @@ use Rattle.psci_coord.specs.declared.part.Part.{Part}
 use Rattle.psci_link.specs.declared.kind.Kind.TheVariants.{Down}
 use Rattle.psci_link.specs.Message.{MessageValue}
 use Rattle.psci_link.specs.Slots.{is_kind}
-use Rattle.psci_fw_model.specs.Lives.{first_phase}
-use Rattle.psci_fw_model.specs.Phases.{Phase, Running, Pending, Away}
-use Rattle.psci_fw_model.specs.Values.{updated}
+use Rattle.psci_fw_spec.specs.Lives.{first_phase}
+use Rattle.psci_fw_spec.specs.Phases.{Phase, Running, Pending, Away}
+use Rattle.psci_fw_spec.specs.Values.{updated}
 use Rattle.psci_fw_laws.specs.KnownBelow.{known_below}
 use Rattle.psci_fw_laws.specs.Claims.{AreRising, AreQuiet, IsFromMessage, part_for}
 use Rattle.psci_fw_laws.specs.Messages.{AreSent, known_on}

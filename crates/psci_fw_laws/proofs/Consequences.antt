@@ -12,13 +12,13 @@ use Rattle.psci_link.specs.declared.kind.Kind.{Kind}
 use Rattle.psci_link.specs.declared.kind.Kind.TheVariants.{Down}
 use Rattle.psci_link.specs.Message.{ArePartsOf, AreClaims, MessageValue, PartByPart}
 use Rattle.psci_tree.specs.Recount.{asks}
-use Rattle.psci_fw_model.specs.declared.status.Status.{Status}
-use Rattle.psci_fw_model.specs.declared.status.Status.TheVariants as statuses
-use Rattle.psci_fw_model.specs.AffinityInfo.{is_on}
-use Rattle.psci_fw_model.specs.Invariant.{AreValues, agrees}
-use Rattle.psci_fw_model.specs.Phases.{Phase, Away, Pending, Running, Suspended, activity_of}
-use Rattle.psci_fw_model.specs.Values.{Values}
-use Rattle.psci_fw_model.specs.Views.{ask, view}
+use Rattle.psci_fw_spec.specs.declared.status.Status.{Status}
+use Rattle.psci_fw_spec.specs.declared.status.Status.TheVariants as statuses
+use Rattle.psci_fw_spec.specs.AffinityInfo.{is_on}
+use Rattle.psci_fw_spec.specs.Invariant.{AreValues, agrees}
+use Rattle.psci_fw_spec.specs.Phases.{Phase, Away, Pending, Running, Suspended, activity_of}
+use Rattle.psci_fw_spec.specs.Values.{Values}
+use Rattle.psci_fw_spec.specs.Views.{ask, view}
 use Rattle.psci_fw_laws.specs.Claims.{AreRising, IsClaimOn, IsCurrent, part_for}
 use Rattle.psci_fw_laws.specs.Entered.{AreEntered}
 use Rattle.psci_fw_laws.specs.Granted.{HasDeeper, NonePending}

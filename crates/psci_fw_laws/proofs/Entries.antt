@@ -12,28 +12,28 @@ use Rattle.psci_link.specs.declared.taken.Taken.TheVariants as takens
 use Rattle.psci_link.specs.Message.{AckValue, MessageValue}
 use Rattle.psci_link.specs.Slots.{answers, slot_of, taken}
 use Rattle.psci_tree.specs.Recount.{asks}
-use Rattle.psci_fw_model.specs.declared.call.FwCall.{FwCall}
-use Rattle.psci_fw_model.specs.declared.call.FwCall.TheVariants.{Smc, Enter, Take}
-use Rattle.psci_fw_model.specs.declared.fault.FwFault.{FwFault}
-use Rattle.psci_fw_model.specs.declared.fault.FwFault.TheVariants as faults
-use Rattle.psci_fw_model.specs.declared.opening.Opening.{Opening}
-use Rattle.psci_fw_model.specs.declared.outcome.Act.TheVariants as acts
-use Rattle.psci_fw_model.specs.declared.outcome.Outcome.{Outcome}
-use Rattle.psci_fw_model.specs.declared.reply.FwReply.TheVariants as replies
+use Rattle.psci_fw_spec.specs.declared.call.FwCall.{FwCall}
+use Rattle.psci_fw_spec.specs.declared.call.FwCall.TheVariants.{Smc, Enter, Take}
+use Rattle.psci_fw_spec.specs.declared.fault.FwFault.{FwFault}
+use Rattle.psci_fw_spec.specs.declared.fault.FwFault.TheVariants as faults
+use Rattle.psci_fw_spec.specs.declared.opening.Opening.{Opening}
+use Rattle.psci_fw_spec.specs.declared.outcome.Act.TheVariants as acts
+use Rattle.psci_fw_spec.specs.declared.outcome.Outcome.{Outcome}
+use Rattle.psci_fw_spec.specs.declared.reply.FwReply.TheVariants as replies
 use Rattle.psci_link.specs.declared.start.Start.{Start}
-use Rattle.psci_fw_model.specs.Answer.{answer, reply_or}
-use Rattle.psci_fw_model.specs.Calls.{call_fault, outcome_of}
-use Rattle.psci_fw_model.specs.Changes.{with_arrival, with_phase}
-use Rattle.psci_fw_model.specs.Claims.{off_parts}
-use Rattle.psci_fw_model.specs.CpuOff.{off_message}
-use Rattle.psci_fw_model.specs.Effects.{Parks, effect_of, enter_effect}
-use Rattle.psci_fw_model.specs.Entering.{enter_fault, enter_outcome, is_old, outcome_at, resumes}
-use Rattle.psci_fw_model.specs.Invariant.{AreValues, is_expected}
-use Rattle.psci_fw_model.specs.Lives.{in_life, start_of_life}
-use Rattle.psci_fw_model.specs.Outcomes.{stops, stops_with}
-use Rattle.psci_fw_model.specs.Phases.{Phase, Away, Pending, Running, Suspended, is_running}
-use Rattle.psci_fw_model.specs.Phases.{activity_of, unless_pending}
-use Rattle.psci_fw_model.specs.Values.{Values}
+use Rattle.psci_fw_spec.specs.Answer.{answer, reply_or}
+use Rattle.psci_fw_spec.specs.Calls.{call_fault, outcome_of}
+use Rattle.psci_fw_spec.specs.Changes.{with_arrival, with_phase}
+use Rattle.psci_fw_spec.specs.Claims.{off_parts}
+use Rattle.psci_fw_spec.specs.CpuOff.{off_message}
+use Rattle.psci_fw_spec.specs.Effects.{Parks, effect_of, enter_effect}
+use Rattle.psci_fw_spec.specs.Entering.{enter_fault, enter_outcome, is_old, outcome_at, resumes}
+use Rattle.psci_fw_spec.specs.Invariant.{AreValues, is_expected}
+use Rattle.psci_fw_spec.specs.Lives.{in_life, start_of_life}
+use Rattle.psci_fw_spec.specs.Outcomes.{stops, stops_with}
+use Rattle.psci_fw_spec.specs.Phases.{Phase, Away, Pending, Running, Suspended, is_running}
+use Rattle.psci_fw_spec.specs.Phases.{activity_of, unless_pending}
+use Rattle.psci_fw_spec.specs.Values.{Values}
 use Rattle.psci_fw_laws.specs.Allowed.{IsCalling}
 use Rattle.psci_fw_laws.proofs.Allowing.{Allows, IsReady}
 use Rattle.psci_fw_laws.specs.Allowed.{IsEntering}

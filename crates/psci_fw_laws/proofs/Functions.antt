@@ -6,14 +6,14 @@ use Rattle.psci_abi.specs.declared.request.Request.TheVariants as requests
 use Rattle.psci_board.specs.Board.{BoardValue}
 use Rattle.psci_link.specs.declared.kind.Kind.{Kind}
 use Rattle.psci_link.specs.declared.kind.Kind.TheVariants as kinds
-use Rattle.psci_fw_model.specs.Calls.{function_outcome, outcome_of}
-use Rattle.psci_fw_model.specs.CpuOn.{target_of}
-use Rattle.psci_fw_model.specs.Effects.{Halts}
-use Rattle.psci_fw_model.specs.Outcomes.{message_for}
-use Rattle.psci_fw_model.specs.SuspendMode.{set_suspend_mode}
-use Rattle.psci_fw_model.specs.SystemCalls.{system_reset2}
-use Rattle.psci_fw_model.specs.Values.{Values}
-use Rattle.psci_fw_model.proofs.Endings.{outcome_ends, reset2_ends}
+use Rattle.psci_fw_spec.specs.Calls.{function_outcome, outcome_of}
+use Rattle.psci_fw_spec.specs.CpuOn.{target_of}
+use Rattle.psci_fw_spec.specs.Effects.{Halts}
+use Rattle.psci_fw_spec.specs.Outcomes.{message_for}
+use Rattle.psci_fw_spec.specs.SuspendMode.{set_suspend_mode}
+use Rattle.psci_fw_spec.specs.SystemCalls.{system_reset2}
+use Rattle.psci_fw_spec.specs.Values.{Values}
+use Rattle.psci_fw_spec.proofs.Endings.{outcome_ends, reset2_ends}
 use Rattle.psci_fw_laws.specs.Messages.{is_system}
 use Rattle.psci_fw_laws.specs.Allowed.{IsAllowed, IsCalling}
 use Rattle.psci_fw_laws.proofs.Allowing.{Allows, IsReady}

@@ -9,11 +9,11 @@ use Rattle.psci_coord.specs.declared.part.Part.{Part}
 use Rattle.psci_link.specs.declared.kind.Kind.TheVariants.{Down}
 use Rattle.psci_link.specs.Message.{MessageValue}
 use Rattle.psci_link.specs.Slots.{is_kind}
-use Rattle.psci_fw_model.specs.Lives.{first_granted}
-use Rattle.psci_fw_model.specs.Paths.{claimed_or, cleared, granted_with}
+use Rattle.psci_fw_spec.specs.Lives.{first_granted}
+use Rattle.psci_fw_spec.specs.Paths.{claimed_or, cleared, granted_with}
 use Rattle.psci_board.specs.Paths.{is_path_place}
-use Rattle.psci_fw_model.specs.Phases.{Phase, Pending}
-use Rattle.psci_fw_model.specs.Values.{updated}
+use Rattle.psci_fw_spec.specs.Phases.{Phase, Pending}
+use Rattle.psci_fw_spec.specs.Values.{updated}
 use Rattle.psci_fw_laws.specs.KnownBelow.{known_below}
 use Rattle.psci_fw_laws.specs.Claims.{IsFromMessage}
 use Rattle.psci_fw_laws.specs.Granted.{AreGranted, HasCurrent}

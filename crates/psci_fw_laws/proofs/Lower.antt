@@ -8,14 +8,14 @@ use Rattle.psci_coord.specs.View.{PowerView}
 use Rattle.psci_link.specs.Message.{AreClaims, PartByPart}
 use Rattle.psci_state.specs.Ask.{IsAsk}
 use Rattle.psci_link.specs.declared.start.Start.{Start}
-use Rattle.psci_fw_model.specs.After.{change}
-use Rattle.psci_fw_model.specs.Changes.{PowerOn, with_arrival, with_pending}
-use Rattle.psci_fw_model.specs.Claims.{off_parts, suspend_parts}
-use Rattle.psci_fw_model.specs.Effects.{AsksOn, GoesOn}
-use Rattle.psci_fw_model.specs.Invariant.{AreValues}
-use Rattle.psci_fw_model.specs.Lives.{in_life, start_of_life}
-use Rattle.psci_fw_model.specs.Phases.{Running}
-use Rattle.psci_fw_model.specs.Values.{Values}
+use Rattle.psci_fw_spec.specs.After.{change}
+use Rattle.psci_fw_spec.specs.Changes.{PowerOn, with_arrival, with_pending}
+use Rattle.psci_fw_spec.specs.Claims.{off_parts, suspend_parts}
+use Rattle.psci_fw_spec.specs.Effects.{AsksOn, GoesOn}
+use Rattle.psci_fw_spec.specs.Invariant.{AreValues}
+use Rattle.psci_fw_spec.specs.Lives.{in_life, start_of_life}
+use Rattle.psci_fw_spec.specs.Phases.{Running}
+use Rattle.psci_fw_spec.specs.Values.{Values}
 
 -- What holds of a board, of claims on it, and of what the firmware answers.
 pub record LowerLaws (b : BoardValue) : Type 0 where

@@ -13,17 +13,17 @@ use Rattle.psci_coord.specs.View.{domain_of, generation}
 use Rattle.psci_link.specs.declared.kind.Kind.TheVariants.{Down}
 use Rattle.psci_link.specs.Message.{AreClaims, MessageValue}
 use Rattle.psci_tree.specs.Recount.{asks}
-use Rattle.psci_fw_model.specs.declared.mode.SuspendMode.{SuspendMode}
-use Rattle.psci_fw_model.specs.declared.mode.SuspendMode.TheVariants.{Platform, OsInitiated}
-use Rattle.psci_fw_model.specs.Changes.{with_claims, with_phase}
-use Rattle.psci_fw_model.specs.Claims.{leaving_claims, off_parts, suspend_claims, suspend_parts}
-use Rattle.psci_fw_model.specs.Invariant.{AreValues}
-use Rattle.psci_fw_model.specs.Outcomes.{message_for}
-use Rattle.psci_fw_model.specs.Phases.{Away, Pending, Running, Suspended, activity_of}
-use Rattle.psci_fw_model.specs.Phases.{unless_pending}
-use Rattle.psci_fw_model.specs.Values.{Values}
-use Rattle.psci_fw_model.specs.Views.{ask, view}
-use Rattle.psci_fw_model.specs.Paths.{claimed_or}
+use Rattle.psci_fw_spec.specs.declared.mode.SuspendMode.{SuspendMode}
+use Rattle.psci_fw_spec.specs.declared.mode.SuspendMode.TheVariants.{Platform, OsInitiated}
+use Rattle.psci_fw_spec.specs.Changes.{with_claims, with_phase}
+use Rattle.psci_fw_spec.specs.Claims.{leaving_claims, off_parts, suspend_claims, suspend_parts}
+use Rattle.psci_fw_spec.specs.Invariant.{AreValues}
+use Rattle.psci_fw_spec.specs.Outcomes.{message_for}
+use Rattle.psci_fw_spec.specs.Phases.{Away, Pending, Running, Suspended, activity_of}
+use Rattle.psci_fw_spec.specs.Phases.{unless_pending}
+use Rattle.psci_fw_spec.specs.Values.{Values}
+use Rattle.psci_fw_spec.specs.Views.{ask, view}
+use Rattle.psci_fw_spec.specs.Paths.{claimed_or}
 use Rattle.psci_fw_laws.specs.KnownBelow.{known_below}
 use Rattle.psci_fw_laws.specs.Messages.{known_on}
 use Rattle.psci_fw_laws.proofs.Lower.{LowerLaws}

@@ -5,15 +5,15 @@ use Rattle.std.specs.Prelude.{slice_get}
 use Rattle.psci_board.specs.Board.{BoardValue}
 use Rattle.psci_link.specs.declared.kind.Kind.TheVariants.{Down}
 use Rattle.psci_link.specs.Message.{MessageValue}
-use Rattle.psci_fw_model.specs.After.{change}
-use Rattle.psci_fw_model.specs.Effects.{Effect, Nothing, GoesOn, SetsMode, AsksOn, Rests, Halts}
-use Rattle.psci_fw_model.specs.Effects.{Stops, Enters, Parks, StopsAtOnce, Acknowledges}
-use Rattle.psci_fw_model.specs.Exchange.{FwExchange, effect}
-use Rattle.psci_fw_model.specs.History.{values_of}
-use Rattle.psci_fw_model.specs.Legal.{IsLegal}
-use Rattle.psci_fw_model.specs.Said.{listed, sent}
-use Rattle.psci_fw_model.specs.Sent.{sent_messages}
-use Rattle.psci_fw_model.specs.Values.{Values}
+use Rattle.psci_fw_spec.specs.After.{change}
+use Rattle.psci_fw_spec.specs.Effects.{Effect, Nothing, GoesOn, SetsMode, AsksOn, Rests, Halts}
+use Rattle.psci_fw_spec.specs.Effects.{Stops, Enters, Parks, StopsAtOnce, Acknowledges}
+use Rattle.psci_fw_spec.specs.Exchange.{FwExchange, effect}
+use Rattle.psci_fw_spec.specs.History.{values_of}
+use Rattle.psci_fw_spec.specs.Legal.{IsLegal}
+use Rattle.psci_fw_spec.specs.Said.{listed, sent}
+use Rattle.psci_fw_spec.specs.Sent.{sent_messages}
+use Rattle.psci_fw_spec.specs.Values.{Values}
 use Rattle.psci_fw_laws.specs.Allowed.{IsAllowed}
 use Rattle.psci_fw_laws.specs.Asked.{IsAskedFor, WasAsked}
 use Rattle.psci_fw_laws.proofs.Started.{not_down}

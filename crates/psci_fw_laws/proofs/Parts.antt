@@ -10,7 +10,7 @@ use Rattle.psci_link.specs.declared.kind.Kind.{Kind}
 use Rattle.psci_link.specs.declared.kind.Kind.TheVariants.{Down, Start, Off, Reset}
 use Rattle.psci_link.specs.Message.{MessageValue}
 use Rattle.psci_link.specs.Slots.{is_kind}
-use Rattle.psci_fw_model.specs.Values.{updated}
+use Rattle.psci_fw_spec.specs.Values.{updated}
 use Rattle.psci_fw_laws.specs.Claims.{IsClaimOn, IsFromMessage, part_for}
 
 -- A function updated at one core ---------------------------------------------------------------

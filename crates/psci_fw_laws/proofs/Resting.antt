@@ -9,9 +9,9 @@ use Rattle.psci_link.specs.declared.kind.Kind.{Kind}
 use Rattle.psci_link.specs.declared.kind.Kind.TheVariants.{Down, Start}
 use Rattle.psci_link.specs.Message.{MessageValue}
 use Rattle.psci_link.specs.Slots.{slot_of}
-use Rattle.psci_fw_model.specs.Changes.{with_claims, with_phase}
-use Rattle.psci_fw_model.specs.Phases.{Phase, Pending, Running, unless_pending}
-use Rattle.psci_fw_model.specs.Values.{Values}
+use Rattle.psci_fw_spec.specs.Changes.{with_claims, with_phase}
+use Rattle.psci_fw_spec.specs.Phases.{Phase, Pending, Running, unless_pending}
+use Rattle.psci_fw_spec.specs.Values.{Values}
 use Rattle.psci_fw_laws.specs.Allowed.{IsNewClaim}
 use Rattle.psci_fw_laws.specs.KnownBelow.{known_below}
 use Rattle.psci_fw_laws.specs.Messages.{IsSent, is_system}

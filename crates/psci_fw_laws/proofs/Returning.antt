@@ -7,12 +7,12 @@ use Rattle.psci_abi.specs.declared.code.Code.{Code}
 use Rattle.psci_abi.specs.declared.request.Request.{Request}
 use Rattle.psci_abi.specs.declared.request.Request.TheVariants as requests
 use Rattle.psci_board.specs.Board.{BoardValue}
-use Rattle.psci_fw_model.specs.declared.outcome.Act.TheVariants as acts
-use Rattle.psci_fw_model.specs.declared.outcome.Outcome.{Outcome}
-use Rattle.psci_fw_model.specs.Effects.{Effect, GoesOn, function_effect}
-use Rattle.psci_fw_model.specs.Effects.{mode_effect}
-use Rattle.psci_fw_model.specs.SuspendMode.{mode_of}
-use Rattle.psci_fw_model.specs.Values.{Values}
+use Rattle.psci_fw_spec.specs.declared.outcome.Act.TheVariants as acts
+use Rattle.psci_fw_spec.specs.declared.outcome.Outcome.{Outcome}
+use Rattle.psci_fw_spec.specs.Effects.{Effect, GoesOn, function_effect}
+use Rattle.psci_fw_spec.specs.Effects.{mode_effect}
+use Rattle.psci_fw_spec.specs.SuspendMode.{mode_of}
+use Rattle.psci_fw_spec.specs.Values.{Values}
 use Rattle.psci_fw_laws.specs.Allowed.{IsAllowed, IsCalling}
 use Rattle.psci_fw_laws.proofs.Allowing.{Allows}
 

@@ -8,8 +8,8 @@ use Rattle.psci_coord.specs.declared.part.Part.{Part}
 use Rattle.psci_link.specs.declared.kind.Kind.TheVariants.{Down, Start}
 use Rattle.psci_link.specs.Message.{MessageValue}
 use Rattle.psci_tree.specs.Recount.{asks}
-use Rattle.psci_fw_model.specs.Phases.{Phase, Pending, activity_of}
-use Rattle.psci_fw_model.specs.Values.{updated}
+use Rattle.psci_fw_spec.specs.Phases.{Phase, Pending, activity_of}
+use Rattle.psci_fw_spec.specs.Values.{updated}
 use Rattle.psci_fw_laws.specs.Messages.{AreSent, IsSent}
 use Rattle.psci_fw_laws.proofs.Parts.{updated_at}
 use Rattle.psci_fw_laws.proofs.Sums.{known_gap, known_le}

@@ -6,8 +6,8 @@ use Rattle.psci_link.specs.declared.kind.Kind.TheVariants.{Down, Start}
 use Rattle.psci_link.specs.Message.{AckValue, MessageValue}
 use Rattle.psci_link.specs.Slots.{Acknowledge, Clear, Put, OfCore, OfSystem, Slot, changed}
 use Rattle.psci_link.specs.Slots.{is_slot, left_by, slot_of}
-use Rattle.psci_fw_model.specs.Phases.{Phase, Pending}
-use Rattle.psci_fw_model.specs.Values.{updated}
+use Rattle.psci_fw_spec.specs.Phases.{Phase, Pending}
+use Rattle.psci_fw_spec.specs.Values.{updated}
 use Rattle.psci_fw_laws.specs.Messages.{is_system}
 use Rattle.psci_fw_laws.specs.Outstanding.{AreOutstanding, IsOfCore, IsOfLife}
 use Rattle.psci_fw_laws.proofs.Parts.{updated_at, updated_there}

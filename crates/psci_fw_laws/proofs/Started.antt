@@ -9,12 +9,12 @@ use Rattle.psci_link.specs.declared.kind.Kind.{Kind}
 use Rattle.psci_link.specs.declared.kind.Kind.TheVariants.{Down, Start, Off, Reset}
 use Rattle.psci_link.specs.Message.{AckValue, ArePartsOf, MessageValue}
 use Rattle.psci_link.specs.Slots.{OfSystem, is_kind, slot_of}
-use Rattle.psci_fw_model.specs.declared.status.Status.TheVariants as statuses
-use Rattle.psci_fw_model.specs.AffinityInfo.{is_on}
-use Rattle.psci_fw_model.specs.Changes.{PowerOn, turns_off, with_acknowledgement, with_halt}
-use Rattle.psci_fw_model.specs.Changes.{with_pending}
-use Rattle.psci_fw_model.specs.Phases.{Phase, Pending}
-use Rattle.psci_fw_model.specs.Values.{Values, updated}
+use Rattle.psci_fw_spec.specs.declared.status.Status.TheVariants as statuses
+use Rattle.psci_fw_spec.specs.AffinityInfo.{is_on}
+use Rattle.psci_fw_spec.specs.Changes.{PowerOn, turns_off, with_acknowledgement, with_halt}
+use Rattle.psci_fw_spec.specs.Changes.{with_pending}
+use Rattle.psci_fw_spec.specs.Phases.{Phase, Pending}
+use Rattle.psci_fw_spec.specs.Values.{Values, updated}
 use Rattle.psci_fw_laws.specs.Allowed.{IsPlain}
 use Rattle.psci_fw_laws.specs.Messages.{IsSent, IsSound, is_system}
 use Rattle.psci_fw_laws.specs.Outstanding.{IsOfLife}

@@ -9,21 +9,21 @@ use Rattle.psci_coord.specs.declared.part.Part.{Part}
 use Rattle.psci_link.specs.declared.kind.Kind.TheVariants as kinds
 use Rattle.psci_state.specs.Ask.{IsAsk, deepest_of}
 use Rattle.psci_tree.specs.Recount.{asks}
-use Rattle.psci_fw_model.specs.declared.opening.Opening.{Opening}
-use Rattle.psci_fw_model.specs.After.{change}
-use Rattle.psci_fw_model.specs.Changes.{Rest, with_rest}
-use Rattle.psci_fw_model.specs.Claims.{off_parts, suspend_parts}
-use Rattle.psci_fw_model.specs.CpuOff.{off_message}
-use Rattle.psci_fw_model.specs.CpuSuspend.{ask_named, suspend_asked}
-use Rattle.psci_fw_model.specs.Effects.{Rests, going_off}
-use Rattle.psci_fw_model.specs.Effects.{rest_named, suspends}
-use Rattle.psci_fw_model.specs.Invariant.{AreValues, IsPhase}
-use Rattle.psci_fw_model.specs.Outcomes.{message_for}
-use Rattle.psci_fw_model.specs.Phases.{Pending, Running, Suspended, activity_of}
-use Rattle.psci_fw_model.specs.Phases.{unless_pending}
-use Rattle.psci_fw_model.specs.SystemCalls.{system_suspend}
-use Rattle.psci_fw_model.specs.Values.{Values, updated}
-use Rattle.psci_fw_model.proofs.Endings.{suspend_ends, system_ends}
+use Rattle.psci_fw_spec.specs.declared.opening.Opening.{Opening}
+use Rattle.psci_fw_spec.specs.After.{change}
+use Rattle.psci_fw_spec.specs.Changes.{Rest, with_rest}
+use Rattle.psci_fw_spec.specs.Claims.{off_parts, suspend_parts}
+use Rattle.psci_fw_spec.specs.CpuOff.{off_message}
+use Rattle.psci_fw_spec.specs.CpuSuspend.{ask_named, suspend_asked}
+use Rattle.psci_fw_spec.specs.Effects.{Rests, going_off}
+use Rattle.psci_fw_spec.specs.Effects.{rest_named, suspends}
+use Rattle.psci_fw_spec.specs.Invariant.{AreValues, IsPhase}
+use Rattle.psci_fw_spec.specs.Outcomes.{message_for}
+use Rattle.psci_fw_spec.specs.Phases.{Pending, Running, Suspended, activity_of}
+use Rattle.psci_fw_spec.specs.Phases.{unless_pending}
+use Rattle.psci_fw_spec.specs.SystemCalls.{system_suspend}
+use Rattle.psci_fw_spec.specs.Values.{Values, updated}
+use Rattle.psci_fw_spec.proofs.Endings.{suspend_ends, system_ends}
 use Rattle.psci_fw_laws.specs.Allowed.{IsCalling}
 use Rattle.psci_fw_laws.proofs.Allowing.{Allows, IsReady}
 use Rattle.psci_fw_laws.proofs.Lower.{LowerLaws}

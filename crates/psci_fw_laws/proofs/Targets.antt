@@ -7,12 +7,12 @@ use Rattle.psci_abi.specs.declared.code.Code.{Code}
 use Rattle.psci_abi.specs.declared.request.Request.TheVariants as requests
 use Rattle.psci_board.specs.Board.{BoardValue, core_of, may_enter}
 use Rattle.psci_board.specs.declared.node.Core.{Core}
-use Rattle.psci_fw_model.specs.declared.status.Status.{Status}
-use Rattle.psci_fw_model.specs.declared.status.Status.TheVariants as statuses
-use Rattle.psci_fw_model.specs.CpuOn.{off_target, start_outcome, target_among, target_of}
-use Rattle.psci_fw_model.specs.Invariant.{agrees}
-use Rattle.psci_fw_model.specs.Phases.{Phase, Away, Pending, Running, Suspended}
-use Rattle.psci_fw_model.specs.Values.{Values}
+use Rattle.psci_fw_spec.specs.declared.status.Status.{Status}
+use Rattle.psci_fw_spec.specs.declared.status.Status.TheVariants as statuses
+use Rattle.psci_fw_spec.specs.CpuOn.{off_target, start_outcome, target_among, target_of}
+use Rattle.psci_fw_spec.specs.Invariant.{agrees}
+use Rattle.psci_fw_spec.specs.Phases.{Phase, Away, Pending, Running, Suspended}
+use Rattle.psci_fw_spec.specs.Values.{Values}
 use Rattle.psci_fw_laws.specs.Allowed.{IsCalling}
 use Rattle.psci_fw_laws.proofs.Allowing.{Allows, IsReady}
 use Rattle.psci_fw_laws.proofs.Lower.{LowerLaws}

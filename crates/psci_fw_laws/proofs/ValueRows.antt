@@ -4,19 +4,19 @@ use Rattle.psci_board.specs.Board.{core_of, up}
 use Rattle.psci_coord.specs.Claim.{claims_of}
 use Rattle.psci_coord.specs.LastCore.{last_core_check, refusal, shallow, shallow_at}
 use Rattle.psci_coord.specs.View.{generation, is_idle, least_ask}
-use Rattle.psci_fw_model.specs.Claims.{off_parts, suspend_parts}
-use Rattle.psci_fw_model.specs.Views.{ask, view}
+use Rattle.psci_fw_spec.specs.Claims.{off_parts, suspend_parts}
+use Rattle.psci_fw_spec.specs.Views.{ask, view}
 use Rattle.psci_link.specs.declared.kind.Kind.TheVariants.{Down, Start, Off}
 use Rattle.psci_link.specs.Outstanding.{changes_since, last_message, outstanding}
 use Rattle.psci_link.specs.Slots.{OfCore, OfSystem}
-use Rattle.psci_fw_model.specs.declared.status.Status.TheVariants as statuses
-use Rattle.psci_fw_model.specs.Answer.{answer}
-use Rattle.psci_fw_model.specs.Calls.{outcome_of}
-use Rattle.psci_fw_model.specs.CpuOn.{target_of}
-use Rattle.psci_fw_model.specs.Entering.{enter_outcome}
-use Rattle.psci_fw_model.specs.History.{values_of}
-use Rattle.psci_fw_model.specs.Phases.{Pending, Away}
-use Rattle.psci_fw_model.specs.Values.{Values}
+use Rattle.psci_fw_spec.specs.declared.status.Status.TheVariants as statuses
+use Rattle.psci_fw_spec.specs.Answer.{answer}
+use Rattle.psci_fw_spec.specs.Calls.{outcome_of}
+use Rattle.psci_fw_spec.specs.CpuOn.{target_of}
+use Rattle.psci_fw_spec.specs.Entering.{enter_outcome}
+use Rattle.psci_fw_spec.specs.History.{values_of}
+use Rattle.psci_fw_spec.specs.Phases.{Pending, Away}
+use Rattle.psci_fw_spec.specs.Values.{Values}
 use Rattle.psci_fw_laws.specs.KnownBelow.{known_below}
 use Rattle.psci_fw_laws.proofs.Calls.{Step, board, enter, history_of, message, off, on_3, part, smc}
 use Rattle.psci_fw_laws.proofs.Calls.{take}

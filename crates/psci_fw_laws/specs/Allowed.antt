@@ -9,14 +9,14 @@ use Rattle.psci_link.specs.Message.{AckValue, MessageValue}
 use Rattle.psci_link.specs.Slots.{answers, is_kind, slot_of}
 use Rattle.psci_tree.specs.Recount.{asks}
 use Rattle.psci_link.specs.declared.start.Start as starts
-use Rattle.psci_fw_model.specs.declared.status.Status.TheVariants.{Off}
-use Rattle.psci_fw_model.specs.Changes.{PowerOn, Rest, target, with_arrival, with_phase, with_rest}
-use Rattle.psci_fw_model.specs.Effects.{Effect, Nothing, GoesOn, SetsMode, AsksOn, Rests, Halts}
-use Rattle.psci_fw_model.specs.Effects.{Stops, Enters, Parks, StopsAtOnce, Acknowledges}
-use Rattle.psci_fw_model.specs.Entering.{resumes}
-use Rattle.psci_fw_model.specs.Lives.{in_life}
-use Rattle.psci_fw_model.specs.Phases.{Away, Pending, Running, activity_of}
-use Rattle.psci_fw_model.specs.Values.{Values}
+use Rattle.psci_fw_spec.specs.declared.status.Status.TheVariants.{Off}
+use Rattle.psci_fw_spec.specs.Changes.{PowerOn, Rest, target, with_arrival, with_phase, with_rest}
+use Rattle.psci_fw_spec.specs.Effects.{Effect, Nothing, GoesOn, SetsMode, AsksOn, Rests, Halts}
+use Rattle.psci_fw_spec.specs.Effects.{Stops, Enters, Parks, StopsAtOnce, Acknowledges}
+use Rattle.psci_fw_spec.specs.Entering.{resumes}
+use Rattle.psci_fw_spec.specs.Lives.{in_life}
+use Rattle.psci_fw_spec.specs.Phases.{Away, Pending, Running, activity_of}
+use Rattle.psci_fw_spec.specs.Values.{Values}
 use Rattle.psci_fw_laws.specs.Asked.{IsAskedFor}
 use Rattle.psci_fw_laws.specs.Claims.{part_for}
 use Rattle.psci_fw_laws.specs.Messages.{IsSound, is_system, known_on}

@@ -7,7 +7,7 @@ use Rattle.psci_link.specs.declared.kind.Kind.TheVariants.{Down}
 use Rattle.psci_link.specs.Message.{MessageValue}
 use Rattle.psci_link.specs.Slots.{is_kind}
 use Rattle.psci_board.specs.Paths.{is_path_place}
-use Rattle.psci_fw_model.specs.Phases.{Phase, Running}
+use Rattle.psci_fw_spec.specs.Phases.{Phase, Running}
 use Rattle.psci_fw_laws.specs.KnownBelow.{known_below}
 
 -- the part that a message has for the domain of this level and place: it is a Down of this life,

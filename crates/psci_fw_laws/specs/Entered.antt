@@ -1,8 +1,8 @@
 -- Cores that have entered in this life, and cores that have not.
 use Rattle.std.specs.Prelude.{◌≡◌, ◌<◌, ◌⊎◌, ℕ, false, List}
-use Rattle.psci_fw_model.specs.declared.status.Status.{Status}
-use Rattle.psci_fw_model.specs.AffinityInfo.{is_on}
-use Rattle.psci_fw_model.specs.Phases.{Phase, Away, Pending, Running, Suspended}
+use Rattle.psci_fw_spec.specs.declared.status.Status.{Status}
+use Rattle.psci_fw_spec.specs.AffinityInfo.{is_on}
+use Rattle.psci_fw_spec.specs.Phases.{Phase, Away, Pending, Running, Suspended}
 
 -- What a known start says of a core.
 pub record AreEntered (known : ℕ → ℕ) (status : ℕ → Status) (phase : ℕ → Phase) : Type 0 where

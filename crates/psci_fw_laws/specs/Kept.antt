@@ -3,10 +3,10 @@ use Rattle.std.specs.Prelude.{◌≡◌, ◌≤◌, ℕ, Bool, false, List, Opti
 use Rattle.psci_board.specs.Board.{BoardValue}
 use Rattle.psci_link.specs.Message.{MessageValue}
 use Rattle.psci_link.specs.Slots.{Slot}
-use Rattle.psci_fw_model.specs.declared.status.Status.{Status}
-use Rattle.psci_fw_model.specs.AffinityInfo.{is_on}
-use Rattle.psci_fw_model.specs.Phases.{Phase}
-use Rattle.psci_fw_model.specs.Values.{Values}
+use Rattle.psci_fw_spec.specs.declared.status.Status.{Status}
+use Rattle.psci_fw_spec.specs.AffinityInfo.{is_on}
+use Rattle.psci_fw_spec.specs.Phases.{Phase}
+use Rattle.psci_fw_spec.specs.Values.{Values}
 use Rattle.psci_fw_laws.specs.Claims.{AreRising, AreQuiet}
 use Rattle.psci_fw_laws.specs.Granted.{AreGranted}
 use Rattle.psci_fw_laws.specs.Messages.{AreSent}

@@ -3,7 +3,7 @@ use Rattle.std.specs.Prelude.{◌≡◌, ◌<◌, ℕ, ◌+◌, List, slice_get,
 use Rattle.psci_board.specs.Board.{BoardValue, cores, up}
 use Rattle.psci_coord.specs.declared.part.Part.{Part}
 use Rattle.psci_link.specs.Message.{MessageValue}
-use Rattle.psci_fw_model.specs.Phases.{Phase, Running}
+use Rattle.psci_fw_spec.specs.Phases.{Phase, Running}
 use Rattle.psci_fw_laws.specs.Claims.{IsClaimOn, IsCurrent}
 use Rattle.psci_fw_laws.specs.KnownBelow.{known_below}
 use Rattle.psci_fw_laws.specs.Messages.{known_on}

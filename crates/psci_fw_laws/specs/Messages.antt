@@ -7,7 +7,7 @@ use Rattle.psci_link.specs.declared.kind.Kind.{Kind}
 use Rattle.psci_link.specs.declared.kind.Kind.TheVariants.{Down, Start, Off, Reset}
 use Rattle.psci_link.specs.Message.{ArePartsOf, MessageValue}
 use Rattle.psci_tree.specs.Recount.{asks}
-use Rattle.psci_fw_model.specs.Phases.{Phase, Pending, activity_of}
+use Rattle.psci_fw_spec.specs.Phases.{Phase, Pending, activity_of}
 use Rattle.psci_fw_laws.specs.KnownBelow.{known_below}
 
 -- whether a message of this kind is for the whole system

@@ -3,7 +3,7 @@ use Rattle.std.specs.Prelude.{◌≡◌, ℕ, true, false, List, slice_get, Opti
 use Rattle.psci_link.specs.declared.kind.Kind.TheVariants.{Down, Start}
 use Rattle.psci_link.specs.Message.{MessageValue}
 use Rattle.psci_link.specs.Slots.{Slot, OfCore, OfSystem}
-use Rattle.psci_fw_model.specs.Phases.{Phase, Pending}
+use Rattle.psci_fw_spec.specs.Phases.{Phase, Pending}
 use Rattle.psci_fw_laws.specs.Messages.{is_system}
 
 -- A message of this life that was sent.

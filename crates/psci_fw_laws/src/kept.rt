@@ -2,18 +2,18 @@
 
 ghost use Rattle.std.specs.Prelude.{◌≡◌, List, ◌∷◌, ◌++◌};
 ghost use Rattle.psci_board.specs.Board.{BoardValue, IsBoard};
-ghost use Rattle.psci_fw_model.specs.After.{change};
-ghost use Rattle.psci_fw_model.specs.Exchange.{FwExchange, effect};
-ghost use Rattle.psci_fw_model.specs.History.{values_of};
-ghost use Rattle.psci_fw_model.specs.Legal.{IsLegal};
-ghost use Rattle.psci_fw_model.specs.Said.{listed, sent};
-ghost use Rattle.psci_fw_model.specs.Sent.{sent_messages};
+ghost use Rattle.psci_fw_spec.specs.After.{change};
+ghost use Rattle.psci_fw_spec.specs.Exchange.{FwExchange, effect};
+ghost use Rattle.psci_fw_spec.specs.History.{values_of};
+ghost use Rattle.psci_fw_spec.specs.Legal.{IsLegal};
+ghost use Rattle.psci_fw_spec.specs.Said.{listed, sent};
+ghost use Rattle.psci_fw_spec.specs.Sent.{sent_messages};
 ghost use Rattle.psci_fw_laws.specs.Allowed.{IsAllowed};
 ghost use Rattle.psci_fw_laws.specs.Kept.{Holds};
 
 use psci_board::{law_paths, law_spans, law_words};
 use psci_coord::{law_below, law_claims, law_last_core, law_platform};
-use psci_fw_model::{law_caller, law_invariant, law_stops, law_values};
+use psci_fw_spec::{law_caller, law_invariant, law_stops, law_values};
 use psci_link::law_parts;
 
 /// What the firmware keeps true of its values and of all messages that it sent, after every legal

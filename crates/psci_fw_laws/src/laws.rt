@@ -8,14 +8,14 @@ ghost use Rattle.psci_coord.specs.declared.part.Part.{Part};
 ghost use Rattle.psci_coord.specs.View.{generation};
 ghost use Rattle.psci_link.specs.declared.kind.Kind.TheVariants.{Down};
 ghost use Rattle.psci_link.specs.Message.{MessageValue};
-ghost use Rattle.psci_fw_model.specs.Exchange.{FwExchange};
-ghost use Rattle.psci_fw_model.specs.History.{values_of};
-ghost use Rattle.psci_fw_model.specs.Invariant.{is_expected};
-ghost use Rattle.psci_fw_model.specs.Legal.{IsLegal};
-ghost use Rattle.psci_fw_model.specs.Phases.{Pending, Running};
-ghost use Rattle.psci_fw_model.specs.Sent.{sent_messages};
-ghost use Rattle.psci_fw_model.specs.Values.{Values};
-ghost use Rattle.psci_fw_model.specs.Views.{ask, view};
+ghost use Rattle.psci_fw_spec.specs.Exchange.{FwExchange};
+ghost use Rattle.psci_fw_spec.specs.History.{values_of};
+ghost use Rattle.psci_fw_spec.specs.Invariant.{is_expected};
+ghost use Rattle.psci_fw_spec.specs.Legal.{IsLegal};
+ghost use Rattle.psci_fw_spec.specs.Phases.{Pending, Running};
+ghost use Rattle.psci_fw_spec.specs.Sent.{sent_messages};
+ghost use Rattle.psci_fw_spec.specs.Values.{Values};
+ghost use Rattle.psci_fw_spec.specs.Views.{ask, view};
 ghost use Rattle.psci_fw_laws.specs.Asked.{WasAsked};
 ghost use Rattle.psci_fw_laws.specs.Claims.{AreRising, AreQuiet, IsClaimOn, IsCurrent, part_for};
 ghost use Rattle.psci_fw_laws.specs.Entered.{AreEntered};
@@ -28,7 +28,7 @@ ghost use Rattle.psci_fw_laws.specs.Within.{AreWithin};
 
 use crate::kept::law_kept;
 use psci_board::{law_paths, law_spans};
-use psci_fw_model::law_invariant;
+use psci_fw_spec::law_invariant;
 use psci_link::law_parts;
 
 /// Every message is of a life from 1 to the firmware's, within the board's limits; a Down is a

@@ -12,15 +12,15 @@ use Rattle.psci_link.specs.Slots.{Slot, SlotsValue, answers, changed, is_kind, i
 use Rattle.psci_link.specs.Slots.{left_by, message_in, slot_of, taken}
 use Rattle.psci_link.specs.Slots.Slot.{OfCore, OfSystem}
 use Rattle.psci_link.specs.Slots.Change.{Acknowledge}
-use Rattle.psci_fw_model.specs.declared.status.Status.TheVariants as statuses
-use Rattle.psci_fw_model.specs.Changes.{turns_off, with_acknowledgement}
-use Rattle.psci_fw_model.specs.Phases.{is_away}
-use Rattle.psci_fw_model.specs.Values.{Values, updated}
+use Rattle.psci_fw_spec.specs.declared.status.Status.TheVariants as statuses
+use Rattle.psci_fw_spec.specs.Changes.{turns_off, with_acknowledgement}
+use Rattle.psci_fw_spec.specs.Phases.{is_away}
+use Rattle.psci_fw_spec.specs.Values.{Values, updated}
 use Rattle.psci_tree.specs.Recount.{state_at}
 use Rattle.psci_tree.specs.declared.state.Activity.{Activity}
 use Rattle.psci_tree.specs.declared.state.Activity.TheVariants as activities
 use Rattle.psci_tree.specs.declared.state.CoreState.{CoreState}
-use Rattle.psci_fw_model.specs.declared.status.Status.{Status}
+use Rattle.psci_fw_spec.specs.declared.status.Status.{Status}
 use Rattle.psci_fw_state.specs.declared.row.CoreRow.{CoreRow}
 use Rattle.psci_fw_state.specs.Rows.{row_at}
 use Rattle.psci_fw_state.specs.Seen.{StateValue, phase_by, values_in}

@@ -16,12 +16,12 @@ use Rattle.psci_tree.specs.declared.state.Activity.TheVariants as activities
 use Rattle.psci_tree.specs.declared.state.CoreState.{CoreState}
 use Rattle.psci_tree.specs.Recount.{IsDomainTree, TreeValue, state_at, granted_at, level_sizes}
 use Rattle.psci_tree.specs.Recount.{never_started}
-use Rattle.psci_fw_model.specs.declared.mode.SuspendMode.TheVariants.{Platform}
-use Rattle.psci_fw_model.specs.declared.status.Status.TheVariants as statuses
-use Rattle.psci_fw_model.specs.Lives.{first_granted, first_phase, first_status, in_life}
-use Rattle.psci_fw_model.specs.Lives.{start_of_life}
-use Rattle.psci_fw_model.specs.Phases as phases
-use Rattle.psci_fw_model.specs.Values.{Values}
+use Rattle.psci_fw_spec.specs.declared.mode.SuspendMode.TheVariants.{Platform}
+use Rattle.psci_fw_spec.specs.declared.status.Status.TheVariants as statuses
+use Rattle.psci_fw_spec.specs.Lives.{first_granted, first_phase, first_status, in_life}
+use Rattle.psci_fw_spec.specs.Lives.{start_of_life}
+use Rattle.psci_fw_spec.specs.Phases as phases
+use Rattle.psci_fw_spec.specs.Values.{Values}
 use Rattle.psci_fw_state.specs.declared.row.CoreRow.{CoreRow}
 use Rattle.psci_fw_state.specs.Rows.{AreFirst, first_row, off_row, row_at}
 use Rattle.psci_fw_state.specs.Seen.{StateValue, phase_by, values_in}

@@ -8,12 +8,12 @@ use Rattle.psci_board.specs.Board.{BoardValue, cores, size_below}
 use Rattle.psci_tree.specs.declared.state.Activity.TheVariants as activities
 use Rattle.psci_tree.specs.declared.state.CoreState.{CoreState}
 use Rattle.psci_tree.specs.Recount.{TreeValue, state_at, granted_at, known_at}
-use Rattle.psci_fw_model.specs.declared.status.Status.{Status}
-use Rattle.psci_fw_model.specs.declared.status.Status.TheVariants as statuses
-use Rattle.psci_fw_model.specs.Changes.{with_phase}
-use Rattle.psci_fw_model.specs.Phases.{Phase, unless_pending}
-use Rattle.psci_fw_model.specs.Phases as phases
-use Rattle.psci_fw_model.specs.Values.{updated}
+use Rattle.psci_fw_spec.specs.declared.status.Status.{Status}
+use Rattle.psci_fw_spec.specs.declared.status.Status.TheVariants as statuses
+use Rattle.psci_fw_spec.specs.Changes.{with_phase}
+use Rattle.psci_fw_spec.specs.Phases.{Phase, unless_pending}
+use Rattle.psci_fw_spec.specs.Phases as phases
+use Rattle.psci_fw_spec.specs.Values.{updated}
 use Rattle.psci_fw_state.specs.declared.row.CoreRow.{CoreRow}
 use Rattle.psci_fw_state.specs.Rows.{off_row, row_at}
 use Rattle.psci_fw_state.specs.Seen.{IsState, IsStateOf, StateValue, is_pending_phase, phase_by}

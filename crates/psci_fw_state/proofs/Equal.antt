@@ -5,8 +5,8 @@ use Rattle.psci_board.specs.Board.{BoardValue}
 use Rattle.psci_link.specs.Slots.{Slot, changed}
 use Rattle.psci_link.specs.Slots.Change.{Clear}
 use Rattle.psci_link.specs.declared.start.Start.{Start}
-use Rattle.psci_fw_model.specs.Paths.{cleared}
-use Rattle.psci_fw_model.specs.Values.{Values, updated}
+use Rattle.psci_fw_spec.specs.Paths.{cleared}
+use Rattle.psci_fw_spec.specs.Values.{Values, updated}
 
 -- values are equal that say the same of each core, domain and slot
 pub record Same (v w : Values) : Type 0 where

@@ -14,7 +14,7 @@ use Rattle.psci_coord.specs.declared.part.Part.{Part}
 use Rattle.psci_link.specs.Message.{PartByPart}
 use Rattle.psci_tree.specs.Changes.{MayGrant}
 use Rattle.psci_tree.specs.Recount.{TreeValue, granted_at}
-use Rattle.psci_fw_model.specs.Paths.{claimed_or, granted_with}
+use Rattle.psci_fw_spec.specs.Paths.{claimed_or, granted_with}
 use Rattle.psci_fw_state.specs.Claims.{MayClaim}
 
 -- below this level the tree grants what the parts say, and from it up what it granted before

@@ -14,18 +14,18 @@ use Rattle.psci_tree.specs.declared.state.Activity.{Activity}
 use Rattle.psci_tree.specs.declared.state.Activity.TheVariants as activities
 use Rattle.psci_tree.specs.declared.state.CoreState.{CoreState}
 use Rattle.psci_tree.specs.Recount.{TreeValue, state_at, granted_at, known_at}
-use Rattle.psci_fw_model.specs.declared.opening.Opening.{Opening}
+use Rattle.psci_fw_spec.specs.declared.opening.Opening.{Opening}
 use Rattle.psci_link.specs.declared.start.Start.{Start}
-use Rattle.psci_fw_model.specs.declared.status.Status.{Status}
-use Rattle.psci_fw_model.specs.declared.status.Status.TheVariants as statuses
-use Rattle.psci_fw_model.specs.Changes.{with_arrival, with_pending, with_phase, with_rest}
-use Rattle.psci_fw_model.specs.Changes.{with_running}
-use Rattle.psci_fw_model.specs.Effects.{suspends}
-use Rattle.psci_fw_model.specs.Lives.{in_life}
-use Rattle.psci_fw_model.specs.Paths.{cleared}
-use Rattle.psci_fw_model.specs.Phases.{Phase, unless_pending}
-use Rattle.psci_fw_model.specs.Phases as phases
-use Rattle.psci_fw_model.specs.Values.{Values, updated}
+use Rattle.psci_fw_spec.specs.declared.status.Status.{Status}
+use Rattle.psci_fw_spec.specs.declared.status.Status.TheVariants as statuses
+use Rattle.psci_fw_spec.specs.Changes.{with_arrival, with_pending, with_phase, with_rest}
+use Rattle.psci_fw_spec.specs.Changes.{with_running}
+use Rattle.psci_fw_spec.specs.Effects.{suspends}
+use Rattle.psci_fw_spec.specs.Lives.{in_life}
+use Rattle.psci_fw_spec.specs.Paths.{cleared}
+use Rattle.psci_fw_spec.specs.Phases.{Phase, unless_pending}
+use Rattle.psci_fw_spec.specs.Phases as phases
+use Rattle.psci_fw_spec.specs.Values.{Values, updated}
 use Rattle.psci_fw_state.specs.declared.row.CoreRow.{CoreRow}
 use Rattle.psci_fw_state.specs.Rows.{row_at}
 use Rattle.psci_fw_state.specs.Seen.{StateValue, is_pending_phase, phase_by, stopped, values_in}

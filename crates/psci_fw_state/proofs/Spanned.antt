@@ -10,9 +10,9 @@ use Rattle.psci_board.specs.Board.{height, nodes, span}
 use Rattle.psci_board.specs.Laws.{SpanLaws}
 use Rattle.psci_board.specs.declared.node.Node.{Node}
 use Rattle.psci_board.specs.declared.span.CoreSpan.{CoreSpan}
-use Rattle.psci_fw_model.specs.declared.status.Status.{Status}
-use Rattle.psci_fw_model.specs.declared.status.Status.TheVariants.{On, Off, Pending}
-use Rattle.psci_fw_model.specs.AffinityInfo.{is_on, is_pending_status, node_status, status_over}
+use Rattle.psci_fw_spec.specs.declared.status.Status.{Status}
+use Rattle.psci_fw_spec.specs.declared.status.Status.TheVariants.{On, Off, Pending}
+use Rattle.psci_fw_spec.specs.AffinityInfo.{is_on, is_pending_status, node_status, status_over}
 use Rattle.psci_fw_state.specs.declared.row.CoreRow.{CoreRow}
 use Rattle.psci_fw_state.specs.Seen.{StateValue, values_in}
 use Rattle.psci_fw_state.specs.Rows.{off_row, row_at, status_of_all}

@@ -8,16 +8,16 @@ use Rattle.psci_coord.specs.Looked.{view_of}
 use Rattle.psci_tree.specs.declared.state.Activity.{Activity}
 use Rattle.psci_tree.specs.declared.state.Activity.TheVariants as activities
 use Rattle.psci_tree.specs.Recount.{asks, state_at, is_active, is_off}
-use Rattle.psci_fw_model.specs.declared.status.Status.{Status}
-use Rattle.psci_fw_model.specs.declared.status.Status.TheVariants as statuses
-use Rattle.psci_fw_model.specs.declared.mode.SuspendMode.TheVariants.{Platform, OsInitiated}
-use Rattle.psci_fw_model.specs.declared.opening.Opening.{Opening}
-use Rattle.psci_fw_model.specs.Changes.{with_rest}
-use Rattle.psci_fw_model.specs.Claims.{suspend_claims, suspend_parts}
-use Rattle.psci_fw_model.specs.Effects.{suspends}
-use Rattle.psci_fw_model.specs.Phases.{activity_of}
-use Rattle.psci_fw_model.specs.Values.{Values}
-use Rattle.psci_fw_model.specs.Views.{view}
+use Rattle.psci_fw_spec.specs.declared.status.Status.{Status}
+use Rattle.psci_fw_spec.specs.declared.status.Status.TheVariants as statuses
+use Rattle.psci_fw_spec.specs.declared.mode.SuspendMode.TheVariants.{Platform, OsInitiated}
+use Rattle.psci_fw_spec.specs.declared.opening.Opening.{Opening}
+use Rattle.psci_fw_spec.specs.Changes.{with_rest}
+use Rattle.psci_fw_spec.specs.Claims.{suspend_claims, suspend_parts}
+use Rattle.psci_fw_spec.specs.Effects.{suspends}
+use Rattle.psci_fw_spec.specs.Phases.{activity_of}
+use Rattle.psci_fw_spec.specs.Values.{Values}
+use Rattle.psci_fw_spec.specs.Views.{view}
 use Rattle.psci_fw_state.specs.Rows.{row_at}
 use Rattle.psci_fw_state.specs.Seen.{StateValue, phase_by, values_in}
 

@@ -1,10 +1,10 @@
 -- What the firmware keeps of each core beside the tree of power domains.
 use Rattle.std.specs.Prelude.{◌≡◌, ℕ, ◌<◌, List, length, slice_index_or, None}
 use Rattle.psci_board.specs.Board.{BoardValue, cores}
-use Rattle.psci_fw_model.specs.declared.status.Status.{Status}
-use Rattle.psci_fw_model.specs.declared.status.Status.TheVariants.{Off}
-use Rattle.psci_fw_model.specs.AffinityInfo.{status_over}
-use Rattle.psci_fw_model.specs.Lives.{first_status, first_opening}
+use Rattle.psci_fw_spec.specs.declared.status.Status.{Status}
+use Rattle.psci_fw_spec.specs.declared.status.Status.TheVariants.{Off}
+use Rattle.psci_fw_spec.specs.AffinityInfo.{status_over}
+use Rattle.psci_fw_spec.specs.Lives.{first_status, first_opening}
 use Rattle.psci_fw_state.specs.declared.row.CoreRow.{CoreRow}
 
 -- a core that is off and goes on nowhere

@@ -3,15 +3,15 @@
 ghost use Rattle.std.specs.Prelude.{◌≡◌, ◌<◌, ◌==◌, ℕ, length, if◌then◌else◌};
 ghost use Rattle.psci_board.specs.Board.{cores, place_above};
 ghost use Rattle.psci_tree.specs.Recount.{IsDomainTree, state_at, granted_at};
-ghost use Rattle.psci_fw_model.specs.Changes.{with_arrival, with_phase, with_running};
-ghost use Rattle.psci_fw_model.specs.Lives.{in_life};
-ghost use Rattle.psci_fw_model.specs.Phases.{Away};
+ghost use Rattle.psci_fw_spec.specs.Changes.{with_arrival, with_phase, with_running};
+ghost use Rattle.psci_fw_spec.specs.Lives.{in_life};
+ghost use Rattle.psci_fw_spec.specs.Phases.{Away};
 ghost use Rattle.psci_fw_state.specs.Seen.{IsStateOf, stopped, values_in};
 
 use crate::row::{CoreRow, reset_rows, row_of, set_row};
 use crate::state::State;
 use psci_board::{Board, Core};
-use psci_fw_model::{Start, Status, SuspendMode};
+use psci_fw_spec::{Start, Status, SuspendMode};
 use psci_link::law_slots;
 use psci_tree::{Tree, law_cores, law_granted, law_start_of_life};
 

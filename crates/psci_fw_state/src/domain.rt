@@ -2,14 +2,14 @@
 
 ghost use Rattle.std.specs.Prelude.{◌≡◌};
 ghost use Rattle.std.specs.List.{list_any};
-ghost use Rattle.psci_fw_model.specs.AffinityInfo.{is_on, is_pending_status, node_status};
+ghost use Rattle.psci_fw_spec.specs.AffinityInfo.{is_on, is_pending_status, node_status};
 ghost use Rattle.psci_fw_state.specs.Rows.{status_of_all};
 ghost use Rattle.psci_fw_state.specs.Seen.{IsStateOf, values_in};
 
 use crate::row::CoreRow;
 use crate::state::State;
 use psci_board::{Board, Node, law_spans};
-use psci_fw_model::Status;
+use psci_fw_spec::Status;
 
 impl State {
     /// The status of a core or power domain, by those of the cores below it. A node that the board

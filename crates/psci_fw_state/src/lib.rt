@@ -1,6 +1,6 @@
 //! The state of the power firmware: what it keeps for the cores, and a method for each change of
 //! it. What a call is answered, and which changes it comes to, is `psci_fw`. The words and the
-//! definitions are those of `psci_fw_model`.
+//! definitions are those of `psci_fw_spec`.
 //!
 //! - The *state* of the firmware is all that a call changes.
 //! - A *row* is what the state keeps of one core beside the tree of power domains.

@@ -5,7 +5,7 @@ ghost use Rattle.psci_board.specs.Board.{cores};
 ghost use Rattle.psci_fw_state.specs.Rows.{AreFirst, first_row, row_at};
 
 use psci_board::{Board, Core, Memory};
-use psci_fw_model::{Opening, Status};
+use psci_fw_spec::{Opening, Status};
 use std::alloc::Global;
 
 /// What the state keeps of one core beside the tree of power domains.

@@ -2,7 +2,7 @@
 
 use crate::row::{CoreRow, first_rows, row_of};
 use psci_board::{Board, Core, Memory, Node};
-use psci_fw_model::{Opening, Status, SuspendMode};
+use psci_fw_spec::{Opening, Status, SuspendMode};
 use psci_link::{Message, Slots};
 use psci_tree::{Activity, Tree, law_start_of_life};
 use std::alloc::Global;
@@ -48,9 +48,9 @@ impl Model for State {
 }
 
 ghost use Rattle.std.specs.Prelude.{◌≡◌, IfOk, option_map};
-ghost use Rattle.psci_fw_model.specs.Lives.{start_of_life};
-ghost use Rattle.psci_fw_model.specs.Phases.{is_away, is_resumable, is_running};
-ghost use Rattle.psci_fw_model.specs.Phases.{is_suspended_or_pending};
+ghost use Rattle.psci_fw_spec.specs.Lives.{start_of_life};
+ghost use Rattle.psci_fw_spec.specs.Phases.{is_away, is_resumable, is_running};
+ghost use Rattle.psci_fw_spec.specs.Phases.{is_suspended_or_pending};
 ghost use Rattle.psci_fw_state.specs.Seen.{IsStateOf, is_pending_phase, message_shown, values_in};
 
 impl State {

@@ -6,14 +6,14 @@ use Rattle.std.specs.Prelude.{nat_le, slice_get}
 use Rattle.std.proofs.lemmas.Bool.{and_from, eq-eqb, le-leb}
 use Rattle.psci_board.specs.Board.{BoardValue, cores, height, up}
 use Rattle.psci_coord.specs.declared.part.Part.{Part}
-use Rattle.psci_ctl_model.specs.Changes.{change}
-use Rattle.psci_ctl_model.specs.Effects.{Deepens, message_effect}
-use Rattle.psci_ctl_model.specs.Parts.{depth_or, laid}
-use Rattle.psci_ctl_model.specs.Replies.{ack_by, ack_of, may_follow}
-use Rattle.psci_ctl_model.specs.Values as controlled
-use Rattle.psci_ctl_model.proofs.Front.{get_take}
-use Rattle.psci_fw_model.specs.Phases.{Phase, Away, Pending, Running, activity_of}
-use Rattle.psci_fw_model.specs.Values.{Values}
+use Rattle.psci_ctl_spec.specs.Changes.{change}
+use Rattle.psci_ctl_spec.specs.Effects.{Deepens, message_effect}
+use Rattle.psci_ctl_spec.specs.Parts.{depth_or, laid}
+use Rattle.psci_ctl_spec.specs.Replies.{ack_by, ack_of, may_follow}
+use Rattle.psci_ctl_spec.specs.Values as controlled
+use Rattle.psci_ctl_spec.proofs.Front.{get_take}
+use Rattle.psci_fw_spec.specs.Phases.{Phase, Away, Pending, Running, activity_of}
+use Rattle.psci_fw_spec.specs.Values.{Values}
 use Rattle.psci_link.specs.declared.kind.Kind.{Kind}
 use Rattle.psci_link.specs.declared.kind.Kind.TheVariants as kinds
 use Rattle.psci_link.specs.Message.{AckValue, ArePartsOf, AreClaims, MessageValue}
@@ -21,9 +21,9 @@ use Rattle.psci_tree.specs.Recount.{asks}
 use Rattle.psci_fw_laws.specs.Kept.{Holds}
 use Rattle.psci_fw_laws.specs.KnownBelow.{known_below}
 use Rattle.psci_fw_laws.proofs.Parts.{part_from}
-use Rattle.psci_world_model.specs.declared.said.Record.{Record}
-use Rattle.psci_world_model.specs.Histories.{controller_values, firmware_values}
-use Rattle.psci_world_model.specs.Histories.{sent}
+use Rattle.psci_world_spec.specs.declared.said.Record.{Record}
+use Rattle.psci_world_spec.specs.Histories.{controller_values, firmware_values}
+use Rattle.psci_world_spec.specs.Histories.{sent}
 use Rattle.psci_headline.specs.PoweredDown.{IsDownBy}
 use Rattle.psci_headline.proofs.Deliveries.{IsNew}
 use Rattle.psci_headline.proofs.Slept.{asleep_from, slept_now}

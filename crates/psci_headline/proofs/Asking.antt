@@ -11,17 +11,17 @@ use Rattle.psci_coord.specs.declared.part.Part.{Part}
 use Rattle.psci_link.specs.Message.{MessageValue}
 use Rattle.psci_tree.specs.Recount.{asks}
 use Rattle.psci_board.specs.Paths.{is_on_path}
-use Rattle.psci_fw_model.specs.declared.mode.SuspendMode.{SuspendMode}
-use Rattle.psci_fw_model.specs.declared.mode.SuspendMode.TheVariants.{Platform, OsInitiated}
-use Rattle.psci_fw_model.specs.Lives.{first_phase, start_of_life}
-use Rattle.psci_fw_model.specs.Phases.{Away, Pending, Phase, activity_of}
-use Rattle.psci_fw_model.specs.Values.{Values}
-use Rattle.psci_fw_model.specs.Views.{ask}
+use Rattle.psci_fw_spec.specs.declared.mode.SuspendMode.{SuspendMode}
+use Rattle.psci_fw_spec.specs.declared.mode.SuspendMode.TheVariants.{Platform, OsInitiated}
+use Rattle.psci_fw_spec.specs.Lives.{first_phase, start_of_life}
+use Rattle.psci_fw_spec.specs.Phases.{Away, Pending, Phase, activity_of}
+use Rattle.psci_fw_spec.specs.Values.{Values}
+use Rattle.psci_fw_spec.specs.Views.{ask}
 use Rattle.psci_fw_laws.specs.Asked.{IsAskedFor}
 use Rattle.psci_fw_laws.specs.Claims.{part_for}
 use Rattle.psci_fw_laws.proofs.Parts.{HasPart, part_has}
-use Rattle.psci_world_model.specs.declared.said.Record.{Record}
-use Rattle.psci_world_model.specs.Histories.{firmware_values, sent_in}
+use Rattle.psci_world_spec.specs.declared.said.Record.{Record}
+use Rattle.psci_world_spec.specs.Histories.{firmware_values, sent_in}
 use Rattle.psci_safe.specs.Claims.{Claim, all_ask, asks_by, claim_by, claims}
 use Rattle.psci_headline.proofs.Claiming.{by_claim}
 

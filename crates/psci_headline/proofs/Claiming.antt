@@ -10,12 +10,12 @@ use Rattle.psci_board.specs.declared.node.Node.{Node}
 use Rattle.psci_coord.specs.declared.part.Part.{Part}
 use Rattle.psci_link.specs.Message.{MessageValue}
 use Rattle.psci_board.specs.Paths.{is_on_path, is_path_place}
-use Rattle.psci_fw_model.specs.Said.{listed}
-use Rattle.psci_fw_model.specs.Values.{Values}
+use Rattle.psci_fw_spec.specs.Said.{listed}
+use Rattle.psci_fw_spec.specs.Values.{Values}
 use Rattle.psci_fw_laws.specs.Claims.{IsClaimOn, part_for}
 use Rattle.psci_fw_laws.proofs.Parts.{claim_new, claim_old}
-use Rattle.psci_world_model.specs.declared.said.Record.{Record}
-use Rattle.psci_world_model.specs.Histories.{firmware_values, sent, sent_in}
+use Rattle.psci_world_spec.specs.declared.said.Record.{Record}
+use Rattle.psci_world_spec.specs.Histories.{firmware_values, sent, sent_in}
 use Rattle.psci_safe.specs.Claims.{Claim, claim_by, claim_in, claims}
 
 -- The claim of one message ---------------------------------------------------------------------

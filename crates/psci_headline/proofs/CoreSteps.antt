@@ -9,15 +9,15 @@ use Rattle.psci_link.specs.declared.kind.Kind.TheVariants.{Down, Start, Off, Res
 use Rattle.psci_link.specs.Message.{AckValue}
 use Rattle.psci_link.specs.Slots.{is_kind}
 use Rattle.psci_link.specs.declared.start.Start as starts
-use Rattle.psci_fw_model.specs.declared.status.Status.TheVariants as statuses
-use Rattle.psci_fw_model.specs.After.{change}
-use Rattle.psci_fw_model.specs.Changes.{target, turns_off}
-use Rattle.psci_fw_model.specs.Effects.{Effect, Nothing, GoesOn, SetsMode, AsksOn, Rests, Halts}
-use Rattle.psci_fw_model.specs.Effects.{Stops, Enters, Parks, StopsAtOnce, Acknowledges}
-use Rattle.psci_fw_model.specs.Lives.{first_status, in_life, start_of_life}
-use Rattle.psci_fw_model.specs.Phases.{Phase, Away, Pending, Running, Suspended, is_away}
-use Rattle.psci_fw_model.specs.Said.{Arrival, arrived}
-use Rattle.psci_fw_model.specs.Values.{Values, updated}
+use Rattle.psci_fw_spec.specs.declared.status.Status.TheVariants as statuses
+use Rattle.psci_fw_spec.specs.After.{change}
+use Rattle.psci_fw_spec.specs.Changes.{target, turns_off}
+use Rattle.psci_fw_spec.specs.Effects.{Effect, Nothing, GoesOn, SetsMode, AsksOn, Rests, Halts}
+use Rattle.psci_fw_spec.specs.Effects.{Stops, Enters, Parks, StopsAtOnce, Acknowledges}
+use Rattle.psci_fw_spec.specs.Lives.{first_status, in_life, start_of_life}
+use Rattle.psci_fw_spec.specs.Phases.{Phase, Away, Pending, Running, Suspended, is_away}
+use Rattle.psci_fw_spec.specs.Said.{Arrival, arrived}
+use Rattle.psci_fw_spec.specs.Values.{Values, updated}
 use Rattle.psci_fw_laws.specs.Allowed.{IsAllowed, IsEntering}
 use Rattle.psci_fw_laws.proofs.Parts.{updated_at}
 

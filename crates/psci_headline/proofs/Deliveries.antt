@@ -4,38 +4,38 @@ use Rattle.std.proofs.Common.{◌++◌, Option, None, Some, refl, subst, ap, ap�
 use Rattle.std.specs.Prelude.{nat_lt}
 use Rattle.std.proofs.lemmas.Bool.{eqb-true}
 use Rattle.psci_board.specs.Board.{BoardValue, cores}
-use Rattle.psci_ctl_model.specs.declared.call.CtlCall.TheVariants as asked
-use Rattle.psci_ctl_model.specs.declared.delivery.Delivery.TheVariants as deliveries
-use Rattle.psci_ctl_model.specs.declared.kick.Kick.{Kick}
-use Rattle.psci_ctl_model.specs.declared.kick.Kick.TheVariants as kicks
-use Rattle.psci_ctl_model.specs.declared.reply.CtlReply.TheVariants as replied
+use Rattle.psci_ctl_spec.specs.declared.call.CtlCall.TheVariants as asked
+use Rattle.psci_ctl_spec.specs.declared.delivery.Delivery.TheVariants as deliveries
+use Rattle.psci_ctl_spec.specs.declared.kick.Kick.{Kick}
+use Rattle.psci_ctl_spec.specs.declared.kick.Kick.TheVariants as kicks
+use Rattle.psci_ctl_spec.specs.declared.reply.CtlReply.TheVariants as replied
 use Rattle.psci_link.specs.declared.start.Start.{Start}
-use Rattle.psci_ctl_model.specs.Changes.{after, change}
-use Rattle.psci_ctl_model.specs.Effects.{Effect, Nothing, Starts, Deepens, Ends, Begins}
-use Rattle.psci_ctl_model.specs.Effects.{effect_of, message_effect}
-use Rattle.psci_ctl_model.specs.Exchange.{CtlExchange}
-use Rattle.psci_ctl_model.specs.History.{values_of}
-use Rattle.psci_ctl_model.specs.Replies.{ack_by, delivery_of, is_this_life, last_start, reply}
-use Rattle.psci_ctl_model.specs.Values.{Values, first_depth}
-use Rattle.psci_ctl_model.proofs.OneMore.{values_more}
-use Rattle.psci_fw_model.specs.declared.reply.FwReply.{FwReply}
-use Rattle.psci_fw_model.specs.declared.reply.FwReply.TheVariants as replies
+use Rattle.psci_ctl_spec.specs.Changes.{after, change}
+use Rattle.psci_ctl_spec.specs.Effects.{Effect, Nothing, Starts, Deepens, Ends, Begins}
+use Rattle.psci_ctl_spec.specs.Effects.{effect_of, message_effect}
+use Rattle.psci_ctl_spec.specs.Exchange.{CtlExchange}
+use Rattle.psci_ctl_spec.specs.History.{values_of}
+use Rattle.psci_ctl_spec.specs.Replies.{ack_by, delivery_of, is_this_life, last_start, reply}
+use Rattle.psci_ctl_spec.specs.Values.{Values, first_depth}
+use Rattle.psci_ctl_spec.proofs.OneMore.{values_more}
+use Rattle.psci_fw_spec.specs.declared.reply.FwReply.{FwReply}
+use Rattle.psci_fw_spec.specs.declared.reply.FwReply.TheVariants as replies
 use Rattle.psci_link.specs.Message.{AckValue, MessageValue}
-use Rattle.psci_world_model.specs.declared.event.Event.{Event}
-use Rattle.psci_world_model.specs.declared.event.Event.TheVariants.{Call, Enter, Wake, Reset}
-use Rattle.psci_world_model.specs.declared.event.Event.TheVariants.{Deliver, Take}
-use Rattle.psci_world_model.specs.declared.place.Place.{Place}
-use Rattle.psci_world_model.specs.declared.place.Place.TheVariants.{Started, Running, Stopped}
-use Rattle.psci_world_model.specs.declared.said.Record.{Record}
-use Rattle.psci_world_model.specs.declared.said.Said.{Said}
-use Rattle.psci_world_model.specs.declared.said.Said.TheVariants.{Kick as Kicked, Acked}
-use Rattle.psci_world_model.specs.declared.said.Said.TheVariants.{Absent}
-use Rattle.psci_world_model.specs.Histories.{ack_in, acks, control, controller_history}
-use Rattle.psci_world_model.specs.Histories.{controller_values, delivered, sent}
-use Rattle.psci_world_model.specs.Legal.{deliver, if_running, if_started, if_stopped}
-use Rattle.psci_world_model.specs.Legal.{legal, said_by, said_of, take}
-use Rattle.psci_world_model.specs.Lists.{indexed}
-use Rattle.psci_world_model.specs.Places.{place}
+use Rattle.psci_world_spec.specs.declared.event.Event.{Event}
+use Rattle.psci_world_spec.specs.declared.event.Event.TheVariants.{Call, Enter, Wake, Reset}
+use Rattle.psci_world_spec.specs.declared.event.Event.TheVariants.{Deliver, Take}
+use Rattle.psci_world_spec.specs.declared.place.Place.{Place}
+use Rattle.psci_world_spec.specs.declared.place.Place.TheVariants.{Started, Running, Stopped}
+use Rattle.psci_world_spec.specs.declared.said.Record.{Record}
+use Rattle.psci_world_spec.specs.declared.said.Said.{Said}
+use Rattle.psci_world_spec.specs.declared.said.Said.TheVariants.{Kick as Kicked, Acked}
+use Rattle.psci_world_spec.specs.declared.said.Said.TheVariants.{Absent}
+use Rattle.psci_world_spec.specs.Histories.{ack_in, acks, control, controller_history}
+use Rattle.psci_world_spec.specs.Histories.{controller_values, delivered, sent}
+use Rattle.psci_world_spec.specs.Legal.{deliver, if_running, if_started, if_stopped}
+use Rattle.psci_world_spec.specs.Legal.{legal, said_by, said_of, take}
+use Rattle.psci_world_spec.specs.Lists.{indexed}
+use Rattle.psci_world_spec.specs.Places.{place}
 use Rattle.psci_headline.proofs.Numbered.{IsListed, listed_from}
 
 -- What a record adds ---------------------------------------------------------------------------

@@ -7,30 +7,30 @@ use Rattle.std.proofs.lemmas.Bool.{eqb-false, eqb-true}
 use Rattle.psci_board.specs.Board.{BoardValue}
 use Rattle.psci_link.specs.declared.start.Start.{Start}
 use Rattle.psci_link.specs.Message.{MessageValue}
-use Rattle.psci_fw_model.specs.declared.call.FwCall.{FwCall}
-use Rattle.psci_fw_model.specs.declared.call.FwCall.TheVariants as calls
-use Rattle.psci_fw_model.specs.declared.fault.FwFault.{FwFault}
-use Rattle.psci_fw_model.specs.declared.opening.Opening.{Opening}
-use Rattle.psci_fw_model.specs.declared.outcome.Act.{Act}
-use Rattle.psci_fw_model.specs.declared.outcome.Act.TheVariants as acts
-use Rattle.psci_fw_model.specs.declared.outcome.Outcome.{Outcome}
-use Rattle.psci_fw_model.specs.declared.reply.FwReply.{FwReply}
-use Rattle.psci_fw_model.specs.declared.reply.FwReply.TheVariants as replies
-use Rattle.psci_fw_model.specs.After.{change}
-use Rattle.psci_fw_model.specs.Answer.{answer, reply_or}
-use Rattle.psci_fw_model.specs.Changes.{with_arrival}
-use Rattle.psci_fw_model.specs.CpuOff.{off_message}
-use Rattle.psci_fw_model.specs.Effects.{Effect, Nothing, GoesOn, SetsMode, AsksOn, Rests, Halts}
-use Rattle.psci_fw_model.specs.Effects.{Stops, Enters, Parks, StopsAtOnce, Acknowledges, effect_of}
-use Rattle.psci_fw_model.specs.Effects.{enter_effect}
-use Rattle.psci_fw_model.specs.Entering.{enter_fault, enter_outcome, outcome_at, resumes}
-use Rattle.psci_fw_model.specs.Exchange.{FwExchange, effect}
-use Rattle.psci_fw_model.specs.History.{life, values_of}
-use Rattle.psci_fw_model.specs.Legal.{IsLegal}
-use Rattle.psci_fw_model.specs.Lives.{in_life, start_of_life}
-use Rattle.psci_fw_model.specs.Outcomes.{stops, stops_with}
-use Rattle.psci_fw_model.specs.Said.{arrived, listed}
-use Rattle.psci_fw_model.specs.Values.{Values, updated}
+use Rattle.psci_fw_spec.specs.declared.call.FwCall.{FwCall}
+use Rattle.psci_fw_spec.specs.declared.call.FwCall.TheVariants as calls
+use Rattle.psci_fw_spec.specs.declared.fault.FwFault.{FwFault}
+use Rattle.psci_fw_spec.specs.declared.opening.Opening.{Opening}
+use Rattle.psci_fw_spec.specs.declared.outcome.Act.{Act}
+use Rattle.psci_fw_spec.specs.declared.outcome.Act.TheVariants as acts
+use Rattle.psci_fw_spec.specs.declared.outcome.Outcome.{Outcome}
+use Rattle.psci_fw_spec.specs.declared.reply.FwReply.{FwReply}
+use Rattle.psci_fw_spec.specs.declared.reply.FwReply.TheVariants as replies
+use Rattle.psci_fw_spec.specs.After.{change}
+use Rattle.psci_fw_spec.specs.Answer.{answer, reply_or}
+use Rattle.psci_fw_spec.specs.Changes.{with_arrival}
+use Rattle.psci_fw_spec.specs.CpuOff.{off_message}
+use Rattle.psci_fw_spec.specs.Effects.{Effect, Nothing, GoesOn, SetsMode, AsksOn, Rests, Halts}
+use Rattle.psci_fw_spec.specs.Effects.{Stops, Enters, Parks, StopsAtOnce, Acknowledges, effect_of}
+use Rattle.psci_fw_spec.specs.Effects.{enter_effect}
+use Rattle.psci_fw_spec.specs.Entering.{enter_fault, enter_outcome, outcome_at, resumes}
+use Rattle.psci_fw_spec.specs.Exchange.{FwExchange, effect}
+use Rattle.psci_fw_spec.specs.History.{life, values_of}
+use Rattle.psci_fw_spec.specs.Legal.{IsLegal}
+use Rattle.psci_fw_spec.specs.Lives.{in_life, start_of_life}
+use Rattle.psci_fw_spec.specs.Outcomes.{stops, stops_with}
+use Rattle.psci_fw_spec.specs.Said.{arrived, listed}
+use Rattle.psci_fw_spec.specs.Values.{Values, updated}
 use Rattle.psci_fw_laws.specs.Allowed.{IsAllowed}
 use Rattle.psci_fw_laws.proofs.Parts.{updated_at}
 use Rattle.psci_safe.specs.Moments.{goes_on_by}

@@ -5,14 +5,14 @@ use Rattle.psci_abi.specs.Calls.{request_of}
 use Rattle.psci_abi.specs.declared.registers.Regs.{Regs}
 use Rattle.psci_abi.specs.declared.request.Request.{Request}
 use Rattle.psci_board.specs.Board.{BoardValue}
-use Rattle.psci_fw_model.specs.declared.call.FwCall.TheVariants.{Smc}
-use Rattle.psci_fw_model.specs.declared.fault.FwFault.{FwFault}
-use Rattle.psci_fw_model.specs.declared.outcome.Outcome.{Outcome}
-use Rattle.psci_fw_model.specs.declared.reply.FwReply.TheVariants as replies
-use Rattle.psci_fw_model.specs.Answer.{answer, reply_or}
-use Rattle.psci_fw_model.specs.Calls.{call_fault, outcome_of}
-use Rattle.psci_fw_model.specs.Values.{Values}
-use Rattle.psci_fw_model.proofs.Endings.{function_ends, outcome_ends}
+use Rattle.psci_fw_spec.specs.declared.call.FwCall.TheVariants.{Smc}
+use Rattle.psci_fw_spec.specs.declared.fault.FwFault.{FwFault}
+use Rattle.psci_fw_spec.specs.declared.outcome.Outcome.{Outcome}
+use Rattle.psci_fw_spec.specs.declared.reply.FwReply.TheVariants as replies
+use Rattle.psci_fw_spec.specs.Answer.{answer, reply_or}
+use Rattle.psci_fw_spec.specs.Calls.{call_fault, outcome_of}
+use Rattle.psci_fw_spec.specs.Values.{Values}
+use Rattle.psci_fw_spec.proofs.Endings.{function_ends, outcome_ends}
 use Rattle.psci_safe.specs.Moments.{goes_on_by}
 
 -- this outcome is no entry

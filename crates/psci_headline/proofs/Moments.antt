@@ -5,30 +5,30 @@ use Rattle.std.specs.Prelude.{slice_get}
 use Rattle.psci_board.specs.Board.{BoardValue}
 use Rattle.psci_coord.specs.declared.part.Part.{Part}
 use Rattle.psci_link.specs.declared.start.Start.{Start}
-use Rattle.psci_ctl_model.specs.Replies.{last_start}
-use Rattle.psci_ctl_model.specs.Values as controlled
+use Rattle.psci_ctl_spec.specs.Replies.{last_start}
+use Rattle.psci_ctl_spec.specs.Values as controlled
 use Rattle.psci_link.specs.declared.kind.Kind.TheVariants.{Down}
 use Rattle.psci_link.specs.declared.taken.Taken.{Taken}
 use Rattle.psci_link.specs.Message.{AckValue, MessageValue}
-use Rattle.psci_fw_model.specs.declared.outcome.Outcome.{Outcome}
-use Rattle.psci_fw_model.specs.Exchange.{FwExchange, effect}
-use Rattle.psci_fw_model.specs.History.{values_of}
-use Rattle.psci_fw_model.specs.Said as says
-use Rattle.psci_fw_model.specs.Said.{listed}
-use Rattle.psci_fw_model.specs.Sent.{sent_messages}
+use Rattle.psci_fw_spec.specs.declared.outcome.Outcome.{Outcome}
+use Rattle.psci_fw_spec.specs.Exchange.{FwExchange, effect}
+use Rattle.psci_fw_spec.specs.History.{values_of}
+use Rattle.psci_fw_spec.specs.Said as says
+use Rattle.psci_fw_spec.specs.Said.{listed}
+use Rattle.psci_fw_spec.specs.Sent.{sent_messages}
 use Rattle.psci_fw_laws.specs.Asked.{IsAskedFor, WasAsked}
 use Rattle.psci_fw_laws.specs.Claims.{AreRising, part_for}
 use Rattle.psci_fw_laws.proofs.Parts.{part_has}
-use Rattle.psci_world_model.specs.declared.event.Event.{Event}
-use Rattle.psci_world_model.specs.declared.event.Event.TheVariants.{Call, Enter, Take}
-use Rattle.psci_world_model.specs.declared.said.Record.{Record}
-use Rattle.psci_world_model.specs.declared.said.Said.{Said}
-use Rattle.psci_world_model.specs.declared.said.Said.TheVariants.{Fw, Taken as Took}
-use Rattle.psci_world_model.specs.Histories.{acks, call, controller_values, entered}
-use Rattle.psci_world_model.specs.Histories.{firmware_history, firmware_values, outcome_in, sent}
-use Rattle.psci_world_model.specs.Histories.{sent_in, took}
-use Rattle.psci_world_model.specs.Legal.{IsLegalPast}
-use Rattle.psci_world_model.specs.Lists.{indexed}
+use Rattle.psci_world_spec.specs.declared.event.Event.{Event}
+use Rattle.psci_world_spec.specs.declared.event.Event.TheVariants.{Call, Enter, Take}
+use Rattle.psci_world_spec.specs.declared.said.Record.{Record}
+use Rattle.psci_world_spec.specs.declared.said.Said.{Said}
+use Rattle.psci_world_spec.specs.declared.said.Said.TheVariants.{Fw, Taken as Took}
+use Rattle.psci_world_spec.specs.Histories.{acks, call, controller_values, entered}
+use Rattle.psci_world_spec.specs.Histories.{firmware_history, firmware_values, outcome_in, sent}
+use Rattle.psci_world_spec.specs.Histories.{sent_in, took}
+use Rattle.psci_world_spec.specs.Legal.{IsLegalPast}
+use Rattle.psci_world_spec.specs.Lists.{indexed}
 use Rattle.psci_headline.proofs.Asking.{WereAsked}
 
 -- Records --------------------------------------------------------------------------------------

@@ -5,28 +5,28 @@ use Rattle.std.specs.Prelude.{nat_lt}
 use Rattle.std.proofs.lemmas.Bool.{and_parts, eqb-true, true≢false}
 use Rattle.psci_board.specs.Board.{BoardValue, cores}
 use Rattle.psci_link.specs.declared.start.Start.{Start}
-use Rattle.psci_ctl_model.specs.Replies.{last_start}
-use Rattle.psci_fw_model.specs.declared.outcome.Act.{Act}
-use Rattle.psci_fw_model.specs.declared.outcome.Act.TheVariants as acts
-use Rattle.psci_fw_model.specs.After.{change}
-use Rattle.psci_fw_model.specs.Effects.{Effect, Nothing, Enters, enter_effect}
-use Rattle.psci_fw_model.specs.Exchange.{FwExchange, effect}
-use Rattle.psci_fw_model.specs.History.{values_of}
-use Rattle.psci_fw_model.specs.Legal.{IsLegal}
+use Rattle.psci_ctl_spec.specs.Replies.{last_start}
+use Rattle.psci_fw_spec.specs.declared.outcome.Act.{Act}
+use Rattle.psci_fw_spec.specs.declared.outcome.Act.TheVariants as acts
+use Rattle.psci_fw_spec.specs.After.{change}
+use Rattle.psci_fw_spec.specs.Effects.{Effect, Nothing, Enters, enter_effect}
+use Rattle.psci_fw_spec.specs.Exchange.{FwExchange, effect}
+use Rattle.psci_fw_spec.specs.History.{values_of}
+use Rattle.psci_fw_spec.specs.Legal.{IsLegal}
 use Rattle.psci_link.specs.Message.{MessageValue}
 use Rattle.psci_fw_laws.specs.Allowed.{IsAllowed}
-use Rattle.psci_world_model.specs.declared.event.Event.{Event}
-use Rattle.psci_world_model.specs.declared.event.Event.TheVariants.{Call, Enter}
-use Rattle.psci_world_model.specs.declared.place.Place.{Place}
-use Rattle.psci_world_model.specs.declared.place.Place.TheVariants.{Started, Running, Stopped}
-use Rattle.psci_world_model.specs.declared.said.Record.{Record}
-use Rattle.psci_world_model.specs.declared.said.Said.{Said}
-use Rattle.psci_world_model.specs.declared.said.Said.TheVariants.{Fw, Absent}
-use Rattle.psci_world_model.specs.declared.said.Sent.{Sent}
-use Rattle.psci_world_model.specs.Histories.{acks, call, controller_values, entered}
-use Rattle.psci_world_model.specs.Histories.{firmware_history, firmware_values, outcome_in}
-use Rattle.psci_world_model.specs.Legal.{if_started, legal, on_board}
-use Rattle.psci_world_model.specs.Places.{place}
+use Rattle.psci_world_spec.specs.declared.event.Event.{Event}
+use Rattle.psci_world_spec.specs.declared.event.Event.TheVariants.{Call, Enter}
+use Rattle.psci_world_spec.specs.declared.place.Place.{Place}
+use Rattle.psci_world_spec.specs.declared.place.Place.TheVariants.{Started, Running, Stopped}
+use Rattle.psci_world_spec.specs.declared.said.Record.{Record}
+use Rattle.psci_world_spec.specs.declared.said.Said.{Said}
+use Rattle.psci_world_spec.specs.declared.said.Said.TheVariants.{Fw, Absent}
+use Rattle.psci_world_spec.specs.declared.said.Sent.{Sent}
+use Rattle.psci_world_spec.specs.Histories.{acks, call, controller_values, entered}
+use Rattle.psci_world_spec.specs.Histories.{firmware_history, firmware_values, outcome_in}
+use Rattle.psci_world_spec.specs.Legal.{if_started, legal, on_board}
+use Rattle.psci_world_spec.specs.Places.{place}
 use Rattle.psci_safe.specs.Moments.{goes_on, goes_on_by}
 use Rattle.psci_headline.proofs.Functions.{call_ends}
 use Rattle.psci_headline.proofs.Records.{IsAdded, IsOfRecord, added}

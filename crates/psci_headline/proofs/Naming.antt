@@ -9,18 +9,18 @@ use Rattle.psci_board.specs.declared.node.Core.{Core}
 use Rattle.psci_link.specs.declared.start.Start.{Start}
 use Rattle.psci_link.specs.declared.taken.Taken.TheVariants.{Used, Old}
 use Rattle.psci_link.specs.Message.{MessageValue}
-use Rattle.psci_fw_model.specs.declared.call.FwCall.{FwCall}
-use Rattle.psci_fw_model.specs.declared.call.FwCall.TheVariants as calls
-use Rattle.psci_fw_model.specs.declared.outcome.Act.{Act}
-use Rattle.psci_fw_model.specs.declared.outcome.Act.TheVariants as acts
-use Rattle.psci_fw_model.specs.declared.reply.FwReply.{FwReply}
-use Rattle.psci_fw_model.specs.declared.reply.FwReply.TheVariants as replies
-use Rattle.psci_fw_model.specs.Answer.{answer}
-use Rattle.psci_fw_model.specs.Changes.{PowerOn, target}
-use Rattle.psci_fw_model.specs.Effects.{Effect, Nothing, GoesOn, SetsMode, AsksOn, Rests, Halts}
-use Rattle.psci_fw_model.specs.Effects.{Stops, Enters, Parks, StopsAtOnce, Acknowledges, effect_of}
-use Rattle.psci_fw_model.specs.Effects.{enter_effect}
-use Rattle.psci_fw_model.specs.Values.{Values}
+use Rattle.psci_fw_spec.specs.declared.call.FwCall.{FwCall}
+use Rattle.psci_fw_spec.specs.declared.call.FwCall.TheVariants as calls
+use Rattle.psci_fw_spec.specs.declared.outcome.Act.{Act}
+use Rattle.psci_fw_spec.specs.declared.outcome.Act.TheVariants as acts
+use Rattle.psci_fw_spec.specs.declared.reply.FwReply.{FwReply}
+use Rattle.psci_fw_spec.specs.declared.reply.FwReply.TheVariants as replies
+use Rattle.psci_fw_spec.specs.Answer.{answer}
+use Rattle.psci_fw_spec.specs.Changes.{PowerOn, target}
+use Rattle.psci_fw_spec.specs.Effects.{Effect, Nothing, GoesOn, SetsMode, AsksOn, Rests, Halts}
+use Rattle.psci_fw_spec.specs.Effects.{Stops, Enters, Parks, StopsAtOnce, Acknowledges, effect_of}
+use Rattle.psci_fw_spec.specs.Effects.{enter_effect}
+use Rattle.psci_fw_spec.specs.Values.{Values}
 use Rattle.psci_safe.specs.Openings.{Made, OfCall, made_at, made_by, core_asked, named_in}
 
 -- Which core a call named ----------------------------------------------------------------------

@@ -4,24 +4,24 @@ use Rattle.std.proofs.Common.{List, ◌∷◌, ◌++◌, Option, None, Some, ref
 use Rattle.std.proofs.Common.{sym, ◌∙◌, arith}
 use Rattle.std.specs.Prelude.{slice_get}
 use Rattle.psci_board.specs.Board.{BoardValue}
-use Rattle.psci_fw_model.specs.declared.status.Status.TheVariants as statuses
-use Rattle.psci_fw_model.specs.After.{change}
-use Rattle.psci_fw_model.specs.Effects.{Enters}
-use Rattle.psci_fw_model.specs.History as remembers
-use Rattle.psci_fw_model.specs.Lives.{in_life}
-use Rattle.psci_fw_model.specs.Phases.{Away, Running}
-use Rattle.psci_fw_model.specs.Said.{listed}
-use Rattle.psci_fw_model.specs.Values.{Values}
+use Rattle.psci_fw_spec.specs.declared.status.Status.TheVariants as statuses
+use Rattle.psci_fw_spec.specs.After.{change}
+use Rattle.psci_fw_spec.specs.Effects.{Enters}
+use Rattle.psci_fw_spec.specs.History as remembers
+use Rattle.psci_fw_spec.specs.Lives.{in_life}
+use Rattle.psci_fw_spec.specs.Phases.{Away, Running}
+use Rattle.psci_fw_spec.specs.Said.{listed}
+use Rattle.psci_fw_spec.specs.Values.{Values}
 use Rattle.psci_link.specs.declared.kind.Kind.TheVariants.{Down}
 use Rattle.psci_link.specs.Message.{AckValue}
 use Rattle.psci_fw_laws.specs.Kept.{Holds}
 use Rattle.psci_fw_laws.proofs.Parts.{updated_here}
-use Rattle.psci_world_model.specs.declared.event.Event.TheVariants.{Deliver}
-use Rattle.psci_world_model.specs.declared.said.Record.{Record}
-use Rattle.psci_world_model.specs.Histories.{ack_in, acks, call}
-use Rattle.psci_world_model.specs.Histories.{controller_values, firmware_history, firmware_values}
-use Rattle.psci_world_model.specs.Histories.{sent}
-use Rattle.psci_world_model.specs.Legal.{legal}
+use Rattle.psci_world_spec.specs.declared.event.Event.TheVariants.{Deliver}
+use Rattle.psci_world_spec.specs.declared.said.Record.{Record}
+use Rattle.psci_world_spec.specs.Histories.{ack_in, acks, call}
+use Rattle.psci_world_spec.specs.Histories.{controller_values, firmware_history, firmware_values}
+use Rattle.psci_world_spec.specs.Histories.{sent}
+use Rattle.psci_world_spec.specs.Legal.{legal}
 use Rattle.psci_safe.specs.Moments.{goes_on, was_powered_down}
 use Rattle.psci_headline.specs.PoweredDown.{AreDown, IsDownBy}
 use Rattle.psci_headline.proofs.Acknowledging.{CoreLaws, new_is_down}

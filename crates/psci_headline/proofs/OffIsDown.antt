@@ -2,17 +2,17 @@
 use Rattle.std.proofs.Common.{◌≡◌, ℕ, ◌<◌, Bool, true, false, ◌==◌, cond, List, Option, None, Some}
 use Rattle.std.proofs.Common.{refl, subst, sym, ◌∙◌}
 use Rattle.psci_board.specs.Board.{BoardValue, cores}
-use Rattle.psci_fw_model.specs.declared.status.Status.{Status}
-use Rattle.psci_fw_model.specs.declared.status.Status.TheVariants.{Off}
-use Rattle.psci_fw_model.specs.Invariant.{AreValues, agrees}
-use Rattle.psci_fw_model.specs.Lives.{start_of_life}
-use Rattle.psci_fw_model.specs.Phases as phases
-use Rattle.psci_fw_model.specs.Values.{Values}
-use Rattle.psci_world_model.specs.declared.place.Place.TheVariants.{Running, Stopped}
-use Rattle.psci_world_model.specs.declared.said.Record.{Record}
-use Rattle.psci_world_model.specs.Histories.{controller_values, firmware_values}
-use Rattle.psci_world_model.specs.Legal.{IsLegalPast}
-use Rattle.psci_world_model.specs.Places.{place}
+use Rattle.psci_fw_spec.specs.declared.status.Status.{Status}
+use Rattle.psci_fw_spec.specs.declared.status.Status.TheVariants.{Off}
+use Rattle.psci_fw_spec.specs.Invariant.{AreValues, agrees}
+use Rattle.psci_fw_spec.specs.Lives.{start_of_life}
+use Rattle.psci_fw_spec.specs.Phases as phases
+use Rattle.psci_fw_spec.specs.Values.{Values}
+use Rattle.psci_world_spec.specs.declared.place.Place.TheVariants.{Running, Stopped}
+use Rattle.psci_world_spec.specs.declared.said.Record.{Record}
+use Rattle.psci_world_spec.specs.Histories.{controller_values, firmware_values}
+use Rattle.psci_world_spec.specs.Legal.{IsLegalPast}
+use Rattle.psci_world_spec.specs.Places.{place}
 use Rattle.psci_world_laws.specs.Agreement.{Agree}
 use Rattle.psci_safe.specs.Safe.{OffIsDown}
 use Rattle.psci_headline.proofs.AllDown.{DownLaws, all_down}

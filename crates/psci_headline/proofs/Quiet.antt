@@ -5,22 +5,22 @@ use Rattle.std.proofs.lemmas.Bool.{cond_both, eqb-false, false≢true}
 use Rattle.psci_board.specs.Board.{BoardValue, cores}
 use Rattle.psci_board.specs.Laws.{PathLaws}
 use Rattle.psci_link.specs.Message.{MessageValue}
-use Rattle.psci_ctl_model.specs.Follows.{AreValues}
-use Rattle.psci_fw_model.specs.Lives.{in_life, start_of_life}
-use Rattle.psci_fw_model.specs.Phases as phases
-use Rattle.psci_fw_model.specs.Sent.{sent_messages}
-use Rattle.psci_fw_model.specs.Values.{Values}
+use Rattle.psci_ctl_spec.specs.Follows.{AreValues}
+use Rattle.psci_fw_spec.specs.Lives.{in_life, start_of_life}
+use Rattle.psci_fw_spec.specs.Phases as phases
+use Rattle.psci_fw_spec.specs.Sent.{sent_messages}
+use Rattle.psci_fw_spec.specs.Values.{Values}
 use Rattle.psci_fw_laws.specs.Claims.{IsClaimOn}
 use Rattle.psci_fw_laws.specs.Kept.{Holds}
 use Rattle.psci_fw_laws.specs.Live.{AreLive}
 use Rattle.psci_fw_laws.proofs.Arriving.{first_holds, found_life}
 use Rattle.psci_fw_laws.proofs.Living.{live_laws}
-use Rattle.psci_world_model.specs.declared.place.Place.{Place}
-use Rattle.psci_world_model.specs.declared.place.Place.TheVariants.{Started, Running, Stopped}
-use Rattle.psci_world_model.specs.declared.said.Record.{Record}
-use Rattle.psci_world_model.specs.Histories.{controller_values, firmware_history, firmware_values}
-use Rattle.psci_world_model.specs.Histories.{sent}
-use Rattle.psci_world_model.specs.Places.{place}
+use Rattle.psci_world_spec.specs.declared.place.Place.{Place}
+use Rattle.psci_world_spec.specs.declared.place.Place.TheVariants.{Started, Running, Stopped}
+use Rattle.psci_world_spec.specs.declared.said.Record.{Record}
+use Rattle.psci_world_spec.specs.Histories.{controller_values, firmware_history, firmware_values}
+use Rattle.psci_world_spec.specs.Histories.{sent}
+use Rattle.psci_world_spec.specs.Places.{place}
 use Rattle.psci_world_laws.specs.Agreement.{Agree, AgreeIn}
 use Rattle.psci_safe.specs.Moments.{executes}
 use Rattle.psci_headline.specs.Live.{NoneExecutes}

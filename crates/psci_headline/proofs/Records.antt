@@ -11,29 +11,29 @@ use Rattle.psci_abi.specs.declared.request.Request.TheVariants as requests
 use Rattle.psci_board.specs.Board.{BoardValue}
 use Rattle.psci_link.specs.declared.start.Cause.{Cause}
 use Rattle.psci_link.specs.declared.start.Start.{Start}
-use Rattle.psci_ctl_model.specs.Replies.{last_start, start_shown}
-use Rattle.psci_ctl_model.specs.Values as controlled
-use Rattle.psci_fw_model.specs.declared.mode.SuspendMode.{SuspendMode}
-use Rattle.psci_fw_model.specs.declared.outcome.Act.{Act}
-use Rattle.psci_fw_model.specs.declared.outcome.Act.TheVariants as acts
-use Rattle.psci_fw_model.specs.Effects.{Effect, Nothing, GoesOn, SetsMode, AsksOn, Rests, Halts}
-use Rattle.psci_fw_model.specs.Effects.{Stops, Enters, Parks, StopsAtOnce, Acknowledges}
-use Rattle.psci_fw_model.specs.Effects.{enter_effect, function_effect, mode_effect}
-use Rattle.psci_fw_model.specs.Exchange.{FwExchange, effect}
-use Rattle.psci_fw_model.specs.Said.{Arrival, arrived}
-use Rattle.psci_fw_model.specs.SuspendMode.{mode_of}
+use Rattle.psci_ctl_spec.specs.Replies.{last_start, start_shown}
+use Rattle.psci_ctl_spec.specs.Values as controlled
+use Rattle.psci_fw_spec.specs.declared.mode.SuspendMode.{SuspendMode}
+use Rattle.psci_fw_spec.specs.declared.outcome.Act.{Act}
+use Rattle.psci_fw_spec.specs.declared.outcome.Act.TheVariants as acts
+use Rattle.psci_fw_spec.specs.Effects.{Effect, Nothing, GoesOn, SetsMode, AsksOn, Rests, Halts}
+use Rattle.psci_fw_spec.specs.Effects.{Stops, Enters, Parks, StopsAtOnce, Acknowledges}
+use Rattle.psci_fw_spec.specs.Effects.{enter_effect, function_effect, mode_effect}
+use Rattle.psci_fw_spec.specs.Exchange.{FwExchange, effect}
+use Rattle.psci_fw_spec.specs.Said.{Arrival, arrived}
+use Rattle.psci_fw_spec.specs.SuspendMode.{mode_of}
 use Rattle.psci_link.specs.declared.taken.Taken.{Taken}
 use Rattle.psci_link.specs.declared.taken.Taken.TheVariants as takens
 use Rattle.psci_link.specs.Message.{AckValue, MessageValue}
-use Rattle.psci_world_model.specs.declared.event.Event.{Event}
-use Rattle.psci_world_model.specs.declared.event.Event.TheVariants.{Call, Enter}
-use Rattle.psci_world_model.specs.declared.event.Event.TheVariants.{Take}
-use Rattle.psci_world_model.specs.declared.said.Said.{Said}
-use Rattle.psci_world_model.specs.declared.said.Said.TheVariants.{Fw}
-use Rattle.psci_world_model.specs.declared.said.Said.TheVariants.{Taken as Took}
-use Rattle.psci_world_model.specs.declared.said.Sent.{Sent}
-use Rattle.psci_world_model.specs.Histories.{call, entered, outcome_in, took}
-use Rattle.psci_world_model.specs.Lists.{indexed}
+use Rattle.psci_world_spec.specs.declared.event.Event.{Event}
+use Rattle.psci_world_spec.specs.declared.event.Event.TheVariants.{Call, Enter}
+use Rattle.psci_world_spec.specs.declared.event.Event.TheVariants.{Take}
+use Rattle.psci_world_spec.specs.declared.said.Said.{Said}
+use Rattle.psci_world_spec.specs.declared.said.Said.TheVariants.{Fw}
+use Rattle.psci_world_spec.specs.declared.said.Said.TheVariants.{Taken as Took}
+use Rattle.psci_world_spec.specs.declared.said.Sent.{Sent}
+use Rattle.psci_world_spec.specs.Histories.{call, entered, outcome_in, took}
+use Rattle.psci_world_spec.specs.Lists.{indexed}
 use Rattle.psci_headline.proofs.Numbered.{IsListed, listed_from}
 
 -- Functions that were called -------------------------------------------------------------------

@@ -6,12 +6,12 @@ use Rattle.std.proofs.lemmas.Bool.{and_from, and_parts, eq-eqb, eqb-true}
 use Rattle.std.proofs.lemmas.Bool.{false_from_ne_true, lt-ltb}
 use Rattle.std.proofs.lemmas.Bool.{ltb-true, not_from_false, or_left, or_right}
 use Rattle.psci_board.specs.Board.{BoardValue}
-use Rattle.psci_ctl_model.specs.Replies.{is_this_life}
-use Rattle.psci_fw_model.specs.declared.status.Status.{Status}
-use Rattle.psci_fw_model.specs.declared.status.Status.TheVariants.{On, Off, Pending}
-use Rattle.psci_fw_model.specs.SystemCalls.{is_off_status}
-use Rattle.psci_world_model.specs.declared.said.Record.{Record}
-use Rattle.psci_world_model.specs.Histories.{controller_values, firmware_values}
+use Rattle.psci_ctl_spec.specs.Replies.{is_this_life}
+use Rattle.psci_fw_spec.specs.declared.status.Status.{Status}
+use Rattle.psci_fw_spec.specs.declared.status.Status.TheVariants.{On, Off, Pending}
+use Rattle.psci_fw_spec.specs.SystemCalls.{is_off_status}
+use Rattle.psci_world_spec.specs.declared.said.Record.{Record}
+use Rattle.psci_world_spec.specs.Histories.{controller_values, firmware_values}
 use Rattle.psci_safe.specs.Moments.{depth_at, goes_on, was_powered_down, is_powered_down}
 use Rattle.psci_safe.specs.Moments.{is_reported_off}
 

@@ -7,10 +7,10 @@ use Rattle.std.proofs.lemmas.Bool.{and_from, eq-eqb, false≢true}
 use Rattle.psci_board.specs.Board.{BoardValue, HasNode, cores, up}
 use Rattle.psci_board.specs.Laws.{PathLaws}
 use Rattle.psci_board.specs.declared.node.Node.{Node}
-use Rattle.psci_world_model.specs.declared.place.Place.TheVariants.{Stopped}
-use Rattle.psci_world_model.specs.declared.said.Record.{Record}
-use Rattle.psci_world_model.specs.Histories.{controller_values}
-use Rattle.psci_world_model.specs.Places.{place}
+use Rattle.psci_world_spec.specs.declared.place.Place.TheVariants.{Stopped}
+use Rattle.psci_world_spec.specs.declared.said.Record.{Record}
+use Rattle.psci_world_spec.specs.Histories.{controller_values}
+use Rattle.psci_world_spec.specs.Places.{place}
 use Rattle.psci_safe.specs.Claims.{live_claims}
 use Rattle.psci_safe.specs.Moments.{depth_at, executes}
 use Rattle.psci_safe.specs.Safe.{NoDeeperThanAsked, NoneBelowSleeping}

@@ -3,10 +3,10 @@ use Rattle.std.specs.Prelude.{◌≡◌, ℕ, ◌<◌, ◌≤◌, true, List, So
 use Rattle.psci_board.specs.Board.{BoardValue}
 use Rattle.psci_link.specs.declared.kind.Kind.TheVariants.{Down}
 use Rattle.psci_link.specs.Message.{AckValue}
-use Rattle.psci_fw_model.specs.Phases.{Running, Away}
-use Rattle.psci_fw_model.specs.Values.{Values}
-use Rattle.psci_world_model.specs.declared.said.Record.{Record}
-use Rattle.psci_world_model.specs.Histories.{acks, controller_values, firmware_values}
+use Rattle.psci_fw_spec.specs.Phases.{Running, Away}
+use Rattle.psci_fw_spec.specs.Values.{Values}
+use Rattle.psci_world_spec.specs.declared.said.Record.{Record}
+use Rattle.psci_world_spec.specs.Histories.{acks, controller_values, firmware_values}
 use Rattle.psci_safe.specs.Moments.{was_powered_down, is_reported_off}
 
 -- What the acknowledgement of a Down of which a part was applied says of its core, beside the

@@ -3,14 +3,14 @@
 ghost use Rattle.std.specs.Prelude.{List};
 ghost use Rattle.psci_board.specs.Board.{BoardValue, IsBoard};
 ghost use Rattle.psci_headline.specs.Live.{AreApart, AreAsked, AreClaimed, NoneExecutes};
-ghost use Rattle.psci_world_model.specs.declared.said.Record.{Record};
-ghost use Rattle.psci_world_model.specs.Legal.{IsLegalPast};
+ghost use Rattle.psci_world_spec.specs.declared.said.Record.{Record};
+ghost use Rattle.psci_world_spec.specs.Legal.{IsLegalPast};
 
 use psci_board::law_paths;
-use psci_ctl_model::{law_depths, law_limits};
+use psci_ctl_spec::{law_depths, law_limits};
 use psci_fw_laws::{law_asked, law_claimed, law_kept};
 use psci_world_laws::{law_agreement, law_controlled, law_sent};
-use psci_world_model::law_histories;
+use psci_world_spec::law_histories;
 
 /// In a legal run two different claims on one domain in one life have different generations: life,
 /// domain and generation name one claim.

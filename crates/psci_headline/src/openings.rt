@@ -2,12 +2,12 @@
 
 ghost use Rattle.std.specs.Prelude.{List};
 ghost use Rattle.psci_board.specs.Board.{BoardValue, IsBoard};
-ghost use Rattle.psci_fw_model.specs.Exchange.{FwExchange};
-ghost use Rattle.psci_fw_model.specs.Legal.{IsLegal};
+ghost use Rattle.psci_fw_spec.specs.Exchange.{FwExchange};
+ghost use Rattle.psci_fw_spec.specs.Legal.{IsLegal};
 ghost use Rattle.psci_safe.specs.Openings.{AreTakenUp};
 
 use psci_fw_laws::law_kept;
-use psci_fw_model::law_power_on;
+use psci_fw_spec::law_power_on;
 
 /// In a legal history of the firmware each entry takes up one opening that was made for its core in
 /// its life, with its address and context id, and no two take up the same one. So an accepted

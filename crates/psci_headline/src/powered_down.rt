@@ -3,12 +3,12 @@
 ghost use Rattle.std.specs.Prelude.{List};
 ghost use Rattle.psci_board.specs.Board.{BoardValue, IsBoard};
 ghost use Rattle.psci_safe.specs.Safe.{OffIsDown};
-ghost use Rattle.psci_world_model.specs.declared.said.Record.{Record};
-ghost use Rattle.psci_world_model.specs.Legal.{IsLegalPast};
+ghost use Rattle.psci_world_spec.specs.declared.said.Record.{Record};
+ghost use Rattle.psci_world_spec.specs.Legal.{IsLegalPast};
 
 use psci_board::law_paths;
 use psci_fw_laws::{law_kept, law_known_below};
-use psci_fw_model::law_invariant;
+use psci_fw_spec::law_invariant;
 use psci_world_laws::{law_agreement, law_sent};
 
 /// In a legal run a core that is reported OFF does not run, and was powered down since it last went

@@ -6,28 +6,28 @@ use Rattle.std.proofs.lemmas.Bool.{ltb-true}
 use Rattle.psci_abi.specs.declared.registers.Regs.{Regs}
 use Rattle.psci_board.specs.Board.{BoardValue, cores}
 use Rattle.psci_ctl.specs.Seen.{seen as seen_controller}
-use Rattle.psci_ctl_model.specs.declared.call.CtlCall.TheVariants as asked
+use Rattle.psci_ctl_spec.specs.declared.call.CtlCall.TheVariants as asked
 use Rattle.psci_link.specs.declared.start.Start.{Start}
-use Rattle.psci_ctl_model.specs.Replies.{last_start, reply}
-use Rattle.psci_ctl_model.specs.Values as controlled
+use Rattle.psci_ctl_spec.specs.Replies.{last_start, reply}
+use Rattle.psci_ctl_spec.specs.Values as controlled
 use Rattle.psci_fw.specs.Seen.{seen as seen_firmware}
-use Rattle.psci_fw_model.specs.declared.call.FwCall.{FwCall}
-use Rattle.psci_fw_model.specs.declared.call.FwCall.TheVariants as calls
-use Rattle.psci_fw_model.specs.Answer.{answer}
-use Rattle.psci_fw_model.specs.Values as kept
+use Rattle.psci_fw_spec.specs.declared.call.FwCall.{FwCall}
+use Rattle.psci_fw_spec.specs.declared.call.FwCall.TheVariants as calls
+use Rattle.psci_fw_spec.specs.Answer.{answer}
+use Rattle.psci_fw_spec.specs.Values as kept
 use Rattle.psci_link.specs.Message.{AckValue, MessageValue}
-use Rattle.psci_world_model.specs.declared.event.Event.TheVariants.{Call, Enter, Wake, Reset}
-use Rattle.psci_world_model.specs.declared.event.Event.TheVariants.{Deliver, Take}
-use Rattle.psci_world_model.specs.declared.place.Place.{Place}
-use Rattle.psci_world_model.specs.declared.place.Place.TheVariants.{Started, Running, Stopped}
-use Rattle.psci_world_model.specs.declared.said.Record.{Record}
-use Rattle.psci_world_model.specs.declared.said.Said.{Said}
-use Rattle.psci_world_model.specs.declared.said.Said.TheVariants.{Absent}
-use Rattle.psci_world_model.specs.Histories.{acks, controller_values, firmware_values, sent}
-use Rattle.psci_world_model.specs.Legal.{deliver, if_running, if_started, if_stopped, legal}
-use Rattle.psci_world_model.specs.Legal.{on_board, said_by, said_of, take}
-use Rattle.psci_world_model.specs.Lists.{indexed}
-use Rattle.psci_world_model.specs.Places.{place}
+use Rattle.psci_world_spec.specs.declared.event.Event.TheVariants.{Call, Enter, Wake, Reset}
+use Rattle.psci_world_spec.specs.declared.event.Event.TheVariants.{Deliver, Take}
+use Rattle.psci_world_spec.specs.declared.place.Place.{Place}
+use Rattle.psci_world_spec.specs.declared.place.Place.TheVariants.{Started, Running, Stopped}
+use Rattle.psci_world_spec.specs.declared.said.Record.{Record}
+use Rattle.psci_world_spec.specs.declared.said.Said.{Said}
+use Rattle.psci_world_spec.specs.declared.said.Said.TheVariants.{Absent}
+use Rattle.psci_world_spec.specs.Histories.{acks, controller_values, firmware_values, sent}
+use Rattle.psci_world_spec.specs.Legal.{deliver, if_running, if_started, if_stopped, legal}
+use Rattle.psci_world_spec.specs.Legal.{on_board, said_by, said_of, take}
+use Rattle.psci_world_spec.specs.Lists.{indexed}
+use Rattle.psci_world_spec.specs.Places.{place}
 use Rattle.psci_machine.specs.Next.{if_entering, if_there}
 use Rattle.psci_machine.specs.Seen.{IsAfter, MachineValue, machine_board, place_in}
 

@@ -3,22 +3,22 @@ use Rattle.std.proofs.Common.{◌≡◌, List, [], ◌∷◌, ◌++◌, reverse,
 use Rattle.std.proofs.lemmas.List.{reverse-reverse}
 use Rattle.psci_board.specs.Board.{BoardValue}
 use Rattle.psci_ctl.specs.Seen.{seen as seen_controller}
-use Rattle.psci_ctl_model.specs.Changes as changes
-use Rattle.psci_ctl_model.specs.Exchange as controls
-use Rattle.psci_ctl_model.specs.History as controlled
-use Rattle.psci_ctl_model.specs.Values as controlled_values
+use Rattle.psci_ctl_spec.specs.Changes as changes
+use Rattle.psci_ctl_spec.specs.Exchange as controls
+use Rattle.psci_ctl_spec.specs.History as controlled
+use Rattle.psci_ctl_spec.specs.Values as controlled_values
 use Rattle.psci_fw.specs.Seen.{seen as seen_firmware}
-use Rattle.psci_fw_model.specs.After.{after}
-use Rattle.psci_fw_model.specs.Exchange as answers
-use Rattle.psci_fw_model.specs.History as kept
+use Rattle.psci_fw_spec.specs.After.{after}
+use Rattle.psci_fw_spec.specs.Exchange as answers
+use Rattle.psci_fw_spec.specs.History as kept
 use Rattle.psci_link.specs.Message.{AckValue, MessageValue}
-use Rattle.psci_world_model.specs.declared.event.Event.{Event}
-use Rattle.psci_world_model.specs.declared.said.Record.{Record}
-use Rattle.psci_world_model.specs.declared.said.Said.{Said}
-use Rattle.psci_world_model.specs.Histories.{acks, call, control, controller_history}
-use Rattle.psci_world_model.specs.Histories.{controller_values, firmware_history}
-use Rattle.psci_world_model.specs.Histories.{sent}
-use Rattle.psci_world_model.specs.Places.{place}
+use Rattle.psci_world_spec.specs.declared.event.Event.{Event}
+use Rattle.psci_world_spec.specs.declared.said.Record.{Record}
+use Rattle.psci_world_spec.specs.declared.said.Said.{Said}
+use Rattle.psci_world_spec.specs.Histories.{acks, call, control, controller_history}
+use Rattle.psci_world_spec.specs.Histories.{controller_values, firmware_history}
+use Rattle.psci_world_spec.specs.Histories.{sent}
+use Rattle.psci_world_spec.specs.Places.{place}
 use Rattle.psci_machine.specs.Next.{IsNext, controlled_after, kept_after, place_next}
 use Rattle.psci_machine.specs.Seen.{IsAfter, MachineValue, machine_board, place_in}
 

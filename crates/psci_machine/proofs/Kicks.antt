@@ -6,30 +6,30 @@ use Rattle.std.proofs.lemmas.List.{reverse-reverse}
 use Rattle.psci_board.specs.Board.{BoardValue, cores}
 use Rattle.psci_board.specs.declared.node.Core.{Core}
 use Rattle.psci_ctl.specs.Seen.{ControllerValue, seen}
-use Rattle.psci_ctl_model.specs.declared.call.CtlCall.{CtlCall}
-use Rattle.psci_ctl_model.specs.declared.call.CtlCall.TheVariants as calls
-use Rattle.psci_ctl_model.specs.declared.delivery.Delivery.TheVariants as deliveries
-use Rattle.psci_ctl_model.specs.declared.kick.Kick.{Kick}
-use Rattle.psci_ctl_model.specs.declared.kick.Kick.TheVariants as kicks
-use Rattle.psci_ctl_model.specs.declared.reply.CtlReply.TheVariants as replies
-use Rattle.psci_ctl_model.specs.Changes.{after, change, next_life}
-use Rattle.psci_ctl_model.specs.Effects.{Begins, Ends, effect_of, message_effect}
-use Rattle.psci_ctl_model.specs.Replies.{ack_by, delivery_of, is_this_life, reply}
-use Rattle.psci_ctl_model.specs.Values.{Values}
+use Rattle.psci_ctl_spec.specs.declared.call.CtlCall.{CtlCall}
+use Rattle.psci_ctl_spec.specs.declared.call.CtlCall.TheVariants as calls
+use Rattle.psci_ctl_spec.specs.declared.delivery.Delivery.TheVariants as deliveries
+use Rattle.psci_ctl_spec.specs.declared.kick.Kick.{Kick}
+use Rattle.psci_ctl_spec.specs.declared.kick.Kick.TheVariants as kicks
+use Rattle.psci_ctl_spec.specs.declared.reply.CtlReply.TheVariants as replies
+use Rattle.psci_ctl_spec.specs.Changes.{after, change, next_life}
+use Rattle.psci_ctl_spec.specs.Effects.{Begins, Ends, effect_of, message_effect}
+use Rattle.psci_ctl_spec.specs.Replies.{ack_by, delivery_of, is_this_life, reply}
+use Rattle.psci_ctl_spec.specs.Values.{Values}
 use Rattle.psci_fw.specs.Seen as firmware
 use Rattle.psci_fw.specs.Seen.{FirmwareValue}
 use Rattle.psci_link.specs.declared.kind.Kind.{Kind}
 use Rattle.psci_link.specs.declared.kind.Kind.TheVariants as kinds
 use Rattle.psci_link.specs.Message.{AckValue, MessageValue}
-use Rattle.psci_world_model.specs.declared.event.Event.TheVariants.{Wake, Reset, Deliver}
-use Rattle.psci_world_model.specs.declared.place.Place.{Place}
-use Rattle.psci_world_model.specs.declared.place.Place.TheVariants.{Started, Stopped}
-use Rattle.psci_world_model.specs.declared.said.Said.{Said}
-use Rattle.psci_world_model.specs.declared.said.Said.TheVariants.{Absent, Acked}
-use Rattle.psci_world_model.specs.Histories.{delivered}
-use Rattle.psci_world_model.specs.Legal.{if_stopped, on_board, said_by}
-use Rattle.psci_world_model.specs.Lists.{indexed}
-use Rattle.psci_world_model.specs.Places.{place_of_effect, place_controlled}
+use Rattle.psci_world_spec.specs.declared.event.Event.TheVariants.{Wake, Reset, Deliver}
+use Rattle.psci_world_spec.specs.declared.place.Place.{Place}
+use Rattle.psci_world_spec.specs.declared.place.Place.TheVariants.{Started, Stopped}
+use Rattle.psci_world_spec.specs.declared.said.Said.{Said}
+use Rattle.psci_world_spec.specs.declared.said.Said.TheVariants.{Absent, Acked}
+use Rattle.psci_world_spec.specs.Histories.{delivered}
+use Rattle.psci_world_spec.specs.Legal.{if_stopped, on_board, said_by}
+use Rattle.psci_world_spec.specs.Lists.{indexed}
+use Rattle.psci_world_spec.specs.Places.{place_of_effect, place_controlled}
 use Rattle.psci_machine.specs.Next.{IsNext, controlled_after, place_kicked}
 use Rattle.psci_machine.specs.Seen.{MachineValue, machine_board, place_in}
 

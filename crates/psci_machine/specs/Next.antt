@@ -3,25 +3,25 @@ use Rattle.std.specs.Prelude.{◌≡◌, ◌<◌, ◌==◌, ℕ, List, [], ◌�
 use Rattle.std.specs.Prelude.{if◌then◌else◌, reverse, unwrap_or}
 use Rattle.psci_board.specs.Board.{BoardValue, cores}
 use Rattle.psci_ctl.specs.Seen.{seen as seen_controller}
-use Rattle.psci_ctl_model.specs.declared.kick.Kick.{Kick}
-use Rattle.psci_ctl_model.specs.declared.kick.Kick.TheVariants.{Started as Kicked}
-use Rattle.psci_ctl_model.specs.declared.kick.Kick.TheVariants.{Ignored as NotKicked}
+use Rattle.psci_ctl_spec.specs.declared.kick.Kick.{Kick}
+use Rattle.psci_ctl_spec.specs.declared.kick.Kick.TheVariants.{Started as Kicked}
+use Rattle.psci_ctl_spec.specs.declared.kick.Kick.TheVariants.{Ignored as NotKicked}
 use Rattle.psci_link.specs.declared.start.Start.{Start}
-use Rattle.psci_ctl_model.specs.Changes as changes
-use Rattle.psci_ctl_model.specs.Exchange as controls
-use Rattle.psci_ctl_model.specs.Values as controlled
+use Rattle.psci_ctl_spec.specs.Changes as changes
+use Rattle.psci_ctl_spec.specs.Exchange as controls
+use Rattle.psci_ctl_spec.specs.Values as controlled
 use Rattle.psci_fw.specs.Seen.{seen as seen_firmware}
-use Rattle.psci_fw_model.specs.After.{after}
-use Rattle.psci_fw_model.specs.Exchange as answers
-use Rattle.psci_fw_model.specs.Values as kept
+use Rattle.psci_fw_spec.specs.After.{after}
+use Rattle.psci_fw_spec.specs.Exchange as answers
+use Rattle.psci_fw_spec.specs.Values as kept
 use Rattle.psci_link.specs.Message.{AckValue, MessageValue}
-use Rattle.psci_world_model.specs.declared.event.Event.{Event}
-use Rattle.psci_world_model.specs.declared.place.Place.{Place}
-use Rattle.psci_world_model.specs.declared.place.Place.TheVariants.{Started, Running, Stopped}
-use Rattle.psci_world_model.specs.declared.said.Said.{Said}
-use Rattle.psci_world_model.specs.declared.said.Said.TheVariants.{Ignored, Absent}
-use Rattle.psci_world_model.specs.Histories.{call, control}
-use Rattle.psci_world_model.specs.Places.{place_controlled, place_said}
+use Rattle.psci_world_spec.specs.declared.event.Event.{Event}
+use Rattle.psci_world_spec.specs.declared.place.Place.{Place}
+use Rattle.psci_world_spec.specs.declared.place.Place.TheVariants.{Started, Running, Stopped}
+use Rattle.psci_world_spec.specs.declared.said.Said.{Said}
+use Rattle.psci_world_spec.specs.declared.said.Said.TheVariants.{Ignored, Absent}
+use Rattle.psci_world_spec.specs.Histories.{call, control}
+use Rattle.psci_world_spec.specs.Places.{place_controlled, place_said}
 use Rattle.psci_machine.specs.Seen.{MachineValue, machine_board, place_in}
 
 -- What is said ---------------------------------------------------------------------------------

@@ -5,11 +5,11 @@ use Rattle.psci_ctl.specs.Seen.{ControllerValue}
 use Rattle.psci_ctl.specs.Seen as controller
 use Rattle.psci_fw.specs.Seen.{FirmwareValue}
 use Rattle.psci_fw.specs.Seen as firmware
-use Rattle.psci_world_model.specs.declared.place.Place.{Place}
-use Rattle.psci_world_model.specs.declared.place.Place.TheVariants.{Stopped}
-use Rattle.psci_world_model.specs.declared.said.Record.{Record}
-use Rattle.psci_world_model.specs.Histories.{controller_values, firmware_values}
-use Rattle.psci_world_model.specs.Places.{place}
+use Rattle.psci_world_spec.specs.declared.place.Place.{Place}
+use Rattle.psci_world_spec.specs.declared.place.Place.TheVariants.{Stopped}
+use Rattle.psci_world_spec.specs.declared.said.Record.{Record}
+use Rattle.psci_world_spec.specs.Histories.{controller_values, firmware_values}
+use Rattle.psci_world_spec.specs.Places.{place}
 
 -- The machine, as contracts see it.
 pub record MachineValue : Type 0 where

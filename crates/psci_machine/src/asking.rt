@@ -4,15 +4,15 @@ ghost use Rattle.std.specs.Prelude.{◌≡◌, ◌<◌, ◌==◌, ℕ, List, Non
 ghost use Rattle.std.specs.Prelude.{slice_get};
 ghost use Rattle.psci_board.specs.Board.{cores};
 ghost use Rattle.psci_ctl.specs.Seen as controller;
-ghost use Rattle.psci_ctl_model.specs.Replies.{last_start};
+ghost use Rattle.psci_ctl_spec.specs.Replies.{last_start};
 ghost use Rattle.psci_fw.specs.Seen.{seen};
-ghost use Rattle.psci_fw_model.specs.declared.call.FwCall.TheVariants as calls;
-ghost use Rattle.psci_fw_model.specs.declared.reply.FwReply.TheVariants as replies;
-ghost use Rattle.psci_fw_model.specs.Answer.{answer};
+ghost use Rattle.psci_fw_spec.specs.declared.call.FwCall.TheVariants as calls;
+ghost use Rattle.psci_fw_spec.specs.declared.reply.FwReply.TheVariants as replies;
+ghost use Rattle.psci_fw_spec.specs.Answer.{answer};
 ghost use Rattle.psci_link.specs.Message.{AckValue, MessageValue};
-ghost use Rattle.psci_world_model.specs.declared.event.Event.TheVariants as events;
-ghost use Rattle.psci_world_model.specs.Legal.{if_running, on_board, said_of};
-ghost use Rattle.psci_world_model.specs.Places.{place_after};
+ghost use Rattle.psci_world_spec.specs.declared.event.Event.TheVariants as events;
+ghost use Rattle.psci_world_spec.specs.Legal.{if_running, on_board, said_of};
+ghost use Rattle.psci_world_spec.specs.Places.{place_after};
 ghost use Rattle.psci_machine.specs.Next.{IsNext, if_entering, if_there};
 ghost use Rattle.psci_machine.specs.Seen.{machine_board, place_in};
 
@@ -20,9 +20,9 @@ use crate::machine::Machine;
 use crate::place::place_after;
 use psci_abi::Regs;
 use psci_board::{Core, law_sizes};
-use psci_fw_model::Outcome;
+use psci_fw_spec::Outcome;
 use psci_link::Ack;
-use psci_world_model::{Place, Said, Sent};
+use psci_world_spec::{Place, Said, Sent};
 
 impl Machine {
     /// The core of this number, if the board has it.

@@ -1,6 +1,6 @@
 //! The machine: the firmware, the power controller, and where each core is. It is all that an event
 //! changes beside the lists of records, messages and acknowledgements. The words and the
-//! definitions are those of `psci_world_model`.
+//! definitions are those of `psci_world_spec`.
 #![tactic(auto)]
 
 mod asking;
@@ -14,4 +14,4 @@ pub use psci_board::{Board, Core, Memory};
 pub use psci_ctl::Controller;
 pub use psci_fw::Firmware;
 pub use psci_link::{Ack, Message};
-pub use psci_world_model::{Event, Place, Said};
+pub use psci_world_spec::{Event, Place, Said};

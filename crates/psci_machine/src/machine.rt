@@ -4,9 +4,9 @@ use crate::place::first_places;
 use psci_board::{Board, Core, Memory};
 use psci_ctl::{Controller, law_values as law_controller_values};
 use psci_fw::Firmware;
-use psci_fw_model::law_values;
+use psci_fw_spec::law_values;
 use psci_link::{Ack, Message};
-use psci_world_model::{Event, Place, Said};
+use psci_world_spec::{Event, Place, Said};
 use std::alloc::Global;
 use std::marker::Model;
 
@@ -41,10 +41,10 @@ impl Model for Machine {
 ghost use Rattle.std.specs.Prelude.{◌≡◌, ◌<◌, ℕ, List, [], ◌∷◌, IfOk, reverse, slice_get, Some};
 ghost use Rattle.psci_board.specs.Board.{BoardValue, cores};
 ghost use Rattle.psci_link.specs.Message.{MessageValue};
-ghost use Rattle.psci_ctl_model.specs.Legal.{IsOfBoard};
-ghost use Rattle.psci_world_model.specs.declared.said.Record.{Record};
-ghost use Rattle.psci_world_model.specs.Histories.{acks, sent};
-ghost use Rattle.psci_world_model.specs.Legal.{legal};
+ghost use Rattle.psci_ctl_spec.specs.Legal.{IsOfBoard};
+ghost use Rattle.psci_world_spec.specs.declared.said.Record.{Record};
+ghost use Rattle.psci_world_spec.specs.Histories.{acks, sent};
+ghost use Rattle.psci_world_spec.specs.Legal.{legal};
 ghost use Rattle.psci_machine.specs.Next.{IsNext};
 ghost use Rattle.psci_machine.specs.Seen.{IsAfter, IsMachine, machine_board, place_in};
 

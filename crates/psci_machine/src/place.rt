@@ -1,13 +1,13 @@
 //! Where each core is, core by core.
 
 ghost use Rattle.std.specs.Prelude.{◌≡◌, ◌<◌, ℕ, length, replicate, IfOk, slice_set};
-ghost use Rattle.psci_world_model.specs.declared.place.Place.TheVariants.{Stopped};
-ghost use Rattle.psci_world_model.specs.Places.{first_place, place_after};
+ghost use Rattle.psci_world_spec.specs.declared.place.Place.TheVariants.{Stopped};
+ghost use Rattle.psci_world_spec.specs.Places.{first_place, place_after};
 ghost use Rattle.psci_machine.specs.Seen.{place_in};
 
 use psci_board::Memory;
-use psci_fw_model::Act;
-use psci_world_model::Place;
+use psci_fw_spec::Act;
+use psci_world_spec::Place;
 use std::alloc::Global;
 
 /// Where each of so many cores is, as a life begins.

@@ -4,28 +4,28 @@ ghost use Rattle.std.specs.Prelude.{◌≡◌, ◌<◌, ◌==◌, ℕ, List, Som
 ghost use Rattle.std.specs.Prelude.{is_some, slice_get, unwrap_or};
 ghost use Rattle.psci_board.specs.Board.{cores};
 ghost use Rattle.psci_ctl.specs.Seen.{seen};
-ghost use Rattle.psci_ctl_model.specs.declared.call.CtlCall.TheVariants as calls;
-ghost use Rattle.psci_ctl_model.specs.declared.kick.Kick.TheVariants as kicks;
-ghost use Rattle.psci_ctl_model.specs.declared.reply.CtlReply.TheVariants as replies;
-ghost use Rattle.psci_ctl_model.specs.Effects.{message_effect};
-ghost use Rattle.psci_ctl_model.specs.Legal.{IsOfBoard};
-ghost use Rattle.psci_ctl_model.specs.Replies.{reply};
+ghost use Rattle.psci_ctl_spec.specs.declared.call.CtlCall.TheVariants as calls;
+ghost use Rattle.psci_ctl_spec.specs.declared.kick.Kick.TheVariants as kicks;
+ghost use Rattle.psci_ctl_spec.specs.declared.reply.CtlReply.TheVariants as replies;
+ghost use Rattle.psci_ctl_spec.specs.Effects.{message_effect};
+ghost use Rattle.psci_ctl_spec.specs.Legal.{IsOfBoard};
+ghost use Rattle.psci_ctl_spec.specs.Replies.{reply};
 ghost use Rattle.psci_link.specs.declared.kind.Kind.TheVariants as kinds;
 ghost use Rattle.psci_link.specs.Message.{AckValue, MessageValue};
-ghost use Rattle.psci_world_model.specs.declared.event.Event.TheVariants as events;
-ghost use Rattle.psci_world_model.specs.declared.place.Place.TheVariants.{Started};
-ghost use Rattle.psci_world_model.specs.declared.said.Said.TheVariants as says;
-ghost use Rattle.psci_world_model.specs.Legal.{if_stopped, on_board, said_by};
-ghost use Rattle.psci_world_model.specs.Places.{place_of_effect};
+ghost use Rattle.psci_world_spec.specs.declared.event.Event.TheVariants as events;
+ghost use Rattle.psci_world_spec.specs.declared.place.Place.TheVariants.{Started};
+ghost use Rattle.psci_world_spec.specs.declared.said.Said.TheVariants as says;
+ghost use Rattle.psci_world_spec.specs.Legal.{if_stopped, on_board, said_by};
+ghost use Rattle.psci_world_spec.specs.Places.{place_of_effect};
 ghost use Rattle.psci_machine.specs.Next.{IsNext, if_there, place_kicked};
 ghost use Rattle.psci_machine.specs.Seen.{machine_board, place_in};
 
 use crate::machine::Machine;
 use crate::place::{begin_life, end_life};
 use psci_board::Core;
-use psci_ctl_model::{Delivery, Kick};
+use psci_ctl_spec::{Delivery, Kick};
 use psci_link::{Ack, Kind, Message};
-use psci_world_model::{Place, Said};
+use psci_world_spec::{Place, Said};
 
 impl Machine {
     /// A core has a wake-up event: if it is stopped, the power controller may start it.

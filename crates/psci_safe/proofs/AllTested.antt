@@ -2,7 +2,7 @@
 use Rattle.std.proofs.Common.{◌≡◌, ◌&&◌, ◌↔◌, true, List, [], ◌∷◌}
 use Rattle.std.proofs.lemmas.Bool.{and_from, and_parts}
 use Rattle.psci_board.specs.Board.{BoardValue}
-use Rattle.psci_world_model.specs.declared.said.Record.{Record}
+use Rattle.psci_world_spec.specs.declared.said.Record.{Record}
 use Rattle.psci_safe.specs.Safe.{AlwaysSafe, Safe}
 use Rattle.psci_safe.specs.Test.{is_always_safe, is_asked, is_off_down}
 use Rattle.psci_safe.specs.Test.{is_off_stopped, is_one, is_powered, is_safe}

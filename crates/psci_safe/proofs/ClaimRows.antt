@@ -4,11 +4,11 @@ use Rattle.std.proofs.Common.{◌≡◌, ◌++◌, ℕ, Bool, List, [], ◌∷�
 use Rattle.std.proofs.Common.{refl}
 use Rattle.psci_board.specs.declared.node.Node.{Node}
 use Rattle.psci_link.specs.declared.kind.Kind.TheVariants.{Down}
-use Rattle.psci_world_model.specs.declared.event.Event.{Event}
-use Rattle.psci_world_model.specs.declared.event.Event.TheVariants.{Enter, Wake, Deliver}
-use Rattle.psci_world_model.specs.Legal.{run_from}
-use Rattle.psci_world_model.proofs.Scripts.{acked, board, call, off, on_3, part, retention, sends}
-use Rattle.psci_world_model.proofs.Scripts.{stops, system_off, system_reset}
+use Rattle.psci_world_spec.specs.declared.event.Event.{Event}
+use Rattle.psci_world_spec.specs.declared.event.Event.TheVariants.{Enter, Wake, Deliver}
+use Rattle.psci_world_spec.specs.Legal.{run_from}
+use Rattle.psci_world_spec.proofs.Scripts.{acked, board, call, off, on_3, part, retention, sends}
+use Rattle.psci_world_spec.proofs.Scripts.{stops, system_off, system_reset}
 use Rattle.psci_safe.specs.Claims.{Claim, claims, live_claims}
 use Rattle.psci_safe.proofs.Checking.{◌⇒◌, Asked, Breaks, Legal, One, computing}
 

@@ -6,9 +6,9 @@ use Rattle.std.specs.List.{list_all}
 use Rattle.std.proofs.lemmas.Bool.{and_from, and_parts, both_ways, eq-eqb, eqb-true, cases_Bool}
 use Rattle.std.proofs.lemmas.Bool.{not-true, not_from_false}
 use Rattle.psci_board.specs.Board.{BoardValue}
-use Rattle.psci_fw_model.specs.declared.opening.Opening.{Opening}
-use Rattle.psci_world_model.specs.declared.said.Record.{Record}
-use Rattle.psci_world_model.specs.Histories.{firmware_history}
+use Rattle.psci_fw_spec.specs.declared.opening.Opening.{Opening}
+use Rattle.psci_world_spec.specs.declared.said.Record.{Record}
+use Rattle.psci_world_spec.specs.Histories.{firmware_history}
 use Rattle.psci_safe.specs.Openings.{AreTakenUp, Fits, Made, Maker, OfCall, OfLife}
 use Rattle.psci_safe.specs.Openings.{TakenUp, taken_up}
 use Rattle.psci_safe.specs.Test.{are_apart, is_each_once, is_each_open, is_fitting, is_same_made}

@@ -1,11 +1,11 @@
 -- Worked examples: moments at which a core has entered where it was not asked to, or twice.
 use Rattle.std.proofs.Common.{List, [], ◌∷◌, pos, refl}
 use Rattle.psci_link.specs.declared.kind.Kind.TheVariants as kinds
-use Rattle.psci_world_model.specs.declared.event.Event.{Event}
-use Rattle.psci_world_model.specs.declared.event.Event.TheVariants.{Enter, Wake, Reset, Deliver}
-use Rattle.psci_world_model.specs.declared.event.Event.TheVariants.{Take}
-use Rattle.psci_world_model.proofs.Scripts.{board, call, enters, off, on_3, resumes}
-use Rattle.psci_world_model.proofs.Scripts.{returns, sends, system_reset, version}
+use Rattle.psci_world_spec.specs.declared.event.Event.{Event}
+use Rattle.psci_world_spec.specs.declared.event.Event.TheVariants.{Enter, Wake, Reset, Deliver}
+use Rattle.psci_world_spec.specs.declared.event.Event.TheVariants.{Take}
+use Rattle.psci_world_spec.proofs.Scripts.{board, call, enters, off, on_3, resumes}
+use Rattle.psci_world_spec.proofs.Scripts.{returns, sends, system_reset, version}
 use Rattle.psci_safe.proofs.Checking.{◌⇒◌, BreakAll, Breaks, Legal, Once, Open, computing}
 
 -- core 3 was asked on, and started

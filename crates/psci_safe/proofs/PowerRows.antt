@@ -2,11 +2,11 @@
 -- reported OFF is not.
 use Rattle.std.proofs.Common.{[], ◌∷◌, pos, false, refl}
 use Rattle.psci_link.specs.declared.kind.Kind.TheVariants.{Down}
-use Rattle.psci_world_model.specs.declared.event.Event.TheVariants.{Enter, Wake, Reset, Deliver}
-use Rattle.psci_world_model.specs.declared.event.Event.TheVariants.{Take}
-use Rattle.psci_world_model.proofs.Scripts.{acked, board, call, nothing, off, on_3, part, resumes}
-use Rattle.psci_world_model.proofs.Scripts.{retention, returns, sends, stops, system_reset, used}
-use Rattle.psci_world_model.proofs.Scripts.{version}
+use Rattle.psci_world_spec.specs.declared.event.Event.TheVariants.{Enter, Wake, Reset, Deliver}
+use Rattle.psci_world_spec.specs.declared.event.Event.TheVariants.{Take}
+use Rattle.psci_world_spec.proofs.Scripts.{acked, board, call, nothing, off, on_3, part, resumes}
+use Rattle.psci_world_spec.proofs.Scripts.{retention, returns, sends, stops, system_reset, used}
+use Rattle.psci_world_spec.proofs.Scripts.{version}
 use Rattle.psci_safe.proofs.Checking.{◌⇒◌, Breaks, Legal, Powered, PoweredDown, Stopped, WasUnsafe}
 use Rattle.psci_safe.proofs.Checking.{computing}
 

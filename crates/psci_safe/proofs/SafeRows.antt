@@ -1,9 +1,9 @@
 -- Worked examples: runs that are safe at every moment.
 use Rattle.std.proofs.Common.{[], ◌∷◌, refl}
-use Rattle.psci_world_model.specs.declared.event.Event.TheVariants.{Enter, Wake, Reset, Deliver}
-use Rattle.psci_world_model.specs.declared.event.Event.TheVariants.{Take}
-use Rattle.psci_world_model.proofs.Scripts.{board, call, off, on_3, one_core, retention}
-use Rattle.psci_world_model.proofs.Scripts.{status_3, system_off, system_reset, tall, version}
+use Rattle.psci_world_spec.specs.declared.event.Event.TheVariants.{Enter, Wake, Reset, Deliver}
+use Rattle.psci_world_spec.specs.declared.event.Event.TheVariants.{Take}
+use Rattle.psci_world_spec.proofs.Scripts.{board, call, off, on_3, one_core, retention}
+use Rattle.psci_world_spec.proofs.Scripts.{status_3, system_off, system_reset, tall, version}
 use Rattle.psci_safe.proofs.Checking.{IsSafeRun, computing}
 
 -- Cores that start and go off -------------------------------------------------------------------

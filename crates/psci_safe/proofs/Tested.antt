@@ -8,11 +8,11 @@ use Rattle.std.proofs.lemmas.Bool.{and_from, and_parts, cases_eq, eq-eqb, eqb-tr
 use Rattle.std.proofs.lemmas.Bool.{leb-true, or_cases, or_left, or_right}
 use Rattle.psci_board.specs.Board.{BoardValue, HasNode, cores, height, nodes, up}
 use Rattle.psci_board.specs.declared.node.Node.{Node}
-use Rattle.psci_world_model.specs.declared.place.Place.{Place}
-use Rattle.psci_world_model.specs.declared.place.Place.TheVariants.{Started, Running, Stopped}
-use Rattle.psci_world_model.specs.declared.said.Record.{Record}
-use Rattle.psci_world_model.specs.Histories.{controller_values}
-use Rattle.psci_world_model.specs.Places.{place}
+use Rattle.psci_world_spec.specs.declared.place.Place.{Place}
+use Rattle.psci_world_spec.specs.declared.place.Place.TheVariants.{Started, Running, Stopped}
+use Rattle.psci_world_spec.specs.declared.said.Record.{Record}
+use Rattle.psci_world_spec.specs.Histories.{controller_values}
+use Rattle.psci_world_spec.specs.Places.{place}
 use Rattle.psci_safe.specs.Claims.{live_claims}
 use Rattle.psci_safe.specs.Moments.{depth_at, executes, is_reported_off}
 use Rattle.psci_safe.specs.Safe.{NoDeeperThanAsked, NoneBelowSleeping, OffIsDown, OneLiveClaim}

@@ -7,17 +7,17 @@ use Rattle.psci_board.specs.Board.{BoardValue, below}
 use Rattle.psci_board.specs.declared.node.Node.{Node}
 use Rattle.psci_coord.specs.declared.part.Part.{Part}
 use Rattle.psci_link.specs.Message.{MessageValue}
-use Rattle.psci_ctl_model.specs.Values.{starts_below}
+use Rattle.psci_ctl_spec.specs.Values.{starts_below}
 use Rattle.psci_board.specs.Paths.{is_on_path}
-use Rattle.psci_fw_model.specs.declared.mode.SuspendMode.{SuspendMode}
-use Rattle.psci_fw_model.specs.declared.mode.SuspendMode.TheVariants.{Platform, OsInitiated}
-use Rattle.psci_fw_model.specs.Lives.{start_of_life}
-use Rattle.psci_fw_model.specs.Said.{listed}
-use Rattle.psci_fw_model.specs.Values.{Values}
-use Rattle.psci_fw_model.specs.Views.{ask}
+use Rattle.psci_fw_spec.specs.declared.mode.SuspendMode.{SuspendMode}
+use Rattle.psci_fw_spec.specs.declared.mode.SuspendMode.TheVariants.{Platform, OsInitiated}
+use Rattle.psci_fw_spec.specs.Lives.{start_of_life}
+use Rattle.psci_fw_spec.specs.Said.{listed}
+use Rattle.psci_fw_spec.specs.Values.{Values}
+use Rattle.psci_fw_spec.specs.Views.{ask}
 use Rattle.psci_fw_laws.specs.Claims.{part_for}
-use Rattle.psci_world_model.specs.declared.said.Record.{Record}
-use Rattle.psci_world_model.specs.Histories.{controller_values, firmware_values, sent_in}
+use Rattle.psci_world_spec.specs.declared.said.Record.{Record}
+use Rattle.psci_world_spec.specs.Histories.{controller_values, firmware_values, sent_in}
 
 -- A claim on a domain.
 pub record Claim : Type 0 where

@@ -3,10 +3,10 @@ use Rattle.std.specs.Prelude.{◌≡◌, ℕ, true, ◌&&◌, ◌==◌, ◌<◌,
 use Rattle.std.specs.List.{list_any}
 use Rattle.psci_board.specs.Board.{BoardValue, HasNode, cores, height, up}
 use Rattle.psci_board.specs.declared.node.Node.{Node}
-use Rattle.psci_world_model.specs.declared.place.Place.TheVariants.{Running}
-use Rattle.psci_world_model.specs.declared.said.Record.{Record}
-use Rattle.psci_world_model.specs.Histories.{controller_values, firmware_history, firmware_values}
-use Rattle.psci_world_model.specs.Places.{place}
+use Rattle.psci_world_spec.specs.declared.place.Place.TheVariants.{Running}
+use Rattle.psci_world_spec.specs.declared.said.Record.{Record}
+use Rattle.psci_world_spec.specs.Histories.{controller_values, firmware_history, firmware_values}
+use Rattle.psci_world_spec.specs.Places.{place}
 use Rattle.psci_safe.specs.Claims.{live_claims}
 use Rattle.psci_safe.specs.Moments.{depth_at, executes, was_powered_down, is_reported_off}
 use Rattle.psci_safe.specs.Openings.{AreTakenUp}

@@ -2,8 +2,8 @@
 
 ghost use Rattle.std.specs.Prelude.{◌≡◌, ◌↔◌, ◌&&◌, true, List};
 ghost use Rattle.psci_board.specs.Board.{BoardValue};
-ghost use Rattle.psci_world_model.specs.declared.said.Record.{Record};
-ghost use Rattle.psci_world_model.specs.Histories.{firmware_history};
+ghost use Rattle.psci_world_spec.specs.declared.said.Record.{Record};
+ghost use Rattle.psci_world_spec.specs.Histories.{firmware_history};
 ghost use Rattle.psci_safe.specs.Openings.{AreTakenUp};
 ghost use Rattle.psci_safe.specs.Safe.{AlwaysSafe, NoDeeperThanAsked, NoneBelowSleeping};
 ghost use Rattle.psci_safe.specs.Safe.{OffIsDown, OneLiveClaim, Safe};

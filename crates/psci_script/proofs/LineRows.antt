@@ -1,7 +1,7 @@
 -- What a line says: nothing, an entry or a call.
 use Rattle.std.proofs.Common.{◌≡◌, ℕ, [], ◌∷◌, ◌++◌, refl}
 use Rattle.std.specs.Prelude.{Option, None, Some, codes}
-use Rattle.psci_world_model.specs.declared.event.Event.TheVariants.{Call, Enter}
+use Rattle.psci_world_spec.specs.declared.event.Event.TheVariants.{Call, Enter}
 use Rattle.psci_script.specs.declared.grammar.Line.{Line as LineSays}
 use Rattle.psci_script.specs.declared.grammar.Line.TheVariants.{Blank, Event as Says}
 use Rattle.psci_script.specs.Line.{line_of}

@@ -1,7 +1,7 @@
 -- What a line says: a wake-up, a reset, a delivery or an acknowledgement taken.
 use Rattle.std.proofs.Common.{◌≡◌, refl}
 use Rattle.std.specs.Prelude.{None, Some, codes}
-use Rattle.psci_world_model.specs.declared.event.Event.TheVariants.{Wake, Reset, Deliver, Take}
+use Rattle.psci_world_spec.specs.declared.event.Event.TheVariants.{Wake, Reset, Deliver, Take}
 use Rattle.psci_script.specs.declared.grammar.Line.TheVariants.{Event as Says}
 use Rattle.psci_script.specs.Line.{line_of}
 use Rattle.psci_script.proofs.Scripts.{reading}

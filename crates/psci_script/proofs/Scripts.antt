@@ -6,7 +6,7 @@ use Rattle.psci_text.specs.Reading.{literal_at, number_at, hex_at, spaced_at}
 use Rattle.psci_board.specs.Reading.{range_at, at_most}
 use Rattle.psci_board.specs.Reading.{more_at, list_at, member_at, tree_at, board_text}
 use Rattle.psci_board.specs.Verdict.{board_of, verdict}
-use Rattle.psci_world_model.proofs.Scripts.{computing}
+use Rattle.psci_world_spec.proofs.Scripts.{computing}
 use Rattle.psci_script.specs.declared.fault.Replayed.{Replayed}
 use Rattle.psci_script.specs.declared.fault.ReplayFault.{ReplayFault}
 use Rattle.psci_script.specs.Line.{line_of, event_at, call_at, alone_at, register_at}

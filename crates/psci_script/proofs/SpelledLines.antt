@@ -7,8 +7,8 @@ use Rattle.std.specs.Fmt.{decimal}
 use Rattle.std.proofs.lemmas.List.{append-nil}
 use Rattle.psci_text.specs.Spelling.{TextLaws, IsNumber}
 use Rattle.psci_text.specs.Reading.{literal_at, number_at, spaced_at}
-use Rattle.psci_world_model.specs.declared.event.Event.TheVariants.{Enter, Wake, Reset}
-use Rattle.psci_world_model.specs.declared.event.Event.TheVariants.{Deliver, Take}
+use Rattle.psci_world_spec.specs.declared.event.Event.TheVariants.{Enter, Wake, Reset}
+use Rattle.psci_world_spec.specs.declared.event.Event.TheVariants.{Deliver, Take}
 use Rattle.psci_script.specs.declared.grammar.Line.TheVariants.{Event as Says}
 use Rattle.psci_script.specs.Line.{line_of, event_at, call_at, alone_at}
 use Rattle.psci_script.specs.Line.{register_at, optional_register_at}

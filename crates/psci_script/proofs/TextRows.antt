@@ -5,12 +5,12 @@ use Rattle.std.specs.Fmt.{digits}
 use Rattle.psci_coord.specs.declared.part.Part.{Part}
 use Rattle.psci_link.specs.declared.kind.Kind.{Kind}
 use Rattle.psci_link.specs.declared.kind.Kind.TheVariants.{Down, Start, Off, Reset}
-use Rattle.psci_fw_model.specs.declared.outcome.Act.{Act}
-use Rattle.psci_fw_model.specs.declared.outcome.Act.TheVariants.{Return, Stop, Enter, Resume}
+use Rattle.psci_fw_spec.specs.declared.outcome.Act.{Act}
+use Rattle.psci_fw_spec.specs.declared.outcome.Act.TheVariants.{Return, Stop, Enter, Resume}
 use Rattle.psci_link.specs.declared.taken.Taken.TheVariants.{Used, Old}
-use Rattle.psci_world_model.proofs.Scripts.{started}
-use Rattle.psci_world_model.specs.declared.said.Said.TheVariants.{Fw, Acked, Ignored, Absent}
-use Rattle.psci_world_model.specs.declared.said.Said.TheVariants.{Taken as Took}
+use Rattle.psci_world_spec.proofs.Scripts.{started}
+use Rattle.psci_world_spec.specs.declared.said.Said.TheVariants.{Fw, Acked, Ignored, Absent}
+use Rattle.psci_world_spec.specs.declared.said.Said.TheVariants.{Taken as Took}
 use Rattle.psci_script.specs.Text.{answer_line, said_text}
 
 -- an act alone, and one with a message of this kind

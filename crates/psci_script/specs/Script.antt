@@ -5,8 +5,8 @@ use Rattle.psci_board.specs.Board.{BoardValue}
 use Rattle.psci_text.specs.Reading.{literal_at}
 use Rattle.psci_board.specs.Verdict.{board_of}
 use Rattle.psci_board.specs.declared.fault.BoardFault.{BoardFault}
-use Rattle.psci_world_model.specs.declared.said.Record.{Record}
-use Rattle.psci_world_model.specs.Legal.{legal, legal_record}
+use Rattle.psci_world_spec.specs.declared.said.Record.{Record}
+use Rattle.psci_world_spec.specs.Legal.{legal, legal_record}
 use Rattle.psci_script.specs.declared.grammar.Line.{Line as LineSays}
 use Rattle.psci_script.specs.declared.grammar.Line.TheVariants.{Blank, Event as Says}
 use Rattle.psci_script.specs.declared.fault.Replayed.{Replayed}

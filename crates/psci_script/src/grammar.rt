@@ -7,7 +7,7 @@ ghost use Rattle.psci_script.specs.Line.{event_at, line_of};
 
 use psci_abi::Regs;
 use psci_text::{hex, literal, number};
-use psci_world_model::Event;
+use psci_world_spec::Event;
 
 /// What a line says.
 #[derive(Clone, Copy, Debug, PartialEq)]

@@ -1,5 +1,5 @@
 //! Scripts of events as texts: their lines, the grammar of a line, and the answer line of an event.
-//! What an event is, and what is said of it, are those of `psci_world_model`.
+//! What an event is, and what is said of it, are those of `psci_world_spec`.
 //!
 //! - A *script* is a board line and then one line for each event, comment or empty line.
 //! - The *answer text* of a script has one line for each event before the first fault.
@@ -20,6 +20,6 @@ pub use laws::law_event_lines;
 pub use limits::{LONGEST_LINE, MOST_LINES};
 pub use lines::{Extent, Front, cut, last_line};
 pub use psci_abi::Code;
-pub use psci_fw_model::Act;
-pub use psci_world_model::{Event, Said};
+pub use psci_fw_spec::Act;
+pub use psci_world_spec::{Event, Said};
 pub use return_line::{LONGEST_RETURN, write_return};

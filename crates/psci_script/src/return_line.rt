@@ -2,8 +2,8 @@
 
 ghost use Rattle.std.specs.Prelude.{◌≡◌, ◌+◌, ◌≤◌, ◌++◌, ◌∷◌, [], None, codes, drop};
 ghost use Rattle.std.specs.Fmt.{signed_decimal};
-ghost use Rattle.psci_fw_model.specs.declared.outcome.Act.TheVariants.{Return};
-ghost use Rattle.psci_world_model.specs.declared.said.Said.TheVariants.{Fw};
+ghost use Rattle.psci_fw_spec.specs.declared.outcome.Act.TheVariants.{Return};
+ghost use Rattle.psci_world_spec.specs.declared.said.Said.TheVariants.{Fw};
 ghost use Rattle.psci_script.specs.Text.{answer_line};
 
 use itoa::write_digits;

@@ -4,33 +4,33 @@ use Rattle.std.proofs.Common.{length, Some, unwrap_or, refl, ap}
 use Rattle.std.proofs.Common.{◌∙◌}
 use Rattle.std.proofs.lemmas.Bool.{eq-eqb}
 use Rattle.psci_board.specs.Board.{BoardValue}
-use Rattle.psci_ctl_model.specs.declared.delivery.Delivery.TheVariants as deliveries
-use Rattle.psci_ctl_model.specs.declared.reply.CtlReply.TheVariants as replied
-use Rattle.psci_ctl_model.specs.Changes.{after}
-use Rattle.psci_ctl_model.specs.Changes as controlling
-use Rattle.psci_ctl_model.specs.Effects.{effect_of, message_effect}
-use Rattle.psci_ctl_model.specs.Exchange as controller
-use Rattle.psci_ctl_model.specs.History as controls
-use Rattle.psci_ctl_model.specs.Replies.{ack_by, delivery_of, is_this_life, reply}
-use Rattle.psci_ctl_model.specs.Values as controlled
+use Rattle.psci_ctl_spec.specs.declared.delivery.Delivery.TheVariants as deliveries
+use Rattle.psci_ctl_spec.specs.declared.reply.CtlReply.TheVariants as replied
+use Rattle.psci_ctl_spec.specs.Changes.{after}
+use Rattle.psci_ctl_spec.specs.Changes as controlling
+use Rattle.psci_ctl_spec.specs.Effects.{effect_of, message_effect}
+use Rattle.psci_ctl_spec.specs.Exchange as controller
+use Rattle.psci_ctl_spec.specs.History as controls
+use Rattle.psci_ctl_spec.specs.Replies.{ack_by, delivery_of, is_this_life, reply}
+use Rattle.psci_ctl_spec.specs.Values as controlled
 use Rattle.psci_link.specs.Message.{AckValue, MessageValue}
 use Rattle.psci_link.specs.declared.taken.Taken.TheVariants.{Used}
-use Rattle.psci_fw_model.specs.Answer.{answer}
-use Rattle.psci_fw_model.specs.Changes.{with_acknowledgement}
-use Rattle.psci_fw_model.specs.Exchange as firmware
-use Rattle.psci_fw_model.specs.History as remembers
-use Rattle.psci_fw_model.specs.Taking.{taken_by}
-use Rattle.psci_fw_model.specs.Values.{Values}
-use Rattle.psci_world_model.specs.declared.event.Event.TheVariants.{Deliver, Take}
-use Rattle.psci_world_model.specs.declared.said.Record.{Record}
-use Rattle.psci_world_model.specs.declared.said.Said.TheVariants.{Acked, Taken as Took}
-use Rattle.psci_world_model.specs.Histories.{acks, ack_in, call, control, controller_history}
-use Rattle.psci_world_model.specs.Histories.{controller_values, delivered, firmware_history}
-use Rattle.psci_world_model.specs.Histories.{firmware_values, sent, sent_in, took}
-use Rattle.psci_world_model.specs.Legal.{IsLegalPast, deliver, legal, legal_record, said_by, take}
-use Rattle.psci_world_model.specs.Lists.{indexed}
-use Rattle.psci_world_model.specs.Places.{place, place_of_effect, place_controlled}
-use Rattle.psci_fw_model.specs.Said.{listed}
+use Rattle.psci_fw_spec.specs.Answer.{answer}
+use Rattle.psci_fw_spec.specs.Changes.{with_acknowledgement}
+use Rattle.psci_fw_spec.specs.Exchange as firmware
+use Rattle.psci_fw_spec.specs.History as remembers
+use Rattle.psci_fw_spec.specs.Taking.{taken_by}
+use Rattle.psci_fw_spec.specs.Values.{Values}
+use Rattle.psci_world_spec.specs.declared.event.Event.TheVariants.{Deliver, Take}
+use Rattle.psci_world_spec.specs.declared.said.Record.{Record}
+use Rattle.psci_world_spec.specs.declared.said.Said.TheVariants.{Acked, Taken as Took}
+use Rattle.psci_world_spec.specs.Histories.{acks, ack_in, call, control, controller_history}
+use Rattle.psci_world_spec.specs.Histories.{controller_values, delivered, firmware_history}
+use Rattle.psci_world_spec.specs.Histories.{firmware_values, sent, sent_in, took}
+use Rattle.psci_world_spec.specs.Legal.{IsLegalPast, deliver, legal, legal_record, said_by, take}
+use Rattle.psci_world_spec.specs.Lists.{indexed}
+use Rattle.psci_world_spec.specs.Places.{place, place_of_effect, place_controlled}
+use Rattle.psci_fw_spec.specs.Said.{listed}
 use Rattle.psci_world_laws.proofs.Agreed.{RunLaws}
 use Rattle.psci_settle.specs.Drained as drained
 use Rattle.psci_settle.specs.Settling.{serving, step}

@@ -7,11 +7,11 @@ use Rattle.psci_board.specs.Board.{BoardValue, cores, height, up}
 use Rattle.psci_board.specs.Laws.{ChildLaws, PathLaws}
 use Rattle.psci_coord.specs.declared.part.Part.{Part}
 use Rattle.psci_coord.specs.View.{domain_of}
-use Rattle.psci_ctl_model.specs.Parts.{applied}
-use Rattle.psci_ctl_model.specs.Values.{Values}
+use Rattle.psci_ctl_spec.specs.Parts.{applied}
+use Rattle.psci_ctl_spec.specs.Values.{Values}
 use Rattle.psci_link.specs.declared.kind.Kind.TheVariants as kinds
 use Rattle.psci_link.specs.Message.{MessageValue, PartByPart}
-use Rattle.psci_fw_model.specs.Phases.{Phase, Pending}
+use Rattle.psci_fw_spec.specs.Phases.{Phase, Pending}
 use Rattle.psci_fw_laws.specs.Claims.{IsClaimOn, IsCurrent}
 use Rattle.psci_fw_laws.specs.Granted.{HasDeeper, NonePending}
 use Rattle.psci_fw_laws.specs.KnownBelow.{known_below}

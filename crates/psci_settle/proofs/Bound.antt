@@ -9,9 +9,9 @@ use Rattle.std.proofs.lemmas.Option.{slice_get_within}
 use Rattle.psci_board.specs.Board.{BoardValue, cores, height}
 use Rattle.psci_link.specs.declared.kind.Kind.TheVariants as kinds
 use Rattle.psci_link.specs.Message.{MessageValue}
-use Rattle.psci_world_model.specs.declared.said.Record.{Record}
-use Rattle.psci_world_model.specs.Histories.{controller_values, firmware_values, sent}
-use Rattle.psci_world_model.specs.Lists.{indexed}
+use Rattle.psci_world_spec.specs.declared.said.Record.{Record}
+use Rattle.psci_world_spec.specs.Histories.{controller_values, firmware_values, sent}
+use Rattle.psci_world_spec.specs.Lists.{indexed}
 use Rattle.psci_settle.specs.Drained.{deliveries}
 use Rattle.psci_settle.specs.Settling.{Reached, served, is_any, is_waiting, round, rounds}
 use Rattle.psci_settle.proofs.Controls.{IsKnown}

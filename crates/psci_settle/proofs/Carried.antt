@@ -9,24 +9,24 @@ use Rattle.psci_coord.specs.declared.part.Part.{Part}
 use Rattle.psci_link.specs.declared.start.Cause.{Cause}
 use Rattle.psci_link.specs.declared.start.Cause.TheVariants as causes
 use Rattle.psci_link.specs.declared.start.Start.{Start}
-use Rattle.psci_ctl_model.specs.Changes.{next_life}
-use Rattle.psci_ctl_model.specs.Changes as controlling
-use Rattle.psci_ctl_model.specs.Effects as controlling_effects
-use Rattle.psci_ctl_model.specs.Effects.{Nothing, Starts, Deepens, Ends, Begins, message_effect}
-use Rattle.psci_ctl_model.specs.Follows.{MayFollow}
-use Rattle.psci_ctl_model.specs.Laws.{AckLaws, SumLaws}
-use Rattle.psci_ctl_model.specs.Replies.{ack_by, last_start, may_follow}
-use Rattle.psci_ctl_model.specs.Values as controlled
+use Rattle.psci_ctl_spec.specs.Changes.{next_life}
+use Rattle.psci_ctl_spec.specs.Changes as controlling
+use Rattle.psci_ctl_spec.specs.Effects as controlling_effects
+use Rattle.psci_ctl_spec.specs.Effects.{Nothing, Starts, Deepens, Ends, Begins, message_effect}
+use Rattle.psci_ctl_spec.specs.Follows.{MayFollow}
+use Rattle.psci_ctl_spec.specs.Laws.{AckLaws, SumLaws}
+use Rattle.psci_ctl_spec.specs.Replies.{ack_by, last_start, may_follow}
+use Rattle.psci_ctl_spec.specs.Values as controlled
 use Rattle.psci_link.specs.declared.kind.Kind.{Kind}
 use Rattle.psci_link.specs.declared.kind.Kind.TheVariants as kinds
 use Rattle.psci_link.specs.Message.{AckValue, AreClaims, MessageValue, PartByPart}
-use Rattle.psci_fw_model.specs.declared.outcome.Act.{Act}
-use Rattle.psci_fw_model.specs.After.{change}
-use Rattle.psci_fw_model.specs.Changes.{with_acknowledgement}
-use Rattle.psci_fw_model.specs.Effects.{Effect, enter_effect}
-use Rattle.psci_fw_model.specs.Lives.{in_life, start_of_life}
-use Rattle.psci_fw_model.specs.Said as says
-use Rattle.psci_fw_model.specs.Values.{Values}
+use Rattle.psci_fw_spec.specs.declared.outcome.Act.{Act}
+use Rattle.psci_fw_spec.specs.After.{change}
+use Rattle.psci_fw_spec.specs.Changes.{with_acknowledgement}
+use Rattle.psci_fw_spec.specs.Effects.{Effect, enter_effect}
+use Rattle.psci_fw_spec.specs.Lives.{in_life, start_of_life}
+use Rattle.psci_fw_spec.specs.Said as says
+use Rattle.psci_fw_spec.specs.Values.{Values}
 use Rattle.psci_fw_laws.specs.Allowed.{IsAllowed}
 use Rattle.psci_fw_laws.specs.Kept.{Holds}
 use Rattle.psci_fw_laws.specs.Live.{AreLive}
@@ -36,8 +36,8 @@ use Rattle.psci_fw_laws.proofs.Arriving.{first_holds, found_life}
 use Rattle.psci_fw_laws.proofs.Consequences.{once_down}
 use Rattle.psci_fw_laws.proofs.Living.{live_laws}
 use Rattle.psci_fw_laws.proofs.Sums.{known_le}
-use Rattle.psci_world_model.specs.declared.place.Place.{Place}
-use Rattle.psci_world_model.specs.declared.place.Place.TheVariants as places
+use Rattle.psci_world_spec.specs.declared.place.Place.{Place}
+use Rattle.psci_world_spec.specs.declared.place.Place.TheVariants as places
 use Rattle.psci_world_laws.proofs.Agreeing.{AreAgreed, found_other, found_own}
 use Rattle.psci_world_laws.proofs.Moving.{CallerLaws, IsCallOf, call_moves, entry_moves}
 use Rattle.psci_world_laws.proofs.Placing.{last_is, own_life}

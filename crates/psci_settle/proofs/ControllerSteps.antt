@@ -4,27 +4,27 @@ use Rattle.std.proofs.Common.{refl, subst, ap, sym, ◌∙◌}
 use Rattle.std.specs.Prelude.{slice_get}
 use Rattle.psci_board.specs.Board.{BoardValue}
 use Rattle.psci_link.specs.declared.start.Cause.{Cause}
-use Rattle.psci_ctl_model.specs.Changes as controlling
-use Rattle.psci_ctl_model.specs.Effects as controlling_effects
-use Rattle.psci_ctl_model.specs.Exchange as controller
-use Rattle.psci_ctl_model.specs.Follows.{MayFollow}
-use Rattle.psci_ctl_model.specs.History as controls
-use Rattle.psci_ctl_model.specs.Legal as legal_controls
-use Rattle.psci_ctl_model.specs.Effects.{message_effect}
-use Rattle.psci_ctl_model.specs.Replies.{ack_by}
-use Rattle.psci_ctl_model.specs.declared.call.CtlCall.TheVariants as asked
-use Rattle.psci_ctl_model.specs.Values as controlled
+use Rattle.psci_ctl_spec.specs.Changes as controlling
+use Rattle.psci_ctl_spec.specs.Effects as controlling_effects
+use Rattle.psci_ctl_spec.specs.Exchange as controller
+use Rattle.psci_ctl_spec.specs.Follows.{MayFollow}
+use Rattle.psci_ctl_spec.specs.History as controls
+use Rattle.psci_ctl_spec.specs.Legal as legal_controls
+use Rattle.psci_ctl_spec.specs.Effects.{message_effect}
+use Rattle.psci_ctl_spec.specs.Replies.{ack_by}
+use Rattle.psci_ctl_spec.specs.declared.call.CtlCall.TheVariants as asked
+use Rattle.psci_ctl_spec.specs.Values as controlled
 use Rattle.psci_link.specs.Message.{AckValue, MessageValue}
-use Rattle.psci_fw_model.specs.Said.{listed}
-use Rattle.psci_world_model.specs.declared.event.Event.TheVariants.{Wake, Reset, Deliver}
-use Rattle.psci_world_model.specs.declared.said.Record.{Record}
-use Rattle.psci_world_model.specs.declared.said.Said.{Said}
-use Rattle.psci_world_model.specs.declared.said.Said.TheVariants as said
-use Rattle.psci_world_model.specs.Histories.{ack_in, acks, controller_history, controller_values}
-use Rattle.psci_world_model.specs.Histories.{delivered, firmware_values, sent, sent_in}
-use Rattle.psci_world_model.specs.Legal.{legal}
-use Rattle.psci_world_model.specs.Lists.{indexed}
-use Rattle.psci_world_model.specs.Places.{place}
+use Rattle.psci_fw_spec.specs.Said.{listed}
+use Rattle.psci_world_spec.specs.declared.event.Event.TheVariants.{Wake, Reset, Deliver}
+use Rattle.psci_world_spec.specs.declared.said.Record.{Record}
+use Rattle.psci_world_spec.specs.declared.said.Said.{Said}
+use Rattle.psci_world_spec.specs.declared.said.Said.TheVariants as said
+use Rattle.psci_world_spec.specs.Histories.{ack_in, acks, controller_history, controller_values}
+use Rattle.psci_world_spec.specs.Histories.{delivered, firmware_values, sent, sent_in}
+use Rattle.psci_world_spec.specs.Legal.{legal}
+use Rattle.psci_world_spec.specs.Lists.{indexed}
+use Rattle.psci_world_spec.specs.Places.{place}
 use Rattle.psci_world_laws.proofs.Agreed.{RunLaws}
 use Rattle.psci_world_laws.proofs.Controlling.{after_control}
 use Rattle.psci_world_laws.proofs.Making.{IsDelivered, delivers}

@@ -10,20 +10,20 @@ use Rattle.psci_coord.specs.declared.part.Part.{Part}
 use Rattle.psci_coord.specs.View.{domain_of}
 use Rattle.psci_link.specs.declared.start.Cause.{Cause}
 use Rattle.psci_link.specs.declared.start.Cause.TheVariants as causes
-use Rattle.psci_ctl_model.specs.Changes.{change, one_more}
-use Rattle.psci_ctl_model.specs.Effects.{Nothing, Starts, Deepens}
-use Rattle.psci_ctl_model.specs.Follows.{IsFront}
-use Rattle.psci_ctl_model.specs.Laws.{AckLaws, SumLaws}
-use Rattle.psci_ctl_model.specs.Parts.{applied, is_stale}
-use Rattle.psci_ctl_model.specs.Replies.{ack_of, may_follow}
-use Rattle.psci_ctl_model.specs.Values as controlled
-use Rattle.psci_ctl_model.proofs.Front.{take_get}
+use Rattle.psci_ctl_spec.specs.Changes.{change, one_more}
+use Rattle.psci_ctl_spec.specs.Effects.{Nothing, Starts, Deepens}
+use Rattle.psci_ctl_spec.specs.Follows.{IsFront}
+use Rattle.psci_ctl_spec.specs.Laws.{AckLaws, SumLaws}
+use Rattle.psci_ctl_spec.specs.Parts.{applied, is_stale}
+use Rattle.psci_ctl_spec.specs.Replies.{ack_of, may_follow}
+use Rattle.psci_ctl_spec.specs.Values as controlled
+use Rattle.psci_ctl_spec.proofs.Front.{take_get}
 use Rattle.psci_link.specs.declared.kind.Kind.{Kind}
 use Rattle.psci_link.specs.declared.kind.Kind.TheVariants as kinds
 use Rattle.psci_link.specs.Message.{AckValue, ArePartsOf, AreClaims, MessageValue, PartByPart}
-use Rattle.psci_fw_model.specs.Lives.{start_of_life}
-use Rattle.psci_fw_model.specs.Phases.{Phase, Away, Pending}
-use Rattle.psci_fw_model.specs.Values.{Values}
+use Rattle.psci_fw_spec.specs.Lives.{start_of_life}
+use Rattle.psci_fw_spec.specs.Phases.{Phase, Away, Pending}
+use Rattle.psci_fw_spec.specs.Values.{Values}
 use Rattle.psci_fw_laws.specs.Claims.{AreRising}
 use Rattle.psci_fw_laws.specs.KnownBelow.{known_below}
 use Rattle.psci_fw_laws.specs.Live.{AreLive}

@@ -11,10 +11,10 @@ use Rattle.psci_board.specs.Laws.{ChildLaws, PathLaws}
 use Rattle.psci_board.specs.declared.node.Node.{Node}
 use Rattle.psci_coord.specs.declared.part.Part.{Part}
 use Rattle.psci_coord.specs.View.{domain_of}
-use Rattle.psci_ctl_model.specs.Parts.{applied, depth_or, is_applied, is_covered, laid}
-use Rattle.psci_ctl_model.specs.Values.{Values, starts_below}
+use Rattle.psci_ctl_spec.specs.Parts.{applied, depth_or, is_applied, is_covered, laid}
+use Rattle.psci_ctl_spec.specs.Values.{Values, starts_below}
 use Rattle.psci_board.specs.Paths.{is_on_path}
-use Rattle.psci_ctl_model.proofs.Front.{get_take}
+use Rattle.psci_ctl_spec.proofs.Front.{get_take}
 use Rattle.psci_settle.proofs.Deepening.{path_place}
 use Rattle.psci_settle.proofs.Telling.{item_at}
 

@@ -8,23 +8,23 @@ use Rattle.std.proofs.lemmas.Option.{same_Some}
 use Rattle.psci_board.specs.Board.{BoardValue, up}
 use Rattle.psci_coord.specs.declared.part.Part.{Part}
 use Rattle.psci_coord.specs.View.{domain_of}
-use Rattle.psci_ctl_model.specs.Changes as controlling
-use Rattle.psci_ctl_model.specs.Effects.{Deepens, message_effect}
-use Rattle.psci_ctl_model.specs.Follows.{IsFront}
-use Rattle.psci_ctl_model.specs.Laws.{AckLaws}
-use Rattle.psci_ctl_model.specs.Parts.{applied, is_stale, laid}
-use Rattle.psci_ctl_model.specs.Replies.{ack_by}
-use Rattle.psci_ctl_model.specs.Values as controlled
-use Rattle.psci_ctl_model.proofs.Front.{is_front, take_get}
+use Rattle.psci_ctl_spec.specs.Changes as controlling
+use Rattle.psci_ctl_spec.specs.Effects.{Deepens, message_effect}
+use Rattle.psci_ctl_spec.specs.Follows.{IsFront}
+use Rattle.psci_ctl_spec.specs.Laws.{AckLaws}
+use Rattle.psci_ctl_spec.specs.Parts.{applied, is_stale, laid}
+use Rattle.psci_ctl_spec.specs.Replies.{ack_by}
+use Rattle.psci_ctl_spec.specs.Values as controlled
+use Rattle.psci_ctl_spec.proofs.Front.{is_front, take_get}
 use Rattle.psci_link.specs.declared.kind.Kind.TheVariants as kinds
 use Rattle.psci_link.specs.Message.{MessageValue}
 use Rattle.psci_link.specs.Slots.{OfCore, is_done, is_kind}
-use Rattle.psci_fw_model.specs.Values.{Values}
+use Rattle.psci_fw_spec.specs.Values.{Values}
 use Rattle.psci_fw_laws.proofs.Consequences.{once_down}
-use Rattle.psci_world_model.specs.declared.said.Record.{Record}
-use Rattle.psci_world_model.specs.Histories.{controller_values, firmware_values, sent}
-use Rattle.psci_world_model.specs.Lists.{indexed}
-use Rattle.psci_world_model.specs.Places.{place, place_of_effect}
+use Rattle.psci_world_spec.specs.declared.said.Record.{Record}
+use Rattle.psci_world_spec.specs.Histories.{controller_values, firmware_values, sent}
+use Rattle.psci_world_spec.specs.Lists.{indexed}
+use Rattle.psci_world_spec.specs.Places.{place, place_of_effect}
 use Rattle.psci_world_laws.proofs.Numbering.{at_number}
 use Rattle.psci_settle.specs.Drained.{deliveries}
 use Rattle.psci_settle.specs.Settling.{serving}

@@ -3,22 +3,22 @@ use Rattle.std.proofs.Common.{◌≡◌, ℕ, ◌+◌, ◌<◌, true, false, Lis
 use Rattle.std.proofs.Common.{Some, refl, subst, ap, sym, ◌∙◌}
 use Rattle.psci_board.specs.Board.{BoardValue, cores, height, up}
 use Rattle.psci_coord.specs.declared.part.Part.{Part}
-use Rattle.psci_ctl_model.specs.Values as controlled
+use Rattle.psci_ctl_spec.specs.Values as controlled
 use Rattle.psci_link.specs.declared.kind.Kind.{Kind}
 use Rattle.psci_link.specs.declared.kind.Kind.TheVariants as kinds
 use Rattle.psci_link.specs.Message.{ArePartsOf, AreClaims, MessageValue}
 use Rattle.psci_link.specs.Slots.{OfCore, OfSystem}
-use Rattle.psci_fw_model.specs.Lives.{in_life}
-use Rattle.psci_fw_model.specs.Phases.{Pending}
-use Rattle.psci_fw_model.specs.Values.{Values}
+use Rattle.psci_fw_spec.specs.Lives.{in_life}
+use Rattle.psci_fw_spec.specs.Phases.{Pending}
+use Rattle.psci_fw_spec.specs.Values.{Values}
 use Rattle.psci_fw_laws.specs.Claims.{IsClaimOn, IsCurrent}
 use Rattle.psci_fw_laws.specs.Granted.{HasDeeper, NonePending}
 use Rattle.psci_fw_laws.specs.Messages.{is_system}
 use Rattle.psci_fw_laws.specs.Outstanding.{AreOutstanding}
-use Rattle.psci_world_model.specs.declared.said.Record.{Record}
-use Rattle.psci_world_model.specs.Histories.{acks, controller_values, firmware_values, sent}
-use Rattle.psci_world_model.specs.Legal.{IsLegalPast}
-use Rattle.psci_world_model.specs.Places.{place}
+use Rattle.psci_world_spec.specs.declared.said.Record.{Record}
+use Rattle.psci_world_spec.specs.Histories.{acks, controller_values, firmware_values, sent}
+use Rattle.psci_world_spec.specs.Legal.{IsLegalPast}
+use Rattle.psci_world_spec.specs.Places.{place}
 use Rattle.psci_world_laws.proofs.Agreeing.{found_own}
 use Rattle.psci_settle.specs.Waiting.{AreWaiting, AwaitsStart}
 use Rattle.psci_settle.proofs.Applying.{IsDown, IsReady}

@@ -1,14 +1,14 @@
 -- What waits after a record, and after one more.
 use Rattle.std.proofs.Common.{List, ◌++◌}
 use Rattle.psci_board.specs.Board.{BoardValue}
-use Rattle.psci_ctl_model.specs.History as controls
-use Rattle.psci_fw_model.specs.History as remembers
-use Rattle.psci_fw_model.specs.Said.{listed}
-use Rattle.psci_world_model.specs.declared.event.Event.{Event}
-use Rattle.psci_world_model.specs.declared.said.Record.{Record}
-use Rattle.psci_world_model.specs.declared.said.Said.{Said}
-use Rattle.psci_world_model.specs.Histories.{ack_in, acks, controller_values, firmware_values, sent}
-use Rattle.psci_world_model.specs.Histories.{sent_in}
+use Rattle.psci_ctl_spec.specs.History as controls
+use Rattle.psci_fw_spec.specs.History as remembers
+use Rattle.psci_fw_spec.specs.Said.{listed}
+use Rattle.psci_world_spec.specs.declared.event.Event.{Event}
+use Rattle.psci_world_spec.specs.declared.said.Record.{Record}
+use Rattle.psci_world_spec.specs.declared.said.Said.{Said}
+use Rattle.psci_world_spec.specs.Histories.{ack_in, acks, controller_values, firmware_values, sent}
+use Rattle.psci_world_spec.specs.Histories.{sent_in}
 use Rattle.psci_world_laws.proofs.Controlling.{after_control}
 use Rattle.psci_world_laws.proofs.Sending.{after_call}
 use Rattle.psci_settle.proofs.Carried.{WaitsNow}

@@ -7,8 +7,8 @@ use Rattle.psci_board.specs.Board.{BoardValue}
 use Rattle.psci_link.specs.declared.kind.Kind.TheVariants.{Down, Start}
 use Rattle.psci_link.specs.Message.{AckValue, MessageValue}
 use Rattle.psci_link.specs.Slots.{Clear, OfCore, OfSystem, Put, Slot, changed, slot_of}
-use Rattle.psci_fw_model.specs.Phases.{Phase, Pending}
-use Rattle.psci_fw_model.specs.Values.{updated}
+use Rattle.psci_fw_spec.specs.Phases.{Phase, Pending}
+use Rattle.psci_fw_spec.specs.Values.{updated}
 use Rattle.psci_fw_laws.proofs.Parts.{updated_at, updated_here, updated_there}
 use Rattle.psci_settle.specs.Waiting.{AreWaiting, IsNamed, IsPursued, WasTold}
 use Rattle.psci_settle.proofs.Slots.{clear_there, put_here, put_system, put_there}

@@ -6,11 +6,11 @@ use Rattle.std.proofs.lemmas.Option.{same_Some}
 use Rattle.psci_board.specs.Board.{BoardValue, height}
 use Rattle.psci_link.specs.declared.kind.Kind.TheVariants as kinds
 use Rattle.psci_link.specs.Message.{MessageValue}
-use Rattle.psci_fw_model.specs.Lives.{in_life}
-use Rattle.psci_world_model.specs.declared.said.Record.{Record}
-use Rattle.psci_world_model.specs.Histories.{controller_values, firmware_values, sent}
-use Rattle.psci_world_model.specs.Legal.{IsLegalPast}
-use Rattle.psci_world_model.specs.Lists.{indexed}
+use Rattle.psci_fw_spec.specs.Lives.{in_life}
+use Rattle.psci_world_spec.specs.declared.said.Record.{Record}
+use Rattle.psci_world_spec.specs.Histories.{controller_values, firmware_values, sent}
+use Rattle.psci_world_spec.specs.Legal.{IsLegalPast}
+use Rattle.psci_world_spec.specs.Lists.{indexed}
 use Rattle.psci_settle.specs.Drained.{AreAtRest, IsSettled, deliveries, is_settling}
 use Rattle.psci_settle.specs.Settling.{Reached, begun, halts_in, is_halting, rounds, settled}
 use Rattle.psci_settle.proofs.Beginning.{IsUnderWay}

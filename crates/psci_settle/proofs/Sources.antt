@@ -6,13 +6,13 @@ use Rattle.std.proofs.lemmas.Bool.{and_cases, and_from, eqb-false, le-leb, leb-f
 use Rattle.std.proofs.lemmas.Bool.{ne_eqb}
 use Rattle.psci_board.specs.Board.{BoardValue, HasNode, height, up}
 use Rattle.psci_board.specs.declared.node.Node.{Node}
-use Rattle.psci_ctl_model.specs.History as controls
-use Rattle.psci_ctl_model.specs.Lasting.{IsApplied, IsFirst}
+use Rattle.psci_ctl_spec.specs.History as controls
+use Rattle.psci_ctl_spec.specs.Lasting.{IsApplied, IsFirst}
 use Rattle.psci_board.specs.Paths.{is_on_path, is_path_place}
 use Rattle.psci_fw_laws.specs.Claims.{IsFromStart}
-use Rattle.psci_world_model.specs.declared.said.Record.{Record}
-use Rattle.psci_world_model.specs.Histories.{controller_history, controller_values}
-use Rattle.psci_world_model.specs.Legal.{IsReplied}
+use Rattle.psci_world_spec.specs.declared.said.Record.{Record}
+use Rattle.psci_world_spec.specs.Histories.{controller_history, controller_values}
+use Rattle.psci_world_spec.specs.Legal.{IsReplied}
 use Rattle.psci_world_laws.proofs.Applied.{was_sent}
 use Rattle.psci_settle.proofs.Standing.{HasLive}
 use Rattle.psci_settle.proofs.Starting.{same_sum}

@@ -6,12 +6,12 @@ use Rattle.std.proofs.lemmas.Bool.{cases_Bool, cases_eq, cond-true, cond-false, 
 use Rattle.psci_board.specs.Board.{BoardValue, height, up}
 use Rattle.psci_board.specs.declared.node.Node.{Node}
 use Rattle.psci_coord.specs.declared.part.Part.{Part}
-use Rattle.psci_ctl_model.specs.Changes.{one_more, with_path_on}
-use Rattle.psci_ctl_model.specs.Values.{starts_below}
+use Rattle.psci_ctl_spec.specs.Changes.{one_more, with_path_on}
+use Rattle.psci_ctl_spec.specs.Values.{starts_below}
 use Rattle.psci_board.specs.Paths.{is_on_path}
 use Rattle.psci_link.specs.Message.{AckValue, MessageValue}
 use Rattle.psci_link.specs.Slots.{Slot}
-use Rattle.psci_fw_model.specs.Phases.{Phase}
+use Rattle.psci_fw_spec.specs.Phases.{Phase}
 use Rattle.psci_fw_laws.specs.KnownBelow.{known_below}
 use Rattle.psci_fw_laws.specs.Messages.{known_on}
 use Rattle.psci_settle.specs.Waiting.{AreWaiting, IsLivePart, IsTold}

@@ -11,7 +11,7 @@ use Rattle.psci_link.specs.declared.kind.Kind.TheVariants.{Down, Start, Off, Res
 use Rattle.psci_link.specs.Message.{AckValue, MessageValue}
 use Rattle.psci_link.specs.Slots.{Acknowledge, OfCore, Slot, answers, changed, is_done, is_kind}
 use Rattle.psci_link.specs.Slots.{is_slot, slot_of}
-use Rattle.psci_fw_model.specs.Phases.{Phase}
+use Rattle.psci_fw_spec.specs.Phases.{Phase}
 use Rattle.psci_fw_laws.specs.Outstanding.{AreOutstanding}
 use Rattle.psci_settle.specs.Waiting.{AreWaiting, AwaitsStart, IsLivePart, IsTold, WasTold}
 

@@ -5,7 +5,7 @@ use Rattle.psci_board.specs.Board.{BoardValue, cores, up}
 use Rattle.psci_coord.specs.declared.part.Part.{Part}
 use Rattle.psci_link.specs.declared.kind.Kind.TheVariants.{Down}
 use Rattle.psci_link.specs.Message.{MessageValue}
-use Rattle.psci_fw_model.specs.Phases.{Phase, Running}
+use Rattle.psci_fw_spec.specs.Phases.{Phase, Running}
 use Rattle.psci_fw_laws.specs.Claims.{IsClaimOn}
 use Rattle.psci_fw_laws.specs.Live.{AreLive}
 use Rattle.psci_fw_laws.proofs.Parts.{part_from}

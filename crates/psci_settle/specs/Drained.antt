@@ -7,15 +7,15 @@ use Rattle.psci_board.specs.declared.node.Node.{Node}
 use Rattle.psci_link.specs.declared.kind.Kind.TheVariants.{Down}
 use Rattle.psci_link.specs.Message.{MessageValue}
 use Rattle.psci_link.specs.Slots.{OfCore, OfSystem}
-use Rattle.psci_world_model.specs.declared.event.Event.{Event}
-use Rattle.psci_world_model.specs.declared.event.Event.TheVariants.{Call, Enter, Wake, Reset}
-use Rattle.psci_world_model.specs.declared.event.Event.TheVariants.{Deliver, Take}
-use Rattle.psci_world_model.specs.declared.place.Place.TheVariants.{Started}
-use Rattle.psci_world_model.specs.declared.said.Record.{Record}
-use Rattle.psci_world_model.specs.Histories.{controller_values, firmware_values, sent}
-use Rattle.psci_world_model.specs.Lists.{indexed}
-use Rattle.psci_world_model.specs.Legal.{IsLegalPast}
-use Rattle.psci_world_model.specs.Places.{place}
+use Rattle.psci_world_spec.specs.declared.event.Event.{Event}
+use Rattle.psci_world_spec.specs.declared.event.Event.TheVariants.{Call, Enter, Wake, Reset}
+use Rattle.psci_world_spec.specs.declared.event.Event.TheVariants.{Deliver, Take}
+use Rattle.psci_world_spec.specs.declared.place.Place.TheVariants.{Started}
+use Rattle.psci_world_spec.specs.declared.said.Record.{Record}
+use Rattle.psci_world_spec.specs.Histories.{controller_values, firmware_values, sent}
+use Rattle.psci_world_spec.specs.Lists.{indexed}
+use Rattle.psci_world_spec.specs.Legal.{IsLegalPast}
+use Rattle.psci_world_spec.specs.Places.{place}
 
 -- an entry, a delivery or a taken acknowledgement
 abbrev pub is_settling : Event → Bool

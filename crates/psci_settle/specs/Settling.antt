@@ -8,15 +8,15 @@ use Rattle.psci_link.specs.declared.kind.Kind.{Kind}
 use Rattle.psci_link.specs.declared.kind.Kind.TheVariants.{Start}
 use Rattle.psci_link.specs.Message.{MessageValue}
 use Rattle.psci_link.specs.Slots.{OfCore, is_kind}
-use Rattle.psci_fw_model.specs.Lives.{in_life}
-use Rattle.psci_world_model.specs.declared.event.Event.{Event}
-use Rattle.psci_world_model.specs.declared.event.Event.TheVariants.{Enter, Deliver, Take}
-use Rattle.psci_world_model.specs.declared.place.Place.{Place}
-use Rattle.psci_world_model.specs.declared.place.Place.TheVariants.{Started, Running, Stopped}
-use Rattle.psci_world_model.specs.declared.said.Record.{Record}
-use Rattle.psci_world_model.specs.Histories.{acks, controller_values, firmware_values, sent}
-use Rattle.psci_world_model.specs.Legal.{legal_record}
-use Rattle.psci_world_model.specs.Places.{place}
+use Rattle.psci_fw_spec.specs.Lives.{in_life}
+use Rattle.psci_world_spec.specs.declared.event.Event.{Event}
+use Rattle.psci_world_spec.specs.declared.event.Event.TheVariants.{Enter, Deliver, Take}
+use Rattle.psci_world_spec.specs.declared.place.Place.{Place}
+use Rattle.psci_world_spec.specs.declared.place.Place.TheVariants.{Started, Running, Stopped}
+use Rattle.psci_world_spec.specs.declared.said.Record.{Record}
+use Rattle.psci_world_spec.specs.Histories.{acks, controller_values, firmware_values, sent}
+use Rattle.psci_world_spec.specs.Legal.{legal_record}
+use Rattle.psci_world_spec.specs.Places.{place}
 
 -- Halting -------------------------------------------------------------------------------------
 

@@ -7,14 +7,14 @@ use Rattle.psci_coord.specs.declared.part.Part.{Part}
 use Rattle.psci_link.specs.declared.kind.Kind.TheVariants.{Down, Start}
 use Rattle.psci_link.specs.Message.{AckValue, MessageValue}
 use Rattle.psci_link.specs.Slots.{Slot, OfCore, answers}
-use Rattle.psci_ctl_model.specs.Values.{first_depth, starts_below}
-use Rattle.psci_ctl_model.specs.Values as controlled
-use Rattle.psci_fw_model.specs.Lives.{in_life}
-use Rattle.psci_fw_model.specs.Phases.{Phase, Pending}
-use Rattle.psci_fw_model.specs.Values.{Values}
+use Rattle.psci_ctl_spec.specs.Values.{first_depth, starts_below}
+use Rattle.psci_ctl_spec.specs.Values as controlled
+use Rattle.psci_fw_spec.specs.Lives.{in_life}
+use Rattle.psci_fw_spec.specs.Phases.{Phase, Pending}
+use Rattle.psci_fw_spec.specs.Values.{Values}
 use Rattle.psci_fw_laws.specs.Messages.{known_on}
-use Rattle.psci_world_model.specs.declared.said.Record.{Record}
-use Rattle.psci_world_model.specs.Histories.{acks, controller_values, firmware_values, sent}
+use Rattle.psci_world_spec.specs.declared.said.Record.{Record}
+use Rattle.psci_world_spec.specs.Histories.{acks, controller_values, firmware_values, sent}
 
 -- a part of a message is live, in the life of the message: its generation counts every start below
 -- its domain

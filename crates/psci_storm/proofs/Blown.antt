@@ -12,10 +12,10 @@ use Rattle.psci_storm.specs.Storm.{IsBlown, IsCutShort, IsDrawn, IsStorm}
 use Rattle.psci_world.specs.declared.settling.Settled.{Settled}
 use Rattle.psci_world.specs.declared.settling.Settled.TheVariants.{Halting, Quiet}
 use Rattle.psci_world.specs.Settles.{ComesToRest, IsOnTheWay, SettlesBy}
-use Rattle.psci_world_model.specs.declared.event.Event.{Event}
-use Rattle.psci_world_model.specs.declared.said.Record.{Record}
-use Rattle.psci_world_model.specs.Histories.{sent}
-use Rattle.psci_world_model.specs.Legal.{IsLegalPast, legal_record, run_from}
+use Rattle.psci_world_spec.specs.declared.event.Event.{Event}
+use Rattle.psci_world_spec.specs.declared.said.Record.{Record}
+use Rattle.psci_world_spec.specs.Histories.{sent}
+use Rattle.psci_world_spec.specs.Legal.{IsLegalPast, legal_record, run_from}
 
 -- how the world settled, where it did
 settled_in : Result Settled Memory → Settled

@@ -10,14 +10,14 @@ use Rattle.psci_world.specs.declared.settling.Settled.{Settled}
 use Rattle.psci_world.specs.declared.settling.Settled.TheVariants.{Halting, Quiet}
 use Rattle.psci_world.specs.Settles.{ComesToRest}
 use Rattle.psci_world.specs.Settling.{is_halting, settled}
-use Rattle.psci_world_model.specs.declared.event.Event.{Event}
-use Rattle.psci_world_model.specs.declared.event.Event.TheVariants.{Enter, Deliver, Take, Wake}
-use Rattle.psci_world_model.specs.declared.said.Record.{Record}
-use Rattle.psci_world_model.specs.Histories.{controller_values, firmware_values}
-use Rattle.psci_world_model.specs.Places.{place}
-use Rattle.psci_world_model.specs.Legal.{IsLegalPast, run_from}
-use Rattle.psci_world_model.proofs.Runs.{stays_legal}
-use Rattle.psci_world_model.proofs.Scripts.{one_core, system_off}
+use Rattle.psci_world_spec.specs.declared.event.Event.{Event}
+use Rattle.psci_world_spec.specs.declared.event.Event.TheVariants.{Enter, Deliver, Take, Wake}
+use Rattle.psci_world_spec.specs.declared.said.Record.{Record}
+use Rattle.psci_world_spec.specs.Histories.{controller_values, firmware_values}
+use Rattle.psci_world_spec.specs.Places.{place}
+use Rattle.psci_world_spec.specs.Legal.{IsLegalPast, run_from}
+use Rattle.psci_world_spec.proofs.Runs.{stays_legal}
+use Rattle.psci_world_spec.proofs.Scripts.{one_core, system_off}
 use Rattle.psci_storm.proofs.DrawnRows.{after, asleep, computing, drawn_length, going_off}
 use Rattle.psci_storm.proofs.DrawnRows.{none_drawn, none_drawn_yet, suspend, two_drawn, wrong}
 

@@ -3,9 +3,9 @@ use Rattle.std.proofs.Common.{◌≡◌, ◌<◌, ◌+◌, ℕ, List, [], ◌∷
 use Rattle.std.proofs.Common.{subst, length-append}
 use Rattle.psci_board.specs.Board.{BoardValue}
 use Rattle.psci_storm.specs.Storm.{HappensBy, IsDrawn}
-use Rattle.psci_world_model.specs.declared.event.Event.{Event}
-use Rattle.psci_world_model.specs.declared.said.Record.{Record}
-use Rattle.psci_world_model.specs.Legal.{legal_record, run_from}
+use Rattle.psci_world_spec.specs.declared.event.Event.{Event}
+use Rattle.psci_world_spec.specs.declared.said.Record.{Record}
+use Rattle.psci_world_spec.specs.Legal.{legal_record, run_from}
 
 goes_on : (b : BoardValue) (past : List Record) (events more : List Event)
     → run_from b past (events ++ more) ≡ run_from b (run_from b past events) more

@@ -6,10 +6,10 @@ use Rattle.psci_world.specs.Settling.{is_halting, settled}
 use Rattle.psci_world.specs.declared.settling.Settled.{Settled}
 use Rattle.psci_world.specs.declared.settling.Settled.TheVariants.{Halting, Quiet}
 use Rattle.psci_world.specs.Settles.{ComesToRest, IsOnTheWay}
-use Rattle.psci_world_model.specs.declared.event.Event.{Event}
-use Rattle.psci_world_model.specs.declared.said.Record.{Record}
-use Rattle.psci_world_model.specs.Histories.{sent}
-use Rattle.psci_world_model.specs.Legal.{IsLegalPast, run_from}
+use Rattle.psci_world_spec.specs.declared.event.Event.{Event}
+use Rattle.psci_world_spec.specs.declared.said.Record.{Record}
+use Rattle.psci_world_spec.specs.Histories.{sent}
+use Rattle.psci_world_spec.specs.Legal.{IsLegalPast, run_from}
 use Rattle.psci_storm.specs.declared.outcome.Storm.{Storm}
 
 -- One past is the other after some events more, each with what is legal to say of it.

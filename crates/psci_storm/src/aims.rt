@@ -5,7 +5,7 @@ use crate::places::{count_at, is_at, is_halting, starts};
 use crate::requests::registers;
 use psci_abi::Request;
 use psci_world::World;
-use psci_world_model::{Event, Place};
+use psci_world_spec::{Event, Place};
 
 /// A start limit that a storm may reach.
 const NEAR_LIMIT: u32 = 4096;

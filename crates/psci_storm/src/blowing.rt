@@ -2,7 +2,7 @@
 
 ghost use Rattle.std.specs.Prelude.{◌≡◌, List, IfOk, OnErr};
 ghost use Rattle.psci_storm.specs.Storm.{HappensBy, IsBlown, IsCutShort, IsStorm};
-ghost use Rattle.psci_world_model.specs.declared.said.Record.{Record};
+ghost use Rattle.psci_world_spec.specs.declared.said.Record.{Record};
 
 use crate::drawing::draw;
 use crate::outcome::{Storm, StormedWorld};

@@ -9,7 +9,7 @@ use psci_abi::words::{CPU_ON_64, CPU_SUSPEND_32, CPU_SUSPEND_64, PSCI_FEATURES, 
 use psci_abi::{Regs, Request};
 use psci_board::Board;
 use psci_world::World;
-use psci_world_model::{Event, Place};
+use psci_world_spec::{Event, Place};
 
 /// A function word that is asked about, or called, now and then.
 ///

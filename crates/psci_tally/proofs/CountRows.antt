@@ -2,8 +2,8 @@
 use Rattle.std.proofs.Common.{◌≡◌, [], ◌∷◌, ◌++◌, true, false, refl}
 use Rattle.std.specs.Fmt.{digits}
 use Rattle.std.specs.Prelude.{codes, flat_map, negsuc, pos}
-use Rattle.psci_world_model.specs.declared.event.Event.TheVariants as events
-use Rattle.psci_world_model.specs.declared.said.Said.TheVariants as sayings
+use Rattle.psci_world_spec.specs.declared.event.Event.TheVariants as events
+use Rattle.psci_world_spec.specs.declared.said.Said.TheVariants as sayings
 use Rattle.psci_tally.specs.declared.asked.Asked.TheVariants as asked
 use Rattle.psci_tally.specs.declared.answer.Answer.TheVariants as answers
 use Rattle.psci_tally.specs.declared.table.TheConstants.{KINDS}

@@ -3,12 +3,12 @@ use Rattle.std.proofs.Common.{◌≡◌, ℕ, true, false, [], ◌∷◌, None, 
 use Rattle.std.specs.Prelude.{count_by, negsuc}
 use Rattle.psci_abi.specs.Codes.{denied}
 use Rattle.psci_abi.specs.declared.registers.Regs.{Regs}
-use Rattle.psci_fw_model.specs.declared.outcome.Act.TheVariants as acts
+use Rattle.psci_fw_spec.specs.declared.outcome.Act.TheVariants as acts
 use Rattle.psci_link.specs.declared.kind.Kind.TheVariants as kinds
 use Rattle.psci_link.specs.declared.taken.Taken.TheVariants as taken
-use Rattle.psci_world_model.proofs.Scripts as scripts
-use Rattle.psci_world_model.specs.declared.event.Event.TheVariants as events
-use Rattle.psci_world_model.specs.declared.said.Said.TheVariants as sayings
+use Rattle.psci_world_spec.proofs.Scripts as scripts
+use Rattle.psci_world_spec.specs.declared.event.Event.TheVariants as events
+use Rattle.psci_world_spec.specs.declared.said.Said.TheVariants as sayings
 use Rattle.psci_tally.specs.declared.asked.Asked.TheVariants as asked
 use Rattle.psci_tally.specs.declared.answer.Answer.TheVariants as answers
 use Rattle.psci_tally.specs.Kinds.{answer_of, asked_of, is_event_kind, event_kind_of}

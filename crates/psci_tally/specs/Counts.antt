@@ -2,7 +2,7 @@
 use Rattle.std.specs.Prelude.{ℕ, List, [], ◌∷◌, ◌++◌, codes, count_by, flat_map}
 use Rattle.std.specs.Fmt.{decimal, signed_decimal}
 use Rattle.psci_link.specs.StaleText.{stale_text}
-use Rattle.psci_world_model.specs.declared.said.Record.{Record}
+use Rattle.psci_world_spec.specs.declared.said.Record.{Record}
 use Rattle.psci_tally.specs.declared.asked.Asked.{Asked}
 use Rattle.psci_tally.specs.declared.asked.Asked.TheVariants.{Version, CpuSuspend, CpuOff, CpuOn}
 use Rattle.psci_tally.specs.declared.asked.Asked.TheVariants.{AffinityInfo, MigrateInfoType}

@@ -4,15 +4,15 @@ use Rattle.std.specs.Ordering.{int_eq}
 use Rattle.psci_abi.specs.Calls.{request_of}
 use Rattle.psci_abi.specs.declared.request.Request.{Request}
 use Rattle.psci_abi.specs.declared.request.Request.TheVariants as requests
-use Rattle.psci_fw_model.specs.declared.outcome.Act.{Act}
-use Rattle.psci_fw_model.specs.declared.outcome.Act.TheVariants as acts
+use Rattle.psci_fw_spec.specs.declared.outcome.Act.{Act}
+use Rattle.psci_fw_spec.specs.declared.outcome.Act.TheVariants as acts
 use Rattle.psci_link.specs.declared.taken.Taken.{Taken}
 use Rattle.psci_link.specs.declared.taken.Taken.TheVariants as taken
-use Rattle.psci_world_model.specs.declared.event.Event.{Event}
-use Rattle.psci_world_model.specs.declared.event.Event.TheVariants as events
-use Rattle.psci_world_model.specs.declared.said.Record.{Record}
-use Rattle.psci_world_model.specs.declared.said.Said.{Said}
-use Rattle.psci_world_model.specs.declared.said.Said.TheVariants as sayings
+use Rattle.psci_world_spec.specs.declared.event.Event.{Event}
+use Rattle.psci_world_spec.specs.declared.event.Event.TheVariants as events
+use Rattle.psci_world_spec.specs.declared.said.Record.{Record}
+use Rattle.psci_world_spec.specs.declared.said.Said.{Said}
+use Rattle.psci_world_spec.specs.declared.said.Said.TheVariants as sayings
 use Rattle.psci_tally.specs.declared.asked.Asked.{Asked}
 use Rattle.psci_tally.specs.declared.asked.Asked.TheVariants.{Version, CpuSuspend, CpuOff, CpuOn}
 use Rattle.psci_tally.specs.declared.asked.Asked.TheVariants.{AffinityInfo, MigrateInfoType}

@@ -6,7 +6,7 @@ ghost use Rattle.psci_tally.specs.Counts.{count_lines, count_of, counts_text};
 
 use crate::kind::Kind;
 use crate::table::KINDS;
-use psci_world_model::Record;
+use psci_world_spec::Record;
 use std::io::{self, Write};
 
 /// The number of records of this kind.

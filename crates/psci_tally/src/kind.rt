@@ -5,7 +5,7 @@ ghost use Rattle.psci_tally.specs.Kinds.{is_event_kind, event_kind_of};
 
 use crate::answer::Answer;
 use crate::asked::Asked;
-use psci_world_model::Record;
+use psci_world_spec::Record;
 
 /// Of which kind a record is.
 #[derive(Clone, Copy, Debug, PartialEq, Eq)]

@@ -2,7 +2,7 @@
 
 use psci_abi::Code;
 use psci_coord::Part;
-use psci_fw_model::Act;
+use psci_fw_spec::Act;
 use psci_link::{Kind, Message};
 
 /// What a core does next, and what is sent.

@@ -6,7 +6,7 @@ use Rattle.std.specs.Prelude.{slice_get}
 use Rattle.std.proofs.lemmas.List.{get_or-reverse, length-reverse}
 use Rattle.std.proofs.lemmas.Option.{get_or_from_slice_get, slice_get-get_or, slice_get_within}
 use Rattle.psci_board.specs.Board.{BoardValue}
-use Rattle.psci_ctl_model.specs.Legal.{IsOfBoard}
+use Rattle.psci_ctl_spec.specs.Legal.{IsOfBoard}
 use Rattle.psci_fw_laws.specs.Messages.{IsSound}
 use Rattle.psci_link.specs.Message.{MessageValue}
 

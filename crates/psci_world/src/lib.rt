@@ -1,5 +1,5 @@
 //! The world: the firmware, the power controller and the cores, in a run over a list of events.
-//! The words and the definitions are those of `psci_world_model`.
+//! The words and the definitions are those of `psci_world_spec`.
 //!
 //! - The *machine* of `psci_machine` is all that an event changes beside the lists: the firmware,
 //!   the power controller, and where each core is.
@@ -19,11 +19,11 @@ pub use present::Present;
 pub use psci_abi::{Code, Regs};
 pub use psci_board::{Board, Core, Memory, Node};
 pub use psci_coord::{Part, Parts};
-pub use psci_fw_model::{Act, Cause, Start, Status};
+pub use psci_fw_spec::{Act, Cause, Start, Status};
 pub use psci_headline::{law_live_claims, law_safe};
 pub use psci_link::{Ack, Kind, Message, Taken};
 pub use psci_machine::{Controller, Firmware};
-pub use psci_world_model::{Event, Place, Record, Said, Sent, law_histories, law_runs};
+pub use psci_world_spec::{Event, Place, Record, Said, Sent, law_histories, law_runs};
 pub use runs::run;
 pub use settling::{Settled, settle};
 pub use world::World;

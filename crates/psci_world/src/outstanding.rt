@@ -6,7 +6,7 @@ ghost use Rattle.psci_board.specs.Board.{cores};
 ghost use Rattle.psci_link.specs.Slots.{OfCore};
 ghost use Rattle.psci_settle.specs.Settling.{has_name, is_waiting, index_of};
 ghost use Rattle.psci_world.specs.Settles.{serves_kind};
-ghost use Rattle.psci_world_model.specs.Histories.{firmware_values, sent};
+ghost use Rattle.psci_world_spec.specs.Histories.{firmware_values, sent};
 
 use crate::world::World;
 use psci_link::{Kind, Message};

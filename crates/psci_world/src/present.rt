@@ -6,7 +6,7 @@ use psci_fw_laws::law_messages;
 use psci_link::{Ack, Message};
 use psci_machine::Machine;
 use psci_world_laws::law_sent;
-use psci_world_model::{Event, Said, law_histories};
+use psci_world_spec::{Event, Said, law_histories};
 use std::alloc::Global;
 use std::marker::Model;
 
@@ -41,8 +41,8 @@ impl Model for Present {
 
 ghost use Rattle.std.specs.Prelude.{◌≡◌, [], ◌∷◌, IfOk, OnOk, OnErr, List};
 ghost use Rattle.psci_board.specs.Board.{BoardValue};
-ghost use Rattle.psci_world_model.specs.declared.said.Record.{Record};
-ghost use Rattle.psci_world_model.specs.Legal.{legal, legal_record};
+ghost use Rattle.psci_world_spec.specs.declared.said.Record.{Record};
+ghost use Rattle.psci_world_spec.specs.Legal.{legal, legal_record};
 ghost use Rattle.psci_world.specs.Seen.{IsPresent};
 
 impl Present {

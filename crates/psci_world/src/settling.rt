@@ -12,7 +12,7 @@ use crate::outstanding::{Which, is_waiting, number_outstanding};
 use crate::world::World;
 use psci_board::{Core, Memory};
 use psci_settle::law_settles;
-use psci_world_model::{Event, Place};
+use psci_world_spec::{Event, Place};
 
 /// What became of a world that was to settle.
 #[derive(Clone, Copy, Debug, PartialEq, Eq)]

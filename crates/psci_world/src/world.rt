@@ -5,7 +5,7 @@ use psci_board::{Board, Core, Memory};
 use psci_headline::law_safe;
 use psci_link::{Ack, Message};
 use psci_machine::{Controller, Firmware};
-use psci_world_model::{Event, Place, Record};
+use psci_world_spec::{Event, Place, Record};
 use std::alloc::Global;
 use std::marker::Model;
 
@@ -36,11 +36,11 @@ ghost use Rattle.std.specs.Prelude.{◌≡◌, ◌<◌, [], ◌∷◌, IfOk, OnO
 ghost use Rattle.psci_board.specs.Board.{IsBoard, cores};
 ghost use Rattle.psci_machine.specs.Controller as controller;
 ghost use Rattle.psci_machine.specs.Firmware as firmware;
-ghost use Rattle.psci_world_model.specs.Histories.{acks, controller_values, firmware_values, sent};
+ghost use Rattle.psci_world_spec.specs.Histories.{acks, controller_values, firmware_values, sent};
 ghost use Rattle.psci_headline.specs.Safe.{AlwaysSafe};
-ghost use Rattle.psci_world_model.specs.Legal.{IsLegalPast, legal_record};
-ghost use Rattle.psci_world_model.specs.Lists.{indexed};
-ghost use Rattle.psci_world_model.specs.Places.{place};
+ghost use Rattle.psci_world_spec.specs.Legal.{IsLegalPast, legal_record};
+ghost use Rattle.psci_world_spec.specs.Lists.{indexed};
+ghost use Rattle.psci_world_spec.specs.Places.{place};
 
 impl World {
     /// The world of this board, before any event: the power controller is in its first life, the

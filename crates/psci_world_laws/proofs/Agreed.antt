@@ -4,42 +4,42 @@ use Rattle.std.proofs.Common.{unwrap_or, arith, subst, sym}
 use Rattle.psci_abi.specs.Calls.{request_of}
 use Rattle.psci_abi.specs.declared.registers.Regs.{Regs}
 use Rattle.psci_board.specs.Board.{BoardValue}
-use Rattle.psci_ctl_model.specs.declared.call.CtlCall.{CtlCall}
-use Rattle.psci_ctl_model.specs.Changes as controlling
-use Rattle.psci_ctl_model.specs.Effects as controlling_effects
-use Rattle.psci_ctl_model.specs.Exchange as controller
-use Rattle.psci_ctl_model.specs.Follows.{MayFollow}
-use Rattle.psci_ctl_model.specs.History as controls
-use Rattle.psci_ctl_model.specs.Legal as legal_controls
-use Rattle.psci_ctl_model.specs.Replies.{last_start, reply}
-use Rattle.psci_ctl_model.specs.Values as controlled
+use Rattle.psci_ctl_spec.specs.declared.call.CtlCall.{CtlCall}
+use Rattle.psci_ctl_spec.specs.Changes as controlling
+use Rattle.psci_ctl_spec.specs.Effects as controlling_effects
+use Rattle.psci_ctl_spec.specs.Exchange as controller
+use Rattle.psci_ctl_spec.specs.Follows.{MayFollow}
+use Rattle.psci_ctl_spec.specs.History as controls
+use Rattle.psci_ctl_spec.specs.Legal as legal_controls
+use Rattle.psci_ctl_spec.specs.Replies.{last_start, reply}
+use Rattle.psci_ctl_spec.specs.Values as controlled
 use Rattle.psci_link.specs.declared.start.Start.{Start}
 use Rattle.psci_link.specs.Message.{AckValue, MessageValue}
 use Rattle.psci_link.specs.declared.taken.Taken.{Taken}
 use Rattle.psci_link.specs.declared.taken.Taken.TheVariants as takens
-use Rattle.psci_fw_model.specs.After.{change}
-use Rattle.psci_fw_model.specs.Effects.{function_effect}
-use Rattle.psci_fw_model.specs.Exchange as firmware
-use Rattle.psci_fw_model.specs.Exchange.{effect}
-use Rattle.psci_fw_model.specs.History as remembers
-use Rattle.psci_fw_model.specs.Legal.{IsLegal}
-use Rattle.psci_fw_model.specs.Lives.{in_life, start_of_life}
-use Rattle.psci_fw_model.specs.Values.{Values}
+use Rattle.psci_fw_spec.specs.After.{change}
+use Rattle.psci_fw_spec.specs.Effects.{function_effect}
+use Rattle.psci_fw_spec.specs.Exchange as firmware
+use Rattle.psci_fw_spec.specs.Exchange.{effect}
+use Rattle.psci_fw_spec.specs.History as remembers
+use Rattle.psci_fw_spec.specs.Legal.{IsLegal}
+use Rattle.psci_fw_spec.specs.Lives.{in_life, start_of_life}
+use Rattle.psci_fw_spec.specs.Values.{Values}
 use Rattle.psci_fw_laws.specs.Allowed.{IsAllowed}
-use Rattle.psci_world_model.specs.declared.event.Event.{Event}
-use Rattle.psci_world_model.specs.declared.event.Event.TheVariants.{Call, Enter, Wake, Reset}
-use Rattle.psci_world_model.specs.declared.event.Event.TheVariants.{Deliver, Take}
-use Rattle.psci_world_model.specs.declared.place.Place.{Place}
-use Rattle.psci_world_model.specs.declared.said.Record.{Record}
-use Rattle.psci_world_model.specs.declared.said.Said.{Said}
-use Rattle.psci_world_model.specs.declared.said.Said.TheVariants as said
-use Rattle.psci_world_model.specs.Histories.{acks, control, controller_history}
-use Rattle.psci_world_model.specs.Histories.{controller_values, delivered, entered}
-use Rattle.psci_world_model.specs.Histories.{firmware_history, firmware_values, outcome_in, sent}
-use Rattle.psci_world_model.specs.Histories.{took}
-use Rattle.psci_world_model.specs.Legal.{IsLegalPast, legal}
-use Rattle.psci_world_model.specs.Lists.{indexed}
-use Rattle.psci_world_model.specs.Places.{first_place, place, place_controlled, place_said}
+use Rattle.psci_world_spec.specs.declared.event.Event.{Event}
+use Rattle.psci_world_spec.specs.declared.event.Event.TheVariants.{Call, Enter, Wake, Reset}
+use Rattle.psci_world_spec.specs.declared.event.Event.TheVariants.{Deliver, Take}
+use Rattle.psci_world_spec.specs.declared.place.Place.{Place}
+use Rattle.psci_world_spec.specs.declared.said.Record.{Record}
+use Rattle.psci_world_spec.specs.declared.said.Said.{Said}
+use Rattle.psci_world_spec.specs.declared.said.Said.TheVariants as said
+use Rattle.psci_world_spec.specs.Histories.{acks, control, controller_history}
+use Rattle.psci_world_spec.specs.Histories.{controller_values, delivered, entered}
+use Rattle.psci_world_spec.specs.Histories.{firmware_history, firmware_values, outcome_in, sent}
+use Rattle.psci_world_spec.specs.Histories.{took}
+use Rattle.psci_world_spec.specs.Legal.{IsLegalPast, legal}
+use Rattle.psci_world_spec.specs.Lists.{indexed}
+use Rattle.psci_world_spec.specs.Places.{first_place, place, place_controlled, place_said}
 use Rattle.psci_world_laws.specs.Agreement.{Agree, AgreeIn}
 use Rattle.psci_world_laws.proofs.Agreeing.{AreAgreed, at_start, control_agrees}
 use Rattle.psci_world_laws.proofs.Controlling.{after_control, more_controls}

@@ -5,18 +5,18 @@ use Rattle.std.proofs.Common.{Option, None, Some, unwrap_or, arith, subst, ap, s
 use Rattle.std.proofs.lemmas.Bool.{cond-true, cond-false, eq-eqb}
 use Rattle.std.proofs.lemmas.Bool.{ne_eqb}
 use Rattle.psci_board.specs.Board.{BoardValue}
-use Rattle.psci_ctl_model.specs.Changes.{change, next_life, one_more}
-use Rattle.psci_ctl_model.specs.Effects.{Effect, Nothing, Starts, Deepens, Ends, Begins}
-use Rattle.psci_ctl_model.specs.Follows.{MayFollow}
-use Rattle.psci_ctl_model.specs.Values as controlled
-use Rattle.psci_ctl_model.specs.Values.{first_starts}
-use Rattle.psci_fw_model.specs.Lives.{in_life, start_of_life}
-use Rattle.psci_fw_model.specs.Phases as phases
-use Rattle.psci_fw_model.specs.Phases.{Phase}
-use Rattle.psci_fw_model.specs.Values.{Values}
-use Rattle.psci_world_model.specs.declared.place.Place.{Place}
-use Rattle.psci_world_model.specs.declared.place.Place.TheVariants.{Started, Running, Stopped}
-use Rattle.psci_world_model.specs.Places.{first_place, place_of_effect}
+use Rattle.psci_ctl_spec.specs.Changes.{change, next_life, one_more}
+use Rattle.psci_ctl_spec.specs.Effects.{Effect, Nothing, Starts, Deepens, Ends, Begins}
+use Rattle.psci_ctl_spec.specs.Follows.{MayFollow}
+use Rattle.psci_ctl_spec.specs.Values as controlled
+use Rattle.psci_ctl_spec.specs.Values.{first_starts}
+use Rattle.psci_fw_spec.specs.Lives.{in_life, start_of_life}
+use Rattle.psci_fw_spec.specs.Phases as phases
+use Rattle.psci_fw_spec.specs.Phases.{Phase}
+use Rattle.psci_fw_spec.specs.Values.{Values}
+use Rattle.psci_world_spec.specs.declared.place.Place.{Place}
+use Rattle.psci_world_spec.specs.declared.place.Place.TheVariants.{Started, Running, Stopped}
+use Rattle.psci_world_spec.specs.Places.{first_place, place_of_effect}
 use Rattle.psci_world_laws.specs.Agreement.{AgreeIn}
 
 -- What both know of each other, said of their values and of the places.

@@ -9,31 +9,31 @@ use Rattle.psci_coord.specs.declared.part.Part.{Part}
 use Rattle.psci_link.specs.declared.kind.Kind.{Kind}
 use Rattle.psci_link.specs.declared.kind.Kind.TheVariants as kinds
 use Rattle.psci_link.specs.Message.{AckValue, MessageValue}
-use Rattle.psci_ctl_model.specs.declared.call.CtlCall.TheVariants as asked
-use Rattle.psci_ctl_model.specs.declared.delivery.Delivery.TheVariants as deliveries
-use Rattle.psci_ctl_model.specs.declared.reply.CtlReply.TheVariants as replied
+use Rattle.psci_ctl_spec.specs.declared.call.CtlCall.TheVariants as asked
+use Rattle.psci_ctl_spec.specs.declared.delivery.Delivery.TheVariants as deliveries
+use Rattle.psci_ctl_spec.specs.declared.reply.CtlReply.TheVariants as replied
 use Rattle.psci_link.specs.declared.start.Cause.TheVariants as causes
-use Rattle.psci_ctl_model.specs.Effects.{Effect, Nothing, Starts, Deepens, Ends, Begins, effect_of}
-use Rattle.psci_ctl_model.specs.Effects.{message_effect}
-use Rattle.psci_ctl_model.specs.Exchange as controller
-use Rattle.psci_ctl_model.specs.History as controls
-use Rattle.psci_ctl_model.specs.Lasting.{Applies, WasApplied, keeps_life}
-use Rattle.psci_ctl_model.specs.Replies.{ack_by, delivery_of, is_this_life, reply}
-use Rattle.psci_ctl_model.specs.Values.{Values}
+use Rattle.psci_ctl_spec.specs.Effects.{Effect, Nothing, Starts, Deepens, Ends, Begins, effect_of}
+use Rattle.psci_ctl_spec.specs.Effects.{message_effect}
+use Rattle.psci_ctl_spec.specs.Exchange as controller
+use Rattle.psci_ctl_spec.specs.History as controls
+use Rattle.psci_ctl_spec.specs.Lasting.{Applies, WasApplied, keeps_life}
+use Rattle.psci_ctl_spec.specs.Replies.{ack_by, delivery_of, is_this_life, reply}
+use Rattle.psci_ctl_spec.specs.Values.{Values}
 use Rattle.psci_board.specs.Paths.{is_on_path}
-use Rattle.psci_ctl_model.proofs.Front.{take_get}
-use Rattle.psci_fw_model.specs.Said.{listed}
+use Rattle.psci_ctl_spec.proofs.Front.{take_get}
+use Rattle.psci_fw_spec.specs.Said.{listed}
 use Rattle.psci_fw_laws.specs.Claims.{IsFromMessage}
 use Rattle.psci_fw_laws.proofs.Parts.{part_from}
-use Rattle.psci_world_model.specs.declared.event.Event.{Event}
-use Rattle.psci_world_model.specs.declared.event.Event.TheVariants.{Deliver, Wake, Reset}
-use Rattle.psci_world_model.specs.declared.said.Record.{Record}
-use Rattle.psci_world_model.specs.declared.said.Said.{Said}
-use Rattle.psci_world_model.specs.declared.said.Said.TheVariants.{Kick, Acked}
-use Rattle.psci_world_model.specs.Histories.{control, controller_history, controller_values}
-use Rattle.psci_world_model.specs.Histories.{delivered, sent, sent_in}
-use Rattle.psci_world_model.specs.Legal.{IsReplied}
-use Rattle.psci_world_model.specs.Lists.{indexed}
+use Rattle.psci_world_spec.specs.declared.event.Event.{Event}
+use Rattle.psci_world_spec.specs.declared.event.Event.TheVariants.{Deliver, Wake, Reset}
+use Rattle.psci_world_spec.specs.declared.said.Record.{Record}
+use Rattle.psci_world_spec.specs.declared.said.Said.{Said}
+use Rattle.psci_world_spec.specs.declared.said.Said.TheVariants.{Kick, Acked}
+use Rattle.psci_world_spec.specs.Histories.{control, controller_history, controller_values}
+use Rattle.psci_world_spec.specs.Histories.{delivered, sent, sent_in}
+use Rattle.psci_world_spec.specs.Legal.{IsReplied}
+use Rattle.psci_world_spec.specs.Lists.{indexed}
 use Rattle.psci_world_laws.proofs.Numbering.{IsAt, at_number}
 
 -- A delivery ----------------------------------------------------------------------------------

@@ -4,21 +4,21 @@ use Rattle.std.proofs.Common.{refl, subst}
 use Rattle.std.specs.Prelude.{slice_get}
 use Rattle.psci_board.specs.Board.{BoardValue, cores}
 use Rattle.psci_board.specs.declared.limits.TheConstants.{MOST_CORES}
-use Rattle.psci_ctl_model.specs.Exchange as controller
-use Rattle.psci_ctl_model.specs.Legal as controls
+use Rattle.psci_ctl_spec.specs.Exchange as controller
+use Rattle.psci_ctl_spec.specs.Legal as controls
 use Rattle.psci_fw_laws.specs.Messages.{IsSound}
 use Rattle.psci_link.specs.Message.{AckValue, MessageValue}
-use Rattle.psci_world_model.specs.declared.event.Event.{Event}
-use Rattle.psci_world_model.specs.declared.event.Event.TheVariants.{Call, Enter, Wake, Reset}
-use Rattle.psci_world_model.specs.declared.event.Event.TheVariants.{Deliver, Take}
-use Rattle.psci_world_model.specs.declared.said.Record.{Record}
-use Rattle.psci_world_model.specs.declared.said.Said.{Said}
-use Rattle.psci_world_model.specs.declared.said.Said.TheVariants as said
-use Rattle.psci_world_model.specs.Histories.{control, controller_history, controller_values}
-use Rattle.psci_world_model.specs.Histories.{delivered, sent}
-use Rattle.psci_world_model.specs.Legal.{IsReplied, IsLegalPast, legal}
-use Rattle.psci_world_model.specs.Lists.{indexed}
-use Rattle.psci_world_model.proofs.Answered.{controller_answered}
+use Rattle.psci_world_spec.specs.declared.event.Event.{Event}
+use Rattle.psci_world_spec.specs.declared.event.Event.TheVariants.{Call, Enter, Wake, Reset}
+use Rattle.psci_world_spec.specs.declared.event.Event.TheVariants.{Deliver, Take}
+use Rattle.psci_world_spec.specs.declared.said.Record.{Record}
+use Rattle.psci_world_spec.specs.declared.said.Said.{Said}
+use Rattle.psci_world_spec.specs.declared.said.Said.TheVariants as said
+use Rattle.psci_world_spec.specs.Histories.{control, controller_history, controller_values}
+use Rattle.psci_world_spec.specs.Histories.{delivered, sent}
+use Rattle.psci_world_spec.specs.Legal.{IsReplied, IsLegalPast, legal}
+use Rattle.psci_world_spec.specs.Lists.{indexed}
+use Rattle.psci_world_spec.proofs.Answered.{controller_answered}
 use Rattle.psci_world_laws.proofs.Happening.{reset_at, woken_at}
 use Rattle.psci_world_laws.proofs.Numbering.{at_number}
 

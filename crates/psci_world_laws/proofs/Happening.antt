@@ -5,32 +5,32 @@ use Rattle.std.specs.Prelude.{nat_lt}
 use Rattle.std.proofs.lemmas.Bool.{ltb-true}
 use Rattle.psci_abi.specs.declared.registers.Regs.{Regs}
 use Rattle.psci_board.specs.Board.{BoardValue, cores}
-use Rattle.psci_ctl_model.specs.declared.call.CtlCall.TheVariants as asked
-use Rattle.psci_ctl_model.specs.declared.delivery.Delivery.TheVariants as deliveries
-use Rattle.psci_ctl_model.specs.declared.kick.Kick.TheVariants as kicks
-use Rattle.psci_ctl_model.specs.declared.reply.CtlReply.{CtlReply}
-use Rattle.psci_ctl_model.specs.declared.reply.CtlReply.TheVariants as replied
+use Rattle.psci_ctl_spec.specs.declared.call.CtlCall.TheVariants as asked
+use Rattle.psci_ctl_spec.specs.declared.delivery.Delivery.TheVariants as deliveries
+use Rattle.psci_ctl_spec.specs.declared.kick.Kick.TheVariants as kicks
+use Rattle.psci_ctl_spec.specs.declared.reply.CtlReply.{CtlReply}
+use Rattle.psci_ctl_spec.specs.declared.reply.CtlReply.TheVariants as replied
 use Rattle.psci_link.specs.declared.start.Start.{Start}
-use Rattle.psci_ctl_model.specs.Replies.{last_start, reply}
-use Rattle.psci_fw_model.specs.declared.call.FwCall.TheVariants as calls
-use Rattle.psci_fw_model.specs.declared.outcome.Act.{Act}
-use Rattle.psci_fw_model.specs.Answer.{answer}
+use Rattle.psci_ctl_spec.specs.Replies.{last_start, reply}
+use Rattle.psci_fw_spec.specs.declared.call.FwCall.TheVariants as calls
+use Rattle.psci_fw_spec.specs.declared.outcome.Act.{Act}
+use Rattle.psci_fw_spec.specs.Answer.{answer}
 use Rattle.psci_link.specs.Message.{AckValue, MessageValue}
-use Rattle.psci_world_model.specs.declared.event.Event.{Event}
-use Rattle.psci_world_model.specs.declared.event.Event.TheVariants.{Call, Enter, Wake, Reset}
-use Rattle.psci_world_model.specs.declared.event.Event.TheVariants.{Deliver, Take}
-use Rattle.psci_world_model.specs.declared.place.Place.{Place}
-use Rattle.psci_world_model.specs.declared.place.Place.TheVariants.{Started, Running, Stopped}
-use Rattle.psci_world_model.specs.declared.said.Record.{Record}
-use Rattle.psci_world_model.specs.declared.said.Said.{Said}
-use Rattle.psci_world_model.specs.declared.said.Said.TheVariants.{Fw, Kick, Absent}
-use Rattle.psci_world_model.specs.declared.said.Sent.{Sent}
-use Rattle.psci_world_model.specs.Histories.{acks, controller_values, sent}
-use Rattle.psci_world_model.specs.Histories.{sent_in}
-use Rattle.psci_world_model.specs.Legal.{asked_firmware, deliver, if_running, if_started}
-use Rattle.psci_world_model.specs.Legal.{if_stopped, legal, on_board, said_by, take}
-use Rattle.psci_world_model.specs.Lists.{indexed}
-use Rattle.psci_world_model.specs.Places.{place}
+use Rattle.psci_world_spec.specs.declared.event.Event.{Event}
+use Rattle.psci_world_spec.specs.declared.event.Event.TheVariants.{Call, Enter, Wake, Reset}
+use Rattle.psci_world_spec.specs.declared.event.Event.TheVariants.{Deliver, Take}
+use Rattle.psci_world_spec.specs.declared.place.Place.{Place}
+use Rattle.psci_world_spec.specs.declared.place.Place.TheVariants.{Started, Running, Stopped}
+use Rattle.psci_world_spec.specs.declared.said.Record.{Record}
+use Rattle.psci_world_spec.specs.declared.said.Said.{Said}
+use Rattle.psci_world_spec.specs.declared.said.Said.TheVariants.{Fw, Kick, Absent}
+use Rattle.psci_world_spec.specs.declared.said.Sent.{Sent}
+use Rattle.psci_world_spec.specs.Histories.{acks, controller_values, sent}
+use Rattle.psci_world_spec.specs.Histories.{sent_in}
+use Rattle.psci_world_spec.specs.Legal.{asked_firmware, deliver, if_running, if_started}
+use Rattle.psci_world_spec.specs.Legal.{if_stopped, legal, on_board, said_by, take}
+use Rattle.psci_world_spec.specs.Lists.{indexed}
+use Rattle.psci_world_spec.specs.Places.{place}
 
 -- Places ---------------------------------------------------------------------------------------
 

@@ -2,25 +2,25 @@
 -- not so.
 use Rattle.std.proofs.Common.{◌≡◌, ◌++◌, ℕ, Bool, true, false, List, [], ◌∷◌, length, Option}
 use Rattle.std.proofs.Common.{None, Some, refl, ap, sym, ◌∙◌, subst}
-use Rattle.psci_ctl_model.specs.declared.call.CtlCall.TheVariants as asked
-use Rattle.psci_ctl_model.specs.declared.delivery.Delivery.TheVariants as deliveries
-use Rattle.psci_ctl_model.specs.declared.reply.CtlReply.TheVariants as replied
-use Rattle.psci_ctl_model.specs.Changes.{after}
-use Rattle.psci_ctl_model.specs.Exchange as controller
-use Rattle.psci_ctl_model.specs.Replies.{ack_by}
-use Rattle.psci_ctl_model.proofs.OneMore.{values_more}
+use Rattle.psci_ctl_spec.specs.declared.call.CtlCall.TheVariants as asked
+use Rattle.psci_ctl_spec.specs.declared.delivery.Delivery.TheVariants as deliveries
+use Rattle.psci_ctl_spec.specs.declared.reply.CtlReply.TheVariants as replied
+use Rattle.psci_ctl_spec.specs.Changes.{after}
+use Rattle.psci_ctl_spec.specs.Exchange as controller
+use Rattle.psci_ctl_spec.specs.Replies.{ack_by}
+use Rattle.psci_ctl_spec.proofs.OneMore.{values_more}
 use Rattle.psci_link.specs.declared.kind.Kind.TheVariants.{Reset, Start}
 use Rattle.psci_link.specs.Message.{AckValue, MessageValue}
-use Rattle.psci_fw_model.specs.Said.{listed}
-use Rattle.psci_world_model.specs.declared.event.Event.{Event}
-use Rattle.psci_world_model.specs.declared.event.Event.TheVariants.{Enter, Wake, Deliver, Take}
-use Rattle.psci_world_model.specs.declared.said.Record.{Record}
-use Rattle.psci_world_model.specs.declared.said.Said.TheVariants.{Acked, Absent}
-use Rattle.psci_world_model.specs.Histories.{ack_in, acks, controller_history, controller_values}
-use Rattle.psci_world_model.specs.Histories.{sent}
-use Rattle.psci_world_model.specs.Legal.{IsLegalPast, run_from}
-use Rattle.psci_world_model.specs.Lists.{indexed}
-use Rattle.psci_world_model.proofs.Scripts.{acked, board, computing, enters, on_3, system_reset}
+use Rattle.psci_fw_spec.specs.Said.{listed}
+use Rattle.psci_world_spec.specs.declared.event.Event.{Event}
+use Rattle.psci_world_spec.specs.declared.event.Event.TheVariants.{Enter, Wake, Deliver, Take}
+use Rattle.psci_world_spec.specs.declared.said.Record.{Record}
+use Rattle.psci_world_spec.specs.declared.said.Said.TheVariants.{Acked, Absent}
+use Rattle.psci_world_spec.specs.Histories.{ack_in, acks, controller_history, controller_values}
+use Rattle.psci_world_spec.specs.Histories.{sent}
+use Rattle.psci_world_spec.specs.Legal.{IsLegalPast, run_from}
+use Rattle.psci_world_spec.specs.Lists.{indexed}
+use Rattle.psci_world_spec.proofs.Scripts.{acked, board, computing, enters, on_3, system_reset}
 use Rattle.psci_world_laws.specs.Acknowledged.{WasMade}
 
 -- the records after these events

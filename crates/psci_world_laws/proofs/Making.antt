@@ -4,37 +4,37 @@ use Rattle.std.proofs.Common.{Bool, true, false, cond, ap, sym, ◌∙◌, subst
 use Rattle.std.specs.Prelude.{length, nat_lt, slice_get}
 use Rattle.std.proofs.lemmas.Bool.{eqb-true}
 use Rattle.psci_board.specs.Board.{BoardValue, cores}
-use Rattle.psci_ctl_model.specs.declared.delivery.Delivery.TheVariants as deliveries
-use Rattle.psci_ctl_model.specs.declared.kick.Kick.{Kick}
-use Rattle.psci_ctl_model.specs.declared.kick.Kick.TheVariants as kicks
-use Rattle.psci_ctl_model.specs.declared.reply.CtlReply.TheVariants as replied
-use Rattle.psci_ctl_model.specs.Changes.{after, change}
-use Rattle.psci_ctl_model.specs.Effects.{effect_of, message_effect}
-use Rattle.psci_ctl_model.specs.Exchange as controller
+use Rattle.psci_ctl_spec.specs.declared.delivery.Delivery.TheVariants as deliveries
+use Rattle.psci_ctl_spec.specs.declared.kick.Kick.{Kick}
+use Rattle.psci_ctl_spec.specs.declared.kick.Kick.TheVariants as kicks
+use Rattle.psci_ctl_spec.specs.declared.reply.CtlReply.TheVariants as replied
+use Rattle.psci_ctl_spec.specs.Changes.{after, change}
+use Rattle.psci_ctl_spec.specs.Effects.{effect_of, message_effect}
+use Rattle.psci_ctl_spec.specs.Exchange as controller
 use Rattle.psci_link.specs.declared.start.Start.{Start}
-use Rattle.psci_ctl_model.specs.History as controls
-use Rattle.psci_ctl_model.specs.Replies.{ack_by, delivery_of, is_this_life, last_start, reply}
-use Rattle.psci_ctl_model.specs.Values.{Values}
-use Rattle.psci_fw_model.specs.declared.call.FwCall.TheVariants as calls
-use Rattle.psci_fw_model.specs.declared.reply.FwReply.{FwReply}
-use Rattle.psci_fw_model.specs.declared.reply.FwReply.TheVariants as replies
-use Rattle.psci_fw_model.specs.Answer.{answer}
-use Rattle.psci_fw_model.specs.Said.{listed}
+use Rattle.psci_ctl_spec.specs.History as controls
+use Rattle.psci_ctl_spec.specs.Replies.{ack_by, delivery_of, is_this_life, last_start, reply}
+use Rattle.psci_ctl_spec.specs.Values.{Values}
+use Rattle.psci_fw_spec.specs.declared.call.FwCall.TheVariants as calls
+use Rattle.psci_fw_spec.specs.declared.reply.FwReply.{FwReply}
+use Rattle.psci_fw_spec.specs.declared.reply.FwReply.TheVariants as replies
+use Rattle.psci_fw_spec.specs.Answer.{answer}
+use Rattle.psci_fw_spec.specs.Said.{listed}
 use Rattle.psci_link.specs.Message.{AckValue, MessageValue}
-use Rattle.psci_world_model.specs.declared.event.Event.{Event}
-use Rattle.psci_world_model.specs.declared.event.Event.TheVariants.{Call, Enter, Wake, Reset}
-use Rattle.psci_world_model.specs.declared.event.Event.TheVariants.{Deliver, Take}
-use Rattle.psci_world_model.specs.declared.place.Place.{Place}
-use Rattle.psci_world_model.specs.declared.place.Place.TheVariants.{Started, Running, Stopped}
-use Rattle.psci_world_model.specs.declared.said.Record.{Record}
-use Rattle.psci_world_model.specs.declared.said.Said.{Said}
-use Rattle.psci_world_model.specs.declared.said.Said.TheVariants as said
-use Rattle.psci_world_model.specs.Histories.{ack_in, acks, controller_history, controller_values}
-use Rattle.psci_world_model.specs.Histories.{delivered, firmware_values, sent}
-use Rattle.psci_world_model.specs.Legal.{IsLegalPast, deliver, if_running, if_started, if_stopped}
-use Rattle.psci_world_model.specs.Legal.{legal, said_by, said_of, take}
-use Rattle.psci_world_model.specs.Lists.{indexed}
-use Rattle.psci_world_model.specs.Places.{place}
+use Rattle.psci_world_spec.specs.declared.event.Event.{Event}
+use Rattle.psci_world_spec.specs.declared.event.Event.TheVariants.{Call, Enter, Wake, Reset}
+use Rattle.psci_world_spec.specs.declared.event.Event.TheVariants.{Deliver, Take}
+use Rattle.psci_world_spec.specs.declared.place.Place.{Place}
+use Rattle.psci_world_spec.specs.declared.place.Place.TheVariants.{Started, Running, Stopped}
+use Rattle.psci_world_spec.specs.declared.said.Record.{Record}
+use Rattle.psci_world_spec.specs.declared.said.Said.{Said}
+use Rattle.psci_world_spec.specs.declared.said.Said.TheVariants as said
+use Rattle.psci_world_spec.specs.Histories.{ack_in, acks, controller_history, controller_values}
+use Rattle.psci_world_spec.specs.Histories.{delivered, firmware_values, sent}
+use Rattle.psci_world_spec.specs.Legal.{IsLegalPast, deliver, if_running, if_started, if_stopped}
+use Rattle.psci_world_spec.specs.Legal.{legal, said_by, said_of, take}
+use Rattle.psci_world_spec.specs.Lists.{indexed}
+use Rattle.psci_world_spec.specs.Places.{place}
 use Rattle.psci_world_laws.specs.Acknowledged.{WasMade}
 use Rattle.psci_world_laws.proofs.Numbering.{at_number}
 

@@ -9,20 +9,20 @@ use Rattle.psci_abi.specs.declared.request.Request.TheVariants as requests
 use Rattle.psci_board.specs.Board.{BoardValue}
 use Rattle.psci_link.specs.declared.start.Start.{Start}
 use Rattle.psci_link.specs.Message.{MessageValue}
-use Rattle.psci_fw_model.specs.declared.mode.SuspendMode.{SuspendMode}
-use Rattle.psci_fw_model.specs.declared.outcome.Act.{Act}
-use Rattle.psci_fw_model.specs.declared.outcome.Act.TheVariants as acts
-use Rattle.psci_fw_model.specs.After.{change}
-use Rattle.psci_fw_model.specs.Changes.{PowerOn, target, with_mode, with_pending}
-use Rattle.psci_fw_model.specs.Effects.{Effect, Nothing, GoesOn, SetsMode, AsksOn, Rests, Halts}
-use Rattle.psci_fw_model.specs.Effects.{Stops, Enters, Parks, StopsAtOnce, Acknowledges}
-use Rattle.psci_fw_model.specs.Effects.{enter_effect, function_effect, mode_effect}
-use Rattle.psci_fw_model.specs.Lives.{in_life}
-use Rattle.psci_fw_model.specs.Outcomes.{executes_on}
-use Rattle.psci_fw_model.specs.Phases.{Phase, Away, Pending, Running, Suspended, is_running}
-use Rattle.psci_fw_model.specs.Phases.{unless_pending}
-use Rattle.psci_fw_model.specs.SuspendMode.{mode_of}
-use Rattle.psci_fw_model.specs.Values.{Values, updated}
+use Rattle.psci_fw_spec.specs.declared.mode.SuspendMode.{SuspendMode}
+use Rattle.psci_fw_spec.specs.declared.outcome.Act.{Act}
+use Rattle.psci_fw_spec.specs.declared.outcome.Act.TheVariants as acts
+use Rattle.psci_fw_spec.specs.After.{change}
+use Rattle.psci_fw_spec.specs.Changes.{PowerOn, target, with_mode, with_pending}
+use Rattle.psci_fw_spec.specs.Effects.{Effect, Nothing, GoesOn, SetsMode, AsksOn, Rests, Halts}
+use Rattle.psci_fw_spec.specs.Effects.{Stops, Enters, Parks, StopsAtOnce, Acknowledges}
+use Rattle.psci_fw_spec.specs.Effects.{enter_effect, function_effect, mode_effect}
+use Rattle.psci_fw_spec.specs.Lives.{in_life}
+use Rattle.psci_fw_spec.specs.Outcomes.{executes_on}
+use Rattle.psci_fw_spec.specs.Phases.{Phase, Away, Pending, Running, Suspended, is_running}
+use Rattle.psci_fw_spec.specs.Phases.{unless_pending}
+use Rattle.psci_fw_spec.specs.SuspendMode.{mode_of}
+use Rattle.psci_fw_spec.specs.Values.{Values, updated}
 use Rattle.psci_fw_laws.specs.Allowed.{IsAllowed}
 use Rattle.psci_fw_laws.proofs.Parts.{updated_at, updated_here, updated_there}
 

@@ -3,7 +3,7 @@ use Rattle.std.proofs.Common.{◌≡◌, ℕ, ◌<◌, ◌-◌, List, length, re
 use Rattle.std.specs.Prelude.{get_or, slice_get}
 use Rattle.std.proofs.lemmas.List.{get_or-reverse, length-reverse}
 use Rattle.std.proofs.lemmas.Option.{get_or_from_slice_get, slice_get-get_or, slice_get_within}
-use Rattle.psci_world_model.specs.Lists.{indexed}
+use Rattle.psci_world_spec.specs.Lists.{indexed}
 
 -- Where an item stands in a list.
 pub record IsAt {A : Type 0} (items : List A) (x : A) : Type 0 where

@@ -9,24 +9,24 @@ use Rattle.psci_abi.specs.declared.request.Request.TheVariants as requests
 use Rattle.psci_board.specs.Board.{BoardValue}
 use Rattle.psci_link.specs.declared.start.Start.{Start}
 use Rattle.psci_link.specs.Message.{MessageValue}
-use Rattle.psci_fw_model.specs.declared.fault.FwFault.{FwFault}
-use Rattle.psci_fw_model.specs.declared.mode.SuspendMode.{SuspendMode}
-use Rattle.psci_fw_model.specs.declared.opening.Opening.{Opening}
-use Rattle.psci_fw_model.specs.declared.outcome.Act.TheVariants as acts
-use Rattle.psci_fw_model.specs.declared.outcome.Outcome.{Outcome}
-use Rattle.psci_fw_model.specs.declared.reply.FwReply.TheVariants as replies
-use Rattle.psci_fw_model.specs.Answer.{reply_or}
-use Rattle.psci_fw_model.specs.Calls.{outcome_of}
-use Rattle.psci_fw_model.specs.Effects.{GoesOn, enter_effect, function_effect, mode_effect}
-use Rattle.psci_fw_model.specs.Entering.{enter_outcome, outcome_at, resumes}
-use Rattle.psci_fw_model.specs.Lives.{in_life}
-use Rattle.psci_fw_model.specs.Changes.{with_arrival}
-use Rattle.psci_fw_model.specs.CpuOff.{off_message}
-use Rattle.psci_fw_model.specs.Outcomes.{returns, stops, stops_with}
-use Rattle.psci_fw_model.specs.Said as says
-use Rattle.psci_fw_model.specs.SuspendMode.{mode_of}
-use Rattle.psci_fw_model.specs.Values.{Values}
-use Rattle.psci_fw_model.proofs.Endings.{function_ends, outcome_ends, starts_with}
+use Rattle.psci_fw_spec.specs.declared.fault.FwFault.{FwFault}
+use Rattle.psci_fw_spec.specs.declared.mode.SuspendMode.{SuspendMode}
+use Rattle.psci_fw_spec.specs.declared.opening.Opening.{Opening}
+use Rattle.psci_fw_spec.specs.declared.outcome.Act.TheVariants as acts
+use Rattle.psci_fw_spec.specs.declared.outcome.Outcome.{Outcome}
+use Rattle.psci_fw_spec.specs.declared.reply.FwReply.TheVariants as replies
+use Rattle.psci_fw_spec.specs.Answer.{reply_or}
+use Rattle.psci_fw_spec.specs.Calls.{outcome_of}
+use Rattle.psci_fw_spec.specs.Effects.{GoesOn, enter_effect, function_effect, mode_effect}
+use Rattle.psci_fw_spec.specs.Entering.{enter_outcome, outcome_at, resumes}
+use Rattle.psci_fw_spec.specs.Lives.{in_life}
+use Rattle.psci_fw_spec.specs.Changes.{with_arrival}
+use Rattle.psci_fw_spec.specs.CpuOff.{off_message}
+use Rattle.psci_fw_spec.specs.Outcomes.{returns, stops, stops_with}
+use Rattle.psci_fw_spec.specs.Said as says
+use Rattle.psci_fw_spec.specs.SuspendMode.{mode_of}
+use Rattle.psci_fw_spec.specs.Values.{Values}
+use Rattle.psci_fw_spec.proofs.Endings.{function_ends, outcome_ends, starts_with}
 
 -- Functions ------------------------------------------------------------------------------------
 

@@ -5,17 +5,17 @@ use Rattle.std.proofs.lemmas.Option.{same_Some}
 use Rattle.psci_board.specs.Board.{cores}
 use Rattle.psci_link.specs.declared.start.Cause.TheVariants as causes
 use Rattle.psci_link.specs.declared.start.Start.{Start}
-use Rattle.psci_ctl_model.specs.Replies.{last_start}
-use Rattle.psci_fw_model.specs.declared.fault.FwFault.TheVariants.{NoLife, NotRunning}
-use Rattle.psci_fw_model.specs.Calls.{call_fault}
-use Rattle.psci_fw_model.specs.Entering.{enter_fault}
-use Rattle.psci_world_model.specs.declared.event.Event.TheVariants.{Enter, Wake, Deliver}
-use Rattle.psci_world_model.specs.declared.place.Place.TheVariants.{Started, Running, Stopped}
-use Rattle.psci_world_model.specs.declared.said.Record.{Record}
-use Rattle.psci_world_model.specs.Histories.{controller_values, firmware_values}
-use Rattle.psci_world_model.specs.Legal.{run_from}
-use Rattle.psci_world_model.specs.Places.{place}
-use Rattle.psci_world_model.proofs.Scripts.{board, computing, enters, limited, started, system_off}
+use Rattle.psci_ctl_spec.specs.Replies.{last_start}
+use Rattle.psci_fw_spec.specs.declared.fault.FwFault.TheVariants.{NoLife, NotRunning}
+use Rattle.psci_fw_spec.specs.Calls.{call_fault}
+use Rattle.psci_fw_spec.specs.Entering.{enter_fault}
+use Rattle.psci_world_spec.specs.declared.event.Event.TheVariants.{Enter, Wake, Deliver}
+use Rattle.psci_world_spec.specs.declared.place.Place.TheVariants.{Started, Running, Stopped}
+use Rattle.psci_world_spec.specs.declared.said.Record.{Record}
+use Rattle.psci_world_spec.specs.Histories.{controller_values, firmware_values}
+use Rattle.psci_world_spec.specs.Legal.{run_from}
+use Rattle.psci_world_spec.specs.Places.{place}
+use Rattle.psci_world_spec.proofs.Scripts.{board, computing, enters, limited, started, system_off}
 use Rattle.psci_world_laws.specs.Refusals.{NoneRefused}
 
 -- Not refused ----------------------------------------------------------------------------------

@@ -6,18 +6,18 @@ use Rattle.std.proofs.lemmas.Bool.{and_left, and_right, cases_eq, cond-false, le
 use Rattle.std.proofs.lemmas.Bool.{lt-leb, lt-ltb, ne_eqb, or_from}
 use Rattle.psci_board.specs.Board.{BoardValue, cores}
 use Rattle.psci_link.specs.declared.start.Start.{Start}
-use Rattle.psci_ctl_model.specs.Follows as controlling
-use Rattle.psci_ctl_model.specs.Replies.{last_start, start_shown}
-use Rattle.psci_ctl_model.specs.Values as controlled
-use Rattle.psci_fw_model.specs.declared.fault.FwFault.TheVariants as faults
-use Rattle.psci_fw_model.specs.Calls.{call_fault}
-use Rattle.psci_fw_model.specs.Entering.{enter_fault, is_old}
-use Rattle.psci_fw_model.specs.Lives.{in_life}
-use Rattle.psci_fw_model.specs.Phases as phases
-use Rattle.psci_fw_model.specs.Phases.{is_running}
-use Rattle.psci_fw_model.specs.Values.{Values}
-use Rattle.psci_world_model.specs.declared.place.Place.{Place}
-use Rattle.psci_world_model.specs.declared.place.Place.TheVariants.{Started, Running, Stopped}
+use Rattle.psci_ctl_spec.specs.Follows as controlling
+use Rattle.psci_ctl_spec.specs.Replies.{last_start, start_shown}
+use Rattle.psci_ctl_spec.specs.Values as controlled
+use Rattle.psci_fw_spec.specs.declared.fault.FwFault.TheVariants as faults
+use Rattle.psci_fw_spec.specs.Calls.{call_fault}
+use Rattle.psci_fw_spec.specs.Entering.{enter_fault, is_old}
+use Rattle.psci_fw_spec.specs.Lives.{in_life}
+use Rattle.psci_fw_spec.specs.Phases as phases
+use Rattle.psci_fw_spec.specs.Phases.{is_running}
+use Rattle.psci_fw_spec.specs.Values.{Values}
+use Rattle.psci_world_spec.specs.declared.place.Place.{Place}
+use Rattle.psci_world_spec.specs.declared.place.Place.TheVariants.{Started, Running, Stopped}
 use Rattle.psci_world_laws.proofs.Agreeing.{AreAgreed, found_own}
 use Rattle.psci_world_laws.proofs.Placing.{own_life}
 

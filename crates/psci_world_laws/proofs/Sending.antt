@@ -5,30 +5,30 @@ use Rattle.psci_abi.specs.Calls.{request_of}
 use Rattle.psci_abi.specs.declared.registers.Regs.{Regs}
 use Rattle.psci_board.specs.Board.{BoardValue}
 use Rattle.psci_link.specs.declared.start.Start.{Start}
-use Rattle.psci_ctl_model.specs.Replies.{last_start}
+use Rattle.psci_ctl_spec.specs.Replies.{last_start}
 use Rattle.psci_link.specs.Message.{AckValue, MessageValue}
 use Rattle.psci_link.specs.declared.taken.Taken.{Taken}
 use Rattle.psci_link.specs.declared.taken.Taken.TheVariants as takens
-use Rattle.psci_fw_model.specs.Answer.{answer}
-use Rattle.psci_fw_model.specs.Calls.{call_fault}
-use Rattle.psci_fw_model.specs.Entering.{enter_fault}
-use Rattle.psci_fw_model.specs.Exchange as firmware
-use Rattle.psci_fw_model.specs.Legal.{IsLegal}
-use Rattle.psci_fw_model.specs.Said.{listed}
-use Rattle.psci_fw_model.specs.Said as says
-use Rattle.psci_fw_model.specs.Sent.{sent_messages}
-use Rattle.psci_world_model.specs.declared.event.Event.{Event}
-use Rattle.psci_world_model.specs.declared.event.Event.TheVariants.{Call, Enter, Wake, Reset}
-use Rattle.psci_world_model.specs.declared.event.Event.TheVariants.{Deliver, Take}
-use Rattle.psci_world_model.specs.declared.said.Record.{Record}
-use Rattle.psci_world_model.specs.declared.said.Said.{Said}
-use Rattle.psci_world_model.specs.declared.said.Said.TheVariants as said
-use Rattle.psci_world_model.specs.Histories.{acks, call, controller_values, entered}
-use Rattle.psci_world_model.specs.Histories.{firmware_history, firmware_values, outcome_in, sent}
-use Rattle.psci_world_model.specs.Histories.{sent_in, took}
-use Rattle.psci_world_model.specs.Legal.{IsLegalPast, legal}
-use Rattle.psci_world_model.specs.Lists.{indexed}
-use Rattle.psci_world_model.proofs.Answered.{firmware_legal}
+use Rattle.psci_fw_spec.specs.Answer.{answer}
+use Rattle.psci_fw_spec.specs.Calls.{call_fault}
+use Rattle.psci_fw_spec.specs.Entering.{enter_fault}
+use Rattle.psci_fw_spec.specs.Exchange as firmware
+use Rattle.psci_fw_spec.specs.Legal.{IsLegal}
+use Rattle.psci_fw_spec.specs.Said.{listed}
+use Rattle.psci_fw_spec.specs.Said as says
+use Rattle.psci_fw_spec.specs.Sent.{sent_messages}
+use Rattle.psci_world_spec.specs.declared.event.Event.{Event}
+use Rattle.psci_world_spec.specs.declared.event.Event.TheVariants.{Call, Enter, Wake, Reset}
+use Rattle.psci_world_spec.specs.declared.event.Event.TheVariants.{Deliver, Take}
+use Rattle.psci_world_spec.specs.declared.said.Record.{Record}
+use Rattle.psci_world_spec.specs.declared.said.Said.{Said}
+use Rattle.psci_world_spec.specs.declared.said.Said.TheVariants as said
+use Rattle.psci_world_spec.specs.Histories.{acks, call, controller_values, entered}
+use Rattle.psci_world_spec.specs.Histories.{firmware_history, firmware_values, outcome_in, sent}
+use Rattle.psci_world_spec.specs.Histories.{sent_in, took}
+use Rattle.psci_world_spec.specs.Legal.{IsLegalPast, legal}
+use Rattle.psci_world_spec.specs.Lists.{indexed}
+use Rattle.psci_world_spec.proofs.Answered.{firmware_legal}
 use Rattle.psci_world_laws.proofs.Happening.{entered_by, is_quiet, sends_nothing}
 use Rattle.psci_world_laws.proofs.Outcomes.{call_sends, enter_sends}
 

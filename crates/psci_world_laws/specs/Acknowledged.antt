@@ -1,16 +1,16 @@
 -- How an acknowledgement was made.
 use Rattle.std.specs.Prelude.{◌≡◌, ℕ, List, ◌∷◌, ◌++◌, Some, length, slice_get}
 use Rattle.psci_board.specs.Board.{BoardValue}
-use Rattle.psci_ctl_model.specs.Changes.{change}
-use Rattle.psci_ctl_model.specs.Effects.{message_effect}
-use Rattle.psci_ctl_model.specs.Replies.{ack_by}
+use Rattle.psci_ctl_spec.specs.Changes.{change}
+use Rattle.psci_ctl_spec.specs.Effects.{message_effect}
+use Rattle.psci_ctl_spec.specs.Replies.{ack_by}
 use Rattle.psci_link.specs.Message.{AckValue, MessageValue}
-use Rattle.psci_world_model.specs.declared.event.Event.TheVariants.{Deliver}
-use Rattle.psci_world_model.specs.declared.said.Record.{Record}
-use Rattle.psci_world_model.specs.declared.said.Said.TheVariants.{Acked}
-use Rattle.psci_world_model.specs.Histories.{acks, controller_values, sent}
-use Rattle.psci_world_model.specs.Lists.{indexed}
-use Rattle.psci_world_model.specs.Legal.{IsLegalPast}
+use Rattle.psci_world_spec.specs.declared.event.Event.TheVariants.{Deliver}
+use Rattle.psci_world_spec.specs.declared.said.Record.{Record}
+use Rattle.psci_world_spec.specs.declared.said.Said.TheVariants.{Acked}
+use Rattle.psci_world_spec.specs.Histories.{acks, controller_values, sent}
+use Rattle.psci_world_spec.specs.Lists.{indexed}
+use Rattle.psci_world_spec.specs.Legal.{IsLegalPast}
 
 -- An acknowledgement was made as a message was delivered that had been sent before, in its life.
 pub record WasMade (b : BoardValue) (past : List Record) (a : AckValue) : Type 0 where

@@ -1,14 +1,14 @@
 -- What the firmware and the power controller know of each other, in the controller's life.
 use Rattle.std.specs.Prelude.{◌≡◌, ℕ, ◌<◌, ◌≤◌, List, None, Some}
 use Rattle.psci_board.specs.Board.{BoardValue, cores}
-use Rattle.psci_fw_model.specs.Lives.{in_life}
-use Rattle.psci_fw_model.specs.Phases as phases
-use Rattle.psci_fw_model.specs.Values.{Values}
-use Rattle.psci_world_model.specs.declared.place.Place.{Place}
-use Rattle.psci_world_model.specs.declared.place.Place.TheVariants.{Started, Running, Stopped}
-use Rattle.psci_world_model.specs.declared.said.Record.{Record}
-use Rattle.psci_world_model.specs.Histories.{controller_values, firmware_values}
-use Rattle.psci_world_model.specs.Places.{place}
+use Rattle.psci_fw_spec.specs.Lives.{in_life}
+use Rattle.psci_fw_spec.specs.Phases as phases
+use Rattle.psci_fw_spec.specs.Values.{Values}
+use Rattle.psci_world_spec.specs.declared.place.Place.{Place}
+use Rattle.psci_world_spec.specs.declared.place.Place.TheVariants.{Started, Running, Stopped}
+use Rattle.psci_world_spec.specs.declared.said.Record.{Record}
+use Rattle.psci_world_spec.specs.Histories.{controller_values, firmware_values}
+use Rattle.psci_world_spec.specs.Places.{place}
 
 -- The firmware's values in a life, beside how often cores were started in it and where they are.
 pub record AgreeIn (b : BoardValue) (starts : ℕ → ℕ) (place : ℕ → Place) (v : Values)

@@ -2,13 +2,13 @@
 use Rattle.std.specs.Prelude.{◌≡◌, ℕ, ◌<◌, List, None, Some}
 use Rattle.psci_board.specs.Board.{BoardValue, cores}
 use Rattle.psci_link.specs.declared.start.Start.{Start}
-use Rattle.psci_ctl_model.specs.Replies.{last_start}
-use Rattle.psci_fw_model.specs.Calls.{call_fault}
-use Rattle.psci_fw_model.specs.Entering.{enter_fault}
-use Rattle.psci_world_model.specs.declared.place.Place.TheVariants.{Started, Running}
-use Rattle.psci_world_model.specs.declared.said.Record.{Record}
-use Rattle.psci_world_model.specs.Histories.{controller_values, firmware_values}
-use Rattle.psci_world_model.specs.Places.{place}
+use Rattle.psci_ctl_spec.specs.Replies.{last_start}
+use Rattle.psci_fw_spec.specs.Calls.{call_fault}
+use Rattle.psci_fw_spec.specs.Entering.{enter_fault}
+use Rattle.psci_world_spec.specs.declared.place.Place.TheVariants.{Started, Running}
+use Rattle.psci_world_spec.specs.declared.said.Record.{Record}
+use Rattle.psci_world_spec.specs.Histories.{controller_values, firmware_values}
+use Rattle.psci_world_spec.specs.Places.{place}
 
 -- A core at its place is not refused.
 pub record NoneRefused (b : BoardValue) (past : List Record) : Type 0 where

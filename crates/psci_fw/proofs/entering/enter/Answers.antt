@@ -1,8 +1,8 @@
 use Rattle.std.proofs.Common.{◌≡◌, None, false, sym, subst, ap, ◌∙◌}
 use Rattle.psci_link.specs.Message.{AreClaims}
-use Rattle.psci_fw_model.specs.Changes.{with_arrival}
-use Rattle.psci_fw_model.specs.Lives.{in_life}
-use Rattle.psci_fw_model.specs.Values.{Values}
+use Rattle.psci_fw_spec.specs.Changes.{with_arrival}
+use Rattle.psci_fw_spec.specs.Lives.{in_life}
+use Rattle.psci_fw_spec.specs.Values.{Values}
 use Rattle.psci_fw_state.specs.Seen.{values_in}
 use Rattle.psci_fw.specs.Ways.{way_on}
 use Rattle.psci_fw.proofs.Answered.{arrived_away, fault_inside, halted_outcome, left_may}

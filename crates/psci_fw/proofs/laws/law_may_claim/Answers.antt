@@ -2,10 +2,10 @@ use Rattle.std.proofs.Common.{refl}
 use Rattle.psci_abi.specs.declared.request.Request.TheVariants as requests
 use Rattle.psci_state.specs.Ask.{deepest_of}
 use Rattle.psci_board.specs.Board.{height}
-use Rattle.psci_fw_model.specs.Changes.{with_arrival}
-use Rattle.psci_fw_model.specs.Claims.{off_parts}
-use Rattle.psci_fw_model.specs.Lives.{in_life}
-use Rattle.psci_fw_model.specs.Views.{view}
+use Rattle.psci_fw_spec.specs.Changes.{with_arrival}
+use Rattle.psci_fw_spec.specs.Claims.{off_parts}
+use Rattle.psci_fw_spec.specs.Lives.{in_life}
+use Rattle.psci_fw_spec.specs.Views.{view}
 use Rattle.psci_fw.proofs.Stopping.{arrived_free, few_off, few_suspended, nested_after}
 use Rattle.psci_fw.proofs.Stopping.{nested_parked, off_outcome, park_outcome, running_free}
 use Rattle.psci_fw.proofs.Stopping.{suspend_outcome, system_outcome}

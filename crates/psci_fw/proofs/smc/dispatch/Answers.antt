@@ -1,5 +1,5 @@
 use Rattle.std.proofs.Common.{rules}
-use Rattle.psci_fw_model.specs.Calls.{outcome_of}
+use Rattle.psci_fw_spec.specs.Calls.{outcome_of}
 use Rattle.psci_fw.proofs.smc.dispatch.Goals as goal
 
 pub function-requires : goal.function-requires

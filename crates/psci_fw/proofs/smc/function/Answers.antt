@@ -1,9 +1,9 @@
 use Rattle.std.proofs.Common.{◌≡◌, ap, subst, sym, ◌∙◌, rules}
 use Rattle.psci_abi.specs.declared.request.Request.TheVariants as requests
-use Rattle.psci_fw_model.specs.declared.outcome.Outcome.{Outcome}
-use Rattle.psci_fw_model.specs.After.{change}
-use Rattle.psci_fw_model.specs.Effects.{function_effect}
-use Rattle.psci_fw_model.specs.Outcomes.{returns}
+use Rattle.psci_fw_spec.specs.declared.outcome.Outcome.{Outcome}
+use Rattle.psci_fw_spec.specs.After.{change}
+use Rattle.psci_fw_spec.specs.Effects.{function_effect}
+use Rattle.psci_fw_spec.specs.Outcomes.{returns}
 use Rattle.psci_fw_state.specs.Seen.{values_in}
 use Rattle.psci_fw.proofs.Answered.{goes_on}
 use Rattle.psci_fw.proofs.smc.function.Goals as goal

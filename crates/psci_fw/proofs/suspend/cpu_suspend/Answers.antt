@@ -1,5 +1,5 @@
 use Rattle.std.proofs.Common.{◌≡◌, Ok, sym, ◌∙◌}
-use Rattle.psci_fw_model.specs.CpuSuspend.{ask_named}
+use Rattle.psci_fw_spec.specs.CpuSuspend.{ask_named}
 use Rattle.psci_fw.proofs.Answered.{suspended_answered}
 use Rattle.psci_fw.proofs.suspend.cpu_suspend.Goals as goal
 

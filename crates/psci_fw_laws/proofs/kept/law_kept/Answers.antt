@@ -54,7 +54,7 @@ returns-clause-allowed c = λ b e h board legal.
     legal_allowed b e h lower said (legal_holds b h lower said legal.1) legal
 
 pub returns-clause-values : goal.returns-clause-values
-unfolding Rattle.psci_fw_model.specs.After.after
+unfolding Rattle.psci_fw_spec.specs.After.after
 returns-clause-values c = c.law_values.ensures.more
 
 pub returns-clause-sent : goal.returns-clause-sent

@@ -1,7 +1,7 @@
 -- Claims.
-use Rattle.psci_fw_model.specs.History.{values_of}
-use Rattle.psci_fw_model.specs.Sent.{sent_messages}
-use Rattle.psci_fw_model.specs.Values.{Values}
+use Rattle.psci_fw_spec.specs.History.{values_of}
+use Rattle.psci_fw_spec.specs.Sent.{sent_messages}
+use Rattle.psci_fw_spec.specs.Values.{Values}
 use Rattle.psci_fw_laws.proofs.Consequences.{once}
 use Rattle.psci_fw_laws.proofs.Older.{claim_older}
 use Rattle.psci_fw_laws.proofs.laws.law_claimed.Goals as goal

@@ -1,6 +1,6 @@
 -- Claims with the sum of all starts below.
-use Rattle.psci_fw_model.specs.History.{values_of}
-use Rattle.psci_fw_model.specs.Sent.{sent_messages}
+use Rattle.psci_fw_spec.specs.History.{values_of}
+use Rattle.psci_fw_spec.specs.Sent.{sent_messages}
 use Rattle.psci_fw_laws.proofs.Living.{live_laws}
 use Rattle.psci_fw_laws.proofs.laws.law_live.Goals as goal
 

@@ -1,6 +1,6 @@
 -- Messages that were sent.
-use Rattle.psci_fw_model.specs.History.{values_of}
-use Rattle.psci_fw_model.specs.Sent.{sent_messages}
+use Rattle.psci_fw_spec.specs.History.{values_of}
+use Rattle.psci_fw_spec.specs.Sent.{sent_messages}
 use Rattle.psci_fw_laws.proofs.Consequences.{once_down}
 use Rattle.psci_fw_laws.proofs.laws.law_messages.Goals as goal
 

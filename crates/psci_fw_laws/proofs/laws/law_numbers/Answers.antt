@@ -1,6 +1,6 @@
 -- Limits.
-use Rattle.psci_fw_model.specs.History.{values_of}
-use Rattle.psci_fw_model.specs.Sent.{sent_messages}
+use Rattle.psci_fw_spec.specs.History.{values_of}
+use Rattle.psci_fw_spec.specs.Sent.{sent_messages}
 use Rattle.psci_fw_laws.proofs.Consequences.{within}
 use Rattle.psci_fw_laws.proofs.laws.law_numbers.Goals as goal
 

@@ -1,7 +1,7 @@
 -- The world settles.
 use Rattle.std.proofs.Common.{subst, sym}
-use Rattle.psci_world_model.specs.Histories.{controller_history, firmware_history, firmware_values}
-use Rattle.psci_world_model.proofs.Answered.{controller_answered, firmware_legal}
+use Rattle.psci_world_spec.specs.Histories.{controller_history, firmware_history, firmware_values}
+use Rattle.psci_world_spec.proofs.Answered.{controller_answered, firmware_legal}
 use Rattle.psci_settle.proofs.BoardLaws.{BoardLaws, is_given}
 use Rattle.psci_settle.proofs.Settled.{settles}
 use Rattle.psci_settle.proofs.Sources.{live_depth}

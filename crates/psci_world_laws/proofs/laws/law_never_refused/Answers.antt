@@ -1,7 +1,7 @@
 -- What is not refused.
-use Rattle.psci_world_model.specs.Histories.{controller_history, controller_values}
-use Rattle.psci_world_model.specs.Histories.{firmware_values}
-use Rattle.psci_world_model.specs.Places.{place}
+use Rattle.psci_world_spec.specs.Histories.{controller_history, controller_values}
+use Rattle.psci_world_spec.specs.Histories.{firmware_values}
+use Rattle.psci_world_spec.specs.Places.{place}
 use Rattle.psci_world_laws.proofs.Agreeing.{AreAgreed}
 use Rattle.psci_world_laws.proofs.Refusing.{call_passed, enter_passed}
 use Rattle.psci_world_laws.proofs.laws.law_never_refused.Goals as goal

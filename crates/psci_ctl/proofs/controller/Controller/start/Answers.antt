@@ -3,8 +3,8 @@ use Rattle.std.proofs.Common.{subst}
 use Rattle.std.specs.Vec.{with_items}
 use Rattle.std.proofs.lemmas.List.{with_items_is}
 use Rattle.psci_board.specs.Board.{cores}
-use Rattle.psci_ctl_model.specs.Changes.{with_start}
-use Rattle.psci_ctl_model.specs.Values.{Values}
+use Rattle.psci_ctl_spec.specs.Changes.{with_start}
+use Rattle.psci_ctl_spec.specs.Values.{Values}
 use Rattle.psci_ctl.specs.declared.row.CoreRow.{CoreRow}
 use Rattle.psci_ctl.specs.declared.level.DomainRow.{DomainRow}
 use Rattle.psci_ctl.specs.Rows.{core_row, values_in}

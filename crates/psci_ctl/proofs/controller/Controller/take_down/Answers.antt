@@ -1,6 +1,6 @@
 use Rattle.std.proofs.Common.{◌≡◌, ℕ, ◌+◌, get_or, true, false, ap, sym, ◌∙◌, arith}
 use Rattle.psci_coord.specs.declared.part.Part.{Part}
-use Rattle.psci_ctl_model.specs.Parts.{applied}
+use Rattle.psci_ctl_spec.specs.Parts.{applied}
 use Rattle.psci_ctl.specs.Seen.{seen}
 use Rattle.psci_ctl.proofs.Applying.{goes_on, is_late, left_stale, none_left, stops}
 use Rattle.psci_ctl.proofs.Walked.{IsWalked, covered_at, deepened_at, depth_at, live_at, live_then}

@@ -3,8 +3,8 @@ use Rattle.psci_link.specs.declared.taken.Taken.TheVariants.{Used, Old}
 use Rattle.psci_link.specs.Message.{AckValue}
 use Rattle.psci_link.specs.Slots.{message_in, slot_of, taken}
 use Rattle.psci_link.specs.Slots.Change.{Acknowledge}
-use Rattle.psci_fw_model.specs.declared.status.Status.TheVariants as statuses
-use Rattle.psci_fw_model.specs.Changes.{turns_off}
+use Rattle.psci_fw_spec.specs.declared.status.Status.TheVariants as statuses
+use Rattle.psci_fw_spec.specs.Changes.{turns_off}
 use Rattle.psci_fw_state.specs.Rows.{row_at}
 use Rattle.psci_fw_state.specs.Seen.{StateValue, values_in}
 use Rattle.psci_fw_state.proofs.Acked.{down_has_slot, off_changed, old_changed, old_slot}

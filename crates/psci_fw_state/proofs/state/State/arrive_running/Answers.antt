@@ -1,6 +1,6 @@
 use Rattle.std.proofs.Common.{◌<◌, None, length, sym, subst}
 use Rattle.psci_link.specs.Slots.Change.{Clear}
-use Rattle.psci_fw_model.specs.declared.status.Status.TheVariants as statuses
+use Rattle.psci_fw_spec.specs.declared.status.Status.TheVariants as statuses
 use Rattle.psci_fw_state.specs.Seen.{IsStateOf, StateValue}
 use Rattle.psci_fw_state.proofs.Changed.{in_rows, row_set, within}
 use Rattle.psci_fw_state.proofs.Moved.{path_cleared, rows_set, running_changed}

@@ -4,7 +4,7 @@ use Rattle.psci_link.specs.declared.kind.Kind.TheVariants as kinds
 use Rattle.psci_link.specs.Message.{MessageValue}
 use Rattle.psci_link.specs.Slots.{IsOfCores, slot_of}
 use Rattle.psci_link.specs.Slots.Change.{Put}
-use Rattle.psci_fw_model.specs.declared.status.Status.TheVariants as statuses
+use Rattle.psci_fw_spec.specs.declared.status.Status.TheVariants as statuses
 use Rattle.psci_fw_state.specs.Seen.{IsStateOf, StateValue}
 use Rattle.psci_fw_state.proofs.Changed.{core_set, in_rows, row_set, within}
 use Rattle.psci_fw_state.proofs.Moved.{path_cleared, pending_of, rows_set}

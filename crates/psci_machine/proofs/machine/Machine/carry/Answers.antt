@@ -2,12 +2,12 @@
 use Rattle.std.proofs.Common.{ap, sym, ◌∙◌}
 use Rattle.psci_board.specs.Board.{BoardValue}
 use Rattle.psci_ctl.specs.Seen.{seen}
-use Rattle.psci_ctl_model.specs.declared.delivery.Delivery.{Delivery}
-use Rattle.psci_ctl_model.specs.declared.call.CtlCall.TheVariants as calls
-use Rattle.psci_ctl_model.specs.declared.delivery.Delivery.TheVariants as deliveries
-use Rattle.psci_ctl_model.specs.declared.reply.CtlReply.TheVariants as replies
-use Rattle.psci_ctl_model.specs.Changes.{after}
-use Rattle.psci_ctl_model.specs.Replies.{reply}
+use Rattle.psci_ctl_spec.specs.declared.delivery.Delivery.{Delivery}
+use Rattle.psci_ctl_spec.specs.declared.call.CtlCall.TheVariants as calls
+use Rattle.psci_ctl_spec.specs.declared.delivery.Delivery.TheVariants as deliveries
+use Rattle.psci_ctl_spec.specs.declared.reply.CtlReply.TheVariants as replies
+use Rattle.psci_ctl_spec.specs.Changes.{after}
+use Rattle.psci_ctl_spec.specs.Replies.{reply}
 use Rattle.psci_machine.proofs.Kicks.{delivered_by, delivery_next, reset_life}
 use Rattle.psci_machine.proofs.machine.Machine.carry.Goals as goal
 

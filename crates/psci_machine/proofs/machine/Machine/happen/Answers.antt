@@ -1,9 +1,9 @@
 -- What is said of an event is what is legal.
 use Rattle.std.proofs.Common.{length, ap, sym, subst, ◌∙◌}
 use Rattle.std.proofs.lemmas.List.{length-reverse}
-use Rattle.psci_world_model.specs.Histories.{acks, sent}
-use Rattle.psci_world_model.specs.Legal.{legal}
-use Rattle.psci_world_model.specs.declared.event.Event.{Event}
+use Rattle.psci_world_spec.specs.Histories.{acks, sent}
+use Rattle.psci_world_spec.specs.Legal.{legal}
+use Rattle.psci_world_spec.specs.declared.event.Event.{Event}
 use Rattle.psci_machine.specs.Next.{IsNext}
 use Rattle.psci_machine.proofs.Events.{call_legal, deliver_legal, enter_legal, reset_legal}
 use Rattle.psci_machine.proofs.Events.{take_legal, wake_legal}

@@ -1,8 +1,8 @@
 -- What is said of a wake-up, and what it leaves.
 use Rattle.std.proofs.Common.{ap, sym, ◌∙◌}
 use Rattle.psci_ctl.specs.Seen.{seen}
-use Rattle.psci_ctl_model.specs.declared.call.CtlCall.TheVariants as calls
-use Rattle.psci_world_model.specs.Legal.{said_by}
+use Rattle.psci_ctl_spec.specs.declared.call.CtlCall.TheVariants as calls
+use Rattle.psci_world_spec.specs.Legal.{said_by}
 use Rattle.psci_machine.specs.Seen.{MachineValue, machine_board}
 use Rattle.psci_machine.proofs.Kicks.{found, kicked_by, wake_asked, wake_next, woken}
 use Rattle.psci_machine.proofs.machine.Machine.wake.Goals as goal

@@ -1,5 +1,0 @@
-use Rattle.psci_ctl_model.proofs.Acknowledged.{ack_laws}
-use Rattle.psci_ctl_model.proofs.laws.law_acknowledgements.Goals as goal
-
-pub returns : goal.returns
-returns c = ack_laws

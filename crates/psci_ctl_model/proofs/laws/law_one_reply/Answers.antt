@@ -1,5 +1,0 @@
-use Rattle.psci_ctl_model.proofs.OneReply.{one_history, some_history}
-use Rattle.psci_ctl_model.proofs.laws.law_one_reply.Goals as goal
-
-pub returns : goal.returns
-returns c = record { some = some_history; only = one_history }

@@ -1,5 +1,0 @@
-use Rattle.psci_ctl_model.proofs.StartLaws.{start_laws}
-use Rattle.psci_ctl_model.proofs.laws.law_start.Goals as goal
-
-pub returns : goal.returns
-returns c = start_laws

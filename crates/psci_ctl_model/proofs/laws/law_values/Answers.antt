@@ -1,5 +1,0 @@
-use Rattle.psci_ctl_model.proofs.OneMore.{first_values, values_more}
-use Rattle.psci_ctl_model.proofs.laws.law_values.Goals as goal
-
-pub returns : goal.returns
-returns c = record { first = first_values; more = values_more }

@@ -1,0 +1,91 @@
+-- What the one reply brings about may follow the values, and leaves values as they are kept.
+use Rattle.std.proofs.Common.{◌≡◌, ℕ, ◌+◌, ◌<◌, ◌≤◌, Bool, true, false, cond, ◌==◌}
+use Rattle.std.proofs.Common.{List, length, Option, Some, None, refl, ap}
+use Rattle.std.specs.Prelude.{nat_lt}
+use Rattle.std.proofs.lemmas.Bool.{and_parts, eqb-true, ltb-true}
+use Rattle.psci_board.specs.Board.{BoardValue, cores, height}
+use Rattle.psci_board.specs.Laws.{ChildLaws}
+use Rattle.psci_coord.specs.declared.part.Part.{Part}
+use Rattle.psci_link.specs.Message.{ArePartsOf, AreClaims, MessageValue, PartByPart}
+use Rattle.psci_link.specs.declared.kind.Kind.{Kind}
+use Rattle.psci_link.specs.declared.kind.Kind.TheVariants as kinds
+use Rattle.psci_ctl_spec.specs.declared.call.CtlCall.{CtlCall}
+use Rattle.psci_ctl_spec.specs.declared.call.CtlCall.TheVariants as calls
+use Rattle.psci_ctl_spec.specs.declared.delivery.Delivery.TheVariants as deliveries
+use Rattle.psci_ctl_spec.specs.declared.reply.CtlReply.TheVariants as replies
+use Rattle.psci_link.specs.declared.start.Cause.{Cause}
+use Rattle.psci_link.specs.declared.start.Cause.TheVariants as causes
+use Rattle.psci_ctl_spec.specs.Effects.{Ends, Begins}
+use Rattle.psci_ctl_spec.specs.Effects.{effect_of, kick_effect, message_effect}
+use Rattle.psci_ctl_spec.specs.Follows.{HasLife, MayFollow}
+use Rattle.psci_ctl_spec.specs.Legal.{IsCall, IsSendable}
+use Rattle.psci_ctl_spec.specs.Replies.{ack_by, ack_of, delivery_of, is_this_life, kick_if}
+use Rattle.psci_ctl_spec.specs.Replies.{may_follow, may_start, reply, reset_of, wake_of}
+use Rattle.psci_ctl_spec.specs.Values.{Values}
+use Rattle.psci_ctl_spec.proofs.Front.{is_front}
+
+-- a Start that is carried out starts its core; one that is not does nothing
+start_effect : (b : BoardValue) (v : Values) (m : MessageValue) (t : Bool)
+    → may_follow b v m.core.number m.number ≡ t → m.core.number < cores b → HasLife v
+    → MayFollow b v (message_effect b m
+    (cond t (ack_of m 1 false) (ack_of m 0 true)) kinds.Start)
+start_effect b v m true e inside life = (
+  inside,
+  ltb-true _ _ (and_parts (v.starts m.core.number == m.number) _ e).1,
+  life,
+)
+start_effect b v m false e inside life = tt
+
+-- a Reset begins a life, unless it is the last one
+reset_effect : (b : BoardValue) (v : Values) (m : MessageValue) (t : Bool)
+    → nat_lt m.life b.lives ≡ t → v.life ≡ Some m.life → MayFollow b v (cond t Begins Ends)
+reset_effect b v m true e life = (m.life, life, ltb-true _ _ e)
+reset_effect b v m false e life = (m.life, life)
+
+-- a message of this life
+carried_out : (b : BoardValue) (v : Values) (m : MessageValue) (k : Kind) → ChildLaws b
+    → ((ps : List Part) → AreClaims ps → PartByPart ps) → v.life ≡ Some m.life
+    → m.core.number < cores b → length m.parts ≤ height b + 1 → ArePartsOf k m.parts
+    → MayFollow b v (message_effect b m (ack_by b v m k) k)
+carried_out b v m kinds.Down children laws life inside few parts =
+    (is_front b v m.core.number m.parts children inside few (laws m.parts parts), (m.life, life))
+carried_out b v m kinds.Start children laws life inside few parts =
+    start_effect b v m (may_follow b v m.core.number m.number) refl inside (m.life, life)
+carried_out b v m kinds.Off children laws life inside few parts = (m.life, life)
+carried_out b v m kinds.Reset children laws life inside few parts =
+    reset_effect b v m (nat_lt m.life b.lives) refl life
+
+present : (o : Option ℕ) (l : ℕ) → is_this_life o l ≡ true → o ≡ Some l
+present None l e = absurd (let no : false ≡ true = e in cc)
+present (Some k) l e = ap Some (eqb-true k l e)
+
+delivered : (b : BoardValue) (v : Values) (m : MessageValue) (t : Bool)
+    → is_this_life v.life m.life ≡ t → ChildLaws b
+    → ((ps : List Part) → AreClaims ps → PartByPart ps) → IsSendable b m
+    → MayFollow b v (effect_of b (calls.Deliver m) (replies.Delivery (cond t
+    (deliveries.Applied (ack_by b v m m.kind)) deliveries.Ignored)))
+unfolding effect_of
+delivered b v m true e children laws sendable =
+    carried_out b v m m.kind children laws (present v.life m.life e) sendable.board.core
+    sendable.board.levels sendable.message.parts
+delivered b v m false e children laws sendable = tt
+
+kicked : (b : BoardValue) (v : Values) (c : ℕ) (cause : Cause) (t : Bool) (o : Option ℕ)
+    → v.life ≡ o → (t ≡ true → v.starts c < b.starts) → c < cores b
+    → MayFollow b v (kick_effect c cause (kick_if t o v c cause))
+kicked b v c cause true None e more inside = tt
+kicked b v c cause true (Some l) e more inside = (inside, more refl, (l, e))
+kicked b v c cause false o e more inside = tt
+
+pub follows : (b : BoardValue) (v : Values) (call : CtlCall) → ChildLaws b
+    → ((ps : List Part) → AreClaims ps → PartByPart ps) → IsCall b call
+    → MayFollow b v (effect_of b call (reply b v call))
+unfolding effect_of reply delivery_of wake_of reset_of
+follows b v (calls.Deliver m) children laws is =
+    delivered b v m (is_this_life v.life m.life) refl children laws is
+follows b v (calls.Wake core halted) children laws is =
+    kicked b v core.number causes.Wake (may_follow b v core.number halted) v.life refl
+    (λ e. ltb-true _ _ (and_parts (v.starts core.number == halted) _ e).1) is
+follows b v (calls.Reset core) children laws is =
+    kicked b v core.number causes.Reset (may_start b v core.number) v.life refl
+    (λ e. ltb-true _ _ e) is

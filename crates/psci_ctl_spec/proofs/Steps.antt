@@ -1,0 +1,135 @@
+-- Worked examples are stated so: some calls in turn, and the replies to them.
+use Rattle.std.proofs.Common.{◌≡◌, ℕ, Bool, List, [], ◌∷◌, map, reverse, Option}
+use Rattle.psci_board.specs.Board.{BoardValue}
+use Rattle.psci_coord.specs.declared.part.Part.{Part}
+use Rattle.psci_link.specs.declared.kind.Kind.{Kind}
+use Rattle.psci_link.specs.declared.kind.Kind.TheVariants as kinds
+use Rattle.psci_ctl_spec.specs.declared.call.CtlCall.{CtlCall}
+use Rattle.psci_ctl_spec.specs.declared.call.CtlCall.TheVariants as calls
+use Rattle.psci_ctl_spec.specs.declared.delivery.Delivery.TheVariants as deliveries
+use Rattle.psci_ctl_spec.specs.declared.kick.Kick.TheVariants as kicks
+use Rattle.psci_ctl_spec.specs.declared.reply.CtlReply.{CtlReply}
+use Rattle.psci_ctl_spec.specs.declared.reply.CtlReply.TheVariants as replies
+use Rattle.psci_link.specs.declared.start.Cause.{Cause}
+use Rattle.psci_link.specs.declared.start.Start.{Start}
+use Rattle.psci_ctl_spec.specs.Changes.{after}
+use Rattle.psci_ctl_spec.specs.Exchange.{CtlExchange}
+use Rattle.psci_ctl_spec.specs.History.{values_of}
+use Rattle.psci_ctl_spec.specs.Legal.{legal_reply}
+use Rattle.psci_ctl_spec.specs.Replies.{last_start}
+use Rattle.psci_ctl_spec.specs.Values.{Values, start_of_life}
+
+-- a board of this tree and these limits
+abbrev pub board_of : List (List ℕ) → ℕ → ℕ → BoardValue
+board_of levels starts lives = record {
+  levels = levels;
+  ranges = record { start = 0x40000000; end = 0x40100000 } ∷ [];
+  boot = 0x40000000;
+  starts = starts;
+  lives = lives;
+}
+
+-- two clusters of two cores
+abbrev pub board : BoardValue
+board = board_of ((2 ∷ 2 ∷ []) ∷ (2 ∷ []) ∷ []) 1000 3
+
+-- Calls ---------------------------------------------------------------------------------------
+
+-- a message of this kind, core, life and number
+abbrev pub message : Kind → ℕ → ℕ → ℕ → List Part → CtlCall
+message kind core life number parts = calls.Deliver (record {
+  kind = kind;
+  core = record { number = core };
+  life = life;
+  number = number;
+  parts = parts;
+})
+
+abbrev pub part : ℕ → ℕ → ℕ → Part
+part level depth generation = record { level = level; depth = depth; generation = generation }
+
+abbrev pub down : ℕ → ℕ → ℕ → List Part → CtlCall
+down = message kinds.Down
+
+abbrev pub start : ℕ → ℕ → ℕ → CtlCall
+start core life number = message kinds.Start core life number []
+
+abbrev pub off : ℕ → ℕ → ℕ → CtlCall
+off core life number = message kinds.Off core life number []
+
+abbrev pub reset_system : ℕ → ℕ → ℕ → CtlCall
+reset_system core life number = message kinds.Reset core life number []
+
+abbrev pub wake : ℕ → ℕ → CtlCall
+wake core halted = calls.Wake (record { number = core }) halted
+
+abbrev pub reset : ℕ → CtlCall
+reset core = calls.Reset (record { number = core })
+
+-- Replies -------------------------------------------------------------------------------------
+
+-- an acknowledgement of a message of this kind, core, life and number
+abbrev pub ack : Kind → ℕ → ℕ → ℕ → ℕ → Bool → CtlReply
+ack kind core life number applied stale = replies.Delivery (deliveries.Applied (record {
+  kind = kind;
+  core = record { number = core };
+  life = life;
+  number = number;
+  applied = applied;
+  stale = stale;
+}))
+
+abbrev pub ignored : CtlReply
+ignored = replies.Delivery deliveries.Ignored
+
+abbrev pub started : ℕ → ℕ → Cause → CtlReply
+started life number cause =
+    replies.Kick (kicks.Started (record { life = life; number = number; cause = cause }))
+
+abbrev pub not_started : CtlReply
+not_started = replies.Kick kicks.Ignored
+
+-- Histories -----------------------------------------------------------------------------------
+
+-- the history of these calls, from a history on
+abbrev pub history_from : BoardValue → List CtlExchange → List CtlCall → List CtlExchange
+history_from b h [] = h
+history_from b h (call ∷ calls) =
+    history_from b (record { call = call; reply = legal_reply b h call } ∷ h) calls
+
+-- the history of these calls, of which the first is the oldest
+abbrev pub history_of : BoardValue → List CtlCall → List CtlExchange
+history_of b calls = history_from b [] calls
+
+-- the replies to these calls, in their order
+abbrev pub replies_to : BoardValue → List CtlCall → List CtlReply
+replies_to b calls = reverse (map (λ e. e.reply) (history_of b calls))
+
+-- the values that are kept along a history
+abbrev pub kept_along : BoardValue → List CtlExchange → Values
+kept_along b [] = start_of_life b
+kept_along b (e ∷ h) = after b e.call e.reply (kept_along b h)
+
+-- Values --------------------------------------------------------------------------------------
+
+-- the values of the first five cores and of the first five domains of levels 0 to 3
+pub record Shown : Type 0 where
+  pub life : Option ℕ
+  pub starts : List ℕ
+  pub last : List (Option Start)
+  pub depth : List (List ℕ)
+
+abbrev pub shown : Values → Shown
+shown v =
+    let places = 0 ∷ 1 ∷ 2 ∷ 3 ∷ 4 ∷ [] in
+    record {
+      life = v.life;
+      starts = map v.starts places;
+      last = map (last_start v) places;
+      depth = map (λ l. map (v.depth l) places) (0 ∷ 1 ∷ 2 ∷ 3 ∷ []);
+    }
+
+-- a history says this, and so is what is kept along it
+pub record Says (b : BoardValue) (h : List CtlExchange) (values : Shown) : Type 0 where
+  pub history : shown (values_of b h) ≡ values
+  pub kept : shown (kept_along b h) ≡ values

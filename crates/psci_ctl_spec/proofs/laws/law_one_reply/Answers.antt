@@ -1,0 +1,5 @@
+use Rattle.psci_ctl_spec.proofs.OneReply.{one_history, some_history}
+use Rattle.psci_ctl_spec.proofs.laws.law_one_reply.Goals as goal
+
+pub returns : goal.returns
+returns c = record { some = some_history; only = one_history }

@@ -1,0 +1,5 @@
+use Rattle.psci_ctl_spec.proofs.Past.{never_again}
+use Rattle.psci_ctl_spec.proofs.laws.law_past.Goals as goal
+
+pub returns : goal.returns
+returns c = never_again

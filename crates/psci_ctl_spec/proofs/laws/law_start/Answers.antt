@@ -1,0 +1,5 @@
+use Rattle.psci_ctl_spec.proofs.StartLaws.{start_laws}
+use Rattle.psci_ctl_spec.proofs.laws.law_start.Goals as goal
+
+pub returns : goal.returns
+returns c = start_laws

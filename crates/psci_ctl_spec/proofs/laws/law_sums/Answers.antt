@@ -1,0 +1,5 @@
+use Rattle.psci_ctl_spec.proofs.StartLaws.{sum_laws}
+use Rattle.psci_ctl_spec.proofs.laws.law_sums.Goals as goal
+
+pub returns : goal.returns
+returns c = sum_laws

@@ -1,0 +1,5 @@
+use Rattle.psci_ctl_spec.proofs.OneMore.{first_values, values_more}
+use Rattle.psci_ctl_spec.proofs.laws.law_values.Goals as goal
+
+pub returns : goal.returns
+returns c = record { first = first_values; more = values_more }

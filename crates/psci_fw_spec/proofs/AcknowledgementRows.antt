@@ -1,0 +1,215 @@
+-- Worked examples: what becomes of acknowledgements.
+use Rattle.std.proofs.Common.{◌∷◌, [], false, refl, true}
+use Rattle.psci_link.specs.declared.kind.Kind.TheVariants.{Off, Reset, Start}
+use Rattle.psci_fw_spec.proofs.Steps.{◌⇒◌, AreAnswered, affinity, board, boot, boots, computing}
+use Rattle.psci_fw_spec.proofs.Steps.{enter_boot, enter_on, enter_wake, goes_on_3, goes_to, off}
+use Rattle.psci_fw_spec.proofs.Steps.{old, on, on_3, part, starts, stops, suspend, take, take_down}
+use Rattle.psci_fw_spec.proofs.Steps.{take_stale, used, value}
+
+-- Cores that go off ---------------------------------------------------------------------------
+
+-- a core that goes off is ON until it is acknowledged
+core_off_acknowledged : AreAnswered board
+    (boot ⇒ boots
+    ∷ on_3 ⇒ starts 3 1 0
+    ∷ affinity 0x101 0 ⇒ value 2
+    ∷ enter_on 3 1 1 ⇒ goes_on_3
+    ∷ off 3 ⇒ stops 3 1 1 (part 0 3 1 ∷ part 1 3 1 ∷ [])
+    ∷ affinity 0x101 0 ⇒ value 0
+    ∷ affinity 0x101 0 ⇒ value 0
+    ∷ take_down 3 1 1 2 ⇒ used
+    ∷ affinity 0x101 0 ⇒ value 1 ∷ [])
+unfolding computing
+core_off_acknowledged = record { history = refl; values = refl }
+
+-- a part that was applied turns the core OFF, and none does not; until all were, the message
+-- stays outstanding
+parts_applied : AreAnswered board
+    (boot ⇒ boots
+    ∷ on_3 ⇒ starts 3 1 0
+    ∷ enter_on 3 1 1 ⇒ goes_on_3
+    ∷ off 3 ⇒ stops 3 1 1 (part 0 3 1 ∷ part 1 3 1 ∷ [])
+    ∷ take_down 3 1 1 0 ⇒ used
+    ∷ affinity 0x101 0 ⇒ value 0
+    ∷ take_down 3 1 1 1 ⇒ used
+    ∷ affinity 0x101 0 ⇒ value 1
+    ∷ take_down 3 1 1 1 ⇒ used
+    ∷ take_down 3 1 1 2 ⇒ used
+    ∷ take_down 3 1 1 2 ⇒ old ∷ [])
+unfolding computing
+parts_applied = record { history = refl; values = refl }
+
+-- more than all
+more_than_all_applied : AreAnswered board
+    (boot ⇒ boots
+    ∷ off 0 ⇒ stops 0 1 1 (part 0 3 1 ∷ part 1 3 1 ∷ part 2 3 1 ∷ [])
+    ∷ take_down 0 1 1 2 ⇒ used
+    ∷ take_down 0 1 1 4 ⇒ used
+    ∷ take_down 0 1 1 3 ⇒ old ∷ [])
+unfolding computing
+more_than_all_applied = record { history = refl; values = refl }
+
+-- a stale one ends the message, and turns the core OFF where a part was applied
+partly_applied_then_stale : AreAnswered board
+    (boot ⇒ boots
+    ∷ on_3 ⇒ starts 3 1 0
+    ∷ affinity 0x101 0 ⇒ value 2
+    ∷ enter_on 3 1 1 ⇒ goes_on_3
+    ∷ off 3 ⇒ stops 3 1 1 (part 0 3 1 ∷ part 1 3 1 ∷ [])
+    ∷ on 0x100 0x40002000 0 ⇒ starts 2 1 0
+    ∷ take_stale 3 1 1 1 ⇒ used
+    ∷ affinity 0x101 0 ⇒ value 1
+    ∷ take_down 3 1 1 2 ⇒ old ∷ [])
+unfolding computing
+partly_applied_then_stale = record { history = refl; values = refl }
+
+-- and nowhere else
+stale_at_once : AreAnswered board
+    (boot ⇒ boots
+    ∷ on_3 ⇒ starts 3 1 0
+    ∷ enter_on 3 1 1 ⇒ goes_on_3
+    ∷ off 3 ⇒ stops 3 1 1 (part 0 3 1 ∷ part 1 3 1 ∷ [])
+    ∷ take_stale 3 1 1 0 ⇒ used
+    ∷ affinity 0x101 0 ⇒ value 0
+    ∷ take_down 3 1 1 2 ⇒ old
+    ∷ affinity 0x101 0 ⇒ value 0 ∷ [])
+unfolding computing
+stale_at_once = record { history = refl; values = refl }
+
+-- a core that was suspended is ON still when that is acknowledged
+suspended_core_acknowledged : AreAnswered board
+    (boot ⇒ boots
+    ∷ on_3 ⇒ starts 3 1 0
+    ∷ enter_on 3 1 1 ⇒ goes_on_3
+    ∷ suspend 3 0x00010003 0x40004000 2 ⇒ stops 3 1 1 (part 0 3 1 ∷ [])
+    ∷ take_down 3 1 1 1 ⇒ used
+    ∷ affinity 0x101 0 ⇒ value 0
+    ∷ enter_wake 3 1 2 ⇒ goes_to 0x40004000 2 ∷ [])
+unfolding computing
+suspended_core_acknowledged = record { history = refl; values = refl }
+
+-- Names ---------------------------------------------------------------------------------------
+
+-- an acknowledgement is of the outstanding message where it has its kind, core, life and number
+other_messages : AreAnswered board
+    (boot ⇒ boots
+    ∷ on_3 ⇒ starts 3 1 0
+    ∷ enter_on 3 1 2 ⇒ goes_on_3
+    ∷ off 3 ⇒ stops 3 1 2 (part 0 3 2 ∷ part 1 3 2 ∷ [])
+    ∷ take_down 3 1 1 2 ⇒ old
+    ∷ take_down 3 1 3 2 ⇒ old
+    ∷ take_down 3 2 2 2 ⇒ old
+    ∷ take_down 2 1 2 2 ⇒ old
+    ∷ take_down 4 1 2 2 ⇒ old
+    ∷ take Start 3 1 2 1 false ⇒ old
+    ∷ take Off 3 1 2 1 false ⇒ old
+    ∷ take Reset 3 1 2 1 false ⇒ old
+    ∷ affinity 0x101 0 ⇒ value 0
+    ∷ take_down 3 1 2 2 ⇒ used
+    ∷ affinity 0x101 0 ⇒ value 1 ∷ [])
+unfolding computing
+other_messages = record { history = refl; values = refl }
+
+-- before any life nothing is outstanding
+before_any_life : AreAnswered board
+    (take_down 0 0 0 1 ⇒ old
+    ∷ take Start 0 0 0 1 false ⇒ old
+    ∷ boot ⇒ boots ∷ [])
+unfolding computing
+before_any_life = record { history = refl; values = refl }
+
+-- a core that went off and was woken parked with a message of its own
+stale_down_after_wake : AreAnswered board
+    (boot ⇒ boots
+    ∷ on_3 ⇒ starts 3 1 0
+    ∷ affinity 0x101 0 ⇒ value 2
+    ∷ enter_on 3 1 1 ⇒ goes_on_3
+    ∷ off 3 ⇒ stops 3 1 1 (part 0 3 1 ∷ part 1 3 1 ∷ [])
+    ∷ enter_wake 3 1 2 ⇒ stops 3 1 2 (part 0 3 2 ∷ part 1 3 2 ∷ [])
+    ∷ take_stale 3 1 1 0 ⇒ old
+    ∷ take_down 3 1 2 2 ⇒ used ∷ [])
+unfolding computing
+stale_down_after_wake = record { history = refl; values = refl }
+
+-- an acknowledgement of the last life
+last_life : AreAnswered board
+    (boot ⇒ boots
+    ∷ on_3 ⇒ starts 3 1 0
+    ∷ enter_on 3 1 1 ⇒ goes_on_3
+    ∷ off 3 ⇒ stops 3 1 1 (part 0 3 1 ∷ part 1 3 1 ∷ [])
+    ∷ enter_boot 0 2 1 ⇒ boots
+    ∷ take_down 3 1 1 2 ⇒ old
+    ∷ on_3 ⇒ starts 3 2 0
+    ∷ take Start 3 1 0 1 false ⇒ old
+    ∷ take Start 3 2 0 1 false ⇒ used ∷ [])
+unfolding computing
+last_life = record { history = refl; values = refl }
+
+-- Starts --------------------------------------------------------------------------------------
+
+-- a Start that was acknowledged leaves its target pending, whatever was applied
+start_acknowledged : AreAnswered board
+    (boot ⇒ boots
+    ∷ on_3 ⇒ starts 3 1 0
+    ∷ take Start 3 1 0 1 false ⇒ used
+    ∷ take Start 3 1 0 1 false ⇒ old
+    ∷ affinity 0x101 0 ⇒ value 2
+    ∷ enter_on 3 1 1 ⇒ goes_on_3 ∷ [])
+unfolding computing
+start_acknowledged = record { history = refl; values = refl }
+
+-- one that was not applied, stale or not, ends it as well
+start_not_applied : AreAnswered board
+    (boot ⇒ boots
+    ∷ on_3 ⇒ starts 3 1 0
+    ∷ take Start 3 1 0 0 true ⇒ used
+    ∷ take Start 3 1 0 1 false ⇒ old
+    ∷ affinity 0x101 0 ⇒ value 2
+    ∷ on 0x001 0x40005000 0 ⇒ starts 1 1 0
+    ∷ take Start 1 1 0 0 false ⇒ used
+    ∷ take Start 1 1 0 1 false ⇒ old ∷ [])
+unfolding computing
+start_not_applied = record { history = refl; values = refl }
+
+-- an entry ends what is outstanding for its core, and not what is for another one
+entry_empties_slot : AreAnswered board
+    (boot ⇒ boots
+    ∷ on_3 ⇒ starts 3 1 0
+    ∷ affinity 0x101 0 ⇒ value 2
+    ∷ enter_on 3 1 1 ⇒ goes_on_3
+    ∷ affinity 0x101 0 ⇒ value 0
+    ∷ take Start 3 1 0 1 false ⇒ old ∷ [])
+unfolding computing
+entry_empties_slot = record { history = refl; values = refl }
+
+-- the other one's stays
+other_slot_stays : AreAnswered board
+    (boot ⇒ boots
+    ∷ on_3 ⇒ starts 3 1 0
+    ∷ on 0x100 0x40002000 0 ⇒ starts 2 1 0
+    ∷ enter_on 3 1 1 ⇒ goes_on_3
+    ∷ take Start 2 1 0 1 false ⇒ used ∷ [])
+unfolding computing
+other_slot_stays = record { history = refl; values = refl }
+
+-- a start that was repeated is one entry
+repeated_start : AreAnswered board
+    (boot ⇒ boots
+    ∷ on_3 ⇒ starts 3 1 0
+    ∷ enter_on 3 1 1 ⇒ goes_on_3 ∷ [])
+unfolding computing
+repeated_start = record { history = refl; values = refl }
+
+-- a new message for a core takes the place of the old one: a Start that of a Down
+start_after_down : AreAnswered board
+    (boot ⇒ boots
+    ∷ on_3 ⇒ starts 3 1 0
+    ∷ enter_on 3 1 1 ⇒ goes_on_3
+    ∷ off 3 ⇒ stops 3 1 1 (part 0 3 1 ∷ part 1 3 1 ∷ [])
+    ∷ take_down 3 1 1 1 ⇒ used
+    ∷ on_3 ⇒ starts 3 1 1
+    ∷ take_down 3 1 1 2 ⇒ old
+    ∷ take Start 3 1 1 1 false ⇒ used
+    ∷ affinity 0x101 0 ⇒ value 2 ∷ [])
+unfolding computing
+start_after_down = record { history = refl; values = refl }

@@ -1,0 +1,225 @@
+-- What a function answers a running caller leaves values such as the firmware keeps.
+use Rattle.std.proofs.Common.{◌≡◌, ◌≤◌, ◌<◌, ◌==◌, ◌⊎◌, ◌↔◌, ℕ, zero, suc, [], Bool}
+use Rattle.std.proofs.Common.{true, false, cond, List, Option, None, Some, Ok, inl, inr, refl}
+use Rattle.std.proofs.Common.{sym, ap, subst, ◌∙◌, arith}
+use Rattle.std.specs.Prelude.{Result, Err, IsTrue, is_some}
+use Rattle.psci_abi.specs.Codes.{internal_failure, invalid_address}
+use Rattle.psci_abi.specs.declared.code.Code.{Code}
+use Rattle.psci_abi.specs.declared.request.Request.{Request}
+use Rattle.psci_abi.specs.declared.request.Request.TheVariants as requests
+use Rattle.psci_board.specs.Board.{BoardValue, core_of, cores, height, may_enter}
+use Rattle.psci_board.specs.declared.node.Core.{Core}
+use Rattle.psci_coord.specs.declared.part.Part.{Part}
+use Rattle.psci_link.specs.declared.kind.Kind.TheVariants as kinds
+use Rattle.psci_state.specs.Ask.{IsAsk, deepest_of, highest_of, is_ask, is_deep}
+use Rattle.psci_fw_spec.specs.declared.opening.Opening.{Opening}
+use Rattle.psci_fw_spec.specs.declared.status.Status.{Status}
+use Rattle.psci_fw_spec.specs.declared.status.Status.TheVariants as statuses
+use Rattle.psci_fw_spec.specs.After.{change}
+use Rattle.psci_fw_spec.specs.Calls.{function_outcome, outcome_of}
+use Rattle.psci_fw_spec.specs.Changes.{PowerOn, with_pending}
+use Rattle.psci_fw_spec.specs.Claims.{suspend_parts}
+use Rattle.psci_fw_spec.specs.CpuOn.{off_target, start_outcome, target_among, target_of}
+use Rattle.psci_fw_spec.specs.CpuOff.{off_message}
+use Rattle.psci_fw_spec.specs.CpuSuspend.{ask_named, suspend_asked}
+use Rattle.psci_fw_spec.specs.Effects.{Effect, GoesOn, Rests, function_effect, going_off}
+use Rattle.psci_fw_spec.specs.Effects.{rest_named, suspends}
+use Rattle.psci_fw_spec.specs.Invariant.{AreValues, IsPhase}
+use Rattle.psci_fw_spec.specs.Outcomes.{message_for}
+use Rattle.psci_fw_spec.specs.Phases.{Phase, Pending, Running, Suspended, Away}
+use Rattle.psci_fw_spec.specs.SuspendMode.{mode_of}
+use Rattle.psci_fw_spec.specs.SystemCalls.{system_reset2, system_suspend}
+use Rattle.psci_fw_spec.specs.Values.{Values, updated}
+use Rattle.psci_fw_spec.proofs.Asked.{Known, asked_running, asks_at}
+use Rattle.psci_fw_spec.proofs.Endings.{outcome_ends, reset2_ends, suspend_ends, system_ends}
+use Rattle.psci_fw_spec.proofs.Changing.{kept_halting, kept_leaving, kept_on, kept_pending}
+use Rattle.psci_fw_spec.proofs.Modes.{kept_by_mode}
+use Rattle.psci_fw_spec.proofs.Stopping.{held_of, kept_resting, off_held, suspend_held}
+use Rattle.psci_fw_spec.proofs.Updates.{ran_left}
+
+-- a running caller, in a life that is not halting
+pub record IsCalling (b : BoardValue) (v : Values) (c : ℕ) : Type 0 where
+  pub known : Known b
+  pub on : c < cores b
+  pub are : AreValues b v
+  pub runs : v.phase c ≡ Running
+  pub awake : v.halting ≡ false
+
+-- values after an effect
+abbrev Kept : BoardValue → Values → Effect → Type 0
+Kept b v e = AreValues b (change b e v)
+
+goes_on : (b : BoardValue) (v : Values) (c : ℕ) → IsCalling b v c → Kept b v (GoesOn c)
+goes_on b v c is = kept_on b v c (inr is.runs) is.are
+
+-- Suspending ----------------------------------------------------------------------------------
+
+opens_where_deep : (o : Opening) (t : Bool) → is_some (cond t (Some o) None) ≡ t
+opens_where_deep o true = refl
+opens_where_deep o false = refl
+
+rests_kept : (b : BoardValue) (v : Values) (c : ℕ) (o : Opening) (ask : List ℕ)
+    (parts : List Part) → IsCalling b v c → IsPhase b (Suspended ask)
+    → suspend_parts b v c ask ≡ Ok parts
+    → Kept b v (Rests c (suspends o ask) (message_for v kinds.Down c parts))
+rests_kept b v c o ask parts is asks e =
+    kept_resting b v c (suspends o ask) (message_for v kinds.Down c parts) is.known is.runs
+    is.awake is.are refl asks
+    (opens_where_deep o (is_deep ask))
+    (suspend_held b v c ask parts is.known is.on is.runs asks.0 is.are.phase
+    (held_of b v is.known is.are is.awake) e)
+
+suspend_kept : (b : BoardValue) (v : Values) (c state entry_point context : ℕ)
+    → IsCalling b v c
+    → ((ask : List ℕ) → ask_named b state ≡ Ok ask → IsPhase b (Suspended ask))
+    → let o = suspend_asked b v c entry_point (ask_named b state) in
+    Kept b v (function_effect b c (requests.CpuSuspend state entry_point context) o.act o.message)
+suspend_kept b v c state entry_point context is asks =
+    suspend_ends (λ o. Kept b v (function_effect b c request o.act o.message)) b v c entry_point
+    (ask_named b state) (λ code. goes_on b v c is)
+    (λ ask parts named made.
+    subst (λ r. Kept b v (Rests c (rest_named opening r) (message_for v kinds.Down c parts)))
+    (sym named) (rests_kept b v c opening ask parts is (asks ask named) made))
+  where
+    request : Request
+    request = requests.CpuSuspend state entry_point context
+
+    opening : Opening
+    opening = record { address = entry_point; context = context }
+
+-- power-down of all levels is an ask of each board
+pub deepest_is : (h : ℕ) → h ≤ 3 → ((depths : List ℕ) → IsTrue (is_ask depths) ↔ IsAsk depths)
+    → IsAsk (deepest_of h) × (highest_of (deepest_of h) ≤ h)
+deepest_is zero i test = ((test (deepest_of 0)).0 refl, omega arith)
+deepest_is (suc zero) i test = ((test (deepest_of 1)).0 refl, omega arith)
+deepest_is (suc (suc zero)) i test = ((test (deepest_of 2)).0 refl, omega arith)
+deepest_is (suc (suc (suc zero))) i test = ((test (deepest_of 3)).0 refl, omega arith)
+deepest_is (suc (suc (suc (suc h)))) i test = absurd (omega arith)
+
+suspend_all_kept : (b : BoardValue) (v : Values) (c entry_point context : ℕ) → IsCalling b v c
+    → IsPhase b (Suspended (deepest_of (height b)))
+    → let o = system_suspend b v c entry_point in
+    Kept b v (function_effect b c (requests.SystemSuspend entry_point context) o.act o.message)
+suspend_all_kept b v c entry_point context is asks =
+    system_ends (λ o. Kept b v (function_effect b c request o.act o.message)) b v c entry_point
+    (λ code. goes_on b v c is)
+    (λ parts made. rests_kept b v c (record { address = entry_point; context = context })
+    (deepest_of (height b)) parts is asks made)
+  where
+    request : Request
+    request = requests.SystemSuspend entry_point context
+
+-- CPU_ON --------------------------------------------------------------------------------------
+
+off_within : (b : BoardValue) (v : Values) (core t : Core) (s : Status)
+    → off_target b v core s ≡ Ok t → core ≡ t
+off_within b v core t statuses.On e = absurd (cc e)
+off_within b v core t statuses.Pending e = absurd (cc e)
+off_within b v core t statuses.Off e = by_test (v.known core.number == b.starts) e
+  where
+    by_test : (spent : Bool) → cond spent (Err internal_failure) (Ok core) ≡ Ok t → core ≡ t
+    by_test true e = absurd (cc e)
+    by_test false e = cc e
+
+among_within : (b : BoardValue) (v : Values) (entry_point : ℕ) (o : Option Core) (t : Core)
+    → target_among b v entry_point o ≡ Ok t → o ≡ Some t
+among_within b v entry_point None t e = absurd (cc e)
+among_within b v entry_point (Some core) t e = by_test (may_enter b entry_point) e
+  where
+    by_test : (may : Bool)
+        → cond may (off_target b v core (v.status core.number)) (Err invalid_address) ≡ Ok t
+        → ◌≡◌ {A = Option Core} (Some core) (Some t)
+    by_test true e = ap Some (off_within b v core t (v.status core.number) e)
+    by_test false e = absurd (cc e)
+
+-- the target of a CPU_ON that is accepted is a core of the board
+target_within : (b : BoardValue) (v : Values) (word entry_point : ℕ) (t : Core) → Known b
+    → target_of b v word entry_point ≡ Ok t → t.number < cores b
+unfolding target_of
+target_within b v word entry_point t known e =
+    known.words.core word t (among_within b v entry_point (core_of b word) t e)
+
+-- the caller runs on, unless it asked itself on
+runs_on : (v : Values) (c t : ℕ) → v.phase c ≡ Running
+    → (updated v.phase t Pending c ≡ Pending) ⊎ (updated v.phase t Pending c ≡ Running)
+runs_on v c t runs = by_test (c == t)
+  where
+    by_test : (itself : Bool) → (cond itself Pending (v.phase c) ≡ Pending)
+        ⊎ (cond itself Pending (v.phase c) ≡ Running)
+    by_test true = inl refl
+    by_test false = inr runs
+
+on_kept : (b : BoardValue) (v : Values) (c word entry_point context : ℕ)
+    (t : Result Core Code) → IsCalling b v c → target_of b v word entry_point ≡ t
+    → let o = start_outcome v t in
+    Kept b v (function_effect b c (requests.CpuOn word entry_point context) o.act o.message)
+on_kept b v c word entry_point context (Err code) is e = goes_on b v c is
+on_kept b v c word entry_point context (Ok t) is e =
+    let asked : PowerOn = record {
+      message = message_for v kinds.Start t.number [];
+      opening = record { address = entry_point; context = context };
+    } in
+    kept_on b (with_pending b asked v) c (runs_on v c t.number is.runs)
+    (kept_pending b v asked is.known (target_within b v word entry_point t is.known e) is.are)
+
+-- SYSTEM_RESET2 -------------------------------------------------------------------------------
+
+reset2_kept : (b : BoardValue) (v : Values) (c reset_type cookie : ℕ) → IsCalling b v c
+    → let o = system_reset2 v c reset_type in
+    Kept b v (function_effect b c (requests.SystemReset2 reset_type cookie) o.act o.message)
+reset2_kept b v c reset_type cookie is =
+    reset2_ends (λ o. Kept b v (function_effect b c request o.act o.message)) v c reset_type
+    (λ code. goes_on b v c is)
+    (kept_halting b v c (message_for v kinds.Reset c []) is.known is.runs is.are)
+  where
+    request : Request
+    request = requests.SystemReset2 reset_type cookie
+
+-- All functions -------------------------------------------------------------------------------
+
+off_kept : (b : BoardValue) (v : Values) (c : ℕ) → IsCalling b v c
+    → Kept b v (Rests c going_off (off_message b v c))
+off_kept b v c is =
+    kept_resting b v c going_off (off_message b v c) is.known is.runs is.awake is.are refl tt refl
+    (off_held b v v.phase c is.known is.on (ran_left (v.phase c) Away is.runs)
+    (λ x other. refl) is.are.phase
+    (ap (λ (p : Phase). asks_at b p 0) is.runs ∙ asked_running b 0)
+    (held_of b v is.known is.are is.awake))
+
+-- what the words of a power state ask
+abbrev pub Worded : BoardValue → Type 0
+Worded b = (word : ℕ) (ask : List ℕ) → ask_named b word ≡ Ok ask → IsPhase b (Suspended ask)
+
+function_kept : (b : BoardValue) (v : Values) (c : ℕ) (r : Request) → IsCalling b v c → Worded b
+    → IsPhase b (Suspended (deepest_of (height b))) → let o = function_outcome b v c r in
+    Kept b v (function_effect b c r o.act o.message)
+function_kept b v c requests.Version is asks all = goes_on b v c is
+function_kept b v c (requests.CpuSuspend state entry_point context) is asks all =
+    suspend_kept b v c state entry_point context is (asks state)
+function_kept b v c requests.CpuOff is asks all = off_kept b v c is
+function_kept b v c (requests.CpuOn word entry_point context) is asks all =
+    on_kept b v c word entry_point context (target_of b v word entry_point) is refl
+function_kept b v c (requests.AffinityInfo word level) is asks all = goes_on b v c is
+function_kept b v c requests.MigrateInfoType is asks all = goes_on b v c is
+function_kept b v c requests.SystemOff is asks all =
+    kept_halting b v c (message_for v kinds.Off c []) is.known is.runs is.are
+function_kept b v c requests.SystemReset is asks all =
+    kept_halting b v c (message_for v kinds.Reset c []) is.known is.runs is.are
+function_kept b v c (requests.Features word) is asks all = goes_on b v c is
+function_kept b v c (requests.SystemSuspend entry_point context) is asks all =
+    suspend_all_kept b v c entry_point context is all
+function_kept b v c (requests.SetSuspendMode number) is asks all =
+    kept_by_mode b v c (mode_of number) is.known is.on is.runs is.are
+function_kept b v c (requests.SystemReset2 reset_type cookie) is asks all =
+    reset2_kept b v c reset_type cookie is
+function_kept b v c requests.Unknown is asks all = goes_on b v c is
+
+pub kept_function : (b : BoardValue) (v : Values) (c : ℕ) (r : Request) → Known b → c < cores b
+    → AreValues b v → v.phase c ≡ Running → Worded b
+    → IsPhase b (Suspended (deepest_of (height b))) → let o = outcome_of b v c r in
+    AreValues b (change b (function_effect b c r o.act o.message) v)
+kept_function b v c r known on are runs asks all =
+    outcome_ends (λ o. AreValues b (change b (function_effect b c r o.act o.message) v)) b v c r
+    (λ halts. kept_leaving b v c known runs halts are)
+    (λ awake. function_kept b v c r
+    (record { known = known; on = on; are = are; runs = runs; awake = awake }) asks all)

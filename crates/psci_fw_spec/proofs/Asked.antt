@@ -1,0 +1,206 @@
+-- What cores ask of the domains on their paths, by their phases.
+use Rattle.std.proofs.Common.{◌≡◌, ◌≤◌, ◌<◌, ◌+◌, ℕ, zero, suc, Bool, true, false, cond, nat_le}
+use Rattle.std.proofs.Common.{List, refl, sym, ap, subst, ◌∙◌, arith}
+use Rattle.std.specs.Prelude.{if◌then◌else◌, slice_index}
+use Rattle.std.proofs.lemmas.Bool.{le-leb}
+use Rattle.psci_board.specs.Board.{BoardValue, IsBoard, cores, height, up}
+use Rattle.psci_board.specs.Laws.{PathLaws, WordLaws}
+use Rattle.psci_coord.specs.declared.part.Part.{Part}
+use Rattle.psci_coord.specs.Laws.{BelowLaws, ClaimLaws, PlatformLaws, OwnLaws, OffLaws}
+use Rattle.psci_coord.specs.Laws.{LastCoreLaws}
+use Rattle.psci_coord.specs.View.{PowerView, domain_of, is_all_off, least_ask}
+use Rattle.psci_link.specs.Message.{AreClaims, PartByPart}
+use Rattle.psci_state.specs.Ask.{IsAsk}
+use Rattle.psci_tree.specs.Recount.{IsActivity, asks, is_off}
+use Rattle.psci_fw_spec.specs.Invariant.{IsPhase}
+use Rattle.psci_fw_spec.specs.Phases.{Phase, Pending, Running, Suspended, Away, activity_of}
+use Rattle.psci_fw_spec.specs.Values.{Values}
+use Rattle.psci_fw_spec.specs.Views.{view}
+
+-- what is known of a board and of the claims on its domains
+pub record Known (b : BoardValue) : Type 0 where
+  pub paths : PathLaws b
+  pub words : WordLaws b
+  pub below : (v : PowerView) (core level : ℕ) → BelowLaws b v core level
+  pub claims : (v : PowerView) (core : ℕ) (wanted : ℕ → ℕ) → ClaimLaws b v core wanted
+  pub platform : (v : PowerView) (core : ℕ) → core < cores b → PlatformLaws b v core
+  pub own : (v : PowerView) (core : ℕ) (ask : List ℕ) → IsAsk ask → OwnLaws b v core ask
+  pub off : (v : PowerView) (core : ℕ) → OffLaws b v core
+  pub last_core : (v : PowerView) (core : ℕ) (ask : List ℕ) → core < cores b
+      → LastCoreLaws b v core ask
+  pub parts : (ps : List Part) → PartByPart ps → AreClaims ps
+
+pub known_from : (b : BoardValue) → IsBoard b → ((b : BoardValue) → IsBoard b → PathLaws b)
+    → ((b : BoardValue) → IsBoard b → WordLaws b)
+    → ((b : BoardValue) (v : PowerView) (core level : ℕ) → BelowLaws b v core level)
+    → ((b : BoardValue) (v : PowerView) (core : ℕ) (wanted : ℕ → ℕ) → ClaimLaws b v core wanted)
+    → ((b : BoardValue) (v : PowerView) (core : ℕ) → IsBoard b → core < cores b
+    → PlatformLaws b v core)
+    → ((b : BoardValue) (v : PowerView) (core : ℕ) (ask : List ℕ) → IsAsk ask
+    → OwnLaws b v core ask)
+    → ((b : BoardValue) (v : PowerView) (core : ℕ) → OffLaws b v core)
+    → ((b : BoardValue) (v : PowerView) (core : ℕ) (ask : List ℕ) → IsBoard b → core < cores b
+    → LastCoreLaws b v core ask)
+    → ((ps : List Part) → PartByPart ps → AreClaims ps)
+    → Known b
+known_from b board paths words below claims platform own off last_core parts = record {
+  paths = paths b board;
+  words = words b board;
+  below = below b;
+  claims = claims b;
+  platform = λ v core on. platform b v core board on;
+  own = own b;
+  off = off b;
+  last_core = λ v core ask on. last_core b v core ask board on;
+  parts = parts;
+}
+
+-- Paths ---------------------------------------------------------------------------------------
+
+-- the paths of two cores that meet at a level are one at the next level
+pub joined : (b : BoardValue) (x y level : ℕ) → PathLaws b → up b level x ≡ up b level y
+    → up b (level + 1) x ≡ up b (level + 1) y
+joined b x y level paths at =
+    let next : level + 1 ≡ suc level = omega arith in
+    rw next (paths.joined x y level at)
+
+-- a core beside another one's domain is another core
+pub apart : (b : BoardValue) (x y c level : ℕ) → (up b level x ≡ up b level c → ⊥)
+    → up b level y ≡ up b level x → y ≡ c → ⊥
+apart b x y c level beside at same = beside (sym at ∙ ap (up b level) same)
+
+-- cores with one place on level 0 are one core
+pub alone : (b : BoardValue) (x y : ℕ) → PathLaws b → up b 0 x ≡ up b 0 y → x ≡ y
+alone b x y paths at = sym (paths.core x) ∙ at ∙ paths.core y
+
+-- Asks ----------------------------------------------------------------------------------------
+
+-- the depth that a core of this phase asks of its domain of this level
+abbrev pub asks_at : BoardValue → Phase → ℕ → ℕ
+asks_at b phase level = if nat_le level (height b) then asks (activity_of phase) level else 0
+
+pub asked_within : (b : BoardValue) (phase : Phase) (level : ℕ) → level ≤ height b
+    → asks_at b phase level ≡ asks (activity_of phase) level
+asked_within b phase level h = rw (le-leb level (height b) h) refl
+
+-- a core that runs or is pending asks nothing
+pub asked_running : (b : BoardValue) (level : ℕ) → asks_at b Running level ≡ 0
+asked_running b level = both (nat_le level (height b)) 0
+  where
+    both : (t : Bool) (n : ℕ) → cond t n n ≡ n
+    both true n = refl
+    both false n = refl
+
+pub asked_pending : (b : BoardValue) (level : ℕ) → asks_at b Pending level ≡ 0
+asked_pending b level = asked_running b level
+
+-- a core that is away asks for power-down
+pub asked_away : (b : BoardValue) (level : ℕ) → level ≤ height b → asks_at b Away level ≡ 3
+asked_away b level h = asked_within b Away level h
+
+-- what a core of this phase asks of all levels
+abbrev pub IsAsking : Phase → Type 0
+IsAsking phase = IsActivity (activity_of phase)
+
+pub phase_asks : (b : BoardValue) (phase : Phase) → IsPhase b phase → IsAsking phase
+phase_asks b Pending is = tt
+phase_asks b Running is = tt
+phase_asks b (Suspended ask) is = is.0
+phase_asks b Away is = tt
+
+asks-most : (phase : Phase) (level : ℕ) → IsAsking phase → asks (activity_of phase) level ≤ 3
+asks-most Pending level is = omega arith
+asks-most Running level is = omega arith
+asks-most Away level is = omega arith
+asks-most (Suspended ask) level is = most level
+  where
+    most : (m : ℕ) → slice_index ask m ≤ 3
+    most zero = is.most
+    most (suc m) =
+        let next : m + 1 ≡ suc m = omega arith in
+        let step = is.falls m in
+        let falls = rw next at step in
+        omega (arith, falls, most m)
+
+-- no core asks for more than power-down
+pub asked-most : (b : BoardValue) (phase : Phase) (level : ℕ) → IsAsking phase
+    → level ≤ height b → asks_at b phase level ≤ 3
+asked-most b phase level is h = rw (asked_within b phase level h) (asks-most phase level is)
+
+asks-fall : (phase : Phase) (level : ℕ) → IsAsking phase
+    → asks (activity_of phase) (level + 1) ≤ asks (activity_of phase) level
+asks-fall Pending level is = omega arith
+asks-fall Running level is = omega arith
+asks-fall Away level is = omega arith
+asks-fall (Suspended ask) level is = is.falls level
+
+-- what a core asks never grows upwards
+pub asked-fall : (b : BoardValue) (phase : Phase) (level : ℕ) → IsAsking phase
+    → level < height b → asks_at b phase (level + 1) ≤ asks_at b phase level
+asked-fall b phase level is h =
+    let above : asks_at b phase (level + 1) ≡ asks (activity_of phase) (level + 1) =
+    asked_within b phase (level + 1) (omega arith) in
+    let below : asks_at b phase level ≡ asks (activity_of phase) level =
+    asked_within b phase level (omega arith) in
+    omega (arith, above, below, asks-fall phase level is)
+
+-- Below a domain ------------------------------------------------------------------------------
+
+-- every core below a core's domain of a level is off or going off
+abbrev pub IsAllOff : BoardValue → (ℕ → Phase) → ℕ → ℕ → Type 0
+IsAllOff b phase c level =
+    (x : ℕ) → x < cores b → up b level x ≡ up b level c → is_off (activity_of (phase x)) ≡ true
+
+-- the least ask of the cores below a core's domain of a level
+pub record IsLeast (b : BoardValue) (phase : ℕ → Phase) (c level m : ℕ) : Type 0 where
+  pub most : m ≤ 3
+  pub below : (x : ℕ) → x < cores b → up b level x ≡ up b level c → m ≤ asks_at b (phase x) level
+  pub above : (n : ℕ) → n ≤ 3
+      → ((x : ℕ) → x < cores b → up b level x ≡ up b level c → n ≤ asks_at b (phase x) level)
+      → n ≤ m
+
+pub one_least : (b : BoardValue) (phase : ℕ → Phase) (c level m n : ℕ)
+    → IsLeast b phase c level m → IsLeast b phase c level n → m ≡ n
+one_least b phase c level m n i j =
+    omega (arith, i.above n j.most j.below, j.above m i.most i.below)
+
+-- the same over another core's path that meets there
+pub least_at : (b : BoardValue) (phase : ℕ → Phase) (c x level m : ℕ)
+    → up b level x ≡ up b level c → IsLeast b phase c level m → IsLeast b phase x level m
+least_at b phase c x level m at i = record {
+  most = i.most;
+  below = λ y h e. i.below y h (e ∙ at);
+  above = λ n h each. i.above n h (λ y k e. each y k (e ∙ sym at));
+}
+
+-- no phase below the domain has changed
+pub least_beside : (b : BoardValue) (old new : ℕ → Phase) (c level m : ℕ)
+    → ((x : ℕ) → x < cores b → up b level x ≡ up b level c → new x ≡ old x)
+    → IsLeast b old c level m → IsLeast b new c level m
+least_beside b old new c level m same i = record {
+  most = i.most;
+  below = λ x h e. subst (λ (p : Phase). m ≤ asks_at b p level) (sym (same x h e)) (i.below x h e);
+  above = λ n h each. i.above n h (λ x k e.
+      subst (λ (p : Phase). n ≤ asks_at b p level) (same x k e) (each x k e));
+}
+
+pub least_is : (b : BoardValue) (v : Values) (c level : ℕ) → Known b
+    → IsLeast b v.phase c level (least_ask b (view b v) (domain_of b c level))
+unfolding view
+least_is b v c level known =
+    let laws = known.below (view b v) c level in
+    record {
+      most = laws.most;
+      below = λ x h at. laws.below x h at;
+      above = λ n h each. laws.above n h each;
+    }
+
+pub all_off : (b : BoardValue) (v : Values) (c level : ℕ) → Known b
+    → is_all_off b (view b v) (domain_of b c level) ≡ true → IsAllOff b v.phase c level
+unfolding view
+all_off b v c level known e = λ x h at. (known.below (view b v) c level).off e x h at
+
+pub off_all : (b : BoardValue) (v : Values) (c level : ℕ) → Known b
+    → IsAllOff b v.phase c level → is_all_off b (view b v) (domain_of b c level) ≡ true
+unfolding view
+off_all b v c level known each = (known.below (view b v) c level).all each

@@ -1,0 +1,53 @@
+-- What one more entry says of openings is what its effect leaves of them.
+use Rattle.std.proofs.Common.{◌≡◌, ◌∙◌, ℕ, Bool, true, false, not, cond, ◌==◌, List}
+use Rattle.std.proofs.Common.{Option, None, Some, option_map, unwrap_or, refl, ap}
+use Rattle.std.specs.Option.{option_or}
+use Rattle.std.proofs.lemmas.Bool.{eqb-true}
+use Rattle.psci_board.specs.Board.{BoardValue}
+use Rattle.psci_fw_spec.specs.declared.opening.Opening.{Opening}
+use Rattle.psci_fw_spec.specs.After.{change}
+use Rattle.psci_fw_spec.specs.Changes.{target}
+use Rattle.psci_fw_spec.specs.Effects.{Effect, AsksOn, Rests}
+use Rattle.psci_fw_spec.specs.Effects.{Enters, Parks, StopsAtOnce}
+use Rattle.psci_fw_spec.specs.Exchange.{FwExchange}
+use Rattle.psci_fw_spec.specs.History.{begins, life, opening, says_opening, values_of}
+use Rattle.psci_link.specs.OnlyIf.{only_if}
+use Rattle.psci_fw_spec.specs.Lives.{first_opening}
+use Rattle.psci_fw_spec.specs.Said.{arrived}
+use Rattle.psci_fw_spec.proofs.Says.{found, said, said_or}
+
+-- of each effect
+module _ (b : BoardValue) (h : List FwExchange) where
+  found_opening : (now : ℕ) (t : Bool) (k : ℕ)
+      → cond (not t) (first_opening b k) (opening b h k) ≡ (found b h now t).opening k
+  unfolding values_of
+  found_opening now true k = refl
+  found_opening now false k = refl
+
+  -- the opening of a core that enters is used up
+  enters : (now c : ℕ) (t : Bool) (k : ℕ)
+      → unwrap_or (only_if (k == c) (Some None)) (cond (not t) (first_opening b k) (opening b h k))
+      ≡ cond (k == c) None ((found b h now t).opening k)
+  enters now c t k =
+      said (k == c) None _ ∙ ap (cond (k == c) None) (found_opening now t k)
+
+  -- a core that stops has an opening from then on, or the one that it had
+  rests : (c k : ℕ) (o : Option Opening) (t : Bool) → (k == c) ≡ t
+      → unwrap_or (option_or (only_if t (option_map (λ p. Some p) o)) None) (opening b h k)
+      ≡ cond t (option_or o (opening b h c)) (opening b h k)
+  rests c k None true e = ap (opening b h) (eqb-true k c e)
+  rests c k (Some o) true e = refl
+  rests c k o false e = refl
+
+  pub opening_more : (f : Effect) (k : ℕ)
+      → unwrap_or (says_opening k h f)
+      (cond (begins (life b h) (arrived f)) (first_opening b k) (opening b h k))
+      ≡ (change b f (values_of b h)).opening k
+  unfolding values_of
+  opening_more (AsksOn c asked) k =
+      said_or (k == target asked) (Some asked.opening) (opening b h k)
+  opening_more (Rests c rest m) k = rests c k rest.opening (k == c) refl
+  opening_more (Enters c s) k = enters s.life c (s.life == life b h) k
+  opening_more (Parks c s m) k = enters s.life c (s.life == life b h) k
+  opening_more (StopsAtOnce c s) k = enters s.life c (s.life == life b h) k
+  opening_more f k = refl

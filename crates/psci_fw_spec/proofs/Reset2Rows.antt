@@ -1,0 +1,215 @@
+-- Worked examples: SYSTEM_RESET2.
+use Rattle.std.proofs.Common.{◌∷◌, [], Some, None, false, true, refl}
+use Rattle.psci_link.specs.declared.kind.Kind.TheVariants.{Off, Reset}
+use Rattle.psci_fw_spec.specs.declared.fault.FwFault.TheVariants.{NoCore, NoLife, NotRunning}
+use Rattle.psci_fw_spec.specs.Phases.{Away, Running}
+use Rattle.psci_fw_spec.proofs.Steps.{◌⇒◌, AreAnswered, affinity, board, boot, boots, computing}
+use Rattle.psci_fw_spec.proofs.Steps.{enter_boot, enter_on, enter_wake, error, features, goes_on_3}
+use Rattle.psci_fw_spec.proofs.Steps.{goes_to, limited, message, off, old, on, on_3, one_cluster}
+use Rattle.psci_fw_spec.proofs.Steps.{one_core, part, refused, set_mode, smc, starts, stops}
+use Rattle.psci_fw_spec.proofs.Steps.{stops_by, stops_still, suspend, system_off, system_reset}
+use Rattle.psci_fw_spec.proofs.Steps.{system_reset2, take, take_down, tall, uneven, used, value}
+use Rattle.psci_fw_spec.proofs.Steps.{version}
+use Rattle.psci_fw_spec.proofs.ValueRows.{Says, two_run}
+
+-- Types ---------------------------------------------------------------------------------------
+
+-- types of a vendor and reserved types are refused, and the caller goes on; type 0 resets
+types_of_reset : AreAnswered board
+    (boot ⇒ boots
+    ∷ on_3 ⇒ starts 3 1 0
+    ∷ affinity 0x101 0 ⇒ value 2
+    ∷ enter_on 3 1 1 ⇒ goes_on_3
+    ∷ system_reset2 3 0x80000000 0 ⇒ error 2
+    ∷ system_reset2 3 1 0 ⇒ error 2
+    ∷ smc 3 0x84000012 0 0x55 0 ⇒ stops_by Reset 3 1 1 []
+    ∷ version 0 ⇒ stops_still
+    ∷ take Reset 3 1 1 1 false ⇒ used
+    ∷ enter_boot 0 2 1 ⇒ boots
+    ∷ affinity 0x101 0 ⇒ value 1 ∷ [])
+unfolding computing
+types_of_reset = record { history = refl; values = refl }
+
+-- the ends of the types, and each bit by itself
+other_types : AreAnswered board
+    (boot ⇒ boots
+    ∷ system_reset2 0 0xffffffff 0 ⇒ error 2
+    ∷ system_reset2 0 0x7fffffff 0 ⇒ error 2
+    ∷ system_reset2 0 0x80000001 0 ⇒ error 2
+    ∷ system_reset2 0 2 0 ⇒ error 2
+    ∷ system_reset2 0 0x100 0 ⇒ error 2
+    ∷ smc 0 0x84000012 0x80000000 0 0 ⇒ error 2
+    ∷ smc 0 0x84000012 0xffffffff 0 0 ⇒ error 2
+    ∷ version 0 ⇒ value 65537 ∷ [])
+unfolding computing
+other_types = record { history = refl; values = refl }
+
+-- a type has 32 bits in both conventions: the upper half of its register says nothing
+wide_type : AreAnswered board
+    (boot ⇒ boots
+    ∷ system_reset2 0 0xffffffff00000001 0 ⇒ error 2
+    ∷ system_reset2 0 0xffffffff00000000 0 ⇒ stops_by Reset 0 1 1 [] ∷ [])
+unfolding computing
+wide_type = record { history = refl; values = refl }
+
+narrow_type : AreAnswered board
+    (boot ⇒ boots
+    ∷ smc 0 0x84000012 0xffffffff00000002 0 0 ⇒ error 2
+    ∷ smc 0 0x84000012 0xffffffff00000000 0 0 ⇒ stops_by Reset 0 1 1 [] ∷ [])
+unfolding computing
+narrow_type = record { history = refl; values = refl }
+
+-- the cookie is not looked at
+any_cookie : AreAnswered board
+    (boot ⇒ boots
+    ∷ system_reset2 0 1 0xffffffffffffffff ⇒ error 2
+    ∷ system_reset2 0 0 0xffffffffffffffff ⇒ stops_by Reset 0 1 1 [] ∷ [])
+unfolding computing
+any_cookie = record { history = refl; values = refl }
+
+-- its words are there, and neither has a flag
+features_of_reset2 : AreAnswered board
+    (boot ⇒ boots
+    ∷ features 0x84000012 ⇒ value 0
+    ∷ features 0xc4000012 ⇒ value 0 ∷ [])
+unfolding computing
+features_of_reset2 = record { history = refl; values = refl }
+
+-- Callers -------------------------------------------------------------------------------------
+
+-- each core resets with its own known start, on boards of one and of three levels
+only_core_resets : AreAnswered one_core
+    (boot ⇒ boots
+    ∷ system_reset2 0 3 0 ⇒ error 2
+    ∷ system_reset2 0 0 0 ⇒ stops_by Reset 0 1 1 [] ∷ [])
+unfolding computing
+only_core_resets = record { history = refl; values = refl }
+
+last_core_of_a_tall_board_resets : AreAnswered tall
+    (boot ⇒ boots
+    ∷ on 0x10100 0x40001000 7 ⇒ starts 3 1 0
+    ∷ enter_on 3 1 6 ⇒ goes_on_3
+    ∷ system_reset2 3 1 0 ⇒ error 2
+    ∷ system_reset2 3 0 0 ⇒ stops_by Reset 3 1 6 []
+    ∷ version 0 ⇒ stops_still ∷ [])
+unfolding computing
+last_core_of_a_tall_board_resets = record { history = refl; values = refl }
+
+core_of_an_uneven_board_resets : AreAnswered uneven
+    (boot ⇒ boots
+    ∷ on 0x101 0x40001000 7 ⇒ starts 2 1 0
+    ∷ enter_on 2 1 4 ⇒ goes_to 0x40001000 7
+    ∷ system_reset2 2 0 0 ⇒ stops_by Reset 2 1 4 []
+    ∷ take Reset 0 1 4 1 false ⇒ old
+    ∷ take Reset 2 1 4 1 false ⇒ used ∷ [])
+unfolding computing
+core_of_an_uneven_board_resets = record { history = refl; values = refl }
+
+-- what is wrong with the caller comes before what is wrong with the type
+callers_refused : AreAnswered board
+    (system_reset2 4 1 0 ⇒ refused NoCore
+    ∷ system_reset2 3 1 0 ⇒ refused NoLife
+    ∷ system_reset2 0 0 0 ⇒ refused NoLife
+    ∷ boot ⇒ boots
+    ∷ system_reset2 3 1 0 ⇒ refused NotRunning
+    ∷ system_reset2 3 0 0 ⇒ refused NotRunning
+    ∷ version 0 ⇒ value 65537 ∷ [])
+unfolding computing
+callers_refused = record { history = refl; values = refl }
+
+-- Neighbors, modes and limits -----------------------------------------------------------------
+
+-- beside a core that is pending, one that is suspended and one that goes off; what is outstanding
+-- for them stays
+beside_resting_cores : AreAnswered board
+    (boot ⇒ boots
+    ∷ on_3 ⇒ starts 3 1 0
+    ∷ on 0x001 0x40005000 0 ⇒ starts 1 1 0
+    ∷ on 0x100 0x40006000 0 ⇒ starts 2 1 0
+    ∷ enter_on 1 1 1 ⇒ goes_to 0x40005000 0
+    ∷ enter_on 2 1 1 ⇒ goes_to 0x40006000 0
+    ∷ suspend 1 0x1 0 0 ⇒ stops 1 1 1 (part 0 1 1 ∷ [])
+    ∷ off 2 ⇒ stops 2 1 1 (part 0 3 1 ∷ [])
+    ∷ system_reset2 0 0 0 ⇒ stops_by Reset 0 1 1 []
+    ∷ take_down 2 1 1 1 ⇒ used
+    ∷ take_down 1 1 1 1 ⇒ used
+    ∷ enter_on 3 1 1 ⇒ stops_still
+    ∷ enter_wake 1 1 2 ⇒ stops_still ∷ [])
+unfolding computing
+beside_resting_cores = record { history = refl; values = refl }
+
+-- in OS-initiated mode
+reset2_in_os_mode : AreAnswered one_cluster
+    (boot ⇒ boots
+    ∷ set_mode 0 1 ⇒ value 0
+    ∷ on 0x2 0x40001000 7 ⇒ starts 2 1 0
+    ∷ enter_on 2 1 2 ⇒ goes_to 0x40001000 7
+    ∷ system_reset2 2 0x80000000 0 ⇒ error 2
+    ∷ system_reset2 0 1 0 ⇒ error 2
+    ∷ system_reset2 2 0 0 ⇒ stops_by Reset 2 1 2 []
+    ∷ set_mode 0 0 ⇒ stops_still ∷ [])
+unfolding computing
+reset2_in_os_mode = record { history = refl; values = refl }
+
+-- at the start limit, and in the last life
+reset2_at_the_limits : AreAnswered (limited 1 1)
+    (boot ⇒ boots
+    ∷ on_3 ⇒ starts 3 1 0
+    ∷ enter_on 3 1 1 ⇒ goes_on_3
+    ∷ system_reset2 3 1 0 ⇒ error 2
+    ∷ system_reset2 3 0 0 ⇒ stops_by Reset 3 1 1 [] ∷ [])
+unfolding computing
+reset2_at_the_limits = record { history = refl; values = refl }
+
+-- Lives ---------------------------------------------------------------------------------------
+
+-- in a halting life it stops its caller, whatever its type, and sends nothing
+reset2_in_a_halting_life : AreAnswered one_cluster
+    (boot ⇒ boots
+    ∷ on 0x1 0x40005000 0 ⇒ starts 1 1 0
+    ∷ on 0x2 0x40001000 7 ⇒ starts 2 1 0
+    ∷ enter_on 1 1 1 ⇒ goes_to 0x40005000 0
+    ∷ enter_on 2 1 1 ⇒ goes_to 0x40001000 7
+    ∷ system_off 0 ⇒ stops_by Off 0 1 1 []
+    ∷ system_reset2 1 1 0 ⇒ stops_still
+    ∷ system_reset2 2 0 0 ⇒ stops_still
+    ∷ take Reset 2 1 1 1 false ⇒ old
+    ∷ take Off 0 1 1 1 false ⇒ used ∷ [])
+unfolding computing
+reset2_in_a_halting_life = record { history = refl; values = refl }
+
+-- a life that it ends is halting: SYSTEM_OFF and SYSTEM_RESET send nothing any more, and the next
+-- life is not halting
+life_ended_by_reset2 : AreAnswered one_cluster
+    (boot ⇒ boots
+    ∷ on 0x1 0x40005000 0 ⇒ starts 1 1 0
+    ∷ on 0x2 0x40001000 7 ⇒ starts 2 1 0
+    ∷ enter_on 1 1 1 ⇒ goes_to 0x40005000 0
+    ∷ enter_on 2 1 1 ⇒ goes_to 0x40001000 7
+    ∷ system_reset2 1 0 9 ⇒ stops_by Reset 1 1 1 []
+    ∷ system_off 0 ⇒ stops_still
+    ∷ system_reset 2 ⇒ stops_still
+    ∷ enter_boot 0 2 1 ⇒ boots
+    ∷ system_reset2 0 2 0 ⇒ error 2
+    ∷ system_reset2 0 0 0 ⇒ stops_by Reset 0 2 1 []
+    ∷ enter_boot 0 3 1 ⇒ boots
+    ∷ version 0 ⇒ value 65537 ∷ [])
+unfolding computing
+life_ended_by_reset2 = record { history = refl; values = refl }
+
+-- Values --------------------------------------------------------------------------------------
+
+-- the caller is away and ON, claims nothing, and the life is halting
+reset2_called : Says (boot ∷ on_3 ∷ enter_on 3 1 2 ∷ system_reset2 3 0 0x55 ∷ [])
+    (record two_run {
+      halting = true;
+      phase = Running ∷ Away ∷ Away ∷ Away ∷ Away ∷ [];
+      outstanding = None ∷ None ∷ None ∷ None ∷ None ∷ Some (message Reset 3 1 2 []) ∷ [];
+    })
+unfolding computing
+reset2_called = record { history = refl; kept = refl }
+
+-- a type that is refused leaves everything as it was
+reset2_refused : Says (boot ∷ on_3 ∷ enter_on 3 1 2 ∷ system_reset2 3 0x80000000 0 ∷ []) two_run
+unfolding computing
+reset2_refused = record { history = refl; kept = refl }

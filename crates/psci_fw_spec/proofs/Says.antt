@@ -1,0 +1,100 @@
+-- What one more entry says of life, halting, mode and known starts is what its effect leaves.
+use Rattle.std.proofs.Common.{◌≡◌, ◌∙◌, ℕ, Bool, true, false, not, cond, ◌==◌, List}
+use Rattle.std.proofs.Common.{None, Some, unwrap_or, refl, ap}
+use Rattle.std.specs.Option.{option_or}
+use Rattle.std.proofs.lemmas.Bool.{eqb-true}
+use Rattle.psci_board.specs.Board.{BoardValue}
+use Rattle.psci_fw_spec.specs.declared.mode.SuspendMode.TheVariants.{Platform}
+use Rattle.psci_link.specs.declared.start.Start.{Start}
+use Rattle.psci_fw_spec.specs.After.{change}
+use Rattle.psci_fw_spec.specs.Effects.{Effect}
+use Rattle.psci_fw_spec.specs.Effects.{Enters, Parks, StopsAtOnce}
+use Rattle.psci_fw_spec.specs.Exchange.{FwExchange}
+use Rattle.psci_fw_spec.specs.History.{begins, halting, known, life, life_after, mode}
+use Rattle.psci_link.specs.OnlyIf.{only_if}
+use Rattle.psci_fw_spec.specs.History.{says_halting, says_known, says_mode, values_of}
+use Rattle.psci_fw_spec.specs.Lives.{start_of_life}
+use Rattle.psci_fw_spec.specs.Said.{arrived}
+use Rattle.psci_fw_spec.specs.Values.{Values}
+
+-- something is said of one core, or of no other
+pub said : {A : Type 0} (t : Bool) (x y : A) → unwrap_or (only_if t (Some x)) y ≡ cond t x y
+said true x y = refl
+said false x y = refl
+
+-- the same, where nothing else is said
+pub said_or : {A : Type 0} (t : Bool) (x y : A)
+    → unwrap_or (option_or (only_if t (Some x)) None) y ≡ cond t x y
+said_or true x y = refl
+said_or false x y = refl
+
+-- the values that a core finds that enters in this life, where the life is the firmware's or not
+abbrev pub found : BoardValue → List FwExchange → ℕ → Bool → Values
+found b h now t = cond t (values_of b h) (start_of_life b now)
+
+-- of each effect
+module _ (b : BoardValue) (h : List FwExchange) where
+  abbrev left_by : Effect → Values
+  left_by f = change b f (values_of b h)
+
+  found_life : (now : ℕ) (t : Bool) → (now == life b h) ≡ t → now ≡ (found b h now t).life
+  unfolding values_of
+  found_life now true e = eqb-true now (life b h) e
+  found_life now false e = refl
+
+  pub life_more : (f : Effect) → life_after (arrived f) (life b h) ≡ (left_by f).life
+  unfolding values_of
+  life_more (Enters c s) = found_life s.life (s.life == life b h) refl
+  life_more (Parks c s m) = found_life s.life (s.life == life b h) refl
+  life_more (StopsAtOnce c s) = found_life s.life (s.life == life b h) refl
+  life_more f = refl
+
+  found_halting : (now : ℕ) (t : Bool)
+      → cond (not t) false (halting b h) ≡ (found b h now t).halting
+  unfolding values_of
+  found_halting now true = refl
+  found_halting now false = refl
+
+  pub halting_more : (f : Effect)
+      → unwrap_or (says_halting h f) (cond (begins (life b h) (arrived f)) false (halting b h))
+      ≡ (left_by f).halting
+  unfolding values_of
+  halting_more (Enters c s) = found_halting s.life (s.life == life b h)
+  halting_more (Parks c s m) = found_halting s.life (s.life == life b h)
+  halting_more (StopsAtOnce c s) = found_halting s.life (s.life == life b h)
+  halting_more f = refl
+
+  found_mode : (now : ℕ) (t : Bool) → cond (not t) Platform (mode b h) ≡ (found b h now t).mode
+  unfolding values_of
+  found_mode now true = refl
+  found_mode now false = refl
+
+  pub mode_more : (f : Effect)
+      → unwrap_or (says_mode h f) (cond (begins (life b h) (arrived f)) Platform (mode b h))
+      ≡ (left_by f).mode
+  unfolding values_of
+  mode_more (Enters c s) = found_mode s.life (s.life == life b h)
+  mode_more (Parks c s m) = found_mode s.life (s.life == life b h)
+  mode_more (StopsAtOnce c s) = found_mode s.life (s.life == life b h)
+  mode_more f = refl
+
+  found_known : (now : ℕ) (t : Bool) (k : ℕ)
+      → cond (not t) 0 (known b h k) ≡ (found b h now t).known k
+  unfolding values_of
+  found_known now true k = refl
+  found_known now false k = refl
+
+  enters_known : (c : ℕ) (s : Start) (k : ℕ) (t : Bool)
+      → unwrap_or (only_if (k == c) (Some s.number)) (cond (not t) 0 (known b h k))
+      ≡ cond (k == c) s.number ((found b h s.life t).known k)
+  enters_known c s k t =
+      said (k == c) s.number _ ∙ ap (cond (k == c) s.number) (found_known s.life t k)
+
+  pub known_more : (f : Effect) (k : ℕ)
+      → unwrap_or (says_known k h f) (cond (begins (life b h) (arrived f)) 0 (known b h k))
+      ≡ (left_by f).known k
+  unfolding values_of
+  known_more (Enters c s) k = enters_known c s k (s.life == life b h)
+  known_more (Parks c s m) k = enters_known c s k (s.life == life b h)
+  known_more (StopsAtOnce c s) k = enters_known c s k (s.life == life b h)
+  known_more f k = refl

@@ -1,0 +1,6 @@
+-- The boot core's first start.
+use Rattle.psci_fw_spec.proofs.Arrivals.{first_answer}
+use Rattle.psci_fw_spec.proofs.laws.law_first_start.Goals as goal
+
+pub returns : goal.returns
+returns c = first_answer

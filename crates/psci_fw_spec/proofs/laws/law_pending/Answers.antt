@@ -1,0 +1,6 @@
+-- Status and phase say the same of a pending core.
+use Rattle.psci_fw_spec.proofs.PendingCores.{pending_same}
+use Rattle.psci_fw_spec.proofs.laws.law_pending.Goals as goal
+
+pub returns : goal.returns
+returns c = pending_same

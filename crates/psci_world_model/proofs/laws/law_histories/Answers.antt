@@ -1,6 +1,0 @@
--- In the histories of a legal past every reply is the one reply.
-use Rattle.psci_world_model.proofs.Answered.{controller_answered, firmware_legal}
-use Rattle.psci_world_model.proofs.laws.law_histories.Goals as goal
-
-pub returns : goal.returns
-returns c = record { firmware = firmware_legal; controller = controller_answered }

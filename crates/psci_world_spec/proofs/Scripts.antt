@@ -1,0 +1,161 @@
+-- Worked examples are stated so: events in turn, and what is said of each.
+use Rattle.std.proofs.Common.{◌≡◌, ℕ, ℤ, Bool, List, [], ◌∷◌, length, map, reverse, Option, None}
+use Rattle.std.proofs.Common.{Some}
+use Rattle.std.specs.List.{range_with_len}
+use Rattle.psci_board.specs.Board.{BoardValue, core_of, node_of, up}
+use Rattle.psci_coord.specs.declared.part.Part.{Part}
+use Rattle.psci_coord.specs.Claim.{claims_of}
+use Rattle.psci_coord.specs.LastCore.{last_core_check, refusal, shallow, shallow_at}
+use Rattle.psci_coord.specs.View.{generation, is_all_off, is_idle, least_ask}
+use Rattle.psci_link.specs.declared.start.Cause.{Cause}
+use Rattle.psci_ctl_spec.specs.Effects.{effect_of}
+use Rattle.psci_ctl_spec.specs.History as controls
+use Rattle.psci_ctl_spec.specs.Parts.{applied, is_stale}
+use Rattle.psci_ctl_spec.specs.Replies.{delivery_of, reply, reset_of, wake_of}
+use Rattle.psci_ctl_spec.specs.Values.{starts_below}
+use Rattle.psci_fw_spec.specs.declared.outcome.Act.TheVariants as acts
+use Rattle.psci_fw_spec.specs.AffinityInfo.{node_status}
+use Rattle.psci_fw_spec.specs.Answer.{answer}
+use Rattle.psci_fw_spec.specs.Calls.{outcome_of}
+use Rattle.psci_fw_spec.specs.Claims.{off_parts, suspend_parts}
+use Rattle.psci_fw_spec.specs.CpuOn.{target_of}
+use Rattle.psci_fw_spec.specs.Entering.{enter_outcome}
+use Rattle.psci_fw_spec.specs.History as remembers
+use Rattle.psci_fw_spec.specs.Views.{view}
+use Rattle.psci_link.specs.declared.kind.Kind.{Kind}
+use Rattle.psci_link.specs.declared.taken.Taken.TheVariants as takens
+use Rattle.psci_link.specs.Outstanding.{changes_since, last_message, outstanding}
+use Rattle.psci_world_spec.specs.declared.event.Event.{Event}
+use Rattle.psci_world_spec.specs.declared.event.Event.TheVariants.{Call}
+use Rattle.psci_world_spec.specs.declared.place.Place.{Place}
+use Rattle.psci_world_spec.specs.declared.said.Said.{Said}
+use Rattle.psci_world_spec.specs.declared.said.Said.TheVariants.{Fw, Kick, Acked, Taken}
+use Rattle.psci_world_spec.specs.declared.said.Sent.{Sent}
+use Rattle.psci_world_spec.specs.Histories.{acks, controller_history, firmware_history, sent}
+use Rattle.psci_world_spec.specs.Legal.{legal, run_from}
+use Rattle.psci_world_spec.specs.Places.{place}
+
+-- what an example unfolds to compute what is said of events that are written out
+unfoldable pub computing : Unit {0}
+unfolding run_from legal place sent acks controller_history firmware_history remembers.values_of
+    controls.values_of answer outcome_of enter_outcome target_of core_of node_of node_status
+    off_parts suspend_parts view up claims_of least_ask generation is_all_off is_idle
+    last_core_check refusal shallow shallow_at outstanding last_message changes_since effect_of
+    reply delivery_of wake_of reset_of applied is_stale starts_below
+computing = tt
+
+-- two clusters of two cores
+abbrev pub board : BoardValue
+board = record {
+  levels = (2 ∷ 2 ∷ []) ∷ (2 ∷ []) ∷ [];
+  ranges = record { start = 0x40000000; end = 0x40100000 } ∷ [];
+  boot = 0x40000000;
+  starts = 1000;
+  lives = 3;
+}
+
+-- the same with other limits: of starts, of lives
+abbrev pub limited : ℕ → ℕ → BoardValue
+limited starts lives = record board { starts = starts; lives = lives }
+
+-- one core
+abbrev pub one_core : BoardValue
+one_core = record board { levels = (1 ∷ []) ∷ [] }
+
+-- two groups of two clusters of one core
+abbrev pub tall : BoardValue
+tall = record board { levels = (1 ∷ 1 ∷ 1 ∷ 1 ∷ []) ∷ (2 ∷ 2 ∷ []) ∷ (2 ∷ []) ∷ [] }
+
+-- a core calls with these registers
+abbrev pub call : ℕ → ℕ → ℕ → ℕ → ℕ → Event
+call c x0 x1 x2 x3 = Call c (record { x0 = x0; x1 = x1; x2 = x2; x3 = x3 })
+
+-- PSCI_VERSION by a core
+abbrev pub version : ℕ → Event
+version c = call c 0x84000000 0 0 0
+
+-- the boot core asks core 3 on
+abbrev pub on_3 : Event
+on_3 = call 0 0xc4000003 0x101 0x40001000 7
+
+-- the boot core asks for the status of core 3
+abbrev pub status_3 : Event
+status_3 = call 0 0xc4000004 0x101 0 0
+
+-- a core asks for retention of itself alone
+abbrev pub retention : ℕ → Event
+retention c = call c 0xc4000001 0x2 0 0
+
+-- CPU_OFF, SYSTEM_OFF and SYSTEM_RESET by a core
+abbrev pub off : ℕ → Event
+off c = call c 0x84000002 0 0 0
+
+abbrev pub system_off : ℕ → Event
+system_off c = call c 0x84000008 0 0 0
+
+abbrev pub system_reset : ℕ → Event
+system_reset c = call c 0x84000009 0 0 0
+
+-- a part: level, depth, generation
+abbrev pub part : ℕ → ℕ → ℕ → Part
+part level depth generation = record { level = level; depth = depth; generation = generation }
+
+-- no message
+abbrev pub nothing : Option Sent
+nothing = None
+
+-- a message: its number, kind, core, life, number of its start, parts
+abbrev pub sends : ℕ → Kind → ℕ → ℕ → ℕ → List Part → Option Sent
+sends index kind c life number parts = Some (record {
+  index = index;
+  message = record {
+    kind = kind;
+    core = record { number = c };
+    life = life;
+    number = number;
+    parts = parts;
+  };
+})
+
+-- outcomes
+abbrev pub returns : ℤ → Option Sent → Said
+returns code sent = Fw (acts.Return (record { 0 = code })) sent
+
+abbrev pub stops : Option Sent → Said
+stops sent = Fw acts.Stop sent
+
+abbrev pub enters : ℕ → ℕ → Said
+enters address context = Fw (acts.Enter address context) None
+
+abbrev pub resumes : Said
+resumes = Fw acts.Resume None
+
+-- a start: life, number, cause
+abbrev pub started : ℕ → ℕ → Cause → Said
+started life number cause = Kick (record { life = life; number = number; cause = cause })
+
+-- an acknowledgement: its number, kind, core, life, number, how much was applied, whether stale
+abbrev pub acked : ℕ → Kind → ℕ → ℕ → ℕ → ℕ → Bool → Said
+acked index kind c life number applied stale = Acked index (record {
+  kind = kind;
+  core = record { number = c };
+  life = life;
+  number = number;
+  applied = applied;
+  stale = stale;
+})
+
+abbrev pub used : Said
+used = Taken takens.Used
+
+abbrev pub old : Said
+old = Taken takens.Old
+
+-- of these events this is said, each after the events before it
+abbrev pub IsSaid : BoardValue → List Event → List Said → Type 0
+IsSaid b events said = reverse (map (λ r. r.said) (run_from b [] events)) ≡ said
+
+-- after these events the cores are at these places, the boot core first
+abbrev pub ArePlaced : BoardValue → List Event → List Place → Type 0
+ArePlaced b events places =
+    map (λ c. place b (run_from b [] events) c) (range_with_len 0 (length places)) ≡ places
