@@ -4,9 +4,9 @@ use Rattle.std.proofs.Common.{◌++◌, length, take, drop, refl, ap, sym, ◌�
 use Rattle.std.proofs.Common.{subst, Option, Result, Ok, Err, inl}
 use Rattle.std.proofs.lemmas.List.{take-append-drop, length-take-le}
 use Rattle.std.specs.Io.KnownBytes.{Appends, Consumes, IsAtEnd}
-use Rattle.psci_board.specs.Board.{BoardValue}
-use Rattle.psci_board.specs.Verdict.{board_of}
-use Rattle.psci_board.specs.declared.fault.BoardFault.{BoardFault}
+use Rattle.psci_script.specs.psci_board.Board.{BoardValue}
+use Rattle.psci_script.specs.psci_board.Verdict.{board_of}
+use Rattle.psci_script.specs.psci_board.declared.fault.BoardFault.{BoardFault}
 use Rattle.psci_world.specs.Seen.{IsPresent, PresentValue}
 use Rattle.psci_script.specs.declared.fault.Replayed.{Replayed}
 use Rattle.psci_script.specs.declared.fault.ScriptFault.{ScriptFault}
@@ -21,7 +21,7 @@ use Rattle.psci_bench.specs.Progress.{Progress, progress, Ahead, WriteFailed, Is
 use Rattle.psci_script.specs.Script.{Transcript, after_line, transcript, transcript_of_rest}
 use Rattle.psci_script.specs.Script.{transcript_of_first, transcript_of_board, transcript_of_lines}
 use Rattle.psci_script.specs.Script.{board_line, ok_or, ends_unanswered}
-use Rattle.psci_text.specs.Reading.{literal_at}
+use Rattle.psci_script.specs.psci_text.Reading.{literal_at}
 use Rattle.std.specs.Prelude.{codes}
 use Rattle.psci_bench.specs.Run.{LinesAnswered, Ended, CutShort, Unwritten, IsUnderWay}
 use Rattle.psci_bench.proofs.Known.{appends_more}

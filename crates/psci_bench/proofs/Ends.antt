@@ -5,8 +5,8 @@ use Rattle.std.proofs.Common.{subst, Option, None, Result, Ok, Err, inr}
 use Rattle.std.proofs.Math.Seq.{take-length}
 use Rattle.std.proofs.lemmas.List.{take-append-drop, length-take-le}
 use Rattle.std.specs.Io.KnownBytes.{Consumes, IsAtEnd}
-use Rattle.psci_board.specs.Board.{BoardValue}
-use Rattle.psci_world_spec.specs.declared.said.Record.{Record}
+use Rattle.psci_script.specs.psci_board.Board.{BoardValue}
+use Rattle.psci_script.specs.psci_world_spec.declared.said.Record.{Record}
 use Rattle.psci_script.specs.declared.fault.Replayed.{Replayed}
 use Rattle.psci_script.specs.declared.fault.ScriptFault.{ScriptFault}
 use Rattle.psci_script.specs.declared.fault.ScriptFault.TheVariants.{NoBoard, Line, Long, TooMany}

@@ -3,13 +3,13 @@ use Rattle.std.proofs.Common.{◌≡◌, ℕ, ◌+◌, List, [], ◌∷◌, ◌+
 use Rattle.std.proofs.Common.{Option, None, Some}
 use Rattle.std.specs.Prelude.{IfSome, Result}
 use Rattle.std.proofs.lemmas.List.{append-nil, append_assoc}
-use Rattle.psci_board.specs.Board.{BoardValue, IsBoard}
-use Rattle.psci_board.specs.Verdict.{board_of}
-use Rattle.psci_board.specs.declared.fault.BoardFault.{BoardFault}
+use Rattle.psci_script.specs.psci_board.Board.{BoardValue, IsBoard}
+use Rattle.psci_script.specs.psci_board.Verdict.{board_of}
+use Rattle.psci_script.specs.psci_board.declared.fault.BoardFault.{BoardFault}
 use Rattle.psci_world.specs.Safe.{AlwaysSafe}
-use Rattle.psci_world_spec.specs.declared.event.Event.{Event}
-use Rattle.psci_world_spec.specs.declared.said.Record.{Record}
-use Rattle.psci_world_spec.specs.Legal.{IsLegalPast, legal, legal_record, run_from}
+use Rattle.psci_script.specs.psci_world_spec.declared.event.Event.{Event}
+use Rattle.psci_script.specs.psci_world_spec.declared.said.Record.{Record}
+use Rattle.psci_script.specs.psci_world_spec.Legal.{IsLegalPast, legal, legal_record, run_from}
 use Rattle.psci_script.specs.declared.fault.Replayed.{Replayed}
 use Rattle.psci_script.specs.declared.fault.ReplayFault.{ReplayFault}
 use Rattle.psci_script.specs.declared.fault.ReplayFault.TheVariants.{Script, Board, Read, Write}

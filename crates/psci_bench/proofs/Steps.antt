@@ -3,9 +3,9 @@ use Rattle.std.proofs.Common.{◌≡◌, ℕ, ◌+◌, ◌<◌, ◌≤◌, List,
 use Rattle.std.proofs.Common.{◌∙◌, arith, append-nil, subst, Option, Some, None, Result, Ok, Err}
 use Rattle.std.proofs.Common.{IsErr, IsErrAnd, IfErr, inl, inr}
 use Rattle.std.proofs.lemmas.List.{length-take-le}
-use Rattle.psci_board.specs.Board.{BoardValue}
-use Rattle.psci_world_spec.specs.declared.said.Record.{Record}
-use Rattle.psci_world_spec.specs.Legal.{legal, legal_record}
+use Rattle.psci_script.specs.psci_board.Board.{BoardValue}
+use Rattle.psci_script.specs.psci_world_spec.declared.said.Record.{Record}
+use Rattle.psci_script.specs.psci_world_spec.Legal.{legal, legal_record}
 use Rattle.psci_world.specs.Seen.{PresentValue}
 use Rattle.psci_script.specs.declared.grammar.Line.{Line as LineSays}
 use Rattle.psci_script.specs.declared.grammar.Line.TheVariants.{Blank, Event as Says}

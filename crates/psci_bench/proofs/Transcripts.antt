@@ -6,10 +6,10 @@ use Rattle.std.proofs.Math.Seq.{take-append-add}
 use Rattle.std.proofs.lemmas.List.{take_all, take-append-drop, length-take-le}
 use Rattle.std.proofs.lemmas.Bool.Decides.{nat_tests}
 use Rattle.std.specs.Io.KnownBytes.{Consumes}
-use Rattle.psci_board.specs.Board.{BoardValue}
-use Rattle.psci_world_spec.specs.declared.event.Event.{Event}
-use Rattle.psci_world_spec.specs.declared.said.Record.{Record}
-use Rattle.psci_world_spec.specs.Legal.{legal, legal_record}
+use Rattle.psci_script.specs.psci_board.Board.{BoardValue}
+use Rattle.psci_script.specs.psci_world_spec.declared.event.Event.{Event}
+use Rattle.psci_script.specs.psci_world_spec.declared.said.Record.{Record}
+use Rattle.psci_script.specs.psci_world_spec.Legal.{legal, legal_record}
 use Rattle.psci_world.specs.Seen.{PresentValue}
 use Rattle.psci_script.specs.declared.grammar.Line.{Line as LineSays}
 use Rattle.psci_script.specs.declared.grammar.Line.TheVariants.{Blank, Event as Says}

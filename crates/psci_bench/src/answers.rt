@@ -9,8 +9,7 @@ ghost use Rattle.psci_script.specs.Text.{answer_line};
 
 use crate::device::Sink;
 use crate::transfer::write_all;
-use psci_script::{Act, Answer, LONGEST_RETURN, ReplayFault, write_return};
-use psci_world_spec::Said;
+use psci_script::{Act, Answer, LONGEST_RETURN, ReplayFault, Said, write_return};
 use std::alloc::{AllocError, Global};
 use std::marker::Model;
 

@@ -2,9 +2,8 @@
 
 ghost use Rattle.psci_bench.specs.ScriptRun.{AllSafe};
 
-use psci_board::law_boards;
-use psci_world::law_safe;
-use psci_world_spec::law_runs;
+use psci_script::law_boards;
+use psci_world::{law_runs, law_safe};
 
 /// The answer text of every script is that of the legal run of its events, up to the first fault,
 /// and this run is safe at every moment.

@@ -2,8 +2,8 @@
 
 ghost use Rattle.std.specs.Prelude.{◌≡◌, ◌+◌, ◌-◌, ◌^◌, ◌<◌, ◌≤◌, ℕ, List, length, false, Option};
 ghost use Rattle.std.specs.Prelude.{IfOk, IfErr, OnOk};
-ghost use Rattle.psci_board.specs.Board.{BoardValue};
-ghost use Rattle.psci_world_spec.specs.declared.said.Record.{Record};
+ghost use Rattle.psci_script.specs.psci_board.Board.{BoardValue};
+ghost use Rattle.psci_script.specs.psci_world_spec.declared.said.Record.{Record};
 ghost use Rattle.psci_world.specs.Seen.{IsPresent};
 ghost use Rattle.psci_script.specs.Limits.{longest_line, most_lines};
 ghost use Rattle.psci_bench.specs.Progress.{IsFirst, IsLine, OnlyGivenUp};
@@ -18,10 +18,10 @@ use crate::block::Block;
 use crate::device::{Sink, Source};
 use crate::laws::law_safe_scripts;
 use crate::progress::Progress;
-use psci_board::{Board, BoardFault};
-use psci_script::{Extent, Line, ReplayFault, Replayed, ScriptFault, read_line};
-use psci_text::literal;
-use psci_world::Present;
+use psci_script::{
+    BoardFault, Extent, Line, ReplayFault, Replayed, ScriptFault, literal, read_line,
+};
+use psci_world::{Board, Present};
 use std::alloc::Global;
 
 /// The board of a first line.

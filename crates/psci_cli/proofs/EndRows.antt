@@ -1,12 +1,13 @@
 -- How commands end, and how they do not.
 use Rattle.std.proofs.Common.{Ok, Err, refl, inl, inr}
-use Rattle.psci_board.specs.Board.{BoardValue}
-use Rattle.psci_board.specs.declared.fault.BoardFault.TheVariants as boards
+use Rattle.psci_command.specs.psci_board.Board.{BoardValue}
+use Rattle.psci_command.specs.psci_board.declared.fault.BoardFault.TheVariants as boards
 use Rattle.psci_command.specs.declared.exit.Failure.TheVariants.{CommandLine, Replay}
 use Rattle.psci_command.specs.declared.exit.Failure.TheVariants.{Board as GivenBoard}
-use Rattle.psci_script.specs.declared.fault.ReplayFault.TheVariants.{Board, Memory, Read, Script}
-use Rattle.psci_script.specs.declared.fault.ReplayFault.TheVariants.{Write}
-use Rattle.psci_script.specs.declared.fault.ScriptFault.TheVariants as scripts
+use Rattle.psci_command.specs.psci_script.declared.fault.ReplayFault.TheVariants.{Board, Memory}
+use Rattle.psci_command.specs.psci_script.declared.fault.ReplayFault.TheVariants.{Read, Script}
+use Rattle.psci_command.specs.psci_script.declared.fault.ReplayFault.TheVariants.{Write}
+use Rattle.psci_command.specs.psci_script.declared.fault.ScriptFault.TheVariants as scripts
 use Rattle.psci_cli.specs.Ends.{IsOfReplay, StormEnds}
 
 -- a replay ends early by a fault of its own, of whatever kind, and not by the command line

@@ -1,12 +1,12 @@
 -- How the commands end.
 use Rattle.std.specs.Prelude.{◌≡◌, ◌⊎◌, ⊤, Result, Ok, Err, IsOk}
-use Rattle.psci_board.specs.Board.{BoardValue}
-use Rattle.psci_board.specs.Verdict.{Answers}
-use Rattle.psci_board.specs.declared.fault.BoardFault.{BoardFault}
+use Rattle.psci_command.specs.psci_board.Board.{BoardValue}
+use Rattle.psci_command.specs.psci_board.Verdict.{Answers}
+use Rattle.psci_command.specs.psci_board.declared.fault.BoardFault.{BoardFault}
 use Rattle.psci_command.specs.declared.exit.Failure.{Failure}
 use Rattle.psci_command.specs.declared.exit.Failure.TheVariants.{CommandLine, Replay}
 use Rattle.psci_command.specs.declared.exit.Failure.TheVariants.{Board as GivenBoard}
-use Rattle.psci_script.specs.declared.fault.ReplayFault.TheVariants.{Memory, Write}
+use Rattle.psci_command.specs.psci_script.declared.fault.ReplayFault.TheVariants.{Memory, Write}
 
 -- a replay ends early by a fault of its own, and not by the command line
 abbrev pub IsOfReplay : Failure → Type 0

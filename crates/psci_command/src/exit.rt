@@ -4,8 +4,7 @@ ghost use Rattle.std.specs.Prelude.{◌≡◌, ◌++◌, ◌∷◌, [], OnOk};
 ghost use Rattle.std.specs.Io.KnownBytes.{Appends};
 ghost use Rattle.psci_command.specs.Exit.{given_board_report, report, status_of};
 
-use psci_board::BoardFault;
-use psci_script::{ReplayFault, ScriptFault};
+use psci_script::{BoardFault, ReplayFault, ScriptFault};
 use std::fmt;
 use std::io::{self, Write};
 

@@ -4,3 +4,6 @@ pub mod Laws
 pub mod Looked
 pub mod View
 pub mod Wish
+pub use Rattle.psci_state.specs.psci_abi
+pub use Rattle.psci_state.specs as psci_state
+pub use Rattle.psci_tree.specs as psci_tree

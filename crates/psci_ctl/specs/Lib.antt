@@ -1,2 +1,3 @@
 pub mod Rows
 pub mod Seen
+pub use Rattle.psci_ctl_spec.specs as psci_ctl_spec

@@ -36,7 +36,7 @@ use Rattle.psci_fw_spec.specs.Phases.{Running, Suspended, activity_of}
 use Rattle.psci_fw_spec.specs.SystemCalls.{all_others, is_off_status}
 use Rattle.psci_fw_spec.specs.Values.{Values}
 use Rattle.psci_fw_spec.specs.Views.{ask, view}
-use Rattle.psci_tree.specs.Recount.{asks}
+use Rattle.psci_coord.specs.psci_tree.Recount.{asks}
 
 -- Nothing is granted on the path ----------------------------------------------------------------
 

@@ -3,3 +3,7 @@ pub mod Halts
 pub mod Seen
 pub mod Suspending
 pub mod Ways
+pub use Rattle.psci_abi.specs as psci_abi
+pub use Rattle.psci_board.specs as psci_board
+pub use Rattle.psci_link.specs as psci_link
+pub use Rattle.psci_fw_spec.specs as psci_fw_spec

@@ -19,7 +19,10 @@ mod suspend;
 mod system;
 
 pub use firmware::Firmware;
+pub use psci_abi::{Code, Regs};
+pub use psci_board::law_sizes;
 pub use psci_fw_spec::{
     Act, Cause, FwCall, FwFault, FwReply, Opening, Outcome, Start, Status, SuspendMode, law_caller,
     law_first_start, law_power_on, law_values,
 };
+pub use psci_link::Taken;

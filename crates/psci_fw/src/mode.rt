@@ -68,7 +68,7 @@ fn are_others_away(board: &Board, state: &State, caller: Core) -> bool
 fn is_some_waiting(board: &Board, state: &State) -> bool
     ensures { let phase = (values_in state.now).phase in
         result ≡ list_any (λ k. is_suspended_or_pending (phase k))
-            (range_with_len 0 (cores board.now)) }
+        (range_with_len 0 (cores board.now)) }
 {
     (0..board.cores()).any(|number| state.is_waiting(Core { number }))
 }

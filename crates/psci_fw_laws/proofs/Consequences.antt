@@ -11,7 +11,7 @@ use Rattle.psci_coord.specs.View.{generation}
 use Rattle.psci_link.specs.declared.kind.Kind.{Kind}
 use Rattle.psci_link.specs.declared.kind.Kind.TheVariants.{Down}
 use Rattle.psci_link.specs.Message.{ArePartsOf, AreClaims, MessageValue, PartByPart}
-use Rattle.psci_tree.specs.Recount.{asks}
+use Rattle.psci_coord.specs.psci_tree.Recount.{asks}
 use Rattle.psci_fw_spec.specs.declared.status.Status.{Status}
 use Rattle.psci_fw_spec.specs.declared.status.Status.TheVariants as statuses
 use Rattle.psci_fw_spec.specs.AffinityInfo.{is_on}

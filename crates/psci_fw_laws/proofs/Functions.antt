@@ -1,8 +1,8 @@
 -- What a function is answered is allowed.
 use Rattle.std.proofs.Common.{◌≡◌, ℕ, true, false, []}
 use Rattle.std.proofs.Common.{refl}
-use Rattle.psci_abi.specs.declared.request.Request.{Request}
-use Rattle.psci_abi.specs.declared.request.Request.TheVariants as requests
+use Rattle.psci_coord.specs.psci_abi.declared.request.Request.{Request}
+use Rattle.psci_coord.specs.psci_abi.declared.request.Request.TheVariants as requests
 use Rattle.psci_board.specs.Board.{BoardValue}
 use Rattle.psci_link.specs.declared.kind.Kind.{Kind}
 use Rattle.psci_link.specs.declared.kind.Kind.TheVariants as kinds

@@ -23,3 +23,4 @@ pub mod Stopping
 pub mod Sums
 pub mod Targets
 pub mod ValueRows
+pub use Rattle.psci_fw_spec.proofs as fw_spec

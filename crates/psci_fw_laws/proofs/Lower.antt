@@ -6,7 +6,7 @@ use Rattle.psci_coord.specs.declared.part.Part.{Part}
 use Rattle.psci_coord.specs.Laws.{BelowLaws, ClaimLaws, LastCoreLaws, PlatformLaws}
 use Rattle.psci_coord.specs.View.{PowerView}
 use Rattle.psci_link.specs.Message.{AreClaims, PartByPart}
-use Rattle.psci_state.specs.Ask.{IsAsk}
+use Rattle.psci_coord.specs.psci_state.Ask.{IsAsk}
 use Rattle.psci_link.specs.declared.start.Start.{Start}
 use Rattle.psci_fw_spec.specs.After.{change}
 use Rattle.psci_fw_spec.specs.Changes.{PowerOn, with_arrival, with_pending}

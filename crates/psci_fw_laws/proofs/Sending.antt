@@ -7,7 +7,7 @@ use Rattle.psci_board.specs.Laws.{PathLaws}
 use Rattle.psci_coord.specs.declared.part.Part.{Part}
 use Rattle.psci_link.specs.declared.kind.Kind.TheVariants.{Down, Start}
 use Rattle.psci_link.specs.Message.{MessageValue}
-use Rattle.psci_tree.specs.Recount.{asks}
+use Rattle.psci_coord.specs.psci_tree.Recount.{asks}
 use Rattle.psci_fw_spec.specs.Phases.{Phase, Pending, activity_of}
 use Rattle.psci_fw_spec.specs.Values.{updated}
 use Rattle.psci_fw_laws.specs.Messages.{AreSent, IsSent}

@@ -2,13 +2,13 @@
 use Rattle.std.proofs.Common.{◌≡◌, ℕ, ◌≤◌, false, List}
 use Rattle.std.proofs.Common.{Some, Ok, refl, subst, ap, sym, ◌∙◌}
 use Rattle.std.specs.Prelude.{slice_get}
-use Rattle.psci_abi.specs.declared.request.Request.{Request}
-use Rattle.psci_abi.specs.declared.request.Request.TheVariants as requests
+use Rattle.psci_coord.specs.psci_abi.declared.request.Request.{Request}
+use Rattle.psci_coord.specs.psci_abi.declared.request.Request.TheVariants as requests
 use Rattle.psci_board.specs.Board.{BoardValue, height}
 use Rattle.psci_coord.specs.declared.part.Part.{Part}
 use Rattle.psci_link.specs.declared.kind.Kind.TheVariants as kinds
-use Rattle.psci_state.specs.Ask.{IsAsk, deepest_of}
-use Rattle.psci_tree.specs.Recount.{asks}
+use Rattle.psci_coord.specs.psci_state.Ask.{IsAsk, deepest_of}
+use Rattle.psci_coord.specs.psci_tree.Recount.{asks}
 use Rattle.psci_fw_spec.specs.declared.opening.Opening.{Opening}
 use Rattle.psci_fw_spec.specs.After.{change}
 use Rattle.psci_fw_spec.specs.Changes.{Rest, with_rest}

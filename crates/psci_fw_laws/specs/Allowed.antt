@@ -7,7 +7,7 @@ use Rattle.psci_coord.specs.declared.part.Part.{Part}
 use Rattle.psci_link.specs.declared.kind.Kind.TheVariants.{Down, Start}
 use Rattle.psci_link.specs.Message.{AckValue, MessageValue}
 use Rattle.psci_link.specs.Slots.{answers, is_kind, slot_of}
-use Rattle.psci_tree.specs.Recount.{asks}
+use Rattle.psci_coord.specs.psci_tree.Recount.{asks}
 use Rattle.psci_link.specs.declared.start.Start as starts
 use Rattle.psci_fw_spec.specs.declared.status.Status.TheVariants.{Off}
 use Rattle.psci_fw_spec.specs.Changes.{PowerOn, Rest, target, with_arrival, with_phase, with_rest}

@@ -6,7 +6,7 @@ use Rattle.psci_coord.specs.declared.part.Part.{Part}
 use Rattle.psci_link.specs.declared.kind.Kind.{Kind}
 use Rattle.psci_link.specs.declared.kind.Kind.TheVariants.{Down, Start, Off, Reset}
 use Rattle.psci_link.specs.Message.{ArePartsOf, MessageValue}
-use Rattle.psci_tree.specs.Recount.{asks}
+use Rattle.psci_coord.specs.psci_tree.Recount.{asks}
 use Rattle.psci_fw_spec.specs.Phases.{Phase, Pending, activity_of}
 use Rattle.psci_fw_laws.specs.KnownBelow.{known_below}
 

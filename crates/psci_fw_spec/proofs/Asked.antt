@@ -11,7 +11,7 @@ use Rattle.psci_coord.specs.Laws.{LastCoreLaws}
 use Rattle.psci_coord.specs.View.{PowerView, domain_of, is_all_off, least_ask}
 use Rattle.psci_link.specs.Message.{AreClaims, PartByPart}
 use Rattle.psci_state.specs.Ask.{IsAsk}
-use Rattle.psci_tree.specs.Recount.{IsActivity, asks, is_off}
+use Rattle.psci_coord.specs.psci_tree.Recount.{IsActivity, asks, is_off}
 use Rattle.psci_fw_spec.specs.Invariant.{IsPhase}
 use Rattle.psci_fw_spec.specs.Phases.{Phase, Pending, Running, Suspended, Away, activity_of}
 use Rattle.psci_fw_spec.specs.Values.{Values}

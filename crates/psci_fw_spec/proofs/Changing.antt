@@ -6,7 +6,7 @@ use Rattle.psci_board.specs.Board.{BoardValue, cores}
 use Rattle.psci_link.specs.declared.kind.Kind.TheVariants.{Down}
 use Rattle.psci_link.specs.Message.{AckValue, MessageValue}
 use Rattle.psci_link.specs.Slots.{is_kind}
-use Rattle.psci_tree.specs.Recount.{is_off}
+use Rattle.psci_coord.specs.psci_tree.Recount.{is_off}
 use Rattle.psci_link.specs.declared.start.Start.{Start}
 use Rattle.psci_fw_spec.specs.declared.status.Status.{Status}
 use Rattle.psci_fw_spec.specs.declared.status.Status.TheVariants as statuses

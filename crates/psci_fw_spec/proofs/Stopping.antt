@@ -9,7 +9,7 @@ use Rattle.psci_coord.specs.declared.part.Part.{Part}
 use Rattle.psci_coord.specs.View.{PowerView}
 use Rattle.psci_link.specs.Message.{MessageValue}
 use Rattle.psci_state.specs.Ask.{IsAsk}
-use Rattle.psci_tree.specs.Recount.{is_off}
+use Rattle.psci_coord.specs.psci_tree.Recount.{is_off}
 use Rattle.psci_fw_spec.specs.declared.mode.SuspendMode.{SuspendMode}
 use Rattle.psci_fw_spec.specs.declared.mode.SuspendMode.TheVariants.{Platform, OsInitiated}
 use Rattle.psci_fw_spec.specs.declared.opening.Opening.{Opening}

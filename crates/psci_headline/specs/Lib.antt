@@ -1,3 +1,4 @@
 pub mod Live
 pub mod PoweredDown
 pub use Rattle.psci_safe.specs.Safe
+pub use Rattle.psci_world_laws.specs.psci_fw_laws

@@ -11,3 +11,4 @@ pub use laws::law_safe;
 pub use live::{law_asked_claims, law_claimed_depths, law_live_claims, law_none_executes};
 pub use openings::law_one_entry;
 pub use powered_down::law_off_is_down;
+pub use psci_world_laws::{law_messages, law_sent};

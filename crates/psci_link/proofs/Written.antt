@@ -68,7 +68,7 @@ frame-written b bytes (headings.Message kind) fits has sound =
     let n = count_in bytes in
     let parts = parts_in n (part_fields_in bytes) in
     let forty : length (part_fields_in bytes) ≡ 40 = omega
-        (arith, length-drop 13 bytes, has.whole) in
+    (arith, length-drop 13 bytes, has.whole) in
     same-fields (kind_code kind) (slice_index bytes 2) (slice_index bytes 3) (length parts) n
     (to_be_bytes w32 (word_at bytes 4)) (slice_range bytes 4 8)
     (to_be_bytes w32 (word_at bytes 8)) (slice_range bytes 8 12) (part_fields parts)
@@ -82,7 +82,7 @@ frame-written b bytes (headings.Message kind) fits has sound =
     ∙ frame-fields bytes has.magic has.whole
 frame-written b bytes (headings.Ack kind stale) fits has sound =
     let forty : length (part_fields_in bytes) ≡ 40 = omega
-        (arith, length-drop 13 bytes, has.whole) in
+    (arith, length-drop 13 bytes, has.whole) in
     same-fields (heading_byte (headings.Ack kind stale)) (slice_index bytes 2) (slice_index bytes 3)
     (count_in bytes) (count_in bytes)
     (to_be_bytes w32 (word_at bytes 4)) (slice_range bytes 4 8)

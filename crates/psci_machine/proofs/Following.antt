@@ -1,17 +1,17 @@
 -- A machine that is as after some records, and the next event: it is as after one record more.
 use Rattle.std.proofs.Common.{◌≡◌, List, [], ◌∷◌, ◌++◌, reverse, refl, ap, sym, ◌∙◌, subst}
 use Rattle.std.proofs.lemmas.List.{reverse-reverse}
-use Rattle.psci_board.specs.Board.{BoardValue}
+use Rattle.psci_fw.specs.psci_board.Board.{BoardValue}
 use Rattle.psci_ctl.specs.Seen.{seen as seen_controller}
-use Rattle.psci_ctl_spec.specs.Changes as changes
-use Rattle.psci_ctl_spec.specs.Exchange as controls
-use Rattle.psci_ctl_spec.specs.History as controlled
-use Rattle.psci_ctl_spec.specs.Values as controlled_values
+use Rattle.psci_ctl.specs.psci_ctl_spec.Changes as changes
+use Rattle.psci_ctl.specs.psci_ctl_spec.Exchange as controls
+use Rattle.psci_ctl.specs.psci_ctl_spec.History as controlled
+use Rattle.psci_ctl.specs.psci_ctl_spec.Values as controlled_values
 use Rattle.psci_fw.specs.Seen.{seen as seen_firmware}
-use Rattle.psci_fw_spec.specs.After.{after}
-use Rattle.psci_fw_spec.specs.Exchange as answers
-use Rattle.psci_fw_spec.specs.History as kept
-use Rattle.psci_link.specs.Message.{AckValue, MessageValue}
+use Rattle.psci_fw.specs.psci_fw_spec.After.{after}
+use Rattle.psci_fw.specs.psci_fw_spec.Exchange as answers
+use Rattle.psci_fw.specs.psci_fw_spec.History as kept
+use Rattle.psci_fw.specs.psci_link.Message.{AckValue, MessageValue}
 use Rattle.psci_world_spec.specs.declared.event.Event.{Event}
 use Rattle.psci_world_spec.specs.declared.said.Record.{Record}
 use Rattle.psci_world_spec.specs.declared.said.Said.{Said}

@@ -3,24 +3,24 @@ use Rattle.std.proofs.Common.{◌≡◌, ℕ, ◌<◌, ◌==◌, Bool, true, fal
 use Rattle.std.proofs.Common.{Some, cond, reverse, refl, ap, sym, ◌∙◌, subst}
 use Rattle.std.specs.Prelude.{is_some, nat_lt, slice_get, unwrap_or}
 use Rattle.std.proofs.lemmas.List.{reverse-reverse}
-use Rattle.psci_board.specs.Board.{BoardValue, cores}
-use Rattle.psci_board.specs.declared.node.Core.{Core}
+use Rattle.psci_fw.specs.psci_board.Board.{BoardValue, cores}
+use Rattle.psci_fw.specs.psci_board.declared.node.Core.{Core}
 use Rattle.psci_ctl.specs.Seen.{ControllerValue, seen}
-use Rattle.psci_ctl_spec.specs.declared.call.CtlCall.{CtlCall}
-use Rattle.psci_ctl_spec.specs.declared.call.CtlCall.TheVariants as calls
-use Rattle.psci_ctl_spec.specs.declared.delivery.Delivery.TheVariants as deliveries
-use Rattle.psci_ctl_spec.specs.declared.kick.Kick.{Kick}
-use Rattle.psci_ctl_spec.specs.declared.kick.Kick.TheVariants as kicks
-use Rattle.psci_ctl_spec.specs.declared.reply.CtlReply.TheVariants as replies
-use Rattle.psci_ctl_spec.specs.Changes.{after, change, next_life}
-use Rattle.psci_ctl_spec.specs.Effects.{Begins, Ends, effect_of, message_effect}
-use Rattle.psci_ctl_spec.specs.Replies.{ack_by, delivery_of, is_this_life, reply}
-use Rattle.psci_ctl_spec.specs.Values.{Values}
+use Rattle.psci_ctl.specs.psci_ctl_spec.declared.call.CtlCall.{CtlCall}
+use Rattle.psci_ctl.specs.psci_ctl_spec.declared.call.CtlCall.TheVariants as calls
+use Rattle.psci_ctl.specs.psci_ctl_spec.declared.delivery.Delivery.TheVariants as deliveries
+use Rattle.psci_ctl.specs.psci_ctl_spec.declared.kick.Kick.{Kick}
+use Rattle.psci_ctl.specs.psci_ctl_spec.declared.kick.Kick.TheVariants as kicks
+use Rattle.psci_ctl.specs.psci_ctl_spec.declared.reply.CtlReply.TheVariants as replies
+use Rattle.psci_ctl.specs.psci_ctl_spec.Changes.{after, change, next_life}
+use Rattle.psci_ctl.specs.psci_ctl_spec.Effects.{Begins, Ends, effect_of, message_effect}
+use Rattle.psci_ctl.specs.psci_ctl_spec.Replies.{ack_by, delivery_of, is_this_life, reply}
+use Rattle.psci_ctl.specs.psci_ctl_spec.Values.{Values}
 use Rattle.psci_fw.specs.Seen as firmware
 use Rattle.psci_fw.specs.Seen.{FirmwareValue}
-use Rattle.psci_link.specs.declared.kind.Kind.{Kind}
-use Rattle.psci_link.specs.declared.kind.Kind.TheVariants as kinds
-use Rattle.psci_link.specs.Message.{AckValue, MessageValue}
+use Rattle.psci_fw.specs.psci_link.declared.kind.Kind.{Kind}
+use Rattle.psci_fw.specs.psci_link.declared.kind.Kind.TheVariants as kinds
+use Rattle.psci_fw.specs.psci_link.Message.{AckValue, MessageValue}
 use Rattle.psci_world_spec.specs.declared.event.Event.TheVariants.{Wake, Reset, Deliver}
 use Rattle.psci_world_spec.specs.declared.place.Place.{Place}
 use Rattle.psci_world_spec.specs.declared.place.Place.TheVariants.{Started, Stopped}

@@ -1,20 +1,20 @@
 -- What is said of an event by the values before it, and what the event leaves of them.
 use Rattle.std.specs.Prelude.{◌≡◌, ◌<◌, ◌==◌, ℕ, List, [], ◌∷◌, Option, None, Some}
 use Rattle.std.specs.Prelude.{if◌then◌else◌, reverse, unwrap_or}
-use Rattle.psci_board.specs.Board.{BoardValue, cores}
+use Rattle.psci_fw.specs.psci_board.Board.{BoardValue, cores}
 use Rattle.psci_ctl.specs.Seen.{seen as seen_controller}
-use Rattle.psci_ctl_spec.specs.declared.kick.Kick.{Kick}
-use Rattle.psci_ctl_spec.specs.declared.kick.Kick.TheVariants.{Started as Kicked}
-use Rattle.psci_ctl_spec.specs.declared.kick.Kick.TheVariants.{Ignored as NotKicked}
-use Rattle.psci_link.specs.declared.start.Start.{Start}
-use Rattle.psci_ctl_spec.specs.Changes as changes
-use Rattle.psci_ctl_spec.specs.Exchange as controls
-use Rattle.psci_ctl_spec.specs.Values as controlled
+use Rattle.psci_ctl.specs.psci_ctl_spec.declared.kick.Kick.{Kick}
+use Rattle.psci_ctl.specs.psci_ctl_spec.declared.kick.Kick.TheVariants.{Started as Kicked}
+use Rattle.psci_ctl.specs.psci_ctl_spec.declared.kick.Kick.TheVariants.{Ignored as NotKicked}
+use Rattle.psci_fw.specs.psci_link.declared.start.Start.{Start}
+use Rattle.psci_ctl.specs.psci_ctl_spec.Changes as changes
+use Rattle.psci_ctl.specs.psci_ctl_spec.Exchange as controls
+use Rattle.psci_ctl.specs.psci_ctl_spec.Values as controlled
 use Rattle.psci_fw.specs.Seen.{seen as seen_firmware}
-use Rattle.psci_fw_spec.specs.After.{after}
-use Rattle.psci_fw_spec.specs.Exchange as answers
-use Rattle.psci_fw_spec.specs.Values as kept
-use Rattle.psci_link.specs.Message.{AckValue, MessageValue}
+use Rattle.psci_fw.specs.psci_fw_spec.After.{after}
+use Rattle.psci_fw.specs.psci_fw_spec.Exchange as answers
+use Rattle.psci_fw.specs.psci_fw_spec.Values as kept
+use Rattle.psci_fw.specs.psci_link.Message.{AckValue, MessageValue}
 use Rattle.psci_world_spec.specs.declared.event.Event.{Event}
 use Rattle.psci_world_spec.specs.declared.place.Place.{Place}
 use Rattle.psci_world_spec.specs.declared.place.Place.TheVariants.{Started, Running, Stopped}

@@ -1,6 +1,6 @@
 -- What the machine is seen as, and what holds of it.
 use Rattle.std.specs.Prelude.{◌≡◌, ◌<◌, ℕ, List, length, slice_index_or}
-use Rattle.psci_board.specs.Board.{BoardValue, IsBoard, cores}
+use Rattle.psci_fw.specs.psci_board.Board.{BoardValue, IsBoard, cores}
 use Rattle.psci_ctl.specs.Seen.{ControllerValue}
 use Rattle.psci_ctl.specs.Seen as controller
 use Rattle.psci_fw.specs.Seen.{FirmwareValue}

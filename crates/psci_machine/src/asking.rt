@@ -2,14 +2,14 @@
 
 ghost use Rattle.std.specs.Prelude.{◌≡◌, ◌<◌, ◌==◌, ℕ, List, None, Some, if◌then◌else◌, nat_lt};
 ghost use Rattle.std.specs.Prelude.{slice_get};
-ghost use Rattle.psci_board.specs.Board.{cores};
+ghost use Rattle.psci_fw.specs.psci_board.Board.{cores};
 ghost use Rattle.psci_ctl.specs.Seen as controller;
-ghost use Rattle.psci_ctl_spec.specs.Replies.{last_start};
+ghost use Rattle.psci_ctl.specs.psci_ctl_spec.Replies.{last_start};
 ghost use Rattle.psci_fw.specs.Seen.{seen};
-ghost use Rattle.psci_fw_spec.specs.declared.call.FwCall.TheVariants as calls;
-ghost use Rattle.psci_fw_spec.specs.declared.reply.FwReply.TheVariants as replies;
-ghost use Rattle.psci_fw_spec.specs.Answer.{answer};
-ghost use Rattle.psci_link.specs.Message.{AckValue, MessageValue};
+ghost use Rattle.psci_fw.specs.psci_fw_spec.declared.call.FwCall.TheVariants as calls;
+ghost use Rattle.psci_fw.specs.psci_fw_spec.declared.reply.FwReply.TheVariants as replies;
+ghost use Rattle.psci_fw.specs.psci_fw_spec.Answer.{answer};
+ghost use Rattle.psci_fw.specs.psci_link.Message.{AckValue, MessageValue};
 ghost use Rattle.psci_world_spec.specs.declared.event.Event.TheVariants as events;
 ghost use Rattle.psci_world_spec.specs.Legal.{if_running, on_board, said_of};
 ghost use Rattle.psci_world_spec.specs.Places.{place_after};
@@ -18,10 +18,8 @@ ghost use Rattle.psci_machine.specs.Seen.{machine_board, place_in};
 
 use crate::machine::Machine;
 use crate::place::place_after;
-use psci_abi::Regs;
-use psci_board::{Core, law_sizes};
-use psci_fw_spec::Outcome;
-use psci_link::Ack;
+use psci_ctl::{Ack, Core};
+use psci_fw::{Outcome, Regs, law_sizes};
 use psci_world_spec::{Place, Said, Sent};
 
 impl Machine {

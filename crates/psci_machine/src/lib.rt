@@ -9,9 +9,6 @@ mod place;
 mod starting;
 
 pub use machine::Machine;
-pub use psci_abi::Regs;
-pub use psci_board::{Board, Core, Memory};
-pub use psci_ctl::Controller;
-pub use psci_fw::Firmware;
-pub use psci_link::{Ack, Message};
-pub use psci_world_spec::{Event, Place, Said};
+pub use psci_ctl::{Ack, Board, Controller, Core, Kind, Memory, Message, Node, Part, Parts};
+pub use psci_fw::{Act, Cause, Code, Firmware, Regs, Start, Status, Taken};
+pub use psci_world_spec::{Event, Place, Record, Said, Sent, law_histories, law_runs};

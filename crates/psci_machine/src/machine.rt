@@ -1,11 +1,10 @@
 //! The machine of one board.
 
 use crate::place::first_places;
-use psci_board::{Board, Core, Memory};
-use psci_ctl::{Controller, law_values as law_controller_values};
-use psci_fw::Firmware;
-use psci_fw_spec::law_values;
-use psci_link::{Ack, Message};
+use psci_ctl::{
+    Ack, Board, Controller, Core, Memory, Message, law_values as law_controller_values,
+};
+use psci_fw::{Firmware, law_values};
 use psci_world_spec::{Event, Place, Said};
 use std::alloc::Global;
 use std::marker::Model;
@@ -39,9 +38,9 @@ impl Model for Machine {
 }
 
 ghost use Rattle.std.specs.Prelude.{◌≡◌, ◌<◌, ℕ, List, [], ◌∷◌, IfOk, reverse, slice_get, Some};
-ghost use Rattle.psci_board.specs.Board.{BoardValue, cores};
-ghost use Rattle.psci_link.specs.Message.{MessageValue};
-ghost use Rattle.psci_ctl_spec.specs.Legal.{IsOfBoard};
+ghost use Rattle.psci_fw.specs.psci_board.Board.{BoardValue, cores};
+ghost use Rattle.psci_fw.specs.psci_link.Message.{MessageValue};
+ghost use Rattle.psci_ctl.specs.psci_ctl_spec.Legal.{IsOfBoard};
 ghost use Rattle.psci_world_spec.specs.declared.said.Record.{Record};
 ghost use Rattle.psci_world_spec.specs.Histories.{acks, sent};
 ghost use Rattle.psci_world_spec.specs.Legal.{legal};

@@ -5,8 +5,8 @@ ghost use Rattle.psci_world_spec.specs.declared.place.Place.TheVariants.{Stopped
 ghost use Rattle.psci_world_spec.specs.Places.{first_place, place_after};
 ghost use Rattle.psci_machine.specs.Seen.{place_in};
 
-use psci_board::Memory;
-use psci_fw_spec::Act;
+use psci_ctl::Memory;
+use psci_fw::Act;
 use psci_world_spec::Place;
 use std::alloc::Global;
 

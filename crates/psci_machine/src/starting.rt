@@ -2,16 +2,16 @@
 
 ghost use Rattle.std.specs.Prelude.{◌≡◌, ◌<◌, ◌==◌, ℕ, List, Some, if◌then◌else◌, nat_lt};
 ghost use Rattle.std.specs.Prelude.{is_some, slice_get, unwrap_or};
-ghost use Rattle.psci_board.specs.Board.{cores};
+ghost use Rattle.psci_fw.specs.psci_board.Board.{cores};
 ghost use Rattle.psci_ctl.specs.Seen.{seen};
-ghost use Rattle.psci_ctl_spec.specs.declared.call.CtlCall.TheVariants as calls;
-ghost use Rattle.psci_ctl_spec.specs.declared.kick.Kick.TheVariants as kicks;
-ghost use Rattle.psci_ctl_spec.specs.declared.reply.CtlReply.TheVariants as replies;
-ghost use Rattle.psci_ctl_spec.specs.Effects.{message_effect};
-ghost use Rattle.psci_ctl_spec.specs.Legal.{IsOfBoard};
-ghost use Rattle.psci_ctl_spec.specs.Replies.{reply};
-ghost use Rattle.psci_link.specs.declared.kind.Kind.TheVariants as kinds;
-ghost use Rattle.psci_link.specs.Message.{AckValue, MessageValue};
+ghost use Rattle.psci_ctl.specs.psci_ctl_spec.declared.call.CtlCall.TheVariants as calls;
+ghost use Rattle.psci_ctl.specs.psci_ctl_spec.declared.kick.Kick.TheVariants as kicks;
+ghost use Rattle.psci_ctl.specs.psci_ctl_spec.declared.reply.CtlReply.TheVariants as replies;
+ghost use Rattle.psci_ctl.specs.psci_ctl_spec.Effects.{message_effect};
+ghost use Rattle.psci_ctl.specs.psci_ctl_spec.Legal.{IsOfBoard};
+ghost use Rattle.psci_ctl.specs.psci_ctl_spec.Replies.{reply};
+ghost use Rattle.psci_fw.specs.psci_link.declared.kind.Kind.TheVariants as kinds;
+ghost use Rattle.psci_fw.specs.psci_link.Message.{AckValue, MessageValue};
 ghost use Rattle.psci_world_spec.specs.declared.event.Event.TheVariants as events;
 ghost use Rattle.psci_world_spec.specs.declared.place.Place.TheVariants.{Started};
 ghost use Rattle.psci_world_spec.specs.declared.said.Said.TheVariants as says;
@@ -22,9 +22,7 @@ ghost use Rattle.psci_machine.specs.Seen.{machine_board, place_in};
 
 use crate::machine::Machine;
 use crate::place::{begin_life, end_life};
-use psci_board::Core;
-use psci_ctl_spec::{Delivery, Kick};
-use psci_link::{Ack, Kind, Message};
+use psci_ctl::{Ack, Core, Delivery, Kick, Kind, Message};
 use psci_world_spec::{Place, Said};
 
 impl Machine {

@@ -1,7 +1,7 @@
 -- The world is safe at a moment, and at every moment, where the tests say so.
 use Rattle.std.proofs.Common.{◌≡◌, ◌&&◌, ◌↔◌, true, List, [], ◌∷◌}
 use Rattle.std.proofs.lemmas.Bool.{and_from, and_parts}
-use Rattle.psci_board.specs.Board.{BoardValue}
+use Rattle.psci_fw_laws.specs.psci_board.Board.{BoardValue}
 use Rattle.psci_world_spec.specs.declared.said.Record.{Record}
 use Rattle.psci_safe.specs.Safe.{AlwaysSafe, Safe}
 use Rattle.psci_safe.specs.Test.{is_always_safe, is_asked, is_off_down}

@@ -5,8 +5,8 @@ use Rattle.std.proofs.Common.{inr}
 use Rattle.std.specs.List.{list_all}
 use Rattle.std.proofs.lemmas.Bool.{and_from, and_parts, both_ways, eq-eqb, eqb-true, cases_Bool}
 use Rattle.std.proofs.lemmas.Bool.{not-true, not_from_false}
-use Rattle.psci_board.specs.Board.{BoardValue}
-use Rattle.psci_fw_spec.specs.declared.opening.Opening.{Opening}
+use Rattle.psci_fw_laws.specs.psci_board.Board.{BoardValue}
+use Rattle.psci_fw_laws.specs.psci_fw_spec.declared.opening.Opening.{Opening}
 use Rattle.psci_world_spec.specs.declared.said.Record.{Record}
 use Rattle.psci_world_spec.specs.Histories.{firmware_history}
 use Rattle.psci_safe.specs.Openings.{AreTakenUp, Fits, Made, Maker, OfCall, OfLife}

@@ -6,8 +6,8 @@ use Rattle.std.proofs.Common.{is_some, inl, inr}
 use Rattle.std.specs.List.{list_all, range_with_len}
 use Rattle.std.proofs.lemmas.Bool.{and_from, and_parts, cases_eq, eq-eqb, eqb-true, le-leb}
 use Rattle.std.proofs.lemmas.Bool.{leb-true, or_cases, or_left, or_right}
-use Rattle.psci_board.specs.Board.{BoardValue, HasNode, cores, height, nodes, up}
-use Rattle.psci_board.specs.declared.node.Node.{Node}
+use Rattle.psci_fw_laws.specs.psci_board.Board.{BoardValue, HasNode, cores, height, nodes, up}
+use Rattle.psci_fw_laws.specs.psci_board.declared.node.Node.{Node}
 use Rattle.psci_world_spec.specs.declared.place.Place.{Place}
 use Rattle.psci_world_spec.specs.declared.place.Place.TheVariants.{Started, Running, Stopped}
 use Rattle.psci_world_spec.specs.declared.said.Record.{Record}

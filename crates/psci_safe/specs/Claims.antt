@@ -3,18 +3,19 @@ use Rattle.std.specs.Prelude.{ℕ, Bool, ◌&&◌, ◌==◌, nat_le, List, [], �
 use Rattle.std.specs.Prelude.{Option, None, Some, option_and_then, option_map}
 use Rattle.std.specs.List.{list_all}
 use Rattle.std.specs.Prelude.{if◌then◌else◌}
-use Rattle.psci_board.specs.Board.{BoardValue, below}
-use Rattle.psci_board.specs.declared.node.Node.{Node}
-use Rattle.psci_coord.specs.declared.part.Part.{Part}
-use Rattle.psci_link.specs.Message.{MessageValue}
-use Rattle.psci_ctl_spec.specs.Values.{starts_below}
-use Rattle.psci_board.specs.Paths.{is_on_path}
-use Rattle.psci_fw_spec.specs.declared.mode.SuspendMode.{SuspendMode}
-use Rattle.psci_fw_spec.specs.declared.mode.SuspendMode.TheVariants.{Platform, OsInitiated}
-use Rattle.psci_fw_spec.specs.Lives.{start_of_life}
-use Rattle.psci_fw_spec.specs.Said.{listed}
-use Rattle.psci_fw_spec.specs.Values.{Values}
-use Rattle.psci_fw_spec.specs.Views.{ask}
+use Rattle.psci_fw_laws.specs.psci_board.Board.{BoardValue, below}
+use Rattle.psci_fw_laws.specs.psci_board.declared.node.Node.{Node}
+use Rattle.psci_fw_laws.specs.psci_coord.declared.part.Part.{Part}
+use Rattle.psci_fw_laws.specs.psci_link.Message.{MessageValue}
+use Rattle.psci_world_spec.specs.psci_ctl_spec.Values.{starts_below}
+use Rattle.psci_fw_laws.specs.psci_board.Paths.{is_on_path}
+use Rattle.psci_fw_laws.specs.psci_fw_spec.declared.mode.SuspendMode.{SuspendMode}
+use Rattle.psci_fw_laws.specs.psci_fw_spec.declared.mode.SuspendMode.TheVariants.{Platform}
+use Rattle.psci_fw_laws.specs.psci_fw_spec.declared.mode.SuspendMode.TheVariants.{OsInitiated}
+use Rattle.psci_fw_laws.specs.psci_fw_spec.Lives.{start_of_life}
+use Rattle.psci_fw_laws.specs.psci_fw_spec.Said.{listed}
+use Rattle.psci_fw_laws.specs.psci_fw_spec.Values.{Values}
+use Rattle.psci_fw_laws.specs.psci_fw_spec.Views.{ask}
 use Rattle.psci_fw_laws.specs.Claims.{part_for}
 use Rattle.psci_world_spec.specs.declared.said.Record.{Record}
 use Rattle.psci_world_spec.specs.Histories.{controller_values, firmware_values, sent_in}

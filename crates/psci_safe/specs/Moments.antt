@@ -1,11 +1,11 @@
 -- Moments: what is so after all records so far, and what was so at some moment before.
 use Rattle.std.specs.Prelude.{ℕ, Bool, true, false, ◌==◌, ◌&&◌, ◌||◌, not, List, [], ◌∷◌}
 use Rattle.std.specs.Prelude.{nat_lt}
-use Rattle.psci_board.specs.Board.{BoardValue}
-use Rattle.psci_ctl_spec.specs.Replies.{is_this_life}
-use Rattle.psci_fw_spec.specs.declared.outcome.Act.{Act}
-use Rattle.psci_fw_spec.specs.declared.outcome.Act.TheVariants as acts
-use Rattle.psci_fw_spec.specs.SystemCalls.{is_off_status}
+use Rattle.psci_fw_laws.specs.psci_board.Board.{BoardValue}
+use Rattle.psci_world_spec.specs.psci_ctl_spec.Replies.{is_this_life}
+use Rattle.psci_fw_laws.specs.psci_fw_spec.declared.outcome.Act.{Act}
+use Rattle.psci_fw_laws.specs.psci_fw_spec.declared.outcome.Act.TheVariants as acts
+use Rattle.psci_fw_laws.specs.psci_fw_spec.SystemCalls.{is_off_status}
 use Rattle.psci_world_spec.specs.declared.event.Event.{Event}
 use Rattle.psci_world_spec.specs.declared.event.Event.TheVariants.{Call, Enter}
 use Rattle.psci_world_spec.specs.declared.place.Place.{Place}

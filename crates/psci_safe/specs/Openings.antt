@@ -1,21 +1,21 @@
 -- Openings, and the entries that took them up. A history has its newest entry first.
 use Rattle.std.specs.Prelude.{◌≡◌, ℕ, ◌==◌, ◌&&◌, List, [], ◌∷◌, ◌++◌, length, filter, slice_get}
 use Rattle.std.specs.Prelude.{if◌then◌else◌, Option, None, Some, option_and_then, option_map}
-use Rattle.psci_abi.specs.Calls.{request_of}
-use Rattle.psci_abi.specs.declared.request.Request.{Request}
-use Rattle.psci_abi.specs.declared.request.Request.TheVariants.{CpuOn}
-use Rattle.psci_board.specs.Board.{BoardValue, core_of}
-use Rattle.psci_fw_spec.specs.declared.call.FwCall.{FwCall}
-use Rattle.psci_fw_spec.specs.declared.call.FwCall.TheVariants as calls
-use Rattle.psci_fw_spec.specs.declared.opening.Opening.{Opening}
-use Rattle.psci_fw_spec.specs.declared.outcome.Act.{Act}
-use Rattle.psci_fw_spec.specs.declared.outcome.Act.TheVariants as acts
-use Rattle.psci_fw_spec.specs.declared.reply.FwReply.{FwReply}
-use Rattle.psci_fw_spec.specs.declared.reply.FwReply.TheVariants as replies
-use Rattle.psci_fw_spec.specs.Effects.{Effect, AsksOn, Rests}
-use Rattle.psci_fw_spec.specs.Exchange.{FwExchange, effect}
-use Rattle.psci_fw_spec.specs.History.{life}
-use Rattle.psci_fw_spec.specs.Said.{Arrival, arrived, listed}
+use Rattle.psci_fw_laws.specs.psci_abi.Calls.{request_of}
+use Rattle.psci_fw_laws.specs.psci_abi.declared.request.Request.{Request}
+use Rattle.psci_fw_laws.specs.psci_abi.declared.request.Request.TheVariants.{CpuOn}
+use Rattle.psci_fw_laws.specs.psci_board.Board.{BoardValue, core_of}
+use Rattle.psci_fw_laws.specs.psci_fw_spec.declared.call.FwCall.{FwCall}
+use Rattle.psci_fw_laws.specs.psci_fw_spec.declared.call.FwCall.TheVariants as calls
+use Rattle.psci_fw_laws.specs.psci_fw_spec.declared.opening.Opening.{Opening}
+use Rattle.psci_fw_laws.specs.psci_fw_spec.declared.outcome.Act.{Act}
+use Rattle.psci_fw_laws.specs.psci_fw_spec.declared.outcome.Act.TheVariants as acts
+use Rattle.psci_fw_laws.specs.psci_fw_spec.declared.reply.FwReply.{FwReply}
+use Rattle.psci_fw_laws.specs.psci_fw_spec.declared.reply.FwReply.TheVariants as replies
+use Rattle.psci_fw_laws.specs.psci_fw_spec.Effects.{Effect, AsksOn, Rests}
+use Rattle.psci_fw_laws.specs.psci_fw_spec.Exchange.{FwExchange, effect}
+use Rattle.psci_fw_laws.specs.psci_fw_spec.History.{life}
+use Rattle.psci_fw_laws.specs.psci_fw_spec.Said.{Arrival, arrived, listed}
 
 -- Openings ------------------------------------------------------------------------------------
 

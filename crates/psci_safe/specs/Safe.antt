@@ -1,8 +1,8 @@
 -- Safe: what holds at every moment, that is, after all records so far, the newest first.
 use Rattle.std.specs.Prelude.{◌≡◌, ℕ, true, ◌&&◌, ◌==◌, ◌<◌, ◌≤◌, List, [], ◌∷◌, length, IsSome}
 use Rattle.std.specs.List.{list_any}
-use Rattle.psci_board.specs.Board.{BoardValue, HasNode, cores, height, up}
-use Rattle.psci_board.specs.declared.node.Node.{Node}
+use Rattle.psci_fw_laws.specs.psci_board.Board.{BoardValue, HasNode, cores, height, up}
+use Rattle.psci_fw_laws.specs.psci_board.declared.node.Node.{Node}
 use Rattle.psci_world_spec.specs.declared.place.Place.TheVariants.{Running}
 use Rattle.psci_world_spec.specs.declared.said.Record.{Record}
 use Rattle.psci_world_spec.specs.Histories.{controller_values, firmware_history, firmware_values}

@@ -2,8 +2,8 @@
 use Rattle.std.specs.Prelude.{ℕ, ◌+◌, Bool, true, false, ◌==◌, ◌&&◌, ◌||◌, not, nat_le, List, []}
 use Rattle.std.specs.Prelude.{◌∷◌, length, is_some, Option, None, Some}
 use Rattle.std.specs.List.{list_all, list_any, range_with_len}
-use Rattle.psci_board.specs.Board.{BoardValue, cores, height, nodes, up}
-use Rattle.psci_board.specs.declared.node.Node.{Node}
+use Rattle.psci_fw_laws.specs.psci_board.Board.{BoardValue, cores, height, nodes, up}
+use Rattle.psci_fw_laws.specs.psci_board.declared.node.Node.{Node}
 use Rattle.psci_world_spec.specs.declared.place.Place.{Place}
 use Rattle.psci_world_spec.specs.declared.place.Place.TheVariants.{Started, Running, Stopped}
 use Rattle.psci_world_spec.specs.declared.said.Record.{Record}

@@ -1,7 +1,7 @@
 //! What holds of the definitions alone: each law is the contract of a function that does nothing.
 
 ghost use Rattle.std.specs.Prelude.{◌≡◌, ◌↔◌, ◌&&◌, true, List};
-ghost use Rattle.psci_board.specs.Board.{BoardValue};
+ghost use Rattle.psci_fw_laws.specs.psci_board.Board.{BoardValue};
 ghost use Rattle.psci_world_spec.specs.declared.said.Record.{Record};
 ghost use Rattle.psci_world_spec.specs.Histories.{firmware_history};
 ghost use Rattle.psci_safe.specs.Openings.{AreTakenUp};

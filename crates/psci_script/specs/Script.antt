@@ -1,10 +1,10 @@
 -- What the bytes of a script are answered, line by line, up to the first fault.
 use Rattle.std.specs.Prelude.{ℕ, ◌+◌, List, [], ◌∷◌, ◌++◌, length, nat_lt, if◌then◌else◌, Option}
 use Rattle.std.specs.Prelude.{None, Some, Result, Ok, Err, codes}
-use Rattle.psci_board.specs.Board.{BoardValue}
+use Rattle.psci_world_spec.specs.psci_board.Board.{BoardValue}
 use Rattle.psci_text.specs.Reading.{literal_at}
-use Rattle.psci_board.specs.Verdict.{board_of}
-use Rattle.psci_board.specs.declared.fault.BoardFault.{BoardFault}
+use Rattle.psci_world_spec.specs.psci_board.Verdict.{board_of}
+use Rattle.psci_world_spec.specs.psci_board.declared.fault.BoardFault.{BoardFault}
 use Rattle.psci_world_spec.specs.declared.said.Record.{Record}
 use Rattle.psci_world_spec.specs.Legal.{legal, legal_record}
 use Rattle.psci_script.specs.declared.grammar.Line.{Line as LineSays}

@@ -2,10 +2,7 @@
 
 ghost use Rattle.std.specs.Prelude.{Some};
 
-use psci_coord::Part;
-use psci_fw_spec::Act;
-use psci_link::{Ack, Kind, Taken};
-use psci_world_spec::{Said, Sent};
+use psci_world_spec::{Ack, Act, Kind, Part, Said, Sent, Taken};
 use std::fmt;
 
 /// What was said of the event of this number, counted from 1.

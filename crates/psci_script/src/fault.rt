@@ -2,7 +2,7 @@
 
 ghost use Rattle.std.specs.Prelude.{◌≡◌};
 
-use psci_board::{BoardFault, Memory};
+use psci_world_spec::{BoardFault, Memory};
 use std::alloc::AllocError;
 use thiserror::Error;
 

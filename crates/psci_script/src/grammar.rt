@@ -5,9 +5,8 @@ ghost use Rattle.psci_text.specs.Reading.{spaced_at};
 ghost use Rattle.psci_script.specs.Line.{register_at, optional_register_at, call_at, alone_at};
 ghost use Rattle.psci_script.specs.Line.{event_at, line_of};
 
-use psci_abi::Regs;
 use psci_text::{hex, literal, number};
-use psci_world_spec::Event;
+use psci_world_spec::{Event, Regs};
 
 /// What a line says.
 #[derive(Clone, Copy, Debug, PartialEq)]

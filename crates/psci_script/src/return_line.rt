@@ -2,12 +2,12 @@
 
 ghost use Rattle.std.specs.Prelude.{◌≡◌, ◌+◌, ◌≤◌, ◌++◌, ◌∷◌, [], None, codes, drop};
 ghost use Rattle.std.specs.Fmt.{signed_decimal};
-ghost use Rattle.psci_fw_spec.specs.declared.outcome.Act.TheVariants.{Return};
+ghost use Rattle.psci_world_spec.specs.psci_fw_spec.declared.outcome.Act.TheVariants.{Return};
 ghost use Rattle.psci_world_spec.specs.declared.said.Said.TheVariants.{Fw};
 ghost use Rattle.psci_script.specs.Text.{answer_line};
 
 use itoa::write_digits;
-use psci_abi::Code;
+use psci_world_spec::Code;
 
 /// How many bytes such a line has at most: a number of 20 digits, the word between, a code of 11
 /// bytes, and the line feed.

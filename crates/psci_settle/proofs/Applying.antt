@@ -5,18 +5,18 @@ use Rattle.std.specs.Prelude.{slice_get}
 use Rattle.std.proofs.lemmas.Option.{slice_get_within}
 use Rattle.psci_board.specs.Board.{BoardValue, cores, height, up}
 use Rattle.psci_board.specs.Laws.{ChildLaws, PathLaws}
-use Rattle.psci_coord.specs.declared.part.Part.{Part}
-use Rattle.psci_coord.specs.View.{domain_of}
+use Rattle.psci_ctl_spec.specs.psci_coord.declared.part.Part.{Part}
+use Rattle.psci_ctl_spec.specs.psci_coord.View.{domain_of}
 use Rattle.psci_ctl_spec.specs.Parts.{applied}
 use Rattle.psci_ctl_spec.specs.Values.{Values}
-use Rattle.psci_link.specs.declared.kind.Kind.TheVariants as kinds
-use Rattle.psci_link.specs.Message.{MessageValue, PartByPart}
-use Rattle.psci_fw_spec.specs.Phases.{Phase, Pending}
-use Rattle.psci_fw_laws.specs.Claims.{IsClaimOn, IsCurrent}
-use Rattle.psci_fw_laws.specs.Granted.{HasDeeper, NonePending}
-use Rattle.psci_fw_laws.specs.KnownBelow.{known_below}
-use Rattle.psci_fw_laws.specs.Live.{AreLive}
-use Rattle.psci_fw_laws.proofs.Sums.{known_same}
+use Rattle.psci_ctl_spec.specs.psci_link.declared.kind.Kind.TheVariants as kinds
+use Rattle.psci_ctl_spec.specs.psci_link.Message.{MessageValue, PartByPart}
+use Rattle.psci_world_laws.specs.psci_fw_spec.Phases.{Phase, Pending}
+use Rattle.psci_world_laws.specs.psci_fw_laws.Claims.{IsClaimOn, IsCurrent}
+use Rattle.psci_world_laws.specs.psci_fw_laws.Granted.{HasDeeper, NonePending}
+use Rattle.psci_world_laws.specs.psci_fw_laws.KnownBelow.{known_below}
+use Rattle.psci_world_laws.specs.psci_fw_laws.Live.{AreLive}
+use Rattle.psci_world_laws.proofs.fw_laws.Sums.{known_same}
 use Rattle.psci_settle.specs.Waiting.{IsLivePart}
 use Rattle.psci_settle.proofs.Claimed.{AreDeep, AreFirst, claim_deep}
 use Rattle.psci_settle.proofs.Covering.{AreCovered, OthersDeep, applied_at_least}

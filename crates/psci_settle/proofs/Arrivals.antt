@@ -4,40 +4,42 @@ use Rattle.std.proofs.Common.{Option, None, Some, option_map, unwrap_or, refl, s
 use Rattle.std.specs.Prelude.{nat_lt}
 use Rattle.std.proofs.lemmas.Bool.{cond-true, cond-false, eq-eqb, lt-ltb, ne_eqb}
 use Rattle.psci_board.specs.Board.{BoardValue, cores}
-use Rattle.psci_link.specs.declared.start.Start.{Start}
+use Rattle.psci_ctl_spec.specs.psci_link.declared.start.Start.{Start}
 use Rattle.psci_ctl_spec.specs.Replies.{last_start}
-use Rattle.psci_link.specs.declared.kind.Kind.TheVariants as kinds
-use Rattle.psci_link.specs.Message.{MessageValue}
-use Rattle.psci_link.specs.Slots.{Clear, OfCore, Slot, changed, is_slot, slot_of}
-use Rattle.psci_fw_spec.specs.declared.call.FwCall.TheVariants as calls
-use Rattle.psci_fw_spec.specs.declared.outcome.Act.{Act}
-use Rattle.psci_fw_spec.specs.declared.outcome.Act.TheVariants as acts
-use Rattle.psci_fw_spec.specs.declared.outcome.Outcome.{Outcome}
-use Rattle.psci_fw_spec.specs.declared.reply.FwReply.TheVariants as replies
-use Rattle.psci_fw_spec.specs.After.{change}
-use Rattle.psci_fw_spec.specs.Answer.{answer, reply_or}
-use Rattle.psci_fw_spec.specs.Effects.{enter_effect}
-use Rattle.psci_fw_spec.specs.Entering.{enter_outcome}
-use Rattle.psci_fw_spec.specs.Exchange as firmware
-use Rattle.psci_fw_spec.specs.History as remembers
-use Rattle.psci_fw_spec.specs.Legal.{IsLegal}
-use Rattle.psci_fw_spec.specs.Lives.{in_life}
-use Rattle.psci_fw_spec.specs.Said.{listed}
-use Rattle.psci_fw_spec.specs.Values.{Values}
-use Rattle.psci_fw_laws.specs.Allowed.{IsAllowed}
-use Rattle.psci_world_spec.specs.declared.event.Event.TheVariants.{Enter}
-use Rattle.psci_world_spec.specs.declared.place.Place.TheVariants.{Started}
-use Rattle.psci_world_spec.specs.declared.said.Record.{Record}
-use Rattle.psci_world_spec.specs.declared.said.Said.TheVariants.{Absent, Fw}
-use Rattle.psci_world_spec.specs.declared.said.Sent.{Sent}
-use Rattle.psci_world_spec.specs.Histories.{acks, call, controller_history, controller_values}
-use Rattle.psci_world_spec.specs.Histories.{entered, firmware_history, firmware_values}
-use Rattle.psci_world_spec.specs.Histories.{outcome_in, sent, sent_in}
-use Rattle.psci_world_spec.specs.Legal.{IsLegalPast, if_started, legal}
-use Rattle.psci_world_spec.specs.Legal.{said_of, sent_as}
-use Rattle.psci_world_spec.specs.Lists.{indexed}
-use Rattle.psci_world_spec.specs.Places.{place, place_after, place_said}
-use Rattle.psci_world_spec.proofs.Answered.{firmware_legal}
+use Rattle.psci_ctl_spec.specs.psci_link.declared.kind.Kind.TheVariants as kinds
+use Rattle.psci_ctl_spec.specs.psci_link.Message.{MessageValue}
+use Rattle.psci_ctl_spec.specs.psci_link.Slots.{Clear, OfCore, Slot, changed, is_slot, slot_of}
+use Rattle.psci_world_laws.specs.psci_fw_spec.declared.call.FwCall.TheVariants as calls
+use Rattle.psci_world_laws.specs.psci_fw_spec.declared.outcome.Act.{Act}
+use Rattle.psci_world_laws.specs.psci_fw_spec.declared.outcome.Act.TheVariants as acts
+use Rattle.psci_world_laws.specs.psci_fw_spec.declared.outcome.Outcome.{Outcome}
+use Rattle.psci_world_laws.specs.psci_fw_spec.declared.reply.FwReply.TheVariants as replies
+use Rattle.psci_world_laws.specs.psci_fw_spec.After.{change}
+use Rattle.psci_world_laws.specs.psci_fw_spec.Answer.{answer, reply_or}
+use Rattle.psci_world_laws.specs.psci_fw_spec.Effects.{enter_effect}
+use Rattle.psci_world_laws.specs.psci_fw_spec.Entering.{enter_outcome}
+use Rattle.psci_world_laws.specs.psci_fw_spec.Exchange as firmware
+use Rattle.psci_world_laws.specs.psci_fw_spec.History as remembers
+use Rattle.psci_world_laws.specs.psci_fw_spec.Legal.{IsLegal}
+use Rattle.psci_world_laws.specs.psci_fw_spec.Lives.{in_life}
+use Rattle.psci_world_laws.specs.psci_fw_spec.Said.{listed}
+use Rattle.psci_world_laws.specs.psci_fw_spec.Values.{Values}
+use Rattle.psci_world_laws.specs.psci_fw_laws.Allowed.{IsAllowed}
+use Rattle.psci_world_laws.specs.psci_world_spec.declared.event.Event.TheVariants.{Enter}
+use Rattle.psci_world_laws.specs.psci_world_spec.declared.place.Place.TheVariants.{Started}
+use Rattle.psci_world_laws.specs.psci_world_spec.declared.said.Record.{Record}
+use Rattle.psci_world_laws.specs.psci_world_spec.declared.said.Said.TheVariants.{Absent, Fw}
+use Rattle.psci_world_laws.specs.psci_world_spec.declared.said.Sent.{Sent}
+use Rattle.psci_world_laws.specs.psci_world_spec.Histories.{acks, call, controller_history}
+use Rattle.psci_world_laws.specs.psci_world_spec.Histories.{controller_values}
+use Rattle.psci_world_laws.specs.psci_world_spec.Histories.{entered, firmware_history}
+use Rattle.psci_world_laws.specs.psci_world_spec.Histories.{firmware_values}
+use Rattle.psci_world_laws.specs.psci_world_spec.Histories.{outcome_in, sent, sent_in}
+use Rattle.psci_world_laws.specs.psci_world_spec.Legal.{IsLegalPast, if_started, legal}
+use Rattle.psci_world_laws.specs.psci_world_spec.Legal.{said_of, sent_as}
+use Rattle.psci_world_laws.specs.psci_world_spec.Lists.{indexed}
+use Rattle.psci_world_laws.specs.psci_world_spec.Places.{place, place_after, place_said}
+use Rattle.psci_world_laws.proofs.world_spec.Answered.{firmware_legal}
 use Rattle.psci_world_laws.specs.Refusals.{NoneRefused}
 use Rattle.psci_world_laws.proofs.Agreed.{RunLaws}
 use Rattle.psci_settle.specs.Settling.{step}

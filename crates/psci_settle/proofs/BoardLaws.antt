@@ -2,18 +2,19 @@
 use Rattle.std.proofs.Common.{◌≡◌, ℕ, List, subst, sym}
 use Rattle.psci_board.specs.Board.{BoardValue}
 use Rattle.psci_board.specs.Laws.{PathLaws}
-use Rattle.psci_coord.specs.declared.part.Part.{Part}
+use Rattle.psci_ctl_spec.specs.psci_coord.declared.part.Part.{Part}
 use Rattle.psci_ctl_spec.specs.Follows.{AreValues}
 use Rattle.psci_ctl_spec.specs.Laws.{AckLaws, SumLaws}
 use Rattle.psci_ctl_spec.specs.Values as controlled
-use Rattle.psci_link.specs.Message.{AreClaims, PartByPart}
-use Rattle.psci_fw_spec.specs.Sent.{sent_messages}
-use Rattle.psci_fw_laws.specs.Kept.{Holds}
-use Rattle.psci_world_spec.specs.declared.said.Record.{Record}
-use Rattle.psci_world_spec.specs.Histories.{controller_values, firmware_history, firmware_values}
-use Rattle.psci_world_spec.specs.Histories.{sent}
-use Rattle.psci_world_spec.specs.Legal.{IsLegalPast}
-use Rattle.psci_world_spec.specs.Places.{place}
+use Rattle.psci_ctl_spec.specs.psci_link.Message.{AreClaims, PartByPart}
+use Rattle.psci_world_laws.specs.psci_fw_spec.Sent.{sent_messages}
+use Rattle.psci_world_laws.specs.psci_fw_laws.Kept.{Holds}
+use Rattle.psci_world_laws.specs.psci_world_spec.declared.said.Record.{Record}
+use Rattle.psci_world_laws.specs.psci_world_spec.Histories.{controller_values, firmware_history}
+use Rattle.psci_world_laws.specs.psci_world_spec.Histories.{firmware_values}
+use Rattle.psci_world_laws.specs.psci_world_spec.Histories.{sent}
+use Rattle.psci_world_laws.specs.psci_world_spec.Legal.{IsLegalPast}
+use Rattle.psci_world_laws.specs.psci_world_spec.Places.{place}
 use Rattle.psci_world_laws.specs.Agreement.{Agree}
 use Rattle.psci_world_laws.proofs.Agreed.{RunLaws}
 use Rattle.psci_settle.proofs.Carried.{IsGiven}

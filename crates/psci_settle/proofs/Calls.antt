@@ -3,27 +3,29 @@ use Rattle.std.proofs.Common.{◌≡◌, ℕ, ◌<◌, true, false, List, ◌∷
 use Rattle.std.proofs.Common.{Some, refl, subst, ap, sym, ◌∙◌}
 use Rattle.psci_board.specs.Board.{BoardValue, cores}
 use Rattle.psci_board.specs.declared.node.Core.{Core}
-use Rattle.psci_link.specs.declared.start.Start.{Start}
+use Rattle.psci_ctl_spec.specs.psci_link.declared.start.Start.{Start}
 use Rattle.psci_ctl_spec.specs.Values as controlled
-use Rattle.psci_link.specs.declared.kind.Kind.{Kind}
-use Rattle.psci_link.specs.declared.kind.Kind.TheVariants as kinds
-use Rattle.psci_link.specs.Message.{AckValue, MessageValue}
-use Rattle.psci_link.specs.Slots.{Clear, OfCore, OfSystem, changed, is_kind, slot_of}
-use Rattle.psci_fw_spec.specs.declared.outcome.Act.{Act}
-use Rattle.psci_fw_spec.specs.declared.outcome.Act.TheVariants as acts
-use Rattle.psci_fw_spec.specs.After.{change}
-use Rattle.psci_fw_spec.specs.Changes.{with_mode, target}
-use Rattle.psci_fw_spec.specs.Effects.{Effect, Nothing, GoesOn, SetsMode, AsksOn, Rests, Halts}
-use Rattle.psci_fw_spec.specs.Effects.{Stops, Enters, Parks, StopsAtOnce, Acknowledges}
-use Rattle.psci_fw_spec.specs.Effects.{enter_effect}
-use Rattle.psci_fw_spec.specs.Lives.{in_life}
-use Rattle.psci_fw_spec.specs.Phases.{Phase, Away, Pending, Running, unless_pending}
-use Rattle.psci_fw_spec.specs.Said as says
-use Rattle.psci_fw_spec.specs.Values.{Values, updated}
-use Rattle.psci_fw_laws.specs.Allowed.{IsAllowed}
-use Rattle.psci_fw_laws.specs.Live.{AreLive}
-use Rattle.psci_fw_laws.specs.Messages.{is_system}
-use Rattle.psci_fw_laws.proofs.Parts.{updated_here}
+use Rattle.psci_ctl_spec.specs.psci_link.declared.kind.Kind.{Kind}
+use Rattle.psci_ctl_spec.specs.psci_link.declared.kind.Kind.TheVariants as kinds
+use Rattle.psci_ctl_spec.specs.psci_link.Message.{AckValue, MessageValue}
+use Rattle.psci_ctl_spec.specs.psci_link.Slots.{Clear, OfCore, OfSystem, changed, is_kind, slot_of}
+use Rattle.psci_world_laws.specs.psci_fw_spec.declared.outcome.Act.{Act}
+use Rattle.psci_world_laws.specs.psci_fw_spec.declared.outcome.Act.TheVariants as acts
+use Rattle.psci_world_laws.specs.psci_fw_spec.After.{change}
+use Rattle.psci_world_laws.specs.psci_fw_spec.Changes.{with_mode, target}
+use Rattle.psci_world_laws.specs.psci_fw_spec.Effects.{Effect, Nothing, GoesOn, SetsMode, AsksOn}
+use Rattle.psci_world_laws.specs.psci_fw_spec.Effects.{Rests, Halts}
+use Rattle.psci_world_laws.specs.psci_fw_spec.Effects.{Stops, Enters, Parks, StopsAtOnce}
+use Rattle.psci_world_laws.specs.psci_fw_spec.Effects.{Acknowledges}
+use Rattle.psci_world_laws.specs.psci_fw_spec.Effects.{enter_effect}
+use Rattle.psci_world_laws.specs.psci_fw_spec.Lives.{in_life}
+use Rattle.psci_world_laws.specs.psci_fw_spec.Phases.{Phase, Away, Pending, Running, unless_pending}
+use Rattle.psci_world_laws.specs.psci_fw_spec.Said as says
+use Rattle.psci_world_laws.specs.psci_fw_spec.Values.{Values, updated}
+use Rattle.psci_world_laws.specs.psci_fw_laws.Allowed.{IsAllowed}
+use Rattle.psci_world_laws.specs.psci_fw_laws.Live.{AreLive}
+use Rattle.psci_world_laws.specs.psci_fw_laws.Messages.{is_system}
+use Rattle.psci_world_laws.proofs.fw_laws.Parts.{updated_here}
 use Rattle.psci_world_laws.proofs.Moving.{CallerLaws, is_call}
 use Rattle.psci_settle.specs.Waiting.{WaitingIn}
 use Rattle.psci_settle.proofs.Pursuing.{waiting_arrival, waiting_asked, waiting_core}

@@ -5,10 +5,10 @@ use Rattle.std.specs.Prelude.{nat_lt, slice_get}
 use Rattle.std.proofs.lemmas.Bool.{cases_eq, cond_both, eqb-false}
 use Rattle.psci_board.specs.Board.{BoardValue, cores}
 use Rattle.psci_board.specs.Laws.{PathLaws}
-use Rattle.psci_coord.specs.declared.part.Part.{Part}
-use Rattle.psci_link.specs.declared.start.Cause.{Cause}
-use Rattle.psci_link.specs.declared.start.Cause.TheVariants as causes
-use Rattle.psci_link.specs.declared.start.Start.{Start}
+use Rattle.psci_ctl_spec.specs.psci_coord.declared.part.Part.{Part}
+use Rattle.psci_ctl_spec.specs.psci_link.declared.start.Cause.{Cause}
+use Rattle.psci_ctl_spec.specs.psci_link.declared.start.Cause.TheVariants as causes
+use Rattle.psci_ctl_spec.specs.psci_link.declared.start.Start.{Start}
 use Rattle.psci_ctl_spec.specs.Changes.{next_life}
 use Rattle.psci_ctl_spec.specs.Changes as controlling
 use Rattle.psci_ctl_spec.specs.Effects as controlling_effects
@@ -17,27 +17,27 @@ use Rattle.psci_ctl_spec.specs.Follows.{MayFollow}
 use Rattle.psci_ctl_spec.specs.Laws.{AckLaws, SumLaws}
 use Rattle.psci_ctl_spec.specs.Replies.{ack_by, last_start, may_follow}
 use Rattle.psci_ctl_spec.specs.Values as controlled
-use Rattle.psci_link.specs.declared.kind.Kind.{Kind}
-use Rattle.psci_link.specs.declared.kind.Kind.TheVariants as kinds
-use Rattle.psci_link.specs.Message.{AckValue, AreClaims, MessageValue, PartByPart}
-use Rattle.psci_fw_spec.specs.declared.outcome.Act.{Act}
-use Rattle.psci_fw_spec.specs.After.{change}
-use Rattle.psci_fw_spec.specs.Changes.{with_acknowledgement}
-use Rattle.psci_fw_spec.specs.Effects.{Effect, enter_effect}
-use Rattle.psci_fw_spec.specs.Lives.{in_life, start_of_life}
-use Rattle.psci_fw_spec.specs.Said as says
-use Rattle.psci_fw_spec.specs.Values.{Values}
-use Rattle.psci_fw_laws.specs.Allowed.{IsAllowed}
-use Rattle.psci_fw_laws.specs.Kept.{Holds}
-use Rattle.psci_fw_laws.specs.Live.{AreLive}
-use Rattle.psci_fw_laws.specs.Messages.{AreSent}
-use Rattle.psci_fw_laws.specs.Outstanding.{AreOutstanding}
-use Rattle.psci_fw_laws.proofs.Arriving.{first_holds, found_life}
-use Rattle.psci_fw_laws.proofs.Consequences.{once_down}
-use Rattle.psci_fw_laws.proofs.Living.{live_laws}
-use Rattle.psci_fw_laws.proofs.Sums.{known_le}
-use Rattle.psci_world_spec.specs.declared.place.Place.{Place}
-use Rattle.psci_world_spec.specs.declared.place.Place.TheVariants as places
+use Rattle.psci_ctl_spec.specs.psci_link.declared.kind.Kind.{Kind}
+use Rattle.psci_ctl_spec.specs.psci_link.declared.kind.Kind.TheVariants as kinds
+use Rattle.psci_ctl_spec.specs.psci_link.Message.{AckValue, AreClaims, MessageValue, PartByPart}
+use Rattle.psci_world_laws.specs.psci_fw_spec.declared.outcome.Act.{Act}
+use Rattle.psci_world_laws.specs.psci_fw_spec.After.{change}
+use Rattle.psci_world_laws.specs.psci_fw_spec.Changes.{with_acknowledgement}
+use Rattle.psci_world_laws.specs.psci_fw_spec.Effects.{Effect, enter_effect}
+use Rattle.psci_world_laws.specs.psci_fw_spec.Lives.{in_life, start_of_life}
+use Rattle.psci_world_laws.specs.psci_fw_spec.Said as says
+use Rattle.psci_world_laws.specs.psci_fw_spec.Values.{Values}
+use Rattle.psci_world_laws.specs.psci_fw_laws.Allowed.{IsAllowed}
+use Rattle.psci_world_laws.specs.psci_fw_laws.Kept.{Holds}
+use Rattle.psci_world_laws.specs.psci_fw_laws.Live.{AreLive}
+use Rattle.psci_world_laws.specs.psci_fw_laws.Messages.{AreSent}
+use Rattle.psci_world_laws.specs.psci_fw_laws.Outstanding.{AreOutstanding}
+use Rattle.psci_world_laws.proofs.fw_laws.Arriving.{first_holds, found_life}
+use Rattle.psci_world_laws.proofs.fw_laws.Consequences.{once_down}
+use Rattle.psci_world_laws.proofs.fw_laws.Living.{live_laws}
+use Rattle.psci_world_laws.proofs.fw_laws.Sums.{known_le}
+use Rattle.psci_world_laws.specs.psci_world_spec.declared.place.Place.{Place}
+use Rattle.psci_world_laws.specs.psci_world_spec.declared.place.Place.TheVariants as places
 use Rattle.psci_world_laws.proofs.Agreeing.{AreAgreed, found_other, found_own}
 use Rattle.psci_world_laws.proofs.Moving.{CallerLaws, IsCallOf, call_moves, entry_moves}
 use Rattle.psci_world_laws.proofs.Placing.{last_is, own_life}

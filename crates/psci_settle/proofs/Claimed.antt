@@ -6,14 +6,14 @@ use Rattle.std.proofs.lemmas.Bool.{and_parts, and_right, cond-false, eqb-false, 
 use Rattle.std.proofs.lemmas.Bool.{ne_eqb}
 use Rattle.psci_board.specs.Board.{BoardValue, HasNode, height, up}
 use Rattle.psci_board.specs.declared.node.Node.{Node}
-use Rattle.psci_coord.specs.declared.part.Part.{Part}
+use Rattle.psci_ctl_spec.specs.psci_coord.declared.part.Part.{Part}
 use Rattle.psci_ctl_spec.specs.Values.{first_depth, starts_below}
 use Rattle.psci_board.specs.Paths.{is_on_path}
-use Rattle.psci_link.specs.declared.kind.Kind.TheVariants.{Down}
-use Rattle.psci_link.specs.Message.{MessageValue}
-use Rattle.psci_fw_laws.specs.Claims.{IsClaimOn, IsFromStart}
-use Rattle.psci_fw_laws.specs.KnownBelow.{known_below}
-use Rattle.psci_fw_laws.proofs.Parts.{part_has}
+use Rattle.psci_ctl_spec.specs.psci_link.declared.kind.Kind.TheVariants.{Down}
+use Rattle.psci_ctl_spec.specs.psci_link.Message.{MessageValue}
+use Rattle.psci_world_laws.specs.psci_fw_laws.Claims.{IsClaimOn, IsFromStart}
+use Rattle.psci_world_laws.specs.psci_fw_laws.KnownBelow.{known_below}
+use Rattle.psci_world_laws.proofs.fw_laws.Parts.{part_has}
 use Rattle.psci_settle.specs.Waiting.{IsLivePart}
 use Rattle.psci_settle.proofs.Starting.{same_sum}
 

@@ -3,7 +3,7 @@ use Rattle.std.proofs.Common.{◌≡◌, ℕ, List, ◌∷◌, ◌++◌, Option,
 use Rattle.std.proofs.Common.{refl, subst, ap, sym, ◌∙◌}
 use Rattle.std.specs.Prelude.{slice_get}
 use Rattle.psci_board.specs.Board.{BoardValue}
-use Rattle.psci_link.specs.declared.start.Cause.{Cause}
+use Rattle.psci_ctl_spec.specs.psci_link.declared.start.Cause.{Cause}
 use Rattle.psci_ctl_spec.specs.Changes as controlling
 use Rattle.psci_ctl_spec.specs.Effects as controlling_effects
 use Rattle.psci_ctl_spec.specs.Exchange as controller
@@ -14,17 +14,20 @@ use Rattle.psci_ctl_spec.specs.Effects.{message_effect}
 use Rattle.psci_ctl_spec.specs.Replies.{ack_by}
 use Rattle.psci_ctl_spec.specs.declared.call.CtlCall.TheVariants as asked
 use Rattle.psci_ctl_spec.specs.Values as controlled
-use Rattle.psci_link.specs.Message.{AckValue, MessageValue}
-use Rattle.psci_fw_spec.specs.Said.{listed}
-use Rattle.psci_world_spec.specs.declared.event.Event.TheVariants.{Wake, Reset, Deliver}
-use Rattle.psci_world_spec.specs.declared.said.Record.{Record}
-use Rattle.psci_world_spec.specs.declared.said.Said.{Said}
-use Rattle.psci_world_spec.specs.declared.said.Said.TheVariants as said
-use Rattle.psci_world_spec.specs.Histories.{ack_in, acks, controller_history, controller_values}
-use Rattle.psci_world_spec.specs.Histories.{delivered, firmware_values, sent, sent_in}
-use Rattle.psci_world_spec.specs.Legal.{legal}
-use Rattle.psci_world_spec.specs.Lists.{indexed}
-use Rattle.psci_world_spec.specs.Places.{place}
+use Rattle.psci_ctl_spec.specs.psci_link.Message.{AckValue, MessageValue}
+use Rattle.psci_world_laws.specs.psci_fw_spec.Said.{listed}
+use Rattle.psci_world_laws.specs.psci_world_spec.declared.event.Event.TheVariants.{Wake, Reset}
+use Rattle.psci_world_laws.specs.psci_world_spec.declared.event.Event.TheVariants.{Deliver}
+use Rattle.psci_world_laws.specs.psci_world_spec.declared.said.Record.{Record}
+use Rattle.psci_world_laws.specs.psci_world_spec.declared.said.Said.{Said}
+use Rattle.psci_world_laws.specs.psci_world_spec.declared.said.Said.TheVariants as said
+use Rattle.psci_world_laws.specs.psci_world_spec.Histories.{ack_in, acks, controller_history}
+use Rattle.psci_world_laws.specs.psci_world_spec.Histories.{controller_values}
+use Rattle.psci_world_laws.specs.psci_world_spec.Histories.{delivered, firmware_values, sent}
+use Rattle.psci_world_laws.specs.psci_world_spec.Histories.{sent_in}
+use Rattle.psci_world_laws.specs.psci_world_spec.Legal.{legal}
+use Rattle.psci_world_laws.specs.psci_world_spec.Lists.{indexed}
+use Rattle.psci_world_laws.specs.psci_world_spec.Places.{place}
 use Rattle.psci_world_laws.proofs.Agreed.{RunLaws}
 use Rattle.psci_world_laws.proofs.Controlling.{after_control}
 use Rattle.psci_world_laws.proofs.Making.{IsDelivered, delivers}

@@ -6,10 +6,10 @@ use Rattle.std.proofs.lemmas.Bool.{and_cases, and_parts, cond-true}
 use Rattle.std.proofs.lemmas.Bool.{eq-eqb, eqb-false, eqb-true, ltb-false}
 use Rattle.std.proofs.lemmas.Option.{none-some, slice_get_within}
 use Rattle.psci_board.specs.Board.{BoardValue, cores, height, up}
-use Rattle.psci_coord.specs.declared.part.Part.{Part}
-use Rattle.psci_coord.specs.View.{domain_of}
-use Rattle.psci_link.specs.declared.start.Cause.{Cause}
-use Rattle.psci_link.specs.declared.start.Cause.TheVariants as causes
+use Rattle.psci_ctl_spec.specs.psci_coord.declared.part.Part.{Part}
+use Rattle.psci_ctl_spec.specs.psci_coord.View.{domain_of}
+use Rattle.psci_ctl_spec.specs.psci_link.declared.start.Cause.{Cause}
+use Rattle.psci_ctl_spec.specs.psci_link.declared.start.Cause.TheVariants as causes
 use Rattle.psci_ctl_spec.specs.Changes.{change, one_more}
 use Rattle.psci_ctl_spec.specs.Effects.{Nothing, Starts, Deepens}
 use Rattle.psci_ctl_spec.specs.Follows.{IsFront}
@@ -18,16 +18,17 @@ use Rattle.psci_ctl_spec.specs.Parts.{applied, is_stale}
 use Rattle.psci_ctl_spec.specs.Replies.{ack_of, may_follow}
 use Rattle.psci_ctl_spec.specs.Values as controlled
 use Rattle.psci_ctl_spec.proofs.Front.{take_get}
-use Rattle.psci_link.specs.declared.kind.Kind.{Kind}
-use Rattle.psci_link.specs.declared.kind.Kind.TheVariants as kinds
-use Rattle.psci_link.specs.Message.{AckValue, ArePartsOf, AreClaims, MessageValue, PartByPart}
-use Rattle.psci_fw_spec.specs.Lives.{start_of_life}
-use Rattle.psci_fw_spec.specs.Phases.{Phase, Away, Pending}
-use Rattle.psci_fw_spec.specs.Values.{Values}
-use Rattle.psci_fw_laws.specs.Claims.{AreRising}
-use Rattle.psci_fw_laws.specs.KnownBelow.{known_below}
-use Rattle.psci_fw_laws.specs.Live.{AreLive}
-use Rattle.psci_fw_laws.specs.Messages.{AreSent, IsSent}
+use Rattle.psci_ctl_spec.specs.psci_link.declared.kind.Kind.{Kind}
+use Rattle.psci_ctl_spec.specs.psci_link.declared.kind.Kind.TheVariants as kinds
+use Rattle.psci_ctl_spec.specs.psci_link.Message.{AckValue, ArePartsOf, AreClaims, MessageValue}
+use Rattle.psci_ctl_spec.specs.psci_link.Message.{PartByPart}
+use Rattle.psci_world_laws.specs.psci_fw_spec.Lives.{start_of_life}
+use Rattle.psci_world_laws.specs.psci_fw_spec.Phases.{Phase, Away, Pending}
+use Rattle.psci_world_laws.specs.psci_fw_spec.Values.{Values}
+use Rattle.psci_world_laws.specs.psci_fw_laws.Claims.{AreRising}
+use Rattle.psci_world_laws.specs.psci_fw_laws.KnownBelow.{known_below}
+use Rattle.psci_world_laws.specs.psci_fw_laws.Live.{AreLive}
+use Rattle.psci_world_laws.specs.psci_fw_laws.Messages.{AreSent, IsSent}
 use Rattle.psci_settle.specs.Waiting.{AreWaiting, IsNamed, IsTold, WaitingIn, WasTold}
 use Rattle.psci_settle.proofs.Deepening.{AreApplied, waiting_deepened}
 use Rattle.psci_settle.proofs.Starting.{same_sum, waiting_started}

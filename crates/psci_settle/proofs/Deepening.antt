@@ -5,17 +5,17 @@ use Rattle.std.specs.Prelude.{nat_le, slice_get}
 use Rattle.std.proofs.lemmas.Bool.{and_parts, eqb-true}
 use Rattle.std.proofs.lemmas.Option.{same_Some}
 use Rattle.psci_board.specs.Board.{BoardValue, height, up}
-use Rattle.psci_coord.specs.declared.part.Part.{Part}
+use Rattle.psci_ctl_spec.specs.psci_coord.declared.part.Part.{Part}
 use Rattle.psci_ctl_spec.specs.Parts.{depth_or, laid}
 use Rattle.psci_board.specs.Paths.{is_on_path}
-use Rattle.psci_link.specs.declared.kind.Kind.TheVariants.{Down}
-use Rattle.psci_link.specs.Message.{AckValue, MessageValue}
-use Rattle.psci_link.specs.Slots.{Slot}
-use Rattle.psci_fw_spec.specs.Phases.{Phase}
-use Rattle.psci_fw_laws.specs.Claims.{AreRising}
-use Rattle.psci_fw_laws.specs.KnownBelow.{known_below}
-use Rattle.psci_fw_laws.proofs.Consequences.{once}
-use Rattle.psci_fw_laws.proofs.Parts.{part_from}
+use Rattle.psci_ctl_spec.specs.psci_link.declared.kind.Kind.TheVariants.{Down}
+use Rattle.psci_ctl_spec.specs.psci_link.Message.{AckValue, MessageValue}
+use Rattle.psci_ctl_spec.specs.psci_link.Slots.{Slot}
+use Rattle.psci_world_laws.specs.psci_fw_spec.Phases.{Phase}
+use Rattle.psci_world_laws.specs.psci_fw_laws.Claims.{AreRising}
+use Rattle.psci_world_laws.specs.psci_fw_laws.KnownBelow.{known_below}
+use Rattle.psci_world_laws.proofs.fw_laws.Consequences.{once}
+use Rattle.psci_world_laws.proofs.fw_laws.Parts.{part_from}
 use Rattle.psci_settle.specs.Waiting.{AreWaiting, IsLivePart}
 use Rattle.psci_settle.proofs.Taking.{named}
 use Rattle.psci_settle.proofs.Starting.{same_sum}

@@ -6,19 +6,21 @@ use Rattle.psci_board.specs.Board.{BoardValue}
 use Rattle.psci_board.specs.declared.node.Core.{Core}
 use Rattle.psci_ctl_spec.specs.Replies.{ack_by, may_follow}
 use Rattle.psci_ctl_spec.specs.Values as controlled
-use Rattle.psci_link.specs.declared.kind.Kind.{Kind}
-use Rattle.psci_link.specs.declared.kind.Kind.TheVariants.{Down, Start, Off, Reset}
-use Rattle.psci_link.specs.declared.taken.Taken.TheVariants.{Used, Old}
-use Rattle.psci_link.specs.Message.{AckValue, MessageValue}
-use Rattle.psci_link.specs.Slots.{Acknowledge, OfCore, answers, changed, is_done, is_kind, is_slot}
-use Rattle.psci_link.specs.Slots.{left_by, slot_of, taken}
-use Rattle.psci_fw_spec.specs.Taking.{taken_by}
-use Rattle.psci_fw_spec.specs.Values.{Values}
-use Rattle.psci_fw_laws.specs.Messages.{is_system}
-use Rattle.psci_fw_laws.specs.Outstanding.{AreOutstanding}
-use Rattle.psci_world_spec.specs.declared.said.Record.{Record}
-use Rattle.psci_world_spec.specs.Histories.{controller_values, firmware_values, sent}
-use Rattle.psci_world_spec.specs.Legal.{IsLegalPast}
+use Rattle.psci_ctl_spec.specs.psci_link.declared.kind.Kind.{Kind}
+use Rattle.psci_ctl_spec.specs.psci_link.declared.kind.Kind.TheVariants.{Down, Start, Off, Reset}
+use Rattle.psci_ctl_spec.specs.psci_link.declared.taken.Taken.TheVariants.{Used, Old}
+use Rattle.psci_ctl_spec.specs.psci_link.Message.{AckValue, MessageValue}
+use Rattle.psci_ctl_spec.specs.psci_link.Slots.{Acknowledge, OfCore, answers, changed, is_done}
+use Rattle.psci_ctl_spec.specs.psci_link.Slots.{is_kind, is_slot}
+use Rattle.psci_ctl_spec.specs.psci_link.Slots.{left_by, slot_of, taken}
+use Rattle.psci_world_laws.specs.psci_fw_spec.Taking.{taken_by}
+use Rattle.psci_world_laws.specs.psci_fw_spec.Values.{Values}
+use Rattle.psci_world_laws.specs.psci_fw_laws.Messages.{is_system}
+use Rattle.psci_world_laws.specs.psci_fw_laws.Outstanding.{AreOutstanding}
+use Rattle.psci_world_laws.specs.psci_world_spec.declared.said.Record.{Record}
+use Rattle.psci_world_laws.specs.psci_world_spec.Histories.{controller_values, firmware_values}
+use Rattle.psci_world_laws.specs.psci_world_spec.Histories.{sent}
+use Rattle.psci_world_laws.specs.psci_world_spec.Legal.{IsLegalPast}
 use Rattle.psci_world_laws.proofs.Agreed.{RunLaws}
 use Rattle.psci_settle.specs.Settling.{served, serving, index_of}
 use Rattle.psci_settle.proofs.Answering.{AreAnswered, ack_to, answered_so}

@@ -1,40 +1,43 @@
 -- What waits after a call, an entry and an acknowledgement that was taken.
 use Rattle.std.proofs.Common.{◌≡◌, ℕ, ◌<◌, List, ◌++◌, Option, None, Some, option_map}
 use Rattle.std.proofs.Common.{refl, subst, sym}
-use Rattle.psci_abi.specs.Calls.{request_of}
-use Rattle.psci_abi.specs.declared.registers.Regs.{Regs}
+use Rattle.psci_ctl_spec.specs.psci_abi.Calls.{request_of}
+use Rattle.psci_ctl_spec.specs.psci_abi.declared.registers.Regs.{Regs}
 use Rattle.psci_board.specs.Board.{BoardValue, cores}
-use Rattle.psci_link.specs.declared.start.Start.{Start}
+use Rattle.psci_ctl_spec.specs.psci_link.declared.start.Start.{Start}
 use Rattle.psci_ctl_spec.specs.Replies.{last_start}
-use Rattle.psci_link.specs.Message.{AckValue, MessageValue}
-use Rattle.psci_link.specs.declared.taken.Taken.{Taken}
-use Rattle.psci_link.specs.declared.taken.Taken.TheVariants as takens
-use Rattle.psci_fw_spec.specs.declared.call.FwCall.TheVariants as calls
-use Rattle.psci_fw_spec.specs.declared.outcome.Outcome.{Outcome}
-use Rattle.psci_fw_spec.specs.declared.reply.FwReply.TheVariants as replies
-use Rattle.psci_fw_spec.specs.After.{change}
-use Rattle.psci_fw_spec.specs.Answer.{answer}
-use Rattle.psci_fw_spec.specs.Calls.{call_fault}
-use Rattle.psci_fw_spec.specs.Effects.{enter_effect, function_effect}
-use Rattle.psci_fw_spec.specs.Entering.{enter_fault}
-use Rattle.psci_fw_spec.specs.Exchange as firmware
-use Rattle.psci_fw_spec.specs.Exchange.{effect}
-use Rattle.psci_fw_spec.specs.History as remembers
-use Rattle.psci_fw_spec.specs.Legal.{IsLegal}
-use Rattle.psci_fw_spec.specs.Said as says
-use Rattle.psci_fw_spec.specs.Said.{listed}
-use Rattle.psci_fw_spec.specs.Values.{Values}
-use Rattle.psci_world_spec.specs.declared.event.Event.TheVariants.{Call, Enter, Take}
-use Rattle.psci_world_spec.specs.declared.place.Place.TheVariants as places
-use Rattle.psci_world_spec.specs.declared.said.Record.{Record}
-use Rattle.psci_world_spec.specs.declared.said.Said.{Said}
-use Rattle.psci_world_spec.specs.declared.said.Said.TheVariants as said
-use Rattle.psci_world_spec.specs.Histories.{ack_in, acks, controller_values, entered}
-use Rattle.psci_world_spec.specs.Histories.{firmware_history, firmware_values, outcome_in, sent}
-use Rattle.psci_world_spec.specs.Histories.{sent_in, took}
-use Rattle.psci_world_spec.specs.Legal.{legal}
-use Rattle.psci_world_spec.specs.Lists.{indexed}
-use Rattle.psci_world_spec.specs.Places.{place}
+use Rattle.psci_ctl_spec.specs.psci_link.Message.{AckValue, MessageValue}
+use Rattle.psci_ctl_spec.specs.psci_link.declared.taken.Taken.{Taken}
+use Rattle.psci_ctl_spec.specs.psci_link.declared.taken.Taken.TheVariants as takens
+use Rattle.psci_world_laws.specs.psci_fw_spec.declared.call.FwCall.TheVariants as calls
+use Rattle.psci_world_laws.specs.psci_fw_spec.declared.outcome.Outcome.{Outcome}
+use Rattle.psci_world_laws.specs.psci_fw_spec.declared.reply.FwReply.TheVariants as replies
+use Rattle.psci_world_laws.specs.psci_fw_spec.After.{change}
+use Rattle.psci_world_laws.specs.psci_fw_spec.Answer.{answer}
+use Rattle.psci_world_laws.specs.psci_fw_spec.Calls.{call_fault}
+use Rattle.psci_world_laws.specs.psci_fw_spec.Effects.{enter_effect, function_effect}
+use Rattle.psci_world_laws.specs.psci_fw_spec.Entering.{enter_fault}
+use Rattle.psci_world_laws.specs.psci_fw_spec.Exchange as firmware
+use Rattle.psci_world_laws.specs.psci_fw_spec.Exchange.{effect}
+use Rattle.psci_world_laws.specs.psci_fw_spec.History as remembers
+use Rattle.psci_world_laws.specs.psci_fw_spec.Legal.{IsLegal}
+use Rattle.psci_world_laws.specs.psci_fw_spec.Said as says
+use Rattle.psci_world_laws.specs.psci_fw_spec.Said.{listed}
+use Rattle.psci_world_laws.specs.psci_fw_spec.Values.{Values}
+use Rattle.psci_world_laws.specs.psci_world_spec.declared.event.Event.TheVariants.{Call, Enter}
+use Rattle.psci_world_laws.specs.psci_world_spec.declared.event.Event.TheVariants.{Take}
+use Rattle.psci_world_laws.specs.psci_world_spec.declared.place.Place.TheVariants as places
+use Rattle.psci_world_laws.specs.psci_world_spec.declared.said.Record.{Record}
+use Rattle.psci_world_laws.specs.psci_world_spec.declared.said.Said.{Said}
+use Rattle.psci_world_laws.specs.psci_world_spec.declared.said.Said.TheVariants as said
+use Rattle.psci_world_laws.specs.psci_world_spec.Histories.{ack_in, acks, controller_values}
+use Rattle.psci_world_laws.specs.psci_world_spec.Histories.{entered}
+use Rattle.psci_world_laws.specs.psci_world_spec.Histories.{firmware_history, firmware_values}
+use Rattle.psci_world_laws.specs.psci_world_spec.Histories.{outcome_in, sent}
+use Rattle.psci_world_laws.specs.psci_world_spec.Histories.{sent_in, took}
+use Rattle.psci_world_laws.specs.psci_world_spec.Legal.{legal}
+use Rattle.psci_world_laws.specs.psci_world_spec.Lists.{indexed}
+use Rattle.psci_world_laws.specs.psci_world_spec.Places.{place}
 use Rattle.psci_world_laws.proofs.Agreed.{RunLaws}
 use Rattle.psci_world_laws.proofs.Happening.{called, entered_by}
 use Rattle.psci_world_laws.proofs.Moving.{function_call}

@@ -2,23 +2,24 @@
 use Rattle.std.proofs.Common.{◌≡◌, ℕ, ◌+◌, ◌<◌, true, false, List}
 use Rattle.std.proofs.Common.{Some, refl, subst, ap, sym, ◌∙◌}
 use Rattle.psci_board.specs.Board.{BoardValue, cores, height, up}
-use Rattle.psci_coord.specs.declared.part.Part.{Part}
+use Rattle.psci_ctl_spec.specs.psci_coord.declared.part.Part.{Part}
 use Rattle.psci_ctl_spec.specs.Values as controlled
-use Rattle.psci_link.specs.declared.kind.Kind.{Kind}
-use Rattle.psci_link.specs.declared.kind.Kind.TheVariants as kinds
-use Rattle.psci_link.specs.Message.{ArePartsOf, AreClaims, MessageValue}
-use Rattle.psci_link.specs.Slots.{OfCore, OfSystem}
-use Rattle.psci_fw_spec.specs.Lives.{in_life}
-use Rattle.psci_fw_spec.specs.Phases.{Pending}
-use Rattle.psci_fw_spec.specs.Values.{Values}
-use Rattle.psci_fw_laws.specs.Claims.{IsClaimOn, IsCurrent}
-use Rattle.psci_fw_laws.specs.Granted.{HasDeeper, NonePending}
-use Rattle.psci_fw_laws.specs.Messages.{is_system}
-use Rattle.psci_fw_laws.specs.Outstanding.{AreOutstanding}
-use Rattle.psci_world_spec.specs.declared.said.Record.{Record}
-use Rattle.psci_world_spec.specs.Histories.{acks, controller_values, firmware_values, sent}
-use Rattle.psci_world_spec.specs.Legal.{IsLegalPast}
-use Rattle.psci_world_spec.specs.Places.{place}
+use Rattle.psci_ctl_spec.specs.psci_link.declared.kind.Kind.{Kind}
+use Rattle.psci_ctl_spec.specs.psci_link.declared.kind.Kind.TheVariants as kinds
+use Rattle.psci_ctl_spec.specs.psci_link.Message.{ArePartsOf, AreClaims, MessageValue}
+use Rattle.psci_ctl_spec.specs.psci_link.Slots.{OfCore, OfSystem}
+use Rattle.psci_world_laws.specs.psci_fw_spec.Lives.{in_life}
+use Rattle.psci_world_laws.specs.psci_fw_spec.Phases.{Pending}
+use Rattle.psci_world_laws.specs.psci_fw_spec.Values.{Values}
+use Rattle.psci_world_laws.specs.psci_fw_laws.Claims.{IsClaimOn, IsCurrent}
+use Rattle.psci_world_laws.specs.psci_fw_laws.Granted.{HasDeeper, NonePending}
+use Rattle.psci_world_laws.specs.psci_fw_laws.Messages.{is_system}
+use Rattle.psci_world_laws.specs.psci_fw_laws.Outstanding.{AreOutstanding}
+use Rattle.psci_world_laws.specs.psci_world_spec.declared.said.Record.{Record}
+use Rattle.psci_world_laws.specs.psci_world_spec.Histories.{acks, controller_values}
+use Rattle.psci_world_laws.specs.psci_world_spec.Histories.{firmware_values, sent}
+use Rattle.psci_world_laws.specs.psci_world_spec.Legal.{IsLegalPast}
+use Rattle.psci_world_laws.specs.psci_world_spec.Places.{place}
 use Rattle.psci_world_laws.proofs.Agreeing.{found_own}
 use Rattle.psci_settle.specs.Waiting.{AreWaiting, AwaitsStart}
 use Rattle.psci_settle.proofs.Applying.{IsDown, IsReady}

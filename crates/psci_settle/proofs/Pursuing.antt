@@ -4,12 +4,13 @@ use Rattle.std.proofs.Common.{Option, Some, subst, ap, sym, ◌∙◌}
 use Rattle.std.specs.Prelude.{slice_get}
 use Rattle.std.proofs.lemmas.Bool.{cases_eq}
 use Rattle.psci_board.specs.Board.{BoardValue}
-use Rattle.psci_link.specs.declared.kind.Kind.TheVariants.{Down, Start}
-use Rattle.psci_link.specs.Message.{AckValue, MessageValue}
-use Rattle.psci_link.specs.Slots.{Clear, OfCore, OfSystem, Put, Slot, changed, slot_of}
-use Rattle.psci_fw_spec.specs.Phases.{Phase, Pending}
-use Rattle.psci_fw_spec.specs.Values.{updated}
-use Rattle.psci_fw_laws.proofs.Parts.{updated_at, updated_here, updated_there}
+use Rattle.psci_ctl_spec.specs.psci_link.declared.kind.Kind.TheVariants.{Down, Start}
+use Rattle.psci_ctl_spec.specs.psci_link.Message.{AckValue, MessageValue}
+use Rattle.psci_ctl_spec.specs.psci_link.Slots.{Clear, OfCore, OfSystem, Put, Slot, changed}
+use Rattle.psci_ctl_spec.specs.psci_link.Slots.{slot_of}
+use Rattle.psci_world_laws.specs.psci_fw_spec.Phases.{Phase, Pending}
+use Rattle.psci_world_laws.specs.psci_fw_spec.Values.{updated}
+use Rattle.psci_world_laws.proofs.fw_laws.Parts.{updated_at, updated_here, updated_there}
 use Rattle.psci_settle.specs.Waiting.{AreWaiting, IsNamed, IsPursued, WasTold}
 use Rattle.psci_settle.proofs.Slots.{clear_there, put_here, put_system, put_there}
 use Rattle.psci_settle.proofs.Unclaimed.{NoneLive}

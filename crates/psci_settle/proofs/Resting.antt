@@ -6,14 +6,15 @@ use Rattle.std.proofs.lemmas.Option.{none-some}
 use Rattle.psci_board.specs.Board.{BoardValue, HasNode, cores}
 use Rattle.psci_board.specs.declared.node.Node.{Node}
 use Rattle.psci_ctl_spec.specs.Values as controlled
-use Rattle.psci_link.specs.Message.{MessageValue}
-use Rattle.psci_link.specs.Slots.{OfSystem}
-use Rattle.psci_fw_spec.specs.Values.{Values}
-use Rattle.psci_fw_laws.specs.Granted.{AreGranted}
-use Rattle.psci_fw_laws.specs.KnownBelow.{known_below}
-use Rattle.psci_fw_laws.proofs.Sums.{known_same}
-use Rattle.psci_world_spec.specs.declared.said.Record.{Record}
-use Rattle.psci_world_spec.specs.Histories.{controller_values, firmware_values, sent}
+use Rattle.psci_ctl_spec.specs.psci_link.Message.{MessageValue}
+use Rattle.psci_ctl_spec.specs.psci_link.Slots.{OfSystem}
+use Rattle.psci_world_laws.specs.psci_fw_spec.Values.{Values}
+use Rattle.psci_world_laws.specs.psci_fw_laws.Granted.{AreGranted}
+use Rattle.psci_world_laws.specs.psci_fw_laws.KnownBelow.{known_below}
+use Rattle.psci_world_laws.proofs.fw_laws.Sums.{known_same}
+use Rattle.psci_world_laws.specs.psci_world_spec.declared.said.Record.{Record}
+use Rattle.psci_world_laws.specs.psci_world_spec.Histories.{controller_values, firmware_values}
+use Rattle.psci_world_laws.specs.psci_world_spec.Histories.{sent}
 use Rattle.psci_settle.specs.Drained.{AreAtRest}
 use Rattle.psci_settle.proofs.Claimed.{claim_deep}
 use Rattle.psci_settle.proofs.Going.{IsGoing, known_now, none_system, waits_now}

@@ -4,13 +4,14 @@ use Rattle.std.proofs.Common.{◌++◌, Option, None, Some, refl, arith, subst, 
 use Rattle.std.proofs.lemmas.List.Sums.{AllPass-from_list_all}
 use Rattle.std.proofs.lemmas.Option.{same_Some}
 use Rattle.psci_board.specs.Board.{BoardValue, height}
-use Rattle.psci_link.specs.declared.kind.Kind.TheVariants as kinds
-use Rattle.psci_link.specs.Message.{MessageValue}
-use Rattle.psci_fw_spec.specs.Lives.{in_life}
-use Rattle.psci_world_spec.specs.declared.said.Record.{Record}
-use Rattle.psci_world_spec.specs.Histories.{controller_values, firmware_values, sent}
-use Rattle.psci_world_spec.specs.Legal.{IsLegalPast}
-use Rattle.psci_world_spec.specs.Lists.{indexed}
+use Rattle.psci_ctl_spec.specs.psci_link.declared.kind.Kind.TheVariants as kinds
+use Rattle.psci_ctl_spec.specs.psci_link.Message.{MessageValue}
+use Rattle.psci_world_laws.specs.psci_fw_spec.Lives.{in_life}
+use Rattle.psci_world_laws.specs.psci_world_spec.declared.said.Record.{Record}
+use Rattle.psci_world_laws.specs.psci_world_spec.Histories.{controller_values, firmware_values}
+use Rattle.psci_world_laws.specs.psci_world_spec.Histories.{sent}
+use Rattle.psci_world_laws.specs.psci_world_spec.Legal.{IsLegalPast}
+use Rattle.psci_world_laws.specs.psci_world_spec.Lists.{indexed}
 use Rattle.psci_settle.specs.Drained.{AreAtRest, IsSettled, deliveries, is_settling}
 use Rattle.psci_settle.specs.Settling.{Reached, begun, halts_in, is_halting, rounds, settled}
 use Rattle.psci_settle.proofs.Beginning.{IsUnderWay}

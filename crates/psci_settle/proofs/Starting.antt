@@ -5,15 +5,15 @@ use Rattle.std.specs.Prelude.{slice_get}
 use Rattle.std.proofs.lemmas.Bool.{cases_Bool, cases_eq, cond-true, cond-false, eq-eqb, ne_eqb}
 use Rattle.psci_board.specs.Board.{BoardValue, height, up}
 use Rattle.psci_board.specs.declared.node.Node.{Node}
-use Rattle.psci_coord.specs.declared.part.Part.{Part}
+use Rattle.psci_ctl_spec.specs.psci_coord.declared.part.Part.{Part}
 use Rattle.psci_ctl_spec.specs.Changes.{one_more, with_path_on}
 use Rattle.psci_ctl_spec.specs.Values.{starts_below}
 use Rattle.psci_board.specs.Paths.{is_on_path}
-use Rattle.psci_link.specs.Message.{AckValue, MessageValue}
-use Rattle.psci_link.specs.Slots.{Slot}
-use Rattle.psci_fw_spec.specs.Phases.{Phase}
-use Rattle.psci_fw_laws.specs.KnownBelow.{known_below}
-use Rattle.psci_fw_laws.specs.Messages.{known_on}
+use Rattle.psci_ctl_spec.specs.psci_link.Message.{AckValue, MessageValue}
+use Rattle.psci_ctl_spec.specs.psci_link.Slots.{Slot}
+use Rattle.psci_world_laws.specs.psci_fw_spec.Phases.{Phase}
+use Rattle.psci_world_laws.specs.psci_fw_laws.KnownBelow.{known_below}
+use Rattle.psci_world_laws.specs.psci_fw_laws.Messages.{known_on}
 use Rattle.psci_settle.specs.Waiting.{AreWaiting, IsLivePart, IsTold}
 use Rattle.psci_settle.proofs.Taking.{named}
 

@@ -5,14 +5,15 @@ use Rattle.std.specs.Prelude.{slice_get}
 use Rattle.std.proofs.lemmas.Bool.{and_parts, cases_lt, eqb-true, leb-true, or_cases}
 use Rattle.std.proofs.lemmas.Option.{same_Some, slice_get_within}
 use Rattle.psci_board.specs.Board.{BoardValue, up}
-use Rattle.psci_coord.specs.declared.part.Part.{Part}
-use Rattle.psci_link.specs.declared.kind.Kind.{Kind}
-use Rattle.psci_link.specs.declared.kind.Kind.TheVariants.{Down, Start, Off, Reset}
-use Rattle.psci_link.specs.Message.{AckValue, MessageValue}
-use Rattle.psci_link.specs.Slots.{Acknowledge, OfCore, Slot, answers, changed, is_done, is_kind}
-use Rattle.psci_link.specs.Slots.{is_slot, slot_of}
-use Rattle.psci_fw_spec.specs.Phases.{Phase}
-use Rattle.psci_fw_laws.specs.Outstanding.{AreOutstanding}
+use Rattle.psci_ctl_spec.specs.psci_coord.declared.part.Part.{Part}
+use Rattle.psci_ctl_spec.specs.psci_link.declared.kind.Kind.{Kind}
+use Rattle.psci_ctl_spec.specs.psci_link.declared.kind.Kind.TheVariants.{Down, Start, Off, Reset}
+use Rattle.psci_ctl_spec.specs.psci_link.Message.{AckValue, MessageValue}
+use Rattle.psci_ctl_spec.specs.psci_link.Slots.{Acknowledge, OfCore, Slot, answers, changed}
+use Rattle.psci_ctl_spec.specs.psci_link.Slots.{is_done, is_kind}
+use Rattle.psci_ctl_spec.specs.psci_link.Slots.{is_slot, slot_of}
+use Rattle.psci_world_laws.specs.psci_fw_spec.Phases.{Phase}
+use Rattle.psci_world_laws.specs.psci_fw_laws.Outstanding.{AreOutstanding}
 use Rattle.psci_settle.specs.Waiting.{AreWaiting, AwaitsStart, IsLivePart, IsTold, WasTold}
 
 -- Names ----------------------------------------------------------------------------------------

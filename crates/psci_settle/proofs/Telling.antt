@@ -5,18 +5,18 @@ use Rattle.std.specs.Prelude.{slice_get}
 use Rattle.std.proofs.lemmas.Bool.{and_from, cond-true, eq-eqb, le-leb}
 use Rattle.std.proofs.lemmas.Option.{same_Some, slice_get_within}
 use Rattle.psci_board.specs.Board.{BoardValue, height, up}
-use Rattle.psci_coord.specs.declared.part.Part.{Part}
-use Rattle.psci_coord.specs.View.{domain_of}
+use Rattle.psci_ctl_spec.specs.psci_coord.declared.part.Part.{Part}
+use Rattle.psci_ctl_spec.specs.psci_coord.View.{domain_of}
 use Rattle.psci_ctl_spec.specs.Laws.{AckLaws}
 use Rattle.psci_ctl_spec.specs.Parts.{applied, depth_or, is_stale, laid}
 use Rattle.psci_ctl_spec.specs.Replies.{ack_of}
 use Rattle.psci_ctl_spec.specs.Values.{Values, starts_below}
 use Rattle.psci_board.specs.Paths.{is_on_path}
 use Rattle.psci_ctl_spec.proofs.Front.{get_take}
-use Rattle.psci_link.specs.declared.kind.Kind.{Kind}
-use Rattle.psci_link.specs.declared.kind.Kind.TheVariants.{Down, Start, Off, Reset}
-use Rattle.psci_link.specs.Message.{MessageValue}
-use Rattle.psci_link.specs.Slots.{answers, is_kind}
+use Rattle.psci_ctl_spec.specs.psci_link.declared.kind.Kind.{Kind}
+use Rattle.psci_ctl_spec.specs.psci_link.declared.kind.Kind.TheVariants.{Down, Start, Off, Reset}
+use Rattle.psci_ctl_spec.specs.psci_link.Message.{MessageValue}
+use Rattle.psci_ctl_spec.specs.psci_link.Slots.{answers, is_kind}
 use Rattle.psci_settle.specs.Waiting.{IsLivePart, IsTold}
 use Rattle.psci_settle.proofs.Starting.{same_sum}
 

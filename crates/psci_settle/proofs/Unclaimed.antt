@@ -2,13 +2,13 @@
 use Rattle.std.proofs.Common.{◌≡◌, ℕ, inr, ◌<◌, List, Some, refl, arith, ap, sym}
 use Rattle.std.specs.Prelude.{slice_get}
 use Rattle.psci_board.specs.Board.{BoardValue, cores, up}
-use Rattle.psci_coord.specs.declared.part.Part.{Part}
-use Rattle.psci_link.specs.declared.kind.Kind.TheVariants.{Down}
-use Rattle.psci_link.specs.Message.{MessageValue}
-use Rattle.psci_fw_spec.specs.Phases.{Phase, Running}
-use Rattle.psci_fw_laws.specs.Claims.{IsClaimOn}
-use Rattle.psci_fw_laws.specs.Live.{AreLive}
-use Rattle.psci_fw_laws.proofs.Parts.{part_from}
+use Rattle.psci_ctl_spec.specs.psci_coord.declared.part.Part.{Part}
+use Rattle.psci_ctl_spec.specs.psci_link.declared.kind.Kind.TheVariants.{Down}
+use Rattle.psci_ctl_spec.specs.psci_link.Message.{MessageValue}
+use Rattle.psci_world_laws.specs.psci_fw_spec.Phases.{Phase, Running}
+use Rattle.psci_world_laws.specs.psci_fw_laws.Claims.{IsClaimOn}
+use Rattle.psci_world_laws.specs.psci_fw_laws.Live.{AreLive}
+use Rattle.psci_world_laws.proofs.fw_laws.Parts.{part_from}
 use Rattle.psci_settle.specs.Waiting.{IsLivePart}
 
 -- no part of a Down of this core is live

@@ -3,17 +3,19 @@ use Rattle.std.proofs.Common.{◌≡◌, List, [], ◌∷◌, refl, arith, subst
 use Rattle.psci_board.specs.Board.{BoardValue}
 use Rattle.psci_ctl_spec.specs.Legal as legal_controls
 use Rattle.psci_ctl_spec.specs.Values as controlled
-use Rattle.psci_fw_spec.specs.History as remembers
-use Rattle.psci_fw_spec.specs.Legal.{IsLegal}
-use Rattle.psci_fw_spec.specs.Lives.{in_life, start_of_life}
-use Rattle.psci_world_spec.specs.declared.event.Event.{Event}
-use Rattle.psci_world_spec.specs.declared.event.Event.TheVariants.{Call, Enter, Wake, Reset}
-use Rattle.psci_world_spec.specs.declared.event.Event.TheVariants.{Deliver, Take}
-use Rattle.psci_world_spec.specs.declared.said.Record.{Record}
-use Rattle.psci_world_spec.specs.declared.said.Said.{Said}
-use Rattle.psci_world_spec.specs.Histories.{ack_in, acks, controller_history, firmware_history}
-use Rattle.psci_world_spec.specs.Histories.{sent, sent_in}
-use Rattle.psci_world_spec.specs.Legal.{IsLegalPast, legal}
+use Rattle.psci_world_laws.specs.psci_fw_spec.History as remembers
+use Rattle.psci_world_laws.specs.psci_fw_spec.Legal.{IsLegal}
+use Rattle.psci_world_laws.specs.psci_fw_spec.Lives.{in_life, start_of_life}
+use Rattle.psci_world_laws.specs.psci_world_spec.declared.event.Event.{Event}
+use Rattle.psci_world_laws.specs.psci_world_spec.declared.event.Event.TheVariants.{Call, Enter}
+use Rattle.psci_world_laws.specs.psci_world_spec.declared.event.Event.TheVariants.{Wake, Reset}
+use Rattle.psci_world_laws.specs.psci_world_spec.declared.event.Event.TheVariants.{Deliver, Take}
+use Rattle.psci_world_laws.specs.psci_world_spec.declared.said.Record.{Record}
+use Rattle.psci_world_laws.specs.psci_world_spec.declared.said.Said.{Said}
+use Rattle.psci_world_laws.specs.psci_world_spec.Histories.{ack_in, acks, controller_history}
+use Rattle.psci_world_laws.specs.psci_world_spec.Histories.{firmware_history}
+use Rattle.psci_world_laws.specs.psci_world_spec.Histories.{sent, sent_in}
+use Rattle.psci_world_laws.specs.psci_world_spec.Legal.{IsLegalPast, legal}
 use Rattle.psci_world_laws.proofs.Agreed.{RunLaws}
 use Rattle.psci_world_laws.proofs.Controlling.{after_control, more_controls}
 use Rattle.psci_world_laws.proofs.Happening.{sends_nothing}

@@ -4,19 +4,22 @@ use Rattle.std.specs.Prelude.{ℕ, zero, suc, ◌+◌, ◌==◌, Bool, true, fal
 use Rattle.std.specs.Prelude.{Option, None, Some, is_some, length, if◌then◌else◌, option_and_then}
 use Rattle.std.specs.List.{list_any, range_with_len}
 use Rattle.psci_board.specs.Board.{BoardValue, cores, height}
-use Rattle.psci_link.specs.declared.kind.Kind.{Kind}
-use Rattle.psci_link.specs.declared.kind.Kind.TheVariants.{Start}
-use Rattle.psci_link.specs.Message.{MessageValue}
-use Rattle.psci_link.specs.Slots.{OfCore, is_kind}
-use Rattle.psci_fw_spec.specs.Lives.{in_life}
-use Rattle.psci_world_spec.specs.declared.event.Event.{Event}
-use Rattle.psci_world_spec.specs.declared.event.Event.TheVariants.{Enter, Deliver, Take}
-use Rattle.psci_world_spec.specs.declared.place.Place.{Place}
-use Rattle.psci_world_spec.specs.declared.place.Place.TheVariants.{Started, Running, Stopped}
-use Rattle.psci_world_spec.specs.declared.said.Record.{Record}
-use Rattle.psci_world_spec.specs.Histories.{acks, controller_values, firmware_values, sent}
-use Rattle.psci_world_spec.specs.Legal.{legal_record}
-use Rattle.psci_world_spec.specs.Places.{place}
+use Rattle.psci_ctl_spec.specs.psci_link.declared.kind.Kind.{Kind}
+use Rattle.psci_ctl_spec.specs.psci_link.declared.kind.Kind.TheVariants.{Start}
+use Rattle.psci_ctl_spec.specs.psci_link.Message.{MessageValue}
+use Rattle.psci_ctl_spec.specs.psci_link.Slots.{OfCore, is_kind}
+use Rattle.psci_world_laws.specs.psci_fw_spec.Lives.{in_life}
+use Rattle.psci_world_laws.specs.psci_world_spec.declared.event.Event.{Event}
+use Rattle.psci_world_laws.specs.psci_world_spec.declared.event.Event.TheVariants.{Enter, Deliver}
+use Rattle.psci_world_laws.specs.psci_world_spec.declared.event.Event.TheVariants.{Take}
+use Rattle.psci_world_laws.specs.psci_world_spec.declared.place.Place.{Place}
+use Rattle.psci_world_laws.specs.psci_world_spec.declared.place.Place.TheVariants.{Started, Running}
+use Rattle.psci_world_laws.specs.psci_world_spec.declared.place.Place.TheVariants.{Stopped}
+use Rattle.psci_world_laws.specs.psci_world_spec.declared.said.Record.{Record}
+use Rattle.psci_world_laws.specs.psci_world_spec.Histories.{acks, controller_values}
+use Rattle.psci_world_laws.specs.psci_world_spec.Histories.{firmware_values, sent}
+use Rattle.psci_world_laws.specs.psci_world_spec.Legal.{legal_record}
+use Rattle.psci_world_laws.specs.psci_world_spec.Places.{place}
 
 -- Halting -------------------------------------------------------------------------------------
 

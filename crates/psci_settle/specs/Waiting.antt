@@ -3,18 +3,19 @@ use Rattle.std.specs.Prelude.{◌≡◌, ◌⊎◌, ℕ, ◌<◌, ◌≤◌, Boo
 use Rattle.std.specs.Prelude.{Option, Some}
 use Rattle.psci_board.specs.Board.{BoardValue, HasNode, cores, up}
 use Rattle.psci_board.specs.declared.node.Node.{Node}
-use Rattle.psci_coord.specs.declared.part.Part.{Part}
-use Rattle.psci_link.specs.declared.kind.Kind.TheVariants.{Down, Start}
-use Rattle.psci_link.specs.Message.{AckValue, MessageValue}
-use Rattle.psci_link.specs.Slots.{Slot, OfCore, answers}
+use Rattle.psci_ctl_spec.specs.psci_coord.declared.part.Part.{Part}
+use Rattle.psci_ctl_spec.specs.psci_link.declared.kind.Kind.TheVariants.{Down, Start}
+use Rattle.psci_ctl_spec.specs.psci_link.Message.{AckValue, MessageValue}
+use Rattle.psci_ctl_spec.specs.psci_link.Slots.{Slot, OfCore, answers}
 use Rattle.psci_ctl_spec.specs.Values.{first_depth, starts_below}
 use Rattle.psci_ctl_spec.specs.Values as controlled
-use Rattle.psci_fw_spec.specs.Lives.{in_life}
-use Rattle.psci_fw_spec.specs.Phases.{Phase, Pending}
-use Rattle.psci_fw_spec.specs.Values.{Values}
-use Rattle.psci_fw_laws.specs.Messages.{known_on}
-use Rattle.psci_world_spec.specs.declared.said.Record.{Record}
-use Rattle.psci_world_spec.specs.Histories.{acks, controller_values, firmware_values, sent}
+use Rattle.psci_world_laws.specs.psci_fw_spec.Lives.{in_life}
+use Rattle.psci_world_laws.specs.psci_fw_spec.Phases.{Phase, Pending}
+use Rattle.psci_world_laws.specs.psci_fw_spec.Values.{Values}
+use Rattle.psci_world_laws.specs.psci_fw_laws.Messages.{known_on}
+use Rattle.psci_world_laws.specs.psci_world_spec.declared.said.Record.{Record}
+use Rattle.psci_world_laws.specs.psci_world_spec.Histories.{acks, controller_values}
+use Rattle.psci_world_laws.specs.psci_world_spec.Histories.{firmware_values, sent}
 
 -- a part of a message is live, in the life of the message: its generation counts every start below
 -- its domain

@@ -2,20 +2,19 @@
 
 ghost use Rattle.std.specs.Prelude.{◌≡◌, ◌++◌, false, List};
 ghost use Rattle.psci_board.specs.Board.{BoardValue, IsBoard};
-ghost use Rattle.psci_world_spec.specs.declared.said.Record.{Record};
-ghost use Rattle.psci_world_spec.specs.Legal.{IsLegalPast};
+ghost use Rattle.psci_world_laws.specs.psci_world_spec.declared.said.Record.{Record};
+ghost use Rattle.psci_world_laws.specs.psci_world_spec.Legal.{IsLegalPast};
 ghost use Rattle.psci_settle.specs.Drained.{IsSettled};
 ghost use Rattle.psci_settle.specs.Settling.{is_halting, settled};
 ghost use Rattle.psci_settle.specs.Waiting.{Waiting};
 
 use psci_board::{law_children, law_paths, law_sizes};
 use psci_ctl_spec::{
-    law_acknowledgements, law_depths, law_sums, law_limits, law_replies, law_values,
+    law_acknowledgements, law_depths, law_limits, law_parts, law_replies, law_sums, law_values,
 };
-use psci_fw_laws::{law_granted, law_kept};
-use psci_fw_spec::law_caller;
-use psci_link::law_parts;
-use psci_world_laws::{law_agreement, law_controlled, law_never_refused, law_sent};
+use psci_world_laws::{
+    law_agreement, law_caller, law_controlled, law_granted, law_kept, law_never_refused, law_sent,
+};
 
 /// In a legal run every claim is carried out as far as it is live, or its Down is outstanding, and
 /// what an acknowledgement says stays true.
@@ -30,7 +29,7 @@ pub fn law_waiting()
     law_acknowledgements();
     law_replies();
     law_limits();
-    psci_fw_spec::law_values();
+    psci_world_laws::law_values();
     law_caller();
     law_kept();
     law_sent();
@@ -56,7 +55,7 @@ pub fn law_settles()
     law_replies();
     law_limits();
     law_depths();
-    psci_fw_spec::law_values();
+    psci_world_laws::law_values();
     law_caller();
     law_kept();
     law_granted();

@@ -1,2 +1,3 @@
 pub mod Ask
 pub mod PowerState
+pub use Rattle.psci_abi.specs as psci_abi

@@ -3,8 +3,8 @@ use Rattle.std.proofs.Common.{◌≡◌, ◌∙◌, ℕ, true, false, List, [], 
 use Rattle.std.proofs.Common.{◌<◌, ◌∷◌, ◌++◌, subst, Ok, Err, OnErr, inl, inr}
 use Rattle.std.proofs.lemmas.List.{append_assoc}
 use Rattle.std.specs.Prelude.{IfOk, Result}
-use Rattle.psci_board.specs.Board.{BoardValue}
-use Rattle.psci_board.specs.declared.fault.Memory.{Memory}
+use Rattle.psci_world.specs.psci_board.Board.{BoardValue}
+use Rattle.psci_world.specs.psci_board.declared.fault.Memory.{Memory}
 use Rattle.psci_world.specs.Safe.{AlwaysSafe}
 use Rattle.psci_world.specs.Settling.{is_halting, settled}
 use Rattle.psci_storm.specs.declared.outcome.Storm.{Storm}
@@ -12,10 +12,10 @@ use Rattle.psci_storm.specs.Storm.{IsBlown, IsCutShort, IsDrawn, IsStorm}
 use Rattle.psci_world.specs.declared.settling.Settled.{Settled}
 use Rattle.psci_world.specs.declared.settling.Settled.TheVariants.{Halting, Quiet}
 use Rattle.psci_world.specs.Settles.{ComesToRest, IsOnTheWay, SettlesBy}
-use Rattle.psci_world_spec.specs.declared.event.Event.{Event}
-use Rattle.psci_world_spec.specs.declared.said.Record.{Record}
-use Rattle.psci_world_spec.specs.Histories.{sent}
-use Rattle.psci_world_spec.specs.Legal.{IsLegalPast, legal_record, run_from}
+use Rattle.psci_world.specs.psci_world_spec.declared.event.Event.{Event}
+use Rattle.psci_world.specs.psci_world_spec.declared.said.Record.{Record}
+use Rattle.psci_world.specs.psci_world_spec.Histories.{sent}
+use Rattle.psci_world.specs.psci_world_spec.Legal.{IsLegalPast, legal_record, run_from}
 
 -- how the world settled, where it did
 settled_in : Result Settled Memory → Settled

@@ -4,20 +4,21 @@ use Rattle.std.proofs.Common.{length, refl, ap, sym, subst, arith, length-append
 use Rattle.std.proofs.Common.{rules}
 use Rattle.std.proofs.lemmas.List.Sums.{AllPass-from_list_all}
 use Rattle.std.specs.Prelude.{Bool, ◌==◌, drop, if◌then◌else◌, take}
-use Rattle.psci_board.specs.Board.{size_below}
+use Rattle.psci_world.specs.psci_board.Board.{size_below}
 use Rattle.psci_storm.specs.Storm.{IsBlown}
 use Rattle.psci_world.specs.declared.settling.Settled.{Settled}
 use Rattle.psci_world.specs.declared.settling.Settled.TheVariants.{Halting, Quiet}
 use Rattle.psci_world.specs.Settles.{ComesToRest}
 use Rattle.psci_world.specs.Settling.{is_halting, settled}
-use Rattle.psci_world_spec.specs.declared.event.Event.{Event}
-use Rattle.psci_world_spec.specs.declared.event.Event.TheVariants.{Enter, Deliver, Take, Wake}
-use Rattle.psci_world_spec.specs.declared.said.Record.{Record}
-use Rattle.psci_world_spec.specs.Histories.{controller_values, firmware_values}
-use Rattle.psci_world_spec.specs.Places.{place}
-use Rattle.psci_world_spec.specs.Legal.{IsLegalPast, run_from}
-use Rattle.psci_world_spec.proofs.Runs.{stays_legal}
-use Rattle.psci_world_spec.proofs.Scripts.{one_core, system_off}
+use Rattle.psci_world.specs.psci_world_spec.declared.event.Event.{Event}
+use Rattle.psci_world.specs.psci_world_spec.declared.event.Event.TheVariants.{Enter, Deliver, Take}
+use Rattle.psci_world.specs.psci_world_spec.declared.event.Event.TheVariants.{Wake}
+use Rattle.psci_world.specs.psci_world_spec.declared.said.Record.{Record}
+use Rattle.psci_world.specs.psci_world_spec.Histories.{controller_values, firmware_values}
+use Rattle.psci_world.specs.psci_world_spec.Places.{place}
+use Rattle.psci_world.specs.psci_world_spec.Legal.{IsLegalPast, run_from}
+use Rattle.psci_world.proofs.world_spec.Runs.{stays_legal}
+use Rattle.psci_world.proofs.world_spec.Scripts.{one_core, system_off}
 use Rattle.psci_storm.proofs.DrawnRows.{after, asleep, computing, drawn_length, going_off}
 use Rattle.psci_storm.proofs.DrawnRows.{none_drawn, none_drawn_yet, suspend, two_drawn, wrong}
 

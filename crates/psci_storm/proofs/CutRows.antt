@@ -5,10 +5,10 @@ use Rattle.std.specs.Prelude.{◌++◌, take}
 use Rattle.psci_storm.specs.Storm.{IsCutShort}
 use Rattle.psci_world.specs.Settles.{IsOnTheWay}
 use Rattle.psci_world.specs.Settling.{settled}
-use Rattle.psci_world_spec.specs.declared.event.Event.TheVariants.{Enter, Deliver}
-use Rattle.psci_world_spec.specs.declared.said.Record.{Record}
-use Rattle.psci_world_spec.specs.Legal.{run_from}
-use Rattle.psci_world_spec.proofs.Scripts.{one_core}
+use Rattle.psci_world.specs.psci_world_spec.declared.event.Event.TheVariants.{Enter, Deliver}
+use Rattle.psci_world.specs.psci_world_spec.declared.said.Record.{Record}
+use Rattle.psci_world.specs.psci_world_spec.Legal.{run_from}
+use Rattle.psci_world.proofs.world_spec.Scripts.{one_core}
 use Rattle.psci_storm.proofs.BlownRows.{rested}
 use Rattle.psci_storm.proofs.DrawnRows.{after, asleep, computing, drawn_length, none_drawn, suspend}
 use Rattle.psci_storm.proofs.DrawnRows.{two_drawn}

@@ -1,11 +1,11 @@
 -- Events that were drawn: none, and one more.
 use Rattle.std.proofs.Common.{◌≡◌, ◌<◌, ◌+◌, ℕ, List, [], ◌∷◌, ◌++◌, refl, ap, sym, ◌∙◌}
 use Rattle.std.proofs.Common.{subst, length-append}
-use Rattle.psci_board.specs.Board.{BoardValue}
+use Rattle.psci_world.specs.psci_board.Board.{BoardValue}
 use Rattle.psci_storm.specs.Storm.{HappensBy, IsDrawn}
-use Rattle.psci_world_spec.specs.declared.event.Event.{Event}
-use Rattle.psci_world_spec.specs.declared.said.Record.{Record}
-use Rattle.psci_world_spec.specs.Legal.{legal_record, run_from}
+use Rattle.psci_world.specs.psci_world_spec.declared.event.Event.{Event}
+use Rattle.psci_world.specs.psci_world_spec.declared.said.Record.{Record}
+use Rattle.psci_world.specs.psci_world_spec.Legal.{legal_record, run_from}
 
 goes_on : (b : BoardValue) (past : List Record) (events more : List Event)
     → run_from b past (events ++ more) ≡ run_from b (run_from b past events) more

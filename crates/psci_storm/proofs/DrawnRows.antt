@@ -4,14 +4,14 @@ use Rattle.std.proofs.Common.{length, refl, ap, sym, subst, arith, length-append
 use Rattle.psci_storm.specs.Storm.{HappensBy, IsDrawn}
 use Rattle.psci_storm.proofs.Blown.{way_on}
 use Rattle.psci_world.specs.Settling.{begun, is_waiting, round, rounds, settled}
-use Rattle.psci_world_spec.specs.declared.event.Event.{Event}
-use Rattle.psci_world_spec.specs.declared.event.Event.TheVariants.{Enter, Take, Wake}
-use Rattle.psci_world_spec.specs.declared.said.Record.{Record}
-use Rattle.psci_world_spec.specs.declared.said.Said.TheVariants.{Ignored}
-use Rattle.psci_world_spec.specs.Legal.{IsLegalPast, legal_record, run_from}
-use Rattle.psci_world_spec.proofs.Runs.{stays_legal}
-use Rattle.psci_world_spec.proofs.Scripts as scripts
-use Rattle.psci_world_spec.proofs.Scripts.{call, enters, one_core, system_off}
+use Rattle.psci_world.specs.psci_world_spec.declared.event.Event.{Event}
+use Rattle.psci_world.specs.psci_world_spec.declared.event.Event.TheVariants.{Enter, Take, Wake}
+use Rattle.psci_world.specs.psci_world_spec.declared.said.Record.{Record}
+use Rattle.psci_world.specs.psci_world_spec.declared.said.Said.TheVariants.{Ignored}
+use Rattle.psci_world.specs.psci_world_spec.Legal.{IsLegalPast, legal_record, run_from}
+use Rattle.psci_world.proofs.world_spec.Runs.{stays_legal}
+use Rattle.psci_world.proofs.world_spec.Scripts as scripts
+use Rattle.psci_world.proofs.world_spec.Scripts.{call, enters, one_core, system_off}
 
 -- How the examples are stated ---------------------------------------------------------------------
 

@@ -5,12 +5,12 @@ use Rattle.psci_storm.specs.Storm.{IsStorm}
 use Rattle.psci_world.specs.Safe.{AlwaysSafe}
 use Rattle.psci_world.specs.declared.settling.Settled.{Settled}
 use Rattle.psci_world.specs.declared.settling.Settled.TheVariants.{Halting, Quiet}
-use Rattle.psci_world_spec.specs.declared.event.Event.{Event}
-use Rattle.psci_world_spec.specs.declared.event.Event.TheVariants.{Enter}
-use Rattle.psci_world_spec.specs.declared.said.Record.{Record}
-use Rattle.psci_world_spec.specs.Legal.{run_from}
-use Rattle.psci_world_spec.proofs.Runs.{stays_legal}
-use Rattle.psci_world_spec.proofs.Scripts.{one_core}
+use Rattle.psci_world.specs.psci_world_spec.declared.event.Event.{Event}
+use Rattle.psci_world.specs.psci_world_spec.declared.event.Event.TheVariants.{Enter}
+use Rattle.psci_world.specs.psci_world_spec.declared.said.Record.{Record}
+use Rattle.psci_world.specs.psci_world_spec.Legal.{run_from}
+use Rattle.psci_world.proofs.world_spec.Runs.{stays_legal}
+use Rattle.psci_world.proofs.world_spec.Scripts.{one_core}
 use Rattle.psci_storm.proofs.BlownRows.{calm, halts, more_drawn, rest_said_to_halt, rested}
 use Rattle.psci_storm.proofs.BlownRows.{sleeps, wrong_is_not_legal}
 use Rattle.psci_storm.proofs.DrawnRows.{after, computing, going_off, wrong}

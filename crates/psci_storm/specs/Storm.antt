@@ -1,15 +1,15 @@
 -- What a storm makes of a world: events that were drawn happen, and then the world settles.
 use Rattle.std.specs.Prelude.{◌≡◌, ◌<◌, ◌⊎◌, ℕ, true, false, List, [], length}
-use Rattle.psci_board.specs.Board.{BoardValue}
+use Rattle.psci_world.specs.psci_board.Board.{BoardValue}
 use Rattle.psci_world.specs.Safe.{AlwaysSafe}
 use Rattle.psci_world.specs.Settling.{is_halting, settled}
 use Rattle.psci_world.specs.declared.settling.Settled.{Settled}
 use Rattle.psci_world.specs.declared.settling.Settled.TheVariants.{Halting, Quiet}
 use Rattle.psci_world.specs.Settles.{ComesToRest, IsOnTheWay}
-use Rattle.psci_world_spec.specs.declared.event.Event.{Event}
-use Rattle.psci_world_spec.specs.declared.said.Record.{Record}
-use Rattle.psci_world_spec.specs.Histories.{sent}
-use Rattle.psci_world_spec.specs.Legal.{IsLegalPast, run_from}
+use Rattle.psci_world.specs.psci_world_spec.declared.event.Event.{Event}
+use Rattle.psci_world.specs.psci_world_spec.declared.said.Record.{Record}
+use Rattle.psci_world.specs.psci_world_spec.Histories.{sent}
+use Rattle.psci_world.specs.psci_world_spec.Legal.{IsLegalPast, run_from}
 use Rattle.psci_storm.specs.declared.outcome.Storm.{Storm}
 
 -- One past is the other after some events more, each with what is legal to say of it.

@@ -4,8 +4,7 @@ use crate::draws::{Draws, Mood};
 use crate::places::{count_at, is_at, is_halting, starts};
 use crate::requests::registers;
 use psci_abi::Request;
-use psci_world::World;
-use psci_world_spec::{Event, Place};
+use psci_world::{Event, Place, World};
 
 /// A start limit that a storm may reach.
 const NEAR_LIMIT: u32 = 4096;

@@ -2,12 +2,11 @@
 
 ghost use Rattle.std.specs.Prelude.{◌≡◌, List, IfOk, OnErr};
 ghost use Rattle.psci_storm.specs.Storm.{HappensBy, IsBlown, IsCutShort, IsStorm};
-ghost use Rattle.psci_world_spec.specs.declared.said.Record.{Record};
+ghost use Rattle.psci_world.specs.psci_world_spec.declared.said.Record.{Record};
 
 use crate::drawing::draw;
 use crate::outcome::{Storm, StormedWorld};
-use psci_board::{Board, Memory};
-use psci_world::{Settled, World, settle};
+use psci_world::{Board, Memory, Settled, World, settle};
 use std::alloc::Global;
 
 /// So many events happen in the world, drawn from the seed, and then it settles. Which events are

@@ -4,8 +4,7 @@ ghost use Rattle.std.specs.Prelude.{◌≡◌, ◌<◌, ℕ, OnErr, OnOk};
 ghost use Rattle.psci_storm.specs.Storm.{HappensBy, IsDrawn};
 
 use crate::draws::Draws;
-use psci_board::Memory;
-use psci_world::World;
+use psci_world::{Memory, World};
 
 /// So many events happen, drawn from the seed. Out of memory, those before stand.
 pub fn draw(world: &mut World, seed: u64, count: u64) -> Result<(), Memory>

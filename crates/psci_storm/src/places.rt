@@ -1,7 +1,6 @@
 //! What a storm sees of a world.
 
-use psci_world::World;
-use psci_world_spec::Place;
+use psci_world::{Place, World};
 
 /// Where the core of this number is, if there is such a core.
 fn place_of(world: &World, number: u16) -> Option<Place> {

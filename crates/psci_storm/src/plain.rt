@@ -7,9 +7,7 @@ use crate::places::is_at;
 use crate::requests::{NO_FUNCTION, registers};
 use psci_abi::words::{CPU_ON_64, CPU_SUSPEND_32, CPU_SUSPEND_64, PSCI_FEATURES, SYSTEM_RESET2_32};
 use psci_abi::{Regs, Request};
-use psci_board::Board;
-use psci_world::World;
-use psci_world_spec::{Event, Place};
+use psci_world::{Board, Event, Place, World};
 
 /// A function word that is asked about, or called, now and then.
 ///

@@ -1,13 +1,13 @@
 -- Of which kind a record is: what was asked, and what was answered.
 use Rattle.std.specs.Prelude.{ℕ, Bool, true, false, ◌&&◌, ◌==◌, if◌then◌else◌, not}
 use Rattle.std.specs.Ordering.{int_eq}
-use Rattle.psci_abi.specs.Calls.{request_of}
-use Rattle.psci_abi.specs.declared.request.Request.{Request}
-use Rattle.psci_abi.specs.declared.request.Request.TheVariants as requests
-use Rattle.psci_fw_spec.specs.declared.outcome.Act.{Act}
-use Rattle.psci_fw_spec.specs.declared.outcome.Act.TheVariants as acts
-use Rattle.psci_link.specs.declared.taken.Taken.{Taken}
-use Rattle.psci_link.specs.declared.taken.Taken.TheVariants as taken
+use Rattle.psci_world_spec.specs.psci_abi.Calls.{request_of}
+use Rattle.psci_world_spec.specs.psci_abi.declared.request.Request.{Request}
+use Rattle.psci_world_spec.specs.psci_abi.declared.request.Request.TheVariants as requests
+use Rattle.psci_world_spec.specs.psci_fw_spec.declared.outcome.Act.{Act}
+use Rattle.psci_world_spec.specs.psci_fw_spec.declared.outcome.Act.TheVariants as acts
+use Rattle.psci_world_spec.specs.psci_link.declared.taken.Taken.{Taken}
+use Rattle.psci_world_spec.specs.psci_link.declared.taken.Taken.TheVariants as taken
 use Rattle.psci_world_spec.specs.declared.event.Event.{Event}
 use Rattle.psci_world_spec.specs.declared.event.Event.TheVariants as events
 use Rattle.psci_world_spec.specs.declared.said.Record.{Record}

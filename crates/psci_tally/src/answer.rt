@@ -3,9 +3,7 @@
 ghost use Rattle.std.specs.Prelude.{◌≡◌};
 ghost use Rattle.psci_tally.specs.Kinds.{answer_of_act, answer_of};
 
-use psci_fw_spec::Act;
-use psci_link::Taken;
-use psci_world_spec::Said;
+use psci_world_spec::{Act, Said, Taken};
 
 /// What was said of an event, without the addresses, numbers and messages that it names.
 #[derive(Clone, Copy, Debug, PartialEq, Eq)]

@@ -3,8 +3,7 @@
 ghost use Rattle.std.specs.Prelude.{◌≡◌};
 ghost use Rattle.psci_tally.specs.Kinds.{asked_in, asked_of};
 
-use psci_abi::{Request, read};
-use psci_world_spec::Event;
+use psci_world_spec::{Event, Request, read};
 
 /// What happened: a call by its function, or an event of another sort.
 #[derive(Clone, Copy, Debug, PartialEq, Eq)]

@@ -7,3 +7,4 @@ mod Settles
 mod Waiting
 mod WayRows
 mod Presents
+pub use Rattle.psci_machine.proofs.world_spec

@@ -16,14 +16,11 @@ mod settling;
 mod world;
 
 pub use present::Present;
-pub use psci_abi::{Code, Regs};
-pub use psci_board::{Board, Core, Memory, Node};
-pub use psci_coord::{Part, Parts};
-pub use psci_fw_spec::{Act, Cause, Start, Status};
 pub use psci_headline::{law_live_claims, law_safe};
-pub use psci_link::{Ack, Kind, Message, Taken};
-pub use psci_machine::{Controller, Firmware};
-pub use psci_world_spec::{Event, Place, Record, Said, Sent, law_histories, law_runs};
+pub use psci_machine::{
+    Ack, Act, Board, Cause, Code, Controller, Core, Event, Firmware, Kind, Memory, Message, Node,
+    Part, Parts, Place, Record, Regs, Said, Sent, Start, Status, Taken, law_histories, law_runs,
+};
 pub use runs::run;
 pub use settling::{Settled, settle};
 pub use world::World;

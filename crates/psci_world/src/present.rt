@@ -1,12 +1,8 @@
 //! The present of a world.
 
 use crate::kept::{keep_ack, keep_message};
-use psci_board::{Board, Memory};
-use psci_fw_laws::law_messages;
-use psci_link::{Ack, Message};
-use psci_machine::Machine;
-use psci_world_laws::law_sent;
-use psci_world_spec::{Event, Said, law_histories};
+use psci_headline::{law_messages, law_sent};
+use psci_machine::{Ack, Board, Event, Machine, Memory, Message, Said, law_histories};
 use std::alloc::Global;
 use std::marker::Model;
 
@@ -40,9 +36,9 @@ impl Model for Present {
 }
 
 ghost use Rattle.std.specs.Prelude.{◌≡◌, [], ◌∷◌, IfOk, OnOk, OnErr, List};
-ghost use Rattle.psci_board.specs.Board.{BoardValue};
-ghost use Rattle.psci_world_spec.specs.declared.said.Record.{Record};
-ghost use Rattle.psci_world_spec.specs.Legal.{legal, legal_record};
+ghost use Rattle.psci_machine.specs.psci_board.Board.{BoardValue};
+ghost use Rattle.psci_machine.specs.psci_world_spec.declared.said.Record.{Record};
+ghost use Rattle.psci_machine.specs.psci_world_spec.Legal.{legal, legal_record};
 ghost use Rattle.psci_world.specs.Seen.{IsPresent};
 
 impl Present {

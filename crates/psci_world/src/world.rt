@@ -1,11 +1,8 @@
 //! The world of one board.
 
 use crate::present::Present;
-use psci_board::{Board, Core, Memory};
 use psci_headline::law_safe;
-use psci_link::{Ack, Message};
-use psci_machine::{Controller, Firmware};
-use psci_world_spec::{Event, Place, Record};
+use psci_machine::{Ack, Board, Controller, Core, Event, Firmware, Memory, Message, Place, Record};
 use std::alloc::Global;
 use std::marker::Model;
 
@@ -33,14 +30,15 @@ impl Model for World {
 }
 
 ghost use Rattle.std.specs.Prelude.{◌≡◌, ◌<◌, [], ◌∷◌, IfOk, OnOk, OnErr, option_map, reverse};
-ghost use Rattle.psci_board.specs.Board.{IsBoard, cores};
+ghost use Rattle.psci_machine.specs.psci_board.Board.{IsBoard, cores};
 ghost use Rattle.psci_machine.specs.Controller as controller;
 ghost use Rattle.psci_machine.specs.Firmware as firmware;
-ghost use Rattle.psci_world_spec.specs.Histories.{acks, controller_values, firmware_values, sent};
+ghost use Rattle.psci_machine.specs.psci_world_spec.Histories.{acks, controller_values};
+ghost use Rattle.psci_machine.specs.psci_world_spec.Histories.{firmware_values, sent};
 ghost use Rattle.psci_headline.specs.Safe.{AlwaysSafe};
-ghost use Rattle.psci_world_spec.specs.Legal.{IsLegalPast, legal_record};
-ghost use Rattle.psci_world_spec.specs.Lists.{indexed};
-ghost use Rattle.psci_world_spec.specs.Places.{place};
+ghost use Rattle.psci_machine.specs.psci_world_spec.Legal.{IsLegalPast, legal_record};
+ghost use Rattle.psci_machine.specs.psci_world_spec.Lists.{indexed};
+ghost use Rattle.psci_machine.specs.psci_world_spec.Places.{place};
 
 impl World {
     /// The world of this board, before any event: the power controller is in its first life, the

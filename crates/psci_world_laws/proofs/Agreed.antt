@@ -1,8 +1,8 @@
 -- Firmware and power controller agree after every legal run.
 use Rattle.std.proofs.Common.{◌≡◌, ℕ, List, [], ◌∷◌, ◌++◌, Option, None, Some, option_map, refl}
 use Rattle.std.proofs.Common.{unwrap_or, arith, subst, sym}
-use Rattle.psci_abi.specs.Calls.{request_of}
-use Rattle.psci_abi.specs.declared.registers.Regs.{Regs}
+use Rattle.psci_ctl_spec.specs.psci_abi.Calls.{request_of}
+use Rattle.psci_ctl_spec.specs.psci_abi.declared.registers.Regs.{Regs}
 use Rattle.psci_board.specs.Board.{BoardValue}
 use Rattle.psci_ctl_spec.specs.declared.call.CtlCall.{CtlCall}
 use Rattle.psci_ctl_spec.specs.Changes as controlling
@@ -13,18 +13,18 @@ use Rattle.psci_ctl_spec.specs.History as controls
 use Rattle.psci_ctl_spec.specs.Legal as legal_controls
 use Rattle.psci_ctl_spec.specs.Replies.{last_start, reply}
 use Rattle.psci_ctl_spec.specs.Values as controlled
-use Rattle.psci_link.specs.declared.start.Start.{Start}
-use Rattle.psci_link.specs.Message.{AckValue, MessageValue}
-use Rattle.psci_link.specs.declared.taken.Taken.{Taken}
-use Rattle.psci_link.specs.declared.taken.Taken.TheVariants as takens
-use Rattle.psci_fw_spec.specs.After.{change}
-use Rattle.psci_fw_spec.specs.Effects.{function_effect}
-use Rattle.psci_fw_spec.specs.Exchange as firmware
-use Rattle.psci_fw_spec.specs.Exchange.{effect}
-use Rattle.psci_fw_spec.specs.History as remembers
-use Rattle.psci_fw_spec.specs.Legal.{IsLegal}
-use Rattle.psci_fw_spec.specs.Lives.{in_life, start_of_life}
-use Rattle.psci_fw_spec.specs.Values.{Values}
+use Rattle.psci_ctl_spec.specs.psci_link.declared.start.Start.{Start}
+use Rattle.psci_ctl_spec.specs.psci_link.Message.{AckValue, MessageValue}
+use Rattle.psci_ctl_spec.specs.psci_link.declared.taken.Taken.{Taken}
+use Rattle.psci_ctl_spec.specs.psci_link.declared.taken.Taken.TheVariants as takens
+use Rattle.psci_fw_laws.specs.psci_fw_spec.After.{change}
+use Rattle.psci_fw_laws.specs.psci_fw_spec.Effects.{function_effect}
+use Rattle.psci_fw_laws.specs.psci_fw_spec.Exchange as firmware
+use Rattle.psci_fw_laws.specs.psci_fw_spec.Exchange.{effect}
+use Rattle.psci_fw_laws.specs.psci_fw_spec.History as remembers
+use Rattle.psci_fw_laws.specs.psci_fw_spec.Legal.{IsLegal}
+use Rattle.psci_fw_laws.specs.psci_fw_spec.Lives.{in_life, start_of_life}
+use Rattle.psci_fw_laws.specs.psci_fw_spec.Values.{Values}
 use Rattle.psci_fw_laws.specs.Allowed.{IsAllowed}
 use Rattle.psci_world_spec.specs.declared.event.Event.{Event}
 use Rattle.psci_world_spec.specs.declared.event.Event.TheVariants.{Call, Enter, Wake, Reset}

@@ -10,10 +10,10 @@ use Rattle.psci_ctl_spec.specs.Effects.{Effect, Nothing, Starts, Deepens, Ends, 
 use Rattle.psci_ctl_spec.specs.Follows.{MayFollow}
 use Rattle.psci_ctl_spec.specs.Values as controlled
 use Rattle.psci_ctl_spec.specs.Values.{first_starts}
-use Rattle.psci_fw_spec.specs.Lives.{in_life, start_of_life}
-use Rattle.psci_fw_spec.specs.Phases as phases
-use Rattle.psci_fw_spec.specs.Phases.{Phase}
-use Rattle.psci_fw_spec.specs.Values.{Values}
+use Rattle.psci_fw_laws.specs.psci_fw_spec.Lives.{in_life, start_of_life}
+use Rattle.psci_fw_laws.specs.psci_fw_spec.Phases as phases
+use Rattle.psci_fw_laws.specs.psci_fw_spec.Phases.{Phase}
+use Rattle.psci_fw_laws.specs.psci_fw_spec.Values.{Values}
 use Rattle.psci_world_spec.specs.declared.place.Place.{Place}
 use Rattle.psci_world_spec.specs.declared.place.Place.TheVariants.{Started, Running, Stopped}
 use Rattle.psci_world_spec.specs.Places.{first_place, place_of_effect}

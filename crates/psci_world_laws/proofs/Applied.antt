@@ -5,14 +5,14 @@ use Rattle.std.specs.Prelude.{nat_le, nat_lt, slice_get}
 use Rattle.std.proofs.lemmas.Bool.{and_parts, eqb-true, false≢true}
 use Rattle.std.proofs.lemmas.Option.{same_Some}
 use Rattle.psci_board.specs.Board.{BoardValue, height, up}
-use Rattle.psci_coord.specs.declared.part.Part.{Part}
-use Rattle.psci_link.specs.declared.kind.Kind.{Kind}
-use Rattle.psci_link.specs.declared.kind.Kind.TheVariants as kinds
-use Rattle.psci_link.specs.Message.{AckValue, MessageValue}
+use Rattle.psci_ctl_spec.specs.psci_coord.declared.part.Part.{Part}
+use Rattle.psci_ctl_spec.specs.psci_link.declared.kind.Kind.{Kind}
+use Rattle.psci_ctl_spec.specs.psci_link.declared.kind.Kind.TheVariants as kinds
+use Rattle.psci_ctl_spec.specs.psci_link.Message.{AckValue, MessageValue}
 use Rattle.psci_ctl_spec.specs.declared.call.CtlCall.TheVariants as asked
 use Rattle.psci_ctl_spec.specs.declared.delivery.Delivery.TheVariants as deliveries
 use Rattle.psci_ctl_spec.specs.declared.reply.CtlReply.TheVariants as replied
-use Rattle.psci_link.specs.declared.start.Cause.TheVariants as causes
+use Rattle.psci_ctl_spec.specs.psci_link.declared.start.Cause.TheVariants as causes
 use Rattle.psci_ctl_spec.specs.Effects.{Effect, Nothing, Starts, Deepens, Ends, Begins, effect_of}
 use Rattle.psci_ctl_spec.specs.Effects.{message_effect}
 use Rattle.psci_ctl_spec.specs.Exchange as controller
@@ -22,7 +22,7 @@ use Rattle.psci_ctl_spec.specs.Replies.{ack_by, delivery_of, is_this_life, reply
 use Rattle.psci_ctl_spec.specs.Values.{Values}
 use Rattle.psci_board.specs.Paths.{is_on_path}
 use Rattle.psci_ctl_spec.proofs.Front.{take_get}
-use Rattle.psci_fw_spec.specs.Said.{listed}
+use Rattle.psci_fw_laws.specs.psci_fw_spec.Said.{listed}
 use Rattle.psci_fw_laws.specs.Claims.{IsFromMessage}
 use Rattle.psci_fw_laws.proofs.Parts.{part_from}
 use Rattle.psci_world_spec.specs.declared.event.Event.{Event}

@@ -2,27 +2,29 @@
 use Rattle.std.proofs.Common.{◌≡◌, ℕ, Bool, true, false, cond, Option, None, Some}
 use Rattle.std.proofs.Common.{refl, subst, ap, sym, ◌∙◌}
 use Rattle.std.specs.Ordering.{int_eq}
-use Rattle.psci_abi.specs.Codes.{success}
-use Rattle.psci_abi.specs.declared.code.Code.{Code}
-use Rattle.psci_abi.specs.declared.request.Request.{Request}
-use Rattle.psci_abi.specs.declared.request.Request.TheVariants as requests
+use Rattle.psci_ctl_spec.specs.psci_abi.Codes.{success}
+use Rattle.psci_ctl_spec.specs.psci_abi.declared.code.Code.{Code}
+use Rattle.psci_ctl_spec.specs.psci_abi.declared.request.Request.{Request}
+use Rattle.psci_ctl_spec.specs.psci_abi.declared.request.Request.TheVariants as requests
 use Rattle.psci_board.specs.Board.{BoardValue}
-use Rattle.psci_link.specs.declared.start.Start.{Start}
-use Rattle.psci_link.specs.Message.{MessageValue}
-use Rattle.psci_fw_spec.specs.declared.mode.SuspendMode.{SuspendMode}
-use Rattle.psci_fw_spec.specs.declared.outcome.Act.{Act}
-use Rattle.psci_fw_spec.specs.declared.outcome.Act.TheVariants as acts
-use Rattle.psci_fw_spec.specs.After.{change}
-use Rattle.psci_fw_spec.specs.Changes.{PowerOn, target, with_mode, with_pending}
-use Rattle.psci_fw_spec.specs.Effects.{Effect, Nothing, GoesOn, SetsMode, AsksOn, Rests, Halts}
-use Rattle.psci_fw_spec.specs.Effects.{Stops, Enters, Parks, StopsAtOnce, Acknowledges}
-use Rattle.psci_fw_spec.specs.Effects.{enter_effect, function_effect, mode_effect}
-use Rattle.psci_fw_spec.specs.Lives.{in_life}
-use Rattle.psci_fw_spec.specs.Outcomes.{executes_on}
-use Rattle.psci_fw_spec.specs.Phases.{Phase, Away, Pending, Running, Suspended, is_running}
-use Rattle.psci_fw_spec.specs.Phases.{unless_pending}
-use Rattle.psci_fw_spec.specs.SuspendMode.{mode_of}
-use Rattle.psci_fw_spec.specs.Values.{Values, updated}
+use Rattle.psci_ctl_spec.specs.psci_link.declared.start.Start.{Start}
+use Rattle.psci_ctl_spec.specs.psci_link.Message.{MessageValue}
+use Rattle.psci_fw_laws.specs.psci_fw_spec.declared.mode.SuspendMode.{SuspendMode}
+use Rattle.psci_fw_laws.specs.psci_fw_spec.declared.outcome.Act.{Act}
+use Rattle.psci_fw_laws.specs.psci_fw_spec.declared.outcome.Act.TheVariants as acts
+use Rattle.psci_fw_laws.specs.psci_fw_spec.After.{change}
+use Rattle.psci_fw_laws.specs.psci_fw_spec.Changes.{PowerOn, target, with_mode, with_pending}
+use Rattle.psci_fw_laws.specs.psci_fw_spec.Effects.{Effect, Nothing, GoesOn, SetsMode, AsksOn}
+use Rattle.psci_fw_laws.specs.psci_fw_spec.Effects.{Rests, Halts}
+use Rattle.psci_fw_laws.specs.psci_fw_spec.Effects.{Stops, Enters, Parks, StopsAtOnce, Acknowledges}
+use Rattle.psci_fw_laws.specs.psci_fw_spec.Effects.{enter_effect, function_effect, mode_effect}
+use Rattle.psci_fw_laws.specs.psci_fw_spec.Lives.{in_life}
+use Rattle.psci_fw_laws.specs.psci_fw_spec.Outcomes.{executes_on}
+use Rattle.psci_fw_laws.specs.psci_fw_spec.Phases.{Phase, Away, Pending, Running, Suspended}
+use Rattle.psci_fw_laws.specs.psci_fw_spec.Phases.{is_running}
+use Rattle.psci_fw_laws.specs.psci_fw_spec.Phases.{unless_pending}
+use Rattle.psci_fw_laws.specs.psci_fw_spec.SuspendMode.{mode_of}
+use Rattle.psci_fw_laws.specs.psci_fw_spec.Values.{Values, updated}
 use Rattle.psci_fw_laws.specs.Allowed.{IsAllowed}
 use Rattle.psci_fw_laws.proofs.Parts.{updated_at, updated_here, updated_there}
 

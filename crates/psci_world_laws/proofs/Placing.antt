@@ -4,20 +4,20 @@ use Rattle.std.proofs.Common.{◌≡◌, ℕ, ◌<◌, ◌≤◌, ◌==◌, Bool
 use Rattle.std.proofs.Common.{refl, unwrap_or, arith, subst, ap, sym, ◌∙◌, ◌⊎◌, inl, inr}
 use Rattle.std.proofs.lemmas.Bool.{cases_eq, eqb-false, eqb-true}
 use Rattle.psci_board.specs.Board.{BoardValue, cores}
-use Rattle.psci_link.specs.declared.start.Start.{Start}
+use Rattle.psci_ctl_spec.specs.psci_link.declared.start.Start.{Start}
 use Rattle.psci_ctl_spec.specs.Replies.{last_start, start_shown}
 use Rattle.psci_ctl_spec.specs.Values as controlled
-use Rattle.psci_link.specs.Message.{AckValue, MessageValue}
-use Rattle.psci_fw_spec.specs.declared.outcome.Act.{Act}
-use Rattle.psci_fw_spec.specs.declared.outcome.Act.TheVariants as acts
-use Rattle.psci_fw_spec.specs.After.{change}
-use Rattle.psci_fw_spec.specs.Changes.{with_acknowledgement}
-use Rattle.psci_fw_spec.specs.Effects.{Effect, enter_effect}
-use Rattle.psci_fw_spec.specs.Lives.{in_life}
-use Rattle.psci_fw_spec.specs.Outcomes.{executes_on}
-use Rattle.psci_fw_spec.specs.Phases as phases
-use Rattle.psci_fw_spec.specs.Phases.{Phase, is_running}
-use Rattle.psci_fw_spec.specs.Values.{Values}
+use Rattle.psci_ctl_spec.specs.psci_link.Message.{AckValue, MessageValue}
+use Rattle.psci_fw_laws.specs.psci_fw_spec.declared.outcome.Act.{Act}
+use Rattle.psci_fw_laws.specs.psci_fw_spec.declared.outcome.Act.TheVariants as acts
+use Rattle.psci_fw_laws.specs.psci_fw_spec.After.{change}
+use Rattle.psci_fw_laws.specs.psci_fw_spec.Changes.{with_acknowledgement}
+use Rattle.psci_fw_laws.specs.psci_fw_spec.Effects.{Effect, enter_effect}
+use Rattle.psci_fw_laws.specs.psci_fw_spec.Lives.{in_life}
+use Rattle.psci_fw_laws.specs.psci_fw_spec.Outcomes.{executes_on}
+use Rattle.psci_fw_laws.specs.psci_fw_spec.Phases as phases
+use Rattle.psci_fw_laws.specs.psci_fw_spec.Phases.{Phase, is_running}
+use Rattle.psci_fw_laws.specs.psci_fw_spec.Values.{Values}
 use Rattle.psci_fw_laws.specs.Allowed.{IsAllowed}
 use Rattle.psci_fw_laws.proofs.Arriving.{found_life}
 use Rattle.psci_world_spec.specs.declared.place.Place.{Place}

@@ -1,9 +1,9 @@
 -- What the firmware and the power controller know of each other, in the controller's life.
 use Rattle.std.specs.Prelude.{◌≡◌, ℕ, ◌<◌, ◌≤◌, List, None, Some}
 use Rattle.psci_board.specs.Board.{BoardValue, cores}
-use Rattle.psci_fw_spec.specs.Lives.{in_life}
-use Rattle.psci_fw_spec.specs.Phases as phases
-use Rattle.psci_fw_spec.specs.Values.{Values}
+use Rattle.psci_fw_laws.specs.psci_fw_spec.Lives.{in_life}
+use Rattle.psci_fw_laws.specs.psci_fw_spec.Phases as phases
+use Rattle.psci_fw_laws.specs.psci_fw_spec.Values.{Values}
 use Rattle.psci_world_spec.specs.declared.place.Place.{Place}
 use Rattle.psci_world_spec.specs.declared.place.Place.TheVariants.{Started, Running, Stopped}
 use Rattle.psci_world_spec.specs.declared.said.Record.{Record}

@@ -1,10 +1,10 @@
 -- Refusals of the firmware, which no legal run has.
 use Rattle.std.specs.Prelude.{◌≡◌, ℕ, ◌<◌, List, None, Some}
 use Rattle.psci_board.specs.Board.{BoardValue, cores}
-use Rattle.psci_link.specs.declared.start.Start.{Start}
+use Rattle.psci_ctl_spec.specs.psci_link.declared.start.Start.{Start}
 use Rattle.psci_ctl_spec.specs.Replies.{last_start}
-use Rattle.psci_fw_spec.specs.Calls.{call_fault}
-use Rattle.psci_fw_spec.specs.Entering.{enter_fault}
+use Rattle.psci_fw_laws.specs.psci_fw_spec.Calls.{call_fault}
+use Rattle.psci_fw_laws.specs.psci_fw_spec.Entering.{enter_fault}
 use Rattle.psci_world_spec.specs.declared.place.Place.TheVariants.{Started, Running}
 use Rattle.psci_world_spec.specs.declared.said.Record.{Record}
 use Rattle.psci_world_spec.specs.Histories.{controller_values, firmware_values}

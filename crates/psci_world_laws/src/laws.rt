@@ -3,8 +3,8 @@
 ghost use Rattle.std.specs.Prelude.{◌≡◌, ℕ, List, Some, slice_get};
 ghost use Rattle.psci_board.specs.Board.{BoardValue, IsBoard};
 ghost use Rattle.psci_ctl_spec.specs.Legal as controls;
-ghost use Rattle.psci_fw_spec.specs.Sent.{sent_messages};
-ghost use Rattle.psci_link.specs.Message.{AckValue};
+ghost use Rattle.psci_fw_laws.specs.psci_fw_spec.Sent.{sent_messages};
+ghost use Rattle.psci_ctl_spec.specs.psci_link.Message.{AckValue};
 ghost use Rattle.psci_world_spec.specs.declared.said.Record.{Record};
 ghost use Rattle.psci_world_spec.specs.Histories.{acks, controller_history, firmware_history};
 ghost use Rattle.psci_world_spec.specs.Histories.{sent};
@@ -15,8 +15,7 @@ ghost use Rattle.psci_world_laws.specs.Refusals.{NoneRefused};
 
 use psci_board::law_sizes;
 use psci_ctl_spec::{law_limits, law_replies, law_values};
-use psci_fw_laws::law_kept;
-use psci_fw_spec::law_caller;
+use psci_fw_laws::{law_caller, law_kept};
 use psci_world_spec::law_histories;
 
 /// The messages of a legal run are those that the firmware's history says were sent.
@@ -52,7 +51,7 @@ pub fn law_agreement()
 {
     law_values();
     law_replies();
-    psci_fw_spec::law_values();
+    psci_fw_laws::law_values();
     law_caller();
     law_kept();
     law_controlled();

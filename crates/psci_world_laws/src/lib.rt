@@ -8,3 +8,10 @@
 mod laws;
 
 pub use laws::{law_acknowledged, law_agreement, law_controlled, law_never_refused, law_sent};
+pub use psci_board::law_paths;
+pub use psci_ctl_spec::{law_depths, law_limits};
+pub use psci_fw_laws::{
+    law_asked, law_caller, law_claimed, law_granted, law_invariant, law_kept, law_known_below,
+    law_messages, law_power_on, law_values,
+};
+pub use psci_world_spec::law_histories;

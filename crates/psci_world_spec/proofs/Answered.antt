@@ -2,15 +2,15 @@
 use Rattle.std.proofs.Common.{◌≡◌, ℕ, Bool, true, false, List, [], ◌∷◌, ◌++◌, cond, length, refl}
 use Rattle.std.proofs.Common.{Option, None, Some, option_map, ap, sym, ◌∙◌, subst}
 use Rattle.std.specs.Prelude.{nat_lt}
-use Rattle.psci_abi.specs.declared.registers.Regs.{Regs}
-use Rattle.psci_board.specs.Board.{BoardValue, cores}
+use Rattle.psci_fw_spec.specs.psci_abi.declared.registers.Regs.{Regs}
+use Rattle.psci_fw_spec.specs.psci_board.Board.{BoardValue, cores}
 use Rattle.psci_ctl_spec.specs.declared.call.CtlCall.{CtlCall}
 use Rattle.psci_ctl_spec.specs.declared.call.CtlCall.TheVariants as asked
 use Rattle.psci_ctl_spec.specs.declared.delivery.Delivery.TheVariants as deliveries
 use Rattle.psci_ctl_spec.specs.declared.kick.Kick.TheVariants as kicks
 use Rattle.psci_ctl_spec.specs.declared.reply.CtlReply.{CtlReply}
 use Rattle.psci_ctl_spec.specs.declared.reply.CtlReply.TheVariants as replied
-use Rattle.psci_link.specs.declared.start.Start.{Start}
+use Rattle.psci_fw_spec.specs.psci_link.declared.start.Start.{Start}
 use Rattle.psci_ctl_spec.specs.Replies.{last_start, reply}
 use Rattle.psci_fw_spec.specs.declared.call.FwCall.{FwCall}
 use Rattle.psci_fw_spec.specs.declared.call.FwCall.TheVariants as calls
@@ -19,7 +19,7 @@ use Rattle.psci_fw_spec.specs.declared.reply.FwReply.{FwReply}
 use Rattle.psci_fw_spec.specs.declared.reply.FwReply.TheVariants as replies
 use Rattle.psci_fw_spec.specs.Answer.{answer}
 use Rattle.psci_fw_spec.specs.Legal.{IsLegal}
-use Rattle.psci_link.specs.Message.{AckValue, MessageValue}
+use Rattle.psci_fw_spec.specs.psci_link.Message.{AckValue, MessageValue}
 use Rattle.psci_world_spec.specs.declared.event.Event.{Event}
 use Rattle.psci_world_spec.specs.declared.event.Event.TheVariants.{Call, Enter, Wake, Reset}
 use Rattle.psci_world_spec.specs.declared.event.Event.TheVariants.{Deliver, Take}

@@ -1,13 +1,13 @@
 -- The two histories of the records: what the firmware was asked and replied, and what the power
 -- controller was. A past has its newest record first; every definition looks backwards along it.
 use Rattle.std.specs.Prelude.{ℕ, List, [], ◌∷◌, ◌++◌, Option, None, Some, option_map}
-use Rattle.psci_board.specs.Board.{BoardValue}
+use Rattle.psci_fw_spec.specs.psci_board.Board.{BoardValue}
 use Rattle.psci_ctl_spec.specs.declared.call.CtlCall.{CtlCall}
 use Rattle.psci_ctl_spec.specs.declared.call.CtlCall.TheVariants as asked
 use Rattle.psci_ctl_spec.specs.declared.delivery.Delivery.TheVariants as deliveries
 use Rattle.psci_ctl_spec.specs.declared.kick.Kick.TheVariants as kicks
 use Rattle.psci_ctl_spec.specs.declared.reply.CtlReply.TheVariants as replied
-use Rattle.psci_link.specs.declared.start.Start.{Start}
+use Rattle.psci_fw_spec.specs.psci_link.declared.start.Start.{Start}
 use Rattle.psci_ctl_spec.specs.Exchange as controller
 use Rattle.psci_ctl_spec.specs.History as controls
 use Rattle.psci_ctl_spec.specs.Replies.{last_start}
@@ -20,8 +20,8 @@ use Rattle.psci_fw_spec.specs.Exchange as firmware
 use Rattle.psci_fw_spec.specs.History as remembers
 use Rattle.psci_fw_spec.specs.Said.{listed}
 use Rattle.psci_fw_spec.specs.Values as kept
-use Rattle.psci_link.specs.declared.taken.Taken.{Taken}
-use Rattle.psci_link.specs.Message.{AckValue, MessageValue}
+use Rattle.psci_fw_spec.specs.psci_link.declared.taken.Taken.{Taken}
+use Rattle.psci_fw_spec.specs.psci_link.Message.{AckValue, MessageValue}
 use Rattle.psci_world_spec.specs.declared.event.Event.{Event}
 use Rattle.psci_world_spec.specs.declared.event.Event.TheVariants.{Call, Enter, Wake, Reset}
 use Rattle.psci_world_spec.specs.declared.event.Event.TheVariants.{Deliver, Take}

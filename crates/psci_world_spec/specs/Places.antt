@@ -1,6 +1,6 @@
 -- Where each core is.
 use Rattle.std.specs.Prelude.{ℕ, ◌==◌, if◌then◌else◌, List, [], ◌∷◌, Option, None, Some, unwrap_or}
-use Rattle.psci_board.specs.Board.{BoardValue}
+use Rattle.psci_fw_spec.specs.psci_board.Board.{BoardValue}
 use Rattle.psci_ctl_spec.specs.Effects.{Effect, Nothing, Starts, Deepens, Ends, Begins, effect_of}
 use Rattle.psci_ctl_spec.specs.Exchange as controller
 use Rattle.psci_fw_spec.specs.declared.outcome.Act.{Act}

@@ -2,7 +2,7 @@
 
 ghost use Rattle.std.specs.Prelude.{◌≡◌};
 
-use psci_abi::Regs;
+use psci_fw_spec::Regs;
 
 /// What happens. Cores go by their numbers; messages and acknowledgements by how many were sent or
 /// made before them. Of each, any number may be named.

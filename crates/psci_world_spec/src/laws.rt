@@ -1,7 +1,7 @@
 //! What holds of the definitions alone: each law is the contract of a function that does nothing.
 
 ghost use Rattle.std.specs.Prelude.{◌≡◌, List, [], ◌++◌, map, reverse};
-ghost use Rattle.psci_board.specs.Board.{BoardValue};
+ghost use Rattle.psci_fw_spec.specs.psci_board.Board.{BoardValue};
 ghost use Rattle.psci_fw_spec.specs.Legal as answers;
 ghost use Rattle.psci_world_spec.specs.declared.event.Event.{Event};
 ghost use Rattle.psci_world_spec.specs.declared.said.Record.{Record};

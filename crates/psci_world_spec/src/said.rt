@@ -3,8 +3,7 @@
 ghost use Rattle.std.specs.Prelude.{◌≡◌};
 
 use crate::event::Event;
-use psci_fw_spec::Act;
-use psci_link::{Ack, Message, Start, Taken};
+use psci_fw_spec::{Ack, Act, Message, Start, Taken};
 
 /// A message, and how many messages were sent before it.
 #[derive(Drop, Debug, PartialEq)]

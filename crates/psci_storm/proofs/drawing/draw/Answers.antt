@@ -4,7 +4,7 @@ use Rattle.psci_storm.specs.Storm.{IsDrawn}
 use Rattle.psci_storm.proofs.Blown.{on_err}
 use Rattle.psci_storm.proofs.Drawn.{drawn_few, drawn_more, drawn_none, happens_drawn}
 use Rattle.psci_storm.proofs.Drawn.{happens_same}
-use Rattle.psci_world_spec.specs.declared.said.Record.{Record}
+use Rattle.psci_world.specs.psci_world_spec.declared.said.Record.{Record}
 use Rattle.psci_storm.proofs.drawing.draw.Goals as goal
 
 pub events-init : goal.events-init

@@ -1,13 +1,13 @@
 -- What the delivery of a message leaves.
 use Rattle.std.proofs.Common.{ap, sym, ◌∙◌}
-use Rattle.psci_board.specs.Board.{BoardValue}
+use Rattle.psci_fw.specs.psci_board.Board.{BoardValue}
 use Rattle.psci_ctl.specs.Seen.{seen}
-use Rattle.psci_ctl_spec.specs.declared.delivery.Delivery.{Delivery}
-use Rattle.psci_ctl_spec.specs.declared.call.CtlCall.TheVariants as calls
-use Rattle.psci_ctl_spec.specs.declared.delivery.Delivery.TheVariants as deliveries
-use Rattle.psci_ctl_spec.specs.declared.reply.CtlReply.TheVariants as replies
-use Rattle.psci_ctl_spec.specs.Changes.{after}
-use Rattle.psci_ctl_spec.specs.Replies.{reply}
+use Rattle.psci_ctl.specs.psci_ctl_spec.declared.delivery.Delivery.{Delivery}
+use Rattle.psci_ctl.specs.psci_ctl_spec.declared.call.CtlCall.TheVariants as calls
+use Rattle.psci_ctl.specs.psci_ctl_spec.declared.delivery.Delivery.TheVariants as deliveries
+use Rattle.psci_ctl.specs.psci_ctl_spec.declared.reply.CtlReply.TheVariants as replies
+use Rattle.psci_ctl.specs.psci_ctl_spec.Changes.{after}
+use Rattle.psci_ctl.specs.psci_ctl_spec.Replies.{reply}
 use Rattle.psci_machine.proofs.Kicks.{delivered_by, delivery_next, reset_life}
 use Rattle.psci_machine.proofs.machine.Machine.carry.Goals as goal
 

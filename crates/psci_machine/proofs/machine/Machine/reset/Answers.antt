@@ -1,6 +1,6 @@
 -- What is said of a reset, and what it leaves.
 use Rattle.std.proofs.Common.{ap, sym, ◌∙◌}
-use Rattle.psci_ctl_spec.specs.declared.call.CtlCall.TheVariants as calls
+use Rattle.psci_ctl.specs.psci_ctl_spec.declared.call.CtlCall.TheVariants as calls
 use Rattle.psci_world_spec.specs.Legal.{said_by}
 use Rattle.psci_machine.specs.Seen.{machine_board}
 use Rattle.psci_machine.proofs.Kicks.{found, kicked_by, reset_next, reset_said}

@@ -1,7 +1,7 @@
 -- What is said of a wake-up, and what it leaves.
 use Rattle.std.proofs.Common.{ap, sym, ◌∙◌}
 use Rattle.psci_ctl.specs.Seen.{seen}
-use Rattle.psci_ctl_spec.specs.declared.call.CtlCall.TheVariants as calls
+use Rattle.psci_ctl.specs.psci_ctl_spec.declared.call.CtlCall.TheVariants as calls
 use Rattle.psci_world_spec.specs.Legal.{said_by}
 use Rattle.psci_machine.specs.Seen.{MachineValue, machine_board}
 use Rattle.psci_machine.proofs.Kicks.{found, kicked_by, wake_asked, wake_next, woken}

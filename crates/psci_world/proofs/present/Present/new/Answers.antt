@@ -1,6 +1,6 @@
 -- A new present is that of no records.
 use Rattle.std.proofs.Common.{[], subst, sym}
-use Rattle.psci_board.specs.Board.{BoardValue}
+use Rattle.psci_machine.specs.psci_board.Board.{BoardValue}
 use Rattle.psci_world.specs.Seen.{IsPresent, PresentValue}
 use Rattle.psci_world.proofs.Presents.{first_present}
 use Rattle.psci_world.proofs.present.Present.new.Goals as goal
