@@ -1,6 +1,6 @@
 //! Scripts of events: read line by line, replayed in a world, and answered. What an event is, and
-//! what is said of it, are those of `psci_world`; the lines of a script and its answer text are those
-//! of `psci_script`.
+//! what is said of it, are those of `psci_world`; the lines of a script and its answer text are
+//! those of `psci_script`.
 //!
 //! - A *source* and a *sink* are the devices that a script comes from and its answers go to.
 #![tactic(auto)]

@@ -91,7 +91,7 @@ left_here a c m slot e =
 -- outstanding for a core.
 pub record IsEmptying (b : BoardValue) (past : List Record) (c k : ℕ) (m n : MessageValue)
     : Type 0 where
-  pub served : AreAnswered b past k n
+  pub answered : AreAnswered b past k n
   pub kind : (ack_to b past n).kind ≡ m.kind
   pub there : (x : ℕ) → (x ≡ c → ⊥)
       → (firmware_values b (serving b past (Some k))).outstanding (OfCore x)

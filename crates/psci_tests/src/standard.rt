@@ -59,8 +59,8 @@ impl Write for Writer {
     }
 }
 
-/// Replays the script between such a reader and such a writer, and compares the answer and the bytes
-/// that were taken.
+/// Replays the script between such a reader and such a writer, and compares the answer and the
+/// bytes that were taken.
 fn expect(
     rt: &impl Abort,
     alloc: Global,
