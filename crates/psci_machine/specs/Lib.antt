@@ -6,4 +6,3 @@ pub use Rattle.psci_fw.specs.psci_board
 pub use Rattle.psci_fw.specs.psci_link
 pub use Rattle.psci_ctl.specs.psci_ctl_spec
 pub use Rattle.psci_fw.specs.psci_fw_spec
-pub use Rattle.psci_world_spec.specs as psci_world_spec

@@ -7,4 +7,4 @@ mod Settles
 mod Waiting
 mod WayRows
 mod Presents
-pub use Rattle.psci_machine.proofs.world_spec
+pub use Rattle.psci_world_spec.proofs as world_spec

@@ -12,10 +12,10 @@ use Rattle.psci_settle.specs.Settling.{entering, is_any, is_start, is_started, i
 use Rattle.psci_settle.specs.Settling.{rounds, settled, step}
 use Rattle.psci_world.proofs.Settles.{each_more}
 use Rattle.psci_world.specs.Settles.{IsOnTheWay}
-use Rattle.psci_machine.specs.psci_world_spec.declared.event.Event.{Event}
-use Rattle.psci_machine.specs.psci_world_spec.declared.event.Event.TheVariants.{Deliver}
-use Rattle.psci_machine.specs.psci_world_spec.declared.said.Record.{Record}
-use Rattle.psci_machine.specs.psci_world_spec.Places.{place}
+use Rattle.psci_world_spec.specs.declared.event.Event.{Event}
+use Rattle.psci_world_spec.specs.declared.event.Event.TheVariants.{Deliver}
+use Rattle.psci_world_spec.specs.declared.said.Record.{Record}
+use Rattle.psci_world_spec.specs.Places.{place}
 
 -- In general ----------------------------------------------------------------------------------
 

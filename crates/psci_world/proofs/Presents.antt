@@ -5,11 +5,11 @@ use Rattle.std.proofs.lemmas.List.{reverse-append}
 use Rattle.psci_machine.specs.psci_board.Board.{BoardValue}
 use Rattle.psci_machine.specs.psci_fw_spec.Said.{listed}
 use Rattle.psci_machine.specs.psci_link.Message.{AckValue, MessageValue}
-use Rattle.psci_machine.specs.psci_world_spec.declared.event.Event.{Event}
-use Rattle.psci_machine.specs.psci_world_spec.declared.said.Record.{Record}
-use Rattle.psci_machine.specs.psci_world_spec.declared.said.Said.{Said}
-use Rattle.psci_machine.specs.psci_world_spec.Histories.{ack_in, acks, sent, sent_in}
-use Rattle.psci_machine.specs.psci_world_spec.Legal.{legal, legal_record}
+use Rattle.psci_world_spec.specs.declared.event.Event.{Event}
+use Rattle.psci_world_spec.specs.declared.said.Record.{Record}
+use Rattle.psci_world_spec.specs.declared.said.Said.{Said}
+use Rattle.psci_world_spec.specs.Histories.{ack_in, acks, sent, sent_in}
+use Rattle.psci_world_spec.specs.Legal.{legal, legal_record}
 use Rattle.psci_machine.specs.Seen.{IsAfter, machine_board}
 use Rattle.psci_world.specs.Seen.{HasPast, IsPresent, PresentValue}
 

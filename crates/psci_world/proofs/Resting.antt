@@ -8,7 +8,7 @@ use Rattle.psci_settle.specs.Settling.{settled}
 use Rattle.psci_world.specs.declared.settling.Settled.{Settled}
 use Rattle.psci_world.specs.declared.settling.Settled.TheVariants.{Quiet}
 use Rattle.psci_world.specs.Settles.{ComesToRest}
-use Rattle.psci_machine.specs.psci_world_spec.declared.said.Record.{Record}
+use Rattle.psci_world_spec.specs.declared.said.Record.{Record}
 
 -- what the law says of a past
 abbrev pub Settling : BoardValue → List Record → Type 0

@@ -8,9 +8,9 @@ use Rattle.psci_machine.specs.psci_board.Board.{BoardValue}
 use Rattle.psci_settle.specs.Drained.{is_settling}
 use Rattle.psci_settle.specs.Settling.{each_core, step}
 use Rattle.psci_world.specs.Settles.{SettlesBy}
-use Rattle.psci_machine.specs.psci_world_spec.declared.event.Event.{Event}
-use Rattle.psci_machine.specs.psci_world_spec.declared.said.Record.{Record}
-use Rattle.psci_machine.specs.psci_world_spec.Legal.{legal_record, run_from}
+use Rattle.psci_world_spec.specs.declared.event.Event.{Event}
+use Rattle.psci_world_spec.specs.declared.said.Record.{Record}
+use Rattle.psci_world_spec.specs.Legal.{legal_record, run_from}
 
 goes_on : (b : BoardValue) (past : List Record) (events more : List Event)
     → run_from b past (events ++ more) ≡ run_from b (run_from b past events) more

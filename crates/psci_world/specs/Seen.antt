@@ -3,9 +3,9 @@ use Rattle.std.specs.Prelude.{◌≡◌, List, reverse}
 use Rattle.psci_machine.specs.psci_board.Board.{BoardValue}
 use Rattle.psci_machine.specs.psci_link.Message.{AckValue, MessageValue}
 use Rattle.psci_machine.specs.Seen.{IsAfter, MachineValue, machine_board}
-use Rattle.psci_machine.specs.psci_world_spec.declared.said.Record.{Record}
-use Rattle.psci_machine.specs.psci_world_spec.Histories.{acks, sent}
-use Rattle.psci_machine.specs.psci_world_spec.Legal.{IsLegalPast}
+use Rattle.psci_world_spec.specs.declared.said.Record.{Record}
+use Rattle.psci_world_spec.specs.Histories.{acks, sent}
+use Rattle.psci_world_spec.specs.Legal.{IsLegalPast}
 
 -- The present, as contracts see it: the machine, and all messages and acknowledgements so far,
 -- oldest first.

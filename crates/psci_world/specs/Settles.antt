@@ -9,9 +9,9 @@ use Rattle.psci_world.specs.declared.outstanding.Which.{Which}
 use Rattle.psci_world.specs.declared.outstanding.Which.TheVariants.{Starts, All}
 use Rattle.psci_world.specs.declared.settling.Settled.{Settled}
 use Rattle.psci_world.specs.declared.settling.Settled.TheVariants.{Quiet}
-use Rattle.psci_machine.specs.psci_world_spec.declared.event.Event.{Event}
-use Rattle.psci_machine.specs.psci_world_spec.declared.said.Record.{Record}
-use Rattle.psci_machine.specs.psci_world_spec.Legal.{run_from}
+use Rattle.psci_world_spec.specs.declared.event.Event.{Event}
+use Rattle.psci_world_spec.specs.declared.said.Record.{Record}
+use Rattle.psci_world_spec.specs.Legal.{run_from}
 
 -- One past is the other after some events more: entries, deliveries and taken acknowledgements
 -- alone, each with what is legal to say of it.

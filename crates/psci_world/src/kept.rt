@@ -2,7 +2,7 @@
 
 ghost use Rattle.std.specs.Prelude.{◌≡◌, ◌<◌, ◌++◌, IsOk, OnOk, vec_capacity, vec_len};
 ghost use Rattle.psci_machine.specs.psci_fw_spec.Said.{listed};
-ghost use Rattle.psci_machine.specs.psci_world_spec.Histories.{ack_in, sent_in};
+ghost use Rattle.psci_world_spec.specs.Histories.{ack_in, sent_in};
 
 use psci_machine::{Ack, Memory, Message, Said};
 

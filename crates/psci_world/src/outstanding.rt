@@ -6,7 +6,7 @@ ghost use Rattle.psci_machine.specs.psci_board.Board.{cores};
 ghost use Rattle.psci_machine.specs.psci_link.Slots.{OfCore};
 ghost use Rattle.psci_settle.specs.Settling.{has_name, is_waiting, index_of};
 ghost use Rattle.psci_world.specs.Settles.{serves_kind};
-ghost use Rattle.psci_machine.specs.psci_world_spec.Histories.{firmware_values, sent};
+ghost use Rattle.psci_world_spec.specs.Histories.{firmware_values, sent};
 
 use crate::world::World;
 use psci_machine::{Kind, Message};

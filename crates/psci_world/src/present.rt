@@ -37,8 +37,8 @@ impl Model for Present {
 
 ghost use Rattle.std.specs.Prelude.{◌≡◌, [], ◌∷◌, IfOk, OnOk, OnErr, List};
 ghost use Rattle.psci_machine.specs.psci_board.Board.{BoardValue};
-ghost use Rattle.psci_machine.specs.psci_world_spec.declared.said.Record.{Record};
-ghost use Rattle.psci_machine.specs.psci_world_spec.Legal.{legal, legal_record};
+ghost use Rattle.psci_world_spec.specs.declared.said.Record.{Record};
+ghost use Rattle.psci_world_spec.specs.Legal.{legal, legal_record};
 ghost use Rattle.psci_world.specs.Seen.{IsPresent};
 
 impl Present {

@@ -33,12 +33,12 @@ ghost use Rattle.std.specs.Prelude.{◌≡◌, ◌<◌, [], ◌∷◌, IfOk, OnO
 ghost use Rattle.psci_machine.specs.psci_board.Board.{IsBoard, cores};
 ghost use Rattle.psci_machine.specs.Controller as controller;
 ghost use Rattle.psci_machine.specs.Firmware as firmware;
-ghost use Rattle.psci_machine.specs.psci_world_spec.Histories.{acks, controller_values};
-ghost use Rattle.psci_machine.specs.psci_world_spec.Histories.{firmware_values, sent};
+ghost use Rattle.psci_world_spec.specs.Histories.{acks, controller_values};
+ghost use Rattle.psci_world_spec.specs.Histories.{firmware_values, sent};
 ghost use Rattle.psci_headline.specs.Safe.{AlwaysSafe};
-ghost use Rattle.psci_machine.specs.psci_world_spec.Legal.{IsLegalPast, legal_record};
-ghost use Rattle.psci_machine.specs.psci_world_spec.Lists.{indexed};
-ghost use Rattle.psci_machine.specs.psci_world_spec.Places.{place};
+ghost use Rattle.psci_world_spec.specs.Legal.{IsLegalPast, legal_record};
+ghost use Rattle.psci_world_spec.specs.Lists.{indexed};
+ghost use Rattle.psci_world_spec.specs.Places.{place};
 
 impl World {
     /// The world of this board, before any event: the power controller is in its first life, the

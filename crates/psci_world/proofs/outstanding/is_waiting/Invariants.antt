@@ -5,7 +5,7 @@ use Rattle.std.specs.Prelude.{is_some}
 use Rattle.psci_machine.specs.psci_board.Board.{cores}
 use Rattle.psci_machine.specs.psci_link.Slots.{OfCore}
 use Rattle.psci_settle.specs.Settling.{is_waiting}
-use Rattle.psci_machine.specs.psci_world_spec.Histories.{firmware_values}
+use Rattle.psci_world_spec.specs.Histories.{firmware_values}
 use Rattle.psci_world.proofs.outstanding.is_waiting.Given as goal
 
 abbrev pub invariant-loop-number : goal.invariant-loop-number

@@ -2,7 +2,7 @@
 use Rattle.std.proofs.Common.{◌∙◌, subst, sym}
 use Rattle.psci_machine.specs.psci_fw_spec.Sent.{sent_messages}
 use Rattle.psci_machine.specs.Seen.{machine_board}
-use Rattle.psci_machine.specs.psci_world_spec.Histories.{firmware_history, sent}
+use Rattle.psci_world_spec.specs.Histories.{firmware_history, sent}
 use Rattle.psci_world.specs.Seen.{IsPresent}
 use Rattle.psci_world.proofs.Booked.{sent_of_board}
 use Rattle.psci_world.proofs.Presents.{happens, has_past}
