@@ -68,14 +68,14 @@ def wakes_the_core_alone(self, core, cause):
 
 # ---- firmware
 
-@wrong(Firmware, "function", "off-means-asleep", "6 return 1", 1)
+@wrong(Firmware, "function", "off-means-powered-down", "6 return 1", 1)
 def off_at_once(self, core, word, *args):
     if word in fw.CPU_OFF:
         self.status[core] = fw.OFF
     return RIGHT["function"](self, core, word, *args)
 
 
-@wrong(Firmware, "take", "off-means-asleep", "10 return 1", 1)
+@wrong(Firmware, "take", "off-means-powered-down", "10 return 1", 1)
 def off_by_any_acknowledgement(self, ack):
     return RIGHT["take"](self, ack._replace(applied=max(ack.applied, 1)))
 
