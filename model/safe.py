@@ -85,6 +85,13 @@ class Watched(World):
         return [it for it in self.claims + at_first
                 if (it.life, it.node, it.generation) == (life, node, starts)]
 
+    def forget(self, node):
+        """Drops the claims of the domain that have fewer starts than there were: they stay so."""
+        life = self.controller.life
+        starts = sum(self.controller.starts[core] for core in self.board.below(node))
+        self.claims = [it for it in self.claims
+                       if it.node != node or it.life == life and it.generation >= starts]
+
     def look(self):
         """Raises Unsafe where a sentence does not hold."""
         controller, firmware = self.controller, self.firmware
@@ -103,6 +110,7 @@ class Watched(World):
 
     def look_at_domains(self):
         for node in self.board.nodes:
+            self.forget(node)
             live, depth = self.live(node), self.controller.depth[node]
             if len(live) > 1:
                 raise Unsafe(f"2: domain {node} has the live claims {live}")
