@@ -20,7 +20,7 @@ use Rattle.psci_fw_spec.specs.Outcomes.{executes_on}
 use Rattle.psci_fw_spec.specs.Phases.{Running}
 use Rattle.psci_fw_spec.specs.Values.{Values}
 
-at_itself : {A : Type 0} (c : ℕ) (x y : A) → cond (c == c) x y ≡ x
+pub at_itself : {A : Type 0} (c : ℕ) (x y : A) → cond (c == c) x y ≡ x
 at_itself c x y = let same : (c == c) ≡ true = grind (arith, nat_tests) in rw same refl
 
 begun_by : (b : BoardValue) (v : Values) (life : ℕ) (t : Bool) → (life == v.life) ≡ t
@@ -28,7 +28,7 @@ begun_by : (b : BoardValue) (v : Values) (life : ℕ) (t : Bool) → (life == v.
 begun_by b v life true e = sym (eqb-true life v.life e)
 begun_by b v life false e = refl
 
-begun : (b : BoardValue) (v : Values) (life : ℕ) → (in_life b life v).life ≡ life
+pub begun : (b : BoardValue) (v : Values) (life : ℕ) → (in_life b life v).life ≡ life
 begun b v life = begun_by b v life (life == v.life) refl
 
 -- what a core that enters comes down to

@@ -7,6 +7,7 @@ mod Callers
 mod Changing
 mod Claimed
 mod CpuOnRows
+mod Depending
 mod DomainsSay
 mod EffectRows
 pub mod Endings
@@ -16,9 +17,14 @@ mod Granting
 mod HaltingRows
 mod Holding
 mod InvariantRows
+mod LastLifeRows
 mod LeftBy
 mod LegalRows
 mod LifeRows
+mod Lopsided
+mod LopsidedRows
+mod LopsidedValueRows
+mod MessageNames
 mod ModeRows
 mod Modes
 mod OffRows

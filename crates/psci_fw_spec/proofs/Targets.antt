@@ -47,7 +47,7 @@ Asks b v r e = Unit {0}
 -- The core that a CPU_ON starts ---------------------------------------------------------------
 
 -- the core that the word names is the one that is started, and it was off
-abbrev IsStarted : Values → Option Core → Core → Type 0
+abbrev pub IsStarted : Values → Option Core → Core → Type 0
 IsStarted v named target = (named ≡ Some target) × (v.status target.number ≡ Off)
 
 started_unless : (t : Bool) (v : Values) (code : Code) (k target : Core)
@@ -75,7 +75,7 @@ started_among : (b : BoardValue) (v : Values) (entry : ℕ) (k : Option Core) (t
 started_among b v entry None target f = absurd (cc)
 started_among b v entry (Some k) target f = started_at (may_enter b entry) b v k target _ f
 
-started_core : (b : BoardValue) (v : Values) (word entry : ℕ) (target : Core)
+pub started_core : (b : BoardValue) (v : Values) (word entry : ℕ) (target : Core)
     → target_of b v word entry ≡ Ok target → IsStarted v (core_of b word) target
 unfolding target_of
 started_core b v word entry target f = started_among b v entry (core_of b word) target f

@@ -12,8 +12,7 @@ use Rattle.psci_fw_spec.specs.declared.opening.Opening.{Opening}
 use Rattle.psci_fw_spec.specs.declared.status.Status.{Status}
 use Rattle.psci_fw_spec.specs.declared.status.Status.TheVariants as statuses
 use Rattle.psci_fw_spec.specs.Exchange.{FwExchange}
-use Rattle.psci_fw_spec.specs.History.{granted, halting, known, life, mode, opening, phase, status}
-use Rattle.psci_fw_spec.specs.History.{values_of}
+use Rattle.psci_fw_spec.specs.History.{life, values_of}
 use Rattle.psci_fw_spec.specs.Lives.{first_granted, first_opening}
 use Rattle.psci_fw_spec.specs.Phases.{Away, Phase, Running}
 use Rattle.psci_fw_spec.specs.Phases as phases

@@ -14,6 +14,7 @@ pub mod History
 pub mod Invariant
 pub mod Legal
 pub mod Lives
+pub mod Named
 pub mod Outcomes
 pub mod Paths
 pub mod Phases

@@ -10,6 +10,7 @@
 //! - An *opening* is where a core goes on when it next enters: entry point and context id.
 #![tactic(auto)]
 
+mod answers;
 mod call;
 mod fault;
 mod laws;
@@ -19,6 +20,7 @@ mod outcome;
 mod reply;
 mod status;
 
+pub use answers::{law_answers_depend, law_halting_life, law_message_names};
 pub use call::FwCall;
 pub use fault::FwFault;
 pub use laws::{

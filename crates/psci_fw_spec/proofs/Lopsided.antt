@@ -1,0 +1,28 @@
+-- What examples need that go along the axes: an uneven board of three levels, and plain calls by
+-- any core.
+use Rattle.std.proofs.Common.{◌≡◌, ℕ, List, [], ◌∷◌}
+use Rattle.psci_board.specs.Board.{BoardValue}
+use Rattle.psci_fw_spec.specs.History.{values_of}
+use Rattle.psci_fw_spec.proofs.Steps.{Step, board, history_of, kept_after, smc}
+use Rattle.psci_fw_spec.proofs.ValueRows.{Shown, shown}
+
+-- a group of a cluster of two cores and a cluster of one, and a group of one core: 0x000, 0x001;
+-- 0x100; 0x10000
+abbrev pub lopsided : BoardValue
+lopsided = record board { levels = (2 ∷ 1 ∷ 1 ∷ []) ∷ (2 ∷ 1 ∷ []) ∷ (2 ∷ []) ∷ [] }
+
+-- AFFINITY_INFO by a core: affinity word, level
+abbrev pub affinity_by : ℕ → ℕ → ℕ → Step
+affinity_by c target level = smc c 0xc4000004 target level 0
+
+-- PSCI_FEATURES and MIGRATE_INFO_TYPE by a core
+abbrev pub features_by : ℕ → ℕ → Step
+features_by c word = smc c 0x8400000a word 0 0
+
+abbrev pub migrate_info_type : ℕ → Step
+migrate_info_type c = smc c 0x84000006 0 0 0
+
+-- on this board the history and the kept values say this after these calls
+pub record SaysOn (b : BoardValue) (steps : List Step) (values : Shown) : Type 0 where
+  pub history : shown (values_of b (history_of b steps)) ≡ values
+  pub kept : shown (kept_after b (history_of b steps)) ≡ values
