@@ -15,6 +15,7 @@ pub mod Deepening
 pub mod Downs
 pub mod Emptying
 pub mod Finding
+mod Failing
 pub mod FirmwareSteps
 pub mod Folding
 pub mod Going
@@ -22,7 +23,9 @@ pub mod Nexts
 pub mod Pursuing
 pub mod Resting
 pub mod Rounds
+mod RestRows
 mod SettleRows
+mod SettledRows
 pub mod Settled
 pub mod Slots
 pub mod Sources
