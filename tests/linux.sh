@@ -1,5 +1,6 @@
 # What Linux and other firmware did, beside the built program, sourced by ../test after
-# tests/program.sh: stored runs, and traces that tools/trace-to-script makes scripts of.
+# tests/program.sh: stored runs, traces that tools/trace-to-script makes scripts of, and
+# the host that stands between QEMU and the program, with a stub for QEMU.
 
 # each stored run that is compressed, unpacked first
 stored_runs() {
@@ -57,4 +58,13 @@ faulty_traces() {
         if ! echo "$line" | tools/trace-to-script --acknowledged > "$work/out" 2> "$work/err" &&
             grep -q '^line 1: ' "$work/err"; then pass; else fail "the trace '$line'"; fi
     done
+}
+
+# the host of hosts/qemu: its protocol, its link, and a firmware that is wrong
+qemu_host() {
+    has_python tests/qemu-host || return
+    if timeout 120 tests/qemu-host "$program" > "$work/out" 2>&1; then pass; else
+        fail tests/qemu-host
+        tail -n 20 "$work/out"
+    fi
 }
