@@ -3,6 +3,7 @@
 use crate::affinity::place_of;
 use crate::fault::Memory;
 use crate::level::{Level, copies};
+use crate::limits::MOST_ON_PATH;
 use crate::node::{Core, Node};
 use crate::path::path_of;
 use crate::range::AddressRange;
@@ -97,7 +98,7 @@ impl Board {
     }
 
     /// The core and the nodes above it, up to the system, in one step for each level.
-    pub fn path(&self, core: Core) -> ArrayVec<Node, 4>
+    pub fn path(&self, core: Core) -> ArrayVec<Node, MOST_ON_PATH>
         requires { core.number < cores self.now }
         ensures { result.items ≡ path self.now core.number }
     {

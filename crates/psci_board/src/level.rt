@@ -143,7 +143,7 @@ fn parents_of(alloc: Global, counts: &[u16]) -> Result<Vec<u16>, Memory>
         (i : ℕ) → i < sum counts.now → slice_index parents.items i ≡ group_of counts.now i) }
 {
     let children: u16 = counts.iter().sum();
-    let mut parents = Vec::with_capacity(alloc, usize::from(children))?;
+    let mut parents = Vec::with_capacity(alloc, children as usize)?;
     for (place, count) in counts.iter().enumerate() {
         for _child in 0..*count {
             parents.push(place as u16)?;

@@ -3,6 +3,9 @@
 /// How many levels stand above the cores, at most.
 pub const MOST_LEVELS: usize = 3;
 
+/// How many domains a path has, at most: a core's own and one on each level above.
+pub const MOST_ON_PATH: usize = MOST_LEVELS + 1;
+
 /// How many children a node has, at most.
 pub const MOST_CHILDREN: usize = 16;
 

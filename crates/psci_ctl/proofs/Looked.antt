@@ -58,11 +58,6 @@ core_set cs c k row h = elim (cases_eq k c) [
 
 -- Powered down -------------------------------------------------------------------------------
 
-pub off_row : (n p : ℕ) → get_or (replicate n off_domain) p off_domain ≡ off_domain
-off_row zero p = refl
-off_row (suc n) zero = refl
-off_row (suc n) (suc p) = off_row n p
-
 pub off_core_row : (n k : ℕ) → core_row (replicate n off_core) k ≡ off_core
 off_core_row zero k = refl
 off_core_row (suc n) zero = refl

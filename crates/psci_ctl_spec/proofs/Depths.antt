@@ -40,7 +40,7 @@ first_sum b l p some low off =
 abbrev From : BoardValue → List CtlExchange → ℕ → ℕ → Type 0
 From b h l p = (depth b h l p ≡ 0) ⊎ (IsApplied b h l p ⊎ IsFirst b h l p)
 
--- an entry that leaves depth and generation of a domain, in its life
+-- an exchange that leaves depth and generation of a domain, in its life
 stays : (b : BoardValue) (e : CtlExchange) (h : List CtlExchange) (l p : ℕ)
     → keeps_life (effect_in b e) ≡ true
     → depth b (e ∷ h) l p ≡ depth b h l p
@@ -58,7 +58,7 @@ stays b e h l p within same sum (inr (inr is)) = inr (inr (record {
   still = sum ∙ is.still;
 }))
 
--- what the definitions say of one more entry, by its effect
+-- what the definitions say of one more exchange, by its effect
 module _ (b : BoardValue) (e : CtlExchange) (h : List CtlExchange) where
   deep_by : (f : Effect) (l p : ℕ) → effect_in b e ≡ f
       → depth b (e ∷ h) l p ≡ unwrap_or (depth_by b l p f) (depth b h l p)

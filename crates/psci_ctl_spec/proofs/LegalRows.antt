@@ -21,7 +21,7 @@ use Rattle.psci_ctl_spec.proofs.Steps.{ack, board, board_of, down, history_of, i
 use Rattle.psci_ctl_spec.proofs.Steps.{start}
 use Rattle.psci_ctl_spec.proofs.Steps.{not_started, wake}
 
--- one entry
+-- one exchange
 abbrev replied : CtlCall → CtlReply → List CtlExchange → List CtlExchange
 replied call reply h = record { call = call; reply = reply } ∷ h
 

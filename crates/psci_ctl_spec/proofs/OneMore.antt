@@ -1,4 +1,4 @@
--- A history with one more entry says the values that the entry leaves.
+-- A history with one more exchange says the values that it leaves.
 use Rattle.std.proofs.Common.{◌≡◌, ℕ, Bool, true, false, cond, ◌==◌, List, [], ◌∷◌, Option, Some}
 use Rattle.std.proofs.Common.{None, option_map, unwrap_or, refl}
 use Rattle.std.specs.Prelude.{slice_get}

@@ -107,7 +107,7 @@ start_holds b = record {
   slots = outstanding_none 0 (λ c. 0) first_phase [];
 }
 
--- what the laws of the model say of its histories
+-- what the laws of psci_fw_spec say of histories
 pub record HistoryLaws (b : BoardValue) : Type 0 where
   pub first : values_of b [] ≡ start_of_life b 0
   pub more : (e : FwExchange) (h : List FwExchange)
@@ -128,7 +128,7 @@ legal_allowed b e h laws said holds legal =
     (answer_allowed b v e.core e.call laws
     (ready b v (sent_messages b h) (said.legal h legal.1) holds) moved)
 
--- what an entry adds to the messages
+-- what an exchange adds to the messages
 pub sent_more : (b : BoardValue) (e : FwExchange) (h : List FwExchange)
     → sent_messages b (e ∷ h) ≡ listed (sent (effect b e)) ++ sent_messages b h
 unfolding sent_messages

@@ -64,7 +64,7 @@ earlier b e h m was = record {
   asked = was.asked;
 }
 
--- What is known of one more entry.
+-- What is known of one more exchange.
 pub record IsStep (b : BoardValue) (e : FwExchange) (h : List FwExchange) : Type 0 where
   pub allowed : IsAllowed b (values_of b h) (effect b e)
   pub values : values_of b (e ∷ h) ≡ change b (effect b e) (values_of b h)

@@ -27,7 +27,7 @@ pub record IsAskedFor (b : BoardValue) (v : Values) (m : MessageValue) : Type 0 
 
 -- A Down of a history was asked for when it was sent.
 pub record WasAsked (b : BoardValue) (h : List FwExchange) (m : MessageValue) : Type 0 where
-  -- the entry that sent it, with those since then and those before
+  -- the exchange that sent it, with those since then and those before
   pub since : List FwExchange
   pub entry : FwExchange
   pub before : List FwExchange

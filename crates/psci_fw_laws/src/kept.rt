@@ -23,7 +23,7 @@ pub fn law_kept()
         → Holds b (values_of b h) (sent_messages b h) }
     ensures allowed { (b : BoardValue) (e : FwExchange) (h : List FwExchange) → IsBoard b
         → IsLegal b (e ∷ h) → IsAllowed b (values_of b h) (effect b e) }
-    // An entry changes the values by its effect alone, and adds what it sent, legal or not.
+    // An exchange changes the values by its effect alone, and adds what it sent, legal or not.
     ensures values { (b : BoardValue) (e : FwExchange) (h : List FwExchange)
         → values_of b (e ∷ h) ≡ change b (effect b e) (values_of b h) }
     ensures sent { (b : BoardValue) (e : FwExchange) (h : List FwExchange)

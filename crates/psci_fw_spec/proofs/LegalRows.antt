@@ -246,7 +246,7 @@ right_elsewhere : is_legal_of (version 0 ⇒ value 65537 ∷ []) ≡ false
 unfolding computing
 right_elsewhere = refl
 
--- the oldest entry is the last of the list
+-- the oldest exchange is the last of the list
 turned_round : is_legal_of (boot ⇒ boots ∷ version 0 ⇒ value 65537 ∷ []) ≡ false
 unfolding computing
 turned_round = refl

@@ -1,4 +1,4 @@
--- A history with one more entry says the values that the entry leaves, field by field.
+-- A history with one more exchange says the values that it leaves, field by field.
 use Rattle.std.proofs.Common.{◌≡◌, List, [], ◌∷◌, refl}
 use Rattle.psci_board.specs.Board.{BoardValue}
 use Rattle.psci_link.specs.Outstanding.{last_message, outstanding}

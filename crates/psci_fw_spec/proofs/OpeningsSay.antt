@@ -1,4 +1,4 @@
--- What one more entry says of openings is what its effect leaves of them.
+-- What one more exchange says of openings is what its effect leaves of them.
 use Rattle.std.proofs.Common.{◌≡◌, ◌∙◌, ℕ, Bool, true, false, not, cond, ◌==◌, List}
 use Rattle.std.proofs.Common.{Option, None, Some, option_map, unwrap_or, refl, ap}
 use Rattle.std.specs.Option.{option_or}

@@ -59,7 +59,7 @@ away_not_pending : (p : Bool) (last : Phase) → is_away (cond p Pending last) �
 away_not_pending true last e = absurd (cc)
 away_not_pending false last e = refl
 
--- One more entry ------------------------------------------------------------------------------
+-- One more exchange ---------------------------------------------------------------------------
 
 module _ (b : BoardValue) where
   gone_away : (c : ℕ) (h : List FwExchange) (a : AckValue) → is_gone b c h a ≡ true

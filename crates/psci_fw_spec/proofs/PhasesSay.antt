@@ -1,4 +1,4 @@
--- What one more entry says of phases is what its effect leaves of them.
+-- What one more exchange says of phases is what its effect leaves of them.
 use Rattle.std.proofs.Common.{◌≡◌, ◌∙◌, ℕ, Bool, true, false, not, cond, ◌==◌, List}
 use Rattle.std.proofs.Common.{None, Some, unwrap_or, refl, sym, ap}
 use Rattle.std.specs.Option.{option_or}
@@ -66,7 +66,7 @@ enters_once : (pending t : Bool) (l : Phase)
 enters_once pending true l = refl
 enters_once pending false l = refl
 
--- One more entry ------------------------------------------------------------------------------
+-- One more exchange ---------------------------------------------------------------------------
 
 module _ (b : BoardValue) (h : List FwExchange) where
   abbrev first_pending : Bool → ℕ → Bool

@@ -117,7 +117,7 @@ callers_refused : AreAnswered board
 unfolding computing
 callers_refused = record { history = refl; values = refl }
 
--- Neighbors, modes and limits -----------------------------------------------------------------
+-- Neighbours, modes and limits ----------------------------------------------------------------
 
 -- beside a core that is pending, one that is suspended and one that goes off; what is outstanding
 -- for them stays

@@ -1,4 +1,4 @@
--- What one more entry says of life, halting, mode and known starts is what its effect leaves.
+-- What one more exchange says of life, halting, mode and known starts is what its effect leaves.
 use Rattle.std.proofs.Common.{◌≡◌, ◌∙◌, ℕ, Bool, true, false, not, cond, ◌==◌, List}
 use Rattle.std.proofs.Common.{None, Some, unwrap_or, refl, ap}
 use Rattle.std.specs.Option.{option_or}

@@ -1,4 +1,4 @@
--- What one more entry does to outstanding messages is what its effect leaves of them.
+-- What one more exchange does to outstanding messages is what its effect leaves of them.
 use Rattle.std.proofs.Common.{◌≡◌, ◌∙◌, ℕ, Bool, true, false, not, ◌==◌, List, [], ◌∷◌, ◌++◌}
 use Rattle.std.proofs.Common.{Some, refl, ap}
 use Rattle.psci_board.specs.Board.{BoardValue}

@@ -268,7 +268,7 @@ infix 80 ◌⇒◌
 abbrev pub ◌⇒◌ : Step → FwReply → Row
 step ⇒ reply = record { step = step; reply = reply }
 
--- one more entry of a history: this call with this reply
+-- one more exchange of a history: this call with this reply
 abbrev pub with_entry : Step → FwReply → List FwExchange → List FwExchange
 with_entry s reply h = record { core = s.core; call = s.call; reply = reply } ∷ h
 

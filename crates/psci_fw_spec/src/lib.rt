@@ -6,7 +6,7 @@
 //! - A *start* is one power-up of a core; the starts of a core are numbered from 1 in each life.
 //! - A *life* is the time from one power-up of the whole system to its next reset.
 //! - An *exchange* is an item of a history: one call with its reply.
-//! - A *place* is the position of a core or power domain on its level, counted from 0.
+//! - A domain is named by its level and its index in that level, counted from 0 from the left.
 //! - An *opening* is where a core goes on when it next enters: entry point and context id.
 #![tactic(auto)]
 

@@ -46,7 +46,7 @@ use Rattle.psci_headline.proofs.Numbered.{IsListed, listed_from}
 
 -- What a record adds ---------------------------------------------------------------------------
 
--- at most one entry
+-- at most one exchange
 abbrev IsFew : List CtlExchange → Type 0
 IsFew [] = Unit {0}
 IsFew (e ∷ []) = Unit {0}

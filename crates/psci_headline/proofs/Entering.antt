@@ -205,7 +205,7 @@ module _ (b : BoardValue) (n : ℕ) (v : Values) (made : List Made) (taken : Lis
       waiting.one_more _ _ _ _ _ (taken_up_by _ _ _ _ _ found x
       (omega (arith, same, allowed.enters.begun)) (here ∙ sym same) at)
 
-  -- what holds after an effect, with the entry that it was
+  -- what holds after an effect, with the exchange that it was
   abbrev AreLeft : Effect → Option EnteredAt → Type 0
   AreLeft f o =
       AreWaiting (suc n) (change b f v).life (change b f v).opening (made_with b n v.life f made)
@@ -221,7 +221,7 @@ module _ (b : BoardValue) (n : ℕ) (v : Values) (made : List Made) (taken : Lis
 
 -- Histories ------------------------------------------------------------------------------------
 
--- What is known of one more entry.
+-- What is known of one more exchange.
 pub record IsStep (b : BoardValue) (e : FwExchange) (h : List FwExchange) : Type 0 where
   pub allowed : IsAllowed b (values_of b h) (effect b e)
   pub values : values_of b (e ∷ h) ≡ change b (effect b e) (values_of b h)

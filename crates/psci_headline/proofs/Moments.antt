@@ -35,7 +35,7 @@ use Rattle.psci_headline.proofs.Asking.{WereAsked}
 
 -- Records --------------------------------------------------------------------------------------
 
--- one entry of the firmware, or none
+-- one exchange of the firmware, or none
 abbrev OneOrNone : List FwExchange → Type 0
 OneOrNone list = (list ≡ []) ⊎ ((e : FwExchange) × (list ≡ e ∷ []))
 
@@ -47,7 +47,7 @@ took_one : (a : Option AckValue) (t : Taken) → OneOrNone (took a t)
 took_one None t = inl refl
 took_one (Some a) t = inr (_, refl)
 
--- a record adds one entry at most to the firmware's history
+-- a record adds one exchange at most to the firmware's history
 adds_one : (v : controlled.Values) (made : List AckValue) (event : Event) (said : Said)
     → OneOrNone (call v made event said)
 adds_one v made (Call c regs) (Fw act sends) = inr (_, refl)
@@ -66,7 +66,7 @@ more_sent : (r : Record) (past : List Record)
 unfolding sent
 more_sent r past = refl
 
--- The entry that sent a message ----------------------------------------------------------------
+-- The exchange that sent a message -------------------------------------------------------------
 
 sent_later : (m : MessageValue) (o : Option MessageValue) (messages : List MessageValue)
     → (k : ℕ) × (slice_get messages k ≡ Some m)
@@ -79,7 +79,7 @@ sent_now : (m : MessageValue) (o : Option MessageValue) (messages : List Message
 sent_now m None messages is = absurd (cc)
 sent_now m (Some x) messages is = (0, is)
 
--- what an entry sent is among the messages
+-- what an exchange sent is among the messages
 sent_at : (b : BoardValue) (since : List FwExchange) (e : FwExchange) (before : List FwExchange)
     (m : MessageValue) → says.sent (effect b e) ≡ Some m
     → (k : ℕ) × (slice_get (sent_messages b (since ++ (e ∷ before))) k ≡ Some m)
@@ -89,7 +89,7 @@ sent_at b (s ∷ since) e before m is =
     sent_later m (says.sent (effect b s)) (sent_messages b (since ++ (e ∷ before)))
     (sent_at b since e before m is)
 
--- a message that no entry before these sent was asked for by the last of them
+-- a message that no exchange before these sent was asked for by the last of them
 by_since : (b : BoardValue) (m : MessageValue) (new h : List FwExchange) (since : List FwExchange)
     (e : FwExchange) (before : List FwExchange) → OneOrNone new
     → ((k : ℕ) → slice_get (sent_messages b h) k ≡ Some m → ⊥)

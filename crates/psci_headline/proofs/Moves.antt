@@ -35,7 +35,7 @@ use Rattle.psci_headline.proofs.Records.{IsAdded, IsOfRecord, added}
 
 -- Going on ------------------------------------------------------------------------------------
 
--- A core entered and goes on: the added entry says so.
+-- A core entered and goes on: the added exchange says so.
 record GoesOn (b : BoardValue) (c : ℕ) (es : List FwExchange) : Type 0 where
   pub start : Start
   pub entry : FwExchange

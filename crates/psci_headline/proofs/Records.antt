@@ -92,7 +92,7 @@ by_caller b c r acts.Resume m = refl
 
 -- What an effect says -------------------------------------------------------------------------
 
--- What the effect of an added entry says: a core enters by a start of the power controller's life,
+-- What the effect of an added exchange says: a core enters by a start of the power controller's life,
 -- and an acknowledgement was made before.
 pub record IsOfRecord (v : controlled.Values) (made : List AckValue) (e : Effect) : Type 0 where
   pub starts : (a : Arrival) → arrived e ≡ Some a → v.life ≡ Some a.start.life
@@ -152,7 +152,7 @@ of_entry v made c s act m life = record {
 
 -- What a record adds --------------------------------------------------------------------------
 
--- at most one entry, which says that
+-- at most one exchange, which says that
 abbrev pub IsAdded : BoardValue → controlled.Values → List AckValue → List FwExchange → Type 0
 IsAdded b v made [] = Unit {0}
 IsAdded b v made (e ∷ []) = IsOfRecord v made (effect b e)

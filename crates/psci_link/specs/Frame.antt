@@ -42,11 +42,11 @@ header kind core life number count =
     0x50 ∷ 0x44 ∷ kind ∷ core.number ∷ to_be_bytes w32 life ++
     (to_be_bytes w32 number ++ count ∷ [])
 
--- a part in its place of ten bytes
+-- a part in its field of ten bytes
 abbrev pub part_bytes : Part → List ℕ
 part_bytes p = p.level ∷ p.depth ∷ to_be_bytes w64 p.generation
 
--- the parts in the first of four places, and zeros in the others
+-- the parts in the first of four fields, and zeros in the others
 unfoldable pub part_fields : List Part → List ℕ
 part_fields ps = flat_map part_bytes ps ++ replicate (PART_LEN * (MOST_PARTS - length ps)) 0
 
@@ -91,7 +91,7 @@ IsOf b (Ack a) = a.core.number < cores b
 abbrev pub AreBytes : List ℕ → Type 0
 AreBytes bytes = (i : ℕ) → slice_index bytes i < 256
 
--- the part whose place these bytes begin with
+-- the part in the field that these bytes begin with
 abbrev pub part_in : List ℕ → Part
 part_in bytes = record {
   level = slice_index bytes 0;
@@ -99,7 +99,7 @@ part_in bytes = record {
   generation = from_be_bytes w64 (slice_range bytes 2 10);
 }
 
--- the parts of so many places
+-- the parts in so many fields
 abbrev pub parts_in : ℕ → List ℕ → List Part
 parts_in zero bytes = []
 parts_in (suc n) bytes = part_in bytes ∷ parts_in n (drop PART_LEN bytes)
@@ -108,7 +108,7 @@ parts_in (suc n) bytes = part_in bytes ∷ parts_in n (drop PART_LEN bytes)
 abbrev pub word_at : List ℕ → ℕ → ℕ
 word_at bytes start = from_be_bytes w32 (slice_range bytes start (start + 4))
 
--- the four part places
+-- the four part fields
 abbrev pub part_fields_in : List ℕ → List ℕ
 part_fields_in bytes = drop HEADER_LEN bytes
 
@@ -136,7 +136,7 @@ frame_in (headings.Ack kind stale) bytes = Ack (record {
 
 -- Faults --------------------------------------------------------------------------------------
 
--- each byte of the part places after so many is zero
+-- each byte of the part fields after so many is zero
 abbrev pub is_unused_after : ℕ → List ℕ → Bool
 is_unused_after n bytes = list_all (λ byte. byte == 0) (drop (PART_LEN * n) (part_fields_in bytes))
 

@@ -55,7 +55,7 @@ abbrev pub allows_count : Heading → ℕ → Bool
 allows_count (Message kind) n = nat_le (least_parts kind) n && nat_le n (most_parts kind)
 allows_count (Ack kind stale) n = nat_le n (most_applied kind)
 
--- how many part places a frame of this count uses
+-- how many part fields a frame of this count uses
 abbrev pub parts_of : Heading → ℕ → ℕ
 parts_of (Message kind) n = n
 parts_of (Ack kind stale) n = 0

@@ -1,4 +1,4 @@
--- What an entry of a history says only where a test holds.
+-- What an exchange of a history says only where a test holds.
 use Rattle.std.specs.Prelude.{Bool, true, false, Option, None}
 
 -- what is said, where the test holds

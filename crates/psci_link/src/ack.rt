@@ -90,6 +90,6 @@ impl Ack {
     {
         self.stale
             || self.kind != Kind::Down
-            || usize::from(self.applied) >= message.parts.as_slice().len()
+            || self.applied as usize >= message.parts.as_slice().len()
     }
 }

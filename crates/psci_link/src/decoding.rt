@@ -73,7 +73,7 @@ fn parts_on(board: &Board, heading: Heading, bytes: &[u8]) -> Result<Parts, Fram
     }
     let used = heading.parts(count);
     let (_, places) = bytes.split_at(HEADER_LEN);
-    let (_, unused) = places.split_at(PART_LEN * usize::from(used));
+    let (_, unused) = places.split_at(PART_LEN * used as usize);
     if !is_zero(unused) {
         return Err(FrameFault::Unused);
     }
@@ -178,7 +178,7 @@ fn parts_in(count: u8, places: &[u8]) -> Parts
     ensures { result ≡ parts_in count places.now }
 {
     let mut parts = Parts::new();
-    for place in 0..usize::from(count) {
+    for place in 0..count as usize {
         parts.push(part_in(&places[PART_LEN * place..]));
     }
     parts

@@ -64,7 +64,7 @@ impl Heading {
 fn is_room(count: u8) -> bool
     ensures { result ≡ nat_le count MOST_PARTS }
 {
-    usize::from(count) <= MOST_PARTS
+    count as usize <= MOST_PARTS
 }
 
 /// The kind that the low half of a kind byte names, if it names one.

@@ -89,7 +89,7 @@ impl Slots {
     pub fn outstanding(&self, number: u16) -> Option<&Message>
         ensures { option_map (λ message. message.now) result ≡ message_at self.now number }
     {
-        let number = usize::from(number);
+        let number = number as usize;
         if number == self.cores.len() {
             self.system.as_ref()
         } else {
@@ -103,7 +103,7 @@ impl Slots {
             ≡ message_in self.now (slot_of kind core) }
     {
         match kind {
-            Kind::Down | Kind::Start => message_of(&self.cores, usize::from(core.number)),
+            Kind::Down | Kind::Start => message_of(&self.cores, core.number as usize),
             Kind::Off | Kind::Reset => self.system.as_ref(),
         }
     }
@@ -142,7 +142,7 @@ fn message_of(slots: &[Option<Message>], number: usize) -> Option<&Message>
 fn set_at(slots: &mut [Option<Message>], core: Core, message: Option<Message>)
     ensures { slots.new ≡ slice_set slots.old core.number message }
 {
-    let number = usize::from(core.number);
+    let number = core.number as usize;
     if number < slots.len() {
         slots[number] = message;
     }

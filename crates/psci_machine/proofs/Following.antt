@@ -22,7 +22,7 @@ use Rattle.psci_world_spec.specs.Places.{place}
 use Rattle.psci_machine.specs.Next.{IsNext, controlled_after, kept_after, place_next}
 use Rattle.psci_machine.specs.Seen.{IsAfter, MachineValue, machine_board, place_in}
 
--- What histories say of one entry more, by the laws of the crates below.
+-- What histories say of one exchange more, by the laws of the crates below.
 pub record HistoryLaws (b : BoardValue) : Type 0 where
   pub kept : (e : answers.FwExchange) (h : List answers.FwExchange)
       → kept.values_of b (e ∷ h) ≡ after b e.core e.call e.reply (kept.values_of b h)

@@ -40,7 +40,7 @@ if_there (Some x) says = says x
 
 -- What is left ---------------------------------------------------------------------------------
 
--- what the firmware keeps after these entries, newest first, by what it kept before them
+-- what the firmware keeps after these exchanges, newest first, by what it kept before them
 abbrev pub kept_after : BoardValue → List answers.FwExchange → kept.Values → kept.Values
 kept_after b [] v = v
 kept_after b (e ∷ es) v = after b e.core e.call e.reply (kept_after b es v)
@@ -51,7 +51,7 @@ abbrev pub controlled_after : BoardValue → List controls.CtlExchange → contr
 controlled_after b [] v = v
 controlled_after b (e ∷ es) v = changes.after b e.call e.reply (controlled_after b es v)
 
--- where a core is after an event, by the entries that it adds to the controller's history, and by
+-- where a core is after an event, by the exchanges that it adds to the controller's history, and by
 -- where it was before
 abbrev pub place_next : BoardValue → ℕ → Event → Said → List controls.CtlExchange → Place → Place
 place_next b c event said es before =

@@ -1,4 +1,4 @@
--- Openings, and the entries that took them up. A history has its newest entry first.
+-- Openings, and the entries that took them up. A history has its newest exchange first.
 use Rattle.std.specs.Prelude.{◌≡◌, ℕ, ◌==◌, ◌&&◌, List, [], ◌∷◌, ◌++◌, length, filter, slice_get}
 use Rattle.std.specs.Prelude.{if◌then◌else◌, Option, None, Some, option_and_then, option_map}
 use Rattle.psci_fw_laws.specs.psci_abi.Calls.{request_of}
@@ -19,7 +19,7 @@ use Rattle.psci_fw_laws.specs.psci_fw_spec.Said.{Arrival, arrived, listed}
 
 -- Openings ------------------------------------------------------------------------------------
 
--- What made an opening: the start of a life, or the call with so many entries before it.
+-- What made an opening: the start of a life, or the call with so many exchanges before it.
 pub data Maker : Type 0 where
   OfLife : (life : ℕ) → Maker
   OfCall : (before : ℕ) → Maker

@@ -1,4 +1,4 @@
--- What is so once the started cores have entered and each Start was answered.
+-- What is so once the started cores have entered and each Start was served.
 use Rattle.std.proofs.Common.{◌≡◌, ℕ, ◌⊎◌, inl, inr, ◌<◌, false, cond}
 use Rattle.std.proofs.Common.{List, Some, refl, subst, ap, sym, ◌∙◌}
 use Rattle.psci_board.specs.Board.{BoardValue, cores}

@@ -1,4 +1,4 @@
--- What is so after an outstanding Down was answered.
+-- What is so after an outstanding Down was served.
 use Rattle.std.proofs.Common.{◌≡◌, ℕ, inl, inr, ◌+◌, ◌<◌, ◌≤◌, Bool, true, false, ◌==◌, cond, not}
 use Rattle.std.proofs.Common.{List, length, take, None, Some, refl, arith, subst, ap, sym}
 use Rattle.std.proofs.Common.{◌∙◌, unwrap_or}
@@ -30,7 +30,7 @@ use Rattle.psci_world_laws.proofs.Numbering.{at_number}
 use Rattle.psci_settle.specs.Drained.{deliveries}
 use Rattle.psci_settle.specs.Settling.{serving}
 use Rattle.psci_settle.specs.Waiting.{IsLivePart}
-use Rattle.psci_settle.proofs.Answering.{ack_to}
+use Rattle.psci_settle.proofs.Serving.{ack_to}
 use Rattle.psci_settle.proofs.Applying.{IsReady, part_applied}
 use Rattle.psci_settle.proofs.Claimed.{AreDeep}
 use Rattle.psci_settle.proofs.Controls.{IsKnown, part_level}
@@ -63,7 +63,7 @@ pub record IsLeft (b : BoardValue) (starts : ℕ → ℕ) (m : MessageValue) (r 
   pub live : IsLivePart b starts m level part
   pub high : r < level
 
--- An outstanding Down was answered, where live claims below this level have their depth.
+-- An outstanding Down was served, where live claims below this level have their depth.
 pub record IsDownAnswered (b : BoardValue) (before : List Record) (life : ℕ) (past : List Record)
     (r c k : ℕ) (m : MessageValue) : Type 0 where
   pub going : IsGoing b before life (serving b past (Some k))

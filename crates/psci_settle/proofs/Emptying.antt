@@ -1,4 +1,4 @@
--- What is so after what is outstanding for a core was answered.
+-- What is so after what is outstanding for a core was served.
 use Rattle.std.proofs.Common.{◌≡◌, ℕ, Bool, true, false, ◌&&◌, cond, List, Option, None, Some}
 use Rattle.std.proofs.Common.{refl, subst, ap, sym, ◌∙◌, option_and_then}
 use Rattle.std.proofs.lemmas.Bool.{and_from, cond-true, cond-false, eq-eqb, ne_eqb}
@@ -23,7 +23,7 @@ use Rattle.psci_world_laws.specs.psci_world_spec.Histories.{sent}
 use Rattle.psci_world_laws.specs.psci_world_spec.Legal.{IsLegalPast}
 use Rattle.psci_world_laws.proofs.Agreed.{RunLaws}
 use Rattle.psci_settle.specs.Settling.{served, serving, index_of}
-use Rattle.psci_settle.proofs.Answering.{AreAnswered, ack_to, answered_so}
+use Rattle.psci_settle.proofs.Serving.{AreAnswered, ack_to, answered_so}
 use Rattle.psci_settle.proofs.Finding.{HasNumber, HaveName, finds}
 use Rattle.psci_settle.proofs.Taking.{HasName}
 use Rattle.psci_settle.proofs.Telling.{own_kind}
@@ -87,7 +87,7 @@ left_here a c m slot e =
     (ap (λ s. is_slot s (OfCore c)) slot ∙ eq-eqb c c refl)
     ∙ ap (λ t. cond (t && is_done a m) None (Some m)) e
 
--- What is so after the message of some number was answered, which has the name of what is
+-- What is so after the message of some number was served, which has the name of what is
 -- outstanding for a core.
 pub record IsEmptying (b : BoardValue) (past : List Record) (c k : ℕ) (m n : MessageValue)
     : Type 0 where
@@ -146,7 +146,7 @@ pub found : (life : ℕ) (known : ℕ → ℕ) (v : Values) (messages : List Mes
 found life known v messages c m slots at =
     let is = (slots.core c m at).listed in finds m messages is.index is.at
 
--- what becomes of the records where what is outstanding for a core is answered, or not
+-- what becomes of the records where what is outstanding for a core is served, or not
 pub answer_case : (b : BoardValue) (which : Kind → Bool) (past : List Record) (c : ℕ)
     (P : List Record → Type 0)
     → ((m : MessageValue) → (firmware_values b past).outstanding (OfCore c) ≡ Some m

@@ -31,7 +31,7 @@ use Rattle.psci_settle.proofs.Counting.{AreAdded}
 use Rattle.psci_settle.proofs.Standing.{AreSettled, IsPast, SettleLaws, settled_life}
 use Rattle.psci_settle.proofs.Starts.{HasBegun}
 
--- What is so while Downs are answered.
+-- What is so while Downs are served.
 pub record IsGoing (b : BoardValue) (before : List Record) (life : ℕ) (past : List Record)
     : Type 0 where
   pub legal : IsLegalPast b past

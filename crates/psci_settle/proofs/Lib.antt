@@ -1,38 +1,49 @@
-pub mod Answering
-pub mod Applying
-pub mod Arrivals
-pub mod Beginning
+-- In the order of the argument of docs/SETTLING.md.
+
+-- What all steps use: the laws of the crates below, counting, slots, numbers of messages, folding.
 pub mod BoardLaws
-pub mod Bound
-pub mod Calls
-pub mod Carried
-pub mod Claimed
-pub mod ControllerSteps
-pub mod Controls
 pub mod Counting
-pub mod Covering
-pub mod Deepening
-pub mod Downs
-pub mod Emptying
 pub mod Finding
-mod Failing
-pub mod FirmwareSteps
 pub mod Folding
-pub mod Going
-pub mod Nexts
-pub mod Pursuing
-pub mod Resting
-pub mod Rounds
-mod RestRows
-mod SettleRows
-mod SettledRows
-pub mod Settled
 pub mod Slots
-pub mod Sources
+-- 1. After the beginning both sides count the same starts.
+pub mod Arrivals
 pub mod Standing
-pub mod Starting
+-- 2. No core is pending then: all that is outstanding are Downs.
+pub mod Beginning
 pub mod Starts
+pub mod Going
+-- 3. From here on nothing is started and nothing is sent.
+pub mod Serving
+pub mod Emptying
+-- 4. No live claim is forgotten: by the firmware, by the power controller, after every run.
+pub mod Unclaimed
+pub mod Pursuing
+pub mod Calls
+pub mod FirmwareSteps
+pub mod Starting
 pub mod Taking
 pub mod Telling
-pub mod Unclaimed
+pub mod Deepening
+pub mod Controls
+pub mod ControllerSteps
+pub mod Carried
+pub mod Nexts
 pub mod Waited
+-- 5. Level by level each live claim has its depth: a part, a Down, a round.
+pub mod Claimed
+pub mod Covering
+pub mod Applying
+pub mod Downs
+pub mod Rounds
+-- 6. So rounds end.
+pub mod Bound
+-- 7. Where nothing is outstanding both sides agree.
+pub mod Sources
+pub mod Resting
+-- All steps together; worked examples, and records that break each clause alone.
+pub mod Settled
+mod Failing
+mod RestRows
+mod SettledRows
+mod SettleRows

@@ -1,4 +1,4 @@
--- One round: what is outstanding for each core is answered once.
+-- One round: what is outstanding for each core is served once.
 use Rattle.std.proofs.Common.{◌≡◌, ℕ, suc, ◌⊎◌, inl, inr, ◌+◌, ◌-◌, ◌≤◌, Bool, true, false, ◌==◌}
 use Rattle.std.proofs.Common.{cond, List, length, Option, None, Some, refl, arith, subst, ap, sym}
 use Rattle.std.proofs.Common.{◌∙◌}
@@ -44,7 +44,7 @@ pub record InRound (b : BoardValue) (before : List Record) (life n : ℕ) (first
   pub starts : (controller_values b past).starts ≡ (controller_values b first).starts
   pub deep : (c : ℕ) → DeepAt b life n c past
 
--- What is so of a core that is still to be answered in the round.
+-- What is so of a core that is still to be served in the round.
 pub record IsTodo (b : BoardValue) (first : List Record) (c : ℕ) (past : List Record)
     : Type 0 where
   pub out : out_at b c past ≡ out_at b c first
@@ -223,7 +223,7 @@ module _ (b : BoardValue) (before : List Record) (life n : ℕ) (first past : Li
 
 -- A round --------------------------------------------------------------------------------------
 
--- a step of a core: what holds where it is answered, and where nothing is outstanding
+-- a step of a core: what holds where it is served, and where nothing is outstanding
 step_case : (b : BoardValue) (before : List Record) (life n : ℕ) (first past : List Record) (c : ℕ)
     (P : List Record → Type 0) → SettleLaws b → InRound b before life n first past
     → (out_at b c past ≡ None → P past)

@@ -61,18 +61,18 @@ new_world : SettlesBy [] (Enter 0 ∷ []) 0
 unfolding computing
 new_world = record { events = refl; times = refl }
 
--- a Start is answered once, and the core that it started enters
+-- a Start is served once, and the core that it started enters
 start_waits : SettlesBy (Enter 0 ∷ on_3 ∷ []) (Deliver 0 ∷ Take 0 ∷ Enter 3 ∷ []) 0
 unfolding computing
 start_waits = record { events = refl; times = refl }
 
--- the last core's Down is answered too
+-- the last core's Down is served too
 last_core : SettlesBy (Enter 0 ∷ on_3 ∷ Deliver 0 ∷ Enter 3 ∷ off 3 ∷ [])
     (Deliver 1 ∷ Take 1 ∷ []) 1
 unfolding computing
 last_core = record { events = refl; times = refl }
 
--- a core that was reset enters and parks first, and then its new Down is answered
+-- a core that was reset enters and parks first, and then its new Down is served
 reset_core : SettlesBy (Enter 0 ∷ on_3 ∷ Deliver 0 ∷ Enter 3 ∷ Reset 3 ∷ [])
     (Enter 3 ∷ Deliver 1 ∷ Take 1 ∷ []) 1
 unfolding computing

@@ -19,7 +19,7 @@ use Rattle.psci_settle.proofs.Taking.{named}
 
 -- Sums -----------------------------------------------------------------------------------------
 
--- the sum of the starts below a domain is the same, as both models say it
+-- the sum of the starts below a domain is the same, as firmware and power controller say it
 pub same_sum : (b : BoardValue) (starts : ℕ → ℕ) (n : Node)
     → starts_below b starts n ≡ known_below b starts n.level n.place
 unfolding starts_below known_below

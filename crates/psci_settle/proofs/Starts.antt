@@ -1,4 +1,4 @@
--- What is so once each Start that was outstanding was answered.
+-- What is so once each Start that was outstanding was served.
 use Rattle.std.proofs.Common.{◌≡◌, ℕ, ◌⊎◌, inl, inr, ◌+◌, ◌<◌, Bool, true, false, ◌==◌, cond, not}
 use Rattle.std.proofs.Common.{List, None, Some, refl, arith, ap, sym, ◌∙◌}
 use Rattle.std.proofs.lemmas.Bool.{cases_Bool, cond-true, cond-false, eqb-true, or_left, or_right}
@@ -23,7 +23,7 @@ use Rattle.psci_world_laws.proofs.Agreeing.{found_own}
 use Rattle.psci_settle.specs.Drained.{deliveries}
 use Rattle.psci_settle.specs.Settling.{all_cores, served, serving, begun, each_core, entering}
 use Rattle.psci_settle.specs.Settling.{is_start, step}
-use Rattle.psci_settle.proofs.Answering.{ack_to}
+use Rattle.psci_settle.proofs.Serving.{ack_to}
 use Rattle.psci_settle.proofs.Beginning.{HasEntered, HasNoStart, IsIn, IsStartAt, IsUnderWay}
 use Rattle.psci_settle.proofs.Beginning.{enter_step, more_starts}
 use Rattle.psci_settle.proofs.Emptying.{IsEmptying, answer_case, empties, found}
@@ -32,7 +32,7 @@ use Rattle.psci_settle.proofs.Folding.{IsStep, each_done}
 use Rattle.psci_settle.proofs.Standing.{IsPast, SettleLaws, settled_life}
 use Rattle.psci_settle.proofs.Taking.{same_kind}
 
--- A Start is answered --------------------------------------------------------------------------
+-- A Start is served --------------------------------------------------------------------------
 
 -- the life stays
 start_life : (b : BoardValue) (w : controlled.Values) (m : MessageValue) (a : AckValue)
@@ -59,7 +59,7 @@ abbrev pub IsOwnWay : BoardValue → List Record → ℕ → List Record → Typ
 IsOwnWay b before life past =
     IsUnderWay b before life past × ((firmware_values b past).life ≡ life)
 
--- A Start that is outstanding for a core is answered.
+-- A Start that is outstanding for a core is served.
 record IsStartAnswered (b : BoardValue) (before : List Record) (life : ℕ) (past : List Record)
     (c : ℕ) (m : MessageValue) (n : HasNumber m (sent past)) : Type 0 where
   pub way : IsOwnWay b before life (serving b past (Some n.number))

@@ -73,7 +73,7 @@ serving b past None = past
 serving b past (Some k) =
     let delivered = step b past (Deliver k) in step b delivered (Take (length (acks past)))
 
--- what is outstanding for a core is answered so, if it is of such a kind
+-- what is outstanding for a core is served so, if it is of such a kind
 abbrev pub served : BoardValue → (Kind → Bool) → List Record → ℕ → List Record
 served b which past c = serving b past
     (option_and_then (λ m. if which m.kind then index_of m (sent past) else None)
@@ -89,7 +89,7 @@ is_start kind = is_kind kind Start
 abbrev pub is_any : Kind → Bool
 is_any kind = true
 
--- every started core enters, every Start that is outstanding is answered, and the cores that this
+-- every started core enters, every Start that is outstanding is served, and the cores that this
 -- started enter
 unfoldable pub begun : BoardValue → List Record → List Record
 begun b past =
@@ -97,7 +97,7 @@ begun b past =
     let started = each_core (served b is_start) (all_cores b) entered in
     each_core (entering b) (all_cores b) started
 
--- every outstanding message of a core is answered once
+-- every outstanding message of a core is served once
 unfoldable pub round : BoardValue → List Record → List Record
 round b past = each_core (served b is_any) (all_cores b) past
 

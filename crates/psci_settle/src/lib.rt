@@ -1,8 +1,8 @@
 //! How the world settles once messages get through: which events happen, and that firmware and
 //! power controller then agree on every power domain.
 //!
-//! - A message is *answered* when it is delivered and its acknowledgement is taken.
-//! - A *round* answers what is outstanding for each core in turn, once.
+//! - A message is *served* when it is delivered and its acknowledgement is taken.
+//! - A *round* serves what is outstanding for each core in turn, once.
 //! - The world is *at rest* when nothing is outstanding, no core waits at its start, and each
 //!   domain is as deep as it was granted.
 #![tactic(auto)]

@@ -92,7 +92,7 @@ const BOTH_CLUSTERS: [Step; 9] = [
     Step::AllDown,
 ];
 
-/// An outstanding Start is answered, and its core enters.
+/// An outstanding Start is served, and its core enters.
 const OUTSTANDING_START: [Step; 9] = [
     Step::Happens(Event::Enter(0)),
     Step::Happens(Event::Call(0, CPU_ON)),

@@ -11,7 +11,7 @@ use Rattle.std.proofs.lemmas.List.Folds.{flat_map-map}
 use Rattle.psci_tree.specs.Recount.{least, asks}
 use Rattle.psci_tree.specs.Kept.{low_in}
 use Rattle.psci_tree.specs.declared.kept.Kept.{Kept}
-use Rattle.psci_tree.specs.Domains.{cores, cores_from, cores_step, cores_in, children, child_counts}
+use Rattle.psci_tree.specs.Domains.{leaves, cores_from, cores_step, cores_in, branches, child_counts}
 use Rattle.psci_tree.specs.declared.state.CoreState.{CoreState}
 use Rattle.psci_tree.specs.declared.domain.Domain.{Domain}
 use Rattle.psci_tree.specs.declared.domain.Domain.TheOpen.{Domain-F}
@@ -20,59 +20,59 @@ use Rattle.psci_tree.specs.declared.domain.Domain.TheViews.{out-roll-Domain}
 use Rattle.psci_tree.specs.declared.domain.Domain.TheFolds.{fold-roll-Domain, fold_out-Domain}
 
 joined : (c : CoreState) (ns : List Domain) → 0 < length ns
-    → cores_from c (map cores ns) ≡ cores_in ns
+    → cores_from c (map leaves ns) ≡ cores_in ns
 joined c [] h = absurd (omega arith)
-joined c (n ∷ ns) h = flat_map-map (λ x. x) cores (n ∷ ns)
+joined c (n ∷ ns) h = flat_map-map (λ x. x) leaves (n ∷ ns)
 
-single : (c : CoreState) (ns : List Domain) → length ns ≡ 0 → cores_from c (map cores ns) ≡ c ∷ []
+single : (c : CoreState) (ns : List Domain) → length ns ≡ 0 → cores_from c (map leaves ns) ≡ c ∷ []
 single c [] h = refl
 single c (n ∷ ns) h = absurd (omega arith)
 
-cores_out : (n : Domain) → cores n ≡ cores_from (out-Domain n).core (map cores (children n))
+cores_out : (n : Domain) → leaves n ≡ cores_from (out-Domain n).core (map leaves (branches n))
 cores_out = fold_out-Domain (List CoreState) cores_step
 
-pub cores_of_domain : (n : Domain) → 0 < length (children n) → cores n ≡ cores_in (children n)
-cores_of_domain n h = cores_out n ∙ joined (out-Domain n).core (children n) h
+pub cores_of_domain : (n : Domain) → 0 < length (branches n) → leaves n ≡ cores_in (branches n)
+cores_of_domain n h = cores_out n ∙ joined (out-Domain n).core (branches n) h
 
-pub length_of_domain : (n : Domain) → 0 < length (children n)
-    → length (cores n) ≡ length (cores_in (children n))
+pub length_of_domain : (n : Domain) → 0 < length (branches n)
+    → length (leaves n) ≡ length (cores_in (branches n))
 length_of_domain n h = ap length (cores_of_domain n h)
 
-pub cores_of_core : (n : Domain) → length (children n) ≡ 0 → cores n ≡ (out-Domain n).core ∷ []
-cores_of_core n h = cores_out n ∙ single (out-Domain n).core (children n) h
+pub cores_of_core : (n : Domain) → length (branches n) ≡ 0 → leaves n ≡ (out-Domain n).core ∷ []
+cores_of_core n h = cores_out n ∙ single (out-Domain n).core (branches n) h
 
 pub cores_roll : (x : Domain-F Domain) → 0 < length x.children.items
-    → cores (roll-Domain x) ≡ cores_in x.children.items
+    → leaves (roll-Domain x) ≡ cores_in x.children.items
 cores_roll x h = fold-roll-Domain (List CoreState) cores_step x ∙ joined x.core x.children.items h
 
 pub cores_roll_core : (x : Domain-F Domain) → length x.children.items ≡ 0
-    → cores (roll-Domain x) ≡ x.core ∷ []
+    → leaves (roll-Domain x) ≡ x.core ∷ []
 cores_roll_core x h =
     fold-roll-Domain (List CoreState) cores_step x ∙ single x.core x.children.items h
 
 -- The next child of several ------------------------------------------------------------------
 
 pub cores_drop : (ns : List Domain) (i : ℕ) (d : Domain) → i < length ns
-    → cores_in (drop i ns) ≡ cores (get_or ns i d) ++ cores_in (drop (i + 1) ns)
+    → cores_in (drop i ns) ≡ leaves (get_or ns i d) ++ cores_in (drop (i + 1) ns)
 cores_drop ns i d h = rw add-one (ap cores_in (drop-cons ns i d h))
 
 pub cores_take : (ns : List Domain) (i : ℕ) (d : Domain) → i < length ns
-    → cores_in (take (i + 1) ns) ≡ cores_in (take i ns) ++ cores (get_or ns i d)
+    → cores_in (take (i + 1) ns) ≡ cores_in (take i ns) ++ leaves (get_or ns i d)
 cores_take ns i d h =
-    ap cores_in (take_more ns i d h) ∙ flat_map-append cores (take i ns) (get_or ns i d ∷ [])
-    ∙ ap (λ (x : List CoreState). cores_in (take i ns) ++ x) (append-nil (cores (get_or ns i d)))
+    ap cores_in (take_more ns i d h) ∙ flat_map-append leaves (take i ns) (get_or ns i d ∷ [])
+    ∙ ap (λ (x : List CoreState). cores_in (take i ns) ++ x) (append-nil (leaves (get_or ns i d)))
 
 pub length_drop : (ns : List Domain) (i : ℕ) (d : Domain) → i < length ns
     → length (cores_in (drop i ns))
-    ≡ length (cores (get_or ns i d)) + length (cores_in (drop (i + 1) ns))
+    ≡ length (leaves (get_or ns i d)) + length (cores_in (drop (i + 1) ns))
 length_drop ns i d h = ap length (cores_drop ns i d h)
-    ∙ length-append (cores (get_or ns i d)) (cores_in (drop (i + 1) ns))
+    ∙ length-append (leaves (get_or ns i d)) (cores_in (drop (i + 1) ns))
 
 pub length_take : (ns : List Domain) (i : ℕ) (d : Domain) → i < length ns
     → length (cores_in (take (i + 1) ns))
-    ≡ length (cores_in (take i ns)) + length (cores (get_or ns i d))
+    ≡ length (cores_in (take i ns)) + length (leaves (get_or ns i d))
 length_take ns i d h =
-    ap length (cores_take ns i d h) ∙ length-append (cores_in (take i ns)) (cores (get_or ns i d))
+    ap length (cores_take ns i d h) ∙ length-append (cores_in (take i ns)) (leaves (get_or ns i d))
 
 -- the cores below the first so many and below the others
 pub length_parts : (ns : List Domain) (k : ℕ)
@@ -81,18 +81,18 @@ length_parts ns zero = omega arith
 length_parts [] (suc k) = omega arith
 length_parts (n ∷ ns) (suc k) = omega (
   arith,
-  length-append (cores n) (cores_in (take k ns)),
-  length-append (cores n) (cores_in ns),
+  length-append (leaves n) (cores_in (take k ns)),
+  length-append (leaves n) (cores_in ns),
   length_parts ns k,
 )
 
 -- a domain has no more cores than those beside it together
 pub cores_le : (ns : List Domain) (i : ℕ) (d : Domain) → i < length ns
-    → length (cores (get_or ns i d)) ≤ length (cores_in ns)
+    → length (leaves (get_or ns i d)) ≤ length (cores_in ns)
 cores_le [] i d h = absurd (omega arith)
-cores_le (n ∷ ns) zero d h = omega (arith, length-append (cores n) (cores_in ns))
+cores_le (n ∷ ns) zero d h = omega (arith, length-append (leaves n) (cores_in ns))
 cores_le (n ∷ ns) (suc i) d h =
-    omega (arith, length-append (cores n) (cores_in ns), cores_le ns i d (omega arith))
+    omega (arith, length-append (leaves n) (cores_in ns), cores_le ns i d (omega arith))
 
 -- The least ask ------------------------------------------------------------------------------
 
@@ -108,35 +108,35 @@ low-append level (x ∷ xs) ys = omega (arith, low-append level xs ys)
 -- Another core -------------------------------------------------------------------------------
 
 pub cores_set : (ns : List Domain) (i rest place : ℕ) (d m : Domain) (s : CoreState) → i < length ns
-    → length (cores_in (take i ns)) + rest ≡ place → rest < length (cores (get_or ns i d)) → cores m
-    ≡ set (cores (get_or ns i d)) rest s → cores_in (set ns i m) ≡ set (cores_in ns) place s
+    → length (cores_in (take i ns)) + rest ≡ place → rest < length (leaves (get_or ns i d)) → leaves m
+    ≡ set (leaves (get_or ns i d)) rest s → cores_in (set ns i m) ≡ set (cores_in ns) place s
 cores_set [] i rest place d m s h e r q = absurd (omega arith)
 cores_set (n ∷ ns) zero rest place d m s h e r q =
     let same : place ≡ rest = omega arith in
-    rw same (rw (set-append_left (cores n) (cores_in ns) rest s r)
+    rw same (rw (set-append_left (leaves n) (cores_in ns) rest s r)
     (ap (λ (x : List CoreState). x ++ cores_in ns) q))
 cores_set (n ∷ ns) (suc i) rest place d m s h e r q =
-    let split : length (cores n) + length (cores_in (take i ns)) + rest ≡ place =
-    omega (arith, length-append (cores n) (cores_in (take i ns))) in
-    let left : length (cores n) ≤ place = omega arith in
-    rw (set-append_right (cores n) (cores_in ns) (length (cores n)) place s refl left)
-    (ap (λ (x : List CoreState). cores n ++ x)
-    (cores_set ns i rest (place - length (cores n)) d m s (omega arith) (omega arith) r q))
+    let split : length (leaves n) + length (cores_in (take i ns)) + rest ≡ place =
+    omega (arith, length-append (leaves n) (cores_in (take i ns))) in
+    let left : length (leaves n) ≤ place = omega arith in
+    rw (set-append_right (leaves n) (cores_in ns) (length (leaves n)) place s refl left)
+    (ap (λ (x : List CoreState). leaves n ++ x)
+    (cores_set ns i rest (place - length (leaves n)) d m s (omega arith) (omega arith) r q))
 
 -- another child with another core makes another domain with that core
 pub cores_with_child : (n : Domain) (i rest place : ℕ) (m : Domain) (s : CoreState) (k : Kept)
-    → i < length (children n) → length (cores_in (take i (children n))) + rest ≡ place
-    → rest < length (cores (get_or (children n) i n))
-    → cores m ≡ set (cores (get_or (children n) i n)) rest s →
-    cores (roll-Domain (record {
+    → i < length (branches n) → length (cores_in (take i (branches n))) + rest ≡ place
+    → rest < length (leaves (get_or (branches n) i n))
+    → leaves m ≡ set (leaves (get_or (branches n) i n)) rest s →
+    leaves (roll-Domain (record {
       children = with_item (out-Domain n).children i m;
       core = (out-Domain n).core;
       kept = k;
-    })) ≡ set (cores n) place s
+    })) ≡ set (leaves n) place s
 cores_with_child n i rest place m s k h e r q =
-    let some : 0 < length (children n) = omega arith in
-    let more : 0 < length (set (children n) i m) = omega (arith, length-set (children n) i m) in
-    cores_roll _ more ∙ cores_set (children n) i rest place n m s h e r q
+    let some : 0 < length (branches n) = omega arith in
+    let more : 0 < length (set (branches n) i m) = omega (arith, length-set (branches n) i m) in
+    cores_roll _ more ∙ cores_set (branches n) i rest place n m s h e r q
     ∙ ap (λ (x : List CoreState). set x place s) (sym (cores_of_domain n some))
 
 flat_map_set : (f : Domain → List ℕ) (ns : List Domain) (i : ℕ) (d m : Domain)
@@ -145,7 +145,7 @@ flat_map_set f [] i d m e = refl
 flat_map_set f (n ∷ ns) zero d m e = ap (λ (x : List ℕ). x ++ flat_map f ns) e
 flat_map_set f (n ∷ ns) (suc i) d m e = ap (λ (x : List ℕ). f n ++ x) (flat_map_set f ns i d m e)
 
-pub children_roll : (x : Domain-F Domain) → children (roll-Domain x) ≡ x.children.items
+pub children_roll : (x : Domain-F Domain) → branches (roll-Domain x) ≡ x.children.items
 children_roll x = ap (λ (y : Domain-F Domain). y.children.items) (out-roll-Domain x)
 
 widths_zero : (x : Domain-F Domain)
@@ -158,16 +158,16 @@ widths_suc k x = ap (flat_map (child_counts k)) (children_roll x)
 
 -- a domain with another child of the same shape has the same shape
 pub widths_with_child : (n : Domain) (i : ℕ) (m : Domain) (v : Kept)
-    → ((k : ℕ) → child_counts k m ≡ child_counts k (get_or (children n) i n)) → (k : ℕ) →
+    → ((k : ℕ) → child_counts k m ≡ child_counts k (get_or (branches n) i n)) → (k : ℕ) →
     child_counts k (roll-Domain (record {
       children = with_item (out-Domain n).children i m;
       core = (out-Domain n).core;
       kept = v;
     })) ≡ child_counts k n
 widths_with_child n i m v each zero =
-    widths_zero _ ∙ ap (λ (x : ℕ). x ∷ []) (length-set (children n) i m)
+    widths_zero _ ∙ ap (λ (x : ℕ). x ∷ []) (length-set (branches n) i m)
 widths_with_child n i m v each (suc k) =
-    widths_suc k _ ∙ flat_map_set (child_counts k) (children n) i n m (each k)
+    widths_suc k _ ∙ flat_map_set (child_counts k) (branches n) i n m (each k)
 
 -- one more core that is like those before it
 pub set_next : (s : CoreState) (xs : List CoreState) (i : ℕ) → i < length xs

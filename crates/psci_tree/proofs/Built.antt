@@ -8,7 +8,7 @@ use Rattle.std.proofs.lemmas.List.Concat.{flat_map-append, flat_map_single}
 use Rattle.std.proofs.lemmas.List.Sums.{sum_by_push}
 use Rattle.psci_board.specs.Board.{IsTree, size_below, is_width}
 use Rattle.psci_tree.specs.declared.state.CoreState.{CoreState}
-use Rattle.psci_tree.specs.Domains.{cores, cores_in, children, child_count, child_counts}
+use Rattle.psci_tree.specs.Domains.{leaves, cores_in, branches, child_count, child_counts}
 use Rattle.psci_tree.specs.declared.domain.Domain.{Domain}
 use Rattle.psci_tree.specs.declared.domain.Domain.TheOpen.{Domain-F}
 use Rattle.psci_tree.specs.declared.domain.Domain.TheViews.{roll-Domain}
@@ -29,13 +29,13 @@ AreShaped ns [] = Unit {0}
 AreShaped ns (w ∷ ws) = (flat_map (child_counts (length ws)) ns ≡ w) × AreShaped ns ws
 
 widths_down : (k : ℕ) (ns : List Domain)
-    → flat_map (child_counts (suc k)) ns ≡ flat_map (child_counts k) (flat_map children ns)
+    → flat_map (child_counts (suc k)) ns ≡ flat_map (child_counts k) (flat_map branches ns)
 widths_down k [] = refl
-widths_down k (n ∷ ns) = ap (λ x. flat_map (child_counts k) (children n) ++ x) (widths_down k ns)
-    ∙ sym (flat_map-append (child_counts k) (children n) (flat_map children ns))
+widths_down k (n ∷ ns) = ap (λ x. flat_map (child_counts k) (branches n) ++ x) (widths_down k ns)
+    ∙ sym (flat_map-append (child_counts k) (branches n) (flat_map branches ns))
 
 pub shaped_more : (parents ns : List Domain) (done : List (List ℕ)) (w : List ℕ)
-    → flat_map children parents ≡ ns → map child_count parents ≡ w → AreShaped ns done
+    → flat_map branches parents ≡ ns → map child_count parents ≡ w → AreShaped ns done
     → AreShaped parents (done ++ w ∷ [])
 shaped_more parents ns [] w e f h = (flat_map_single child_count parents ∙ f, tt)
 shaped_more parents ns (v ∷ vs) w e f h =
@@ -45,7 +45,7 @@ shaped_more parents ns (v ∷ vs) w e f h =
       shaped_more parents ns vs w e f h.1,
     )
 
-pub ends_more : (parents ns : List Domain) (k j : ℕ) → j ≡ suc k → flat_map children parents ≡ ns
+pub ends_more : (parents ns : List Domain) (k j : ℕ) → j ≡ suc k → flat_map branches parents ≡ ns
     → sum (flat_map (child_counts k) ns) ≡ 0 → sum (flat_map (child_counts j) parents) ≡ 0
 ends_more parents ns k j s e h = ap (λ i. sum (flat_map (child_counts i) parents)) s
     ∙ ap sum (widths_down k parents ∙ ap (flat_map (child_counts k)) e) ∙ h
@@ -58,11 +58,11 @@ tree_at (w ∷ ws) (suc l) t h = tree_at ws l t.3 (omega arith)
 
 -- one more parent
 pub children_push : (ps : List Domain) (x : Domain-F Domain)
-    → flat_map children (ps ++ roll-Domain x ∷ []) ≡ flat_map children ps ++ x.children.items
+    → flat_map branches (ps ++ roll-Domain x ∷ []) ≡ flat_map branches ps ++ x.children.items
 children_push ps x =
-    flat_map-append children ps (roll-Domain x ∷ [])
-    ∙ ap (λ ys. flat_map children ps ++ ys)
-    (append-nil (children (roll-Domain x)) ∙ children_roll x)
+    flat_map-append branches ps (roll-Domain x ∷ [])
+    ∙ ap (λ ys. flat_map branches ps ++ ys)
+    (append-nil (branches (roll-Domain x)) ∙ children_roll x)
 
 pub counts_push : (ps : List Domain) (x : Domain-F Domain)
     → map child_count (ps ++ roll-Domain x ∷ [])
@@ -76,9 +76,9 @@ pub cores_push : (ns : List Domain) (x : Domain-F Domain) (n : ℕ) (s : CoreSta
     → length x.children.items ≡ 0 → x.core ≡ s → cores_in ns ≡ replicate n s
     → cores_in (ns ++ roll-Domain x ∷ []) ≡ replicate (n + 1) s
 cores_push ns x n s none own h =
-    flat_map-append cores ns (roll-Domain x ∷ [])
+    flat_map-append leaves ns (roll-Domain x ∷ [])
     ∙ ap (λ ys. cores_in ns ++ ys)
-    (append-nil (cores (roll-Domain x)) ∙ cores_roll_core x none ∙ ap (λ c. c ∷ []) own)
+    (append-nil (leaves (roll-Domain x)) ∙ cores_roll_core x none ∙ ap (λ c. c ∷ []) own)
     ∙ ap (λ ys. ys ++ s ∷ []) h ∙ replicate_more n s
 
 -- each domain above the cores has a child

@@ -8,7 +8,7 @@ use Rattle.std.proofs.lemmas.List.{take_at, drop_at}
 use Rattle.std.proofs.lemmas.List.Elements.{All-append, All-nil, All-cons, All-take, All-drop}
 use Rattle.std.proofs.lemmas.List.Sums.{sum_by-append, count_by-le-length}
 use Rattle.psci_tree.specs.Recount.{is_active, is_off}
-use Rattle.psci_tree.specs.Domains.{cores, cores_in, children, domains_down}
+use Rattle.psci_tree.specs.Domains.{leaves, cores_in, branches, domains_down}
 use Rattle.psci_tree.specs.Kept.{Keeps, IsRecount, AreKept, IsKept, recount, kept_together, low_in}
 use Rattle.psci_tree.specs.declared.state.CoreState.{CoreState}
 use Rattle.psci_tree.specs.declared.kept.Kept.{Kept}
@@ -115,15 +115,15 @@ kept_none (n ∷ ns) h = absurd (omega arith)
 pub kept_own : (n : Domain) → IsKept n → IsRecount n
 kept_own n h = h.each 0 0 n (omega arith)
 
-pub kept_children : (n : Domain) → IsKept n → AreKept (children n)
+pub kept_children : (n : Domain) → IsKept n → AreKept (branches n)
 kept_children n h = record { each = λ k. h.each (suc k) }
 
-kept_each : (n : Domain) → IsRecount n → AreKept (children n) → (k : ℕ)
+kept_each : (n : Domain) → IsRecount n → AreKept (branches n) → (k : ℕ)
     → All IsRecount (domains_down k n)
 kept_each n h l zero = All-cons IsRecount n [] h (All-nil IsRecount)
 kept_each n h l (suc k) = l.each k
 
-kept_from : (n : Domain) → IsRecount n → AreKept (children n) → IsKept n
+kept_from : (n : Domain) → IsRecount n → AreKept (branches n) → IsKept n
 kept_from n h l = record { each = kept_each n h l }
 
 -- a domain that was put together keeps the recount where it keeps that of its children's cores
@@ -132,7 +132,7 @@ pub kept_roll : (x : Domain-F Domain) → 0 < length x.children.items
     → IsKept (roll-Domain x)
 kept_roll x some h l =
     let own : IsRecount (roll-Domain x) =
-    subst (λ (y : Domain-F Domain). Keeps y.kept (cores (roll-Domain x))) (sym (out-roll-Domain x))
+    subst (λ (y : Domain-F Domain). Keeps y.kept (leaves (roll-Domain x))) (sym (out-roll-Domain x))
     (subst (Keeps x.kept) (sym (cores_roll x some)) h) in
     kept_from (roll-Domain x) own (subst AreKept (sym (children_roll x)) l)
 
@@ -140,7 +140,7 @@ pub kept_roll_core : (x : Domain-F Domain) → length x.children.items ≡ 0
     → Keeps x.kept (x.core ∷ []) → IsKept (roll-Domain x)
 kept_roll_core x none h =
     let own : IsRecount (roll-Domain x) =
-    subst (λ (y : Domain-F Domain). Keeps y.kept (cores (roll-Domain x))) (sym (out-roll-Domain x))
+    subst (λ (y : Domain-F Domain). Keeps y.kept (leaves (roll-Domain x))) (sym (out-roll-Domain x))
     (subst (Keeps x.kept) (sym (cores_roll_core x none)) h) in
     kept_from (roll-Domain x) own (subst AreKept (sym (children_roll x)) (kept_none _ none))
 
@@ -151,11 +151,11 @@ pub kept_next : (ns : List Domain) (i : ℕ) (d : Domain) (k : Kept) → i < len
     → d ≡ get_or ns i d → AreKept ns → Keeps k (cores_in (take i ns))
     → Keeps (kept_together k (out-Domain d).kept) (cores_in (take (i + 1) ns))
 kept_next ns i d k h is l e =
-    let own : Keeps (out-Domain d).kept (cores d) =
+    let own : Keeps (out-Domain d).kept (leaves d) =
     subst IsRecount (sym is) (kept_own (get_or ns i d) (kept_at ns i d h l)) in
     subst (Keeps (kept_together k (out-Domain d).kept))
-    (ap (λ x. cores_in (take i ns) ++ cores x) is ∙ sym (cores_take ns i d h))
-    (keeps_append k (out-Domain d).kept (cores_in (take i ns)) (cores d) e own)
+    (ap (λ x. cores_in (take i ns) ++ leaves x) is ∙ sym (cores_take ns i d h))
+    (keeps_append k (out-Domain d).kept (cores_in (take i ns)) (leaves d) e own)
 
 -- what is kept of so few cores is so small
 pub record Small (k : Kept) : Type 0 where

@@ -8,15 +8,14 @@ use Rattle.psci_board.specs.declared.node.Node.{Node}
 use Rattle.psci_board.specs.Board.{IsTree, HasNodeIn, below_in, first_core, span}
 use Rattle.psci_board.specs.Laws.{SpanLaws}
 use Rattle.psci_tree.specs.Recount.{TreeValue, state_at}
-use Rattle.psci_tree.specs.Domains.{IsWhole, child_count, child_counts, cores, domains_down}
-use Rattle.psci_tree.specs.declared.state.CoreState.{CoreState}
+use Rattle.psci_tree.specs.Domains.{IsWhole, child_count, child_counts, leaves, domains_down}
 use Rattle.psci_tree.specs.declared.domain.Domain.{Domain, out-Domain}
 use Rattle.psci_tree.proofs.Below.{cores_of_core}
 use Rattle.psci_tree.proofs.Slices.{size_at, states_at, widths_are}
 
 -- a domain of level 0 is the core itself
 pub core_of_leaf : (n : Domain) (t : TreeValue) (at : Node) (k : ℕ) (d : Domain)
-    → SpanLaws t.levels → IsTree t.levels → IsWhole n t.levels → t.cores ≡ cores n
+    → SpanLaws t.levels → IsTree t.levels → IsWhole n t.levels → t.cores ≡ leaves n
     → HasNodeIn t.levels at → k + at.level ≡ length t.levels
     → d ≡ get_or (domains_down k n) at.place d → at.level ≡ 0
     → (out-Domain d).core ≡ state_at t at.place
@@ -34,7 +33,7 @@ core_of_leaf n t at k d laws i h same in' e is low =
       get_or-le-sum_by (λ x. x) (map child_count row) at.place 0
           (omega (arith, length-map row child_count)),
     ) in
-    let own : cores d ≡ (out-Domain d).core ∷ [] = cores_of_core d fans in
+    let own : leaves d ≡ (out-Domain d).core ∷ [] = cores_of_core d fans in
     let first : (span t.levels at).first ≡ at.place =
     ap (λ l. first_core t.levels l at.place) low in
     let last : first_core t.levels at.level (at.place + 1) ≡ at.place + 1 =

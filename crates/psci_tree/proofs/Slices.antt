@@ -14,7 +14,7 @@ use Rattle.psci_board.specs.Board.{IsTree, HasNodeIn, size_below, is_width}
 use Rattle.psci_board.specs.Board.{below_in, first_core, span}
 use Rattle.psci_board.specs.Laws.{SpanLaws}
 use Rattle.psci_tree.specs.Recount.{TreeValue, state_at, never_started}
-use Rattle.psci_tree.specs.Domains.{cores, cores_in, children, child_count}
+use Rattle.psci_tree.specs.Domains.{leaves, cores_in, branches, child_count}
 use Rattle.psci_tree.specs.Domains.{domains_down, child_counts, HasShape, IsWhole}
 use Rattle.psci_tree.specs.declared.state.CoreState.{CoreState}
 use Rattle.psci_tree.specs.declared.domain.Domain.{Domain}
@@ -23,16 +23,16 @@ use Rattle.psci_tree.proofs.Places.{sum-cons, sum_take_le}
 
 -- One level down -----------------------------------------------------------------------------
 
-down_in : (f g : Domain → List Domain) → ((n : Domain) → f n ≡ flat_map children (g n))
-    → (ns : List Domain) → flat_map f ns ≡ flat_map children (flat_map g ns)
+down_in : (f g : Domain → List Domain) → ((n : Domain) → f n ≡ flat_map branches (g n))
+    → (ns : List Domain) → flat_map f ns ≡ flat_map branches (flat_map g ns)
 down_in f g h [] = refl
-down_in f g h (n ∷ ns) = ap (λ x. x ++ flat_map f ns) (h n) ∙ ap (λ x. flat_map children (g n)
-    ++ x) (down_in f g h ns) ∙ sym (flat_map-append children (g n) (flat_map g ns))
+down_in f g h (n ∷ ns) = ap (λ x. x ++ flat_map f ns) (h n) ∙ ap (λ x. flat_map branches (g n)
+    ++ x) (down_in f g h ns) ∙ sym (flat_map-append branches (g n) (flat_map g ns))
 
-pub down_step : (k : ℕ) (n : Domain) → domains_down (suc k) n ≡ flat_map children (domains_down k n)
+pub down_step : (k : ℕ) (n : Domain) → domains_down (suc k) n ≡ flat_map branches (domains_down k n)
 down_step zero n =
-    flat_map_single (λ m. m) (children n) ∙ map-id (children n) ∙ sym (append-nil (children n))
-down_step (suc k) n = down_in (domains_down (suc k)) (domains_down k) (down_step k) (children n)
+    flat_map_single (λ m. m) (branches n) ∙ map-id (branches n) ∙ sym (append-nil (branches n))
+down_step (suc k) n = down_in (domains_down (suc k)) (domains_down k) (down_step k) (branches n)
 
 widths_in : (f : Domain → List ℕ) (g : Domain → List Domain)
     → ((n : Domain) → f n ≡ map child_count (g n))
@@ -44,7 +44,7 @@ widths_in f g h (n ∷ ns) = ap (λ x. x ++ flat_map f ns) (h n)
 
 pub widths_are : (k : ℕ) (n : Domain) → child_counts k n ≡ map child_count (domains_down k n)
 widths_are zero n = refl
-widths_are (suc k) n = widths_in (child_counts k) (domains_down k) (widths_are k) (children n)
+widths_are (suc k) n = widths_in (child_counts k) (domains_down k) (widths_are k) (branches n)
 
 pub take_past : {X : Type 0} (xs ys : List X) (k : ℕ)
     → take (length xs + k) (xs ++ ys) ≡ xs ++ take k ys
@@ -53,25 +53,25 @@ take_past (x ∷ xs) ys k = let e : suc (length xs) + k ≡ suc (length xs + k) 
     rw e (ap (λ zs. x ∷ zs) (take_past xs ys k))
 
 take_down : (p : ℕ) (ns : List Domain)
-    → flat_map children (take p ns)
-    ≡ take (sum (take p (map child_count ns))) (flat_map children ns)
+    → flat_map branches (take p ns)
+    ≡ take (sum (take p (map child_count ns))) (flat_map branches ns)
 take_down zero ns = refl
 take_down (suc p) [] = refl
 take_down (suc p) (n ∷ ns) =
-    ap (λ x. children n ++ x) (take_down p ns)
-    ∙ sym (take_past (children n) (flat_map children ns) (sum (take p (map child_count ns))))
-    ∙ ap (λ k. take k (children n ++ flat_map children ns))
+    ap (λ x. branches n ++ x) (take_down p ns)
+    ∙ sym (take_past (branches n) (flat_map branches ns) (sum (take p (map child_count ns))))
+    ∙ ap (λ k. take k (branches n ++ flat_map branches ns))
     (sym (sum-cons (child_count n) (take p (map child_count ns))))
 
 -- domains that have children have the cores of their children
 pub cores_down : (ns : List Domain) → AllPass is_width (map child_count ns)
-    → cores_in ns ≡ cores_in (flat_map children ns)
+    → cores_in ns ≡ cores_in (flat_map branches ns)
 cores_down [] h = refl
 cores_down (n ∷ ns) h =
-    let some : 0 < length (children n) = wide (child_count n) (h 0 0 (omega arith)) in
+    let some : 0 < length (branches n) = wide (child_count n) (h 0 0 (omega arith)) in
     ap (λ x. x ++ cores_in ns) (cores_of_domain n some)
-    ∙ ap (λ x. cores_in (children n) ++ x) (cores_down ns (λ k d l. h (suc k) d (omega arith)))
-    ∙ sym (flat_map-append cores (children n) (flat_map children ns))
+    ∙ ap (λ x. cores_in (branches n) ++ x) (cores_down ns (λ k d l. h (suc k) d (omega arith)))
+    ∙ sym (flat_map-append leaves (branches n) (flat_map branches ns))
   where
     wide : (m : ℕ) → is_width m ≡ true → 0 < m
     wide m e = grind (arith, nat_tests)
@@ -83,7 +83,7 @@ cores_ends (n ∷ ns) h =
     let parts = sum-cons (child_count n) (map child_count ns) in
     omega (
       arith,
-      length-append (cores n) (cores_in ns),
+      length-append (leaves n) (cores_in ns),
       ap length (cores_of_core n (omega arith)),
       cores_ends ns (omega arith),
     )
@@ -121,20 +121,20 @@ pub size_at : (n : Domain) (levels : List (List ℕ)) (l k : ℕ) → IsWhole n 
     → k + l ≡ length levels → length (domains_down k n) ≡ size_below (drop l levels)
 size_at n levels l zero h e = ap size_below (sym (drop_all l levels (omega arith)))
 size_at n levels l (suc k) h e =
-    ap length (down_step k n) ∙ length-flat_map children (domains_down k n)
+    ap length (down_step k n) ∙ length-flat_map branches (domains_down k n)
     ∙ sym (sum-map child_count (domains_down k n))
     ∙ ap sum (fans_at n levels l k h (omega arith)) ∙ sym (size_drop levels l (omega arith))
 
 pub cores_all : (n : Domain) (levels : List (List ℕ)) (l k : ℕ) → IsTree levels → IsWhole n levels
-    → k + l ≡ length levels → cores n ≡ cores_in (domains_down k n)
-cores_all n levels l zero t h e = sym (append-nil (cores n))
+    → k + l ≡ length levels → leaves n ≡ cores_in (domains_down k n)
+cores_all n levels l zero t h e = sym (append-nil (leaves n))
 cores_all n levels l (suc k) t h e =
     cores_all n levels (suc l) k t h (omega arith)
     ∙ cores_down (domains_down k n) (wide_at n levels l k t h (omega arith))
     ∙ ap cores_in (sym (down_step k n))
 
 pub length_cores : (n : Domain) (levels : List (List ℕ)) → IsTree levels → IsWhole n levels
-    → length (cores n) ≡ size_below levels
+    → length (leaves n) ≡ size_below levels
 length_cores n levels t h =
     ap length (cores_all n levels 0 (length levels) t h (omega arith))
     ∙ cores_ends (domains_down (length levels) n) (ap sum (sym (widths_are (length levels) n))
@@ -176,7 +176,7 @@ first_len n levels (suc l) k p t h e b =
     let wide : AllPass is_width (map child_count (take p row)) =
     (let P : List ℕ → Type 0 = AllPass is_width in subst P (take-map child_count p row)
     (All-take (λ x. is_width x ≡ true) p (map child_count row) (wide_at n levels l k t h e))) in
-    let down : flat_map children (take p row)
+    let down : flat_map branches (take p row)
     ≡ take (sum (take p (map child_count row))) (domains_down (suc k) n) =
     take_down p row ∙ ap (take (sum (take p (map child_count row)))) (sym (down_step k n)) in
     let more : sum (take p (map child_count row)) ≤ length (domains_down (suc k) n) =
@@ -184,7 +184,7 @@ first_len n levels (suc l) k p t h e b =
       arith,
       sum_take_le (map child_count row) p,
       ap length (down_step k n),
-      length-flat_map children row,
+      length-flat_map branches row,
       sum-map child_count row,
     ) in
     ap length (cores_down (take p row) wide ∙ ap cores_in down)
@@ -198,21 +198,21 @@ slice_of a b c i k e f = ap (take k) (drop_at a (b ++ c) i e) ∙ take_at b c k 
 pub slice_at : (n : Domain) (levels : List (List ℕ)) (at : Node) (k : ℕ) (d : Domain)
     → IsTree levels → IsWhole n levels → HasNodeIn levels at → k + at.level ≡ length levels
     → d ≡ get_or (domains_down k n) at.place d
-    → cores d ≡ take (span levels at).count (drop (span levels at).first (cores n))
+    → leaves d ≡ take (span levels at).count (drop (span levels at).first (leaves n))
 slice_at n levels at k d t h in' e is =
     let row : List Domain = domains_down k n in
     let p : ℕ = at.place in
     let fits : p < length row = omega (arith, in'.place, size_at n levels at.level k h e) in
     let here = first_len n levels at.level k p t h e (omega arith) in
     let next = first_len n levels at.level k (p + 1) t h e (omega arith) in
-    let wide : length (cores (get_or row p d)) ≡ (span levels at).count =
+    let wide : length (leaves (get_or row p d)) ≡ (span levels at).count =
     omega (arith, here, next, length_take row p d fits) in
     let parts : cores_in row ≡ cores_in (take p row)
-    ++ (cores (get_or row p d) ++ cores_in (drop (p + 1) row)) =
-    ap cores_in (sym (take-append-drop p row)) ∙ flat_map-append cores (take p row) (drop p row)
+    ++ (leaves (get_or row p d) ++ cores_in (drop (p + 1) row)) =
+    ap cores_in (sym (take-append-drop p row)) ∙ flat_map-append leaves (take p row) (drop p row)
     ∙ ap (λ x. cores_in (take p row) ++ x) (cores_drop row p d fits) in
-    ap cores is
-    ∙ sym (slice_of (cores_in (take p row)) (cores (get_or row p d)) (cores_in (drop (p + 1) row))
+    ap leaves is
+    ∙ sym (slice_of (cores_in (take p row)) (leaves (get_or row p d)) (cores_in (drop (p + 1) row))
     (span levels at).first (span levels at).count here wide)
     ∙ ap (λ x. take (span levels at).count (drop (span levels at).first x))
     (sym (cores_all n levels at.level k t h e ∙ parts))
@@ -237,9 +237,9 @@ states_slice t n laws same h =
 
 -- and they are those of the domain in memory
 pub states_at : (n : Domain) (t : TreeValue) (at : Node) (k : ℕ) (d : Domain) → SpanLaws t.levels
-    → IsTree t.levels → IsWhole n t.levels → t.cores ≡ cores n → HasNodeIn t.levels at
+    → IsTree t.levels → IsWhole n t.levels → t.cores ≡ leaves n → HasNodeIn t.levels at
     → k + at.level ≡ length t.levels → d ≡ get_or (domains_down k n) at.place d
-    → cores d ≡ map (λ c. state_at t c) (below_in t.levels at)
+    → leaves d ≡ map (λ c. state_at t c) (below_in t.levels at)
 states_at n t at k d laws i h same in' e is =
     slice_at n t.levels at k d i h in' e is
     ∙ ap (λ x. take (span t.levels at).count (drop (span t.levels at).first x)) (sym same)

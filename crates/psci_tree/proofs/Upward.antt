@@ -12,7 +12,7 @@ use Rattle.std.proofs.lemmas.List.Sums.{sum-map}
 use Rattle.psci_board.specs.declared.node.Node.{Node}
 use Rattle.psci_board.specs.Board.{BoardValue, IsTree, HasNodeIn, size_below, group_of, index_in}
 use Rattle.psci_board.specs.Board.{height, nodes, parent, child_number, place_above}
-use Rattle.psci_tree.specs.Domains.{children, child_count, domains_down, HasShape}
+use Rattle.psci_tree.specs.Domains.{branches, child_count, domains_down, HasShape}
 use Rattle.psci_tree.specs.declared.domain.Domain.{Domain}
 use Rattle.psci_tree.proofs.Places.{Counted, counted}
 use Rattle.psci_tree.proofs.Granted.{tree_drop, parent_is, above_lt}
@@ -23,9 +23,9 @@ use Rattle.psci_tree.proofs.Slices.{down_step, widths_are}
 pub record ChildAt (root : Domain) (w : List ℕ) (ws : List (List ℕ)) (place : ℕ) : Type 0 where
   pub group : group_of w place < size_below ws
   pub inside : (e : Domain) → index_in w place
-      < length (children (get_or (domains_down (length ws) root) (group_of w place) e))
+      < length (branches (get_or (domains_down (length ws) root) (group_of w place) e))
   pub is : (d e : Domain)
-      → get_or (children (get_or (domains_down (length ws) root) (group_of w place) e))
+      → get_or (branches (get_or (domains_down (length ws) root) (group_of w place) e))
       (index_in w place) d
       ≡ get_or (domains_down (suc (length ws)) root) place d
 
@@ -35,9 +35,9 @@ child_at root w ws place t h i = record {
   group = omega (arith, c.group, t.0);
   inside = λ e. omega (arith, c.place, fans e);
   is = λ d e.
-      sym (get_or-flat_map children row (group_of w place) (index_in w place) e d within
+      sym (get_or-flat_map branches row (group_of w place) (index_in w place) e d within
       (omega (arith, c.place, fans e)))
-      ∙ ap (λ k. get_or (flat_map children row) k d) (omega (arith, before, c.whole))
+      ∙ ap (λ k. get_or (flat_map branches row) k d) (omega (arith, before, c.whole))
       ∙ ap (λ x. get_or x place d) (sym (down_step (length ws) root));
 }
   where
@@ -58,9 +58,9 @@ child_at root w ws place t h i = record {
     fans e = sym (get_or-map child_count row (group_of w place) e 0 within)
         ∙ ap (λ x. get_or x (group_of w place) 0) same
 
-    before : length (flat_map children (take (group_of w place) row))
+    before : length (flat_map branches (take (group_of w place) row))
         ≡ sum (take (group_of w place) w)
-    before = length-flat_map children (take (group_of w place) row)
+    before = length-flat_map branches (take (group_of w place) row)
         ∙ sym (sum-map child_count (take (group_of w place) row))
         ∙ ap sum (sym (take-map child_count (group_of w place) row))
         ∙ ap (λ x. sum (take (group_of w place) x)) same
@@ -126,9 +126,9 @@ pub record StepsDown (root : Domain) (levels : List (List ℕ)) (n m : Node) (k 
   pub fits : n.level < length levels
   pub node : HasNodeIn levels m
   pub inside : (e : Domain)
-      → k < length (children (get_or (domains_down (length levels - m.level) root) m.place e))
+      → k < length (branches (get_or (domains_down (length levels - m.level) root) m.place e))
   pub is : (d e : Domain)
-      → get_or (children (get_or (domains_down (length levels - m.level) root) m.place e)) k d
+      → get_or (branches (get_or (domains_down (length levels - m.level) root) m.place e)) k d
       ≡ get_or (domains_down (length levels - n.level) root) n.place d
 
 pub steps_down : (root : Domain) (b : BoardValue) (n m : Node) (k : ℕ) → IsTree b.levels

@@ -10,7 +10,7 @@ use Rattle.std.proofs.lemmas.List.Elements.{All-take}
 use Rattle.std.proofs.lemmas.List.Sums.{sum-map, get_or-le-sum_by}
 use Rattle.psci_board.specs.Board.{IsTree, size_below, is_width, group_of, index_in, place_above}
 use Rattle.psci_board.specs.Board.{first_core}
-use Rattle.psci_tree.specs.Domains.{cores, cores_in, children, child_count, child_counts, IsWay}
+use Rattle.psci_tree.specs.Domains.{leaves, cores_in, branches, child_count, child_counts, IsWay}
 use Rattle.psci_tree.specs.Domains.{index_by, domains_down, IsWayTo, IsWhole}
 use Rattle.psci_tree.specs.Recount.{never_started}
 use Rattle.psci_tree.specs.Changes.{core_changed, with_change}
@@ -27,10 +27,10 @@ use Rattle.psci_tree.proofs.Slices.{down_step, cores_down, take_past}
 
 -- a way from a domain above the cores: its first step, and the rest of it
 pub record Step (n : Domain) (l k : ℕ) (way : List ℕ) : Type 0 where
-  pub inside : get_or way k 0 < length (children n)
-  pub rest : IsWay k way (get_or (children n) (get_or way k 0) n)
-  pub place : index_by l way n ≡ length (cores_in (take (get_or way k 0) (children n)))
-      + index_by k way (get_or (children n) (get_or way k 0) n)
+  pub inside : get_or way k 0 < length (branches n)
+  pub rest : IsWay k way (get_or (branches n) (get_or way k 0) n)
+  pub place : index_by l way n ≡ length (cores_in (take (get_or way k 0) (branches n)))
+      + index_by k way (get_or (branches n) (get_or way k 0) n)
 
 pub step : (n : Domain) (l k : ℕ) (way : List ℕ) → l ≡ suc k → IsWay l way n → Step n l k way
 step n l k way e h = subst (λ j. IsWay j way n → Step n j k way) (sym e) first h
@@ -40,41 +40,41 @@ step n l k way e h = subst (λ j. IsWay j way n → Step n j k way) (sym e) firs
 
 -- a way ends at one of the cores below
 pub place_inside : (l : ℕ) (way : List ℕ) (n : Domain) → IsWay l way n
-    → index_by l way n < length (cores n)
+    → index_by l way n < length (leaves n)
 place_inside zero way n h = omega (arith, ap length (cores_of_core n h))
 place_inside (suc l) way n h =
     let i : ℕ = get_or way l 0 in
     omega (
       arith,
       length_of_domain n (omega (arith, h.0)),
-      length_parts (children n) i,
-      length_drop (children n) i n h.0,
-      place_inside l way (get_or (children n) i n) h.1,
+      length_parts (branches n) i,
+      length_drop (branches n) i n h.0,
+      place_inside l way (get_or (branches n) i n) h.1,
     )
 
 -- the core at a place below a domain, as one below its child
-pub same_core : (n : Domain) (i rest place : ℕ) → i < length (children n)
-    → length (cores_in (take i (children n))) + rest ≡ place
-    → rest < length (cores (get_or (children n) i n))
-    → get_or (cores n) place never_started
-    ≡ get_or (cores (get_or (children n) i n)) rest never_started
+pub same_core : (n : Domain) (i rest place : ℕ) → i < length (branches n)
+    → length (cores_in (take i (branches n))) + rest ≡ place
+    → rest < length (leaves (get_or (branches n) i n))
+    → get_or (leaves n) place never_started
+    ≡ get_or (leaves (get_or (branches n) i n)) rest never_started
 same_core n i rest place h e r =
     ap (λ cs. get_or cs place never_started) (cores_of_domain n (omega arith))
-    ∙ ap (λ p. get_or (cores_in (children n)) p never_started) (sym e)
-    ∙ get_or-flat_map cores (children n) i rest n never_started h r
+    ∙ ap (λ p. get_or (cores_in (branches n)) p never_started) (sym e)
+    ∙ get_or-flat_map leaves (branches n) i rest n never_started h r
 
 -- a change of a child's core, as one of the domain's
 pub child_changed : (n m : Domain) (l k : ℕ) (way : List ℕ) (change : Change) → Step n l k way
-    → cores m ≡ with_change (cores (get_or (children n) (get_or way k 0) n))
-    (index_by k way (get_or (children n) (get_or way k 0) n)) change
-    → cores m ≡ set (cores (get_or (children n) (get_or way k 0) n))
-    (index_by k way (get_or (children n) (get_or way k 0) n))
-    (core_changed change (get_or (cores n) (index_by l way n) never_started))
+    → leaves m ≡ with_change (leaves (get_or (branches n) (get_or way k 0) n))
+    (index_by k way (get_or (branches n) (get_or way k 0) n)) change
+    → leaves m ≡ set (leaves (get_or (branches n) (get_or way k 0) n))
+    (index_by k way (get_or (branches n) (get_or way k 0) n))
+    (core_changed change (get_or (leaves n) (index_by l way n) never_started))
 child_changed n m l k way change h e =
     let i : ℕ = get_or way k 0 in
-    let d : Domain = get_or (children n) i n in
+    let d : Domain = get_or (branches n) i n in
     let rest : ℕ = index_by k way d in
-    e ∙ ap (λ core. set (cores d) rest (core_changed change core))
+    e ∙ ap (λ core. set (leaves d) rest (core_changed change core))
     (sym (same_core n i rest (index_by l way n) h.inside (sym h.place)
     (place_inside k way d h.rest)))
 
@@ -89,22 +89,22 @@ above_next (w ∷ ws) (suc l) c h = above_next ws l (group_of w c) (omega arith)
 
 -- the children of the domains before one, and its own first ones
 take_in : (ns : List Domain) (p k : ℕ) (d : Domain) → p < length ns
-    → k ≤ length (children (get_or ns p d))
-    → take (sum (take p (map child_count ns)) + k) (flat_map children ns)
-    ≡ flat_map children (take p ns) ++ take k (children (get_or ns p d))
+    → k ≤ length (branches (get_or ns p d))
+    → take (sum (take p (map child_count ns)) + k) (flat_map branches ns)
+    ≡ flat_map branches (take p ns) ++ take k (branches (get_or ns p d))
 take_in [] p k d h i = absurd (omega arith)
 take_in (n ∷ ns) zero k d h i =
     let none : 0 + k ≡ k = omega arith in
-    rw none (take-append-le k (children n) (flat_map children ns) i)
+    rw none (take-append-le k (branches n) (flat_map branches ns) i)
 take_in (n ∷ ns) (suc p) k d h i =
     let more : sum (take (suc p) (map child_count (n ∷ ns))) + k
-    ≡ length (children n) + (sum (take p (map child_count ns)) + k) =
+    ≡ length (branches n) + (sum (take p (map child_count ns)) + k) =
     omega (arith, sum-cons (child_count n) (take p (map child_count ns))) in
-    ap (λ j. take j (children n ++ flat_map children ns)) more
-    ∙ take_past (children n) (flat_map children ns) (sum (take p (map child_count ns)) + k)
-    ∙ ap (λ xs. children n ++ xs) (take_in ns p k d (omega arith) i)
-    ∙ sym (append_assoc (children n) (flat_map children (take p ns))
-    (take k (children (get_or ns p d))))
+    ap (λ j. take j (branches n ++ flat_map branches ns)) more
+    ∙ take_past (branches n) (flat_map branches ns) (sum (take p (map child_count ns)) + k)
+    ∙ ap (λ xs. branches n ++ xs) (take_in ns p k d (omega arith) i)
+    ∙ sym (append_assoc (branches n) (flat_map branches (take p ns))
+    (take k (branches (get_or ns p d))))
 
 -- from a domain of this level on a core's path, the way leads to that core
 pub record Leads (levels : List (List ℕ)) (core : ℕ) (ks : List ℕ) (l : ℕ)
@@ -154,10 +154,10 @@ leads_up root levels core ks l k d n t w h to e is lower =
     let number : i ≡ index_in own q = to l (omega arith) in
     let fits : p < length row =
     omega (arith, up, c.group, ap length same, length-map row child_count) in
-    let fans : length (children n) ≡ get_or own p 0 =
-    ap (λ m. length (children m)) is ∙ sym (get_or-map child_count row p d 0 fits)
+    let fans : length (branches n) ≡ get_or own p 0 =
+    ap (λ m. length (branches m)) is ∙ sym (get_or-map child_count row p d 0 fits)
     ∙ ap (λ x. get_or x p 0) same in
-    let inside : i < length (children n) =
+    let inside : i < length (branches n) =
     omega (arith, fans, c.place, number, ap (λ j. get_or own j 0) up) in
     let before : sum (take p (map child_count row)) + i ≡ q =
     omega (
@@ -167,30 +167,30 @@ leads_up root levels core ks l k d n t w h to e is lower =
       ap (λ x. sum (take p x)) same,
       ap (λ j. sum (take j own)) up,
     ) in
-    let inside_too : i < length (children (get_or row p d)) =
-    omega (arith, inside, ap (λ m. length (children m)) is) in
+    let inside_too : i < length (branches (get_or row p d)) =
+    omega (arith, inside, ap (λ m. length (branches m)) is) in
     let parts : take q (domains_down (suc k) root)
-    ≡ flat_map children (take p row) ++ take i (children n) =
+    ≡ flat_map branches (take p row) ++ take i (branches n) =
     ap (take q) (down_step k root)
-    ∙ ap (λ j. take j (flat_map children row)) (sym before)
+    ∙ ap (λ j. take j (flat_map branches row)) (sym before)
     ∙ take_in row p i d fits (omega (arith, inside_too))
-    ∙ ap (λ m. flat_map children (take p row) ++ take i (children m)) (sym is) in
-    let place : length (flat_map children (take p row)) + i ≡ q = omega (
+    ∙ ap (λ m. flat_map branches (take p row) ++ take i (branches m)) (sym is) in
+    let place : length (flat_map branches (take p row)) + i ≡ q = omega (
       arith,
       before,
-      length-flat_map children (take p row),
+      length-flat_map branches (take p row),
       sum-map child_count (take p row),
       ap sum (take-map child_count p row),
     ) in
-    let child : get_or (domains_down (suc k) root) q n ≡ get_or (children n) i n =
+    let child : get_or (domains_down (suc k) root) q n ≡ get_or (branches n) i n =
     ap (λ x. get_or x q n) (down_step k root)
-    ∙ ap (λ j. get_or (flat_map children row) j n) (sym place)
-    ∙ get_or-flat_map children row p i d n fits inside_too
-    ∙ ap (λ m. get_or (children m) i n) (sym is) in
+    ∙ ap (λ j. get_or (flat_map branches row) j n) (sym place)
+    ∙ get_or-flat_map branches row p i d n fits inside_too
+    ∙ ap (λ m. get_or (branches m) i n) (sym is) in
     let wide : AllPass is_width (map child_count (take p row)) =
     (let P : List ℕ → Type 0 = AllPass is_width in subst P (take-map child_count p row)
     (All-take (λ x. is_width x ≡ true) p (map child_count row) (wide_at root levels l k t w e))) in
-    let rest : Leads levels core ks l (get_or (children n) i n) =
+    let rest : Leads levels core ks l (get_or (branches n) i n) =
     subst (Leads levels core ks l) child lower in
     record {
       way = (inside, rest.way);
@@ -202,8 +202,8 @@ leads_up root levels core ks l k d n t w h to e is lower =
         first_len root levels (suc l) k p t w e (omega arith),
         ap (λ ns. length (cores_in ns)) parts,
         ap length
-            (flat_map-append cores (flat_map children (take p row)) (take i (children n))),
-        length-append (cores_in (flat_map children (take p row))) (cores_in (take i (children n))),
+            (flat_map-append leaves (flat_map branches (take p row)) (take i (branches n))),
+        length-append (cores_in (flat_map branches (take p row))) (cores_in (take i (branches n))),
         ap length (cores_down (take p row) wide),
       );
     }

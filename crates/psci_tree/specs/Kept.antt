@@ -6,7 +6,7 @@ use Rattle.psci_tree.specs.declared.state.CoreState.{CoreState}
 use Rattle.psci_tree.specs.declared.kept.Kept.{Kept}
 use Rattle.psci_tree.specs.declared.domain.Domain.{Domain, out-Domain}
 use Rattle.psci_tree.specs.Recount.{asks, is_active, is_off, least}
-use Rattle.psci_tree.specs.Domains.{cores, domains_down}
+use Rattle.psci_tree.specs.Domains.{leaves, domains_down}
 
 -- the least ask of these cores at a level
 abbrev pub low_in : ℕ → List CoreState → ℕ
@@ -38,7 +38,7 @@ pub record Keeps (k : Kept) (cs : List CoreState) : Type 0 where
 
 -- what a domain keeps is kept of the cores below it
 abbrev pub IsRecount : Domain → Type 0
-IsRecount n = Keeps (out-Domain n).kept (cores n)
+IsRecount n = Keeps (out-Domain n).kept (leaves n)
 
 -- so it is with these domains and with all domains below them, however many levels down
 pub record AreKept (ns : List Domain) : Type 0 where

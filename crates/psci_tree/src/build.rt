@@ -6,7 +6,7 @@ ghost use Rattle.std.specs.List.{flat_map};
 ghost use Rattle.psci_board.specs.Board.{IsBoard, size_below, height};
 ghost use Rattle.psci_tree.specs.declared.domain.Domain.{Domain};
 ghost use Rattle.psci_tree.specs.Recount.{never_started};
-ghost use Rattle.psci_tree.specs.Domains.{IsWhole, children, child_count, cores, cores_in};
+ghost use Rattle.psci_tree.specs.Domains.{IsWhole, branches, child_count, leaves, cores_in};
 ghost use Rattle.psci_tree.specs.Kept.{AreKept, IsKept};
 
 use crate::domain::{Domain, kept_of};
@@ -20,7 +20,7 @@ use std::mem::replace;
 pub fn build(alloc: Global, board: &Board) -> Result<Domain, Memory>
     ensures whole { IfOk result (λ root. IsWhole root board.now.levels) }
     ensures off { IfOk result (λ root.
-        cores root ≡ replicate (size_below board.now.levels) never_started) }
+        leaves root ≡ replicate (size_below board.now.levels) never_started) }
     ensures kept { IfOk result (λ root. IsKept root) }
 {
     let mut row = row_of_cores(alloc, board.cores())?;
@@ -63,7 +63,7 @@ fn parents_of(
     requires kept { AreKept row.items }
     requires few { length (cores_in row.items) < 2 ^ 16 }
     requires children { sum (slice_index_or board.now.levels below []) ≡ length row.items }
-    ensures children { IfOk result (λ parents. flat_map children parents.items ≡ row.items) }
+    ensures children { IfOk result (λ parents. flat_map branches parents.items ≡ row.items) }
     ensures counts { IfOk result (λ parents.
         map child_count parents.items ≡ slice_index_or board.now.levels below []) }
     ensures kept { IfOk result (λ parents. AreKept parents.items) }

@@ -5,13 +5,13 @@ ghost use Rattle.psci_board.specs.Board.{HasNode, IsTree, height, size_below};
 ghost use Rattle.psci_tree.specs.declared.domain.Domain.{Domain};
 ghost use Rattle.psci_tree.specs.Recount.{never_started};
 ghost use Rattle.psci_tree.specs.Changes.{with_change};
-ghost use Rattle.psci_tree.specs.Domains.{HasShape, IsWayTo, IsWhole, child_counts, cores};
+ghost use Rattle.psci_tree.specs.Domains.{HasShape, IsWayTo, IsWhole, child_counts, leaves};
 ghost use Rattle.psci_tree.specs.Domains.{domains_down};
 ghost use Rattle.psci_tree.specs.Kept.{IsKept};
 
 use crate::domain::Domain;
 use crate::state::{Activity, Change};
-use psci_board::{Board, Core, Node};
+use psci_board::{Board, Core, MOST_LEVELS, Node};
 
 /// The domain of a node of the board, one step down for each level.
 pub fn domain_at<'a>(root: &'a Domain, board: &Board, node: Node) -> &'a Domain
@@ -34,7 +34,7 @@ pub fn change_core(root: &mut Domain, board: &Board, core: Core, change: &Change
     requires whole { IsWhole root.old board.now.levels }
     requires core { core.number < size_below board.now.levels }
     requires kept { IsKept root.old }
-    ensures cores { cores root.new ≡ with_change (cores root.old) core.number change.now }
+    ensures cores { leaves root.new ≡ with_change (leaves root.old) core.number change.now }
     ensures shape { (k : ℕ) → child_counts k root.new ≡ child_counts k root.old }
     ensures kept { IsKept root.new }
 {
@@ -46,7 +46,7 @@ pub fn turn_off(root: &mut Domain, board: &Board)
     requires tree { IsTree board.now.levels }
     requires whole { IsWhole root.old board.now.levels }
     requires kept { IsKept root.old }
-    ensures cores { cores root.new ≡ replicate (length (cores root.old)) never_started }
+    ensures cores { leaves root.new ≡ replicate (length (leaves root.old)) never_started }
     ensures shape { (k : ℕ) → child_counts k root.new ≡ child_counts k root.old }
     ensures kept { IsKept root.new }
 {
@@ -61,12 +61,12 @@ pub fn turn_off(root: &mut Domain, board: &Board)
 
 /// The way from the system down to a core, one step for each level: the number, among its siblings,
 /// of the core, of the domain above it, and so on.
-fn way_to(board: &Board, core: Core) -> [u32; 3]
+fn way_to(board: &Board, core: Core) -> [u32; MOST_LEVELS]
     requires tree { IsTree board.now.levels }
     requires core { core.number < size_below board.now.levels }
     ensures { IsWayTo board.now.levels core.number result }
 {
-    let mut way = [0; 3];
+    let mut way = [0; MOST_LEVELS];
     let mut place = core.number;
     for level in 0..board.height() {
         let node = Node { level, place };

@@ -3,7 +3,7 @@
 ghost use Rattle.std.specs.Prelude.{◌≡◌, ℕ, ◌^◌, ◌<◌, ◌≤◌, length};
 ghost use Rattle.psci_tree.specs.declared.domain.Domain.{Domain};
 ghost use Rattle.psci_tree.specs.Changes.{with_change};
-ghost use Rattle.psci_tree.specs.Domains.{children, cores, cores_in, child_counts, IsWay};
+ghost use Rattle.psci_tree.specs.Domains.{branches, leaves, cores_in, child_counts, IsWay};
 ghost use Rattle.psci_tree.specs.Domains.{index_by};
 ghost use Rattle.psci_tree.specs.Kept.{AreKept, IsKept, Keeps};
 
@@ -26,9 +26,9 @@ impl Domain {
     pub fn change(&mut self, level: u32, way: &[u32], change: &Change)
         requires long { level ≤ length way.now }
         requires way { IsWay level way.now self.old }
-        requires few { length (cores self.old) < 2 ^ 16 }
+        requires few { length (leaves self.old) < 2 ^ 16 }
         requires kept { IsKept self.old }
-        ensures cores { cores self.new ≡ with_change (cores self.old)
+        ensures cores { leaves self.new ≡ with_change (leaves self.old)
             (index_by level way.now self.old) change.now }
         ensures shape { (k : ℕ) → child_counts k self.new ≡ child_counts k self.old }
         ensures kept { IsKept self.new }
@@ -46,9 +46,9 @@ impl Domain {
 
     /// What is kept of the cores below, computed anew from what the children keep.
     fn anew(&self) -> Kept
-        requires kept { AreKept (children self.now) }
-        requires few { length (cores_in (children self.now)) < 2 ^ 16 }
-        ensures { Keeps result (cores_in (children self.now)) }
+        requires kept { AreKept (branches self.now) }
+        requires few { length (cores_in (branches self.now)) < 2 ^ 16 }
+        ensures { Keeps result (cores_in (branches self.now)) }
     {
         kept_of(&self.children)
     }

@@ -4,12 +4,13 @@ ghost use Rattle.std.specs.Prelude.{◌≡◌, ℕ, ◌+◌, ◌<◌, ◌^◌, �
 ghost use Rattle.psci_tree.specs.Kept.{Keeps, kept_together};
 
 use crate::state::CoreState;
+use psci_board::MOST_ON_PATH;
 
 /// What is kept of several cores, so that they need not be counted again.
 #[derive(Clone, Copy)]
 pub struct Kept {
     /// The least ask at each level, from 0 to 3.
-    pub lows: [u8; 4],
+    pub lows: [u8; MOST_ON_PATH],
     /// The sum of the known starts.
     pub known: u64,
     /// How many are running or pending.
@@ -24,7 +25,7 @@ impl Kept {
         ensures { Keeps result [] }
     {
         Kept {
-            lows: [3; 4],
+            lows: [3; MOST_ON_PATH],
             known: 0,
             active: 0,
             off: 0,

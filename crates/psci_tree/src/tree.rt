@@ -27,20 +27,20 @@ pub struct Tree {
 impl Model for Tree {
     ghost use Rattle.std.specs.Prelude.{map};
     ghost use Rattle.psci_tree.specs.Recount.{TreeValue};
-    ghost use Rattle.psci_tree.specs.Domains.{cores};
+    ghost use Rattle.psci_tree.specs.Domains.{leaves};
     ghost use Rattle.psci_tree.specs.Inside.{IsTied};
 
     ghost Value = { TreeValue };
 
     ghost view = { λ t. record {
       levels = t.board.levels;
-      cores = cores t.root;
+      cores = leaves t.root;
       granted = map (λ v. v.items) t.granted.items;
     } };
 
     ghost invariant = { λ t. IsTied t.root (record {
       levels = t.board.levels;
-      cores = cores t.root;
+      cores = leaves t.root;
       granted = map (λ v. v.items) t.granted.items;
     }) };
 }
@@ -54,7 +54,7 @@ ghost use Rattle.psci_tree.specs.Recount.{known_at, low, known, active, off, gra
 ghost use Rattle.psci_tree.specs.Changes.{MayGrant, suspended, turned_off, made_pending, started};
 ghost use Rattle.psci_tree.specs.Changes.{with_grant, with_core_state, with_path_cleared};
 ghost use Rattle.psci_tree.specs.Changes.{all_off, start_of_life};
-ghost use Rattle.psci_tree.specs.Domains.{cores};
+ghost use Rattle.psci_tree.specs.Domains.{leaves};
 ghost use Rattle.psci_tree.specs.Kept.{Keeps};
 
 impl Tree {
@@ -245,9 +245,9 @@ impl Tree {
     /// The domain of a node.
     fn domain(&self, node: Node) -> &Domain
         requires { HasNodeIn self.now.levels node }
-        ensures cores { cores result.now
+        ensures cores { leaves result.now
             ≡ map (λ c. state_at self.now c) (below_in self.now.levels node) }
-        ensures kept { Keeps (out-Domain result.now).kept (cores result.now) }
+        ensures kept { Keeps (out-Domain result.now).kept (leaves result.now) }
         ensures core { node.level ≡ 0 → (out-Domain result.now).core
             ≡ state_at self.now node.place }
     {

@@ -86,7 +86,7 @@ Next b past event s =
 
 -- The power controller -------------------------------------------------------------------------
 
--- one entry of its history
+-- one exchange of its history
 control_next : (b : BoardValue) (past : List Record) (e : controller.CtlExchange) → RunLaws b
     → Now b past → legal_controls.IsLegal b (e ∷ controller_history b past)
     → AreAgreed b (controls.values_of b (e ∷ controller_history b past))

@@ -107,7 +107,7 @@ WasSent b life level place p ms h =
     IsReplied b h → controls.life b h ≡ Some life → WasApplied b h level place p
     → IsFromMessage b life level place p ms
 
--- an entry that applies no part
+-- an exchange that applies no part
 none_applied : (b : BoardValue) (life level place : ℕ) (p : Part) (ms : List MessageValue)
     (e : controller.CtlExchange) (h : List controller.CtlExchange)
     → (Applies b (controls.effect_in b e) level place p → ⊥)

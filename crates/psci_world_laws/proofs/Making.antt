@@ -160,7 +160,7 @@ abbrev pub IsAfter : BoardValue → List controller.CtlExchange → List control
 IsAfter b h before m a =
     controls.values_of b h ≡ change b (message_effect b m a m.kind) (controls.values_of b before)
 
--- the values that a history says, entry by entry
+-- the values that a history says, exchange by exchange
 abbrev pub AreAfter : BoardValue → Type 0
 AreAfter b = (e : controller.CtlExchange) (h : List controller.CtlExchange)
     → controls.values_of b (e ∷ h) ≡ after b e.call e.reply (controls.values_of b h)

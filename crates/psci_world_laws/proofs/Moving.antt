@@ -203,7 +203,7 @@ pending v asked away x =
     updated_at (λ p. is_running p ≡ is_running (v.phase x)) v.phase (target asked) Pending x
     (λ e. sym (ap is_running (ap v.phase e ∙ away))) (λ ne. refl)
 
--- what the model's laws say of callers that go on
+-- what the laws of psci_fw_spec say of callers that run on
 pub record CallerLaws (b : BoardValue) : Type 0 where
   pub goes_on : (v : Values) (c : ℕ) → v.phase c ≡ Running → change b (GoesOn c) v ≡ v
   pub asks_on : (v : Values) (c : ℕ) (asked : PowerOn) → v.phase c ≡ Running

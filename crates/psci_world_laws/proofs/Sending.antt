@@ -44,7 +44,7 @@ abbrev Same : BoardValue → List Record → Event → Said → Type 0
 Same b past event s =
     listed (sent_in s) ++ sent past ≡ sent_messages b (after_call b past event s)
 
--- an entry adds what its effect says was sent
+-- an exchange adds what its effect says was sent
 one_entry : (b : BoardValue) (e : firmware.FwExchange) (h : List firmware.FwExchange)
     (o : Option MessageValue) (l : List MessageValue) → says.sent (firmware.effect b e) ≡ o
     → l ≡ sent_messages b h → listed o ++ l ≡ sent_messages b (e ∷ h)
@@ -102,7 +102,7 @@ took_none b h None t = refl
 took_none b h (Some a) takens.Used = refl
 took_none b h (Some a) takens.Old = refl
 
--- an event that sends nothing adds no entry, or one of an acknowledgement
+-- an event that sends nothing adds no exchange, or one of an acknowledgement
 quiet_call : (b : BoardValue) (past : List Record) (event : Event) (s : Said)
     → is_quiet event ≡ true → sent_messages b (after_call b past event s)
     ≡ sent_messages b (firmware_history b past)

@@ -27,7 +27,7 @@ pub fn law_runs()
 {}
 
 /// In the histories of a legal past every reply is the one reply: the firmware's history is one of
-/// its legal histories, and in the power controller's each call is answered as after the entries
+/// its legal histories, and in the power controller's each call is answered as after the exchanges
 /// before it.
 pub fn law_histories()
     ensures firmware { (b : BoardValue) (past : List Record) → IsLegalPast b past

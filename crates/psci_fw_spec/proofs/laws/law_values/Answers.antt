@@ -1,4 +1,4 @@
--- The values before any core has entered, and after one more entry.
+-- The values before any core has entered, and after one more exchange.
 use Rattle.psci_fw_spec.proofs.OneMore.{values_more, values_none}
 use Rattle.psci_fw_spec.proofs.laws.law_values.Goals as goal
 

@@ -4,7 +4,7 @@ use Rattle.std.specs.List.{flat_map}
 use Rattle.std.proofs.lemmas.List.{take-append-drop, length-take-le, length-drop, take_more}
 use Rattle.std.proofs.lemmas.List.Sums.{sum_by-drop_more}
 use Rattle.psci_board.specs.Board.{children_at, size_below}
-use Rattle.psci_tree.specs.Domains.{children, child_count, cores_in}
+use Rattle.psci_tree.specs.Domains.{branches, child_count, cores_in}
 use Rattle.psci_tree.specs.Kept.{AreKept, Keeps}
 use Rattle.psci_tree.specs.declared.domain.Domain.{Domain}
 use Rattle.psci_tree.proofs.Below.{length_parts}
@@ -89,14 +89,14 @@ loop-place-preserved c =
     ) in
     record {
       whole =
-          ap (λ xs. flat_map children xs ++ c.replace-group.new.dest.items)
+          ap (λ xs. flat_map branches xs ++ c.replace-group.new.dest.items)
           c.in_ok-push.ensures.items
           ∙ ap (λ xs. xs ++ c.replace-group.new.dest.items) (children_push parents _)
-          ∙ append_assoc (flat_map children parents) c.replace-group.result.items
+          ∙ append_assoc (flat_map branches parents) c.replace-group.result.items
           c.replace-group.new.dest.items
-          ∙ ap (λ xs. flat_map children parents ++ (xs ++ c.replace-group.new.dest.items)) taken
-          ∙ ap (λ xs. flat_map children parents ++ (take n rest ++ xs)) left
-          ∙ ap (λ xs. flat_map children parents ++ xs) (take-append-drop n rest)
+          ∙ ap (λ xs. flat_map branches parents ++ (xs ++ c.replace-group.new.dest.items)) taken
+          ∙ ap (λ xs. flat_map branches parents ++ (take n rest ++ xs)) left
+          ∙ ap (λ xs. flat_map branches parents ++ xs) (take-append-drop n rest)
           ∙ c.loop-place.invariant.whole;
       counts =
           ap (map child_count) c.in_ok-push.ensures.items ∙ counts_push parents _

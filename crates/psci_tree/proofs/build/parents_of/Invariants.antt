@@ -1,6 +1,6 @@
 use Rattle.std.proofs.Common.{◌≡◌, ◌++◌, ◌<◌, ◌^◌, [], length, map, sum, take, drop, get_or}
 use Rattle.std.specs.List.{flat_map}
-use Rattle.psci_tree.specs.Domains.{children, child_count, cores_in}
+use Rattle.psci_tree.specs.Domains.{branches, child_count, cores_in}
 use Rattle.psci_tree.specs.Kept.{AreKept}
 use Rattle.psci_tree.proofs.build.parents_of.Given as goal
 
@@ -8,7 +8,7 @@ abbrev pub invariant-loop-place : goal.invariant-loop-place
 invariant-loop-place l =
     let own = get_or l.board.levels l.below [] in
     record {
-      whole : flat_map children l.parents.items ++ l.rest.items ≡ l.fn.row.items;
+      whole : flat_map branches l.parents.items ++ l.rest.items ≡ l.fn.row.items;
       counts : map child_count l.parents.items ≡ take l.place own;
       kept : AreKept l.parents.items;
       rest : AreKept l.rest.items;

@@ -1,7 +1,7 @@
 use Rattle.std.proofs.Common.{◌≡◌, ◌<◌, ◌-◌, ◌∙◌, ap, sym, length, get_or, arith}
 use Rattle.std.proofs.lemmas.List.{get_or_default}
 use Rattle.psci_tree.specs.declared.domain.Domain.{Domain, out-Domain}
-use Rattle.psci_tree.specs.Domains.{children, domains_down}
+use Rattle.psci_tree.specs.Domains.{branches, domains_down}
 use Rattle.psci_tree.proofs.Upward.{StepsDown, steps_down}
 use Rattle.psci_tree.proofs.descent.+domain_at.Goals as goal
 
@@ -25,7 +25,7 @@ index-requires t c =
     omega (
       arith,
       down.inside parent,
-      ap (λ n. length (children n)) (c.domain_at-parent.ensures parent),
+      ap (λ n. length (branches n)) (c.domain_at-parent.ensures parent),
       (out-Domain parent).children.ok.0,
     )
 
@@ -39,9 +39,9 @@ returns t c = λ d.
     let at : parent ≡ get_or (domains_down (length c.args.board.now.levels
     - c.in-Some-Some.parent.level) c.args.root.now) c.in-Some-Some.parent.place parent =
     c.domain_at-parent.ensures parent in
-    let fits : c.in-Some-Some.number < length (children parent) =
-    omega (arith, down.inside parent, ap (λ n. length (children n)) at) in
+    let fits : c.in-Some-Some.number < length (branches parent) =
+    omega (arith, down.inside parent, ap (λ n. length (branches n)) at) in
     c.index.ensures
-    ∙ get_or_default (children parent) c.in-Some-Some.number c.index.result.now d fits
-    ∙ ap (λ n. get_or (children n) c.in-Some-Some.number d) at
+    ∙ get_or_default (branches parent) c.in-Some-Some.number c.index.result.now d fits
+    ∙ ap (λ n. get_or (branches n) c.in-Some-Some.number d) at
     ∙ down.is d parent

@@ -1,6 +1,6 @@
 use Rattle.std.proofs.Common.{◌∙◌, ℕ, List, arith, ap, subst, sym}
 use Rattle.psci_tree.specs.Changes.{with_change}
-use Rattle.psci_tree.specs.Domains.{cores, IsWay, index_by}
+use Rattle.psci_tree.specs.Domains.{leaves, IsWay, index_by}
 use Rattle.psci_tree.specs.declared.domain.Domain.{Domain}
 use Rattle.psci_tree.proofs.Slices.{length_cores, size_few}
 use Rattle.psci_tree.proofs.Ways.{system_way}
@@ -27,8 +27,8 @@ returns-clause-cores c =
     let root : Domain = c.args.root.now in
     let levels : List (List ℕ) = c.args.board.now.levels in
     c.change.ensures.cores
-    ∙ ap (λ l. with_change (cores root) (index_by l c.way_to.result root) c.args.change.now)
+    ∙ ap (λ l. with_change (leaves root) (index_by l c.way_to.result root) c.args.change.now)
     c.height.ensures.height
-    ∙ ap (λ p. with_change (cores root) p c.args.change.now) (system_way root levels
+    ∙ ap (λ p. with_change (leaves root) p c.args.change.now) (system_way root levels
     c.args.core.number c.way_to.result c.requires.tree c.requires.whole c.requires.core
     c.way_to.ensures).1

@@ -4,7 +4,7 @@ use Rattle.std.proofs.lemmas.List.{drop_all}
 use Rattle.psci_tree.specs.declared.state.CoreState.{CoreState}
 use Rattle.std.proofs.Math.ListN.{set, length-set}
 use Rattle.psci_tree.specs.Recount.{never_started}
-use Rattle.psci_tree.specs.Domains.{cores}
+use Rattle.psci_tree.specs.Domains.{leaves}
 use Rattle.psci_tree.proofs.Below.{set_next}
 use Rattle.psci_tree.proofs.Slices.{length_cores}
 use Rattle.psci_tree.proofs.descent.turn_off.Goals as goal
@@ -12,7 +12,7 @@ use Rattle.psci_tree.proofs.descent.turn_off.Goals as goal
 pub loop-number-preserved : goal.loop-number-preserved
 loop-number-preserved c =
     let number : ℕ = c.loop-number.number in
-    let old = cores c.args.root.now in
+    let old = leaves c.args.root.now in
     let up : number + 1 ≡ suc number = omega arith in
     record {
       states =
@@ -26,7 +26,7 @@ loop-number-preserved c =
           ))
           ∙ ap (λ n. replicate n never_started ++ drop n old) (sym up);
       same = ap length c.change_core.ensures.cores
-          ∙ length-set (cores c.loop-number.root) number never_started
+          ∙ length-set (leaves c.loop-number.root) number never_started
           ∙ c.loop-number.invariant.same;
       kept = c.change_core.ensures.kept;
       shape = λ k. c.change_core.ensures.shape k ∙ c.loop-number.invariant.shape k;
@@ -34,7 +34,7 @@ loop-number-preserved c =
 
 pub returns-clause-cores : goal.returns-clause-cores
 returns-clause-cores c =
-    let old : List CoreState = cores c.args.root.now in
+    let old : List CoreState = leaves c.args.root.now in
     let whole : length old ≡ c.loop-number.number = omega (
       arith,
       c.loop-number-test.false,

@@ -3,7 +3,7 @@ use Rattle.std.proofs.Common.{subst, sym, [], ◌∷◌}
 use Rattle.std.proofs.lemmas.List.{get_or_default}
 use Rattle.std.proofs.Math.ListN.{set, length-set}
 use Rattle.std.specs.Vec.{with_item}
-use Rattle.psci_tree.specs.Domains.{cores, cores_in, children, child_counts, IsWay, index_by}
+use Rattle.psci_tree.specs.Domains.{leaves, cores_in, branches, child_counts, IsWay, index_by}
 use Rattle.psci_tree.specs.Recount.{never_started}
 use Rattle.psci_tree.specs.Changes.{core_changed, with_change}
 use Rattle.psci_tree.specs.declared.state.CoreState.{CoreState}
@@ -35,7 +35,7 @@ change-requires t c =
     let down : Step own l (l - 1) c.args.way.now =
     step _ l (l - 1) _ (omega arith) c.requires.way in
     let n : Domain = c.index_mut.result.now in
-    let items : List Domain = children own in
+    let items : List Domain = branches own in
     let is : get_or items i own ≡ n =
     sym (c.index_mut.ensures.value ∙ get_or_default items i n own down.inside) in (
       search (rules, the_lemmas),
@@ -46,7 +46,7 @@ change-requires t c =
           (
             omega (
               arith,
-              ap (λ x. length (cores x)) is,
+              ap (λ x. length (leaves x)) is,
               cores_le items i own down.inside,
               length_of_domain own (omega (arith, down.inside)),
             ),
@@ -60,12 +60,12 @@ change-requires t c =
 pub returns-then-level-eq0-clause-cores : goal.returns-then-level-eq0-clause-cores
 returns-then-level-eq0-clause-cores t c =
     let own : Domain = c.args.self.now in
-    let none : length (children own) ≡ 0 =
+    let none : length (branches own) ≡ 0 =
     subst (λ j. IsWay j c.args.way.now own) c.if-level-eq0.true c.requires.way in
     let change : Change = c.args.change.now in
-    let there : with_change (cores own) (index_by c.args.level c.args.way.now own) change
+    let there : with_change (leaves own) (index_by c.args.level c.args.way.now own) change
     ≡ core_changed change (out-Domain own).core ∷ [] =
-    ap (λ j. with_change (cores own) (index_by j c.args.way.now own) change) c.if-level-eq0.true
+    ap (λ j. with_change (leaves own) (index_by j c.args.way.now own) change) c.if-level-eq0.true
     ∙ ap (λ cs. with_change cs 0 change) (cores_of_core own none) in
     let here = cores_roll_core (record {
       children = (out-Domain own).children;
@@ -76,7 +76,7 @@ returns-then-level-eq0-clause-cores t c =
 
 pub returns-then-level-eq0-clause-kept : goal.returns-then-level-eq0-clause-kept
 returns-then-level-eq0-clause-kept t c =
-    let none : length (children c.args.self.now) ≡ 0 =
+    let none : length (branches c.args.self.now) ≡ 0 =
     subst (λ j. IsWay j c.args.way.now c.args.self.now) c.if-level-eq0.true c.requires.way in
     let here = kept_roll_core (record {
       children = (out-Domain c.args.self.now).children;
@@ -88,7 +88,7 @@ returns-then-level-eq0-clause-kept t c =
 pub returns-clause-cores : goal.returns-clause-cores
 returns-clause-cores t c =
     let s : CoreState = core_changed c.args.change.now
-    (get_or (cores c.args.self.now) (index_by c.args.level c.args.way.now c.args.self.now)
+    (get_or (leaves c.args.self.now) (index_by c.args.level c.args.way.now c.args.self.now)
     never_started) in
     let own : Domain = c.args.self.now in
     let l : ℕ = c.args.level in
@@ -96,7 +96,7 @@ returns-clause-cores t c =
     let down : Step own l (l - 1) c.args.way.now =
     step _ l (l - 1) _ (omega arith) c.requires.way in
     let n : Domain = c.index_mut.result.now in
-    let items : List Domain = children own in
+    let items : List Domain = branches own in
     let is : n ≡ get_or items i own =
     c.index_mut.ensures.value ∙ get_or_default items i n own down.inside in
     let here = cores_with_child own i (index_by (l - 1) c.args.way.now (get_or items i own))
@@ -104,7 +104,7 @@ returns-clause-cores t c =
     down.inside (sym down.place)
     (place_inside (l - 1) c.args.way.now (get_or items i own) down.rest)
     (child_changed own c.change.new.self l (l - 1) c.args.way.now c.args.change.now down
-    (c.change.ensures.cores ∙ ap (λ (x : Domain). with_change (cores x)
+    (c.change.ensures.cores ∙ ap (λ (x : Domain). with_change (leaves x)
     (index_by (l - 1) c.args.way.now x) c.args.change.now) is)) in
     simp the_lemmas (simp the_lemmas at here)
 
@@ -115,7 +115,7 @@ returns-clause-shape t c = λ k.
     let i : ℕ = get_or c.args.way.now (l - 1) 0 in
     let down : Step own l (l - 1) c.args.way.now =
     step _ l (l - 1) _ (omega arith) c.requires.way in
-    let items : List Domain = children own in
+    let items : List Domain = branches own in
     let is : c.index_mut.result.now ≡ get_or items i own =
     c.index_mut.ensures.value ∙ get_or_default items i c.index_mut.result.now own down.inside in
     let here = widths_with_child own i c.change.new.self c.anew-self.result
@@ -125,7 +125,7 @@ returns-clause-shape t c = λ k.
 pub anew-self-requires-clause-kept : goal.anew-self-requires-clause-kept
 anew-self-requires-clause-kept t c =
     let own : Domain = c.args.self.now in
-    let items : List Domain = children own in
+    let items : List Domain = branches own in
     let i : ℕ = get_or c.args.way.now (c.args.level - 1) 0 in
     let half : Domain-F Domain = record {
       children = with_item (out-Domain own).children i c.change.new.self;
@@ -138,7 +138,7 @@ anew-self-requires-clause-kept t c =
 pub anew-self-requires-clause-few : goal.anew-self-requires-clause-few
 anew-self-requires-clause-few t c =
     let s : CoreState = core_changed c.args.change.now
-    (get_or (cores c.args.self.now) (index_by c.args.level c.args.way.now c.args.self.now)
+    (get_or (leaves c.args.self.now) (index_by c.args.level c.args.way.now c.args.self.now)
     never_started) in
     let own : Domain = c.args.self.now in
     let l : ℕ = c.args.level in
@@ -146,7 +146,7 @@ anew-self-requires-clause-few t c =
     let down : Step own l (l - 1) c.args.way.now =
     step _ l (l - 1) _ (omega arith) c.requires.way in
     let n : Domain = c.index_mut.result.now in
-    let items : List Domain = children own in
+    let items : List Domain = branches own in
     let is : n ≡ get_or items i own =
     c.index_mut.ensures.value ∙ get_or_default items i n own down.inside in
     let below : cores_in (set items i c.change.new.self)
@@ -155,7 +155,7 @@ anew-self-requires-clause-few t c =
     (index_by l c.args.way.now own) own c.change.new.self s down.inside (sym down.place)
     (place_inside (l - 1) c.args.way.now (get_or items i own) down.rest) (child_changed own
     c.change.new.self l (l - 1) c.args.way.now c.args.change.now down (c.change.ensures.cores
-    ∙ ap (λ (x : Domain). with_change (cores x) (index_by (l - 1) c.args.way.now x)
+    ∙ ap (λ (x : Domain). with_change (leaves x) (index_by (l - 1) c.args.way.now x)
     c.args.change.now) is)) in
     let half : Domain-F Domain = record {
       children = with_item (out-Domain own).children i c.change.new.self;
@@ -177,7 +177,7 @@ returns-clause-kept t c =
     let i : ℕ = get_or c.args.way.now (l - 1) 0 in
     let down : Step own l (l - 1) c.args.way.now =
     step _ l (l - 1) _ (omega arith) c.requires.way in
-    let items : List Domain = children own in
+    let items : List Domain = branches own in
     let half : Domain-F Domain = record {
       children = with_item (out-Domain own).children i c.change.new.self;
       core = (out-Domain own).core;

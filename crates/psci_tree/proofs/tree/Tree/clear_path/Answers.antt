@@ -5,7 +5,7 @@ use Rattle.psci_board.specs.declared.node.Node.{Node}
 use Rattle.psci_board.specs.Board.{HasNodeIn, size_below}
 use Rattle.psci_tree.specs.Recount.{TreeValue, IsDomainTree}
 use Rattle.psci_tree.specs.Changes.{with_path_cleared, path_cleared}
-use Rattle.psci_tree.specs.Domains.{cores}
+use Rattle.psci_tree.specs.Domains.{leaves}
 use Rattle.psci_tree.specs.Inside.{IsTied}
 use Rattle.psci_tree.proofs.Valid.{path_valid}
 use Rattle.psci_tree.proofs.tree.Tree.clear_path.Goals as goal
@@ -31,7 +31,7 @@ returns-clause-value c =
     omega (arith, c.clear_up.auto.rows, c.deref_mut.ensures.len) in
     let kept = with_items_is c.self.inside.granted c.clear_up.new.rows long in
     let change : List (List ℕ) → TreeValue =
-    λ gs. record { levels = levels; cores = cores c.self.inside.root; granted = gs } in
+    λ gs. record { levels = levels; cores = leaves c.self.inside.root; granted = gs } in
     let old : List (List ℕ) = map (λ v. v.items) c.self.inside.granted.items in
     let told : map (λ v. v.items) c.clear_up.new.rows ≡ path_cleared levels core old =
     c.clear_up.ensures

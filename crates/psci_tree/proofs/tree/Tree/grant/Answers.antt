@@ -4,7 +4,7 @@ use Rattle.std.proofs.lemmas.List.{length-map, with_items_is}
 use Rattle.psci_board.specs.Board.{HasNodeIn}
 use Rattle.psci_tree.specs.Recount.{TreeValue, IsDomainTree}
 use Rattle.psci_tree.specs.Changes.{with_grant}
-use Rattle.psci_tree.specs.Domains.{cores}
+use Rattle.psci_tree.specs.Domains.{leaves}
 use Rattle.psci_tree.specs.Inside.{IsTied}
 use Rattle.psci_tree.proofs.Granted.{RowOf, row_of}
 use Rattle.psci_tree.proofs.Valid.{grant_valid}
@@ -41,7 +41,7 @@ returns-clause-value c =
     let change : List (List ℕ) → TreeValue =
     λ gs. record {
       levels = c.self.inside.board.levels;
-      cores = cores c.self.inside.root;
+      cores = leaves c.self.inside.root;
       granted = gs;
     } in
     ap change (ap (map (λ v. v.items)) kept ∙ c.write.ensures

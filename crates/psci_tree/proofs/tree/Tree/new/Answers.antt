@@ -4,7 +4,7 @@ use Rattle.psci_tree.specs.declared.state.CoreState.{CoreState}
 use Rattle.psci_tree.specs.declared.domain.Domain.{Domain}
 use Rattle.psci_tree.specs.Recount.{TreeValue, IsActivity, IsDomainTree, level_sizes, never_started}
 use Rattle.psci_tree.specs.Changes.{rows_with_depth, made_pending, start_of_life, all_off}
-use Rattle.psci_tree.specs.Domains.{cores, IsWhole}
+use Rattle.psci_tree.specs.Domains.{leaves, IsWhole}
 use Rattle.psci_tree.proofs.Valid.{full_valid, all_idle}
 use Rattle.psci_tree.proofs.Slices.{length_cores}
 use Rattle.psci_tree.proofs.tree.Tree.new.Goals as goal
@@ -22,16 +22,16 @@ invariant_of-tree c =
     let granted : map (λ v. v.items) c.in_ok-deepest_rows.field-0.items
     ≡ rows_with_depth (level_sizes own.levels) 3 =
     c.in_ok-deepest_rows.ensures {u = tt} ∙ ap (λ ls. rows_with_depth (level_sizes ls) 3) same in
-    let idle : (d : ℕ) → IsActivity (get_or (cores root) d never_started).activity =
+    let idle : (d : ℕ) → IsActivity (get_or (leaves root) d never_started).activity =
     subst (λ (cs : List CoreState). (d : ℕ) → IsActivity (get_or cs d never_started).activity)
     (sym (c.in_ok-build.ensures.off)) (all_idle _) in
     let at : List (List ℕ) → TreeValue =
-    λ gs. record { levels = own.levels; cores = cores root; granted = gs } in
+    λ gs. record { levels = own.levels; cores = leaves root; granted = gs } in
     record {
       whole = whole;
       kept = c.in_ok-build.ensures.kept;
       valid = subst (λ gs. IsDomainTree (at gs)) (sym granted) (full_valid own.levels
-          (cores root) board.tree board.high (length_cores root own.levels board.tree whole) idle);
+          (leaves root) board.tree board.high (length_cores root own.levels board.tree whole) idle);
     }
 
 pub set_pending-requires : goal.set_pending-requires
@@ -48,7 +48,7 @@ returns-clause-value c =
     ap (λ (b : BoardValue). b.levels) c.in_ok-copy.ensures in
     let rows : List (List ℕ) = map (λ v. v.items) c.in_ok-deepest_rows.field-0.items in
     c.set_pending.ensures.value
-    ∙ ap (λ ls. made_pending (record { levels = ls; cores = cores root; granted = rows }) 0) same
+    ∙ ap (λ ls. made_pending (record { levels = ls; cores = leaves root; granted = rows }) 0) same
     ∙ ap (λ cs. made_pending (record { levels = levels; cores = cs; granted = rows }) 0)
     (c.in_ok-build.ensures.off)
     ∙ ap (λ gs. made_pending (record {

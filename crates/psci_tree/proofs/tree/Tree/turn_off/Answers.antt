@@ -5,7 +5,7 @@ use Rattle.psci_tree.specs.declared.state.CoreState.{CoreState}
 use Rattle.psci_tree.specs.declared.domain.Domain.{Domain}
 use Rattle.psci_tree.specs.Recount.{TreeValue, IsDomainTree, never_started, level_sizes}
 use Rattle.psci_tree.specs.Changes.{all_off, rows_with_depth}
-use Rattle.psci_tree.specs.Domains.{cores}
+use Rattle.psci_tree.specs.Domains.{leaves}
 use Rattle.psci_tree.specs.Inside.{IsTied}
 use Rattle.psci_tree.proofs.Valid.{all_off_valid}
 use Rattle.psci_tree.proofs.Slices.{whole_kept}
@@ -19,14 +19,14 @@ returns-clause-value c =
     let kept = with_items_is c.self.inside.granted c.fill_rows.new.rows long in
     let change : List CoreState → List (List ℕ) → TreeValue =
     λ cs gs. record { levels = levels; cores = cs; granted = gs } in
-    let states : cores c.turn_off.new.root ≡ replicate (size_below levels) never_started =
+    let states : leaves c.turn_off.new.root ≡ replicate (size_below levels) never_started =
     c.turn_off.ensures.cores
     ∙ ap (λ n. replicate n never_started) c.self.invariant.valid.cores in
     let rows : map (λ v. v.items) c.fill_rows.new.rows ≡ rows_with_depth (level_sizes levels) 3 =
     c.fill_rows.ensures
     ∙ ap (λ xs. rows_with_depth (map length (map (λ v. v.items) xs)) 3) c.deref_mut.ensures.value
     ∙ ap (λ ns. rows_with_depth ns 3) c.self.invariant.valid.granted in
-    ap (change (cores c.turn_off.new.root)) (ap (map (λ v. v.items)) kept ∙ rows)
+    ap (change (leaves c.turn_off.new.root)) (ap (map (λ v. v.items)) kept ∙ rows)
     ∙ ap (λ cs. change cs (rows_with_depth (level_sizes levels) 3)) states
     ∙ ap (λ (t : TreeValue). all_off t.levels) c.self.view_is
 

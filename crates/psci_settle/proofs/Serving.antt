@@ -138,7 +138,7 @@ taken_so b past k a laws at used = record {
 
 -- Both -----------------------------------------------------------------------------------------
 
--- What is so after a message was answered.
+-- What is so after a message was served.
 pub record AreAnswered (b : BoardValue) (past : List Record) (k : ℕ) (m : MessageValue)
     : Type 0 where
   pub legal : IsLegalPast b (serving b past (Some k))
