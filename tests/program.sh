@@ -249,10 +249,10 @@ storms() {
     expect "help of storm" 0
 }
 
-# the counts of a storm: its line comes first as ever, then one line for each kind, and each event is in
-# one of them; over some storms each kind comes
+# the counts of a storm: its line comes first as ever, then one line for each tally, and each event is in
+# one of them; over some storms each tally comes
 storm_counts() {
-    local words seed kinds=89 tall="((1 2) (2 1)) exec 0x0-0x1000 boot 0x0 starts 1000 lives 3"
+    local words seed tallies=89 tall="((1 2) (2 1)) exec 0x0-0x1000 boot 0x0 starts 1000 lives 3"
     local low="(2 2) exec 0x40000000-0x40100000 boot 0x40000000 starts 1000 lives 12"
     run storm --seed 1 --count 10000
     cp "$work/out" "$work/lines"
@@ -264,17 +264,17 @@ storm_counts() {
     : > "$work/all"
     for seed in $(seq 20); do
         run storm --board "$low" --seed "$seed" --count 10000 --counts
-        one_of_each "$kinds" "storm $seed"
+        one_of_each "$tallies" "storm $seed"
         tail -n +2 "$work/out" >> "$work/all"
     done
     for seed in 1 2 3 4 5; do
         run storm --board "$tall" --seed "$seed" --count 10000 --counts
-        one_of_each "$kinds" "storm $seed on a board of height 3"
+        one_of_each "$tallies" "storm $seed on a board of height 3"
         tail -n +2 "$work/out" >> "$work/all"
     done
-    if awk -v kinds="$kinds" '{ n = $NF; $NF = ""; sum[$0] += n }
-        END { for (kind in sum) if (sum[kind] > 0) came++; exit came != kinds }' "$work/all"; then pass; else
-        fail "a kind that came in no storm"
+    if awk -v tallies="$tallies" '{ n = $NF; $NF = ""; sum[$0] += n }
+        END { for (tally in sum) if (sum[tally] > 0) came++; exit came != tallies }' "$work/all"; then pass; else
+        fail "a tally that came in no storm"
     fi
     for words in "--counts=x" "--counts=true" "--counts x" "--counts --counts"; do
         # shellcheck disable=SC2086
@@ -290,12 +290,12 @@ storm_counts() {
     fi
 }
 
-# one_of_each KINDS NAME: so many kinds are counted, each once, and the sum is the number of events
+# one_of_each TALLIES NAME: so many tallies are counted, each once, and the sum is the number of events
 one_of_each() {
     local answer="return -?[0-9]+|stop|enter|resume|started|ack applied [0-4]( stale)?|used|old|ignored|absent"
-    if awk -v kinds="$1" 'NR == 1 { events = $3; next }
+    if awk -v tallies="$1" 'NR == 1 { events = $3; next }
         { n = $NF; $NF = ""; if ($0 in seen) exit twice = 1; seen[$0]; sum += n }
-        END { exit twice || NR != kinds + 1 || sum != events }' "$work/out" &&
+        END { exit twice || NR != tallies + 1 || sum != events }' "$work/out" &&
         ! tail -n +2 "$work/out" | grep -qvxE "[a-z_0-9]+ ($answer) [0-9]+"; then pass; else
         fail "$2: its counts"
     fi

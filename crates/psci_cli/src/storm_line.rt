@@ -12,8 +12,7 @@ use std::io::{self, Write};
 #[derive(Clone, Copy)]
 struct StormText(Storm);
 
-/// Writes the line of a storm, and where the counts are asked for, how often each kind of record
-/// came.
+/// Writes the line of a storm, and where the counts are asked for, the lines of all tallies.
 pub fn write_storm<W: Write>(to: &mut W, stormed: &StormedWorld, counts: bool) -> io::Result<()>
     ensures { OnOk result (Appends (W.contents to.old) (W.contents to.new)
         (storm_output counts stormed.now.storm (reverse stormed.now.world.past))) }

@@ -32,7 +32,7 @@ pub struct StormRequest<'a> {
     pub seed: u64,
     /// How many events are drawn, at most 10,000.
     pub count: u64,
-    /// Whether it is to be said how often each kind of record came.
+    /// Whether the count of each tally is to be written.
     pub counts: bool,
 }
 
@@ -60,7 +60,7 @@ const ABOUT_STORM: &str =
     "Makes so many random events happen on a board, drawn from the seed, and then lets it settle.
 Standard output has one line: `storm events E sent S quiet R` (E events in all, S messages sent, at
 rest after R rounds) or `storm events E sent S halting`. With --counts there is a line more for each
-kind of record, also for those that never came: `KIND N`, what was asked and answered, N times.";
+tally (what was asked, with what was answered), also if it never came: `TALLY N`, N records.";
 
 const ABOUT_REPLAY: &str =
     "Takes a script from standard input. Each event of it is answered by a line on standard output.

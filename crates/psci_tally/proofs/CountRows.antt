@@ -1,4 +1,4 @@
--- How kinds are spelled, and the counts of known records.
+-- How tallies are spelled, and the counts of known records.
 use Rattle.std.proofs.Common.{◌≡◌, [], ◌∷◌, ◌++◌, true, false, refl}
 use Rattle.std.specs.Fmt.{digits}
 use Rattle.std.specs.Prelude.{codes, flat_map, negsuc, pos}
@@ -6,9 +6,9 @@ use Rattle.psci_world_spec.specs.declared.event.Event.TheVariants as events
 use Rattle.psci_world_spec.specs.declared.said.Said.TheVariants as sayings
 use Rattle.psci_tally.specs.declared.asked.Asked.TheVariants as asked
 use Rattle.psci_tally.specs.declared.answer.Answer.TheVariants as answers
-use Rattle.psci_tally.specs.declared.table.TheConstants.{KINDS}
+use Rattle.psci_tally.specs.declared.table.TheConstants.{TALLIES}
 use Rattle.psci_tally.specs.Counts.{answer_text, asked_text, count_line, count_lines, counts_text}
-use Rattle.psci_tally.specs.Counts.{event_kind_text}
+use Rattle.psci_tally.specs.Counts.{tally_text}
 
 -- what was asked
 pub version_text : asked_text asked.Version ≡ codes "version"
@@ -128,17 +128,17 @@ unfolding digits
 none_applied_stale = refl
 
 -- what was asked comes first
-pub start_used_up : event_kind_text
+pub start_used_up : tally_text
     (record { asked = asked.CpuOn; answer = answers.Return (negsuc 5) })
     ≡ codes "cpu_on return -6"
 unfolding digits
 start_used_up = refl
 
-pub entry_enters : event_kind_text (record { asked = asked.Enter; answer = answers.Enter })
+pub entry_enters : tally_text (record { asked = asked.Enter; answer = answers.Enter })
     ≡ codes "enter enter"
 entry_enters = refl
 
--- a kind with its number, which may have several digits, and a line feed
+-- a tally with its number, which may have several digits, and a line feed
 pub line_of_none : count_line [] (record { asked = asked.Take; answer = answers.Used })
     ≡ codes "take used 0" ++ 10 ∷ []
 unfolding digits
@@ -160,7 +160,7 @@ pub line_of_ten : count_line (
 unfolding digits
 line_of_ten = refl
 
--- each kind has its own line, in the order of the kinds and not of the records
+-- each tally has its own line, in the order of the tallies and not of the records
 pub three_lines : count_lines (
     record { event = events.Wake 2; said = sayings.Ignored }
     ∷ record { event = events.Reset 2; said = sayings.Absent }
@@ -173,11 +173,11 @@ pub three_lines : count_lines (
 unfolding digits
 three_lines = refl
 
-pub no_kind : count_lines (record { event = events.Wake 2; said = sayings.Ignored } ∷ []) [] ≡ []
-no_kind = refl
+pub no_tally : count_lines (record { event = events.Wake 2; said = sayings.Ignored } ∷ []) [] ≡ []
+no_tally = refl
 
--- every kind has a line, also where no record is of it
+-- every tally has a line, also where no record is of it
 pub no_record : counts_text []
-    ≡ flat_map (λ kind. event_kind_text kind ++ (codes " 0" ++ 10 ∷ [])) KINDS
+    ≡ flat_map (λ tally. tally_text tally ++ (codes " 0" ++ 10 ∷ [])) TALLIES
 unfolding digits counts_text
 no_record = refl

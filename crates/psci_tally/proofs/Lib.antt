@@ -1,3 +1,3 @@
 mod CountRows
-mod KindRows
 mod TableRows
+mod TallyRows

@@ -1,15 +1,15 @@
--- All kinds that a legal run may have, as they are spelled.
+-- All tallies that a legal run may have, as they are spelled.
 use Rattle.std.proofs.Common.{◌≡◌, ◌==◌, [], ◌∷◌, map, true, refl}
 use Rattle.std.specs.Fmt.{digits}
 use Rattle.std.specs.Prelude.{codes}
 use Rattle.std.specs.List.{list_any}
 use Rattle.psci_tally.specs.declared.asked.Asked.{Asked}
 use Rattle.psci_tally.specs.declared.asked.Asked.TheVariants as asked
-use Rattle.psci_tally.specs.declared.table.TheConstants.{KINDS}
-use Rattle.psci_tally.specs.Counts.{event_kind_text}
-use Rattle.psci_tally.specs.Kinds.{asked_index}
+use Rattle.psci_tally.specs.declared.table.TheConstants.{TALLIES}
+use Rattle.psci_tally.specs.Counts.{tally_text}
+use Rattle.psci_tally.specs.Tallies.{asked_index}
 
-pub kinds_spelled : map event_kind_text KINDS ≡ codes "version return 65537"
+pub tallies_spelled : map tally_text TALLIES ≡ codes "version return 65537"
     ∷ codes "version stop"
     ∷ codes "version ignored"
     ∷ codes "version absent"
@@ -99,10 +99,10 @@ pub kinds_spelled : map event_kind_text KINDS ≡ codes "version return 65537"
     ∷ codes "take old"
     ∷ codes "take absent" ∷ []
 unfolding digits
-kinds_spelled = refl
+tallies_spelled = refl
 
 -- The table has a row for each thing that is asked.
-pub has_row : (a : Asked) → list_any (λ k. asked_index k.asked == asked_index a) KINDS ≡ true
+pub has_row : (a : Asked) → list_any (λ t. asked_index t.asked == asked_index a) TALLIES ≡ true
 has_row asked.Version = refl
 has_row asked.CpuSuspend = refl
 has_row asked.CpuOff = refl

@@ -1,4 +1,4 @@
--- How kinds are spelled, and the lines of counts.
+-- How tallies are spelled, and the lines of counts.
 use Rattle.std.specs.Prelude.{ℕ, List, [], ◌∷◌, ◌++◌, codes, count_by, flat_map}
 use Rattle.std.specs.Fmt.{decimal, signed_decimal}
 use Rattle.psci_world_spec.specs.psci_link.StaleText.{stale_text}
@@ -15,9 +15,9 @@ use Rattle.psci_tally.specs.declared.answer.Answer.{Answer}
 use Rattle.psci_tally.specs.declared.answer.Answer.TheVariants.{Return, Stop, Enter, Resume}
 use Rattle.psci_tally.specs.declared.answer.Answer.TheVariants.{Started, Acked, Used, Old}
 use Rattle.psci_tally.specs.declared.answer.Answer.TheVariants.{Ignored, Absent}
-use Rattle.psci_tally.specs.declared.kind.Kind.{Kind}
-use Rattle.psci_tally.specs.declared.table.TheConstants.{KINDS}
-use Rattle.psci_tally.specs.Kinds.{is_event_kind, event_kind_of}
+use Rattle.psci_tally.specs.declared.tally.Tally.{Tally}
+use Rattle.psci_tally.specs.declared.table.TheConstants.{TALLIES}
+use Rattle.psci_tally.specs.Tallies.{is_tally, tally_of}
 
 -- what was asked: the name of the function without PSCI, or the word of the event
 abbrev pub asked_text : Asked → List ℕ
@@ -53,23 +53,23 @@ answer_text Old = codes "old"
 answer_text Ignored = codes "ignored"
 answer_text Absent = codes "absent"
 
--- a kind: what was asked, a space, and what was answered
-abbrev pub event_kind_text : Kind → List ℕ
-event_kind_text k = asked_text k.asked ++ (codes " " ++ answer_text k.answer)
+-- a tally: what was asked, a space, and what was answered
+abbrev pub tally_text : Tally → List ℕ
+tally_text t = asked_text t.asked ++ (codes " " ++ answer_text t.answer)
 
--- how many of these records are of the kind
-abbrev pub count_of : List Record → Kind → ℕ
-count_of records kind = count_by (λ r. is_event_kind (event_kind_of r) kind) records
+-- how many of these records are of the tally
+abbrev pub count_of : List Record → Tally → ℕ
+count_of records tally = count_by (λ r. is_tally (tally_of r) tally) records
 
--- the line of one kind: the kind, a space, how many records are of it, and a line feed
-abbrev pub count_line : List Record → Kind → List ℕ
-count_line records kind =
-    event_kind_text kind ++ (codes " " ++ (decimal (count_of records kind) ++ 10 ∷ []))
+-- the line of one tally: the tally, a space, how many records are of it, and a line feed
+abbrev pub count_line : List Record → Tally → List ℕ
+count_line records tally =
+    tally_text tally ++ (codes " " ++ (decimal (count_of records tally) ++ 10 ∷ []))
 
--- the lines of these kinds, in this order
-abbrev pub count_lines : List Record → List Kind → List ℕ
-count_lines records kinds = flat_map (count_line records) kinds
+-- the lines of these tallies, in this order
+abbrev pub count_lines : List Record → List Tally → List ℕ
+count_lines records tallies = flat_map (count_line records) tallies
 
--- the lines of all kinds, of which each has one, also where no record is of it
+-- the lines of all tallies: each has one, also where no record is of it
 unfoldable pub counts_text : List Record → List ℕ
-counts_text records = count_lines records KINDS
+counts_text records = count_lines records TALLIES

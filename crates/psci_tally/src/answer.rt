@@ -1,7 +1,7 @@
 //! What was answered.
 
 ghost use Rattle.std.specs.Prelude.{◌≡◌};
-ghost use Rattle.psci_tally.specs.Kinds.{answer_of_act, answer_of};
+ghost use Rattle.psci_tally.specs.Tallies.{answer_of_act, answer_of};
 
 use psci_world_spec::{Act, Said, Taken};
 

@@ -1,7 +1,7 @@
 //! What was asked.
 
 ghost use Rattle.std.specs.Prelude.{◌≡◌};
-ghost use Rattle.psci_tally.specs.Kinds.{asked_in, asked_of};
+ghost use Rattle.psci_tally.specs.Tallies.{asked_in, asked_of};
 
 use psci_world_spec::{Event, Request, read};
 

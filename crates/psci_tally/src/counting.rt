@@ -1,41 +1,41 @@
-//! How many records are of a kind.
+//! How many records are of a tally.
 
 ghost use Rattle.std.specs.Prelude.{◌≡◌, OnOk};
 ghost use Rattle.std.specs.Io.KnownBytes.{Appends};
 ghost use Rattle.psci_tally.specs.Counts.{count_lines, count_of, counts_text};
 
-use crate::kind::Kind;
-use crate::table::KINDS;
+use crate::table::TALLIES;
+use crate::tally::Tally;
 use psci_world_spec::Record;
 use std::io::{self, Write};
 
-/// The number of records of this kind.
-pub fn tally(records: &[Record], kind: Kind) -> u64
-    ensures { result ≡ count_of records.now kind }
+/// The number of records of this tally.
+pub fn count(records: &[Record], tally: Tally) -> u64
+    ensures { result ≡ count_of records.now tally }
 {
     records
         .iter()
-        .filter(|record| Kind::of(record).is(kind))
+        .filter(|record| Tally::of(record).is(tally))
         .count() as u64
 }
 
-/// Writes a line for each kind of `KINDS`, in that order: the kind, and how many of these records
-/// are of it.
+/// Writes a line for each of `TALLIES`, in that order: the tally, and how many of these records are
+/// of it.
 #[tactic(auto, unfolding(crate::specs::Counts::counts_text))]
 pub fn write_counts<W: Write>(to: &mut W, records: &[Record]) -> io::Result<()>
     ensures { OnOk result (Appends (W.contents to.old) (W.contents to.new)
         (counts_text records.now)) }
 {
-    write_lines(to, records, &KINDS)
+    write_lines(to, records, &TALLIES)
 }
 
-/// Writes the lines of these kinds.
-fn write_lines<W: Write>(to: &mut W, records: &[Record], kinds: &[Kind]) -> io::Result<()>
+/// Writes the lines of these tallies.
+fn write_lines<W: Write>(to: &mut W, records: &[Record], tallies: &[Tally]) -> io::Result<()>
     ensures { OnOk result (Appends (W.contents to.old) (W.contents to.new)
-        (count_lines records.now kinds.now)) }
+        (count_lines records.now tallies.now)) }
 {
-    for kind in kinds {
-        writeln!(to, "{kind} {}", tally(records, *kind))?;
+    for tally in tallies {
+        writeln!(to, "{tally} {}", count(records, *tally))?;
     }
     Ok(())
 }

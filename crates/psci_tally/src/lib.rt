@@ -1,19 +1,19 @@
-//! What came of a run: how often each kind of event got each kind of answer.
+//! What came of a run: how often each thing that was asked got each answer.
 //!
-//! - A *kind* is what was asked, without its arguments, and what was answered, without numbers that
+//! - A *tally* is what was asked, without its arguments, with what was answered, without numbers that
 //!   only name something.
-//! - The *tally* of a kind is the number of records of it.
+//! - The *count* of a tally is the number of its records.
 #![tactic(auto)]
 
 mod answer;
 mod asked;
 mod counting;
-mod kind;
 mod table;
+mod tally;
 mod text;
 
 pub use answer::Answer;
 pub use asked::Asked;
-pub use counting::{tally, write_counts};
-pub use kind::Kind;
-pub use table::KINDS;
+pub use counting::{count, write_counts};
+pub use table::TALLIES;
+pub use tally::Tally;

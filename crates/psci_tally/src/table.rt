@@ -1,22 +1,22 @@
-//! All kinds that a legal run may have.
+//! All tallies that a legal run may have.
 
 use crate::answer::Answer::{
     Absent, Acked, Enter, Ignored, Old, Resume, Return, Started, Stop, Used,
 };
 use crate::asked::Asked;
-use crate::kind::Kind;
+use crate::tally::Tally;
 
-/// The kinds of a table, which has a row for each thing that is asked, with what may be answered.
-macro_rules! kinds {
+/// The tallies of a table, which has a row for each thing that is asked, with what may be answered.
+macro_rules! tallies {
     ($($asked:ident: $($answer:expr),+;)+) => {
-        [$($(Kind { asked: Asked::$asked, answer: $answer }),+),+]
+        [$($(Tally { asked: Asked::$asked, answer: $answer }),+),+]
     };
 }
 
-/// All kinds that a legal run may have, in a fixed order. In a halting life a core stops, whatever
+/// All tallies that a legal run may have, in a fixed order. In a halting life a core stops, whatever
 /// it calls. On a board of height 1 or 2 no message has the fourth part that the last
 /// acknowledgements speak of.
-pub const KINDS: [Kind; 89] = kinds! {
+pub const TALLIES: [Tally; 89] = tallies! {
     Version: Return(65537), Stop, Ignored, Absent;
     CpuSuspend: Return(0), Return(-2), Return(-3), Return(-9), Stop, Ignored, Absent;
     CpuOff: Stop, Ignored, Absent;

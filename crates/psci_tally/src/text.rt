@@ -1,8 +1,8 @@
-//! How kinds are spelled.
+//! How tallies are spelled.
 
 use crate::answer::Answer;
 use crate::asked::Asked;
-use crate::kind::Kind;
+use crate::tally::Tally;
 use std::fmt;
 
 impl fmt::Display for Asked {
@@ -64,11 +64,11 @@ impl fmt::Display for Answer {
     }
 }
 
-impl fmt::Display for Kind {
+impl fmt::Display for Tally {
     ghost use Rattle.std.specs.Prelude.{Some};
-    ghost use Rattle.psci_tally.specs.Counts.{event_kind_text};
+    ghost use Rattle.psci_tally.specs.Counts.{tally_text};
 
-    ghost output = { λ kind. Some (event_kind_text kind) };
+    ghost output = { λ tally. Some (tally_text tally) };
 
     fn fmt<W: fmt::Write>(&self, f: &mut fmt::Formatter<W>) -> fmt::Result {
         write!(f, "{} {}", self.asked, self.answer)

@@ -2,7 +2,7 @@
 
 use psci_board::{Board, Node};
 use psci_storm::{Settled, Storm, blow, storm};
-use psci_tally::{Answer, KINDS, Kind, tally};
+use psci_tally::{Answer, TALLIES, Tally, count};
 use psci_world::World;
 use std::process::Abort;
 use std::test::Fail;
@@ -56,11 +56,11 @@ fn worlds(rt: &(impl Abort + AllocGlobal), text: &str, seeds: u64) -> Result<Vec
     Ok(worlds)
 }
 
-/// How many records of these worlds are of this kind.
-fn tally_all(worlds: &[World], kind: Kind) -> u64 {
+/// How many records of these worlds are of this tally.
+fn count_all(worlds: &[World], tally: Tally) -> u64 {
     let mut total: u64 = 0;
     for world in worlds {
-        total = total.saturating_add(tally(world.records(), kind));
+        total = total.saturating_add(count(world.records(), tally));
     }
     total
 }
@@ -87,18 +87,18 @@ fn no_event_is_drawn(rt: HostRuntime) -> Result<(), Fail> {
 }
 
 #[test]
-fn storms_settle_and_have_all_kinds(rt: HostRuntime) -> Result<(), Fail> {
+fn storms_settle_and_have_all_tallies(rt: HostRuntime) -> Result<(), Fail> {
     assert_eq!(rt; worlds(&rt, STANDARD, 20)?.len(), 20);
     assert_eq!(rt; worlds(&rt, EVEN, 5)?.len(), 5);
     let low = worlds(&rt, BOARD, 20)?;
     let high = worlds(&rt, TALL, 5)?;
     let mut all: u64 = 0;
-    for kind in KINDS {
-        let some = tally_all(low.as_slice(), kind);
-        assert_eq!(rt; some == 0, is_tall(kind.answer), "{kind:?}");
+    for tally in TALLIES {
+        let some = count_all(low.as_slice(), tally);
+        assert_eq!(rt; some == 0, is_tall(tally.answer), "{tally:?}");
         assert!(rt;
-            some > 0 || tally_all(high.as_slice(), kind) > 0,
-            "{kind:?}"
+            some > 0 || count_all(high.as_slice(), tally) > 0,
+            "{tally:?}"
         );
         all = all.saturating_add(some);
     }

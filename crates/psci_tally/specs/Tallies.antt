@@ -1,4 +1,4 @@
--- Of which kind a record is: what was asked, and what was answered.
+-- Of which tally a record is: what was asked, with what was answered.
 use Rattle.std.specs.Prelude.{ℕ, Bool, true, false, ◌&&◌, ◌==◌, if◌then◌else◌, not}
 use Rattle.std.specs.Ordering.{int_eq}
 use Rattle.psci_world_spec.specs.psci_abi.Calls.{request_of}
@@ -25,7 +25,7 @@ use Rattle.psci_tally.specs.declared.answer.Answer.{Answer}
 use Rattle.psci_tally.specs.declared.answer.Answer.TheVariants.{Return, Stop, Enter, Resume}
 use Rattle.psci_tally.specs.declared.answer.Answer.TheVariants.{Started, Acked, Used, Old}
 use Rattle.psci_tally.specs.declared.answer.Answer.TheVariants.{Ignored, Absent}
-use Rattle.psci_tally.specs.declared.kind.Kind.{Kind}
+use Rattle.psci_tally.specs.declared.tally.Tally.{Tally}
 
 -- the function of a request
 abbrev pub asked_in : Request → Asked
@@ -73,9 +73,9 @@ answer_of (sayings.Taken t) = answer_taken t
 answer_of sayings.Ignored = Ignored
 answer_of sayings.Absent = Absent
 
--- the kind of a record
-abbrev pub event_kind_of : Record → Kind
-event_kind_of r = record { asked = asked_of r.event; answer = answer_of r.said }
+-- the tally of a record
+abbrev pub tally_of : Record → Tally
+tally_of r = record { asked = asked_of r.event; answer = answer_of r.said }
 
 -- which of the sorts it is, in their order
 abbrev pub asked_index : Asked → ℕ
@@ -112,6 +112,6 @@ is_answer Ignored Ignored = true
 is_answer Absent Absent = true
 is_answer a b = false
 
--- both are the same kind
-abbrev pub is_event_kind : Kind → Kind → Bool
-is_event_kind k l = asked_index k.asked == asked_index l.asked && is_answer k.answer l.answer
+-- both are the same tally
+abbrev pub is_tally : Tally → Tally → Bool
+is_tally t u = asked_index t.asked == asked_index u.asked && is_answer t.answer u.answer

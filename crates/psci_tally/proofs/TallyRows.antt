@@ -1,4 +1,4 @@
--- Of which kind known records are.
+-- Of which tally known records are.
 use Rattle.std.proofs.Common.{◌≡◌, ℕ, true, false, [], ◌∷◌, None, refl}
 use Rattle.std.specs.Prelude.{count_by, negsuc}
 use Rattle.psci_world_spec.specs.psci_abi.Codes.{denied}
@@ -11,7 +11,7 @@ use Rattle.psci_world_spec.specs.declared.event.Event.TheVariants as events
 use Rattle.psci_world_spec.specs.declared.said.Said.TheVariants as sayings
 use Rattle.psci_tally.specs.declared.asked.Asked.TheVariants as asked
 use Rattle.psci_tally.specs.declared.answer.Answer.TheVariants as answers
-use Rattle.psci_tally.specs.Kinds.{answer_of, asked_of, is_event_kind, event_kind_of}
+use Rattle.psci_tally.specs.Tallies.{answer_of, asked_of, is_tally, tally_of}
 
 -- registers with this function word
 abbrev call : ℕ → Regs
@@ -118,27 +118,27 @@ ignored = refl
 pub absent : answer_of sayings.Absent ≡ answers.Absent
 absent = refl
 
--- kinds differ in what was asked, and in what was answered
-pub same : is_event_kind (record { asked = asked.CpuOn; answer = answers.Return (negsuc 1) })
+-- tallies differ in what was asked, and in what was answered
+pub same : is_tally (record { asked = asked.CpuOn; answer = answers.Return (negsuc 1) })
     (record { asked = asked.CpuOn; answer = answers.Return (negsuc 1) }) ≡ true
 same = refl
 
-pub asked_otherwise : is_event_kind (record { asked = asked.CpuOn; answer = answers.Stop })
+pub asked_otherwise : is_tally (record { asked = asked.CpuOn; answer = answers.Stop })
     (record { asked = asked.CpuOff; answer = answers.Stop }) ≡ false
 asked_otherwise = refl
 
-pub another_code : is_event_kind
+pub another_code : is_tally
     (record { asked = asked.CpuOn; answer = answers.Return (negsuc 1) })
     (record { asked = asked.CpuOn; answer = answers.Return (negsuc 2) }) ≡ false
 another_code = refl
 
-pub stale_otherwise : is_event_kind
+pub stale_otherwise : is_tally
     (record { asked = asked.Deliver; answer = answers.Acked 1 true })
     (record { asked = asked.Deliver; answer = answers.Acked 1 false }) ≡ false
 stale_otherwise = refl
 
--- two of three records are of the kind
-pub counted : count_by (λ r. is_event_kind (event_kind_of r)
+-- two of three records are of the tally
+pub counted : count_by (λ r. is_tally (tally_of r)
     (record { asked = asked.Wake; answer = answers.Ignored }))
     (record { event = events.Wake 1; said = sayings.Ignored }
     ∷ record { event = events.Wake 9; said = sayings.Absent }
