@@ -24,4 +24,6 @@ pub mod Safety
 pub mod Slept
 pub mod Sound
 pub mod TakingUp
+pub mod ToldOff
+mod ToldOffRows
 pub mod Waiting

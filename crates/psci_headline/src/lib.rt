@@ -2,11 +2,13 @@
 //! are those of `psci_safe`; here are the laws, and the facts that carry them.
 #![tactic(auto)]
 
+mod affinity;
 mod laws;
 mod live;
 mod openings;
 mod powered_down;
 
+pub use affinity::law_told_off;
 pub use laws::law_safe;
 pub use live::{law_asked_claims, law_claimed_depths, law_live_claims, law_none_executes};
 pub use openings::law_one_entry;
