@@ -1,5 +1,6 @@
 pub mod Allowing
 pub mod Arriving
+pub mod BrokenRows
 pub mod Calls
 pub mod ClaimRows
 pub mod Claiming

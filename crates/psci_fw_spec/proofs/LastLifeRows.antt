@@ -45,7 +45,8 @@ limit_of_another_core : AreAnswered (record one_cluster { starts = 2 })
     ∷ system_suspend 1 0x40000200 9 ⇒ stops 1 3 1 (part 0 3 1 ∷ part 1 3 3 ∷ [])
     ∷ enter_wake 1 3 2 ⇒ goes_to 0x40000200 9
     ∷ system_suspend 1 0x40000200 9 ⇒ error 3
-    ∷ suspend 1 0x1 0 0 ⇒ value 0 ∷ [])
+    ∷ suspend 1 0x1 0 0 ⇒ value 0
+    ∷ system_reset2 1 0 0 ⇒ stops_by Reset 1 3 2 [] ∷ [])
 unfolding computing
 limit_of_another_core = record { history = refl; values = refl }
 

@@ -27,6 +27,8 @@ mod LopsidedValueRows
 mod MessageNames
 mod ModeRows
 mod Modes
+mod NamedRows
+mod NamingRows
 mod OffRows
 mod OneMore
 mod OpeningsSay

@@ -35,6 +35,20 @@ plain_calls : AreAnswered lopsided
 unfolding computing
 plain_calls = record { history = refl; values = refl }
 
+-- core 3 sets no mode while core 0 is suspended, light or deep
+modes_beside_the_boot_core : AreAnswered lopsided
+    (enter_boot 0 2 1 ⇒ boots
+    ∷ on 0x10000 0x40006000 2 ⇒ starts 3 2 0
+    ∷ enter_on 3 2 2 ⇒ goes_to 0x40006000 2
+    ∷ suspend 0 0x1 0 0 ⇒ stops 0 2 1 (part 0 1 1 ∷ [])
+    ∷ set_mode 3 1 ⇒ error 3
+    ∷ enter_wake 0 2 2 ⇒ resumes
+    ∷ set_mode 3 1 ⇒ value 0
+    ∷ suspend 0 0x00010003 0x40000100 5 ⇒ stops 0 2 2 (part 0 3 2 ∷ [])
+    ∷ set_mode 3 0 ⇒ error 3 ∷ [])
+unfolding computing
+modes_beside_the_boot_core = record { history = refl; values = refl }
+
 -- CPU_ON and AFFINITY_INFO ---------------------------------------------------------------------
 
 -- of a core that runs, that is pending, of the caller itself, and of no core
@@ -81,7 +95,8 @@ asked_beside_sleeping : AreAnswered lopsided
     ∷ on_by 2 0x0 0x40001000 6 ⇒ starts 0 2 3
     ∷ affinity_by 2 0x0 1 ⇒ value 2
     ∷ enter_on 0 2 4 ⇒ goes_to 0x40001000 6
-    ∷ system_reset 2 ⇒ stops_by Reset 2 2 1 [] ∷ [])
+    ∷ system_reset 2 ⇒ stops_by Reset 2 2 1 []
+    ∷ migrate_info_type 0 ⇒ stops_still ∷ [])
 unfolding computing
 asked_beside_sleeping = record { history = refl; values = refl }
 
@@ -130,6 +145,26 @@ suspended_last : AreAnswered lopsided
     ∷ enter_wake 2 2 5 ⇒ stops_still ∷ [])
 unfolding computing
 suspended_last = record { history = refl; values = refl }
+
+-- CPU_OFF -------------------------------------------------------------------------------------
+
+-- core 1 goes off beside core 0, which was suspended deep with their cluster, and in OS-initiated
+-- mode beside core 0 in standby
+off_beside_sleeping : AreAnswered lopsided
+    (enter_boot 0 2 1 ⇒ boots
+    ∷ on 0x1 0x40005000 8 ⇒ starts 1 2 0
+    ∷ enter_on 1 2 1 ⇒ goes_to 0x40005000 8
+    ∷ suspend 0 0x01010033 0x40000100 5 ⇒ stops 0 2 1 (part 0 3 1 ∷ [])
+    ∷ off 1 ⇒ stops 1 2 1 (part 0 3 1 ∷ part 1 3 2 ∷ [])
+    ∷ take_down 1 2 1 2 ⇒ used
+    ∷ enter_wake 0 2 2 ⇒ goes_to 0x40000100 5
+    ∷ on 0x1 0x40005000 8 ⇒ starts 1 2 1
+    ∷ enter_on 1 2 2 ⇒ goes_to 0x40005000 8
+    ∷ set_mode 1 1 ⇒ value 0
+    ∷ suspend 0 0x1 0 0 ⇒ stops 0 2 2 (part 0 1 2 ∷ [])
+    ∷ off 1 ⇒ stops 1 2 2 (part 0 3 2 ∷ []) ∷ [])
+unfolding computing
+off_beside_sleeping = record { history = refl; values = refl }
 
 -- SYSTEM_SUSPEND ------------------------------------------------------------------------------
 

@@ -1,15 +1,18 @@
 -- Worked examples: the values after calls of cores 2 and 3 of an uneven board of three levels, in
 -- life 2, in both modes.
-use Rattle.std.proofs.Common.{◌∷◌, List, None, Some, [], false, refl, true}
+use Rattle.std.proofs.Common.{◌≡◌, ◌==◌, ◌++◌, ◌∷◌, List, None, Some, [], false, refl}
+use Rattle.std.proofs.Common.{if◌then◌else◌, true}
+use Rattle.psci_board.specs.declared.node.Node.{Node}
 use Rattle.psci_link.specs.declared.kind.Kind.TheVariants as kinds
 use Rattle.psci_fw_spec.specs.declared.mode.SuspendMode.TheVariants.{OsInitiated, Platform}
 use Rattle.psci_fw_spec.specs.declared.status.Status.TheVariants as statuses
+use Rattle.psci_fw_spec.specs.AffinityInfo.{node_status}
 use Rattle.psci_fw_spec.specs.Phases.{Away, Running, Suspended}
 use Rattle.psci_fw_spec.specs.Phases as phases
 use Rattle.psci_fw_spec.proofs.Lopsided.{SaysOn, lopsided}
 use Rattle.psci_fw_spec.proofs.Steps.{Step, computing, enter_boot, enter_on, enter_reset}
 use Rattle.psci_fw_spec.proofs.Steps.{enter_wake, message, off, on, on_by, part, set_mode, suspend}
-use Rattle.psci_fw_spec.proofs.Steps.{system_off, take_down, version}
+use Rattle.psci_fw_spec.proofs.Steps.{system_off, system_suspend, take_down, version}
 use Rattle.psci_fw_spec.proofs.ValueRows.{Shown, down, to_opening}
 
 -- life 2 begins after a life with another mode and other known starts; core 2 runs in it
@@ -99,3 +102,51 @@ lopsided_off : SaysOn lopsided
     })
 unfolding computing
 lopsided_off = record { history = refl; kept = refl }
+
+-- core 0 goes off, and core 3 suspends the system: all four levels are granted power-down
+abbrev all_down : List Step
+all_down = enter_boot 0 2 1 ∷ on 0x10000 0x40006000 2 ∷ enter_on 3 2 2 ∷ off 0 ∷ take_down 0 2 1 1
+    ∷ system_suspend 3 0x40000200 9 ∷ []
+
+abbrev lopsided_asleep : Shown
+lopsided_asleep = record two_of_lopsided {
+  known = 1 ∷ 0 ∷ 0 ∷ 2 ∷ 0 ∷ [];
+  status = statuses.Off ∷ statuses.Off ∷ statuses.Off ∷ statuses.On ∷ statuses.Off ∷ [];
+  phase = Away ∷ Away ∷ Away ∷ Suspended (3 ∷ 3 ∷ 3 ∷ 3 ∷ []) ∷ Away ∷ [];
+  opening = None ∷ None ∷ None ∷ to_opening 0x40000200 9 ∷ None ∷ [];
+  granted = (3 ∷ 3 ∷ 3 ∷ 3 ∷ 0 ∷ []) ∷ (3 ∷ 3 ∷ 3 ∷ []) ∷ (3 ∷ 3 ∷ []) ∷ (3 ∷ []) ∷ [];
+  outstanding = down 0 2 1 (part 0 3 1 ∷ part 1 3 1 ∷ part 2 3 1 ∷ []) ∷ None ∷ None
+      ∷ down 3 2 2 (part 0 3 2 ∷ part 1 3 2 ∷ part 2 3 2 ∷ part 3 3 3 ∷ []) ∷ None ∷ None ∷ [];
+}
+
+lopsided_down : SaysOn lopsided all_down lopsided_asleep
+unfolding computing
+lopsided_down = record { history = refl; kept = refl }
+
+-- it was woken: nothing on its path is granted, up to the system
+lopsided_woken : SaysOn lopsided (all_down ++ (enter_wake 3 2 3 ∷ []))
+    (record lopsided_asleep {
+      known = 1 ∷ 0 ∷ 0 ∷ 3 ∷ 0 ∷ [];
+      phase = Away ∷ Away ∷ Away ∷ Running ∷ Away ∷ [];
+      opening = two_of_lopsided.opening;
+      granted = (3 ∷ 3 ∷ 3 ∷ 0 ∷ 0 ∷ []) ∷ (3 ∷ 3 ∷ 0 ∷ []) ∷ (3 ∷ 0 ∷ []) ∷ (0 ∷ []) ∷ [];
+      outstanding = down 0 2 1 (part 0 3 1 ∷ part 1 3 1 ∷ part 2 3 1 ∷ []) ∷ None ∷ None ∷ None
+          ∷ None ∷ None ∷ [];
+    })
+unfolding computing
+lopsided_woken = record { history = refl; kept = refl }
+
+-- Statuses of the system ----------------------------------------------------------------------
+
+-- the status of a board of three levels where no core is ON
+abbrev system : Node
+system = record { level = 3; place = 0 }
+
+system_off_whole : node_status lopsided (λ c. statuses.Off) system ≡ statuses.Off
+unfolding computing
+system_off_whole = refl
+
+system_on_pending : node_status lopsided
+    (λ c. if c == 3 then statuses.Pending else statuses.Off) system ≡ statuses.Pending
+unfolding computing
+system_on_pending = refl

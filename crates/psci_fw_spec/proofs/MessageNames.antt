@@ -1,4 +1,4 @@
--- What the message of a function and of a park names, and that none is sent in a halting life.
+-- What the message of a function and of a park names.
 use Rattle.std.proofs.Common.{◌≡◌, ℕ, Bool, true, false, cond, Option, None, Some, refl}
 use Rattle.std.proofs.Common.{subst}
 use Rattle.psci_abi.specs.declared.request.Request.{Request}
@@ -24,18 +24,6 @@ use Rattle.psci_fw_spec.proofs.Arrivals.{at_itself, begun}
 use Rattle.psci_fw_spec.proofs.Endings.{on_ends, outcome_ends, reset2_ends, suspend_ends}
 use Rattle.psci_fw_spec.proofs.Endings.{system_ends}
 use Rattle.psci_fw_spec.proofs.Targets.{started_core}
-
--- Halting lives -------------------------------------------------------------------------------
-
-pub calls_stop : (b : BoardValue) (v : Values) (c : ℕ) (r : Request) → v.halting ≡ true
-    → outcome_of b v c r ≡ stops
-unfolding outcome_of
-calls_stop b v c r halts = rw halts refl
-
-pub entries_stop : (b : BoardValue) (v : Values) (c : ℕ) (s : Start)
-    → (in_life b s.life v).halting ≡ true → enter_outcome b v c s ≡ stops
-unfolding enter_outcome
-entries_stop b v c s halts = rw halts refl
 
 -- Functions -----------------------------------------------------------------------------------
 

@@ -1,9 +1,13 @@
 -- A halting life: a core stops, and nothing is sent.
-use Rattle.psci_fw_spec.proofs.MessageNames.{calls_stop, entries_stop}
+use Rattle.std.proofs.Common.{refl}
+use Rattle.psci_fw_spec.specs.Calls.{outcome_of}
+use Rattle.psci_fw_spec.specs.Entering.{enter_outcome}
 use Rattle.psci_fw_spec.proofs.answers.law_halting_life.Goals as goal
 
 pub returns-clause-calls : goal.returns-clause-calls
-returns-clause-calls c = calls_stop
+unfolding outcome_of
+returns-clause-calls c b v k r halts = rw halts refl
 
 pub returns-clause-enters : goal.returns-clause-enters
-returns-clause-enters c = entries_stop
+unfolding enter_outcome
+returns-clause-enters c b v k s halts = rw halts refl

@@ -1,0 +1,98 @@
+-- Worked examples: no core is special. One run is told of the cores of two clusters of one shape, and
+-- it is answered in the same way whichever cores they are: with the clusters swapped, and with the
+-- cores of a cluster swapped. The boot core stands in a cluster by itself.
+use Rattle.std.proofs.Common.{ℕ, ◌+◌, ◌*◌, ◌/◌, ◌%◌, List, [], ◌∷◌, false, refl}
+use Rattle.psci_board.specs.Board.{BoardValue}
+use Rattle.psci_link.specs.declared.kind.Kind.TheVariants.{Reset}
+use Rattle.psci_fw_spec.proofs.Lopsided.{affinity_by}
+use Rattle.psci_fw_spec.proofs.Steps.{◌⇒◌, AreAnswered, Row, board, boots, computing, enter_boot}
+use Rattle.psci_fw_spec.proofs.Steps.{enter_on, enter_reset, enter_wake, error, goes_to, off, on}
+use Rattle.psci_fw_spec.proofs.Steps.{on_by, part, resumes, set_mode, starts, stops, stops_by}
+use Rattle.psci_fw_spec.proofs.Steps.{stops_still, suspend, system_reset, system_reset2, take}
+use Rattle.psci_fw_spec.proofs.Steps.{take_down, used, value}
+
+-- core 0; cores 1 and 2; cores 3 and 4
+abbrev twins : BoardValue
+twins = record board { levels = (1 ∷ 2 ∷ 2 ∷ []) ∷ (3 ∷ []) ∷ [] }
+
+-- the affinity words of cores 1 to 4: 0x100, 0x101, 0x200, 0x201
+abbrev word : ℕ → ℕ
+word c = (c + 1) / 2 * 0x100 + (c + 1) % 2
+
+-- In platform-coordinated mode: cores a and b of one cluster, core x of the other one.
+abbrev coordinated : ℕ → ℕ → ℕ → List Row
+coordinated a b x =
+    enter_boot 0 2 1 ⇒ boots
+    ∷ on (word a) 0x40001000 1 ⇒ starts a 2 0
+    ∷ on (word b) 0x40002000 2 ⇒ starts b 2 0
+    ∷ enter_on a 2 2 ⇒ goes_to 0x40001000 1
+    ∷ on_by a (word b) 0x40002000 2 ⇒ error 5
+    ∷ affinity_by a (word b) 1 ⇒ value 0
+    ∷ enter_on b 2 3 ⇒ goes_to 0x40002000 2
+    ∷ on_by b (word x) 0x40003000 3 ⇒ starts x 2 0
+    ∷ affinity_by b (word x) 1 ⇒ value 2
+    ∷ suspend a 0x01000022 0 0 ⇒ stops a 2 2 (part 0 2 2 ∷ [])
+    ∷ suspend b 0x01010033 0x40004000 4 ⇒ stops b 2 3 (part 0 3 3 ∷ part 1 2 5 ∷ [])
+    ∷ take_down b 2 3 2 ⇒ used
+    ∷ enter_wake a 2 3 ⇒ resumes
+    ∷ set_mode a 1 ⇒ error 3
+    ∷ enter_reset b 2 5 ⇒ goes_to 0x40004000 4
+    ∷ off b ⇒ stops b 2 5 (part 0 3 5 ∷ [])
+    ∷ off a ⇒ stops a 2 3 (part 0 3 3 ∷ part 1 3 8 ∷ []) ∷ []
+
+coordinated_1_2 : AreAnswered twins (coordinated 1 2 3)
+unfolding computing
+coordinated_1_2 = record { history = refl; values = refl }
+
+coordinated_3_4 : AreAnswered twins (coordinated 3 4 1)
+unfolding computing
+coordinated_3_4 = record { history = refl; values = refl }
+
+coordinated_2_1 : AreAnswered twins (coordinated 2 1 3)
+unfolding computing
+coordinated_2_1 = record { history = refl; values = refl }
+
+coordinated_4_3 : AreAnswered twins (coordinated 4 3 2)
+unfolding computing
+coordinated_4_3 = record { history = refl; values = refl }
+
+-- In OS-initiated mode, and to the end of the life.
+abbrev initiated : ℕ → ℕ → ℕ → List Row
+initiated a b x =
+    enter_boot 0 2 1 ⇒ boots
+    ∷ on (word a) 0x40001000 1 ⇒ starts a 2 0
+    ∷ enter_on a 2 2 ⇒ goes_to 0x40001000 1
+    ∷ set_mode a 1 ⇒ value 0
+    ∷ on_by a (word x) 0x40003000 3 ⇒ starts x 2 0
+    ∷ enter_on x 2 1 ⇒ goes_to 0x40003000 3
+    ∷ on_by x (word b) 0x40002000 2 ⇒ starts b 2 0
+    ∷ suspend a 0x01000011 0 0 ⇒ error 3
+    ∷ enter_on b 2 5 ⇒ goes_to 0x40002000 2
+    ∷ off x ⇒ stops x 2 1 (part 0 3 1 ∷ part 1 3 1 ∷ [])
+    ∷ take_down x 2 1 1 ⇒ used
+    ∷ affinity_by b (word x) 0 ⇒ value 1
+    ∷ suspend b 0x2 0 0 ⇒ stops b 2 5 (part 0 2 5 ∷ [])
+    ∷ suspend a 0x01010033 0x40005000 5 ⇒ error 2
+    ∷ enter_reset b 2 6 ⇒ stops b 2 6 (part 0 3 6 ∷ [])
+    ∷ suspend a 0x01010033 0x40005000 5 ⇒ stops a 2 2 (part 0 3 2 ∷ part 1 3 8 ∷ [])
+    ∷ enter_wake a 2 3 ⇒ goes_to 0x40005000 5
+    ∷ system_reset2 a 1 0 ⇒ error 2
+    ∷ system_reset a ⇒ stops_by Reset a 2 3 []
+    ∷ take Reset a 2 3 1 false ⇒ used
+    ∷ enter_wake b 2 7 ⇒ stops_still ∷ []
+
+initiated_1_2 : AreAnswered twins (initiated 1 2 4)
+unfolding computing
+initiated_1_2 = record { history = refl; values = refl }
+
+initiated_3_4 : AreAnswered twins (initiated 3 4 2)
+unfolding computing
+initiated_3_4 = record { history = refl; values = refl }
+
+initiated_2_1 : AreAnswered twins (initiated 2 1 4)
+unfolding computing
+initiated_2_1 = record { history = refl; values = refl }
+
+initiated_4_3 : AreAnswered twins (initiated 4 3 1)
+unfolding computing
+initiated_4_3 = record { history = refl; values = refl }
