@@ -214,7 +214,7 @@ system_suspended_beside_pending = record { history = refl; values = refl }
 
 -- a core parks that was never on, that ran, that was in retention and was reset, and that was woken
 -- after a start that was passed over
-parked : AreAnswered lopsided
+cores_parked : AreAnswered lopsided
     (enter_boot 0 2 1 ⇒ boots
     ∷ on 0x100 0x40002000 1 ⇒ starts 2 2 0
     ∷ enter_on 2 2 1 ⇒ goes_to 0x40002000 1
@@ -237,13 +237,13 @@ parked : AreAnswered lopsided
     ∷ enter_wake 2 1 9 ⇒ refused OldStart
     ∷ enter_wake 4 2 1 ⇒ refused NoCore ∷ [])
 unfolding computing
-parked = record { history = refl; values = refl }
+cores_parked = record { history = refl; values = refl }
 
 -- Acknowledgements ----------------------------------------------------------------------------
 
 -- of a Start, of a Down of a suspended core, and of a Down of which nothing was applied; those of
 -- another life, number or core are old
-acknowledged : AreAnswered lopsided
+messages_acknowledged : AreAnswered lopsided
     (enter_boot 0 2 1 ⇒ boots
     ∷ on 0x100 0x40002000 1 ⇒ starts 2 2 0
     ∷ enter_on 2 2 1 ⇒ goes_to 0x40002000 1
@@ -264,4 +264,4 @@ acknowledged : AreAnswered lopsided
     ∷ affinity_by 0 0x100 0 ⇒ value 0
     ∷ take_down 2 2 2 2 ⇒ old ∷ [])
 unfolding computing
-acknowledged = record { history = refl; values = refl }
+messages_acknowledged = record { history = refl; values = refl }

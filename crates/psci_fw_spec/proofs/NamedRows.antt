@@ -18,8 +18,8 @@ abbrev three : Core
 three = record { number = 3 }
 
 -- core 2 goes off in life 3; no core has entered in it
-named : IsNamed board (start_of_life board 3) 2 CpuOff (message Down 2 3 0 [])
-named = record { kind = refl; core = refl; life = refl; number = refl }
+down_is_named : IsNamed board (start_of_life board 3) 2 CpuOff (message Down 2 3 0 [])
+down_is_named = record { kind = refl; core = refl; life = refl; number = refl }
 
 -- another kind, core, life and number
 other_kind : IsNamed board (start_of_life board 3) 2 CpuOff (message Off 2 3 0 []) → ⊥
