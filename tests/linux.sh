@@ -5,7 +5,7 @@
 # each stored run that is compressed, unpacked first
 stored_runs() {
     local file name
-    for file in examples/linux/*.psci.xz; do
+    for file in examples/linux/*.psci.xz hosts/qemu/logs/*.psci.xz; do
         has_xz "$file" || continue
         name=$work/$(basename "${file%.psci.xz}")
         xz -dc "$file" > "$name.psci"
