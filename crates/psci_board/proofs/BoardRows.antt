@@ -1,6 +1,6 @@
 -- What is no board and no node, and what may not be answered for a text.
-use Rattle.std.proofs.Common.{◌≡◌, ℕ, ◌∷◌, [], refl, ap, arith}
-use Rattle.std.specs.Prelude.{Result, Ok, Err, Some, None, map}
+use Rattle.std.proofs.Common.{◌≡◌, ℕ, ◌∷◌, [], ◌++◌, refl, ap, arith}
+use Rattle.std.specs.Prelude.{Result, Ok, Err, Some, None, map, replicate}
 use Rattle.psci_board.specs.declared.fault.BoardFault.{BoardFault}
 use Rattle.psci_board.specs.declared.fault.BoardFault.TheVariants.{Grammar, Uneven, Memory}
 use Rattle.psci_board.specs.Board.{BoardValue, IsBoard, HasNode, core_at, nodes}
@@ -21,7 +21,9 @@ four_levels h = let high = h.high in absurd (omega arith)
 pub levels_apart : IsBoard (board ((2 ∷ 2 ∷ []) ∷ (3 ∷ []) ∷ [])) → ⊥
 levels_apart h = let nodes = h.tree.0 in absurd (omega arith)
 
-pub too_many_cores : IsBoard (board ((16 ∷ 16 ∷ 16 ∷ 16 ∷ 1 ∷ []) ∷ (5 ∷ []) ∷ [])) → ⊥
+-- sixteen clusters of 16 cores in one group, and one more core
+pub too_many_cores : IsBoard (board ((replicate 16 16 ++ 1 ∷ []) ∷ (16 ∷ 1 ∷ []) ∷ (2 ∷ []) ∷ []))
+    → ⊥
 too_many_cores h = let few = h.tree.1 in absurd (omega arith)
 
 pub no_life : IsBoard (record uneven { lives = 0 }) → ⊥

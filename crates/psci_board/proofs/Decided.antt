@@ -6,6 +6,7 @@ use Rattle.std.specs.Prelude.{◌&&◌, not, ◌==◌}
 use Rattle.std.specs.Str.Parse.{digits_value}
 use Rattle.std.proofs.lemmas.Bool.Decides.{nat_tests}
 use Rattle.std.proofs.lemmas.List.{take_all}
+use Rattle.psci_board.specs.declared.limits.TheConstants.{MOST_CORES}
 use Rattle.psci_board.specs.declared.range.AddressRange.{AddressRange}
 use Rattle.psci_board.specs.declared.fault.BoardFault.{BoardFault}
 use Rattle.psci_board.specs.declared.fault.BoardFault.TheVariants.{Uneven, TooWide, TooManyCores}
@@ -55,7 +56,7 @@ is_board t v said =
     let d = passed _ BadRange _ v c.1 in
     let e = passed _ BadBoot _ v d.1 in
     let f = passed _ BadLimit _ v e.1 in
-    let few : sum (clusters t.tree) ≤ 64 = within 64 _ c.0 in
+    let few : sum (clusters t.tree) ≤ MOST_CORES = within MOST_CORES _ c.0 in
     let limits = both_true _ _ (not_false _ f.0) in
     let starts = limited (2 ^ 32 - 1) t.starts limits.0 in
     let lives = limited 65535 t.lives limits.1 in
@@ -114,7 +115,7 @@ decided_by t full =
     next _ _ BadBoot _ _ _
     (ap (λ qs. not (boot % 4 == 0 && is_in_some qs boot)) (sym (all_ranges rs r))) (λ b.
     next _ _ BadLimit _ _ _ refl (λ l.
-    ap Ok (same_board boot t.starts t.lives (sym (levels_kept t.tree full w (within 64 _ f)))
+    ap Ok (same_board boot t.starts t.lives (sym (levels_kept t.tree full w (within MOST_CORES _ f)))
     (sym (all_ranges rs r)))))))))
 
 same_kept : {a b : TreeSummaryValue} {c d : RangesSummaryValue} (boot starts lives : ℕ) → a ≡ b

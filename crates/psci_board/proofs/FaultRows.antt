@@ -1,5 +1,5 @@
 -- The first fault of texts that have several at once, and texts at each limit and one beside it.
-use Rattle.std.proofs.Common.{◌≡◌, List, ◌∷◌, [], refl}
+use Rattle.std.proofs.Common.{◌≡◌, List, ◌∷◌, [], ◌++◌, refl}
 use Rattle.std.specs.Prelude.{ℕ, codes, map, replicate}
 use Rattle.psci_board.specs.declared.fault.BoardFault.{BoardFault}
 use Rattle.psci_board.specs.declared.fault.BoardFault.TheVariants.{Grammar, Uneven, TooWide}
@@ -10,6 +10,7 @@ use Rattle.psci_board.specs.Reading.{range_at, at_most}
 use Rattle.psci_board.specs.Reading.{more_at, list_at, member_at, tree_at, board_text}
 use Rattle.psci_board.specs.Verdict.{board_of, verdict}
 use Rattle.psci_board.proofs.VerdictRows.{fault_in, with_tree, with_ranges, with_limits}
+use Rattle.psci_board.proofs.VerdictRows.{widest_list}
 
 -- Order -----------------------------------------------------------------------------------------
 
@@ -18,10 +19,10 @@ first_faults texts = map (λ text. fault_in (board_of text)) texts
 
 -- each fault with all those that are looked for after it
 pub all_at_once : first_faults (
-    codes "(65 (17) exec 0x10-0x10 boot 0x1 starts 0 lives 0" ∷
-    codes "(65 (17)) exec 0x10-0x10 boot 0x1 starts 0 lives 0" ∷
-    codes "65 exec 0x10-0x10 boot 0x1 starts 0 lives 0" ∷
-    codes "(16 16 16 16 16) exec 0x10-0x10 boot 0x1 starts 0 lives 0" ∷
+    codes "(257 (17) exec 0x10-0x10 boot 0x1 starts 0 lives 0" ∷
+    codes "(257 (17)) exec 0x10-0x10 boot 0x1 starts 0 lives 0" ∷
+    codes "257 exec 0x10-0x10 boot 0x1 starts 0 lives 0" ∷
+    (codes "(" ++ (widest_list ++ codes " (1)) exec 0x10-0x10 boot 0x1 starts 0 lives 0")) ∷
     codes "16 exec 0x10-0x10 boot 0x1 starts 0 lives 0" ∷
     codes "16 exec 0x0-0x10 boot 0x1 starts 0 lives 0" ∷
     codes "16 exec 0x0-0x10 boot 0x0 starts 0 lives 0" ∷
@@ -35,8 +36,9 @@ all_at_once = refl
 pub neighbours : first_faults (
     codes "(1 (1) exec 0x0-0x10 boot 0x0 starts 1 lives 1" ∷
     codes "(17 (1)) exec 0x0-0x10 boot 0x0 starts 1 lives 1" ∷
-    codes "(16 16 16 17) exec 0x0-0x10 boot 0x0 starts 1 lives 1" ∷
-    codes "(16 16 16 16 16) exec 0x10-0x10 0x0-0x10 boot 0x0 starts 1 lives 1" ∷
+    (codes "(16 16 16 16 16 16 16 16 16 16 16 16 16 16 16 17)"
+    ++ codes " exec 0x0-0x10 boot 0x0 starts 1 lives 1") ∷
+    (codes "(" ++ (widest_list ++ codes " (1)) exec 0x10-0x10 0x0-0x10 boot 0x0 starts 1 lives 1")) ∷
     codes "16 exec 0x10-0x10 0x0-0x10 boot 0x1 starts 1 lives 1" ∷
     codes "16 exec 0x0-0x10 boot 0x1 starts 0 lives 1" ∷
     codes "16 exec 0x0-0x10 boot 0x1 starts 1 lives 0" ∷
@@ -48,7 +50,7 @@ neighbours = refl
 
 -- Limits ----------------------------------------------------------------------------------------
 
--- 16 members of each list, 16 cores of a cluster, 64 cores
+-- 16 members of each list, 16 cores of a cluster, 255 and 256 cores
 pub widest : with_tree (
     codes "15" ∷
     codes "16" ∷
@@ -56,10 +58,10 @@ pub widest : with_tree (
     codes "(4 4 4 4 4 4 4 4 4 4 4 4 4 4 4 4)" ∷
     codes "((1) (1) (1) (1) (1) (1) (1) (1) (1) (1) (1) (1) (1) (1) (1) (1))" ∷
     codes "((1 1 1 1 1 1 1 1 1 1 1 1 1 1 1 1))" ∷
-    codes "(16 16 16 15)" ∷
-    codes "(16 16 16 16)" ∷
-    codes "((16) (16) (16) (16))" ∷
-    codes "((16 16 16 16))" ∷
+    codes "(16 16 16 16 16 16 16 16 16 16 16 16 16 16 16 15)" ∷
+    widest_list ∷
+    codes "((16 16 16 16) (16 16 16 16) (16 16 16 16) (16 16 16 16))" ∷
+    (codes "(" ++ (widest_list ++ codes ")")) ∷
     []) ≡ replicate 10 []
 unfolding board_of verdict board_text tree_at member_at list_at more_at at_most spaced_at
     range_at hex_at number_at literal_at
@@ -79,12 +81,12 @@ unfolding board_of verdict board_text tree_at member_at list_at more_at at_most 
     range_at hex_at number_at literal_at
 one_wider = refl
 
--- 65 cores, and more than 64 by as much as there can be
+-- 257 cores, and more than 256 by as much as two groups can have
 pub one_core_more : with_tree (
-    codes "(4 4 4 4 4 4 4 4 4 4 4 4 4 4 4 5)" ∷
-    codes "((16) (16) (16) (16 1))" ∷
-    codes "((1 16 16 16) (16))" ∷
-    codes "(16 16 16 16 16 16 16 16 16 16 16 16 16 16 16 16)" ∷
+    codes "((16 16 16 16) (16 16 16 16) (16 16 16 16) (16 16 16 16 1))" ∷
+    (codes "((1) " ++ (widest_list ++ codes ")")) ∷
+    (codes "(" ++ (widest_list ++ codes " (1))")) ∷
+    (codes "(" ++ (widest_list ++ (codes " " ++ (widest_list ++ codes ")")))) ∷
     []) ≡ replicate 4 (TooManyCores ∷ [])
 unfolding board_of verdict board_text tree_at member_at list_at more_at at_most spaced_at
     range_at hex_at number_at literal_at

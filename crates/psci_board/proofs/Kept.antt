@@ -9,6 +9,7 @@ use Rattle.std.proofs.lemmas.List.{map-append, append-nil, length-map}
 use Rattle.std.proofs.lemmas.List.Folds.{list_any-append}
 use Rattle.std.proofs.lemmas.List.Sums.{sum_by-append}
 use Rattle.std.proofs.lemmas.Grind.{flat_map-append}
+use Rattle.psci_board.specs.declared.limits.TheConstants.{MOST_CORES}
 use Rattle.psci_board.specs.declared.range.AddressRange.{AddressRange}
 use Rattle.psci_board.specs.Grammar.{Member}
 use Rattle.psci_board.specs.Grammar.Member.{Cluster, Group}
@@ -30,8 +31,8 @@ capped n = min n 17
 
 abbrev pub kept_numbers : List ℕ → NumbersSummaryValue
 kept_numbers ns = record {
-  first = take 64 (map capped ns);
-  total = min (sum ns) 65;
+  first = take MOST_CORES (map capped ns);
+  total = min (sum ns) (MOST_CORES + 1);
   bad_width = list_any is_out_of_width ns;
 }
 
@@ -48,8 +49,8 @@ pub kept_number : (ns : List ℕ) (n : ℕ)
     → with_number (kept_numbers ns) n ≡ kept_numbers (ns ++ n ∷ [])
 kept_number ns n =
     same_numbers
-    (take_more 64 (map capped ns) (capped n ∷ [])
-    ∙ ap (take 64) (sym (map-append capped ns (n ∷ []))))
+    (take_more MOST_CORES (map capped ns) (capped n ∷ [])
+    ∙ ap (take MOST_CORES) (sym (map-append capped ns (n ∷ []))))
     (omega (arith, sum_by-append (λ x. x) ns (n ∷ [])))
     (sym (list_any-append is_out_of_width ns (n ∷ [])
     ∙ ap (λ b. list_any is_out_of_width ns || b) (or_false (is_out_of_width n))))

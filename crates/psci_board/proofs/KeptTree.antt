@@ -1,5 +1,5 @@
 -- What is kept of a tree decides what is said of it, and is the tree where no fault is said.
-use Rattle.std.proofs.Common.{◌≡◌, ℕ, ◌<◌, ◌≤◌, Bool, true, false, cond, min, List, [], ◌∷◌, length}
+use Rattle.std.proofs.Common.{◌≡◌, ℕ, ◌+◌, ◌<◌, ◌≤◌, Bool, true, false, cond, min, List, [], ◌∷◌, length}
 use Rattle.std.proofs.Common.{take, map, sum, refl, ap, sym, ◌∙◌, arith, lit<, lit≤}
 use Rattle.std.specs.Prelude.{◌||◌, ◌&&◌, nat_lt, ◌==◌, flat_map}
 use Rattle.std.specs.List.{list_any, list_all, AllPass}
@@ -7,6 +7,7 @@ use Rattle.std.proofs.lemmas.Bool.Decides.{nat_tests}
 use Rattle.std.proofs.lemmas.List.{take_all, length-map}
 use Rattle.std.proofs.lemmas.List.Sums.{sum_by-cons, sum-map, AllPass-from_list_all}
 use Rattle.std.proofs.lemmas.List.Concat.{length-flat_map}
+use Rattle.psci_board.specs.declared.limits.TheConstants.{MOST_CORES}
 use Rattle.psci_board.specs.Grammar.{Member, TreeText}
 use Rattle.psci_board.specs.Grammar.Member.{Cluster, Group}
 use Rattle.psci_board.specs.Grammar.TreeText.{One, Members}
@@ -70,9 +71,9 @@ fewer_than_sum (n ∷ ns) h =
 pub within : (most n : ℕ) → nat_lt most n ≡ false → n ≤ most
 within most n h = grind (arith, nat_tests)
 
-pub kept_whole : (ns : List ℕ) → list_any is_out_of_width ns ≡ false → sum ns ≤ 64
-    → take 64 (map capped ns) ≡ ns
-kept_whole ns h few = rw (all_capped ns h) (take_all 64 ns (omega (arith, fewer_than_sum ns h)))
+pub kept_whole : (ns : List ℕ) → list_any is_out_of_width ns ≡ false → sum ns ≤ MOST_CORES
+    → take MOST_CORES (map capped ns) ≡ ns
+kept_whole ns h few = rw (all_capped ns h) (take_all MOST_CORES ns (omega (arith, fewer_than_sum ns h)))
 
 any_size : (ms : List Member)
     → list_any is_out_of_width (map size ms) ≡ list_any (λ m. is_out_of_width (size m)) ms
@@ -152,12 +153,12 @@ pub wide_kept : (t : TreeText) → IsFull t
 wide_kept (One n) full = refl
 wide_kept (Members ms) full = wide_by ms full (list_any is_group ms) refl
 
-few_kept : (n : ℕ) → nat_lt 64 n ≡ nat_lt 64 (min n 65)
-few_kept n = same_tests (nat_lt 64 n) (nat_lt 64 (min n 65)) (λ h. grind (arith, nat_tests))
+few_kept : (n : ℕ) → nat_lt MOST_CORES n ≡ nat_lt MOST_CORES (min n (MOST_CORES + 1))
+few_kept n = same_tests (nat_lt MOST_CORES n) (nat_lt MOST_CORES (min n (MOST_CORES + 1))) (λ h. grind (arith, nat_tests))
     (λ h. grind (arith, nat_tests))
 
 pub total_kept : (t : TreeText)
-    → nat_lt 64 (sum (clusters t)) ≡ nat_lt 64 (kept_tree t).numbers.total
+    → nat_lt MOST_CORES (sum (clusters t)) ≡ nat_lt MOST_CORES (kept_tree t).numbers.total
 total_kept (One n) = few_kept (sum (n ∷ []))
 total_kept (Members ms) = few_kept (sum (flat_map numbers_in ms))
 
@@ -199,7 +200,7 @@ two_levels p q = cc
 
 levels_kept_by : (ms : List Member) → 0 < length ms → (g : Bool) → list_any is_group ms ≡ g
     → Narrow ms
-    → sum (flat_map numbers_in ms) ≤ 64
+    → sum (flat_map numbers_in ms) ≤ MOST_CORES
     → summary_levels (record (kept_members ms) { has_group = g }) ≡ levels_by g ms
 levels_kept_by ms some true e h few = three_levels (kept_whole (flat_map numbers_in ms) h.flat few)
     (whole_sizes ms h) (member_count ms h)
@@ -207,7 +208,7 @@ levels_kept_by ms some false e h few =
     rw (has_cluster ms some e)
     (two_levels (kept_whole (flat_map numbers_in ms) h.flat few) (member_count ms h))
 
-pub levels_kept : (t : TreeText) → IsFull t → is_too_wide t ≡ false → sum (clusters t) ≤ 64
+pub levels_kept : (t : TreeText) → IsFull t → is_too_wide t ≡ false → sum (clusters t) ≤ MOST_CORES
     → summary_levels (kept_tree t) ≡ levels_of t
 levels_kept (One n) full wide few =
     ap (λ m. (m ∷ []) ∷ []) (cap_same n (left_false _ _ (left_false _ _ wide)))
@@ -229,7 +230,7 @@ one_level n h =
     (refl, omega (arith, sum_by-cons (λ x. x) n []), pass_width (n ∷ []) h, tt)
 
 tree_by : (ms : List Member) (g : Bool) → list_any is_group ms ≡ g → Narrow ms
-    → sum (flat_map numbers_in ms) ≤ 64 → IsTree (levels_by g ms)
+    → sum (flat_map numbers_in ms) ≤ MOST_CORES → IsTree (levels_by g ms)
 tree_by ms true e h few =
     let flat = flat_map numbers_in ms in
     let parts : length flat ≡ sum (map size ms) =
@@ -251,7 +252,7 @@ tree_by ms false e h few = (
   one_level (length ms) h.outer,
 )
 
-pub is_tree : (t : TreeText) → is_too_wide t ≡ false → sum (clusters t) ≤ 64 → IsTree (levels_of t)
+pub is_tree : (t : TreeText) → is_too_wide t ≡ false → sum (clusters t) ≤ MOST_CORES → IsTree (levels_of t)
 is_tree (One n) wide few = one_level n (left_false _ _ wide)
 is_tree (Members ms) wide few = tree_by ms (list_any is_group ms) refl
     (narrow ms (list_any is_group ms) refl wide) few

@@ -9,6 +9,7 @@ pub mod Fronts
 pub mod Groups
 pub mod Kept
 pub mod KeptTree
+pub mod LargestRows
 pub mod Levels
 pub mod More
 pub mod Named

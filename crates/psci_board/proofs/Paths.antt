@@ -7,6 +7,7 @@ use Rattle.std.proofs.lemmas.Bool.{cases_lt}
 use Rattle.std.proofs.lemmas.List.FromFn.{fill_by_all}
 use Rattle.std.proofs.lemmas.Option.{get_or_from_slice_get}
 use Rattle.std.proofs.Math.Seq.{drop-length}
+use Rattle.psci_board.specs.declared.limits.TheConstants.{MOST_CORES}
 use Rattle.psci_board.specs.declared.node.Node.{Node}
 use Rattle.psci_board.specs.Board.{BoardValue, IsBoard, IsTree, size_below, group_of, place_above}
 use Rattle.psci_board.specs.Board.{nodes_up, path, height, up}
@@ -95,7 +96,7 @@ some (w ∷ ws) t =
     let one : 0 < length w = omega (arith, t.0, some ws t.3) in
     (stands_at w 0 0 0 one (width w 0 t.2 one).some refl).inside
 
-most : (ws : List (List ℕ)) → IsTree ws → size_below ws ≤ 64
+most : (ws : List (List ℕ)) → IsTree ws → size_below ws ≤ MOST_CORES
 most [] t = omega arith
 most (w ∷ ws) t = t.1
 

@@ -4,6 +4,7 @@ use Rattle.std.proofs.Common.{Option, Some, None, Result, Ok, Err, refl, ap, sym
 use Rattle.std.specs.Prelude.{◌||◌, ◌&&◌, not, nat_lt, ◌==◌, codes, option_map, option_and_then}
 use Rattle.std.specs.Prelude.{IsOk, IsErrAnd}
 use Rattle.std.proofs.lemmas.Option.{cond_some, option_and_then_some, same_Some}
+use Rattle.psci_board.specs.declared.limits.TheConstants.{MOST_CORES}
 use Rattle.psci_board.specs.declared.fault.BoardFault.{BoardFault}
 use Rattle.psci_board.specs.declared.fault.BoardFault.TheVariants.{Grammar, Uneven, TooWide}
 use Rattle.psci_board.specs.declared.fault.BoardFault.TheVariants.{TooManyCores, BadRange, BadBoot}
@@ -148,7 +149,7 @@ unfolding fault_in
 never_memory s h =
     no_memory (s.tree.has_group && s.tree.has_cluster) (s.tree.numbers.bad_width
     || s.tree.bad_width)
-    (nat_lt 64 s.tree.numbers.total) s.ranges.faulty
+    (nat_lt MOST_CORES s.tree.numbers.total) s.ranges.faulty
     (not (s.boot % 4 == 0 && is_in_some s.ranges.first s.boot))
     (not (is_limit (2 ^ 32 - 1) s.starts && is_limit 65535 s.lives)) h
 

@@ -15,6 +15,10 @@ abbrev pub fault_in : Result BoardValue BoardFault → List BoardFault
 fault_in (Ok b) = []
 fault_in (Err f) = f ∷ []
 
+-- sixteen clusters of sixteen cores: the most of each that a list may have
+abbrev pub widest_list : List ℕ
+widest_list = codes "(16 16 16 16 16 16 16 16 16 16 16 16 16 16 16 16)"
+
 -- the faults of the texts that begin and end so, from left to right
 abbrev pub faults : List ℕ → List ℕ → List (List ℕ) → List (List BoardFault)
 faults front end texts = map (λ text. fault_in (board_of (front ++ (text ++ end)))) texts
@@ -65,7 +69,7 @@ pub uneven : with_tree (
     codes "(2 (2))" ∷
     codes "((2) 2)" ∷
     codes "(0 (17))" ∷
-    codes "(16 16 16 16 (16))" ∷
+    (codes "(" ++ (widest_list ++ codes " 1)")) ∷
     []) ≡ replicate 4 (Uneven ∷ [])
 unfolding board_of verdict board_text tree_at member_at list_at more_at at_most spaced_at
     range_at hex_at number_at literal_at
@@ -80,7 +84,7 @@ pub wide : with_tree (
     codes "(2 17)" ∷
     codes "((2) (0))" ∷
     codes "((1 1 1 1 1 1 1 1 1 1 1 1 1 1 1 1 1))" ∷
-    codes "(16 16 16 16 17)" ∷
+    codes "(16 16 16 16 16 16 16 16 16 16 16 16 16 16 16 17)" ∷
     codes "(1 1 1 1 1 1 1 1 1 1 1 1 1 1 1 1 1)" ∷
     codes "((1) (1) (1) (1) (1) (1) (1) (1) (1) (1) (1) (1) (1) (1) (1) (1) (1))" ∷
     []) ≡ replicate 10 (TooWide ∷ [])
@@ -89,8 +93,8 @@ unfolding board_of verdict board_text tree_at member_at list_at more_at at_most 
 wide = refl
 
 pub many : with_tree (
-    codes "(16 16 16 16 1)" ∷
-    codes "((16 16 16 16) (1))" ∷
+    (codes "(" ++ (widest_list ++ codes " (1))")) ∷
+    (codes "(" ++ (widest_list ++ (codes " " ++ (widest_list ++ codes ")")))) ∷
     []) ≡ replicate 2 (TooManyCores ∷ [])
 unfolding board_of verdict board_text tree_at member_at list_at more_at at_most spaced_at
     range_at hex_at number_at literal_at

@@ -14,8 +14,8 @@ use Rattle.psci_board.specs.Verdict.{is_out_of_width, range_of}
 
 -- What is kept of the numbers of a tree.
 pub record NumbersSummaryValue : Type 0 where
-  pub first : List ℕ  -- the first 64, each above 16 as 17
-  pub total : ℕ  -- their sum, or 65
+  pub first : List ℕ  -- the first 256, each above 16 as 17
+  pub total : ℕ  -- their sum, or 257
   pub bad_width : Bool  -- some number is no width of a node
 
 -- of no number

@@ -58,7 +58,7 @@ impl Board {
         self.levels.len() as u32
     }
 
-    /// How many cores there are, 1 to 64.
+    /// How many cores there are, 1 to 256.
     pub fn cores(&self) -> u16
         ensures cores { result ≡ cores self.now }
         ensures board { IsBoard self.now }

@@ -31,7 +31,7 @@ pub enum BoardFault {
     Uneven,
     #[error("a node has no child or more than 16")]
     TooWide,
-    #[error("there are more than 64 cores")]
+    #[error("there are more than 256 cores")]
     TooManyCores,
     #[error("there are more than four ranges, or one is empty")]
     BadRange,

@@ -10,7 +10,7 @@ pub const MOST_ON_PATH: usize = MOST_LEVELS + 1;
 pub const MOST_CHILDREN: usize = 16;
 
 /// How many cores a board has, at most.
-pub const MOST_CORES: usize = 64;
+pub const MOST_CORES: usize = 256;
 
 /// How many ranges of executable memory a board has, at most.
 pub const MOST_RANGES: usize = 4;

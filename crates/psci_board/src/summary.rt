@@ -8,9 +8,9 @@ use std::marker::Model;
 /// The numbers of a tree, as far as a board may have them.
 #[derive(Drop)]
 pub struct NumbersSummary {
-    /// The first 64, each above 16 as 17.
+    /// The first 256, each above 16 as 17.
     first: ArrayVec<u16, MOST_CORES>,
-    /// Their sum, or 65.
+    /// Their sum, or 257.
     total: u64,
     /// One is 0 or above 16.
     bad_width: bool,
@@ -148,7 +148,7 @@ impl TreeSummary {
         self.numbers.bad_width || self.bad_width
     }
 
-    /// Whether there are more than 64 cores.
+    /// Whether there are more than 256 cores.
     pub fn has_too_many(&self) -> bool
         ensures { result ≡ nat_lt MOST_CORES self.now.numbers.total }
     {

@@ -6,7 +6,7 @@ ghost use Rattle.psci_board.specs.Board.{BoardValue, IsBoard, IsTree};
 ghost use Rattle.psci_board.specs.Laws.{SizeLaws, PathLaws, ChildLaws, ParentLaws, SpanLaws};
 ghost use Rattle.psci_board.specs.Laws.{WordLaws};
 
-/// Each level has 1 to 64 nodes, and that of the system has one.
+/// Each level has 1 to 256 nodes, and that of the system has one.
 pub fn law_sizes()
     ensures { (b : BoardValue) → IsBoard b → SizeLaws b }
 {}

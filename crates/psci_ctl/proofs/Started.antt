@@ -3,6 +3,7 @@ use Rattle.std.proofs.Common.{◌≡◌, ℕ, ◌+◌, ◌<◌, ◌≤◌, ◌^�
 use Rattle.std.proofs.Common.{length, replicate, Option, refl, ap, sym, ◌∙◌, arith, inl, inr}
 use Rattle.std.proofs.Math.ListN.{set}
 use Rattle.std.proofs.lemmas.Bool.{cases_eq, eq-eqb, ne_eqb}
+use Rattle.psci_board.specs.declared.limits.TheConstants.{MOST_CORES}
 use Rattle.psci_board.specs.declared.node.Node.{Node}
 use Rattle.psci_board.specs.Board.{BoardValue, cores, height}
 use Rattle.psci_link.specs.declared.start.Cause.{Cause}
@@ -96,7 +97,7 @@ started_sums b cs old new c cause laws inside h before rows = record {
 
 -- no sum of starts is too large for one more
 pub room : (b : BoardValue) (cs : List CoreRow) (ds : List (List DomainRow)) (l p : ℕ) → SumLaws b
-    → cores b ≤ 64 → ((k : ℕ) → (core_row cs k).starts < 2 ^ 32) → HasSums b cs ds → l ≤ height b
+    → cores b ≤ MOST_CORES → ((k : ℕ) → (core_row cs k).starts < 2 ^ 32) → HasSums b cs ds → l ≤ height b
     → (domain_at ds l p).starts + 1 < 2 ^ 64
 room b cs ds l p laws few small has low =
     let n : Node = record { level = l; place = p } in

@@ -134,6 +134,30 @@ first_core : first_fault board (slice_set down 3 0) ≡ None
 unfolding first_fault fault_of_kind
 first_core = refl
 
+-- core 255, on boards of 255 and of 256 cores in sixteen clusters
+abbrev sixteen_clusters : List ℕ → BoardValue
+sixteen_clusters sizes = record board { levels = sizes ∷ (16 ∷ []) ∷ [] }
+
+core_254_of_255 : first_fault (sixteen_clusters (replicate 15 16 ++ 15 ∷ [])) (slice_set down 3 254)
+    ≡ None
+unfolding first_fault fault_of_kind
+core_254_of_255 = refl
+
+core_255_of_255 : first_fault (sixteen_clusters (replicate 15 16 ++ 15 ∷ [])) (slice_set down 3 255)
+    ≡ Some faults.Core
+unfolding first_fault fault_of_kind
+core_255_of_255 = refl
+
+core_255_of_256 : first_fault (sixteen_clusters (replicate 16 16)) (slice_set down 3 255) ≡ None
+unfolding first_fault fault_of_kind
+core_255_of_256 = refl
+
+core_255_acknowledged : first_fault (sixteen_clusters (replicate 16 16))
+    (slice_set acknowledged 3 255)
+    ≡ None
+unfolding first_fault fault_of_kind
+core_255_acknowledged = refl
+
 core_before_depth : first_fault board (slice_set (slice_set down 3 4) 14 4) ≡ Some faults.Core
 unfolding first_fault fault_of_kind
 core_before_depth = refl

@@ -1,6 +1,6 @@
 -- How frames are spelled, and what bytes hold: known frames, and which bytes each field has.
 use Rattle.std.proofs.Common.{◌≡◌, [], ◌∷◌, refl}
-use Rattle.std.specs.Prelude.{true, false, replicate}
+use Rattle.std.specs.Prelude.{true, false, replicate, slice_set}
 use Rattle.psci_link.specs.declared.kind.Kind.TheVariants.{Down, Start, Off, Reset}
 use Rattle.psci_link.specs.declared.frame.Frame.{Frame}
 use Rattle.psci_link.specs.declared.frame.Frame.TheVariants.{Message, Ack}
@@ -55,6 +55,31 @@ start_spelled : frame_bytes (Ack (record {
 })) ≡ 0x50 ∷ 0x44 ∷ 0x22 ∷ 63 ∷ 0 ∷ 0 ∷ 1 ∷ 2 ∷ 3 ∷ 4 ∷ 5 ∷ 6 ∷ 0 ∷ replicate 40 0
 unfolding part_fields
 start_spelled = refl
+
+-- the last of 256 cores goes down with its cluster
+last_core_spelled : frame_bytes (Message (record {
+  kind = Down;
+  core = record { number = 255 };
+  life = 1;
+  number = 1;
+  parts = record { level = 0; depth = 3; generation = 1 }
+      ∷ record { level = 1; depth = 3; generation = 1 } ∷ [];
+})) ≡ slice_set down 3 0xff
+unfolding part_fields
+last_core_spelled = refl
+
+last_core_held : frame_in (headings.Ack Start true)
+    (0x50 ∷ 0x44 ∷ 0x22 ∷ 0xff ∷ replicate 49 0)
+    ≡ Ack (record {
+      kind = Start;
+      core = record { number = 255 };
+      life = 0;
+      number = 0;
+      applied = 0;
+      stale = true;
+    })
+unfolding frame_in
+last_core_held = refl
 
 -- level, depth and generation, the highest byte first
 part_spelled : part_bytes (record { level = 2; depth = 1; generation = 0x0102030405060708 })

@@ -1,4 +1,5 @@
 pub mod Claims
+mod CoreBytes
 pub mod FaultRows
 mod FrameRows
 pub mod Frames

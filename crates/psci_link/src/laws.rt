@@ -1,7 +1,9 @@
 //! What holds of frames, and of outstanding messages over every history.
 
 ghost use Rattle.std.specs.Prelude.{◌≡◌, ℕ, List, ◌∷◌, None, Some, true, length};
-ghost use Rattle.psci_board.specs.Board.{BoardValue};
+ghost use Rattle.psci_board.specs.declared.limits.TheConstants.{MOST_CORES};
+ghost use Rattle.psci_board.specs.Board.{BoardValue, cores};
+ghost use Rattle.psci_link.specs.declared.fault.FrameFault.TheVariants.{Core};
 ghost use Rattle.psci_link.specs.declared.frame.Frame.{Frame};
 ghost use Rattle.psci_link.specs.Frame.{AreBytes, IsFrame, IsOf, frame_bytes, first_fault};
 ghost use Rattle.psci_link.specs.Message.{MessageValue, AreClaims, PartByPart};
@@ -18,6 +20,9 @@ pub fn law_frames()
         → first_fault b (frame_bytes f) ≡ None }
     ensures read { (b : BoardValue) (bytes : List ℕ) → AreBytes bytes → first_fault b bytes ≡ None
         → (f : Frame) × IsFrame f × IsOf b f × (frame_bytes f ≡ bytes) }
+    // On a board of 256 cores there is one for each value of the core byte.
+    ensures core { (b : BoardValue) (bytes : List ℕ) → AreBytes bytes → cores b ≡ MOST_CORES
+        → first_fault b bytes ≡ Some Core → ⊥ }
 {}
 
 /// A list of parts is a claim exactly where each of its parts is as it should be.

@@ -9,6 +9,7 @@ use Rattle.std.proofs.lemmas.List.{drop_at, take_at, drop_more, drop_all}
 use Rattle.std.proofs.lemmas.List.Concat.{flat_map-append, flat_map_single, length-flat_map}
 use Rattle.std.proofs.lemmas.List.Sums.{sum-map}
 use Rattle.std.proofs.lemmas.List.Elements.{All-take}
+use Rattle.psci_board.specs.declared.limits.TheConstants.{MOST_CORES}
 use Rattle.psci_board.specs.declared.node.Node.{Node}
 use Rattle.psci_board.specs.Board.{IsTree, HasNodeIn, size_below, is_width}
 use Rattle.psci_board.specs.Board.{below_in, first_core, span}
@@ -245,6 +246,6 @@ states_at n t at k d laws i h same in' e is =
     ∙ ap (λ x. take (span t.levels at).count (drop (span t.levels at).first x)) (sym same)
     ∙ sym (states_slice t at laws (ap length same ∙ length_cores n t.levels i h) in')
 
-pub size_few : (levels : List (List ℕ)) → IsTree levels → size_below levels ≤ 64
+pub size_few : (levels : List (List ℕ)) → IsTree levels → size_below levels ≤ MOST_CORES
 size_few [] t = omega arith
 size_few (w ∷ ws) t = t.1

@@ -1,4 +1,5 @@
 -- Each clause is a law of frames.
+use Rattle.psci_link.proofs.CoreBytes.{each-is-a-core}
 use Rattle.psci_link.proofs.Frames.{length-spelling, one-frame, spelled-faultless, frame-read}
 use Rattle.psci_link.proofs.laws.law_frames.Goals as goal
 
@@ -13,3 +14,6 @@ returns-clause-spelled c = spelled-faultless
 
 pub returns-clause-read : goal.returns-clause-read
 returns-clause-read c = frame-read
+
+pub returns-clause-core : goal.returns-clause-core
+returns-clause-core c = each-is-a-core

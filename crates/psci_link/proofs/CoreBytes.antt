@@ -1,0 +1,47 @@
+-- On a board of 256 cores each value of a byte is the number of a core.
+use Rattle.std.proofs.Common.{◌≡◌, ℕ, ◌<◌, Bool, true, false, not, List, length, Option, Some, None}
+use Rattle.std.proofs.Common.{refl, arith}
+use Rattle.std.specs.Prelude.{if◌then◌else◌, ◌==◌, ◌&&◌, nat_lt, slice_index}
+use Rattle.std.proofs.lemmas.Bool.{lt-ltb}
+use Rattle.std.proofs.lemmas.Option.{same_Some}
+use Rattle.psci_board.specs.declared.limits.TheConstants.{MOST_CORES}
+use Rattle.psci_board.specs.Board.{BoardValue, cores}
+use Rattle.psci_link.specs.declared.fault.FrameFault.{FrameFault}
+use Rattle.psci_link.specs.declared.fault.FrameFault.TheVariants as faults
+use Rattle.psci_link.specs.declared.heading.Heading.{Heading}
+use Rattle.psci_link.specs.Heading.{is_magic, heading_of}
+use Rattle.psci_link.specs.Frame.{AreBytes, fault_at, fault_of_kind, first_fault}
+
+-- another fault is said first, and this one by none of the tests after it
+other : (t : Bool) (e : FrameFault) (rest : Option FrameFault) → (e ≡ faults.Core → ⊥)
+    → (rest ≡ Some faults.Core → ⊥) → (if not t then Some e else rest) ≡ Some faults.Core → ⊥
+other true e rest now later said = later said
+other false e rest now later said = now (same_Some e faults.Core said)
+
+-- the test passes, and no test after it says this fault
+passing : (t : Bool) (e : FrameFault) (rest : Option FrameFault) → t ≡ true
+    → (rest ≡ Some faults.Core → ⊥) → (if not t then Some e else rest) ≡ Some faults.Core → ⊥
+passing true e rest holds later said = later said
+passing false e rest holds later said = cc
+
+-- bytes of this kind, where the board has the core
+of_kind : (b : BoardValue) (bytes : List ℕ) (h : Heading) → slice_index bytes 3 < cores b
+    → fault_of_kind b bytes h ≡ Some faults.Core → ⊥
+unfolding fault_of_kind
+of_kind b bytes h there =
+    other _ faults.Count _ (λ e. cc) (other _ faults.Unused _ (λ e. cc)
+    (passing _ faults.Core _ (lt-ltb (slice_index bytes 3) (cores b) there)
+    (other _ faults.Depth _ (λ e. cc) (other _ faults.Level _ (λ e. cc) (λ e. cc)))))
+
+of_heading : (b : BoardValue) (bytes : List ℕ) (h : Option Heading) → slice_index bytes 3 < cores b
+    → fault_at b bytes h ≡ Some faults.Core → ⊥
+of_heading b bytes None there said = cc
+of_heading b bytes (Some h) there said = of_kind b bytes h there said
+
+pub each-is-a-core : (b : BoardValue) (bytes : List ℕ) → AreBytes bytes → cores b ≡ MOST_CORES
+    → first_fault b bytes ≡ Some faults.Core → ⊥
+unfolding first_fault
+each-is-a-core b bytes are all =
+    let there : slice_index bytes 3 < cores b = omega (arith, all, are 3) in
+    other _ faults.Length _ (λ e. cc) (other _ faults.Magic _ (λ e. cc)
+    (of_heading b bytes (heading_of (slice_index bytes 2)) there))
