@@ -31,7 +31,7 @@ class Board:
         faults = [
             (2, len({member[0] == "(" for member in members}) > 1),
             (3, any(it < 1 or it > 16 for it in sizes + lists)),
-            (4, sum(sizes) > 64),
+            (4, sum(sizes) > 256),
             (5, len(self.ranges) > 4 or any(first >= end for first, end in self.ranges)),
             (6, not self.may_enter(self.boot)),
             (7, not (1 <= self.starts < 2**32 and 1 <= self.lives < 2**16)),

@@ -34,8 +34,9 @@ class Draw(random.Random):
         group = lambda: some(cluster, self.choice((1, 2, 3)))
         either = lambda: self.choice((cluster, group))()
         kind, many = self.randrange(24), rarely(self.choice((1, 2, 2, 3, 4)), 16, 17)
-        tree = (cluster() if kind < 5 else some(cluster, many) if kind < 14
-                else some(group, many) if kind < 23 else some(either, many))
+        tree = (cluster() if kind < 5 else some(cluster, many) if kind < 13
+                else some(group, many) if kind < 22 else some(either, many) if kind < 23
+                else self.large())
         ends = lambda: self.choice(((0, 4), (0x10, 0x20), (0x40000000, 0x40100000),
                                     (0x10, 2**64 - 1), rarely((0, 8), (4, 4), (8, 4))))
         ranges = [ends() for _ in range(rarely(self.choice((1, 1, 2, 4)), 5))]
@@ -48,6 +49,16 @@ class Draw(random.Random):
         spelled = lambda it: self.choice((f"{it:#x}", f"0x{it:X}", f"0x{it:016x}"))
         pairs = " ".join(f"{spelled(first)}-{spelled(end)}" for first, end in ranges)
         return f"{tree} exec {pairs} boot {spelled(boot)} starts {starts} lives {lives}"
+
+    def large(self):
+        """A tree of as many cores as a board may have, or one fewer, or one more."""
+        some = lambda *sizes: f"({' '.join(map(str, sizes))})"
+        last = self.choice((16, 16, 16, 15, 17))
+        fours = [some(16, 16, 16, 16)] * 3
+        return self.choice((
+            some(*[16] * 15, last), some(*fours, some(16, 16, 16, last)),
+            some(some(*[16] * 15), some(last)), some(some(*[16] * 15), some(last - 1, 1)),
+        ))
 
     def affinity(self, board):
         any_fields = (0, 1, 2, 3, 15, 16), (0, 0, 1, 2, 15), (0, 0, 1, 2)
@@ -115,7 +126,7 @@ class Draw(random.Random):
         there = [core for core in world.board.cores if world.place[core] == place]
         if there and self.randrange(8):
             return self.choice(there)
-        return self.choice((0, 0, 0, 1, 2, 3, 63, 64, 2**32, 2**64 - 1))
+        return self.choice((0, 0, 0, 1, 2, 3, 255, 256, 2**32, 2**64 - 1))
 
     def index(self, many):
         """Mostly one of the last that there are."""

@@ -36,16 +36,17 @@ many_events() {
 # may not call, is started, enters, is on, and calls
 many_cores() {
     local tree
-    for tree in "(16 16 16 16)" "((16 16) (16 16))"; do
-        awk -v tree="$tree" 'function word(core,   cluster, groups) {
+    for tree in "(16 16 16 16 16 16 16 16 16 16 16 16 16 16 16 16)" \
+        "((16 16 16 16) (16 16 16 16) (16 16 16 16) (16 16 16 16))"; do
+        awk -v tree="$tree" 'function word(core,   cluster, clusters) {
                 cluster = int(core / 16)
-                groups = tree ~ /^\(\(/ ? 2 : 4
-                return sprintf("0x%x", int(cluster / groups) * 65536 + cluster % groups * 256 + core % 16)
+                clusters = tree ~ /^\(\(/ ? 4 : 16
+                return sprintf("0x%x", int(cluster / clusters) * 65536 + cluster % clusters * 256 + core % 16)
             }
             BEGIN {
                 print "board " tree " exec 0x0-0x4 boot 0x0 starts 1 lives 1"
                 print "enter 0"
-                for (core = 1; core < 64; core++) {
+                for (core = 1; core < 256; core++) {
                     print "call 0 0xc4000003 " word(core) " 0 " core
                     print "call 0 0xc4000004 " word(core) " 0"
                     print "call 0 0xc4000003 " word(core) " 0 " core
@@ -55,12 +56,12 @@ many_cores() {
                     print "call 0 0xc4000004 " word(core) " 0"
                     print "call " core " 0x84000000"
                 }
-                print "enter 64"
+                print "enter 256"
                 print "call 0 0xc4000003 0x10 0 0"
             }' > "$work/script"
         awk 'BEGIN {
             print ++event, "enter 0x0 0x0"
-            for (core = 1; core < 64; core++) {
+            for (core = 1; core < 256; core++) {
                 print ++event, "return 0 #" core - 1, "start", core, "life 1 number 0"
                 print ++event, "return 2"
                 print ++event, "return -5"
@@ -74,8 +75,8 @@ many_cores() {
             print ++event, "return -2"
         }' > "$work/lines"
         run replay < "$work/script"
-        expect "64 cores, $tree" 0
-        answers "64 cores, $tree"
+        expect "256 cores, $tree" 0
+        answers "256 cores, $tree"
     done
 }
 

@@ -17,6 +17,7 @@ mod Granting
 mod HaltingRows
 mod Holding
 mod InvariantRows
+mod LargestRows
 mod LastLifeRows
 mod LeftBy
 mod LegalRows

@@ -10,13 +10,19 @@ use std::test::Fail;
 
 /// The longest trees and the most ranges that a board may have.
 const LARGEST: &str = "((1 1 1 1 1 1 1 1 1 1 1 1 1 1 1 1) (1 1 1 1 1 1 1 1 1 1 1 1 1 1 1 1) \
+    (1 1 1 1 1 1 1 1 1 1 1 1 1 1 1 1) (1 1 1 1 1 1 1 1 1 1 1 1 1 1 1 1) \
+    (1 1 1 1 1 1 1 1 1 1 1 1 1 1 1 1) (1 1 1 1 1 1 1 1 1 1 1 1 1 1 1 1) \
+    (1 1 1 1 1 1 1 1 1 1 1 1 1 1 1 1) (1 1 1 1 1 1 1 1 1 1 1 1 1 1 1 1) \
+    (1 1 1 1 1 1 1 1 1 1 1 1 1 1 1 1) (1 1 1 1 1 1 1 1 1 1 1 1 1 1 1 1) \
+    (1 1 1 1 1 1 1 1 1 1 1 1 1 1 1 1) (1 1 1 1 1 1 1 1 1 1 1 1 1 1 1 1) \
+    (1 1 1 1 1 1 1 1 1 1 1 1 1 1 1 1) (1 1 1 1 1 1 1 1 1 1 1 1 1 1 1 1) \
     (1 1 1 1 1 1 1 1 1 1 1 1 1 1 1 1) (1 1 1 1 1 1 1 1 1 1 1 1 1 1 1 1)) \
     exec 0x0000000000000000-0x0000000000000004 0x0000000000000000-0x0000000000000004 \
     0x0000000000000000-0x0000000000000004 0x0000000000000000-0xffffffffffffffff \
     boot 0xfffffffffffffff8 starts 4294967295 lives 65535";
 
 /// Boards of each height, with their heights and how many cores they have.
-const BOARDS: [(&str, u32, u16); 16] = [
+const BOARDS: [(&str, u32, u16); 17] = [
     ("1 exec 0x0-0x1 boot 0x0 starts 1 lives 1", 1, 1),
     ("2 exec 0x0-0x1 boot 0x0 starts 1 lives 1", 1, 2),
     ("3 exec 0x0-0x1 boot 0x0 starts 1 lives 1", 1, 3),
@@ -49,7 +55,13 @@ const BOARDS: [(&str, u32, u16); 16] = [
         3,
         18,
     ),
-    (LARGEST, 3, 64),
+    (
+        "(16 16 16 16 16 16 16 16 16 16 16 16 16 16 16 16) \
+        exec 0x0-0x1 boot 0x0 starts 1 lives 1",
+        2,
+        256,
+    ),
+    (LARGEST, 3, 256),
 ];
 
 /// Whether the board has a node.

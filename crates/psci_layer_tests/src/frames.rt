@@ -19,9 +19,9 @@ const DONE: [u8; FRAME_LEN] = [
     0, 0, 0, 0, 0, 0, 0, 0, 0, 0, 0, 0, 0, 0, 0, 0, 0, 0, 0, 0,
 ];
 
-/// Core 63 takes the board of four levels down, in its last life.
+/// Core 255 takes the board of four levels down, in its last life.
 const WHOLE: [u8; FRAME_LEN] = [
-    0x50, 0x44, 0x01, 63, 0, 0, 0xff, 0xff, 0xff, 0xff, 0xff, 0xff, 4, //
+    0x50, 0x44, 0x01, 0xff, 0, 0, 0xff, 0xff, 0xff, 0xff, 0xff, 0xff, 4, //
     0, 3, 0, 0, 0, 0, 0xff, 0xff, 0xff, 0xff, 1, 3, 1, 2, 3, 4, 5, 6, 7, 8, //
     2, 2, 0, 0, 0, 0, 0, 0, 0, 1, 3, 1, 0xff, 0xff, 0xff, 0xff, 0xff, 0xff, 0xff, 0xff,
 ];
@@ -29,9 +29,8 @@ const WHOLE: [u8; FRAME_LEN] = [
 /// Two clusters of two cores.
 const SMALL: &str = "(2 2) exec 0x40000000-0x40100000 boot 0x40000000 starts 1000 lives 3";
 
-/// Four groups of 16 clusters of one core.
-const LARGE: &str = "((1 1 1 1 1 1 1 1 1 1 1 1 1 1 1 1) (1 1 1 1 1 1 1 1 1 1 1 1 1 1 1 1) \
-    (1 1 1 1 1 1 1 1 1 1 1 1 1 1 1 1) (1 1 1 1 1 1 1 1 1 1 1 1 1 1 1 1)) \
+/// Four groups of four clusters of 16 cores.
+const LARGE: &str = "((16 16 16 16) (16 16 16 16) (16 16 16 16) (16 16 16 16)) \
     exec 0x40000000-0x40100000 boot 0x40000000 starts 1000 lives 3";
 
 /// What goes down with core 3.

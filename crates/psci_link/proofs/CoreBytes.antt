@@ -3,7 +3,7 @@ use Rattle.std.proofs.Common.{◌≡◌, ℕ, ◌<◌, Bool, true, false, not, L
 use Rattle.std.proofs.Common.{refl, arith}
 use Rattle.std.specs.Prelude.{if◌then◌else◌, ◌==◌, ◌&&◌, nat_lt, slice_index}
 use Rattle.std.proofs.lemmas.Bool.{lt-ltb}
-use Rattle.std.proofs.lemmas.Option.{same_Some}
+use Rattle.std.proofs.lemmas.Option.{same_Some, none-some}
 use Rattle.psci_board.specs.declared.limits.TheConstants.{MOST_CORES}
 use Rattle.psci_board.specs.Board.{BoardValue, cores}
 use Rattle.psci_link.specs.declared.fault.FrameFault.{FrameFault}
@@ -31,7 +31,7 @@ unfolding fault_of_kind
 of_kind b bytes h there =
     other _ faults.Count _ (λ e. cc) (other _ faults.Unused _ (λ e. cc)
     (passing _ faults.Core _ (lt-ltb (slice_index bytes 3) (cores b) there)
-    (other _ faults.Depth _ (λ e. cc) (other _ faults.Level _ (λ e. cc) (λ e. cc)))))
+    (other _ faults.Depth _ (λ e. cc) (other _ faults.Level _ (λ e. cc) (none-some faults.Core)))))
 
 of_heading : (b : BoardValue) (bytes : List ℕ) (h : Option Heading) → slice_index bytes 3 < cores b
     → fault_at b bytes h ≡ Some faults.Core → ⊥

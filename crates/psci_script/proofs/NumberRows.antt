@@ -11,9 +11,9 @@ wake_0 : line_of (codes "wake 0") ≡ Some (Says (Wake 0))
 unfolding reading
 wake_0 = refl
 
-wake_63 : line_of (codes "wake 63") ≡ Some (Says (Wake 63))
+wake_255 : line_of (codes "wake 255") ≡ Some (Says (Wake 255))
 unfolding reading
-wake_63 = refl
+wake_255 = refl
 
 wake_largest : line_of (codes "wake 18446744073709551615") ≡ Some (Says (Wake 18446744073709551615))
 unfolding reading
@@ -23,9 +23,9 @@ reset_0 : line_of (codes "reset 0") ≡ Some (Says (Reset 0))
 unfolding reading
 reset_0 = refl
 
-reset_63 : line_of (codes "reset 63") ≡ Some (Says (Reset 63))
+reset_255 : line_of (codes "reset 255") ≡ Some (Says (Reset 255))
 unfolding reading
-reset_63 = refl
+reset_255 = refl
 
 reset_largest : line_of (codes "reset 18446744073709551615")
     ≡ Some (Says (Reset 18446744073709551615))
@@ -37,9 +37,9 @@ deliver_0 : line_of (codes "deliver 0") ≡ Some (Says (Deliver 0))
 unfolding reading
 deliver_0 = refl
 
-deliver_63 : line_of (codes "deliver 63") ≡ Some (Says (Deliver 63))
+deliver_255 : line_of (codes "deliver 255") ≡ Some (Says (Deliver 255))
 unfolding reading
-deliver_63 = refl
+deliver_255 = refl
 
 deliver_largest : line_of (codes "deliver 18446744073709551615")
     ≡ Some (Says (Deliver 18446744073709551615))
@@ -50,9 +50,9 @@ take_0 : line_of (codes "take 0") ≡ Some (Says (Take 0))
 unfolding reading
 take_0 = refl
 
-take_63 : line_of (codes "take 63") ≡ Some (Says (Take 63))
+take_255 : line_of (codes "take 255") ≡ Some (Says (Take 255))
 unfolding reading
-take_63 = refl
+take_255 = refl
 
 take_largest : line_of (codes "take 18446744073709551615") ≡ Some (Says (Take 18446744073709551615))
 unfolding reading

@@ -103,23 +103,24 @@ const FIRST: &[u8] = b"board (2 2) exec 0x40000000-0x40100000 boot 0x40000000 st
 const FIRST_TEXT: &[u8] =
     b"1 absent\n2 absent\n3 absent\n4 ignored\n5 started 2\n6 enter 0x40000000 0x0\n";
 
-/// On a board of 64 cores five others are asked on, the last one among them.
+/// On a board of 256 cores five others are asked on, the last one among them.
 const MESSAGES: &[u8] =
-    b"board (16 16 16 16) exec 0x40000000-0x40100000 boot 0x40000000 starts 1000 lives 3\n\
+    b"board (16 16 16 16 16 16 16 16 16 16 16 16 16 16 16 16) \
+      exec 0x40000000-0x40100000 boot 0x40000000 starts 1000 lives 3\n\
       enter 0\n\
       call 0 0xc4000003 0x1 0x40001000 7\n\
       call 0 0xc4000003 0x2 0x40001000 7\n\
       call 0 0xc4000003 0x3 0x40001000 7\n\
       call 0 0xc4000003 0x4 0x40001000 7\n\
-      call 0 0xc4000003 0x30f 0x40001000 7\n\
-      call 0 0xc4000004 0x30f 0\n";
+      call 0 0xc4000003 0xf0f 0x40001000 7\n\
+      call 0 0xc4000004 0xf0f 0\n";
 
 const MESSAGE_TEXT: &[u8] = b"1 enter 0x40000000 0x0\n\
       2 return 0 #0 start 1 life 1 number 0\n\
       3 return 0 #1 start 2 life 1 number 0\n\
       4 return 0 #2 start 3 life 1 number 0\n\
       5 return 0 #3 start 4 life 1 number 0\n\
-      6 return 0 #4 start 63 life 1 number 0\n\
+      6 return 0 #4 start 255 life 1 number 0\n\
       7 return 2\n";
 
 /// How many calls the long script has after its entry.
@@ -282,7 +283,7 @@ fn scripts_are_replayed(rt: HostRuntime) {
     expect(&rt, alloc, "stale message", &STALE_MESSAGE);
     expect(&rt, alloc, "two lives", &TWO_LIVES);
     expect(&rt, alloc, "delivery of two numbers", &TWO_NUMBERS);
-    expect(&rt, alloc, "five messages on 64 cores", &FIVE_MESSAGES);
+    expect(&rt, alloc, "five messages on 256 cores", &FIVE_MESSAGES);
 }
 
 #[test]

@@ -70,11 +70,11 @@ const LAST_OF_ALL: [Step; 4] = [
     Step::Enter(0, 65535, 1, Answer::Goes(0x100, 0)),
     Step::Call(
         0,
-        [0xc400_0003, 0x3_0f00, 0x200, 7],
-        Answer::Asks(63, 65535, 0),
+        [0xc400_0003, 0xf_0f00, 0x200, 7],
+        Answer::Asks(255, 65535, 0),
     ),
-    Step::Enter(63, 65535, 4_294_967_295, Answer::Goes(0x200, 7)),
-    Step::EntryRefused(64, 65535, 1, FwFault::NoCore),
+    Step::Enter(255, 65535, 4_294_967_295, Answer::Goes(0x200, 7)),
+    Step::EntryRefused(256, 65535, 1, FwFault::NoCore),
 ];
 
 #[test]
