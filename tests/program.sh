@@ -211,7 +211,7 @@ front() {
 
 # the line of a storm, which the seed alone decides; its words, streams and memory
 storms() {
-    local seed
+    local seed tree
     echo "storm events 1 sent 0 quiet 0" > "$work/lines"
     run storm --seed 1 --count 0
     expect "a storm without events" 0
@@ -227,6 +227,16 @@ storms() {
         expect "a storm on a board of height 3" 0
         grep -qxE 'storm events [0-9]+ sent [0-9]+ (quiet [0-4]|halting)' "$work/out" || \
             fail "the line of a storm: $(head -n 1 "$work/out")"
+    done
+    for tree in "(16 16 16 16 16 16 16 16 16 16 16 16 16 16 16 16)" \
+        "((16 16 16 16) (16 16 16 16) (16 16 16 16) (16 16 16 16))"; do
+        for seed in 1 2; do
+            run storm --board "$tree exec 0x0-0x1000 boot 0x0 starts 1000 lives 3" \
+                --seed "$seed" --count 10000
+            expect "a storm on a board of 256 cores" 0
+            grep -qxE 'storm events [0-9]+ sent [0-9]+ (quiet [0-4]|halting)' "$work/out" || \
+                fail "the line of a storm: $(head -n 1 "$work/out")"
+        done
     done
     run storm --board "(2 2)" --seed 1 --count 1
     expect "a storm on a board outside the grammar" 2 "board fault 1"
