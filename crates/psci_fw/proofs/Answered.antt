@@ -38,18 +38,21 @@ use Rattle.psci_fw_state.proofs.Equal.{arrived, same_values, updated_same}
 -- Stopping --------------------------------------------------------------------------------------
 
 -- the parts of a core that is off or going off now
-pub leaving_off : (b : BoardValue) (v w : Values) (c : ℕ) (parts : List Part)
-    → w ≡ with_phase c Away v → parts ≡ leaving_claims b (view b w) c w.mode
+pub leaving_off : (b now : BoardValue) (v w : Values) (c : ℕ) (parts : List Part) → now ≡ b
+    → w ≡ with_phase c Away v → parts ≡ leaving_claims now (view now w) c w.mode
     → parts ≡ off_parts b v c
 unfolding off_parts
-leaving_off b v w c parts e is = is ∙ ap (λ (x : Values). leaving_claims b (view b x) c x.mode) e
+leaving_off b now v w c parts at e is =
+    is ∙ ap (λ (x : BoardValue). leaving_claims x (view x w) c w.mode) at
+    ∙ ap (λ (x : Values). leaving_claims b (view b x) c x.mode) e
 
-pub left_may : (b : BoardValue) (v w : Values) (c : ℕ) (parts whole : List Part)
+pub left_may : (b now : BoardValue) (v w : Values) (c : ℕ) (parts whole : List Part) → now ≡ b
     → w ≡ with_phase c Away v → parts ≡ whole → MayClaim b c whole v.granted
-    → MayClaim b c parts w.granted
-left_may b v w c parts whole e same may =
-    subst (λ (x : Values). MayClaim b c parts x.granted) (sym e)
-    (subst (λ (ps : List Part). MayClaim b c ps v.granted) (sym same) may)
+    → MayClaim now c parts w.granted
+left_may b now v w c parts whole at e same may =
+    subst (λ (x : BoardValue). MayClaim x c parts w.granted) (sym at)
+    (subst (λ (x : Values). MayClaim b c parts x.granted) (sym e)
+    (subst (λ (ps : List Part). MayClaim b c ps v.granted) (sym same) may))
 
 -- what is answered to a core that stops so
 pub parked : (b : BoardValue) (v w : Values) (c : ℕ) (o : Outcome) (parts : List Part)
@@ -72,17 +75,19 @@ rest_away v c = same_values _ _ (record {
   outstanding = λ slot. refl;
 })
 
-pub off_answered : (b : BoardValue) (v w u : Values) (c : ℕ) (o : Outcome) (parts : List Part)
-    → w ≡ with_phase c Away v → parts ≡ leaving_claims b (view b w) c w.mode
+pub off_answered : (b now : BoardValue) (v w u : Values) (c : ℕ) (o : Outcome)
+    (parts : List Part) → now ≡ b → w ≡ with_phase c Away v
+    → parts ≡ leaving_claims now (view now w) c w.mode
     → o ≡ stops_with (message_for w Down c parts)
-    → u ≡ with_claims b (message_for w Down c parts) w
+    → u ≡ with_claims now (message_for w Down c parts) w
     → FunctionAnswered b v c requests.CpuOff o u
-off_answered b v w u c o parts e is answer left =
-    let same = leaving_off b v w c parts e is in
+off_answered b now v w u c o parts at e is answer left =
+    let same = leaving_off b now v w c parts at e is in
     let stopped = parked b v w c o parts e same answer in
     record {
       answer = stopped;
       after = left
+          ∙ ap (λ (x : BoardValue). with_claims x (message_for w Down c parts) w) at
           ∙ ap (λ (x : Values). with_claims b (message_for x Down c parts) x) e
           ∙ ap (λ (ps : List Part). with_claims b (message_for v Down c ps) (with_phase c Away v))
           same
@@ -156,10 +161,12 @@ arrival_again b v w c s e =
     ap (λ (x : Values). arrived b c s (in_life b s.life x)) e
     ∙ ap (arrived b c s) (in_life_again b s.life v)
 
-pub arrived_away : (b : BoardValue) (v w u : Values) (c : ℕ) (s : Start) → w ≡ in_life b s.life v
-    → u ≡ with_phase c Away (with_arrival b c s w)
+pub arrived_away : (b now : BoardValue) (v w u : Values) (c : ℕ) (s : Start) → now ≡ b
+    → w ≡ in_life b s.life v → u ≡ with_phase c Away (with_arrival now c s w)
     → u ≡ with_phase c Away (with_arrival b c s v)
-arrived_away b v w u c s e is = is ∙ ap (with_phase c Away) (arrival_again b v w c s e)
+arrived_away b now v w u c s at e is =
+    is ∙ ap (λ (x : BoardValue). with_phase c Away (with_arrival x c s w)) at
+    ∙ ap (with_phase c Away) (arrival_again b v w c s e)
 
 pub fault_inside : (b : BoardValue) (v : Values) (c : ℕ) (s : Start)
     → enter_fault b v c s ≡ None → c < cores b

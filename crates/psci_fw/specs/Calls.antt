@@ -1,7 +1,7 @@
 -- How a running core is answered.
 use Rattle.std.specs.Prelude.{◌≡◌, ◌<◌, ℕ, false}
 use Rattle.psci_abi.specs.declared.request.Request.{Request}
-use Rattle.psci_board.specs.Board.{BoardValue, cores}
+use Rattle.psci_board.specs.Board.{BoardValue, IsBoard, cores}
 use Rattle.psci_fw_spec.specs.declared.outcome.Outcome.{Outcome}
 use Rattle.psci_fw_spec.specs.After.{change}
 use Rattle.psci_fw_spec.specs.Calls.{function_outcome}
@@ -9,13 +9,13 @@ use Rattle.psci_fw_spec.specs.Effects.{function_effect}
 use Rattle.psci_fw_spec.specs.Invariant.{AreValues}
 use Rattle.psci_fw_spec.specs.Phases.{Running}
 use Rattle.psci_fw_spec.specs.Values.{Values}
-use Rattle.psci_fw_state.specs.Seen.{IsStateOf, StateValue, values_in}
+use Rattle.psci_fw_state.specs.Seen.{StateValue, values_in}
 
 -- a core may call a function: it is running, in a life that is not halting
-pub record MayCall (b : BoardValue) (s : StateValue) (c : ℕ) : Type 0 where
-  pub state : IsStateOf b s
-  pub values : AreValues b (values_in s)
-  pub inside : c < cores b
+pub record MayCall (s : StateValue) (c : ℕ) : Type 0 where
+  pub board : IsBoard s.board
+  pub values : AreValues s.board (values_in s)
+  pub inside : c < cores s.board
   pub running : (values_in s).phase c ≡ Running
   pub awake : (values_in s).halting ≡ false
 

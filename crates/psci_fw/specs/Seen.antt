@@ -1,27 +1,25 @@
 -- What the firmware is seen as: the board, and the values that it keeps.
 use Rattle.std.specs.Prelude.{ℕ, ◌==◌, Option, None, Some, if◌then◌else◌}
-use Rattle.psci_board.specs.Board.{BoardValue}
+use Rattle.psci_board.specs.Board.{IsBoard}
 use Rattle.psci_board.specs.declared.node.Node.{Node}
 use Rattle.psci_fw_spec.specs.declared.status.Status.{Status}
 use Rattle.psci_fw_spec.specs.AffinityInfo.{node_status}
 use Rattle.psci_fw_spec.specs.Invariant.{AreValues}
 use Rattle.psci_fw_spec.specs.Values.{Values}
-use Rattle.psci_fw_state.specs.Seen.{IsStateOf, StateValue, values_in}
+use Rattle.psci_fw_state.specs.Seen.{StateValue, values_in}
 
--- A firmware, as contracts see it.
-pub record FirmwareValue : Type 0 where
-  pub board : BoardValue
-  pub state : StateValue
+-- A firmware, as contracts see it: its state, which has its board.
+abbrev pub FirmwareValue : Type 0
+FirmwareValue = StateValue
 
 -- the values in a firmware
 abbrev pub seen : FirmwareValue → Values
-seen f = values_in f.state
+seen f = values_in f
 
--- what holds of every firmware: its state is of its board, and its values are such as a firmware
--- keeps
+-- what holds of every firmware: it has a board, and its values are such as it keeps on this board
 pub record IsFirmware (f : FirmwareValue) : Type 0 where
-  pub state : IsStateOf f.board f.state
-  pub values : AreValues f.board (values_in f.state)
+  pub board : IsBoard f.board
+  pub values : AreValues f.board (seen f)
 
 -- the life, None before any core has entered
 abbrev pub life_shown : ℕ → Option ℕ

@@ -1,74 +1,76 @@
 //! The entry of a started core: it goes on, or stops.
 
 ghost use Rattle.std.specs.Prelude.{◌≡◌, ◌<◌, MatchResult, None, Some};
-ghost use Rattle.psci_board.specs.Board.{cores};
+ghost use Rattle.psci_board.specs.Board.{IsBoard};
 ghost use Rattle.psci_fw_spec.specs.After.{change};
 ghost use Rattle.psci_fw_spec.specs.Effects.{enter_effect};
 ghost use Rattle.psci_fw_spec.specs.Entering.{enter_fault, enter_outcome, is_old, resumes};
 ghost use Rattle.psci_fw_spec.specs.Invariant.{AreValues};
-ghost use Rattle.psci_fw_state.specs.Seen.{IsStateOf, values_in};
+ghost use Rattle.psci_fw_state.specs.Seen.{values_in};
 ghost use Rattle.psci_fw.specs.Ways.{way_on};
 
 use crate::laws::law_may_claim;
 use crate::off::send_down;
-use psci_board::{Board, Core};
+use psci_board::Core;
 use psci_fw_spec::{Act, Cause, FwFault, Opening, Outcome, Start, law_stops};
 use psci_fw_state::State;
 
 /// Whether a core may enter by this start, or the first reason why it may not.
-pub fn check_start(board: &Board, state: &State, core: Core, start: Start) -> Result<(), FwFault>
-    ensures { let fault = enter_fault board.now (values_in state.now) core.number start in
+pub fn check_start(state: &State, core: Core, start: Start) -> Result<(), FwFault>
+    ensures { let fault = enter_fault state.now.board (values_in state.now) core.number start in
         MatchResult result (λ _. fault ≡ None) (λ e. fault ≡ Some e) }
 {
+    let board = state.board();
     if core.number >= board.cores() {
         return Err(FwFault::NoCore);
     }
     if start.life == 0 || start.life > board.life_limit() {
         return Err(FwFault::NoLife);
     }
-    if is_old(board, state, core, start) {
+    if is_old(state, core, start) {
         return Err(FwFault::OldStart);
     }
     Ok(())
 }
 
 /// Whether a start is over, or is none that the board has.
-fn is_old(board: &Board, state: &State, core: Core, start: Start) -> bool
-    ensures { result ≡ is_old board.now (values_in state.now) core.number start }
+fn is_old(state: &State, core: Core, start: Start) -> bool
+    ensures { result ≡ is_old state.now.board (values_in state.now) core.number start }
 {
     start.life < state.life()
         || start.number == 0
-        || start.number > board.start_limit()
+        || start.number > state.board().start_limit()
         || (start.life == state.life() && start.number <= state.known(core))
 }
 
 /// What a core does that enters by this start: in a halting life it stops; else it goes on at its
 /// opening, resumes after its suspend, or parks. A start of another life begins that life first.
-pub fn enter(board: &Board, state: &mut State, core: Core, start: Start) -> Outcome
-    requires state { IsStateOf board.now state.old }
-    requires values { AreValues board.now (values_in state.old) }
-    requires fault { enter_fault board.now (values_in state.old) core.number start ≡ None }
-    ensures answer { result ≡ enter_outcome board.now (values_in state.old) core.number start }
-    ensures after { values_in state.new ≡ change board.now (enter_effect core.number start
+pub fn enter(state: &mut State, core: Core, start: Start) -> Outcome
+    requires board { IsBoard state.old.board }
+    requires values { AreValues state.old.board (values_in state.old) }
+    requires fault { enter_fault state.old.board (values_in state.old) core.number start ≡ None }
+    ensures answer { result
+        ≡ enter_outcome state.old.board (values_in state.old) core.number start }
+    ensures after { values_in state.new ≡ change state.old.board (enter_effect core.number start
         result.act result.message) (values_in state.old) }
-    ensures state { IsStateOf board.now state.new }
+    ensures board { state.new.board ≡ state.old.board }
 {
     law_may_claim();
     law_stops();
-    state.begin_life(board, start.life);
+    state.begin_life(start.life);
     if state.halting() {
-        state.arrive_away(board, core, start);
+        state.arrive_away(core, start);
         return Outcome::stops();
     }
     match way_on(state, core, start) {
         Some(act) => {
-            state.arrive_running(board, core, start);
+            state.arrive_running(core, start);
             Outcome { act, message: None }
         }
         None => {
-            state.arrive_away(board, core, start);
-            let parts = state.leaving_parts(board, core);
-            send_down(board, state, core, parts)
+            state.arrive_away(core, start);
+            let parts = state.leaving_parts(core);
+            send_down(state, core, parts)
         }
     }
 }

@@ -8,10 +8,9 @@ use psci_link::{Ack, Message, Taken};
 use std::alloc::Global;
 use std::marker::Model;
 
-/// The power firmware of one board. Contracts see the board, and what is kept.
+/// The power firmware of one board. Contracts see its state: the board, and what is kept.
 #[derive(Drop)]
 pub struct Firmware {
-    board: Board,
     state: State,
 }
 
@@ -20,9 +19,9 @@ impl Model for Firmware {
 
     ghost Value = { FirmwareValue };
 
-    ghost view = { λ f. record { board = f.board; state = f.state } };
+    ghost view = { λ f. f.state };
 
-    ghost invariant = { λ f. IsFirmware (record { board = f.board; state = f.state }) };
+    ghost invariant = { λ f. IsFirmware f.state };
 }
 
 ghost use Rattle.std.specs.Prelude.{◌≡◌, ℕ, IfOk, OnErr, option_map};
@@ -49,7 +48,6 @@ impl Firmware {
         law_invariant();
         Ok(Firmware {
             state: State::new(alloc, board)?,
-            board: board.copy(alloc)?,
         })
     }
 
@@ -68,8 +66,8 @@ impl Firmware {
         ensures refused { OnErr result (self.new ≡ self.old) }
     {
         law_invariant();
-        check_caller(&self.board, &self.state, core)?;
-        Ok(dispatch(&self.board, &mut self.state, core, read(regs)))
+        check_caller(&self.state, core)?;
+        Ok(dispatch(&mut self.state, core, read(regs)))
     }
 
     /// A core enters by this start: it goes on at its opening, resumes after a suspend in standby
@@ -91,8 +89,8 @@ impl Firmware {
         ensures refused { OnErr result (self.new ≡ self.old) }
     {
         law_invariant();
-        check_start(&self.board, &self.state, core, start)?;
-        Ok(enter(&self.board, &mut self.state, core, start))
+        check_start(&self.state, core, start)?;
+        Ok(enter(&mut self.state, core, start))
     }
 
     /// Takes an acknowledgement of the power controller: used where its message is outstanding,
@@ -106,7 +104,7 @@ impl Firmware {
         ensures board { self.new.board ≡ self.old.board }
     {
         law_invariant();
-        self.state.acknowledge(&self.board, ack)
+        self.state.acknowledge(ack)
     }
 
     /// The status of a core or power domain by the rule of AFFINITY_INFO; None before any core has
@@ -114,7 +112,7 @@ impl Firmware {
     pub fn status(&self, node: Node) -> Option<Status>
         ensures { result ≡ status_shown self.now node }
     {
-        (self.state.life() != 0).then(|| self.state.node_status(&self.board, node))
+        (self.state.life() != 0).then(|| self.state.node_status(node))
     }
 
     /// The outstanding message of the core of this number, or of the system at the number of cores.
@@ -122,14 +120,14 @@ impl Firmware {
         ensures { option_map (λ message. message.now) result
             ≡ message_shown self.now.board (seen self.now) number }
     {
-        self.state.outstanding(&self.board, number)
+        self.state.outstanding(number)
     }
 
     /// The granted depth of a power domain, 0 of one that the board does not have.
     pub fn granted(&self, node: Node) -> u8
         ensures { result ≡ (seen self.now).granted node.level node.place }
     {
-        self.state.granted(&self.board, node)
+        self.state.granted(node)
     }
 
     /// The known start of a core: the number of the last start by which it entered in this life, or

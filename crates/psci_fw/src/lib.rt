@@ -1,7 +1,7 @@
 //! The power firmware: what it answers to the calls of the cores, and what it keeps for them. The
 //! words and the definitions are those of `psci_fw_spec`.
 //!
-//! - The *state* of the firmware is all that a call changes.
+//! - The *state* of the firmware is its board, and all that a call changes.
 //! - A *row* is what the state keeps of one core beside the tree of power domains.
 //! - The *dispatch* of a call is the choice of the function that its registers name.
 //! - A *claim* is what a core that stops asks of its power domains, and so sends.

@@ -8,19 +8,19 @@ ghost use Rattle.psci_fw_spec.specs.Phases.{is_away, is_suspended_or_pending};
 ghost use Rattle.psci_fw_spec.specs.SuspendMode.{may_set, mode_of};
 ghost use Rattle.psci_fw_spec.specs.SystemCalls.{all_others};
 ghost use Rattle.psci_fw.specs.Calls.{FunctionAnswered, MayCall};
-ghost use Rattle.psci_fw_state.specs.Seen.{IsStateOf, values_in};
+ghost use Rattle.psci_fw_state.specs.Seen.{values_in};
 
 use psci_abi::Code;
-use psci_board::{Board, Core};
+use psci_board::Core;
 use psci_fw_spec::{Outcome, SuspendMode};
 use psci_fw_state::State;
 
 /// PSCI_SET_SUSPEND_MODE (DEN0022D): the mode of this number is set, if the other cores allow it.
-pub fn set_suspend_mode(board: &Board, state: &mut State, caller: Core, number: u32) -> Outcome
-    requires { MayCall board.now state.old caller.number }
-    ensures answer { FunctionAnswered board.now (values_in state.old) caller.number
+pub fn set_suspend_mode(state: &mut State, caller: Core, number: u32) -> Outcome
+    requires { MayCall state.old caller.number }
+    ensures answer { FunctionAnswered state.old.board (values_in state.old) caller.number
         (SetSuspendMode number) result (values_in state.new) }
-    ensures state { IsStateOf board.now state.new }
+    ensures board { state.new.board ≡ state.old.board }
 {
     let Some(mode) = mode_of(number) else {
         return Outcome::returns(Code::INVALID_PARAMETERS);
@@ -28,10 +28,10 @@ pub fn set_suspend_mode(board: &Board, state: &mut State, caller: Core, number: 
     if mode == state.mode() {
         return Outcome::returns(Code::SUCCESS);
     }
-    if !may_set(board, state, caller, mode) {
+    if !may_set(state, caller, mode) {
         return Outcome::returns(Code::DENIED);
     }
-    state.set_mode(board, mode);
+    state.set_mode(mode);
     Outcome::returns(Code::SUCCESS)
 }
 
@@ -47,28 +47,29 @@ fn mode_of(number: u32) -> Option<SuspendMode>
 }
 
 /// Whether the caller may set this mode.
-fn may_set(board: &Board, state: &State, caller: Core, mode: SuspendMode) -> bool
-    ensures { result ≡ may_set board.now (values_in state.now) caller.number mode }
+fn may_set(state: &State, caller: Core, mode: SuspendMode) -> bool
+    ensures { result ≡ may_set state.now.board (values_in state.now) caller.number mode }
 {
     match mode {
-        SuspendMode::Platform => are_others_away(board, state, caller),
-        SuspendMode::OsInitiated => !is_some_waiting(board, state),
+        SuspendMode::Platform => are_others_away(state, caller),
+        SuspendMode::OsInitiated => !is_some_waiting(state),
     }
 }
 
 /// Whether every core but this one is off or going off.
-fn are_others_away(board: &Board, state: &State, caller: Core) -> bool
+fn are_others_away(state: &State, caller: Core) -> bool
     ensures { let phase = (values_in state.now).phase in
-        result ≡ all_others board.now caller.number (λ k. is_away (phase k)) }
+        result ≡ all_others state.now.board caller.number (λ k. is_away (phase k)) }
 {
-    (0..board.cores()).all(|number| number == caller.number || state.is_away(Core { number }))
+    (0..state.board().cores()).all(|number| number == caller.number
+        || state.is_away(Core { number }))
 }
 
 /// Whether a core is suspended or pending.
-fn is_some_waiting(board: &Board, state: &State) -> bool
+fn is_some_waiting(state: &State) -> bool
     ensures { let phase = (values_in state.now).phase in
         result ≡ list_any (λ k. is_suspended_or_pending (phase k))
-        (range_with_len 0 (cores board.now)) }
+        (range_with_len 0 (cores state.now.board)) }
 {
-    (0..board.cores()).any(|number| state.is_waiting(Core { number }))
+    (0..state.board().cores()).any(|number| state.is_waiting(Core { number }))
 }

@@ -9,42 +9,41 @@ ghost use Rattle.psci_fw_spec.specs.Changes.{with_claims};
 ghost use Rattle.psci_fw_spec.specs.Outcomes.{message_for, stops_with};
 ghost use Rattle.psci_fw_state.specs.Claims.{MayClaim};
 ghost use Rattle.psci_fw.specs.Calls.{FunctionAnswered, MayCall};
-ghost use Rattle.psci_fw_state.specs.Seen.{IsStateOf, values_in};
+ghost use Rattle.psci_fw_state.specs.Seen.{values_in};
 
 use crate::laws::law_may_claim;
-use psci_board::{Board, Core};
+use psci_board::Core;
 use psci_coord::Parts;
 use psci_fw_spec::{Outcome, law_stops};
 use psci_fw_state::State;
 use psci_link::Kind;
 
 /// CPU_OFF (DEN0022D): the caller stops, and goes off.
-pub fn cpu_off(board: &Board, state: &mut State, caller: Core) -> Outcome
-    requires { MayCall board.now state.old caller.number }
-    ensures answer { FunctionAnswered board.now (values_in state.old) caller.number CpuOff result
-        (values_in state.new) }
-    ensures state { IsStateOf board.now state.new }
+pub fn cpu_off(state: &mut State, caller: Core) -> Outcome
+    requires { MayCall state.old caller.number }
+    ensures answer { FunctionAnswered state.old.board (values_in state.old) caller.number CpuOff
+        result (values_in state.new) }
+    ensures board { state.new.board ≡ state.old.board }
 {
     law_stops();
     law_may_claim();
-    state.set_away(board, caller);
-    let parts = state.leaving_parts(board, caller);
-    send_down(board, state, caller, parts)
+    state.set_away(caller);
+    let parts = state.leaving_parts(caller);
+    send_down(state, caller, parts)
 }
 
 /// A core stops with this claim: it sends a Down, and its domains are granted what it claims.
-pub fn send_down(board: &Board, state: &mut State, core: Core, parts: Parts) -> Outcome
-    requires state { IsStateOf board.now state.old }
-    requires inside { core.number < cores board.now }
+pub fn send_down(state: &mut State, core: Core, parts: Parts) -> Outcome
+    requires inside { core.number < cores state.old.board }
     requires claim { AreClaims parts }
-    requires may { MayClaim board.now core.number parts (values_in state.old).granted }
+    requires may { MayClaim state.old.board core.number parts (values_in state.old).granted }
     ensures answer { result
         ≡ stops_with (message_for (values_in state.old) kinds.Down core.number parts) }
-    ensures after { values_in state.new ≡ with_claims board.now
+    ensures after { values_in state.new ≡ with_claims state.old.board
         (message_for (values_in state.old) kinds.Down core.number parts) (values_in state.old) }
-    ensures state { IsStateOf board.now state.new }
+    ensures board { state.new.board ≡ state.old.board }
 {
-    let message = state.message(board, Kind::Down, core, parts);
-    state.claim(board, &message);
+    let message = state.message(Kind::Down, core, parts);
+    state.claim(&message);
     Outcome::stops_with(message)
 }

@@ -5,34 +5,28 @@ ghost use Rattle.psci_abi.specs.declared.request.Request.TheVariants.{CpuOn};
 ghost use Rattle.psci_board.specs.Board.{cores};
 ghost use Rattle.psci_fw_spec.specs.CpuOn.{target_of};
 ghost use Rattle.psci_fw.specs.Calls.{FunctionAnswered, MayCall};
-ghost use Rattle.psci_fw_state.specs.Seen.{IsStateOf, values_in};
+ghost use Rattle.psci_fw_state.specs.Seen.{values_in};
 
 use psci_abi::Code;
-use psci_board::{Board, Core};
+use psci_board::Core;
 use psci_coord::Parts;
 use psci_fw_spec::{Act, Opening, Outcome, Status};
 use psci_fw_state::State;
 use psci_link::Kind;
 
 /// CPU_ON (DEN0022D): the core that `target` names is to be started, and will go on at the opening.
-pub fn cpu_on(
-    board: &Board,
-    state: &mut State,
-    caller: Core,
-    target: u64,
-    opening: Opening,
-) -> Outcome
-    requires { MayCall board.now state.old caller.number }
-    ensures answer { FunctionAnswered board.now (values_in state.old) caller.number
+pub fn cpu_on(state: &mut State, caller: Core, target: u64, opening: Opening) -> Outcome
+    requires { MayCall state.old caller.number }
+    ensures answer { FunctionAnswered state.old.board (values_in state.old) caller.number
         (CpuOn target opening.address opening.context) result (values_in state.new) }
-    ensures state { IsStateOf board.now state.new }
+    ensures board { state.new.board ≡ state.old.board }
 {
-    let target = match check_target(board, state, target, opening.address) {
+    let target = match check_target(state, target, opening.address) {
         Ok(target) => target,
         Err(code) => return Outcome::returns(code),
     };
-    let message = state.message(board, Kind::Start, target, Parts::new());
-    state.set_pending(board, message.copy(), opening);
+    let message = state.message(Kind::Start, target, Parts::new());
+    state.set_pending(message.copy(), opening);
     Outcome {
         act: Act::Return(Code::SUCCESS),
         message: Some(message),
@@ -41,10 +35,11 @@ pub fn cpu_on(
 
 /// The core that a CPU_ON starts, or the code of the first check that fails.
 #[tactic(auto, unfolding(psci_fw_spec::specs::CpuOn::target_of))]
-fn check_target(board: &Board, state: &State, target: u64, entry_point: u64) -> Result<Core, Code>
-    ensures target { result ≡ target_of board.now (values_in state.now) target entry_point }
-    ensures inside { IfOk result (λ core. core.number < cores board.now) }
+fn check_target(state: &State, target: u64, entry_point: u64) -> Result<Core, Code>
+    ensures target { result ≡ target_of state.now.board (values_in state.now) target entry_point }
+    ensures inside { IfOk result (λ core. core.number < cores state.now.board) }
 {
+    let board = state.board();
     let Some(core) = board.core_of(target) else {
         return Err(Code::INVALID_PARAMETERS);
     };

@@ -3,14 +3,14 @@
 ghost use Rattle.std.specs.Prelude.{◌≡◌, ◌<◌, MatchResult, None, Some};
 ghost use Rattle.psci_abi.specs.declared.format.Format.TheVariants.{Original};
 ghost use Rattle.psci_abi.specs.Calls.{features_of};
-ghost use Rattle.psci_board.specs.Board.{cores};
+ghost use Rattle.psci_board.specs.Board.{IsBoard, cores};
 ghost use Rattle.psci_fw_spec.specs.After.{change};
 ghost use Rattle.psci_fw_spec.specs.Calls.{call_fault, outcome_of};
 ghost use Rattle.psci_fw_spec.specs.Effects.{function_effect};
 ghost use Rattle.psci_fw_spec.specs.Invariant.{AreValues};
 ghost use Rattle.psci_fw_spec.specs.Phases.{Running};
 ghost use Rattle.psci_fw.specs.Calls.{FunctionAnswered, MayCall};
-ghost use Rattle.psci_fw_state.specs.Seen.{IsStateOf, values_in};
+ghost use Rattle.psci_fw_state.specs.Seen.{values_in};
 
 use crate::affinity::affinity_info;
 use crate::mode::set_suspend_mode;
@@ -19,7 +19,7 @@ use crate::on::cpu_on;
 use crate::suspend::{FORMAT, cpu_suspend};
 use crate::system::{system_off, system_reset, system_reset2, system_suspend};
 use psci_abi::{Code, Request, features};
-use psci_board::{Board, Core};
+use psci_board::Core;
 use psci_fw_spec::{FwFault, Opening, Outcome};
 use psci_fw_state::State;
 
@@ -30,11 +30,11 @@ const VERSION: Code = Code(0x0001_0001);
 const NO_MIGRATION: Code = Code(2);
 
 /// Whether a core may call, or the first reason why it may not.
-pub fn check_caller(board: &Board, state: &State, core: Core) -> Result<(), FwFault>
-    ensures { let fault = call_fault board.now (values_in state.now) core.number in
+pub fn check_caller(state: &State, core: Core) -> Result<(), FwFault>
+    ensures { let fault = call_fault state.now.board (values_in state.now) core.number in
         MatchResult result (λ _. fault ≡ None) (λ e. fault ≡ Some e) }
 {
-    if core.number >= board.cores() {
+    if core.number >= state.board().cores() {
         return Err(FwFault::NoCore);
     }
     if state.life() == 0 {
@@ -48,54 +48,54 @@ pub fn check_caller(board: &Board, state: &State, core: Core) -> Result<(), FwFa
 
 /// What a running core is answered to its request: in a halting life it stops, whatever it asks.
 #[tactic(auto, unfolding(psci_fw_spec::specs::Calls::outcome_of))]
-pub fn dispatch(board: &Board, state: &mut State, caller: Core, request: Request) -> Outcome
-    requires state { IsStateOf board.now state.old }
-    requires values { AreValues board.now (values_in state.old) }
-    requires inside { caller.number < cores board.now }
+pub fn dispatch(state: &mut State, caller: Core, request: Request) -> Outcome
+    requires board { IsBoard state.old.board }
+    requires values { AreValues state.old.board (values_in state.old) }
+    requires inside { caller.number < cores state.old.board }
     requires running { (values_in state.old).phase caller.number ≡ Running }
-    ensures answer { result ≡ outcome_of board.now (values_in state.old) caller.number request }
-    ensures after { values_in state.new ≡ change board.now (function_effect board.now caller.number
-        request result.act result.message) (values_in state.old) }
-    ensures state { IsStateOf board.now state.new }
+    ensures answer { result
+        ≡ outcome_of state.old.board (values_in state.old) caller.number request }
+    ensures after { values_in state.new ≡ change state.old.board
+        (function_effect state.old.board caller.number request result.act result.message)
+        (values_in state.old) }
+    ensures board { state.new.board ≡ state.old.board }
 {
     if state.halting() {
-        state.set_away(board, caller);
+        state.set_away(caller);
         return Outcome::stops();
     }
-    function(board, state, caller, request)
+    function(state, caller, request)
 }
 
 /// What a function answers.
-fn function(board: &Board, state: &mut State, caller: Core, request: Request) -> Outcome
-    requires { MayCall board.now state.old caller.number }
-    ensures answer { FunctionAnswered board.now (values_in state.old) caller.number request result
-        (values_in state.new) }
-    ensures state { IsStateOf board.now state.new }
+fn function(state: &mut State, caller: Core, request: Request) -> Outcome
+    requires { MayCall state.old caller.number }
+    ensures answer { FunctionAnswered state.old.board (values_in state.old) caller.number request
+        result (values_in state.new) }
+    ensures board { state.new.board ≡ state.old.board }
 {
     match request {
         Request::CpuSuspend {
             state: word,
             entry,
             context,
-        } => cpu_suspend(board, state, caller, word, opening(entry, context)),
-        Request::CpuOff => cpu_off(board, state, caller),
+        } => cpu_suspend(state, caller, word, opening(entry, context)),
+        Request::CpuOff => cpu_off(state, caller),
         Request::CpuOn {
             target,
             entry,
             context,
-        } => cpu_on(board, state, caller, target, opening(entry, context)),
-        Request::SystemOff => system_off(board, state, caller),
-        Request::SystemReset => system_reset(board, state, caller),
+        } => cpu_on(state, caller, target, opening(entry, context)),
+        Request::SystemOff => system_off(state, caller),
+        Request::SystemReset => system_reset(state, caller),
         Request::SystemSuspend { entry, context } => {
-            system_suspend(board, state, caller, opening(entry, context))
+            system_suspend(state, caller, opening(entry, context))
         }
-        Request::SetSuspendMode { mode } => set_suspend_mode(board, state, caller, mode),
-        Request::SystemReset2 { reset_type, .. } => {
-            system_reset2(board, state, caller, reset_type)
-        }
+        Request::SetSuspendMode { mode } => set_suspend_mode(state, caller, mode),
+        Request::SystemReset2 { reset_type, .. } => { system_reset2(state, caller, reset_type) }
         Request::Version => Outcome::returns(VERSION),
         Request::AffinityInfo { target, level } => {
-            Outcome::returns(affinity_info(board, state, target, level))
+            Outcome::returns(affinity_info(state, target, level))
         }
         Request::MigrateInfoType => Outcome::returns(NO_MIGRATION),
         Request::Features { word } => Outcome::returns(feature_code(word)),

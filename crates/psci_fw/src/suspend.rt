@@ -9,7 +9,7 @@ ghost use Rattle.psci_fw_spec.specs.CpuSuspend.{osi_code, suspend_answer};
 ghost use Rattle.psci_fw_spec.specs.Effects.{suspends};
 ghost use Rattle.psci_fw.specs.Calls.{FunctionAnswered, MayCall};
 ghost use Rattle.psci_fw.specs.Suspending.{MaySuspend, Suspends};
-ghost use Rattle.psci_fw_state.specs.Seen.{IsStateOf, values_in};
+ghost use Rattle.psci_fw_state.specs.Seen.{values_in};
 
 use crate::laws::law_may_claim;
 use crate::off::send_down;
@@ -26,19 +26,14 @@ pub const FORMAT: Format = Format::Original;
 /// CPU_SUSPEND (DEN0022D): the caller stops in this power state, until it is woken. Where it powers
 /// down it then goes on at the opening, else after its call. At the start limit it could never be
 /// woken, and goes on at once.
-pub fn cpu_suspend(
-    board: &Board,
-    state: &mut State,
-    caller: Core,
-    word: u32,
-    opening: Opening,
-) -> Outcome
-    requires { MayCall board.now state.old caller.number }
-    ensures answer { FunctionAnswered board.now (values_in state.old) caller.number
+pub fn cpu_suspend(state: &mut State, caller: Core, word: u32, opening: Opening) -> Outcome
+    requires { MayCall state.old caller.number }
+    ensures answer { FunctionAnswered state.old.board (values_in state.old) caller.number
         (CpuSuspend word opening.address opening.context) result (values_in state.new) }
-    ensures state { IsStateOf board.now state.new }
+    ensures board { state.new.board ≡ state.old.board }
 {
     law_may_claim();
+    let board = state.board();
     let Ok(ask) = Ask::read(word, FORMAT, board.height()) else {
         return Outcome::returns(Code::INVALID_PARAMETERS);
     };
@@ -48,7 +43,7 @@ pub fn cpu_suspend(
     if state.known(caller) == board.start_limit() {
         return Outcome::returns(Code::SUCCESS);
     }
-    sleep(board, state, caller, ask, opening)
+    sleep(state, caller, ask, opening)
 }
 
 /// Whether a core that asks for this would go on at an address that it may not enter.
@@ -59,19 +54,19 @@ fn has_invalid_entry(board: &Board, ask: Ask, entry_point: u64) -> bool
 }
 
 /// A core is suspended with this ask, or is answered why it may not be.
-pub fn sleep(board: &Board, state: &mut State, core: Core, ask: Ask, opening: Opening) -> Outcome
-    requires call { MayCall board.now state.old core.number }
-    requires may { MaySuspend board.now (values_in state.old) core.number ask opening }
+pub fn sleep(state: &mut State, core: Core, ask: Ask, opening: Opening) -> Outcome
+    requires call { MayCall state.old core.number }
+    requires may { MaySuspend state.old.board (values_in state.old) core.number ask opening }
     ensures answer { result ≡ suspend_answer (values_in state.old) core.number
-        (suspend_parts board.now (values_in state.old) core.number ask) }
-    ensures after { Suspends board.now (values_in state.old) core.number
+        (suspend_parts state.old.board (values_in state.old) core.number ask) }
+    ensures after { Suspends state.old.board (values_in state.old) core.number
         (suspends opening ask) result
         (values_in state.new) }
-    ensures state { IsStateOf board.now state.new }
+    ensures board { state.new.board ≡ state.old.board }
 {
     law_stops();
-    match state.suspend(board, core, ask, opening) {
-        Ok(parts) => send_down(board, state, core, parts),
+    match state.suspend(core, ask, opening) {
+        Ok(parts) => send_down(state, core, parts),
         Err(reason) => Outcome::returns(osi_code(reason)),
     }
 }

@@ -9,12 +9,12 @@ ghost use Rattle.psci_fw_spec.specs.Phases.{Away};
 ghost use Rattle.psci_fw_spec.specs.SystemCalls.{all_others, is_off_status, system_message};
 ghost use Rattle.psci_fw.specs.Calls.{FunctionAnswered, MayCall};
 ghost use Rattle.psci_fw.specs.Halts.{IsOfSystem};
-ghost use Rattle.psci_fw_state.specs.Seen.{IsStateOf, values_in};
+ghost use Rattle.psci_fw_state.specs.Seen.{values_in};
 
 use crate::laws::law_may_claim;
 use crate::suspend::sleep;
 use psci_abi::Code;
-use psci_board::{Board, Core};
+use psci_board::Core;
 use psci_coord::Parts;
 use psci_fw_spec::{Opening, Outcome, Status};
 use psci_fw_state::State;
@@ -26,82 +26,84 @@ const SYSTEM_WARM_RESET: u32 = 0;
 
 /// SYSTEM_SUSPEND (DEN0022D): the caller is suspended with power-down of all levels, where every
 /// other core is OFF. It then goes on at the opening.
-pub fn system_suspend(board: &Board, state: &mut State, caller: Core, opening: Opening) -> Outcome
-    requires { MayCall board.now state.old caller.number }
-    ensures answer { FunctionAnswered board.now (values_in state.old) caller.number
+pub fn system_suspend(state: &mut State, caller: Core, opening: Opening) -> Outcome
+    requires { MayCall state.old caller.number }
+    ensures answer { FunctionAnswered state.old.board (values_in state.old) caller.number
         (requests.SystemSuspend opening.address opening.context) result (values_in state.new) }
-    ensures state { IsStateOf board.now state.new }
+    ensures board { state.new.board ≡ state.old.board }
 {
     law_may_claim();
+    let board = state.board();
     if !board.may_enter(opening.address) {
         return Outcome::returns(Code::INVALID_ADDRESS);
     }
-    if !are_others_off(board, state, caller) {
+    if !are_others_off(state, caller) {
         return Outcome::returns(Code::DENIED);
     }
     if state.known(caller) == board.start_limit() {
         return Outcome::returns(Code::DENIED);
     }
-    sleep(board, state, caller, Ask::deepest(board.height()), opening)
+    let ask = Ask::deepest(board.height());
+    sleep(state, caller, ask, opening)
 }
 
 /// Whether every core but this one is OFF.
-fn are_others_off(board: &Board, state: &State, caller: Core) -> bool
+fn are_others_off(state: &State, caller: Core) -> bool
     ensures { let status = (values_in state.now).status in
-        result ≡ all_others board.now caller.number (λ k. is_off_status (status k)) }
+        result ≡ all_others state.now.board caller.number (λ k. is_off_status (status k)) }
 {
-    (0..board.cores()).all(|number| number == caller.number
+    (0..state.board().cores()).all(|number| number == caller.number
         || state.status(Core { number }) == Status::Off)
 }
 
 /// SYSTEM_OFF (DEN0022D): the caller stops, and the system goes off.
-pub fn system_off(board: &Board, state: &mut State, caller: Core) -> Outcome
-    requires { MayCall board.now state.old caller.number }
-    ensures answer { FunctionAnswered board.now
+pub fn system_off(state: &mut State, caller: Core) -> Outcome
+    requires { MayCall state.old caller.number }
+    ensures answer { FunctionAnswered state.old.board
         (values_in state.old) caller.number requests.SystemOff
         result (values_in state.new) }
-    ensures state { IsStateOf board.now state.new }
+    ensures board { state.new.board ≡ state.old.board }
 {
-    halt(board, state, caller, Kind::Off)
+    halt(state, caller, Kind::Off)
 }
 
 /// SYSTEM_RESET (DEN0022D): the caller stops, and the system is reset.
-pub fn system_reset(board: &Board, state: &mut State, caller: Core) -> Outcome
-    requires { MayCall board.now state.old caller.number }
-    ensures answer { FunctionAnswered board.now
+pub fn system_reset(state: &mut State, caller: Core) -> Outcome
+    requires { MayCall state.old caller.number }
+    ensures answer { FunctionAnswered state.old.board
         (values_in state.old) caller.number requests.SystemReset
         result (values_in state.new) }
-    ensures state { IsStateOf board.now state.new }
+    ensures board { state.new.board ≡ state.old.board }
 {
-    halt(board, state, caller, Kind::Reset)
+    halt(state, caller, Kind::Reset)
 }
 
 /// SYSTEM_RESET2 (DEN0022D): the only type that is there is carried out as SYSTEM_RESET. The cookie
 /// is of use to types of vendors alone, so it is not looked at.
-pub fn system_reset2(board: &Board, state: &mut State, caller: Core, reset_type: u32) -> Outcome
-    requires { MayCall board.now state.old caller.number }
-    ensures answer { (cookie : ℕ) → FunctionAnswered board.now (values_in state.old) caller.number
-        (requests.SystemReset2 reset_type cookie) result (values_in state.new) }
-    ensures state { IsStateOf board.now state.new }
+pub fn system_reset2(state: &mut State, caller: Core, reset_type: u32) -> Outcome
+    requires { MayCall state.old caller.number }
+    ensures answer { (cookie : ℕ) → FunctionAnswered state.old.board (values_in state.old)
+        caller.number (requests.SystemReset2 reset_type cookie) result (values_in state.new) }
+    ensures board { state.new.board ≡ state.old.board }
 {
     if reset_type != SYSTEM_WARM_RESET {
         return Outcome::returns(Code::INVALID_PARAMETERS);
     }
-    system_reset(board, state, caller)
+    system_reset(state, caller)
 }
 
 /// The caller stops, and sends a message of this kind for the whole system.
-fn halt(board: &Board, state: &mut State, caller: Core, kind: Kind) -> Outcome
-    requires call { MayCall board.now state.old caller.number }
+fn halt(state: &mut State, caller: Core, kind: Kind) -> Outcome
+    requires call { MayCall state.old caller.number }
     requires kind { IsOfSystem kind }
     ensures answer { result ≡ system_message (values_in state.old) kind caller.number }
     ensures after { values_in state.new
         ≡ with_halt (message_for (values_in state.old) kind caller.number [])
         (with_phase caller.number Away (values_in state.old)) }
-    ensures state { IsStateOf board.now state.new }
+    ensures board { state.new.board ≡ state.old.board }
 {
-    let message = state.message(board, kind, caller, Parts::new());
-    state.set_away(board, caller);
-    state.halt(board, message.copy());
+    let message = state.message(kind, caller, Parts::new());
+    state.set_away(caller);
+    state.halt(message.copy());
     Outcome::stops_with(message)
 }

@@ -24,7 +24,7 @@ use Rattle.psci_fw_spec.specs.Phases as phases
 use Rattle.psci_fw_spec.specs.Values.{Values}
 use Rattle.psci_fw_state.specs.declared.row.CoreRow.{CoreRow}
 use Rattle.psci_fw_state.specs.Rows.{AreFirst, first_row, off_row, row_at}
-use Rattle.psci_fw_state.specs.Seen.{StateValue, phase_by, values_in}
+use Rattle.psci_fw_state.specs.Seen.{IsState, StateValue, phase_by, values_in}
 use Rattle.psci_fw_state.proofs.Equal.{same_values}
 
 -- Every board has a core ------------------------------------------------------------------------
@@ -161,13 +161,14 @@ granted_first b u l p is e law =
         flip true = refl
         flip false = refl
 
-pub at_start : (b : BoardValue) (life : ℕ) (u : TreeValue) (rows : List CoreRow)
+pub at_start : (b kept : BoardValue) (life : ℕ) (u : TreeValue) (rows : List CoreRow)
     (slots : SlotsValue) → IsBoard b → IsDomainTree u → u.levels ≡ b.levels
     → ((c : ℕ) → state_at u c ≡ first_core c)
     → ((l p : ℕ) → l ≤ height b → p < nodes b l
     → granted_at u l p ≡ cond (place_above b.levels l 0 == p) 0 3)
     → AreFirst b rows → ((slot : Slot) → message_in slots slot ≡ None)
     → values_in (record {
+      board = kept;
       life = life;
       halting = false;
       mode = Platform;
@@ -176,7 +177,7 @@ pub at_start : (b : BoardValue) (life : ℕ) (u : TreeValue) (rows : List CoreRo
       slots = slots;
     }) ≡ start_of_life b life
 unfolding values_in
-at_start b life u rows slots is tree levels cores_are granted first empty =
+at_start b kept life u rows slots is tree levels cores_are granted first empty =
     let each : (k : ℕ) → row_at rows k ≡ first_row b k = each_first b rows is first in
     same_values _ _ (record {
       life = refl;
@@ -203,19 +204,18 @@ none_in n (OfCore c) = elim (cases_lt c n) [
 ]
 
 -- a life that is not the firmware's begins
-pub begun : (b : BoardValue) (life : ℕ) (now : Values) (w : Values) → (life ≡ now.life → ⊥)
-    → w ≡ start_of_life b life → w ≡ in_life b life now
-begun b life now w other e = let new : (life == now.life) ≡ false = grind arith in rw new e
-
-pub life_is : (s now : StateValue) → s ≡ now → (values_in now).life ≡ s.life
+pub begun : (s now : StateValue) (life : ℕ) (w : Values) → s ≡ now → (life ≡ s.life → ⊥)
+    → w ≡ start_of_life s.board life → w ≡ in_life now.board life (values_in now)
 unfolding values_in
-life_is s now e = ap (λ (x : StateValue). x.life) (sym e)
+begun s now life w e other is =
+    let new : (life == s.life) ≡ false = grind arith in
+    rw (← e) (rw new is)
 
-pub granted_shown : (b : BoardValue) (s now : StateValue) (l p : ℕ) → s ≡ now
-    → IsDomainTree s.tree → s.tree.levels ≡ b.levels → (l ≤ height b → p < nodes b l → ⊥)
-    → 0 ≡ (values_in now).granted l p
+pub granted_shown : (s now : StateValue) (l p : ℕ) → s ≡ now → IsState s
+    → (l ≤ height s.board → p < nodes s.board l → ⊥) → 0 ≡ (values_in now).granted l p
 unfolding values_in
-granted_shown b s now l p e tree levels n =
-    sym (granted_beyond s.tree l p tree
-    (subst (λ (ws : List (List ℕ)). l ≤ length ws → p < size_below (drop l ws) → ⊥) (sym levels) n))
+granted_shown s now l p e is n =
+    sym (granted_beyond s.tree l p is.tree
+    (subst (λ (ws : List (List ℕ)). l ≤ length ws → p < size_below (drop l ws) → ⊥)
+    (sym is.levels) n))
     ∙ ap (λ (x : StateValue). granted_at x.tree l p) e

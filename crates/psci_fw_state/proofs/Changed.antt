@@ -1,10 +1,10 @@
 -- What the values in a state say once the state of one core, or its row, is another one.
 use Rattle.std.proofs.Common.{◌≡◌, ℕ, ◌<◌, ◌==◌, Bool, true, false, cond, List, length}
-use Rattle.std.proofs.Common.{refl, sym, subst, ◌∙◌, ap, arith}
+use Rattle.std.proofs.Common.{refl, sym, ◌∙◌, ap, arith}
 use Rattle.std.proofs.Math.ListN.{set}
 use Rattle.std.proofs.lemmas.Bool.{eqb-true, eqb-false}
 use Rattle.std.proofs.lemmas.List.{get_or-set_same, get_or-set_other}
-use Rattle.psci_board.specs.Board.{BoardValue, cores, size_below}
+use Rattle.psci_board.specs.Board.{cores, size_below}
 use Rattle.psci_tree.specs.declared.state.Activity.TheVariants as activities
 use Rattle.psci_tree.specs.declared.state.CoreState.{CoreState}
 use Rattle.psci_tree.specs.Recount.{TreeValue, state_at, granted_at, known_at}
@@ -16,7 +16,7 @@ use Rattle.psci_fw_spec.specs.Phases as phases
 use Rattle.psci_fw_spec.specs.Values.{updated}
 use Rattle.psci_fw_state.specs.declared.row.CoreRow.{CoreRow}
 use Rattle.psci_fw_state.specs.Rows.{off_row, row_at}
-use Rattle.psci_fw_state.specs.Seen.{IsState, IsStateOf, StateValue, is_pending_phase, phase_by}
+use Rattle.psci_fw_state.specs.Seen.{IsState, StateValue, is_pending_phase, phase_by}
 use Rattle.psci_fw_state.specs.Seen.{values_in}
 use Rattle.psci_fw_state.proofs.Equal.{same_values}
 
@@ -110,23 +110,18 @@ suspended_is statuses.Pending ask = refl
 -- Places ----------------------------------------------------------------------------------------
 
 -- a core of the board has a place in the tree, in the rows and in the slots
-pub within : (b : BoardValue) (s now : StateValue) (c : ℕ) → s ≡ now → IsState s
-    → IsStateOf b now → c < cores b → c < length s.tree.cores
-within b s now c e is of inside =
-    let at : IsStateOf b s = subst (IsStateOf b) (sym e) of in
-    let levels : size_below s.tree.levels ≡ size_below b.levels = ap size_below at.levels in
+pub within : (s now : StateValue) (c : ℕ) → s ≡ now → IsState s → c < cores now.board
+    → c < length s.tree.cores
+within s now c e is inside =
+    let levels : size_below s.tree.levels ≡ cores s.board = ap size_below is.levels in
+    let there : c < cores s.board = rw e inside in
     omega (arith, is.tree.cores)
 
-pub in_rows : (b : BoardValue) (s now : StateValue) (c : ℕ) → s ≡ now → IsState s
-    → IsStateOf b now → c < cores b → c < length s.rows
-in_rows b s now c e is of inside = omega (arith, is.rows, within b s now c e is of inside)
-
-pub row_count : (b : BoardValue) (s now : StateValue) → s ≡ now → IsState s → IsStateOf b now
-    → length s.rows ≡ cores b
-row_count b s now e is of =
-    let at : IsStateOf b s = subst (IsStateOf b) (sym e) of in
-    let levels : size_below s.tree.levels ≡ size_below b.levels = ap size_below at.levels in
-    omega (arith, is.rows, is.tree.cores)
+pub in_rows : (s now : StateValue) (c : ℕ) → s ≡ now → IsState s → c < cores now.board
+    → c < length s.rows
+in_rows s now c e is inside =
+    let there : c < cores s.board = rw e inside in
+    omega (arith, is.rows)
 
 -- Changes ---------------------------------------------------------------------------------------
 

@@ -28,7 +28,7 @@ use Rattle.psci_fw_spec.specs.Phases as phases
 use Rattle.psci_fw_spec.specs.Values.{Values, updated}
 use Rattle.psci_fw_state.specs.declared.row.CoreRow.{CoreRow}
 use Rattle.psci_fw_state.specs.Rows.{row_at}
-use Rattle.psci_fw_state.specs.Seen.{StateValue, is_pending_phase, phase_by, stopped, values_in}
+use Rattle.psci_fw_state.specs.Seen.{IsState, StateValue, is_pending_phase, phase_by, stopped, values_in}
 use Rattle.psci_fw_state.proofs.Changed.{Set, ap_set, both_set, core_set}
 use Rattle.psci_fw_state.proofs.Changed.{stays, suspended_is}
 use Rattle.psci_fw_state.proofs.Changed.{updated_is}
@@ -103,16 +103,16 @@ eqb_swap : (x y : ℕ) → (x == y) ≡ (y == x)
 eqb_swap x y = grind arith
 
 -- nothing is granted on the path of a core, as the tree says it and as the values do
-pub path_cleared : (b : BoardValue) (s : StateValue) (u : TreeValue) (c : ℕ)
-    → s.tree.levels ≡ b.levels
+pub path_cleared : (s : StateValue) (u : TreeValue) (c : ℕ) → IsState s
     → ((l p : ℕ) → granted_at u l p
     ≡ cond (place_above s.tree.levels l c == p) 0 (granted_at s.tree l p))
-    → (l p : ℕ) → granted_at u l p ≡ cleared b c (granted_at s.tree) l p
+    → (l p : ℕ) → granted_at u l p ≡ cleared s.board c (granted_at s.tree) l p
 unfolding up
-path_cleared b s u c e law l p =
+path_cleared s u c is law l p =
     law l p
-    ∙ ap (λ (ws : List (List ℕ)). cond (place_above ws l c == p) 0 (granted_at s.tree l p)) e
-    ∙ ap (λ (t : Bool). cond t 0 (granted_at s.tree l p)) (eqb_swap (place_above b.levels l c) p)
+    ∙ ap (λ (ws : List (List ℕ)). cond (place_above ws l c == p) 0 (granted_at s.tree l p))
+    is.levels
+    ∙ ap (λ (t : Bool). cond t 0 (granted_at s.tree l p)) (eqb_swap (place_above s.board.levels l c) p)
 
 -- Asked on --------------------------------------------------------------------------------------
 
@@ -193,21 +193,21 @@ running_of b s u rows slots c start at row granted empty = same_values _ _ (reco
   outstanding = empty;
 })
 
-pub running_changed : (b : BoardValue) (s now : StateValue) (u : TreeValue) (rows : List CoreRow)
+pub running_changed : (s now : StateValue) (u : TreeValue) (rows : List CoreRow)
     (slots : SlotsValue) (c : ℕ) (start : Start) → s ≡ now → (values_in now).life ≡ start.life
     → ((k : ℕ) → state_at u k
     ≡ cond (c == k) (record { activity = activities.Active; known = start.number })
     (state_at s.tree k))
     → Set (row_at s.rows) (row_at rows) c (record { status = statuses.On; opening = None })
-    → ((l p : ℕ) → granted_at u l p ≡ cleared b c (granted_at s.tree) l p)
+    → ((l p : ℕ) → granted_at u l p ≡ cleared s.board c (granted_at s.tree) l p)
     → ((slot : Slot) → message_in slots slot
     ≡ changed slot (Clear (record { number = c })) (message_in s.slots slot))
     → values_in (record s { tree = u; rows = rows; slots = slots })
-    ≡ with_running c (with_arrival b c start (values_in now))
-running_changed b s now u rows slots c start e life at row granted empty =
+    ≡ with_running c (with_arrival now.board c start (values_in now))
+running_changed s now u rows slots c start e life at row granted empty =
     rw (← e)
-    (running_of b s u rows slots c start (core_set s.tree u c _ at) row granted empty
-    ∙ ap (with_running c) (sym (arrives b c start (values_in s) (rw e life))))
+    (running_of s.board s u rows slots c start (core_set s.tree u c _ at) row granted empty
+    ∙ ap (with_running c) (sym (arrives s.board c start (values_in s) (rw e life))))
 
 -- the phase of a core that stops, by whether it was pending
 stopped_phase : (s : Status) (a : Activity) (pending : Bool)
@@ -270,7 +270,7 @@ stopped_of b s u rows slots c start pending was at row granted empty = same_valu
   outstanding = empty;
 })
 
-pub stopped_changed : (b : BoardValue) (s now : StateValue) (u : TreeValue) (rows : List CoreRow)
+pub stopped_changed : (s now : StateValue) (u : TreeValue) (rows : List CoreRow)
     (slots : SlotsValue) (c : ℕ) (start : Start) (pending : Bool) → s ≡ now
     → (values_in now).life ≡ start.life → pending ≡ is_pending_phase ((values_in now).phase c)
     → ((k : ℕ) → state_at u k
@@ -280,13 +280,13 @@ pub stopped_changed : (b : BoardValue) (s now : StateValue) (u : TreeValue) (row
       status = (row_at s.rows c).status;
       opening = None;
     })
-    → ((l p : ℕ) → granted_at u l p ≡ cleared b c (granted_at s.tree) l p)
+    → ((l p : ℕ) → granted_at u l p ≡ cleared s.board c (granted_at s.tree) l p)
     → ((slot : Slot) → message_in slots slot
     ≡ changed slot (Clear (record { number = c })) (message_in s.slots slot))
     → values_in (record s { tree = u; rows = rows; slots = slots })
-    ≡ with_phase c phases.Away (with_arrival b c start (values_in now))
-stopped_changed b s now u rows slots c start pending e life was at row granted empty =
+    ≡ with_phase c phases.Away (with_arrival now.board c start (values_in now))
+stopped_changed s now u rows slots c start pending e life was at row granted empty =
     rw (← e)
-    (stopped_of b s u rows slots c start pending (rw e (sym was)) (core_set s.tree u c _ at) row
-    granted empty
-    ∙ ap (with_phase c phases.Away) (sym (arrives b c start (values_in s) (rw e life))))
+    (stopped_of s.board s u rows slots c start pending (rw e (sym was)) (core_set s.tree u c _ at)
+    row granted empty
+    ∙ ap (with_phase c phases.Away) (sym (arrives s.board c start (values_in s) (rw e life))))

@@ -14,7 +14,7 @@ use Rattle.psci_fw_spec.specs.declared.status.Status.{Status}
 use Rattle.psci_fw_spec.specs.declared.status.Status.TheVariants.{On, Off, Pending}
 use Rattle.psci_fw_spec.specs.AffinityInfo.{is_on, is_pending_status, node_status, status_over}
 use Rattle.psci_fw_state.specs.declared.row.CoreRow.{CoreRow}
-use Rattle.psci_fw_state.specs.Seen.{StateValue, values_in}
+use Rattle.psci_fw_state.specs.Seen.{IsState, StateValue, values_in}
 use Rattle.psci_fw_state.specs.Rows.{off_row, row_at, status_of_all}
 
 -- The span of a node --------------------------------------------------------------------------
@@ -93,14 +93,14 @@ status_some b rows n s laws len e =
     let pending = any_range (λ r. is_pending_status r.status) rows s.count s.first within in
     rw (status_all b (λ c. (row_at rows c).status) n laws at.has, all, on, pending) refl
 
-pub status_seen : (b : BoardValue) (s now : StateValue) (n : Node) (span : CoreSpan) → s ≡ now
-    → SpanLaws b.levels → length s.rows ≡ cores b → cores_below b n ≡ Some span
+pub status_seen : (s now : StateValue) (n : Node) (span : CoreSpan) → s ≡ now → IsState s
+    → SpanLaws s.board.levels → cores_below s.board n ≡ Some span
     → status_of_all (take span.count (drop span.first s.rows))
-    ≡ node_status b (values_in now).status n
+    ≡ node_status now.board (values_in now).status n
 unfolding values_in
-status_seen b s now n span same laws len e =
-    status_some b s.rows n span laws len e
-    ∙ ap (λ (x : StateValue). node_status b (λ c. (row_at x.rows c).status) n) same
+status_seen s now n span same is laws e =
+    status_some s.board s.rows n span laws is.rows e
+    ∙ ap (λ (x : StateValue). node_status x.board (λ c. (row_at x.rows c).status) n) same
 
 pub status_none : (b : BoardValue) (status : ℕ → Status) (n : Node) → cores_below b n ≡ None
     → Off ≡ node_status b status n

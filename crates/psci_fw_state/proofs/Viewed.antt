@@ -19,7 +19,7 @@ use Rattle.psci_fw_spec.specs.Phases.{activity_of}
 use Rattle.psci_fw_spec.specs.Values.{Values}
 use Rattle.psci_fw_spec.specs.Views.{view}
 use Rattle.psci_fw_state.specs.Rows.{row_at}
-use Rattle.psci_fw_state.specs.Seen.{StateValue, phase_by, values_in}
+use Rattle.psci_fw_state.specs.Seen.{IsState, StateValue, phase_by, values_in}
 
 back : (s : Status) (a : Activity) → activity_of (phase_by s a) ≡ a
 back statuses.On activities.Active = refl
@@ -32,25 +32,20 @@ back statuses.On activities.Off = refl
 back statuses.Off activities.Off = refl
 back statuses.Pending activities.Off = refl
 
-viewed : (b : BoardValue) (s : StateValue) → s.tree.levels ≡ b.levels
-    → view_of s.tree ≡ view b (values_in s)
+pub viewed : (s : StateValue) → IsState s → view_of s.tree ≡ view s.board (values_in s)
 unfolding view values_in
-viewed b s e =
+viewed s is =
     let at : (c : ℕ) → (state_at s.tree c).activity
     ≡ activity_of (phase_by (row_at s.rows c).status (state_at s.tree c).activity) =
     λ c. sym (back (row_at s.rows c).status (state_at s.tree c).activity) in
     λ i. record {
       ask = λ c level.
-          if nat_le level (length (e i)) then asks (at c i) level else 0;
+          if nat_le level (length (is.levels i)) then asks (at c i) level else 0;
       known = (view_of s.tree).known;
       is_active = λ c. is_active (at c i);
       is_off = λ c. is_off (at c i);
       granted = (view_of s.tree).granted;
     }
-
-pub view_is : (b : BoardValue) (s now : StateValue) → s ≡ now → s.tree.levels ≡ b.levels
-    → view_of s.tree ≡ view b (values_in now)
-view_is b s now e levels = viewed b s levels ∙ ap (λ (x : StateValue). view b (values_in x)) e
 
 -- Suspended -------------------------------------------------------------------------------------
 

@@ -20,6 +20,8 @@ use Rattle.psci_fw_state.specs.Rows.{row_at}
 
 -- The state of the firmware, as contracts see it.
 pub record StateValue : Type 0 where
+  -- whose power domains and cores they are
+  pub board : BoardValue
   -- 0 before any core has entered
   pub life : ℕ
   pub halting : Bool
@@ -69,16 +71,13 @@ values_in s = record {
   outstanding = λ slot. message_in s.slots slot;
 }
 
--- Shapes: a tree of power domains, and as many rows and slots as it has cores.
+-- Shapes: the tree of the board's power domains, and a row and a slot for each of its cores.
 pub record IsState (s : StateValue) : Type 0 where
+  pub board : IsBoard s.board
   pub tree : IsDomainTree s.tree
-  pub rows : length s.rows ≡ length s.tree.cores
-  pub slots : length s.slots.cores ≡ length s.tree.cores
-
--- the state of a board's firmware: both have the same power domains
-pub record IsStateOf (b : BoardValue) (s : StateValue) : Type 0 where
-  pub board : IsBoard b
-  pub levels : s.tree.levels ≡ b.levels
+  pub levels : s.tree.levels ≡ s.board.levels
+  pub rows : length s.rows ≡ cores s.board
+  pub slots : length s.slots.cores ≡ cores s.board
 
 -- the outstanding message of the core of this number, or of the system at the number of cores
 abbrev pub message_shown : BoardValue → Values → ℕ → Option MessageValue

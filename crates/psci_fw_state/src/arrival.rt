@@ -6,11 +6,11 @@ ghost use Rattle.psci_tree.specs.Recount.{IsDomainTree, state_at, granted_at};
 ghost use Rattle.psci_fw_spec.specs.Changes.{with_arrival, with_phase, with_running};
 ghost use Rattle.psci_fw_spec.specs.Lives.{in_life};
 ghost use Rattle.psci_fw_spec.specs.Phases.{Away};
-ghost use Rattle.psci_fw_state.specs.Seen.{IsStateOf, stopped, values_in};
+ghost use Rattle.psci_fw_state.specs.Seen.{stopped, values_in};
 
 use crate::row::{CoreRow, reset_rows, row_of, set_row};
 use crate::state::State;
-use psci_board::{Board, Core};
+use psci_board::Core;
 use psci_fw_spec::{Start, Status, SuspendMode};
 use psci_link::law_slots;
 use psci_tree::{Tree, law_cores, law_granted, law_start_of_life};
@@ -18,10 +18,9 @@ use psci_tree::{Tree, law_cores, law_granted, law_start_of_life};
 impl State {
     /// The firmware is in this life: all is as at its start, if it is a new one.
     #[tactic(auto, unfolding(crate::specs::Seen::values_in))]
-    pub fn begin_life(&mut self, board: &Board, life: u32)
-        requires { IsStateOf board.now self.old }
-        ensures after { values_in self.new ≡ in_life board.now life (values_in self.old) }
-        ensures state { IsStateOf board.now self.new }
+    pub fn begin_life(&mut self, life: u32)
+        ensures after { values_in self.new ≡ in_life self.old.board life (values_in self.old) }
+        ensures board { self.new.board ≡ self.old.board }
     {
         law_start_of_life();
         law_slots();
@@ -32,19 +31,18 @@ impl State {
         self.halting = false;
         self.mode = SuspendMode::Platform;
         self.tree.reset_life();
-        reset_rows(&mut self.rows, board);
+        reset_rows(&mut self.rows, &self.board);
         self.slots.clear_all();
     }
 
     /// A core has entered by this start of the firmware's life, and goes on: it is ON and runs.
     #[tactic(auto, unfolding(crate::specs::Seen::values_in))]
-    pub fn arrive_running(&mut self, board: &Board, core: Core, start: Start)
-        requires state { IsStateOf board.now self.old }
-        requires inside { core.number < cores board.now }
+    pub fn arrive_running(&mut self, core: Core, start: Start)
+        requires inside { core.number < cores self.old.board }
         requires life { (values_in self.old).life ≡ start.life }
         ensures after { values_in self.new ≡ with_running core.number
-            (with_arrival board.now core.number start (values_in self.old)) }
-        ensures state { IsStateOf board.now self.new }
+            (with_arrival self.old.board core.number start (values_in self.old)) }
+        ensures board { self.new.board ≡ self.old.board }
     {
         law_cores();
         law_granted();
@@ -61,13 +59,12 @@ impl State {
     /// A core has entered by this start of the firmware's life, and stops: it is off or going off,
     /// unless it is pending, and stays so.
     #[tactic(auto, unfolding(crate::specs::Seen::values_in))]
-    pub fn arrive_away(&mut self, board: &Board, core: Core, start: Start)
-        requires state { IsStateOf board.now self.old }
-        requires inside { core.number < cores board.now }
+    pub fn arrive_away(&mut self, core: Core, start: Start)
+        requires inside { core.number < cores self.old.board }
         requires life { (values_in self.old).life ≡ start.life }
         ensures after { values_in self.new ≡ with_phase core.number Away
-            (with_arrival board.now core.number start (values_in self.old)) }
-        ensures state { IsStateOf board.now self.new }
+            (with_arrival self.old.board core.number start (values_in self.old)) }
+        ensures board { self.new.board ≡ self.old.board }
     {
         law_slots();
         let pending = self.is_pending(core);

@@ -1,6 +1,6 @@
 //! What calls change in the state: each change of the values by a method of its own.
 
-ghost use Rattle.std.specs.Prelude.{◌≡◌, ◌<◌, ℕ, Some};
+ghost use Rattle.std.specs.Prelude.{◌≡◌, ◌<◌, Some};
 ghost use Rattle.psci_board.specs.Board.{cores};
 ghost use Rattle.psci_link.specs.declared.kind.Kind.TheVariants as kinds;
 ghost use Rattle.psci_link.specs.declared.taken.Taken.TheVariants.{Used, Old};
@@ -11,11 +11,11 @@ ghost use Rattle.psci_fw_spec.specs.Changes.{with_pending, with_phase, with_rest
 ghost use Rattle.psci_fw_spec.specs.Effects.{suspends};
 ghost use Rattle.psci_fw_spec.specs.Phases.{Away, Running};
 ghost use Rattle.psci_fw_spec.specs.Taking.{taken_by};
-ghost use Rattle.psci_fw_state.specs.Seen.{IsStateOf, values_in};
+ghost use Rattle.psci_fw_state.specs.Seen.{values_in};
 
 use crate::row::{CoreRow, row_of, set_row};
 use crate::state::State;
-use psci_board::{Board, Core};
+use psci_board::Core;
 use psci_fw_spec::{Opening, Status, SuspendMode};
 use psci_link::{Ack, Kind, Message, Taken, law_slots};
 use psci_state::Ask;
@@ -24,11 +24,10 @@ use psci_tree::{law_cores, law_granted};
 impl State {
     /// A core is off or going off, unless it is pending: it stays so.
     #[tactic(auto, unfolding(crate::specs::Seen::values_in))]
-    pub fn set_away(&mut self, board: &Board, core: Core)
-        requires state { IsStateOf board.now self.old }
-        requires inside { core.number < cores board.now }
+    pub fn set_away(&mut self, core: Core)
+        requires inside { core.number < cores self.old.board }
         ensures after { values_in self.new ≡ with_phase core.number Away (values_in self.old) }
-        ensures state { IsStateOf board.now self.new }
+        ensures board { self.new.board ≡ self.old.board }
     {
         law_cores();
         law_granted();
@@ -39,13 +38,12 @@ impl State {
 
     /// A running core is suspended with this ask; where it powers down it goes on at the opening.
     #[tactic(auto, unfolding(crate::specs::Seen::values_in))]
-    pub(crate) fn set_suspended(&mut self, board: &Board, core: Core, ask: Ask, opening: Opening)
-        requires state { IsStateOf board.now self.old }
-        requires inside { core.number < cores board.now }
+    pub(crate) fn set_suspended(&mut self, core: Core, ask: Ask, opening: Opening)
+        requires inside { core.number < cores self.old.board }
         requires running { (values_in self.old).phase core.number ≡ Running }
         ensures after { values_in self.new
             ≡ with_rest core.number (suspends opening ask) (values_in self.old) }
-        ensures state { IsStateOf board.now self.new }
+        ensures board { self.new.board ≡ self.old.board }
     {
         law_cores();
         law_granted();
@@ -61,14 +59,13 @@ impl State {
 
     /// The target of a Start message is on its way to this opening.
     #[tactic(auto, unfolding(crate::specs::Seen::values_in))]
-    pub fn set_pending(&mut self, board: &Board, message: Message, opening: Opening)
-        requires state { IsStateOf board.now self.old }
-        requires inside { message.core.number < cores board.now }
+    pub fn set_pending(&mut self, message: Message, opening: Opening)
+        requires inside { message.core.number < cores self.old.board }
         requires start { message.kind ≡ kinds.Start }
         ensures after { values_in self.new
-            ≡ with_pending board.now (record { message = message; opening = opening })
+            ≡ with_pending self.old.board (record { message = message; opening = opening })
             (values_in self.old) }
-        ensures state { IsStateOf board.now self.new }
+        ensures board { self.new.board ≡ self.old.board }
     {
         law_cores();
         law_granted();
@@ -85,21 +82,19 @@ impl State {
 
     /// The mode is set.
     #[tactic(auto, unfolding(crate::specs::Seen::values_in))]
-    pub fn set_mode(&mut self, board: &Board, mode: SuspendMode)
-        requires { IsStateOf board.now self.old }
+    pub fn set_mode(&mut self, mode: SuspendMode)
         ensures after { values_in self.new ≡ with_mode mode (values_in self.old) }
-        ensures state { IsStateOf board.now self.new }
+        ensures board { self.new.board ≡ self.old.board }
     {
         self.mode = mode;
     }
 
     /// The system goes off or is reset, as this message asks.
     #[tactic(auto, unfolding(crate::specs::Seen::values_in))]
-    pub fn halt(&mut self, board: &Board, message: Message)
-        requires state { IsStateOf board.now self.old }
-        requires slot { IsOfCores (cores board.now) (slot_of message.kind message.core) }
+    pub fn halt(&mut self, message: Message)
+        requires slot { IsOfCores (cores self.old.board) (slot_of message.kind message.core) }
         ensures after { values_in self.new ≡ with_halt message (values_in self.old) }
-        ensures state { IsStateOf board.now self.new }
+        ensures board { self.new.board ≡ self.old.board }
     {
         law_slots();
         self.halting = true;
@@ -109,13 +104,12 @@ impl State {
     /// An acknowledgement is taken: where it is of the outstanding message, and says that a part of
     /// a Down was applied, its core is OFF if it is off or going off.
     #[tactic(auto, unfolding(crate::specs::Seen::values_in))]
-    pub fn acknowledge(&mut self, board: &Board, ack: Ack) -> Taken
-        requires { IsStateOf board.now self.old }
+    pub fn acknowledge(&mut self, ack: Ack) -> Taken
         ensures taken { result ≡ taken_by (values_in self.old) ack }
         ensures used { result ≡ Used
             → values_in self.new ≡ with_acknowledgement ack (values_in self.old) }
         ensures old { result ≡ Old → values_in self.new ≡ values_in self.old }
-        ensures state { IsStateOf board.now self.new }
+        ensures board { self.new.board ≡ self.old.board }
     {
         law_slots();
         let core = ack.core;

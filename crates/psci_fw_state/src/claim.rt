@@ -15,7 +15,7 @@ ghost use Rattle.psci_fw_spec.specs.Paths.{granted_with};
 ghost use Rattle.psci_fw_spec.specs.Phases.{Running};
 ghost use Rattle.psci_fw_spec.specs.Views.{view};
 ghost use Rattle.psci_fw_state.specs.Claims.{MayClaim};
-ghost use Rattle.psci_fw_state.specs.Seen.{IsStateOf, values_in};
+ghost use Rattle.psci_fw_state.specs.Seen.{values_in};
 
 use crate::state::State;
 use psci_board::{Board, Core, law_paths, law_sizes};
@@ -28,44 +28,36 @@ use psci_tree::{Tree, law_cores, law_granted};
 
 impl State {
     /// The parts of a core that is off or going off.
-    pub fn leaving_parts(&self, board: &Board, core: Core) -> Parts
-        requires state { IsStateOf board.now self.now }
-        requires inside { core.number < cores board.now }
+    pub fn leaving_parts(&self, core: Core) -> Parts
+        requires inside { core.number < cores self.now.board }
         ensures { let v = values_in self.now in
-            result ≡ leaving_claims board.now (view board.now v) core.number v.mode }
+            result ≡ leaving_claims self.now.board (view self.now.board v) core.number v.mode }
     {
         match self.mode() {
-            SuspendMode::Platform => self.least_parts(board, core),
-            SuspendMode::OsInitiated => self.off_parts(board, core),
+            SuspendMode::Platform => self.least_parts(core),
+            SuspendMode::OsInitiated => self.off_parts(core),
         }
     }
 
     /// A running core is suspended with this ask: its parts, or why it may not be.
-    pub fn suspend(
-        &mut self,
-        board: &Board,
-        core: Core,
-        ask: Ask,
-        opening: Opening,
-    ) -> Result<Parts, Osi>
-        requires state { IsStateOf board.now self.old }
-        requires inside { core.number < cores board.now }
+    pub fn suspend(&mut self, core: Core, ask: Ask, opening: Opening) -> Result<Parts, Osi>
+        requires inside { core.number < cores self.old.board }
         requires running { (values_in self.old).phase core.number ≡ Running }
         ensures parts { result
-            ≡ suspend_parts board.now (values_in self.old) core.number ask }
+            ≡ suspend_parts self.old.board (values_in self.old) core.number ask }
         ensures after { IfOk result (λ _. values_in self.new
             ≡ with_rest core.number (suspends opening ask) (values_in self.old)) }
         ensures refused { OnErr result (self.new ≡ self.old) }
-        ensures state { IsStateOf board.now self.new }
+        ensures board { self.new.board ≡ self.old.board }
     {
         match self.mode() {
             SuspendMode::Platform => {
-                self.set_suspended(board, core, ask, opening);
-                Ok(self.least_parts(board, core))
+                self.set_suspended(core, ask, opening);
+                Ok(self.least_parts(core))
             }
-            SuspendMode::OsInitiated => match self.checked_parts(board, core, ask) {
+            SuspendMode::OsInitiated => match self.checked_parts(core, ask) {
                 Ok(parts) => {
-                    self.set_suspended(board, core, ask, opening);
+                    self.set_suspended(core, ask, opening);
                     Ok(parts)
                 }
                 Err(reason) => Err(reason),
@@ -75,47 +67,42 @@ impl State {
 
     /// The parts of a core in platform-coordinated mode.
     #[tactic(auto, unfolding(crate::specs::Seen::values_in))]
-    fn least_parts(&self, board: &Board, core: Core) -> Parts
-        requires state { IsStateOf board.now self.now }
-        requires inside { core.number < cores board.now }
-        ensures { result ≡ platform_claims board.now (view board.now (values_in self.now))
-            core.number }
+    fn least_parts(&self, core: Core) -> Parts
+        requires inside { core.number < cores self.now.board }
+        ensures { result ≡ platform_claims self.now.board
+            (view self.now.board (values_in self.now)) core.number }
     {
-        claims(&self.tree, board, core)
+        claims(&self.tree, &self.board, core)
     }
 
     /// The parts of a core that asks for this in OS-initiated mode, or why it may not.
     #[tactic(auto, unfolding(crate::specs::Seen::values_in))]
-    fn checked_parts(&self, board: &Board, core: Core, ask: Ask) -> Result<Parts, Osi>
-        requires state { IsStateOf board.now self.now }
-        requires inside { core.number < cores board.now }
-        ensures { result ≡ last_core_check board.now (view board.now (values_in self.now))
-            core.number ask }
+    fn checked_parts(&self, core: Core, ask: Ask) -> Result<Parts, Osi>
+        requires inside { core.number < cores self.now.board }
+        ensures { result ≡ last_core_check self.now.board
+            (view self.now.board (values_in self.now)) core.number ask }
     {
-        check(&self.tree, board, core, ask)
+        check(&self.tree, &self.board, core, ask)
     }
 
     /// The parts of a core that goes off in OS-initiated mode.
     #[tactic(auto, unfolding(crate::specs::Seen::values_in))]
-    fn off_parts(&self, board: &Board, core: Core) -> Parts
-        requires state { IsStateOf board.now self.now }
-        requires inside { core.number < cores board.now }
-        ensures { result ≡ off_claims board.now (view board.now (values_in self.now))
-            core.number }
+    fn off_parts(&self, core: Core) -> Parts
+        requires inside { core.number < cores self.now.board }
+        ensures { result ≡ off_claims self.now.board
+            (view self.now.board (values_in self.now)) core.number }
     {
-        off_parts(&self.tree, board, core)
+        off_parts(&self.tree, &self.board, core)
     }
 
     /// A message of this kind for a core, with its known start.
     #[tactic(auto, unfolding(crate::specs::Seen::values_in))]
-    pub fn message(&self, board: &Board, kind: Kind, core: Core, parts: Parts) -> Message
-        requires inside { core.number < cores board.now }
+    pub fn message(&self, kind: Kind, core: Core, parts: Parts) -> Message
+        requires inside { core.number < cores self.now.board }
         requires parts { ArePartsOf kind parts }
         ensures { result ≡ message_for (values_in self.now) kind core.number parts }
     {
         law_sizes();
-        // The call gives the proof the limit on the cores of a board, within which messages are.
-        let _cores = board.cores();
         Message {
             kind,
             core,
@@ -127,22 +114,21 @@ impl State {
 
     /// A Down was sent: the domains of its parts are granted what it claims.
     #[tactic(auto, unfolding(crate::specs::Seen::values_in))]
-    pub fn claim(&mut self, board: &Board, message: &Message)
-        requires state { IsStateOf board.now self.old }
-        requires inside { message.now.core.number < cores board.now }
+    pub fn claim(&mut self, message: &Message)
+        requires inside { message.now.core.number < cores self.old.board }
         requires down { message.now.kind ≡ kinds.Down }
         requires parts { AreClaims message.now.parts }
-        requires may { MayClaim board.now message.now.core.number message.now.parts
+        requires may { MayClaim self.old.board message.now.core.number message.now.parts
             (values_in self.old).granted }
-        ensures after { values_in self.new ≡ with_claims board.now message.now
+        ensures after { values_in self.new ≡ with_claims self.old.board message.now
             (values_in self.old) }
-        ensures state { IsStateOf board.now self.new }
+        ensures board { self.new.board ≡ self.old.board }
     {
         law_slots();
         law_granted();
         grant_parts(
             &mut self.tree,
-            board,
+            &self.board,
             message.core,
             message.parts.as_slice(),
         );

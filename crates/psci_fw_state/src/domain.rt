@@ -4,23 +4,22 @@ ghost use Rattle.std.specs.Prelude.{◌≡◌};
 ghost use Rattle.std.specs.List.{list_any};
 ghost use Rattle.psci_fw_spec.specs.AffinityInfo.{is_on, is_pending_status, node_status};
 ghost use Rattle.psci_fw_state.specs.Rows.{status_of_all};
-ghost use Rattle.psci_fw_state.specs.Seen.{IsStateOf, values_in};
+ghost use Rattle.psci_fw_state.specs.Seen.{values_in};
 
 use crate::row::CoreRow;
 use crate::state::State;
-use psci_board::{Board, Node, law_spans};
+use psci_board::{Node, law_spans};
 use psci_fw_spec::Status;
 
 impl State {
     /// The status of a core or power domain, by those of the cores below it. A node that the board
     /// does not have is OFF.
     #[tactic(auto, unfolding(crate::specs::Seen::values_in))]
-    pub fn node_status(&self, board: &Board, node: Node) -> Status
-        requires { IsStateOf board.now self.now }
-        ensures { result ≡ node_status board.now (values_in self.now).status node }
+    pub fn node_status(&self, node: Node) -> Status
+        ensures { result ≡ node_status self.now.board (values_in self.now).status node }
     {
         law_spans();
-        match board.cores_below(node) {
+        match self.board.cores_below(node) {
             Some(span) => {
                 let first = span.first as usize;
                 status_of_all(&self.rows[first..first + span.count as usize])

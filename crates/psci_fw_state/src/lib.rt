@@ -2,7 +2,7 @@
 //! it. What a call is answered, and which changes it comes to, is `psci_fw`. The words and the
 //! definitions are those of `psci_fw_spec`.
 //!
-//! - The *state* of the firmware is all that a call changes.
+//! - The *state* of the firmware is its board, and all that a call changes.
 //! - A *row* is what the state keeps of one core beside the tree of power domains.
 //! - A *claim* is what a core that stops asks of its power domains, and so sends.
 #![tactic(auto)]

@@ -1,4 +1,4 @@
-//! The state of the firmware: all that a call changes.
+//! The state of the firmware: its board, and all that a call changes.
 
 use crate::row::{CoreRow, first_rows, row_of};
 use psci_board::{Board, Core, Memory, Node};
@@ -8,10 +8,12 @@ use psci_tree::{Activity, Tree, law_start_of_life};
 use std::alloc::Global;
 use std::marker::Model;
 
-/// The state of the firmware. The tree has what each core asks, its known start and the granted
+/// The state of the firmware of one board. The tree has what each core asks, its known start and the granted
 /// depths; the rows have the rest of what is kept of a core.
 #[derive(Drop)]
 pub struct State {
+    /// The board whose firmware it is of.
+    pub(crate) board: Board,
     /// 0 before any core has entered.
     pub(crate) life: u32,
     /// SYSTEM_OFF, SYSTEM_RESET or SYSTEM_RESET2 was accepted in this life.
@@ -29,6 +31,7 @@ impl Model for State {
     ghost Value = { StateValue };
 
     ghost view = { λ s. record {
+      board = s.board;
       life = s.life;
       halting = s.halting;
       mode = s.mode;
@@ -38,6 +41,7 @@ impl Model for State {
     } };
 
     ghost invariant = { λ s. IsState (record {
+      board = s.board;
       life = s.life;
       halting = s.halting;
       mode = s.mode;
@@ -51,16 +55,18 @@ ghost use Rattle.std.specs.Prelude.{◌≡◌, IfOk, option_map};
 ghost use Rattle.psci_fw_spec.specs.Lives.{start_of_life};
 ghost use Rattle.psci_fw_spec.specs.Phases.{is_away, is_resumable, is_running};
 ghost use Rattle.psci_fw_spec.specs.Phases.{is_suspended_or_pending};
-ghost use Rattle.psci_fw_state.specs.Seen.{IsStateOf, is_pending_phase, message_shown, values_in};
+ghost use Rattle.psci_board.specs.Board.{IsBoard};
+ghost use Rattle.psci_fw_state.specs.Seen.{is_pending_phase, message_shown, values_in};
 
 impl State {
     /// The state of this board's firmware before any core has entered.
     pub fn new(alloc: Global, board: &Board) -> Result<State, Memory>
-        ensures state { IfOk result (λ state. IsStateOf board.now state) }
+        ensures board { IfOk result (λ state. state.board ≡ board.now) }
         ensures values { IfOk result (λ state. values_in state ≡ start_of_life board.now 0) }
     {
         law_start_of_life();
         Ok(State {
+            board: board.copy(alloc)?,
             life: 0,
             halting: false,
             mode: SuspendMode::Platform,
@@ -68,6 +74,14 @@ impl State {
             rows: first_rows(alloc, board)?,
             slots: Slots::new(alloc, board.cores())?,
         })
+    }
+
+    /// The board whose firmware it is of.
+    pub fn board(&self) -> &Board
+        ensures same { result.now ≡ self.now.board }
+        ensures board { IsBoard self.now.board }
+    {
+        &self.board
     }
 
     /// The life of the last start that entered, 0 before any.
@@ -120,11 +134,10 @@ impl State {
 
     /// The granted depth of a power domain.
     #[tactic(auto, unfolding(crate::specs::Seen::values_in))]
-    pub fn granted(&self, board: &Board, node: Node) -> u8
-        requires { IsStateOf board.now self.now }
+    pub fn granted(&self, node: Node) -> u8
         ensures { result ≡ (values_in self.now).granted node.level node.place }
     {
-        if node.place < board.nodes(node.level) {
+        if node.place < self.board.nodes(node.level) {
             self.tree.granted(node)
         } else {
             0
@@ -133,10 +146,9 @@ impl State {
 
     /// The outstanding message of the core of this number, or of the system at the number of cores.
     #[tactic(auto, unfolding(crate::specs::Seen::values_in))]
-    pub fn outstanding(&self, board: &Board, number: u16) -> Option<&Message>
-        requires { IsStateOf board.now self.now }
+    pub fn outstanding(&self, number: u16) -> Option<&Message>
         ensures { option_map (λ message. message.now) result
-            ≡ message_shown board.now (values_in self.now) number }
+            ≡ message_shown self.now.board (values_in self.now) number }
     {
         self.slots.outstanding(number)
     }

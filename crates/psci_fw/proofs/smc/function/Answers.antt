@@ -14,7 +14,7 @@ returns-in-SystemReset2-clause-answer c =
 
 pub returns-in-Features-clause-answer : goal.returns-in-Features-clause-answer
 returns-in-Features-clause-answer c =
-    let b = c.args.board.now in
+    let b = c.args.state.now.board in
     let v = values_in c.args.state.now in
     let core = c.args.caller.number in
     let asked = requests.Features c.in-Features.word in

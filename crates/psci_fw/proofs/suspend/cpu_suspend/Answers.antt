@@ -5,24 +5,30 @@ use Rattle.psci_fw.proofs.suspend.cpu_suspend.Goals as goal
 
 pub sleep-requires-clause-may : goal.sleep-requires-clause-may
 sleep-requires-clause-may c =
-    let named : ask_named c.args.board.now c.args.word ≡ Ok c.in-Ok.ask =
-    sym (rw c.height.ensures.height at c.read.ensures.value) ∙ c.in-Ok.is in
+    let named : ask_named c.args.state.now.board c.args.word ≡ Ok c.in-Ok.ask =
+    sym (rw (c.height.ensures.height, c.board-board.ensures.same) at c.read.ensures.value)
+    ∙ c.in-Ok.is in
+    let enters = rw c.board-board.ensures.same at c.has_invalid_entry.ensures in
+    let limit = rw c.board-board.ensures.same at c.start_limit.ensures in
     record {
       shape = c.in-Ok.ensures.shape;
-      may = c.law_may_claim.ensures.suspended c.args.board.now _ c.args.caller.number c.args.word
-          c.args.opening.address c.args.opening.context c.in-Ok.ask c.requires.state.board
+      may = c.law_may_claim.ensures.suspended c.args.state.now.board _ c.args.caller.number c.args.word
+          c.args.opening.address c.args.opening.context c.in-Ok.ask c.requires.board
           c.requires.inside c.requires.values c.requires.running c.requires.awake named
-          (sym c.has_invalid_entry.ensures ∙ c.if-has_invalid_entry.false)
+          (sym enters ∙ c.if-has_invalid_entry.false)
           (λ e. c.if-known-start_limit.false
-          (c.known.ensures ∙ e ∙ sym c.start_limit.ensures));
+          (c.known.ensures ∙ e ∙ sym limit));
     }
 
 pub returns-clause-answer : goal.returns-clause-answer
 returns-clause-answer c =
-    let named : ask_named c.args.board.now c.args.word ≡ Ok c.in-Ok.ask =
-    sym (rw c.height.ensures.height at c.read.ensures.value) ∙ c.in-Ok.is in
-    suspended_answered c.args.board.now _ c.args.caller.number c.args.word c.args.opening
+    let named : ask_named c.args.state.now.board c.args.word ≡ Ok c.in-Ok.ask =
+    sym (rw (c.height.ensures.height, c.board-board.ensures.same) at c.read.ensures.value)
+    ∙ c.in-Ok.is in
+    let enters = rw c.board-board.ensures.same at c.has_invalid_entry.ensures in
+    let limit = rw c.board-board.ensures.same at c.start_limit.ensures in
+    suspended_answered c.args.state.now.board _ c.args.caller.number c.args.word c.args.opening
     c.in-Ok.ask c.requires.running named c.sleep.result _
-    (sym c.has_invalid_entry.ensures ∙ c.if-has_invalid_entry.false)
-    (λ e. c.if-known-start_limit.false (c.known.ensures ∙ e ∙ sym c.start_limit.ensures))
+    (sym enters ∙ c.if-has_invalid_entry.false)
+    (λ e. c.if-known-start_limit.false (c.known.ensures ∙ e ∙ sym limit))
     c.sleep.ensures.answer c.sleep.ensures.after

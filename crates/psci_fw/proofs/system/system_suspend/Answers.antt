@@ -5,15 +5,17 @@ use Rattle.psci_fw.proofs.system.system_suspend.Goals as goal
 
 pub sleep-requires-clause-may : goal.sleep-requires-clause-may
 sleep-requires-clause-may c =
-    let asked : c.deepest.result ≡ deepest_of (height c.args.board.now) =
-    rw c.height.ensures.height at c.deepest.ensures.value in
+    let asked : c.deepest-ask.result ≡ deepest_of (height c.args.state.now.board) =
+    rw (c.height.ensures.height, c.board-board.ensures.same) at c.deepest-ask.ensures.value in
+    let enters = rw c.board-board.ensures.same at c.may_enter.ensures in
+    let limit = rw c.board-board.ensures.same at c.start_limit.ensures in
     record {
-      shape = c.deepest.ensures.shape;
-      may = rw asked (c.law_may_claim.ensures.system c.args.board.now _ c.args.caller.number
-          c.args.opening.address c.args.opening.context c.requires.state.board c.requires.inside
+      shape = c.deepest-ask.ensures.shape;
+      may = rw asked (c.law_may_claim.ensures.system c.args.state.now.board _ c.args.caller.number
+          c.args.opening.address c.args.opening.context c.requires.board c.requires.inside
           c.requires.values c.requires.running c.requires.awake
-          (sym c.may_enter.ensures ∙ c.if-not-may_enter.false)
+          (sym enters ∙ c.if-not-may_enter.false)
           (sym c.are_others_off.ensures ∙ c.if-not-are_others_off.false)
           (λ e. c.if-known-start_limit.false
-          (c.known.ensures ∙ e ∙ sym c.start_limit.ensures)));
+          (c.known.ensures ∙ e ∙ sym limit)));
     }

@@ -16,6 +16,7 @@ use Rattle.psci_fw_state.proofs.state.State.acknowledge.Goals as goal
 pub returns-then-is_off-clause-used : goal.returns-then-is_off-clause-used
 returns-then-is_off-clause-used c = λ used.
     let s : StateValue = record {
+      board = c.self.inside.board;
       life = c.self.inside.life;
       halting = c.self.inside.halting;
       mode = c.self.inside.mode;
@@ -55,6 +56,7 @@ returns-then-is_off-clause-used c = λ used.
 pub returns-then-eq-clause-old : goal.returns-then-eq-clause-old
 returns-then-eq-clause-old c = λ old.
     let s : StateValue = record {
+      board = c.self.inside.board;
       life = c.self.inside.life;
       halting = c.self.inside.halting;
       mode = c.self.inside.mode;
@@ -81,6 +83,7 @@ returns-then-eq-clause-old c = λ old.
 pub returns-else-is_off-clause-used : goal.returns-else-is_off-clause-used
 returns-else-is_off-clause-used c = λ used.
     let s : StateValue = record {
+      board = c.self.inside.board;
       life = c.self.inside.life;
       halting = c.self.inside.halting;
       mode = c.self.inside.mode;

@@ -1,7 +1,7 @@
-use Rattle.std.proofs.Common.{◌≡◌, None, sym, subst, ap, ◌∙◌}
+use Rattle.std.proofs.Common.{◌≡◌, None, ap, ◌∙◌}
 use Rattle.psci_link.specs.Slots.Change.{Clear}
 use Rattle.psci_fw_state.specs.Rows.{row_at}
-use Rattle.psci_fw_state.specs.Seen.{IsStateOf, StateValue}
+use Rattle.psci_fw_state.specs.Seen.{StateValue}
 use Rattle.psci_fw_state.proofs.Changed.{in_rows, row_set}
 use Rattle.psci_fw_state.proofs.Moved.{path_cleared, rows_set}
 use Rattle.psci_fw_state.proofs.Moved.{stopped_changed}
@@ -10,6 +10,7 @@ use Rattle.psci_fw_state.proofs.state.State.arrive_away.Goals as goal
 pub returns-clause-after : goal.returns-clause-after
 returns-clause-after c =
     let s : StateValue = record {
+      board = c.self.inside.board;
       life = c.self.inside.life;
       halting = c.self.inside.halting;
       mode = c.self.inside.mode;
@@ -17,8 +18,6 @@ returns-clause-after c =
       rows = c.self.inside.rows.items;
       slots = c.self.inside.slots;
     } in
-    let of : IsStateOf c.args.board.now s =
-    subst (IsStateOf c.args.board.now) (sym c.self.view_is) c.requires.state in
     let rows = rows_set c.self.inside.rows c.deref_mut.result.now c.set_row.new.rows
     c.args.core.number (record {
       status = c.row_of.result.status;
@@ -26,13 +25,13 @@ returns-clause-after c =
     }) c.deref_mut.ensures.value c.set_row.ensures in
     let row : c.row_of.result ≡ row_at s.rows c.args.core.number =
     c.row_of.ensures ∙ ap (λ xs. row_at xs c.args.core.number) c.deref.ensures.value in
-    stopped_changed c.args.board.now s _ c.stop.new.tree _ c.clear.new.self
+    stopped_changed s _ c.stop.new.tree _ c.clear.new.self
     c.args.core.number c.args.start c.is_pending-pending.result c.self.view_is c.requires.life
     c.is_pending-pending.ensures
     c.stop.ensures.cores
     (rw (rows, row) (row_set s.rows c.args.core.number _
-    (in_rows _ _ _ _ c.self.view_is c.self.invariant c.requires.state c.requires.inside)))
-    (path_cleared c.args.board.now s c.stop.new.tree c.args.core.number of.levels
+    (in_rows _ _ _ c.self.view_is c.self.invariant c.requires.inside)))
+    (path_cleared s c.stop.new.tree c.args.core.number c.self.invariant
     c.stop.ensures.granted)
     (λ slot. rw c.clear.ensures.slots
     (c.law_slots.ensures.changed s.slots (Clear c.args.core) tt slot))

@@ -1,7 +1,7 @@
-use Rattle.std.proofs.Common.{◌<◌, None, length, sym, subst}
+use Rattle.std.proofs.Common.{◌<◌, None, length}
 use Rattle.psci_link.specs.Slots.Change.{Clear}
 use Rattle.psci_fw_spec.specs.declared.status.Status.TheVariants as statuses
-use Rattle.psci_fw_state.specs.Seen.{IsStateOf, StateValue}
+use Rattle.psci_fw_state.specs.Seen.{StateValue}
 use Rattle.psci_fw_state.proofs.Changed.{in_rows, row_set, within}
 use Rattle.psci_fw_state.proofs.Moved.{path_cleared, rows_set, running_changed}
 use Rattle.psci_fw_state.proofs.state.State.arrive_running.Goals as goal
@@ -9,6 +9,7 @@ use Rattle.psci_fw_state.proofs.state.State.arrive_running.Goals as goal
 pub returns-clause-after : goal.returns-clause-after
 returns-clause-after c =
     let s : StateValue = record {
+      board = c.self.inside.board;
       life = c.self.inside.life;
       halting = c.self.inside.halting;
       mode = c.self.inside.mode;
@@ -16,20 +17,18 @@ returns-clause-after c =
       rows = c.self.inside.rows.items;
       slots = c.self.inside.slots;
     } in
-    let of : IsStateOf c.args.board.now s =
-    subst (IsStateOf c.args.board.now) (sym c.self.view_is) c.requires.state in
     let inside : c.args.core.number < length s.tree.cores =
-    within _ _ _ _ c.self.view_is c.self.invariant c.requires.state c.requires.inside in
+    within _ _ _ c.self.view_is c.self.invariant c.requires.inside in
     let rows = rows_set c.self.inside.rows c.deref_mut.result.now c.set_row.new.rows
     c.args.core.number (record { status = statuses.On; opening = None })
     c.deref_mut.ensures.value c.set_row.ensures in
-    running_changed c.args.board.now s _ c.set_start.new.self _ c.clear.new.self
+    running_changed s _ c.set_start.new.self _ c.clear.new.self
     c.args.core.number c.args.start c.self.view_is c.requires.life
     (λ k. rw c.set_start.ensures.value
     (c.law_cores.ensures.started s.tree c.args.core.number k c.args.start.number inside))
     (rw rows (row_set s.rows c.args.core.number _
-    (in_rows _ _ _ _ c.self.view_is c.self.invariant c.requires.state c.requires.inside)))
-    (path_cleared c.args.board.now s c.set_start.new.self c.args.core.number of.levels
+    (in_rows _ _ _ c.self.view_is c.self.invariant c.requires.inside)))
+    (path_cleared s c.set_start.new.self c.args.core.number c.self.invariant
     (λ l p. rw c.set_start.ensures.value
     (c.law_granted.ensures.started s.tree c.args.core.number c.args.start.number l p)))
     (λ slot. rw c.clear.ensures.slots

@@ -1,21 +1,10 @@
-use Rattle.std.proofs.Common.{sym, subst, ap, ◌∙◌}
+use Rattle.std.proofs.Common.{ap, ◌∙◌}
 use Rattle.psci_coord.specs.Claim.{platform_claims}
-use Rattle.psci_fw_state.specs.Seen.{IsStateOf, StateValue}
-use Rattle.psci_fw_state.proofs.Viewed.{view_is}
+use Rattle.psci_fw_state.proofs.Viewed.{viewed}
 use Rattle.psci_fw_state.proofs.state.State.least_parts.Goals as goal
 
 pub returns : goal.returns
 returns c =
-    let s : StateValue = record {
-      life = c.self.inside.life;
-      halting = c.self.inside.halting;
-      mode = c.self.inside.mode;
-      tree = c.self.inside.tree;
-      rows = c.self.inside.rows.items;
-      slots = c.self.inside.slots;
-    } in
-    let of : IsStateOf c.args.board.now s =
-    subst (IsStateOf c.args.board.now) (sym c.self.view_is) c.requires.state in
-    c.claims.ensures
-    ∙ ap (λ w. platform_claims c.args.board.now w c.args.core.number)
-    (view_is c.args.board.now s _ c.self.view_is of.levels)
+    rw (← c.self.view_is)
+    (c.claims.ensures ∙ ap (λ w. platform_claims c.self.inside.board w c.args.core.number)
+    (viewed _ c.self.invariant))

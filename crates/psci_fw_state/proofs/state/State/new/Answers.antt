@@ -5,7 +5,7 @@ pub returns-clause-values : goal.returns-clause-values
 returns-clause-values c =
     let board = c.cores.ensures.board in
     let value = c.in_ok-new.ensures.value in
-    at_start c.args.board.now 0 c.in_ok-new.field-0 _ c.in_ok-new-2.field-0 board
+    at_start c.args.board.now _ 0 c.in_ok-new.field-0 _ c.in_ok-new-2.field-0 board
     c.in_ok-new.ensures.tree c.in_ok-new.ensures.levels
     (λ k. rw value (c.law_start_of_life.ensures.cores c.args.board.now.levels k
     (some_below c.args.board.now.levels board.tree)))

@@ -1,11 +1,11 @@
-use Rattle.std.proofs.Common.{◌≡◌, ◌<◌, Some, length, sym, subst, ap, ◌∙◌}
+use Rattle.std.proofs.Common.{◌≡◌, ◌<◌, Some, length, sym, subst, ap, arith, ◌∙◌}
 use Rattle.psci_board.specs.Board.{cores}
 use Rattle.psci_link.specs.declared.kind.Kind.TheVariants as kinds
 use Rattle.psci_link.specs.Message.{MessageValue}
 use Rattle.psci_link.specs.Slots.{IsOfCores, slot_of}
 use Rattle.psci_link.specs.Slots.Change.{Put}
 use Rattle.psci_fw_spec.specs.declared.status.Status.TheVariants as statuses
-use Rattle.psci_fw_state.specs.Seen.{IsStateOf, StateValue}
+use Rattle.psci_fw_state.specs.Seen.{StateValue}
 use Rattle.psci_fw_state.proofs.Changed.{core_set, in_rows, row_set, within}
 use Rattle.psci_fw_state.proofs.Moved.{path_cleared, pending_of, rows_set}
 use Rattle.psci_fw_state.proofs.state.State.set_pending.Goals as goal
@@ -13,6 +13,7 @@ use Rattle.psci_fw_state.proofs.state.State.set_pending.Goals as goal
 pub returns-clause-after : goal.returns-clause-after
 returns-clause-after c =
     let s : StateValue = record {
+      board = c.self.inside.board;
       life = c.self.inside.life;
       halting = c.self.inside.halting;
       mode = c.self.inside.mode;
@@ -20,8 +21,6 @@ returns-clause-after c =
       rows = c.self.inside.rows.items;
       slots = c.self.inside.slots;
     } in
-    let of : IsStateOf c.args.board.now s =
-    subst (IsStateOf c.args.board.now) (sym c.self.view_is) c.requires.state in
     let m : MessageValue = record {
       kind = c.message.inside.kind;
       core = c.message.inside.core;
@@ -29,28 +28,28 @@ returns-clause-after c =
       number = c.message.inside.number;
       parts = c.message.inside.parts;
     } in
-    let there : m.core.number < cores c.args.board.now =
-    subst (λ (n : MessageValue). n.core.number < cores c.args.board.now) (sym c.message.view_is)
+    let there : m.core.number < cores c.args.self.now.board =
+    subst (λ (n : MessageValue). n.core.number < cores c.args.self.now.board) (sym c.message.view_is)
     c.requires.inside in
     let inside : m.core.number < length s.tree.cores =
-    within _ _ _ _ c.self.view_is c.self.invariant c.requires.state there in
+    within _ _ _ c.self.view_is c.self.invariant there in
     let row_inside : m.core.number < length s.rows =
-    in_rows _ _ _ _ c.self.view_is c.self.invariant c.requires.state there in
+    in_rows _ _ _ c.self.view_is c.self.invariant there in
     let start : m.kind ≡ kinds.Start =
     ap (λ (n : MessageValue). n.kind) c.message.view_is ∙ c.requires.start in
     let slot_inside : m.core.number < length s.slots.cores =
-    subst (λ k. m.core.number < k) (sym c.self.invariant.slots) inside in
+    omega (arith, c.self.invariant.rows, c.self.invariant.slots) in
     let has_slot : IsOfCores (length s.slots.cores) (slot_of m.kind m.core) =
     rw start slot_inside in
     let rows = rows_set c.self.inside.rows c.deref_mut.result.now c.set_row.new.rows
     m.core.number (record { status = statuses.Pending; opening = Some c.args.opening })
     c.deref_mut.ensures.value c.set_row.ensures in
     rw (← c.self.view_is, ← c.message.view_is)
-    (pending_of c.args.board.now s c.set_pending.new.self _ c.put.new.self m c.args.opening
+    (pending_of s.board s c.set_pending.new.self _ c.put.new.self m c.args.opening
     (core_set s.tree c.set_pending.new.self m.core.number _ (λ k. rw c.set_pending.ensures.value
     (c.law_cores.ensures.pending s.tree m.core.number k inside)))
     (rw rows (row_set s.rows m.core.number _ row_inside))
-    (path_cleared c.args.board.now s c.set_pending.new.self m.core.number of.levels
+    (path_cleared s c.set_pending.new.self m.core.number c.self.invariant
     (λ l p. rw c.set_pending.ensures.value
     (c.law_granted.ensures.pending s.tree m.core.number l p)))
     (λ slot. rw (c.put.ensures.slots, ← c.message.view_is)

@@ -1,6 +1,6 @@
-use Rattle.std.proofs.Common.{◌≡◌, ◌<◌, None, Some, length, sym, subst, ap, refl, ◌∙◌}
+use Rattle.std.proofs.Common.{◌≡◌, ◌<◌, None, Some, length, sym, ap, refl, ◌∙◌}
 use Rattle.psci_fw_state.specs.Rows.{row_at}
-use Rattle.psci_fw_state.specs.Seen.{IsStateOf, StateValue}
+use Rattle.psci_fw_state.specs.Seen.{StateValue}
 use Rattle.psci_fw_state.proofs.Changed.{in_rows, row_set, same_set, within}
 use Rattle.psci_fw_state.proofs.Moved.{rows_set}
 use Rattle.psci_fw_state.proofs.Moved.{suspended_changed}
@@ -9,6 +9,7 @@ use Rattle.psci_fw_state.proofs.state.State.set_suspended.Goals as goal
 pub returns-then-deep-clause-after : goal.returns-then-deep-clause-after
 returns-then-deep-clause-after c =
     let s : StateValue = record {
+      board = c.self.inside.board;
       life = c.self.inside.life;
       halting = c.self.inside.halting;
       mode = c.self.inside.mode;
@@ -16,10 +17,8 @@ returns-then-deep-clause-after c =
       rows = c.self.inside.rows.items;
       slots = c.self.inside.slots;
     } in
-    let of : IsStateOf c.args.board.now s =
-    subst (IsStateOf c.args.board.now) (sym c.self.view_is) c.requires.state in
     let inside : c.args.core.number < length s.tree.cores =
-    within _ _ _ _ c.self.view_is c.self.invariant c.requires.state c.requires.inside in
+    within _ _ _ c.self.view_is c.self.invariant c.requires.inside in
     let rows = rows_set c.self.inside.rows c.deref_mut.result.now c.set_row.new.rows
     c.args.core.number (record {
       status = c.row_of.result.status;
@@ -32,7 +31,7 @@ returns-then-deep-clause-after c =
     (λ k. rw c.set_ask.ensures.value
     (c.law_cores.ensures.suspended s.tree c.args.core.number k c.args.ask inside))
     (rw (rows, row) (row_set s.rows c.args.core.number _
-    (in_rows _ _ _ _ c.self.view_is c.self.invariant c.requires.state c.requires.inside)))
+    (in_rows _ _ _ c.self.view_is c.self.invariant c.requires.inside)))
     (λ l p. rw c.set_ask.ensures.value
     (c.law_granted.ensures.suspended s.tree c.args.core.number l p c.args.ask))
     (rw (sym c.deep.ensures ∙ c.if-deep.true) refl)
@@ -40,6 +39,7 @@ returns-then-deep-clause-after c =
 pub returns-else-deep-clause-after : goal.returns-else-deep-clause-after
 returns-else-deep-clause-after c =
     let s : StateValue = record {
+      board = c.self.inside.board;
       life = c.self.inside.life;
       halting = c.self.inside.halting;
       mode = c.self.inside.mode;
@@ -47,10 +47,8 @@ returns-else-deep-clause-after c =
       rows = c.self.inside.rows.items;
       slots = c.self.inside.slots;
     } in
-    let of : IsStateOf c.args.board.now s =
-    subst (IsStateOf c.args.board.now) (sym c.self.view_is) c.requires.state in
     let inside : c.args.core.number < length s.tree.cores =
-    within _ _ _ _ c.self.view_is c.self.invariant c.requires.state c.requires.inside in
+    within _ _ _ c.self.view_is c.self.invariant c.requires.inside in
     suspended_changed s _ c.set_ask.new.self s.rows c.args.core.number c.args.ask c.args.opening
     None c.self.view_is c.requires.running
     (λ k. rw c.set_ask.ensures.value
