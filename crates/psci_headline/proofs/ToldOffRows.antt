@@ -77,7 +77,8 @@ unfolding computing was_powered_down
 is_off zero on up = let no : 0 ≡ 3 = up in absurd (cc)
 is_off (suc zero) on up = let no : 1 ≡ 3 = up in absurd (cc)
 is_off (suc (suc zero)) on up = let no : 2 ≡ 3 = up in absurd (cc)
-is_off (suc (suc (suc zero))) on up = (λ runs. let no : Stopped ≡ Running = runs in absurd (cc), refl)
+is_off (suc (suc (suc zero))) on up =
+    (λ runs. let no : Stopped ≡ Running = runs in absurd (cc), refl)
 is_off (suc (suc (suc (suc c)))) on up =
     let no : suc (suc (suc (suc c))) < 4 = on in absurd (omega (arith, no))
 

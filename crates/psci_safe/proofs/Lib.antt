@@ -1,4 +1,5 @@
 pub mod AllTested
+mod AxisRows
 mod Checking
 mod ClaimRows
 mod Once
