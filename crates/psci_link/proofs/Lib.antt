@@ -1,3 +1,4 @@
+mod AckRows
 pub mod Claims
 mod CoreBytes
 pub mod FaultRows
