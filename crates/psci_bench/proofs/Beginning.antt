@@ -5,8 +5,8 @@ use Rattle.std.proofs.Common.{subst, Option, Result, Ok, Err, inl}
 use Rattle.std.proofs.lemmas.List.{take-append-drop, length-take-le}
 use Rattle.std.specs.Io.KnownBytes.{Appends, Consumes, IsAtEnd}
 use Rattle.psci_script.specs.psci_board.Board.{BoardValue}
-use Rattle.psci_script.specs.psci_board.Verdict.{board_of}
-use Rattle.psci_script.specs.psci_board.declared.fault.BoardFault.{BoardFault}
+use Rattle.psci_script.specs.psci_board_text.Verdict.{board_of}
+use Rattle.psci_script.specs.psci_board_text.declared.fault.BoardFault.{BoardFault}
 use Rattle.psci_world.specs.Seen.{IsPresent, PresentValue}
 use Rattle.psci_script.specs.declared.fault.Replayed.{Replayed}
 use Rattle.psci_script.specs.declared.fault.ScriptFault.{ScriptFault}

@@ -3,8 +3,8 @@ use Rattle.std.specs.Prelude.{◌≡◌, ℕ, ◌+◌, List, [], ◌∷◌, ◌+
 use Rattle.std.specs.Prelude.{Ok, Err, IfSome, take}
 use Rattle.std.specs.Io.KnownBytes.{Appends}
 use Rattle.psci_script.specs.psci_board.Board.{BoardValue}
-use Rattle.psci_script.specs.psci_board.Verdict.{board_of}
-use Rattle.psci_script.specs.psci_board.declared.fault.BoardFault.{BoardFault}
+use Rattle.psci_script.specs.psci_board_text.Verdict.{board_of}
+use Rattle.psci_script.specs.psci_board_text.declared.fault.BoardFault.{BoardFault}
 use Rattle.psci_world.specs.Safe.{AlwaysSafe}
 use Rattle.psci_script.specs.psci_world_spec.declared.event.Event.{Event}
 use Rattle.psci_script.specs.psci_world_spec.declared.said.Record.{Record}

@@ -19,7 +19,7 @@ use crate::device::{Sink, Source};
 use crate::laws::law_safe_scripts;
 use crate::progress::Progress;
 use psci_script::{
-    BoardFault, Extent, Line, ReplayFault, Replayed, ScriptFault, literal, read_line,
+    BoardFault, Extent, Line, ReadBoard, ReplayFault, Replayed, ScriptFault, literal, read_line,
 };
 use psci_world::{Board, Present};
 use std::alloc::Global;

@@ -1,9 +1,4 @@
 pub mod Board
-pub mod Grammar
 pub mod Laws
 pub mod Level
 pub mod Paths
-pub mod Reading
-pub mod Summary
-pub mod SummaryVerdict
-pub mod Verdict

@@ -1,9 +1,9 @@
 //! The tree of power domains, and what else a board fixes.
 
 use crate::affinity::place_of;
-use crate::fault::Memory;
 use crate::level::{Level, copies};
 use crate::limits::MOST_ON_PATH;
+use crate::memory::Memory;
 use crate::node::{Core, Node};
 use crate::path::path_of;
 use crate::range::AddressRange;
@@ -15,11 +15,11 @@ use std::marker::Model;
 /// A board.
 #[derive(Drop)]
 pub struct Board {
-    pub(crate) levels: Vec<Level>,
-    pub(crate) ranges: Vec<AddressRange>,
-    pub(crate) boot: u64,
-    pub(crate) starts: u32,
-    pub(crate) lives: u32,
+    levels: Vec<Level>,
+    ranges: Vec<AddressRange>,
+    boot: u64,
+    starts: u32,
+    lives: u32,
 }
 
 impl Model for Board {
@@ -50,6 +50,39 @@ ghost use Rattle.psci_board.specs.Board.{child, may_enter, node_of, core_of, is_
 ghost use Rattle.psci_board.specs.Board.{parent, child_number, nodes, cores_below};
 
 impl Board {
+    /// The board of these levels, from 1 up, these ranges of executable memory, this entry point of
+    /// the boot core, and these limits of starts and of lives.
+    pub fn new(
+        levels: Vec<Level>,
+        ranges: Vec<AddressRange>,
+        boot: u64,
+        starts: u32,
+        lives: u32,
+    ) -> Board
+        requires { IsBoard (record {
+          levels = levels.items;
+          ranges = ranges.items;
+          boot = boot;
+          starts = starts;
+          lives = lives;
+        }) }
+        ensures { result ≡ record {
+          levels = levels.items;
+          ranges = ranges.items;
+          boot = boot;
+          starts = starts;
+          lives = lives;
+        } }
+    {
+        Board {
+            levels,
+            ranges,
+            boot,
+            starts,
+            lives,
+        }
+    }
+
     /// The level of the system, 1 to 3.
     pub fn height(&self) -> u32
         ensures height { result ≡ height self.now }

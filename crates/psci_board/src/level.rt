@@ -1,6 +1,6 @@
 //! One level of the tree of power domains: its nodes, and the children of each.
 
-use crate::fault::Memory;
+use crate::memory::Memory;
 use std::alloc::Global;
 use std::marker::Model;
 

@@ -11,26 +11,19 @@
 
 mod affinity;
 mod board;
-mod build;
-mod fault;
-mod laws;
 mod level;
 mod limits;
+mod memory;
 mod node;
 mod path;
 mod range;
-mod range_text;
-mod read;
 mod span;
-mod summary;
-mod text;
 mod tree_laws;
-mod tree_text;
 
-pub use board::Board;
-pub use fault::{BoardFault, Memory};
-pub use laws::{law_board_text, law_boards};
+pub use board::{Board, is_in_some};
+pub use level::Level;
 pub use limits::{MOST_CHILDREN, MOST_CORES, MOST_LEVELS, MOST_LIVES, MOST_ON_PATH, MOST_RANGES};
+pub use memory::Memory;
 pub use node::{Core, Node};
 pub use range::AddressRange;
 pub use span::CoreSpan;

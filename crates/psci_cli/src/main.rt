@@ -4,11 +4,11 @@
 mod storm_line;
 
 ghost use Rattle.std.specs.Prelude.{IfErr};
-ghost use Rattle.psci_command.specs.psci_board.Verdict.{board_of};
+ghost use Rattle.psci_command.specs.psci_board_text.Verdict.{board_of};
 ghost use Rattle.psci_cli.specs.Ends.{IsOfReplay, StormEnds};
 
 use psci_bench::{ReplayFault, Std, replay};
-use psci_command::{Board, Failure, Request, StormRequest, asked, words};
+use psci_command::{Board, Failure, ReadBoard, Request, StormRequest, asked, words};
 use psci_storm::storm_world;
 use std::process::ExitCode;
 use storm_line::write_storm;

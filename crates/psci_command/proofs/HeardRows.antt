@@ -3,7 +3,7 @@ use Rattle.std.proofs.Common.{[], ◌∷◌, List, true, Ok, Err, refl, inl, sub
 use Rattle.std.specs.Prelude.{codes}
 use Rattle.clap.specs.Walk.{Text}
 use Rattle.clap.specs.declared.error.kind.ErrorKind.TheVariants.{DisplayHelp, MissingSubcommand}
-use Rattle.psci_script.specs.psci_board.declared.fault.BoardFault.TheVariants as boards
+use Rattle.psci_script.specs.psci_board_text.declared.fault.BoardFault.TheVariants as boards
 use Rattle.psci_script.specs.declared.fault.ReplayFault.TheVariants.{Memory, Read, Script, Write}
 use Rattle.psci_script.specs.declared.fault.ScriptFault.TheVariants.{NoBoard}
 use Rattle.psci_command.proofs.AskedRows.{of_counts, of_given_board, of_rows, request, rows}

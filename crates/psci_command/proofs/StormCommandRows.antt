@@ -13,8 +13,8 @@ use Rattle.clap.specs.declared.error.kind.ErrorKind.TheVariants.{TooManyValues}
 use Rattle.clap.specs.declared.error.kind.ErrorKind.TheVariants.{ValueValidation}
 use Rattle.clap.specs.declared.parser.matches.ValueSource.{ValueSource}
 use Rattle.clap.specs.declared.parser.matches.ValueSource.TheVariants.{CommandLine, DefaultValue}
-use Rattle.psci_script.specs.psci_board.Grammar.{BoardText, Cluster, Members, spelling}
-use Rattle.psci_script.specs.psci_board.Verdict.{verdict}
+use Rattle.psci_script.specs.psci_board_text.Grammar.{BoardText, Cluster, Members, spelling}
+use Rattle.psci_script.specs.psci_board_text.Verdict.{verdict}
 use Rattle.psci_command.specs.Program.{program, standard_board}
 
 -- How the examples are stated --------------------------------------------------------------------

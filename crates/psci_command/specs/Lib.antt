@@ -5,4 +5,5 @@ pub mod Plain
 pub mod Program
 pub mod Values
 pub use Rattle.psci_script.specs.psci_board
+pub use Rattle.psci_script.specs.psci_board_text
 pub use Rattle.psci_script.specs as psci_script

@@ -10,4 +10,4 @@ mod plain;
 
 pub use command_line::{Request, StormRequest, asked, words};
 pub use exit::Failure;
-pub use psci_script::{Board, BoardFault};
+pub use psci_script::{Board, BoardFault, ReadBoard};

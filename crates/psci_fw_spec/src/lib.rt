@@ -31,7 +31,7 @@ pub use mode::SuspendMode;
 pub use opening::Opening;
 pub use outcome::{Act, Outcome};
 pub use psci_abi::{Code, Regs, Request, read};
-pub use psci_board::{Board, BoardFault, Memory, law_boards};
+pub use psci_board::{Board, Memory};
 pub use psci_coord::Part;
 pub use psci_link::{Ack, Cause, Kind, Message, Start, Taken};
 pub use reply::FwReply;

@@ -7,6 +7,7 @@ ghost use Rattle.psci_board.specs.Board.{HasNodeIn, cores, size_below};
 use crate::boards::has;
 use psci_abi::Format;
 use psci_board::{Board, Core, Node};
+use psci_board_text::ReadBoard;
 use psci_coord::{Osi, Part, Parts, claims, own_parts};
 use psci_osi::{check, off_parts};
 use psci_state::Ask;

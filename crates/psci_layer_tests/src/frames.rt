@@ -1,6 +1,7 @@
 //! Known frames, and bytes that were tampered with.
 
 use psci_board::{Board, Core};
+use psci_board_text::ReadBoard;
 use psci_coord::{Part, Parts};
 use psci_link::{Ack, FRAME_LEN, Frame, FrameFault, Kind, Message, decode, encode};
 use std::test::Fail;

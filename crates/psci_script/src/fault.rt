@@ -2,7 +2,8 @@
 
 ghost use Rattle.std.specs.Prelude.{◌≡◌};
 
-use psci_world_spec::{BoardFault, Memory};
+use psci_board_text::BoardFault;
+use psci_world_spec::Memory;
 use std::alloc::AllocError;
 use thiserror::Error;
 

@@ -4,7 +4,7 @@ use Rattle.std.proofs.Common.{◌<◌, ◌∷◌, ◌++◌, subst, Ok, Err, OnEr
 use Rattle.std.proofs.lemmas.List.{append_assoc}
 use Rattle.std.specs.Prelude.{IfOk, Result}
 use Rattle.psci_world.specs.psci_board.Board.{BoardValue}
-use Rattle.psci_world.specs.psci_board.declared.fault.Memory.{Memory}
+use Rattle.psci_world.specs.psci_board.declared.memory.Memory.{Memory}
 use Rattle.psci_world.specs.Safe.{AlwaysSafe}
 use Rattle.psci_world.specs.Settling.{is_halting, settled}
 use Rattle.psci_storm.specs.declared.outcome.Storm.{Storm}

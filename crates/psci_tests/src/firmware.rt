@@ -3,6 +3,7 @@
 use crate::answer::Answer;
 use psci_abi::Regs;
 use psci_board::{Board, Core, Node};
+use psci_board_text::ReadBoard;
 use psci_fw::{Cause, Firmware, FwFault, Start, Status};
 use psci_link::{Ack, Kind, Taken};
 use std::alloc::Global;

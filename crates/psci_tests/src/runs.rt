@@ -4,6 +4,7 @@
 use crate::answer::Answer;
 use psci_abi::Regs;
 use psci_board::{Board, Core};
+use psci_board_text::ReadBoard;
 use psci_link::{Ack, Kind, Taken};
 use psci_machine::Machine;
 use psci_world::{Cause, Event, Place, Said, Start, run};

@@ -1,6 +1,7 @@
 //! Storms, and what they come to.
 
 use psci_board::{Board, Node};
+use psci_board_text::ReadBoard;
 use psci_storm::{Settled, Storm, blow, storm};
 use psci_tally::{Answer, TALLIES, Tally, count};
 use psci_world::World;

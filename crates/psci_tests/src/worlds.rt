@@ -2,6 +2,7 @@
 
 use psci_abi::Regs;
 use psci_board::{Board, Core, Node};
+use psci_board_text::ReadBoard;
 use psci_world::{Event, Place, Settled, World, settle};
 use std::alloc::Global;
 use std::process::Abort;

@@ -20,6 +20,6 @@ pub use event::Event;
 pub use laws::{law_histories, law_runs};
 pub use place::Place;
 pub use psci_fw_spec::{
-    Ack, Act, Board, BoardFault, Code, Kind, Memory, Part, Regs, Request, Taken, law_boards, read,
+    Ack, Act, Board, Code, Kind, Memory, Part, Regs, Request, Taken, read,
 };
 pub use said::{Record, Said, Sent};

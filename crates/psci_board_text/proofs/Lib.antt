@@ -1,0 +1,16 @@
+pub mod AnswerRows
+pub mod Decided
+pub mod FaultRows
+pub mod Fronts
+pub mod Kept
+pub mod KeptTree
+pub mod LargestRows
+pub mod More
+pub mod Rows
+pub mod Said
+pub mod Spelled
+pub mod SpelledRanges
+pub mod SpelledRows
+pub mod SpelledText
+pub mod SpelledTree
+pub mod VerdictRows
