@@ -1,11 +1,13 @@
-"""The board of a script: its tree of power domains, where cores may enter, and its limits."""
+"""The board of a script: its tree of power domains, where cores may enter, its limits, and the format
+of its power state words."""
 import re
 
 DEC = r"(?:0|[1-9][0-9]*)"
 HEX = r"0x[0-9a-fA-F]{1,16}"
 MEMBER = rf"(?:{DEC}|\({DEC}(?: {DEC})*\))"
 TREE = rf"(?:{DEC}|\({MEMBER}(?: {MEMBER})*\))"
-BOARD = rf"({TREE}) exec((?: {HEX}-{HEX})+) boot ({HEX}) starts ({DEC}) lives ({DEC})"
+FORMAT = r"(?: format (original|extended))?"
+BOARD = rf"({TREE}) exec((?: {HEX}-{HEX})+) boot ({HEX}) starts ({DEC}) lives ({DEC}){FORMAT}"
 
 
 class Fault(Exception):
@@ -17,7 +19,7 @@ class Board:
         match = re.fullmatch(BOARD, text)
         if not match:
             raise Fault("line 1: board fault 1")
-        tree, ranges, boot, starts, lives = match.groups()
+        tree, ranges, boot, starts, lives, form = match.groups()
         decimals = re.findall(rf"(?<![0-9a-zA-Z]){DEC}(?![0-9a-zA-Z])", text)
         if any(int(it) >= 2**64 for it in decimals):
             raise Fault("line 1: board fault 1")
@@ -26,6 +28,7 @@ class Board:
         self.height = 1 if tree[0] != "(" else 3 if "(" in tree[1:] else 2
         self.ranges = [[int(it, 16) for it in pair.split("-")] for pair in ranges.split()]
         self.boot, self.starts, self.lives = int(boot, 16), int(starts), int(lives)
+        self.extended = form == "extended"
         sizes = [it for group in groups for it in group]
         lists = [len(groups)] + [len(group) for group in groups]
         faults = [

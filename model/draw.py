@@ -20,7 +20,7 @@ OTHERS = (0x84000005, 0x84000007, 0x8400000B, 0x8400000C, 0x8400000D, 0x84000010
           0xC4000008, 0xC4000009, 0xC400000A, 0xC400000D, 0xC400000F, 0xC4000013)
 # what is changed in a power state: depths, the state type, the power level, bits that are zero
 CHANGES = (1, 2, 3, 4, 16, 32, 48, 0x100, 0x200, 0x1000, 1 << 16, 1 << 24, 2 << 24,
-           1 << 17, 1 << 23, 1 << 26, 1 << 30, 1 << 31)
+           1 << 17, 1 << 23, 1 << 26, 1 << 27, 1 << 28, 1 << 30, 1 << 31)
 
 
 class Draw(random.Random):
@@ -48,7 +48,10 @@ class Draw(random.Random):
         lives = rarely(self.choice((1, 2, 3, 65535)), 0, 65536)
         spelled = lambda it: self.choice((f"{it:#x}", f"0x{it:X}", f"0x{it:016x}"))
         pairs = " ".join(f"{spelled(first)}-{spelled(end)}" for first, end in ranges)
-        return f"{tree} exec {pairs} boot {spelled(boot)} starts {starts} lives {lives}"
+        form = rarely(self.choice(("", "", " format original", " format extended",
+                                   " format extended")), " format", " format Extended",
+                      "format extended", " format original format extended")
+        return f"{tree} exec {pairs} boot {spelled(boot)} starts {starts} lives {lives}{form}"
 
     def large(self):
         """A tree of as many cores as a board may have, or one fewer, or one more."""
@@ -72,12 +75,15 @@ class Draw(random.Random):
         return self.choice((good,) * 9 + (first + 2, end, first - 4, self.getrandbits(64))) % 2**64
 
     def power_state(self, board):
-        """A word that is accepted, or nearly one."""
+        """A word that is accepted, or nearly one, mostly in the format of the board."""
         many = self.choice((1, 2, board.height + 1))
         depths = sorted((self.choice((0, 1, 2, 3, 3)) for _ in range(many)), reverse=True)
         highest = max([0] + [level for level, depth in enumerate(depths) if depth])
         word = sum(depth << 4 * level for level, depth in enumerate(depths))
-        word |= highest << 24 | (depths[0] == 3) << 16
+        if board.extended != (self.randrange(8) == 0):
+            word |= (depths[0] == 3) << 30
+        else:
+            word |= highest << 24 | (depths[0] == 3) << 16
         if self.randrange(5) < 2:
             word ^= self.choice(CHANGES + (self.getrandbits(32),))
         return word

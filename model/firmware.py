@@ -36,14 +36,15 @@ SUPPORTED = (VERSION + CPU_SUSPEND + CPU_OFF + CPU_ON + AFFINITY_INFO + MIGRATE_
              + SYSTEM_RESET2)
 
 
-def depths_of(word, height):
+def depths_of(word, board):
     """The depth that a power state word asks at each level, or None where it is faulty."""
+    zero, power_down = (0xBFFF0000, 1 << 30) if board.extended else (0xFCFE0000, 1 << 16)
     depths = [word >> 4 * level & 15 for level in range(4)]
     asked = [level for level in range(4) if depths[level]]
-    good = (word & 0xFCFE0000 == 0 and depths[0] >= 1 and max(depths) <= 3
+    good = (word & zero == 0 and depths[0] >= 1 and max(depths) <= 3
             and depths == sorted(depths, reverse=True)
-            and asked[-1] <= height and asked[-1] == word >> 24 & 3
-            and (word >> 16 & 1 == 1) == (depths[0] == 3))
+            and asked[-1] <= board.height and (board.extended or asked[-1] == word >> 24 & 3)
+            and (word & power_down != 0) == (depths[0] == 3))
     return depths if good else None
 
 
@@ -144,7 +145,7 @@ class Firmware:
 
     def features(self, word):
         if word in CPU_SUSPEND:
-            return 1
+            return 3 if self.board.extended else 1
         return 0 if word in SUPPORTED else NOT_SUPPORTED
 
     def cpu_on(self, target, entry, context):
@@ -169,7 +170,7 @@ class Firmware:
         return ON if ON in found else PENDING if PENDING in found else OFF
 
     def cpu_suspend(self, core, word, entry, context):
-        depths = depths_of(word, self.board.height)
+        depths = depths_of(word, self.board)
         if depths is None:
             return INVALID_PARAMETERS
         if depths[0] == 3 and not self.board.may_enter(entry):

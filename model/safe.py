@@ -53,7 +53,7 @@ class Watched(World):
             there = sent.core, args[1:]
         elif word in fw.SYSTEM_SUSPEND:
             there = core, args[:2]
-        elif word in fw.CPU_SUSPEND and args[0] >> 16 & 1:
+        elif word in fw.CPU_SUSPEND and args[0] % 16 == 3:
             there = core, args[1:]
         else:
             return answer

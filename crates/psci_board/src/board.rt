@@ -9,6 +9,7 @@ use crate::path::path_of;
 use crate::range::AddressRange;
 use crate::span::{CoreSpan, first_core};
 use arrayvec::ArrayVec;
+use psci_abi::Format;
 use std::alloc::Global;
 use std::marker::Model;
 
@@ -20,6 +21,7 @@ pub struct Board {
     boot: u64,
     starts: u32,
     lives: u32,
+    format: Format,
 }
 
 impl Model for Board {
@@ -33,6 +35,7 @@ impl Model for Board {
       boot = b.boot;
       starts = b.starts;
       lives = b.lives;
+      format = b.format;
     } };
 
     ghost invariant = { λ b. IsBoard (record {
@@ -41,6 +44,7 @@ impl Model for Board {
       boot = b.boot;
       starts = b.starts;
       lives = b.lives;
+      format = b.format;
     }) };
 }
 
@@ -51,13 +55,14 @@ ghost use Rattle.psci_board.specs.Board.{parent, child_number, nodes, cores_belo
 
 impl Board {
     /// The board of these levels, from 1 up, these ranges of executable memory, this entry point of
-    /// the boot core, and these limits of starts and of lives.
+    /// the boot core, these limits of starts and of lives, and this format of power state words.
     pub fn new(
         levels: Vec<Level>,
         ranges: Vec<AddressRange>,
         boot: u64,
         starts: u32,
         lives: u32,
+        format: Format,
     ) -> Board
         requires { IsBoard (record {
           levels = levels.items;
@@ -65,6 +70,7 @@ impl Board {
           boot = boot;
           starts = starts;
           lives = lives;
+          format = format;
         }) }
         ensures { result ≡ record {
           levels = levels.items;
@@ -72,6 +78,7 @@ impl Board {
           boot = boot;
           starts = starts;
           lives = lives;
+          format = format;
         } }
     {
         Board {
@@ -80,6 +87,7 @@ impl Board {
             boot,
             starts,
             lives,
+            format,
         }
     }
 
@@ -235,6 +243,7 @@ impl Board {
             boot: self.boot,
             starts: self.starts,
             lives: self.lives,
+            format: self.format,
         })
     }
 
@@ -258,6 +267,13 @@ impl Board {
         ensures { result ≡ self.now.lives }
     {
         self.lives
+    }
+
+    /// How the board's power state words are written (DEN0022D, CPU_SUSPEND).
+    pub fn format(&self) -> Format
+        ensures { result ≡ self.now.format }
+    {
+        self.format
     }
 
     /// Whether a core may be sent to this address: it is a multiple of 4 in an executable range.

@@ -7,6 +7,7 @@
 //! - The *path* of a core is the core and the nodes above it, up to the system.
 //! - An *affinity word* names a core or a node by one field of 8 bits per level (MPIDR_EL1).
 //! - An *entry point* may be entered where it is word aligned and lies in an executable range.
+//! - The *format* says how the board's power state words are written.
 #![tactic(auto)]
 
 mod affinity;
@@ -25,6 +26,7 @@ pub use level::Level;
 pub use limits::{MOST_CHILDREN, MOST_CORES, MOST_LEVELS, MOST_LIVES, MOST_ON_PATH, MOST_RANGES};
 pub use memory::Memory;
 pub use node::{Core, Node};
+pub use psci_abi::Format;
 pub use range::AddressRange;
 pub use span::CoreSpan;
 pub use tree_laws::{law_children, law_parents, law_paths, law_sizes, law_spans, law_words};

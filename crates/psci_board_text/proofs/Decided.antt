@@ -6,6 +6,7 @@ use Rattle.std.specs.Prelude.{◌&&◌, not, ◌==◌}
 use Rattle.std.specs.Str.Parse.{digits_value}
 use Rattle.std.proofs.lemmas.Bool.Decides.{nat_tests}
 use Rattle.std.proofs.lemmas.List.{take_all}
+use Rattle.psci_board.specs.psci_abi.declared.format.Format.{Format}
 use Rattle.psci_board.specs.declared.limits.TheConstants.{MOST_CORES}
 use Rattle.psci_board.specs.declared.range.AddressRange.{AddressRange}
 use Rattle.psci_board_text.specs.declared.fault.BoardFault.{BoardFault}
@@ -18,7 +19,7 @@ use Rattle.psci_board_text.specs.Summary.{TreeSummaryValue, RangesSummaryValue}
 use Rattle.psci_board_text.specs.SummaryVerdict.{text_summary, summary_board, fault_in}
 use Rattle.psci_board_text.specs.Reading.{board_text}
 use Rattle.psci_board_text.specs.Verdict.{board_of, verdict_or, clusters, range_of, has_bad_range}
-use Rattle.psci_board_text.specs.Verdict.{board_in, is_limit, verdict}
+use Rattle.psci_board_text.specs.Verdict.{board_in, format_or_original, is_limit, verdict}
 use Rattle.psci_board_text.proofs.Kept.{kept_ranges, kept_all_ranges}
 use Rattle.psci_board_text.proofs.KeptTree.{IsFull, kept_tree, tree_is_kept, uneven_kept, wide_kept}
 use Rattle.psci_board_text.proofs.KeptTree.{total_kept, levels_kept, is_tree, heights, within}
@@ -91,16 +92,18 @@ kept_text t = record {
   boot = digits_value 16 t.boot;
   starts = t.starts;
   lives = t.lives;
+  format = format_or_original t.format;
 }
 
 all_ranges : (rs : List AddressRange) → has_bad_range rs ≡ false → take 4 rs ≡ rs
 all_ranges rs h = take_all 4 rs (within 4 (length rs) (left_false _ _ h))
 
-same_board : {a b : List (List ℕ)} {c d : List AddressRange} (boot starts lives : ℕ) → a ≡ b → c ≡ d
+same_board : {a b : List (List ℕ)} {c d : List AddressRange} (boot starts lives : ℕ)
+    (format : Format) → a ≡ b → c ≡ d
     → ◌≡◌ {A = BoardValue}
-    (record { levels = a; ranges = c; boot = boot; starts = starts; lives = lives })
-    (record { levels = b; ranges = d; boot = boot; starts = starts; lives = lives })
-same_board boot starts lives p q = cc
+    (record { levels = a; ranges = c; boot = boot; starts = starts; lives = lives; format = format })
+    (record { levels = b; ranges = d; boot = boot; starts = starts; lives = lives; format = format })
+same_board boot starts lives format p q = cc
 
 decided_by : (t : BoardText) → IsFull t.tree
     → verdict t ≡ said (fault_in (kept_text t)) (summary_board (kept_text t))
@@ -115,19 +118,21 @@ decided_by t full =
     next _ _ BadBoot _ _ _
     (ap (λ qs. not (boot % 4 == 0 && is_in_some qs boot)) (sym (all_ranges rs r))) (λ b.
     next _ _ BadLimit _ _ _ refl (λ l.
-    ap Ok (same_board boot t.starts t.lives (sym (levels_kept t.tree full w (within MOST_CORES _ f)))
+    ap Ok (same_board boot t.starts t.lives (format_or_original t.format)
+    (sym (levels_kept t.tree full w (within MOST_CORES _ f)))
     (sym (all_ranges rs r)))))))))
 
-same_kept : {a b : TreeSummaryValue} {c d : RangesSummaryValue} (boot starts lives : ℕ) → a ≡ b
+same_kept : {a b : TreeSummaryValue} {c d : RangesSummaryValue} (boot starts lives : ℕ)
+    (format : Format) → a ≡ b
     → c ≡ d
     → ◌≡◌ {A = TextSummary}
-    (record { tree = a; ranges = c; boot = boot; starts = starts; lives = lives })
-    (record { tree = b; ranges = d; boot = boot; starts = starts; lives = lives })
-same_kept boot starts lives p q = cc
+    (record { tree = a; ranges = c; boot = boot; starts = starts; lives = lives; format = format })
+    (record { tree = b; ranges = d; boot = boot; starts = starts; lives = lives; format = format })
+same_kept boot starts lives format p q = cc
 
 text_is_kept : (t : BoardText) → text_summary t ≡ kept_text t
-text_is_kept t = same_kept (digits_value 16 t.boot) t.starts t.lives (tree_is_kept t.tree)
-    (kept_all_ranges [] t.ranges)
+text_is_kept t = same_kept (digits_value 16 t.boot) t.starts t.lives (format_or_original t.format)
+    (tree_is_kept t.tree) (kept_all_ranges [] t.ranges)
 
 pub decided : (t : BoardText) → IsFull t.tree
     → verdict t ≡ said (fault_in (text_summary t)) (summary_board (text_summary t))

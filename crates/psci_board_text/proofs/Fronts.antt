@@ -6,12 +6,14 @@ use Rattle.std.specs.List.{prefix_len}
 use Rattle.std.specs.Char.{is_ascii_hexdigit}
 use Rattle.std.proofs.lemmas.Option.{cond_some, option_and_then_some, same_Some}
 use Rattle.std.specs.Prelude.{option_and_then, option_map, codes}
+use Rattle.psci_board.specs.psci_abi.declared.format.Format.{Format}
 use Rattle.psci_board_text.specs.Summary.{ranges_at, value_and_rest, TreeSummaryValue}
 use Rattle.psci_board_text.specs.Summary.{RangesSummaryValue}
 use Rattle.psci_board_text.specs.declared.text.TextSummary.{TextSummary}
 use Rattle.psci_text.specs.Reading.{literal_at, spaced_at, hex_at}
 use Rattle.psci_board_text.specs.Reading.{more_at}
 use Rattle.psci_board_text.specs.Reading.{range_at}
+use Rattle.psci_board_text.specs.Verdict.{format_or_original}
 use Rattle.psci_board_text.proofs.More.{Shortens, literal_shortens}
 
 -- what was read, where a value of it and its rest are known
@@ -68,9 +70,20 @@ range_shortens bytes x e =
     let r : to.1 ≡ x.1 = cc in
     omega (arith, ap length r, hex_shortens _ _ a, literal_shortens _ _ _ b, hex_shortens _ _ d))))
 
-pub same_text : {a b : TreeSummaryValue} {c d : RangesSummaryValue} {e f : ℕ} (n m : ℕ) → a ≡ b
-    → c ≡ d → e ≡ f
+-- the last part, where its format is known
+pub named_some : (o : Option (Option Format)) (v : Format)
+    → Some v ≡ option_map format_or_original o
+    → (f : Option Format) × (o ≡ Some f) × (v ≡ format_or_original f)
+named_some None v e = cc
+named_some (Some f) v e = (f, refl, same_Some _ _ e)
+
+pub named_none : (o : Option (Option Format)) → None ≡ option_map format_or_original o → o ≡ None
+named_none None e = refl
+named_none (Some f) e = cc
+
+pub same_text : {a b : TreeSummaryValue} {c d : RangesSummaryValue} {e f : ℕ} (n m : ℕ)
+    {x y : Format} → a ≡ b → c ≡ d → e ≡ f → x ≡ y
     → ◌≡◌ {A = Option TextSummary}
-    (Some (record { tree = a; ranges = c; boot = e; starts = n; lives = m }))
-    (Some (record { tree = b; ranges = d; boot = f; starts = n; lives = m }))
-same_text n m p q r = cc
+    (Some (record { tree = a; ranges = c; boot = e; starts = n; lives = m; format = x }))
+    (Some (record { tree = b; ranges = d; boot = f; starts = n; lives = m; format = y }))
+same_text n m p q r s = cc

@@ -1,6 +1,7 @@
 pub mod AnswerRows
 pub mod Decided
 pub mod FaultRows
+pub mod FormatRows
 pub mod Fronts
 pub mod Kept
 pub mod KeptTree
@@ -9,6 +10,7 @@ pub mod More
 pub mod Rows
 pub mod Said
 pub mod Spelled
+pub mod SpelledFormat
 pub mod SpelledRanges
 pub mod SpelledRows
 pub mod SpelledText

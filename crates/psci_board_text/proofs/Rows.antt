@@ -1,6 +1,7 @@
 -- The boards of known texts.
 use Rattle.std.proofs.Common.{◌≡◌, ◌∷◌, [], refl}
 use Rattle.std.specs.Prelude.{codes, Ok}
+use Rattle.psci_board.specs.psci_abi.declared.format.Format.TheVariants.{Original}
 use Rattle.psci_text.specs.Reading.{literal_at, number_at, hex_at, spaced_at}
 use Rattle.psci_board_text.specs.Reading.{range_at, at_most}
 use Rattle.psci_board_text.specs.Reading.{more_at, list_at, member_at, tree_at, board_text}
@@ -14,6 +15,7 @@ pub one_cluster : board_of
       boot = 44;
       starts = 4294967295;
       lives = 65535;
+      format = Original;
     })
 unfolding board_of verdict board_text tree_at member_at list_at more_at at_most spaced_at
     range_at hex_at number_at literal_at
@@ -27,6 +29,7 @@ pub two_clusters : board_of
       boot = 1073741824;
       starts = 1000;
       lives = 3;
+      format = Original;
     })
 unfolding board_of verdict board_text tree_at member_at list_at more_at at_most spaced_at
     range_at hex_at number_at literal_at
@@ -39,6 +42,7 @@ pub two_groups : board_of (codes "((1 2) (3)) exec 0xA-0xfF boot 0xFc starts 1 l
       boot = 252;
       starts = 1;
       lives = 1;
+      format = Original;
     })
 unfolding board_of verdict board_text tree_at member_at list_at more_at at_most spaced_at
     range_at hex_at number_at literal_at

@@ -3,7 +3,7 @@ use Rattle.std.proofs.Common.{◌≡◌, ℕ, ◌<◌, ◌^◌, ◌-◌, ◌%◌
 use Rattle.std.proofs.Common.{Option, Some, None, Result, Ok, Err, refl, ap, sym, ◌∙◌, subst, arith}
 use Rattle.std.specs.Prelude.{◌||◌, ◌&&◌, not, nat_lt, ◌==◌, codes, option_map, option_and_then}
 use Rattle.std.specs.Prelude.{IsOk, IsErrAnd}
-use Rattle.std.proofs.lemmas.Option.{cond_some, option_and_then_some, same_Some}
+use Rattle.std.proofs.lemmas.Option.{option_and_then_some, same_Some}
 use Rattle.psci_board.specs.declared.limits.TheConstants.{MOST_CORES}
 use Rattle.psci_board_text.specs.declared.fault.BoardFault.{BoardFault}
 use Rattle.psci_board_text.specs.declared.fault.BoardFault.TheVariants.{Grammar, Uneven, TooWide}
@@ -13,7 +13,7 @@ use Rattle.psci_board_text.specs.declared.text.TextSummary.{TextSummary}
 use Rattle.psci_board_text.specs.Grammar.{TreeText, BoardText}
 use Rattle.psci_board_text.specs.Grammar.TreeText.{One, Members}
 use Rattle.psci_text.specs.Reading.{literal_at, number_at, hex_at, spaced_at}
-use Rattle.psci_board_text.specs.Reading.{range_at, more_at}
+use Rattle.psci_board_text.specs.Reading.{format_at, range_at, more_at}
 use Rattle.psci_board_text.specs.Reading.{list_at, member_at, starts_list, tree_at, board_text}
 use Rattle.psci_board.specs.Board.{BoardValue, is_in_some, IsBoard}
 use Rattle.psci_board_text.specs.SummaryVerdict.{text_summary, summary_board, fault_in}
@@ -59,8 +59,9 @@ full_text bytes t e =
     option_and_then_some _ (number_at r3) t e6 (λ starts h e7.
     option_and_then_some _ (literal_at (codes " lives ") starts.1) t e7 (λ r4 i e8.
     option_and_then_some _ (number_at r4) t e8 (λ lives j e9.
-    subst (λ (u : BoardText). IsFull u.tree) (cond_some _ _ _ e9).1
-    (full_tree bytes tree a))))))))))
+    option_and_then_some _ (format_at lives.1) t e9 (λ format k e10.
+    subst (λ (u : BoardText). IsFull u.tree) (same_Some _ _ e10)
+    (full_tree bytes tree a)))))))))))
 
 -- What is said of the text ----------------------------------------------------------------------
 

@@ -16,6 +16,7 @@ pub height_1 : spelling (record {
   boot = codes "40000000";
   starts = 1000;
   lives = 3;
+  format = None;
 }) ≡ codes "4 exec 0x40000000-0x40100000 boot 0x40000000 starts 1000 lives 3"
 unfolding digits
 height_1 = refl
@@ -27,6 +28,7 @@ pub height_2 : spelling (record {
   boot = codes "40000000";
   starts = 1000;
   lives = 3;
+  format = None;
 }) ≡ codes "(2 2) exec 0x40000000-0x40100000 boot 0x40000000 starts 1000 lives 3"
 unfolding digits
 height_2 = refl
@@ -38,6 +40,7 @@ pub height_3 : spelling (record {
   boot = codes "40000000";
   starts = 1000;
   lives = 3;
+  format = None;
 }) ≡ codes "((1 1) (1 1)) exec 0x40000000-0x40100000 boot 0x40000000 starts 1000 lives 3"
 unfolding digits
 height_3 = refl
@@ -49,6 +52,7 @@ pub two_ranges : spelling (record {
   boot = codes "9";
   starts = 0;
   lives = 18446744073709551615;
+  format = None;
 })
     ≡ codes
     "((16)) exec 0x0-0xaF 0xfF-0x0123456789abcDEF boot 0x9 starts 0 lives 18446744073709551615"

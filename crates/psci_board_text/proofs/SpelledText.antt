@@ -1,35 +1,30 @@
 -- A board text is read as it is spelled, and in no other way.
-use Rattle.std.proofs.Common.{◌≡◌, ℕ, List, [], ◌∷◌, ◌++◌, length, eqb, eqb-true, Some, None, refl}
-use Rattle.std.proofs.Common.{arith, append_assoc, subst}
+use Rattle.std.proofs.Common.{◌≡◌, ℕ, List, [], ◌∷◌, ◌++◌, Option, Some, None, refl}
+use Rattle.std.proofs.Common.{ap, arith, append_assoc, subst, ◌∙◌}
 use Rattle.std.specs.Prelude.{codes}
 use Rattle.std.specs.Fmt.{decimal}
 use Rattle.std.specs.List.{AllByRecursion}
-use Rattle.std.proofs.lemmas.List.{append-nil, nil_from_length}
 use Rattle.std.proofs.lemmas.List.Elements.{recursion_from_All}
-use Rattle.std.proofs.lemmas.Option.{cond_some, option_and_then_some}
+use Rattle.std.proofs.lemmas.Option.{option_and_then_some, same_Some}
+use Rattle.psci_board.specs.psci_abi.declared.format.Format.{Format}
 use Rattle.psci_text.specs.Spelling.{TextLaws, IsHex, IsNumber, hex}
 use Rattle.psci_board_text.specs.Grammar.{TreeText, BoardText, IsTreeText, IsRange}
-use Rattle.psci_board_text.specs.Grammar.{IsBoardText, spaced, tree, range, spelling}
+use Rattle.psci_board_text.specs.Grammar.{IsBoardText, format_part, spaced, tree, range, spelling}
 use Rattle.psci_text.specs.Reading.{literal_at, spaced_at, number_at, hex_at}
-use Rattle.psci_board_text.specs.Reading.{more_at, range_at}
+use Rattle.psci_board_text.specs.Reading.{format_at, more_at, range_at}
 use Rattle.psci_board_text.specs.Reading.{tree_at, board_text}
 use Rattle.psci_board_text.proofs.Spelled.{first_again, spaced_takes, more_again}
 use Rattle.psci_board_text.proofs.Spelled.{more_takes, list_of}
+use Rattle.psci_board_text.proofs.SpelledFormat.{ends_number, format_again, format_takes}
 use Rattle.psci_board_text.proofs.SpelledRanges.{range_reads}
 use Rattle.psci_board_text.proofs.SpelledTree.{tree_reads}
 
 abbrev IsRead : BoardText → Type 0
 IsRead t = board_text (spelling t) ≡ Some t
 
-abbrev board : TreeText → List (List ℕ × List ℕ) → List ℕ → ℕ → ℕ → BoardText
-board t rs boot starts lives =
-    record { tree = t; ranges = rs; boot = boot; starts = starts; lives = lives }
-
--- a number at the end of the text
-last_again : (w : TextLaws) (n : ℕ) → IsNumber n → number_at (decimal n) ≡ Some (n, [])
-last_again w n h =
-    subst (λ (ds : List ℕ). number_at ds ≡ Some (n, [])) (append-nil (decimal n))
-    (w.numbers.again n [] h tt)
+abbrev board : TreeText → List (List ℕ × List ℕ) → List ℕ → ℕ → ℕ → Option Format → BoardText
+board t rs boot starts lives format =
+    record { tree = t; ranges = rs; boot = boot; starts = starts; lives = lives; format = format }
 
 -- no range stands before a word that is not an address
 no_range : (rest : List ℕ) → spaced_at range_at (codes " boot " ++ rest) ≡ None
@@ -45,11 +40,12 @@ others_again w rs rest h =
 
 parts_again : (w : TextLaws) (t : TreeText) (r : List ℕ × List ℕ) (rs : List (List ℕ × List ℕ))
     (boot : List ℕ)
-    (starts lives : ℕ) → IsTreeText t → IsRange r → AllByRecursion IsRange rs → IsHex boot
-    → IsNumber starts → IsNumber lives → IsRead (board t (r ∷ rs) boot starts lives)
+    (starts lives : ℕ) (f : Option Format) → IsTreeText t → IsRange r → AllByRecursion IsRange rs
+    → IsHex boot → IsNumber starts → IsNumber lives
+    → IsRead (board t (r ∷ rs) boot starts lives f)
 unfolding board_text literal_at
-parts_again w t r rs boot starts lives ht hr hrs hb hs hl =
-    let after_starts = codes " lives " ++ decimal lives in
+parts_again w t r rs boot starts lives f ht hr hrs hb hs hl =
+    let after_starts = codes " lives " ++ (decimal lives ++ format_part f) in
     let after_boot = codes " starts " ++ (decimal starts ++ after_starts) in
     let after_ranges = codes " boot " ++ (hex boot ++ after_boot) in
     let after_tree = codes " exec" ++ (spaced range (r ∷ rs) ++ after_ranges) in
@@ -62,32 +58,41 @@ parts_again w t r rs boot starts lives ht hr hrs hb hs hl =
     w.hexadecimals.again boot after_boot hb refl in
     let starts_again : number_at (decimal starts ++ after_starts) ≡ Some (starts, after_starts) =
     w.numbers.again starts after_starts hs refl in
-    rw (tree_again, range_again, ranges_again, boot_again, starts_again, last_again w lives hl) refl
+    let lives_again : number_at (decimal lives ++ format_part f) ≡ Some (lives, format_part f) =
+    w.numbers.again lives (format_part f) hl (ends_number f) in
+    rw (
+      tree_again,
+      range_again,
+      ranges_again,
+      boot_again,
+      starts_again,
+      lives_again,
+      format_again f,
+    ) refl
 
 text_by : (w : TextLaws) (t : TreeText) (rs : List (List ℕ × List ℕ)) (boot : List ℕ)
-    (starts lives : ℕ)
-    → IsBoardText (board t rs boot starts lives) → IsRead (board t rs boot starts lives)
-text_by w t [] boot starts lives h = absurd (omega (arith, h.ranges.some))
-text_by w t (r ∷ rs) boot starts lives h =
+    (starts lives : ℕ) (f : Option Format)
+    → IsBoardText (board t rs boot starts lives f) → IsRead (board t rs boot starts lives f)
+text_by w t [] boot starts lives f h = absurd (omega (arith, h.ranges.some))
+text_by w t (r ∷ rs) boot starts lives f h =
     let each = recursion_from_All IsRange (r ∷ rs) h.ranges.each in
-    parts_again w t r rs boot starts lives h.tree each.0 each.1 h.boot h.starts h.lives
+    parts_again w t r rs boot starts lives f h.tree each.0 each.1 h.boot h.starts h.lives
 
 pub text_again : (w : TextLaws) (t : BoardText) → IsBoardText t → board_text (spelling t) ≡ Some t
-text_again w t h = text_by w t.tree t.ranges t.boot t.starts t.lives h
+text_again w t h = text_by w t.tree t.ranges t.boot t.starts t.lives t.format h
 
 -- What is read ----------------------------------------------------------------------------------
 
 -- the parts stand one after the other
 parts_joined : (bytes t after_t w1 rest1 r after_r rs after_rs w2 rest2 b after_b w3 rest3 s
-    after_s w4 rest4 l after_l : List ℕ)
+    after_s w4 rest4 l f : List ℕ)
     → bytes ≡ t ++ after_t → after_t ≡ w1 ++ rest1 → rest1 ≡ r ++ after_r
     → after_r ≡ rs ++ after_rs → after_rs ≡ w2 ++ rest2 → rest2 ≡ b ++ after_b
     → after_b ≡ w3 ++ rest3 → rest3 ≡ s ++ after_s → after_s ≡ w4 ++ rest4
-    → rest4 ≡ l ++ after_l → after_l ≡ []
-    → bytes ≡ t ++ (w1 ++ ((r ++ rs) ++ (w2 ++ (b ++ (w3 ++ (s ++ (w4 ++ l)))))))
+    → rest4 ≡ l ++ f
+    → bytes ≡ t ++ (w1 ++ ((r ++ rs) ++ (w2 ++ (b ++ (w3 ++ (s ++ (w4 ++ (l ++ f))))))))
 parts_joined bytes t after_t w1 rest1 r after_r rs after_rs w2 rest2 b after_b w3 rest3 s
-    after_s w4 rest4 l after_l e1 e2 e3 e4 e5 e6 e7 e8 e9 e10 e11 =
-    let last : l ++ [] ≡ l = append-nil l in
+    after_s w4 rest4 l f e1 e2 e3 e4 e5 e6 e7 e8 e9 e10 =
     rw (append_assoc r rs) (cc)
 
 pub text_takes : (w : TextLaws) (bytes : List ℕ) (t : BoardText) → board_text bytes ≡ Some t
@@ -104,21 +109,22 @@ text_takes w bytes t e =
     option_and_then_some _ (number_at rest3) t e6 (λ starts a7 e7.
     option_and_then_some _ (literal_at (codes " lives ") starts.1) t e7 (λ rest4 a8 e8.
     option_and_then_some _ (number_at rest4) t e8 (λ lives a9 e9.
-    let end = cond_some (eqb (length lives.1) 0) _ _ e9 in
+    option_and_then_some _ (format_at lives.1) t e9 (λ format a10 e10.
     let t1 = (tree_reads w).takes bytes top a1 in
     let t3 = spaced_takes w range_at range IsRange _ (range_reads w) rest1 first a3 in
     let t4 = more_takes w range_at range IsRange _ (range_reads w) first.1 in
     let t5 = w.hexadecimals.takes rest2 boot a5 in
     let t7 = w.numbers.takes rest3 starts a7 in
     let t9 = w.numbers.takes rest4 lives a9 in
+    let t10 = format_takes lives.1 format a10 in
     let spelled = parts_joined bytes (tree top.0) top.1 (codes " exec") rest1
     (32 ∷ range first.0) first.1 (spaced range others.0) others.1 (codes " boot ") rest2
     (hex boot.0) boot.1 (codes " starts ") rest3 (decimal starts.0) starts.1
-    (codes " lives ") rest4 (decimal lives.0) lives.1
+    (codes " lives ") rest4 (decimal lives.0) (format_part format)
     t1.1 (w.word_takes _ top.1 rest1 a2) t3.1 t4.1 (w.word_takes _ others.1 rest2 a4) t5.1
-    (w.word_takes _ boot.1 rest3 a6) t7.1 (w.word_takes _ starts.1 rest4 a8) t9.1
-    (nil_from_length lives.1 (eqb-true (length lives.1) 0 end.0)) in
-    subst (λ (y : BoardText). IsBoardText y × (bytes ≡ spelling y)) end.1 (
+    (w.word_takes _ boot.1 rest3 a6) t7.1 (w.word_takes _ starts.1 rest4 a8)
+    (t9.1 ∙ ap (λ xs. decimal lives.0 ++ xs) t10) in
+    subst (λ (y : BoardText). IsBoardText y × (bytes ≡ spelling y)) (same_Some _ _ e10) (
       record {
         tree = t1.0;
         ranges = list_of IsRange first.0 others.0 t3.0 t4.0;
@@ -127,4 +133,4 @@ text_takes w bytes t e =
         lives = t9.0;
       },
       spelled,
-    ))))))))))
+    )))))))))))

@@ -1,7 +1,9 @@
 -- The grammar of board texts: what a board text is, and how each is spelled.
-use Rattle.std.specs.Prelude.{ℕ, ◌<◌, List, [], ◌∷◌, ◌++◌, length, flat_map, codes}
+use Rattle.std.specs.Prelude.{ℕ, ◌<◌, List, [], ◌∷◌, ◌++◌, length, flat_map, codes, Option, None, Some}
 use Rattle.std.specs.List.{All}
 use Rattle.std.specs.Fmt.{decimal}
+use Rattle.psci_board.specs.psci_abi.declared.format.Format.{Format}
+use Rattle.psci_board.specs.psci_abi.declared.format.Format.TheVariants.{Original, Extended}
 use Rattle.psci_text.specs.Spelling.{hex, IsNumber, IsHex}
 
 -- a member of the outer list: a number, or a list of numbers
@@ -14,13 +16,15 @@ pub data TreeText : Type 0 where
   One : ℕ → TreeText
   Members : List Member → TreeText
 
--- A board text. An address is given by its digits, since it can be written in several ways.
+-- A board text. An address is given by its digits, since it can be written in several ways. The
+-- format may be missing.
 pub record BoardText : Type 0 where
   pub tree : TreeText
   pub ranges : List (List ℕ × List ℕ)
   pub boot : List ℕ
   pub starts : ℕ
   pub lives : ℕ
+  pub format : Option Format
 
 -- *(" " item)
 abbrev pub spaced : {A : Type 0} → (A → List ℕ) → List A → List ℕ
@@ -45,11 +49,17 @@ abbrev pub tree : TreeText → List ℕ
 tree (One n) = decimal n
 tree (Members ms) = bracketed member ms
 
+-- the last part: the format by its name, or nothing where it is missing
+abbrev pub format_part : Option Format → List ℕ
+format_part None = []
+format_part (Some Original) = codes " format original"
+format_part (Some Extended) = codes " format extended"
+
 -- the spelling of a board text
 abbrev pub spelling : BoardText → List ℕ
 spelling t = tree t.tree ++ (codes " exec" ++ (spaced range t.ranges ++ (codes " boot "
     ++ (hex t.boot ++ (codes " starts " ++ (decimal t.starts
-    ++ (codes " lives " ++ decimal t.lives)))))))
+    ++ (codes " lives " ++ (decimal t.lives ++ format_part t.format))))))))
 
 -- What has a spelling.
 -- a range of two addresses

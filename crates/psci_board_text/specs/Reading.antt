@@ -1,6 +1,9 @@
 -- Reading a board text from left to right. What is read is a value and the bytes after it.
 use Rattle.std.specs.Prelude.{ℕ, zero, suc, Bool, List, [], ◌∷◌, length, Option, Some, None}
 use Rattle.std.specs.Prelude.{◌==◌, if◌then◌else◌, codes, slice_index}
+use Rattle.std.specs.Str.{bytes_eq}
+use Rattle.psci_board.specs.psci_abi.declared.format.Format.{Format}
+use Rattle.psci_board.specs.psci_abi.declared.format.Format.TheVariants.{Original, Extended}
 use Rattle.psci_text.specs.Reading.{◌>>=◌, literal_at, number_at, hex_at, spaced_at}
 use Rattle.psci_board_text.specs.Grammar.{Member, TreeText, BoardText}
 use Rattle.psci_board_text.specs.Grammar.Member.{Cluster, Group}
@@ -72,6 +75,14 @@ tree_at bytes = if starts_list bytes
       n ← number_at bytes
       Some (One n.0, n.1))
 
+-- the last part, which is all that is left: the name of a format, or nothing
+abbrev pub format_at : List ℕ → Option (Option Format)
+format_at bytes =
+    if length bytes == 0 then Some None
+    else (if bytes_eq bytes (codes " format original") then Some (Some Original)
+    else (if bytes_eq bytes (codes " format extended") then Some (Some Extended)
+    else None))
+
 -- the whole text
 unfoldable pub board_text : List ℕ → Option BoardText
 board_text bytes = do
@@ -85,12 +96,12 @@ board_text bytes = do
   starts ← number_at rest
   rest ← literal_at (codes " lives ") starts.1
   lives ← number_at rest
-  if length lives.1 == 0
-      then Some (record {
-        tree = tree.0;
-        ranges = first.0 ∷ others.0;
-        boot = boot.0;
-        starts = starts.0;
-        lives = lives.0;
-      })
-      else None
+  format ← format_at lives.1
+  Some (record {
+    tree = tree.0;
+    ranges = first.0 ∷ others.0;
+    boot = boot.0;
+    starts = starts.0;
+    lives = lives.0;
+    format = format;
+  })

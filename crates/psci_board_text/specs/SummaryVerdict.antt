@@ -10,7 +10,7 @@ use Rattle.psci_board_text.specs.declared.text.TextSummary.{TextSummary}
 use Rattle.psci_board_text.specs.Grammar.{BoardText}
 use Rattle.psci_board.specs.Board.{BoardValue, is_in_some}
 use Rattle.psci_board_text.specs.Summary.{TreeSummaryValue, tree_summary, with_ranges, no_ranges}
-use Rattle.psci_board_text.specs.Verdict.{is_limit}
+use Rattle.psci_board_text.specs.Verdict.{format_or_original, is_limit}
 
 -- what is kept of a board text
 abbrev pub text_summary : BoardText → TextSummary
@@ -20,6 +20,7 @@ text_summary t = record {
   boot = digits_value 16 t.boot;
   starts = t.starts;
   lives = t.lives;
+  format = format_or_original t.format;
 }
 
 -- how many children each node has, level by level from 1 up, where the tree has no fault
@@ -37,6 +38,7 @@ summary_board t = record {
   boot = t.boot;
   starts = t.starts;
   lives = t.lives;
+  format = t.format;
 }
 
 -- the first fault

@@ -4,6 +4,8 @@ use Rattle.std.specs.Prelude.{length, map, flat_map, sum, Option, Some, None, Re
 use Rattle.std.specs.Prelude.{nat_lt, nat_le, ◌==◌, if◌then◌else◌, IsOk}
 use Rattle.std.specs.List.{list_any}
 use Rattle.std.specs.Str.Parse.{digits_value}
+use Rattle.psci_board.specs.psci_abi.declared.format.Format.{Format}
+use Rattle.psci_board.specs.psci_abi.declared.format.Format.TheVariants.{Original}
 use Rattle.psci_board.specs.declared.limits.TheConstants.{MOST_CHILDREN, MOST_CORES, MOST_RANGES}
 use Rattle.psci_board.specs.declared.limits.TheConstants.{MOST_LIVES}
 use Rattle.psci_board.specs.declared.range.AddressRange.{AddressRange}
@@ -61,6 +63,11 @@ range_of r = record { start = digits_value 16 r.0; end = digits_value 16 r.1 }
 abbrev pub has_bad_range : List AddressRange → Bool
 has_bad_range rs = nat_lt MOST_RANGES (length rs) || list_any (λ r. nat_le r.end r.start) rs
 
+-- the format of power state words: the original one, where a text names none
+abbrev pub format_or_original : Option Format → Format
+format_or_original None = Original
+format_or_original (Some format) = format
+
 -- the board of a text of the grammar
 abbrev pub board_in : BoardText → BoardValue
 board_in t = record {
@@ -69,6 +76,7 @@ board_in t = record {
   boot = digits_value 16 t.boot;
   starts = t.starts;
   lives = t.lives;
+  format = format_or_original t.format;
 }
 
 -- a limit of 1 up to this one

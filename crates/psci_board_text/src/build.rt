@@ -17,7 +17,7 @@ pub fn build(alloc: Global, text: &TextSummary) -> Result<Board, Memory>
     let levels = levels(alloc, &text.tree)?;
     let ranges = Vec::from_slice(alloc, text.ranges.first())?;
     let (starts, lives) = (text.starts as u32, text.lives as u32);
-    Ok(Board::new(levels, ranges, text.boot, starts, lives))
+    Ok(Board::new(levels, ranges, text.boot, starts, lives, text.format))
 }
 
 /// The levels of a tree, from 1 up.

@@ -3,6 +3,7 @@
 
 mod build;
 mod fault;
+mod format_text;
 mod laws;
 mod range_text;
 mod read;

@@ -7,10 +7,11 @@ ghost use Rattle.psci_board_text.specs.Verdict.{is_limit};
 ghost use Rattle.psci_board_text.specs.SummaryVerdict.{text_summary, fault_in};
 
 use crate::fault::BoardFault;
+use crate::format_text::format;
 use crate::range_text::ranges;
 use crate::summary::{RangesSummary, TreeSummary};
 use crate::tree_text::tree;
-use psci_board::{MOST_LIVES, is_in_some};
+use psci_board::{Format, MOST_LIVES, is_in_some};
 use psci_text::{hex, literal, number};
 
 /// What is kept of a board text.
@@ -26,6 +27,8 @@ pub struct TextSummary {
     pub starts: u64,
     /// How many lives there are.
     pub lives: u64,
+    /// How power state words are written.
+    pub format: Format,
 }
 
 /// What is kept of the text, where it is of the grammar.
@@ -38,15 +41,14 @@ pub fn whole_text(text: &[u8]) -> Option<TextSummary>
     let (boot, rest) = hex(literal(rest, b" boot ")?)?;
     let (starts, rest) = number(literal(rest, b" starts ")?)?;
     let (lives, rest) = number(literal(rest, b" lives ")?)?;
-    if !rest.is_empty() {
-        return None;
-    }
+    let format = format(rest)?;
     Some(TextSummary {
         tree,
         ranges,
         boot,
         starts,
         lives,
+        format,
     })
 }
 

@@ -15,6 +15,7 @@ use Rattle.clap.specs.declared.parser.matches.ValueSource.{ValueSource}
 use Rattle.clap.specs.declared.parser.matches.ValueSource.TheVariants.{CommandLine, DefaultValue}
 use Rattle.psci_script.specs.psci_board_text.Grammar.{BoardText, Cluster, Members, spelling}
 use Rattle.psci_script.specs.psci_board_text.Verdict.{verdict}
+use Rattle.psci_script.specs.psci_world_spec.psci_abi.declared.format.Format.TheVariants.{Original}
 use Rattle.psci_command.specs.Program.{program, standard_board}
 
 -- How the examples are stated --------------------------------------------------------------------
@@ -76,6 +77,7 @@ standard_text = record {
   boot = codes "40000000";
   starts = 1000;
   lives = 3;
+  format = None;
 }
 
 standard_spelled : spelling standard_text ≡ standard_board
@@ -89,6 +91,7 @@ standard_read : verdict standard_text ≡ Ok (record {
   boot = 0x40000000;
   starts = 1000;
   lives = 3;
+  format = Original;
 })
 unfolding verdict
 standard_read = refl

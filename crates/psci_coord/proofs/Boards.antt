@@ -1,5 +1,6 @@
 -- Boards and trees for worked examples.
 use Rattle.std.proofs.Common.{ℕ, List, [], ◌∷◌}
+use Rattle.psci_state.specs.psci_abi.declared.format.Format.TheVariants.{Original}
 use Rattle.psci_board.specs.Board.{BoardValue}
 use Rattle.psci_tree.specs.declared.state.CoreState.{CoreState}
 use Rattle.psci_tree.specs.declared.state.Activity.TheVariants.{Active, Suspended, Off}
@@ -14,6 +15,7 @@ board_of levels = record {
   boot = 0;
   starts = 1000;
   lives = 3;
+  format = Original;
 }
 
 -- two clusters of two cores

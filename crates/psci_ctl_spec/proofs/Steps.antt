@@ -1,5 +1,6 @@
 -- Worked examples are stated so: some calls in turn, and the replies to them.
 use Rattle.std.proofs.Common.{◌≡◌, ℕ, Bool, List, [], ◌∷◌, map, reverse, Option}
+use Rattle.psci_link.specs.psci_abi.declared.format.Format.TheVariants.{Original}
 use Rattle.psci_board.specs.Board.{BoardValue}
 use Rattle.psci_link.specs.psci_coord.declared.part.Part.{Part}
 use Rattle.psci_link.specs.declared.kind.Kind.{Kind}
@@ -27,6 +28,7 @@ board_of levels starts lives = record {
   boot = 0x40000000;
   starts = starts;
   lives = lives;
+  format = Original;
 }
 
 -- two clusters of two cores

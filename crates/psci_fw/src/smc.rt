@@ -1,7 +1,6 @@
 //! The functions that a running core calls.
 
 ghost use Rattle.std.specs.Prelude.{◌≡◌, ◌<◌, MatchResult, None, Some};
-ghost use Rattle.psci_abi.specs.declared.format.Format.TheVariants.{Original};
 ghost use Rattle.psci_abi.specs.Calls.{features_of};
 ghost use Rattle.psci_board.specs.Board.{IsBoard, cores};
 ghost use Rattle.psci_fw_spec.specs.After.{change};
@@ -16,10 +15,10 @@ use crate::affinity::affinity_info;
 use crate::mode::set_suspend_mode;
 use crate::off::cpu_off;
 use crate::on::cpu_on;
-use crate::suspend::{FORMAT, cpu_suspend};
+use crate::suspend::cpu_suspend;
 use crate::system::{system_off, system_reset, system_reset2, system_suspend};
 use psci_abi::{Code, Request, features};
-use psci_board::Core;
+use psci_board::{Board, Core};
 use psci_fw_spec::{FwFault, Opening, Outcome};
 use psci_fw_state::State;
 
@@ -98,16 +97,16 @@ fn function(state: &mut State, caller: Core, request: Request) -> Outcome
             Outcome::returns(affinity_info(state, target, level))
         }
         Request::MigrateInfoType => Outcome::returns(NO_MIGRATION),
-        Request::Features { word } => Outcome::returns(feature_code(word)),
+        Request::Features { word } => Outcome::returns(feature_code(state.board(), word)),
         Request::Unknown => Outcome::returns(Code::NOT_SUPPORTED),
     }
 }
 
 /// PSCI_FEATURES (DEN0022D): the feature flags of a function word, or NOT_SUPPORTED.
-fn feature_code(word: u32) -> Code
-    ensures { result ≡ record { 0 = features_of Original word } }
+fn feature_code(board: &Board, word: u32) -> Code
+    ensures { result ≡ record { 0 = features_of board.now.format word } }
 {
-    Code(features(word, FORMAT))
+    Code(features(word, board.format()))
 }
 
 /// Where a core goes on: entry point and context id.

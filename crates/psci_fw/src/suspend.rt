@@ -13,15 +13,12 @@ ghost use Rattle.psci_fw_state.specs.Seen.{values_in};
 
 use crate::laws::law_may_claim;
 use crate::off::send_down;
-use psci_abi::{Code, Format};
+use psci_abi::Code;
 use psci_board::{Board, Core};
 use psci_coord::Osi;
 use psci_fw_spec::{Opening, Outcome, law_stops};
 use psci_fw_state::State;
 use psci_state::Ask;
-
-/// How every board writes its power state words.
-pub const FORMAT: Format = Format::Original;
 
 /// CPU_SUSPEND (DEN0022D): the caller stops in this power state, until it is woken. Where it powers
 /// down it then goes on at the opening, else after its call. At the start limit it could never be
@@ -34,7 +31,7 @@ pub fn cpu_suspend(state: &mut State, caller: Core, word: u32, opening: Opening)
 {
     law_may_claim();
     let board = state.board();
-    let Ok(ask) = Ask::read(word, FORMAT, board.height()) else {
+    let Ok(ask) = Ask::read(word, board.format(), board.height()) else {
         return Outcome::returns(Code::INVALID_PARAMETERS);
     };
     if has_invalid_entry(board, ask, opening.address) {

@@ -1,5 +1,6 @@
 -- Worked examples are stated of the legal history of some calls.
 use Rattle.std.proofs.Common.{ℕ, List, [], ◌∷◌, false}
+use Rattle.psci_fw_spec.specs.psci_abi.declared.format.Format.TheVariants.{Original}
 use Rattle.psci_board.specs.Board.{BoardValue}
 use Rattle.psci_coord.specs.declared.part.Part.{Part}
 use Rattle.psci_link.specs.declared.kind.Kind.{Kind}
@@ -18,6 +19,7 @@ board = record {
   boot = 0x40000000;
   starts = 1000;
   lives = 3;
+  format = Original;
 }
 
 -- a call of a core

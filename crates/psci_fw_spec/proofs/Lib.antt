@@ -13,6 +13,8 @@ mod EffectRows
 pub mod Endings
 mod Entered
 mod EntryRows
+mod FormatRows
+mod FormatWordRows
 mod Granting
 mod HaltingRows
 mod Holding

@@ -1,6 +1,7 @@
 -- Worked examples are stated so: the calls of some cores in turn, and beside each its reply.
 use Rattle.std.proofs.Common.{◌≡◌, ℕ, zero, suc, ℤ, pos, negsuc, Bool, true, false}
 use Rattle.std.proofs.Common.{List, [], ◌∷◌, map, reverse, None, Some}
+use Rattle.psci_abi.specs.declared.format.Format.TheVariants.{Original}
 use Rattle.psci_board.specs.Board.{BoardValue, core_of, node_of, up}
 use Rattle.psci_coord.specs.declared.part.Part.{Part}
 use Rattle.psci_coord.specs.Claim.{claims_of}
@@ -53,6 +54,7 @@ board = record {
   boot = 0x40000000;
   starts = 1000;
   lives = 3;
+  format = Original;
 }
 
 -- the same with other limits: of starts, of lives

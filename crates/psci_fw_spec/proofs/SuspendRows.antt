@@ -23,7 +23,7 @@ faulty_power_states : AreAnswered board
 unfolding computing
 faulty_power_states = record { history = refl; values = refl }
 
--- words of the extended format are none of the original one, which every board has
+-- words of the extended format are none of the original one, which this board has
 words_of_the_other_format : AreAnswered board
     (boot ⇒ boots
     ∷ suspend 0 0x40000003 0x40000100 0 ⇒ error 2

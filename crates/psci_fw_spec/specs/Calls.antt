@@ -13,7 +13,7 @@ use Rattle.psci_fw_spec.specs.declared.outcome.Outcome.{Outcome}
 use Rattle.psci_fw_spec.specs.AffinityInfo.{affinity_info}
 use Rattle.psci_fw_spec.specs.CpuOff.{cpu_off}
 use Rattle.psci_fw_spec.specs.CpuOn.{cpu_on}
-use Rattle.psci_fw_spec.specs.CpuSuspend.{cpu_suspend, format_of}
+use Rattle.psci_fw_spec.specs.CpuSuspend.{cpu_suspend}
 use Rattle.psci_fw_spec.specs.Outcomes.{returns, stops}
 use Rattle.psci_fw_spec.specs.Phases.{is_running}
 use Rattle.psci_fw_spec.specs.SuspendMode.{set_suspend_mode}
@@ -49,7 +49,7 @@ function_outcome b v caller requests.MigrateInfoType = returns no_migration
 function_outcome b v caller requests.SystemOff = system_message v kinds.Off caller
 function_outcome b v caller requests.SystemReset = system_message v kinds.Reset caller
 function_outcome b v caller (requests.Features word) =
-    returns (record { 0 = features_of (format_of b) word })
+    returns (record { 0 = features_of b.format word })
 function_outcome b v caller (requests.SystemSuspend entry_point context) =
     system_suspend b v caller entry_point
 function_outcome b v caller (requests.SetSuspendMode mode) =

@@ -2,8 +2,6 @@
 use Rattle.std.specs.Prelude.{ℕ, List, ◌&&◌, not, ◌==◌, if◌then◌else◌, Result, Ok, Err}
 use Rattle.psci_abi.specs.Codes.{denied, invalid_address, invalid_parameters, success}
 use Rattle.psci_abi.specs.declared.code.Code.{Code}
-use Rattle.psci_abi.specs.declared.format.Format.{Format}
-use Rattle.psci_abi.specs.declared.format.Format.TheVariants.{Original}
 use Rattle.psci_board.specs.Board.{BoardValue, height, may_enter}
 use Rattle.psci_coord.specs.declared.osi.Osi.{Osi}
 use Rattle.psci_coord.specs.declared.osi.Osi.TheVariants.{Invalid, Denied}
@@ -17,13 +15,9 @@ use Rattle.psci_fw_spec.specs.Claims.{suspend_parts}
 use Rattle.psci_fw_spec.specs.Outcomes.{message_for, returns, stops_with}
 use Rattle.psci_fw_spec.specs.Values.{Values}
 
--- the format of the board's power state words
-abbrev pub format_of : BoardValue → Format
-format_of b = Original
-
--- the ask of a power state word on this board
+-- the ask of a power state word on this board, in the board's format
 abbrev pub ask_named : BoardValue → ℕ → Result (List ℕ) BadState
-ask_named b word = ask_of (format_of b) (height b) word
+ask_named b word = ask_of b.format (height b) word
 
 -- what the last-core check answers
 abbrev pub osi_code : Osi → Code

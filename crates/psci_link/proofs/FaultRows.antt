@@ -3,6 +3,7 @@
 -- acknowledgement, altered.
 use Rattle.std.proofs.Common.{◌≡◌, ℕ, List, [], ◌∷◌, ◌++◌, refl}
 use Rattle.std.specs.Prelude.{Some, None, slice_set, take, replicate}
+use Rattle.psci_coord.specs.psci_abi.declared.format.Format.TheVariants.{Original}
 use Rattle.psci_board.specs.Board.{BoardValue}
 use Rattle.psci_link.specs.declared.fault.FrameFault.TheVariants as faults
 use Rattle.psci_link.specs.Frame.{fault_of_kind, first_fault}
@@ -14,8 +15,8 @@ board = record {
   ranges = [];
   boot = 0;
   starts = 1;
-  lives
-      = 1;
+  lives = 1;
+  format = Original;
 }
 
 -- core 3 goes down with its cluster

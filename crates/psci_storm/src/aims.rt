@@ -3,6 +3,7 @@
 use crate::draws::{Draws, Mood};
 use crate::places::{count_at, is_at, is_halting, starts};
 use crate::requests::registers;
+use crate::states::deepest;
 use psci_abi::Request;
 use psci_world::{Event, Place, World};
 
@@ -126,11 +127,10 @@ impl Draws {
     /// The core suspends, half of the time as deep as the board goes.
     fn sleep(&mut self, world: &World) -> Request {
         let entry = self.good_entry(world.board());
-        let height = world.board().height();
         let state = if self.one_in(2) {
-            deepest(height)
+            deepest(world.board())
         } else {
-            self.good_state(height)
+            self.good_state(world.board())
         };
         Request::CpuSuspend {
             state,
@@ -185,14 +185,5 @@ impl Draws {
         } else {
             self.aimed(world)
         }
-    }
-}
-
-/// Power-down at each level of this height, as a power state word in the original format.
-fn deepest(height: u32) -> u32 {
-    match height {
-        1 => 0x0101_0033,
-        2 => 0x0201_0333,
-        _ => 0x0301_3333,
     }
 }

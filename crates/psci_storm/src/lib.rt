@@ -14,6 +14,7 @@ mod outcome;
 mod places;
 mod plain;
 mod requests;
+mod states;
 
 pub use blowing::{blow, storm, storm_world};
 pub use outcome::{Storm, StormedWorld};

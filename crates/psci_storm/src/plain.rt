@@ -1,7 +1,5 @@
 //! Plain draws: any call, with arguments that are good or bad, and any other event.
 
-ghost use Rattle.std.specs.Prelude.{◌≤◌};
-
 use crate::draws::Draws;
 use crate::places::is_at;
 use crate::requests::{NO_FUNCTION, registers};
@@ -71,44 +69,6 @@ impl Draws {
             0 => entry | 2,
             1 => 0,
             _ => entry,
-        }
-    }
-
-    /// A power state word of this height, in the original format: no level is deeper than the one
-    /// below it.
-    pub fn good_state(&mut self, height: u32) -> u32 {
-        let core = 1 + self.below(3);
-        let cluster = self.shallower(core, height >= 1);
-        let group = self.shallower(cluster, height >= 2);
-        let system = self.shallower(group, height >= 3);
-        let id = core | (cluster << 4) | (group << 8) | (system << 12);
-        let level = u32::from(cluster > 0) + u32::from(group > 0) + u32::from(system > 0);
-        let kind = u32::from(core == 3);
-        id | (kind << 16) | (level << 24)
-    }
-
-    /// A depth no deeper than this one, mostly the same; 0 where the board has no such level.
-    fn shallower(&mut self, depth: u32, there: bool) -> u32
-        requires { depth ≤ 3 }
-        ensures { result ≤ depth }
-    {
-        if !there {
-            return 0;
-        }
-        if self.one_in(2) {
-            depth
-        } else {
-            self.below(depth + 1)
-        }
-    }
-
-    /// A power state word, good or bad.
-    fn state(&mut self, height: u32) -> u32 {
-        let state = self.good_state(height);
-        if self.one_in(4) {
-            state ^ (1 << self.below(32))
-        } else {
-            state
         }
     }
 
@@ -191,7 +151,7 @@ impl Draws {
     /// A CPU_SUSPEND, good or bad.
     fn suspend(&mut self, board: &Board) -> Request {
         Request::CpuSuspend {
-            state: self.state(board.height()),
+            state: self.state(board),
             entry: self.entry(board),
             context: self.word(),
         }

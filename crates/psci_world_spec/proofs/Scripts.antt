@@ -2,6 +2,7 @@
 use Rattle.std.proofs.Common.{◌≡◌, ℕ, ℤ, Bool, List, [], ◌∷◌, length, map, reverse, Option, None}
 use Rattle.std.proofs.Common.{Some}
 use Rattle.std.specs.List.{range_with_len}
+use Rattle.psci_fw_spec.specs.psci_abi.declared.format.Format.TheVariants.{Original}
 use Rattle.psci_fw_spec.specs.psci_board.Board.{BoardValue, core_of, node_of, up}
 use Rattle.psci_fw_spec.specs.psci_coord.declared.part.Part.{Part}
 use Rattle.psci_fw_spec.specs.psci_coord.Claim.{claims_of}
@@ -52,6 +53,7 @@ board = record {
   boot = 0x40000000;
   starts = 1000;
   lives = 3;
+  format = Original;
 }
 
 -- the same with other limits: of starts, of lives

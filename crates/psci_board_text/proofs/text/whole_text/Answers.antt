@@ -3,7 +3,7 @@ use Rattle.std.specs.Str.Parse.{digits_value}
 use Rattle.psci_board_text.specs.Reading.{board_text}
 use Rattle.psci_board_text.specs.Summary.{tree_summary, with_ranges, no_ranges}
 use Rattle.psci_board_text.proofs.Fronts.{value_and_rest_some, value_and_rest_none, ranges_parts}
-use Rattle.psci_board_text.proofs.Fronts.{ranges_none, same_text}
+use Rattle.psci_board_text.proofs.Fronts.{named_none, named_some, ranges_none, same_text}
 use Rattle.psci_board_text.proofs.text.whole_text.Goals as goal
 
 pub returns-in_err-tree : goal.returns-in_err-tree
@@ -144,6 +144,30 @@ returns-in_err-lives c =
       c.from_residual-in_err-lives.ensures,
     ) refl
 
+pub returns-in_err-format : goal.returns-in_err-format
+unfolding board_text
+returns-in_err-format c =
+    let t = value_and_rest_some tree_summary _ _ _ c.in_ok-tree.ensures in
+    let r = value_and_rest_some (with_ranges no_ranges) _ _ _ c.in_ok-ranges.ensures in
+    let first = ranges_parts _ _ _ r.1 in
+    let b = value_and_rest_some (digits_value 16) _ _ _ c.in_ok-boot.ensures in
+    rw (
+      t.1,
+      sym c.in_ok-literal.ensures,
+      first.1,
+      first.3,
+      sym c.in_ok-literal-2.ensures,
+      b.1,
+      sym
+          c.in_ok-literal-3.ensures,
+      sym c.in_ok-starts.ensures,
+      sym c.in_ok-literal-4.ensures,
+      sym
+          c.in_ok-lives.ensures,
+      named_none _ c.in_err-format.ensures,
+      c.from_residual-in_err-format.ensures,
+    ) refl
+
 pub returns : goal.returns
 unfolding board_text
 returns c =
@@ -151,6 +175,7 @@ returns c =
     let r = value_and_rest_some (with_ranges no_ranges) _ _ _ c.in_ok-ranges.ensures in
     let first = ranges_parts _ _ _ r.1 in
     let b = value_and_rest_some (digits_value 16) _ _ _ c.in_ok-boot.ensures in
+    let f = named_some _ _ c.in_ok-format.ensures in
     rw (
       t.1,
       sym c.in_ok-literal.ensures,
@@ -164,29 +189,6 @@ returns c =
       sym c.in_ok-literal-4.ensures,
       sym
           c.in_ok-lives.ensures,
-      sym c.if-not-is_empty.ensures,
+      f.1,
     )
-    (same_text _ _ t.2 (r.2 ∙ ap (with_ranges no_ranges) first.2) b.2)
-
-pub returns-then-not-is_empty : goal.returns-then-not-is_empty
-unfolding board_text
-returns-then-not-is_empty c =
-    let t = value_and_rest_some tree_summary _ _ _ c.in_ok-tree.ensures in
-    let r = value_and_rest_some (with_ranges no_ranges) _ _ _ c.in_ok-ranges.ensures in
-    let first = ranges_parts _ _ _ r.1 in
-    let b = value_and_rest_some (digits_value 16) _ _ _ c.in_ok-boot.ensures in
-    rw (
-      t.1,
-      sym c.in_ok-literal.ensures,
-      first.1,
-      first.3,
-      sym c.in_ok-literal-2.ensures,
-      b.1,
-      sym
-          c.in_ok-literal-3.ensures,
-      sym c.in_ok-starts.ensures,
-      sym c.in_ok-literal-4.ensures,
-      sym
-          c.in_ok-lives.ensures,
-      sym c.if-not-is_empty.ensures,
-    ) refl
+    (same_text _ _ t.2 (r.2 ∙ ap (with_ranges no_ranges) first.2) b.2 f.2)

@@ -19,7 +19,8 @@ returns-in-Features-clause-answer c =
     let core = c.args.caller.number in
     let asked = requests.Features c.in-Features.word in
     rw c.in-Features.is (record {
-      answer = c.returns-in-Features.ensures ∙ ap returns c.feature_code.ensures;
+      answer = c.returns-in-Features.ensures
+          ∙ ap returns (rw c.board.ensures.same at c.feature_code.ensures);
       after = subst
           (λ (o : Outcome). v ≡ change b (function_effect b core asked o.act o.message) v)
           (sym c.returns-in-Features.ensures) (goes_on v core c.requires.running);

@@ -6,8 +6,8 @@ use Rattle.psci_fw.proofs.suspend.cpu_suspend.Goals as goal
 pub sleep-requires-clause-may : goal.sleep-requires-clause-may
 sleep-requires-clause-may c =
     let named : ask_named c.args.state.now.board c.args.word ≡ Ok c.in-Ok.ask =
-    sym (rw (c.height.ensures.height, c.board-board.ensures.same) at c.read.ensures.value)
-    ∙ c.in-Ok.is in
+    sym (rw (c.format.ensures, c.height.ensures.height, c.board-board.ensures.same)
+    at c.read.ensures.value) ∙ c.in-Ok.is in
     let enters = rw c.board-board.ensures.same at c.has_invalid_entry.ensures in
     let limit = rw c.board-board.ensures.same at c.start_limit.ensures in
     record {
@@ -23,8 +23,8 @@ sleep-requires-clause-may c =
 pub returns-clause-answer : goal.returns-clause-answer
 returns-clause-answer c =
     let named : ask_named c.args.state.now.board c.args.word ≡ Ok c.in-Ok.ask =
-    sym (rw (c.height.ensures.height, c.board-board.ensures.same) at c.read.ensures.value)
-    ∙ c.in-Ok.is in
+    sym (rw (c.format.ensures, c.height.ensures.height, c.board-board.ensures.same)
+    at c.read.ensures.value) ∙ c.in-Ok.is in
     let enters = rw c.board-board.ensures.same at c.has_invalid_entry.ensures in
     let limit = rw c.board-board.ensures.same at c.start_limit.ensures in
     suspended_answered c.args.state.now.board _ c.args.caller.number c.args.word c.args.opening

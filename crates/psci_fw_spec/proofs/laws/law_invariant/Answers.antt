@@ -1,4 +1,3 @@
-use Rattle.psci_abi.specs.declared.format.Format.TheVariants.{Original}
 use Rattle.psci_board.specs.Board.{height}
 use Rattle.psci_fw_spec.proofs.Answered.{Worded, deepest_is, kept_function}
 use Rattle.psci_fw_spec.proofs.Asked.{known_from}
@@ -19,7 +18,7 @@ returns-clause-function g = λ b v c r board on are runs.
     let known = known_from b board g.law_paths.ensures g.law_words.ensures g.law_below.ensures
     g.law_claims.ensures g.law_platform.ensures g.law_own.ensures g.law_off.ensures
     g.law_last_core.ensures g.law_parts.ensures.claim in
-    let asks : Worded b = g.law_power_states.ensures.shape Original (height b) in
+    let asks : Worded b = g.law_power_states.ensures.shape b.format (height b) in
     let all = deepest_is (height b) board.high g.law_power_states.ensures.test in
     kept_function b v c r known on are runs asks all
 
@@ -38,7 +37,7 @@ returns-clause-answer g = λ b v c call board are.
     let known = known_from b board g.law_paths.ensures g.law_words.ensures g.law_below.ensures
     g.law_claims.ensures g.law_platform.ensures g.law_own.ensures g.law_off.ensures
     g.law_last_core.ensures g.law_parts.ensures.claim in
-    let asks : Worded b = g.law_power_states.ensures.shape Original (height b) in
+    let asks : Worded b = g.law_power_states.ensures.shape b.format (height b) in
     let all = deepest_is (height b) board.high g.law_power_states.ensures.test in
     kept_answer b v c call known are asks all
 
@@ -47,6 +46,6 @@ returns-clause-legal g = λ b h board legal.
     let known = known_from b board g.law_paths.ensures g.law_words.ensures g.law_below.ensures
     g.law_claims.ensures g.law_platform.ensures g.law_own.ensures g.law_off.ensures
     g.law_last_core.ensures g.law_parts.ensures.claim in
-    let asks : Worded b = g.law_power_states.ensures.shape Original (height b) in
+    let asks : Worded b = g.law_power_states.ensures.shape b.format (height b) in
     let all = deepest_is (height b) board.high g.law_power_states.ensures.test in
     kept_legal b h known asks all (g.law_values.ensures.first b) (g.law_values.ensures.more b) legal
