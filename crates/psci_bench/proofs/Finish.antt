@@ -168,15 +168,6 @@ finish_failed (Err Read) first before s e k = absurd (cc)
 finish_failed (Err Memory) first before s e k = absurd (cc)
 finish_failed (Err Write) first before s e k = answers_part first before s.left s.taken k
 
-pub no_write : (r : Result Replayed ReplayFault) (P : Type 0) → is_write_fault r ≡ false
-    → IfErr r (λ f. f ≡ Write → P)
-no_write (Ok x) P e = tt
-no_write (Err (Script l f)) P e = λ w. absurd (cc)
-no_write (Err (Board f)) P e = λ w. absurd (cc)
-no_write (Err Read) P e = λ w. absurd (cc)
-no_write (Err Memory) P e = λ w. absurd (cc)
-no_write (Err Write) P e = absurd (cc)
-
 -- an answer that stands in another error's place
 pub replays_so : (r : Result Replayed ReplayFault) (e : ReplayFault)
     (first left before after : Option (List ℕ)) → IsErr r × IsErrAnd r (λ f. f ≡ e)

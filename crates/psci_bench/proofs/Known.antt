@@ -15,41 +15,6 @@ appends_more (Some p) (Some q) None x y f g = absurd g
 appends_more (Some p) (Some q) (Some r) x y f g = g ∙ ap (λ (z : List ℕ). z ++ y) f
     ∙ append_assoc p x y
 
-pub keeps_appends : (a b : Option (List ℕ)) → Keeps a b
-    → (let none : List ℕ = [] in Appends a b none)
-keeps_appends None b k = tt
-keeps_appends (Some p) None k = absurd k
-keeps_appends (Some p) (Some q) k = k ∙ sym (append-nil p)
-
--- nothing happened, and then what did
-pub keeps_then_appends : (a b c : Option (List ℕ)) (y : List ℕ) → Keeps a b → Appends b c y
-    → Appends a c y
-keeps_then_appends None b c y k g = tt
-keeps_then_appends (Some p) None c y k g = absurd k
-keeps_then_appends (Some p) (Some q) None y k g = absurd g
-keeps_then_appends (Some p) (Some q) (Some r) y k g = g ∙ ap (λ (z : List ℕ). z ++ y) k
-
-pub keeps_keeps : (a b c : Option (List ℕ)) → Keeps a b → Keeps b c → Keeps a c
-keeps_keeps None b c k l = tt
-keeps_keeps (Some p) None c k l = absurd k
-keeps_keeps (Some p) (Some q) None k l = absurd l
-keeps_keeps (Some p) (Some q) (Some r) k l = l ∙ k
-
-pub appends_keeps : (a b c : Option (List ℕ)) (x : List ℕ) → Appends a b x → Keeps b c
-    → Appends a c x
-appends_keeps None b c x f k = tt
-appends_keeps (Some p) None c x f k = absurd f
-appends_keeps (Some p) (Some q) None x f k = absurd k
-appends_keeps (Some p) (Some q) (Some r) x f k = k ∙ f
-
--- nothing happened, and then bytes came
-pub keeps_then_consumes : (a b c : Option (List ℕ)) (y : List ℕ) → Keeps a b → Consumes b c y
-    → Consumes a c y
-keeps_then_consumes None b c y k g = tt
-keeps_then_consumes (Some p) None c y k g = absurd k
-keeps_then_consumes (Some p) (Some q) None y k g = absurd g
-keeps_then_consumes (Some p) (Some q) (Some r) y k g = sym k ∙ g
-
 pub consumes_more : (a b c : Option (List ℕ)) (x y : List ℕ) → Consumes a b x → Consumes b c y
     → Consumes a c (x ++ y)
 consumes_more None b c x y f g = tt

@@ -48,9 +48,9 @@ first_progress left taken =
     }) taken
 
 -- the replay with these fields has not begun
-abbrev pub IsFirst : {S K : Type 0} → (S → Option (List ℕ)) → (K → Option (List ℕ))
+abbrev pub IsFresh : {S K : Type 0} → (S → Option (List ℕ)) → (K → Option (List ℕ))
     → Fields S K → Type 0
-IsFirst left taken p =
+IsFresh left taken p =
     progress_of left taken p ≡ first_progress (left p.source.now) (taken p.sink.now)
 
 -- a replay keeps its devices

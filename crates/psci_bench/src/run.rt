@@ -6,7 +6,7 @@ ghost use Rattle.psci_script.specs.psci_board.Board.{BoardValue};
 ghost use Rattle.psci_script.specs.psci_world_spec.declared.said.Record.{Record};
 ghost use Rattle.psci_world.specs.Seen.{IsPresent};
 ghost use Rattle.psci_script.specs.Limits.{longest_line, most_lines};
-ghost use Rattle.psci_bench.specs.Progress.{IsFirst, IsLine, OnlyGivenUp};
+ghost use Rattle.psci_bench.specs.Progress.{IsFresh, IsLine, OnlyGivenUp};
 ghost use Rattle.psci_bench.specs.Progress.{SameDevices, StaySound, progress_of};
 ghost use Rattle.psci_bench.specs.Run.{BoardRead, IsUnderWay, EndsBy};
 ghost use Rattle.psci_bench.specs.Run.{Runs, Replays, LineLeaves, LineRefused, IsNoDevice};
@@ -67,7 +67,7 @@ fn answer(
 impl<S: Source, K: Sink> Progress<'_, '_, S, K> {
     /// The present of the board that the first line has, before any event.
     fn begin(&mut self, alloc: Global) -> Result<Present, ReplayFault>
-        requires { IsFirst S.left K.taken self.old }
+        requires { IsFresh S.left K.taken self.old }
         ensures devices { SameDevices self.old self.new }
         ensures sound { OnOk result (StaySound S.failed K.failed self.old self.new) }
         ensures ok { IfOk result (λ present. IsUnderWay present 1
@@ -117,7 +117,7 @@ impl<S: Source, K: Sink> Progress<'_, '_, S, K> {
 
     /// Answers each line of the script; the last answers may still wait to be written.
     fn run(&mut self, alloc: Global) -> Result<Replayed, ReplayFault>
-        requires { IsFirst S.left K.taken self.old }
+        requires { IsFresh S.left K.taken self.old }
         ensures devices { SameDevices self.old self.new }
         ensures sound { OnOk result (StaySound S.failed K.failed self.old self.new) }
         ensures runs { Runs result
@@ -140,7 +140,7 @@ impl<S: Source, K: Sink> Progress<'_, '_, S, K> {
 
     /// Answers the script, and writes the last answers.
     fn complete(&mut self, alloc: Global) -> Result<Replayed, ReplayFault>
-        requires { IsFirst S.left K.taken self.old }
+        requires { IsFresh S.left K.taken self.old }
         ensures devices { SameDevices self.old self.new }
         ensures sound { OnOk result (StaySound S.failed K.failed self.old self.new) }
         ensures replays { Replays result

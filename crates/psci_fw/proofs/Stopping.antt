@@ -153,11 +153,6 @@ system_outcome b v c entry context parts e may off low is =
     awake_outcome b v c (requests.SystemSuspend entry context) e
     ∙ (rw (may, off, other) (ap (suspend_answer v c) is))
 
-pub suspend_effect : (b : BoardValue) (c word entry context : ℕ) (m : MessageValue)
-    → (rest : Rest) × (function_effect b c (requests.CpuSuspend word entry context) Stop (Some m)
-    ≡ Rests c rest m)
-suspend_effect b c word entry context m = (_, refl)
-
 -- Parked ----------------------------------------------------------------------------------------
 
 pub park_outcome : (b : BoardValue) (v : Values) (c : ℕ) (s : Start)

@@ -95,12 +95,6 @@ left_not_pending phases.Running left e = refl
 left_not_pending (phases.Suspended ask) left e = refl
 left_not_pending phases.Away left e = refl
 
-pub left_pending : (p left : Phase) → is_pending_phase p ≡ true → unless_pending p left ≡ p
-left_pending phases.Pending left e = refl
-left_pending phases.Running left e = cc
-left_pending (phases.Suspended ask) left e = cc
-left_pending phases.Away left e = cc
-
 pub suspended_is : (s : Status) (ask : List ℕ)
     → phase_by s (activities.Suspended ask) ≡ phases.Suspended ask
 suspended_is statuses.On ask = refl

@@ -56,14 +56,6 @@ laid_part b c parts before l p part e is =
     laid_on b c parts before l p e
     ∙ ap (λ (o : Option Part). claimed_or o (before l p)) is
 
--- nothing is laid before the first part
-pub laid_none : (b : BoardValue) (c : ℕ) (parts : List Part) (t : TreeValue)
-    → IsLaid b c parts (granted_at t) t 0
-laid_none b c parts t = record {
-  low = λ l p h. absurd (omega arith);
-  high = λ l p h. refl;
-}
-
 -- one part more
 module _ (b : BoardValue) (c : ℕ) (parts : List Part) (before : ℕ → ℕ → ℕ) (t u : TreeValue)
     (n : ℕ) (part : Part) (is : slice_get parts n ≡ Some part)

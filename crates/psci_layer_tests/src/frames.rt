@@ -1,8 +1,8 @@
 //! Known frames, and bytes that were tampered with.
 
+use crate::slots::down;
 use psci_board::{Board, Core};
 use psci_board_text::ReadBoard;
-use psci_coord::{Part, Parts};
 use psci_link::{Ack, FRAME_LEN, Frame, FrameFault, Kind, Message, decode, encode};
 use std::test::Fail;
 
@@ -33,28 +33,6 @@ const SMALL: &str = "(2 2) exec 0x40000000-0x40100000 boot 0x40000000 starts 100
 /// Four groups of four clusters of 16 cores.
 const LARGE: &str = "((16 16 16 16) (16 16 16 16) (16 16 16 16) (16 16 16 16)) \
     exec 0x40000000-0x40100000 boot 0x40000000 starts 1000 lives 3";
-
-/// What goes down with core 3.
-fn down() -> Message {
-    let mut parts = Parts::new();
-    parts.push(Part {
-        level: 0,
-        depth: 3,
-        generation: 1,
-    });
-    parts.push(Part {
-        level: 1,
-        depth: 3,
-        generation: 1,
-    });
-    Message {
-        kind: Kind::Down,
-        core: Core { number: 3 },
-        life: 1,
-        number: 1,
-        parts,
-    }
-}
 
 #[test]
 fn known_frames(rt: HostRuntime) -> Result<(), Fail> {

@@ -10,7 +10,7 @@ use psci_link::{Ack, Kind, Message, Slots, Taken};
 use std::test::Fail;
 
 /// Core 3 goes down with its cluster.
-fn down() -> Message
+pub(crate) fn down() -> Message
     ensures { slot_of result.kind result.core ≡ OfCore 3 }
 {
     let mut parts = Parts::new();

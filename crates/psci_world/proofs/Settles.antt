@@ -60,13 +60,6 @@ each_more does n k past less =
     let left : k - n ≡ suc (k - (n + 1)) = omega arith in
     rw left refl
 
--- no core is left
-pub each_end : (does : List Record → ℕ → List Record) (n k : ℕ) (past : List Record) → n ≡ k
-    → each_core does (range_with_len n (k - n)) past ≡ past
-each_end does n k past e =
-    let left : k - n ≡ 0 = omega arith in
-    rw left refl
-
 -- nothing happened, and the past is as it was
 pub settles_same : (b : BoardValue) (past after : List Record) → after ≡ past
     → SettlesBy b past after
