@@ -104,8 +104,7 @@ const FIRST_TEXT: &[u8] =
     b"1 absent\n2 absent\n3 absent\n4 ignored\n5 started 2\n6 enter 0x40000000 0x0\n";
 
 /// On a board of 256 cores five others are asked on, the last one among them.
-const MESSAGES: &[u8] =
-    b"board (16 16 16 16 16 16 16 16 16 16 16 16 16 16 16 16) \
+const MESSAGES: &[u8] = b"board (16 16 16 16 16 16 16 16 16 16 16 16 16 16 16 16) \
       exec 0x40000000-0x40100000 boot 0x40000000 starts 1000 lives 3\n\
       enter 0\n\
       call 0 0xc4000003 0x1 0x40001000 7\n\

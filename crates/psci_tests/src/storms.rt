@@ -18,8 +18,7 @@ const EVEN: &str = "((1 1) (1 1)) exec 0x40000000-0x40100000 boot 0x40000000 sta
 const BOARD: &str = "(2 2) exec 0x40000000-0x40100000 boot 0x40000000 starts 1000 lives 12";
 
 /// Two groups of clusters, with power state words in the extended format.
-const TALL: &str =
-    "((1 2) (2 1)) exec 0x0-0x100000 boot 0x0 starts 1000 lives 3 format extended";
+const TALL: &str = "((1 2) (2 1)) exec 0x0-0x100000 boot 0x0 starts 1000 lives 3 format extended";
 
 /// So many events are drawn.
 const COUNT: u64 = 10_000;
