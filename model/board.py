@@ -1,5 +1,5 @@
-"""The board of a script: its tree of power domains, where cores may enter, its limits, and the format
-of its power state words."""
+"""The board of a script: its tree of power domains, where cores may enter, its limits, and the
+format of its power state words."""
 import re
 
 DEC = r"(?:0|[1-9][0-9]*)"

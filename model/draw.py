@@ -8,12 +8,13 @@ from script import World, answer
 # each function by its words, and how often it is drawn
 FUNCTIONS = {
     fw.VERSION: 1, fw.CPU_SUSPEND: 6, fw.CPU_ON: 9, fw.AFFINITY_INFO: 5, fw.MIGRATE_INFO_TYPE: 1,
-    fw.FEATURES: 2, fw.SYSTEM_SUSPEND: 1, fw.SET_SUSPEND_MODE: 3, fw.SYSTEM_RESET2: 1,
+    fw.FEATURES: 2, fw.SYSTEM_SUSPEND: 2, fw.SET_SUSPEND_MODE: 3, fw.SYSTEM_RESET2: 1,
 }
 # what ends a life, or nearly
 LAST = (fw.CPU_OFF, fw.CPU_OFF, fw.SYSTEM_OFF, fw.SYSTEM_RESET, fw.SYSTEM_RESET, fw.SYSTEM_RESET,
         fw.SYSTEM_RESET2, fw.SYSTEM_RESET2)
-assert set(fw.SUPPORTED) <= {word for words in (*FUNCTIONS, *LAST) for word in words}, "not drawn"
+EVERY = tuple(dict.fromkeys((*FUNCTIONS, *LAST)))
+assert set(fw.SUPPORTED) <= {word for words in EVERY for word in words}, "not drawn"
 # functions that are left out, words of a width that a function lacks, and other services
 OTHERS = (0x84000005, 0x84000007, 0x8400000B, 0x8400000C, 0x8400000D, 0x84000010, 0x84000011,
           0x84000013, 0x84000014, 0x80000000, 0x04000003, 0xC4000000, 0xC4000002, 0xC4000006,
@@ -45,7 +46,7 @@ class Draw(random.Random):
         good = self.choice((first, first, first, end - 4))
         boot = rarely(good, 2, end, end - 4, first + 1) % 2**64
         starts = rarely(self.choice((1, 2, 3, 1000, 2**32 - 1)), 0, 2**32)
-        lives = rarely(self.choice((1, 2, 3, 65535)), 0, 65536)
+        lives = rarely(self.choice((1, 2, 3, 3, 65535, 65535)), 0, 65536)
         spelled = lambda it: self.choice((f"{it:#x}", f"0x{it:X}", f"0x{it:016x}"))
         pairs = " ".join(f"{spelled(first)}-{spelled(end)}" for first, end in ranges)
         form = rarely(self.choice(("", "", " format original", " format extended",
@@ -63,11 +64,19 @@ class Draw(random.Random):
             some(some(*[16] * 15), some(last)), some(some(*[16] * 15), some(last - 1, 1)),
         ))
 
-    def affinity(self, board):
+    def affinity(self, world):
         any_fields = (0, 1, 2, 3, 15, 16), (0, 0, 1, 2, 15), (0, 0, 1, 2)
-        fields = self.choice([self.choice(board.places)] * 3 + [map(self.choice, any_fields)])
+        pending = [core for core in world.board.cores if world.firmware.status[core] == fw.PENDING]
+        if pending and self.randrange(3) == 0:
+            return self.word_of(world.board, self.choice(pending))
+        fields = self.choice([self.choice(world.board.places)] * 3 + [map(self.choice, any_fields)])
         word = sum(field << 8 * at for at, field in enumerate(fields))
         return self.rarely(word, *(word | 1 << at for at in (3, 11, 19, 24, 31, 32, 39, 40, 63)))
+
+    @staticmethod
+    def word_of(board, core):
+        """The affinity word of a core."""
+        return sum(field << 8 * at for at, field in enumerate(board.places[core]))
 
     def entry(self):
         first, end = self.ends
@@ -78,6 +87,8 @@ class Draw(random.Random):
         """A word that is accepted, or nearly one, mostly in the format of the board."""
         many = self.choice((1, 2, board.height + 1))
         depths = sorted((self.choice((0, 1, 2, 3, 3)) for _ in range(many)), reverse=True)
+        if self.randrange(4) == 0:
+            depths = [3] * (board.height + 1)
         highest = max([0] + [level for level, depth in enumerate(depths) if depth])
         word = sum(depth << 4 * level for level, depth in enumerate(depths))
         if board.extended != (self.randrange(8) == 0):
@@ -88,14 +99,15 @@ class Draw(random.Random):
             word ^= self.choice(CHANGES + (self.getrandbits(32),))
         return word
 
-    def registers(self, words, board):
+    def registers(self, words, world):
         """The arguments of a function, some faulty, and some with bits that are not looked at."""
         if words == fw.CPU_ON:
-            regs = [self.affinity(board), self.entry(), self.getrandbits(self.choice((8, 64)))]
+            regs = [self.affinity(world), self.entry(), self.getrandbits(self.choice((8, 64)))]
         elif words == fw.AFFINITY_INFO:
-            regs = [self.affinity(board), self.choice((0, 0, 1, 1, 2, 3, 4)), 0]
+            regs = [self.affinity(world), self.choice((0, 0, 1, 1, 1, 2, 3, 4)), 0]
         elif words == fw.CPU_SUSPEND:
-            regs = [self.power_state(board), self.entry(), self.getrandbits(self.choice((8, 64)))]
+            state = self.power_state(world.board)
+            regs = [state, self.entry(), self.getrandbits(self.choice((8, 64)))]
         elif words == fw.SYSTEM_SUSPEND:
             regs = [self.entry(), self.getrandbits(64), 0]
         elif words == fw.SET_SUSPEND_MODE:
@@ -104,7 +116,7 @@ class Draw(random.Random):
             kind = self.choice((0, 1, 2**31, 2**31 | 1, self.getrandbits(32)))
             regs = [kind, self.getrandbits(64), 0]
         elif words == fw.FEATURES:
-            word = self.choice(fw.SUPPORTED + OTHERS)
+            word = self.choice(fw.SUPPORTED + OTHERS + fw.CPU_SUSPEND * 6)
             regs = [word ^ self.rarely(0, 1, fw.SMC64, 1 << 20), 0, 0]
         else:
             regs = [self.choice((0, self.getrandbits(64))) for _ in range(3)]
@@ -113,16 +125,21 @@ class Draw(random.Random):
 
     def call(self, world):
         alone = world.place.count("running") < 2
-        if self.randrange(40) == 0:
+        pending = fw.PENDING in world.firmware.status
+        if world.firmware.halting:
+            words = self.choice(EVERY + ((self.choice(OTHERS),),))
+        elif self.randrange(40) == 0:
             words = self.choice(LAST)
         elif not alone and self.randrange(8) == 0:
             words = fw.CPU_OFF
+        elif pending and self.randrange(2):
+            words = self.choice((fw.CPU_ON, fw.AFFINITY_INFO, fw.AFFINITY_INFO))
         elif self.randrange(12) == 0:
             words = (self.choice(OTHERS), self.getrandbits(32))
         else:
             words = self.choices(list(FUNCTIONS), FUNCTIONS.values())[0]
         word = self.choice(words) | self.rarely(0, self.getrandbits(32)) << 32
-        regs = [word] + self.registers(words, world.board)
+        regs = [word] + self.registers(words, world)
         regs = regs[:self.choice((2, 3, 4, 4, 4, 4, 4, 4))]
         spelled = [self.choice((str, hex))(it) for it in regs]
         return f"call {self.core(world, 'running')} {' '.join(spelled)}"
@@ -149,11 +166,11 @@ class Draw(random.Random):
         asleep = [core for core in stopped if firmware.phase(core) == "suspended"]
         ended = [at for at, it in enumerate(world.sent)
                  if it.kind in ("off", "reset") and it.life == world.controller.life]
-        if ended and self.randrange(4):
+        if ended and (not running or self.randrange(4) == 0):
             return f"deliver {ended[-1]}"
         if started:
             return f"enter {self.choice(started)}"
-        if asked and self.randrange(4):
+        if asked and self.randrange(2):
             return f"deliver {self.choice(asked)}"
         if asleep and (not running or self.randrange(6) == 0):
             return f"wake {self.choice(asleep)}"
@@ -165,6 +182,8 @@ class Draw(random.Random):
                    for core in world.board.cores)
 
     def event(self, world):
+        if world.firmware.halting and "running" in world.place and self.randrange(8):
+            return self.call(world)
         onward = self.onward(world) if self.randrange(5) < 3 else None
         if onward:
             return onward
@@ -177,21 +196,63 @@ class Draw(random.Random):
         place = {"enter": "started", "wake": "stopped", "reset": "running"}[word]
         return f"{word} {self.core(world, place)}"
 
+    # ---- scenes that a script begins with: random events alone seldom come to them
+
+    def scene(self, world):
+        """A later life or the first, either mode, some cores, and at times a life that ends."""
+        yield "enter 0"
+        if world.board.lives > 1 and self.randrange(5) < 3:
+            yield "call 0 0x84000009"
+            yield self.last(world, "deliver")
+            yield "enter 0"
+        if self.randrange(2):
+            yield "call 0 0x8400000f 1"
+        others, ends = world.board.cores[1:], self.randrange(5) < 2
+        many = self.choice((2, 3, 4, 5) if ends else (0, 1, 1, 2, 3))
+        for core in self.sample(others, min(many, len(others))):
+            yield from self.brought_up(world, core)
+        if others and not ends and self.randrange(3) == 0:
+            yield "call 0 0x84000002"
+            yield self.last(world, "deliver")
+            yield self.last(world, "take")
+        running = [core for core in world.board.cores if world.place[core] == "running"]
+        if len(running) > 1 and ends:
+            # mostly another core, so that the boot core is there to call afterwards
+            caller = self.choice(running[1:] * 6 + running[:1])
+            if self.randrange(2):
+                others = [core for core in running if core != caller]
+                yield f"reset {self.choice((others[0], self.choice(others)))}"
+            yield f"call {caller} {self.choice((0x84000008, 0x84000009))}"
+
+    def brought_up(self, world, core):
+        """The boot core asks the core on, which mostly enters."""
+        yield f"call 0 0xc4000003 {self.word_of(world.board, core):#x} {self.ends[0]:#x} {core}"
+        if self.randrange(4):
+            yield self.last(world, "deliver")
+            if self.randrange(6):
+                yield f"enter {core}"
+                if world.firmware.mode == fw.OS_INITIATED and self.randrange(4) == 0:
+                    yield f"call {core} 0xc4000001 {self.choice((1, 2))}"
+
+    @staticmethod
+    def last(world, word):
+        """The last message is delivered, or the last acknowledgement taken."""
+        return f"{word} {max(0, len(world.sent if word == 'deliver' else world.acks) - 1)}"
+
     def script(self):
         lines = [f"board {self.board()}"]
         try:
             world = World(Board(lines[0][len("board "):]))
         except Fault:
             world = World(Board("2 exec 0x0-0x4 boot 0x0 starts 1 lives 1"))
-        first = ["enter 0"] * self.choice((0, 1, 1, 1))
-        first += ["call 0 0x8400000f 1"] * self.choice((0, 0, 1))
-        for at in range(self.choice((0, 3, 20, 60, 120))):
+        scene = self.scene(world) if self.randrange(8) else iter(())
+        for at in range(self.choice((0, 3, 20, 30, 30, 30, 60, 90))):
             # nobody is left to call; a few more lines are enough
             if at > 3 and not self.goes_on(world) and self.randrange(8) == 0:
                 break
             if self.randrange(12) == 0:
                 lines.append(self.choice(("", "#", "# " + "x" * 254)))
-            line = first[at] if at < len(first) else self.event(world)
+            line = next(scene, None) or self.event(world)
             answer(world, line)
             lines.append(line)
         text = "\n".join(lines).encode() + self.choice((b"\n", b""))
