@@ -219,7 +219,7 @@ class Draw(random.Random):
         if len(running) > 1 and ends:
             # mostly another core, so that the boot core is there to call afterwards
             caller = self.choice(running[1:] * 6 + running[:1])
-            if self.randrange(2):
+            if self.randrange(3):
                 others = [core for core in running if core != caller]
                 yield f"reset {self.choice((others[0], self.choice(others)))}"
             yield f"call {caller} {self.choice((0x84000008, 0x84000009))}"
@@ -231,7 +231,7 @@ class Draw(random.Random):
             yield self.last(world, "deliver")
             if self.randrange(6):
                 yield f"enter {core}"
-                if world.firmware.mode == fw.OS_INITIATED and self.randrange(4) == 0:
+                if world.firmware.mode == fw.OS_INITIATED and self.randrange(3) == 0:
                     yield f"call {core} 0xc4000001 {self.choice((1, 2))}"
 
     @staticmethod
