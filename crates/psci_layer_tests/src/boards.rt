@@ -1,12 +1,15 @@
-//! Words and numbers, and board texts whose answers are known. `tests/growths` refuses each growth
-//! in turn.
+//! Words and numbers, and board texts whose answers are known; the layers stand on each board, where
+//! there is memory. `tests/growths` refuses each growth in turn.
 
 ghost use Rattle.std.specs.Prelude.{IsTrue};
 ghost use Rattle.psci_board.specs.Board.{HasNodeIn};
 
 use psci_board::{Board, Core, CoreSpan, Node};
 use psci_board_text::ReadBoard;
+use psci_ctl::Controller;
+use psci_link::Slots;
 use psci_text::{hex, literal, number};
+use psci_tree::Tree;
 use std::test::Fail;
 
 /// The longest trees and the most ranges that a board may have.
@@ -92,6 +95,9 @@ fn boards_are_read_and_copied(rt: HostRuntime) -> Result<(), Fail> {
         assert_eq!(rt; (board.height(), board.cores()), (height, cores), "{text}");
         let copy = board.copy(rt.alloc())?;
         assert_eq!(rt; (copy.height(), copy.cores()), (height, cores), "{text}");
+        assert!(rt; Tree::new(rt.alloc(), &board).is_ok(), "{text}");
+        assert!(rt; Slots::new(rt.alloc(), cores).is_ok(), "{text}");
+        assert!(rt; Controller::new(rt.alloc(), &board).is_ok(), "{text}");
     }
     let (text, _, _) = BOARDS[4];
     let board = Board::read(rt.alloc(), text)?;

@@ -3,6 +3,8 @@
 use psci_abi::Regs;
 use psci_board::{Board, Core, Node};
 use psci_board_text::ReadBoard;
+use psci_fw::Firmware;
+use psci_machine::Machine;
 use psci_world::{Event, Place, Settled, World, settle};
 use std::alloc::Global;
 use std::process::Abort;
@@ -54,7 +56,7 @@ enum Step {
     Lives(Option<u32>, Option<u32>),
     /// There is no message and no acknowledgement.
     NothingSent,
-    /// Nothing is outstanding, and each core is as deep as was granted.
+    /// Nothing is outstanding, and each domain is as deep as was granted.
     Agrees,
     /// Each domain was granted power-down.
     AllDown,
@@ -166,18 +168,23 @@ fn is_at(world: &World, number: u16, place: Place) -> bool {
     number < world.board().cores() && world.place(Core { number }) == place
 }
 
-/// Nothing is outstanding, and each core is as deep as was granted.
+/// Nothing is outstanding, and each domain is as deep as was granted.
 fn agrees(world: &World) -> bool {
-    let cores = world.board().cores();
-    for place in 0..cores {
-        let node = Node { level: 0, place };
-        if world.firmware().outstanding(place).is_some()
-            || world.firmware().granted(node) != world.controller().depth(node)
-        {
+    let board = world.board();
+    for core in 0..board.cores() + 1 {
+        if world.firmware().outstanding(core).is_some() {
             return false;
         }
     }
-    world.firmware().outstanding(cores).is_none()
+    for level in 0..board.height().min(3) + 1 {
+        for place in 0..board.nodes(level) {
+            let node = Node { level, place };
+            if world.firmware().granted(node) != world.controller().depth(node) {
+                return false;
+            }
+        }
+    }
+    true
 }
 
 /// Tells a story of the board, from before the first event on.
@@ -198,4 +205,24 @@ fn worlds_are_read_and_settle(rt: HostRuntime) -> Result<(), Fail> {
     tell(&rt, alloc, "both clusters", &BOTH_CLUSTERS)?;
     tell(&rt, alloc, "outstanding start", &OUTSTANDING_START)?;
     tell(&rt, alloc, "halting", &HALTING)
+}
+
+/// Boards of each height, and the largest number of cores.
+const BOARDS: [&str; 5] = [
+    "1 exec 0x0-0x10 boot 0x0 starts 1 lives 1",
+    "16 exec 0x0-0x10 boot 0x0 starts 1 lives 1",
+    "(5 1 16) exec 0x0-0x10 boot 0x0 starts 1 lives 1",
+    "((1 2 3) (4) (5 6)) exec 0x0-0x10 boot 0x0 starts 1 lives 1",
+    "((16 16) (16 16)) exec 0x0-0x10 boot 0x0 starts 1 lives 1",
+];
+
+#[test]
+fn worlds_stand_on_boards_of_each_height(rt: HostRuntime) -> Result<(), Fail> {
+    for text in BOARDS {
+        let board = Board::read(rt.alloc(), text)?;
+        assert!(rt; Firmware::new(rt.alloc(), &board).is_ok(), "{text}");
+        assert!(rt; Machine::new(rt.alloc(), &board).is_ok(), "{text}");
+        assert!(rt; World::new(rt.alloc(), &board).is_ok(), "{text}");
+    }
+    Ok(())
 }
