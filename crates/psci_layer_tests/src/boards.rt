@@ -1,5 +1,5 @@
-//! Words and numbers, and board texts whose answers are known; the layers stand on each board, where
-//! there is memory. `tests/growths` refuses each growth in turn.
+//! Words and numbers, and board texts whose answers are known; the layers stand on each board,
+//! where there is memory. `tests/growths` refuses each growth in turn.
 
 ghost use Rattle.std.specs.Prelude.{IsTrue};
 ghost use Rattle.psci_board.specs.Board.{HasNodeIn};

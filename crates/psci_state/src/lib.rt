@@ -1,6 +1,7 @@
 //! Power states: what a core asks of the power domains on its path when it suspends.
 //!
-//! - A *depth* is how far a power domain may go down: 0 fully on, 1 standby, 2 retention, 3 power-down.
+//! - A *depth* is how far a power domain may go down: 0 fully on, 1 standby, 2 retention,
+//!   3 power-down.
 //! - An *ask* has a depth for each level, from 0 (the core) to 3. It is 1 to 3 at level 0 and never
 //!   grows upwards.
 //! - A *power state word* is the parameter power_state of CPU_SUSPEND (DEN0022D), in the original

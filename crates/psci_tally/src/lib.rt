@@ -1,7 +1,7 @@
 //! What came of a run: how often each thing that was asked got each answer.
 //!
-//! - A *tally* is what was asked, without its arguments, with what was answered, without numbers that
-//!   only name something.
+//! - A *tally* is what was asked, without its arguments, with what was answered, without numbers
+//!   that only name something.
 //! - The *count* of a tally is the number of its records.
 #![tactic(auto)]
 

@@ -13,8 +13,8 @@ macro_rules! tallies {
     };
 }
 
-/// All tallies that a legal run may have, in a fixed order. In a halting life a core stops, whatever
-/// it calls. On a board of height 1 or 2 no message has the fourth part that the last
+/// All tallies that a legal run may have, in a fixed order. In a halting life a core stops,
+/// whatever it calls. On a board of height 1 or 2 no message has the fourth part that the last
 /// acknowledgements speak of. PSCI_FEATURES of CPU_SUSPEND returns 1 or 3, by the board's format.
 pub const TALLIES: [Tally; 90] = tallies! {
     Version: Return(65537), Stop, Ignored, Absent;

@@ -66,7 +66,8 @@ fn count_all(worlds: &[World], tally: Tally) -> u64 {
     total
 }
 
-/// Whether a board has to be of height 3, or to have the extended format, for a record of this tally.
+/// Whether a board has to be of height 3, or to have the extended format, for a record of this
+/// tally.
 fn is_tall(tally: Tally) -> bool {
     match tally.answer {
         Answer::Return(3) => true,
