@@ -102,6 +102,10 @@ class Power:
             self.depth[self.board.path(core)[level]] = depth
         return [it for it in sorted(self.executing) if not self.has(it)]
 
+    def is_down(self, core):
+        """Whether the core is powered down, so that a reset takes nothing from it."""
+        return self.depth[0, core] == 3
+
     def has(self, core):
         """Whether a core that executes has power; where not, it is cut off for good."""
         asleep = [node for node in self.board.path(core) if self.depth[node]]
