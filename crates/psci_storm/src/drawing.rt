@@ -3,7 +3,8 @@
 ghost use Rattle.std.specs.Prelude.{◌≡◌, ◌<◌, ℕ, OnErr, OnOk};
 ghost use Rattle.psci_storm.specs.Storm.{HappensBy, IsDrawn};
 
-use crate::draws::Draws;
+use crate::seen::Seen;
+use psci_draws::Draws;
 use psci_world::{Memory, World};
 
 /// So many events happen, drawn from the seed. Out of memory, those before stand.
@@ -16,7 +17,7 @@ pub fn draw(world: &mut World, seed: u64, count: u64) -> Result<(), Memory>
 {
     let mut draws = Draws::new(seed, count, world.board().cores());
     'events: for _drawn in 0..count {
-        let event = draws.next(world);
+        let event = draws.next(&Seen(world));
         world.step(event)?;
     }
     Ok(())

@@ -1,20 +1,13 @@
 //! Storms: events that are drawn from a seed happen in a world, and then it settles.
 //!
-//! - A *draw* is one event, chosen by random numbers and by what the world shows. Which events are
-//!   drawn is said by no contract; the same seed draws the same ones on every machine.
-//! - A *plain* draw may be any event, with arguments good and bad; an *aimed* one leads to what is
-//!   rare: cores that stop and start together, answers to messages in another order, limits.
+//! What is drawn, and what of the world decides it, is said in `psci_draws`. The same seed draws the
+//! same events on every machine.
 #![tactic(auto)]
 
-mod aims;
 mod blowing;
 mod drawing;
-mod draws;
 mod outcome;
-mod places;
-mod plain;
-mod requests;
-mod states;
+mod seen;
 
 pub use blowing::{blow, storm, storm_world};
 pub use outcome::{Storm, StormedWorld};

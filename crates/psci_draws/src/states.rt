@@ -4,7 +4,7 @@ ghost use Rattle.std.specs.Prelude.{◌≤◌};
 
 use crate::draws::Draws;
 use psci_abi::Format;
-use psci_world::Board;
+use psci_world_spec::Board;
 
 /// The power state word that takes every level of a board down.
 pub fn deepest(board: &Board) -> u32 {

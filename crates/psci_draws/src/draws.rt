@@ -8,6 +8,16 @@ use rand_pcg::Pcg32;
 /// Which of the generator's streams a storm takes.
 const STREAM: u64 = 54;
 
+/// The last life may end in one seed of so many. No core calls after that, so most storms are to
+/// stay alive.
+const ENDING: u64 = 24;
+
+/// The remainder of such a seed.
+const ENDING_AT: u64 = 12;
+
+/// So many draws before the end lives end more often, and the last one may.
+const LATE: u64 = 256;
+
 /// What the cores are out for, for a while.
 #[derive(Clone, Copy, Debug, PartialEq, Eq)]
 pub enum Mood {
@@ -31,6 +41,8 @@ pub struct Draws {
     pub left: u64,
     /// The number of the core that is to be worn out, if one is.
     pub worn: Option<u16>,
+    /// Whether the last life may end.
+    has_end: bool,
 }
 
 impl Draws {
@@ -41,12 +53,23 @@ impl Draws {
             mood: Mood::Busy,
             left: count,
             worn: None,
+            has_end: seed % ENDING == ENDING_AT,
         };
         let core = draws.core(cores);
         if draws.one_in(2) {
             draws.worn = Some(core);
         }
         draws
+    }
+
+    /// Whether the storm is soon over.
+    pub fn is_late(&self) -> bool {
+        self.left < LATE
+    }
+
+    /// Whether the last life may end now.
+    pub fn may_end_storm(&self) -> bool {
+        self.has_end && self.is_late()
     }
 
     /// A number below this one, and 0 where there is none.

@@ -1,11 +1,11 @@
 //! Plain draws: any call, with arguments that are good or bad, and any other event.
 
 use crate::draws::Draws;
-use crate::places::is_at;
 use crate::requests::{NO_FUNCTION, registers};
+use crate::sight::Sight;
 use psci_abi::words::{CPU_ON_64, CPU_SUSPEND_32, CPU_SUSPEND_64, PSCI_FEATURES, SYSTEM_RESET2_32};
 use psci_abi::{Regs, Request};
-use psci_world::{Board, Event, Place, World};
+use psci_world_spec::{Board, Event, Place};
 
 /// A function word that is asked about, or called, now and then.
 ///
@@ -164,7 +164,7 @@ impl Draws {
     }
 
     /// The registers of any call that does not end the life.
-    pub fn call(&mut self, board: &Board) -> Regs {
+    fn call(&mut self, board: &Board) -> Regs {
         let request = self.request(board);
         let wide = !self.one_in(4);
         let mut regs = registers(request, wide);
@@ -174,9 +174,11 @@ impl Draws {
         regs
     }
 
-    /// The registers of any call of a core; one that ends the life only where it runs not.
-    fn call_of(&mut self, world: &World, number: u16) -> Regs {
-        if self.one_in(8) && !is_at(world, number, Place::Running) {
+    /// The registers of any call of a core; one that ends the life only where it runs not, or the
+    /// life halts already.
+    pub fn call_of<S: Sight>(&mut self, sight: &S, number: u16) -> Regs {
+        let is_heard = sight.place(number) == Some(Place::Running) && !sight.is_halting();
+        if self.one_in(8) && !is_heard {
             let off = self.one_in(2);
             let request = if off {
                 Request::SystemOff
@@ -185,17 +187,17 @@ impl Draws {
             };
             return registers(request, true);
         }
-        self.call(world.board())
+        self.call(sight.board())
     }
 
     /// Any event, of any core, message or acknowledgement, also of one that is not there.
-    pub fn plain(&mut self, world: &World) -> Event {
-        let number = self.core(world.board().cores().saturating_add(1));
+    pub fn plain<S: Sight>(&mut self, sight: &S) -> Event {
+        let number = self.core(sight.board().cores().saturating_add(1));
         let core = u64::from(number);
         match self.below(24) {
-            0..=11 => Event::Call(core, self.call_of(world, number)),
-            12..=15 => Event::Deliver(self.index(world.messages().len())),
-            16..=19 => Event::Take(self.index(world.acks().len())),
+            0..=11 => Event::Call(core, self.call_of(sight, number)),
+            12..=15 => Event::Deliver(self.index(sight.messages())),
+            16..=19 => Event::Take(self.index(sight.acks())),
             20 => Event::Wake(core),
             21 => Event::Reset(core),
             _ => Event::Enter(core),
