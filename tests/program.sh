@@ -259,6 +259,76 @@ storms() {
     expect "help of storm" 0
 }
 
+# a storm that is kept in a file: its line is the same; the file is a script, which has a replay with
+# as many events and messages as the line says, the first of them the drawn ones
+kept_storms() {
+    local tree seed wanted
+    for tree in "1" "(2 2)" "((1 2) (2 1))"; do
+        for seed in 1 12 18446744073709551615; do
+            set -- --board "$tree exec 0x0-0x1000 boot 0x0 starts 1000 lives 3" --seed "$seed" --count 500
+            run storm "$@"
+            cp "$work/out" "$work/lines"
+            run storm "$@" --keep "$work/kept"
+            expect "a storm that is kept" 0
+            answers "a storm that is kept"
+            wanted=$(awk '{ print $3, $5 }' "$work/lines")
+            run replay < "$work/kept"
+            expect "a kept storm, replayed" 0
+            if [ "$(head -n 1 "$work/kept")" = "board $2" ] && [ "${wanted% *}" -ge 500 ] &&
+                [ "$(tail -n +2 "$work/kept" | wc -l) $(grep -cE ' #[0-9]+ (start|down|off|reset) ' \
+                    "$work/out")" = "$wanted" ]; then pass; else
+                fail "a kept storm on $tree, seed $seed: not its $wanted events and messages"
+            fi
+        done
+    done
+    run storm --seed 1 --count 1 --keep "$work/none/kept"
+    expect "a storm kept in a folder that there is not" 4 "write fault"
+    if has_full "a storm kept on a full device"; then
+        run storm --seed 1 --count 1 --keep /dev/full
+        expect "a storm kept on a full device" 4 "write fault"
+    fi
+    run storm --seed 1 --count 1 --keep
+    if [ "$(cat "$work/got")" = 2 ] && [ ! -s "$work/out" ] && [ -s "$work/err" ]; then pass; else
+        fail "storm --keep without a file (status $(cat "$work/got"))"
+    fi
+}
+
+has_parallel() { command -v parallel > /dev/null || { skip "$1" parallel; false; }; }
+
+# storms of several seeds: each has its line, in order, also where two processors make them; no part
+# of a seed is cut
+many_storms() {
+    local seed
+    : > "$work/lines"
+    for seed in 8 9 10 11; do
+        run storm --seed "$seed" --count 300
+        echo "seed $seed $(cat "$work/out")" >> "$work/lines"
+    done
+    ./psci storm --seeds 8..11 --count 300 > "$work/out" 2> "$work/err"
+    echo $? > "$work/got"
+    expect "storms of four seeds" 0
+    answers "storms of four seeds"
+    if has_parallel "storms by two processors"; then
+        seq 8 11 | parallel --will-cite -k -j 2 \
+            echo seed {} '$('"$program"' storm --seed {} --count 300)' > "$work/out" 2> "$work/err"
+        answers "storms by two processors"
+    fi
+    for words in "--seeds 1" "--seeds 2..1" "--seeds 1..x" "--seeds" "--seeds 1..2 --keep f" "--seeds 1..2 --seed 1"; do
+        # shellcheck disable=SC2086
+        ./psci storm --count 1 $words > "$work/out" 2> "$work/err"
+        if [ $? = 2 ] && [ ! -s "$work/out" ] && [ -s "$work/err" ]; then pass; else fail "./psci storm $words"; fi
+    done
+    : > "$work/lines"
+    for seed in 1 4294967297 8589934593 9223372036854775809 18446744073709551615; do
+        run storm --seed "$seed" --count 10000
+        cat "$work/out" >> "$work/lines"
+    done
+    if [ "$(sort -u "$work/lines" | wc -l)" = 5 ] &&
+        awk '$3 < 10000 { exit few = 1 } END { exit few }' "$work/lines"; then pass; else
+        fail "storms of five seeds: a seed or the count was cut"
+    fi
+}
+
 # the counts of a storm: its line comes first as ever, then one line for each tally, and each event is in
 # one of them; over some storms each tally comes
 storm_counts() {

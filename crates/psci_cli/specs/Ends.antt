@@ -1,5 +1,5 @@
 -- How the commands end.
-use Rattle.std.specs.Prelude.{◌≡◌, ◌⊎◌, ⊤, Result, Ok, Err, IsOk}
+use Rattle.std.specs.Prelude.{◌≡◌, ◌⊎◌, ⊤, ℕ, Result, Ok, Err, IsOk}
 use Rattle.psci_command.specs.psci_board.Board.{BoardValue}
 use Rattle.psci_command.specs.psci_board_text.Verdict.{Answers}
 use Rattle.psci_command.specs.psci_board_text.declared.fault.BoardFault.{BoardFault}
@@ -7,12 +7,27 @@ use Rattle.psci_command.specs.declared.exit.Failure.{Failure}
 use Rattle.psci_command.specs.declared.exit.Failure.TheVariants.{CommandLine, Replay}
 use Rattle.psci_command.specs.declared.exit.Failure.TheVariants.{Board as GivenBoard}
 use Rattle.psci_command.specs.psci_script.declared.fault.ReplayFault.TheVariants.{Memory, Write}
+use Rattle.psci_storm.specs.Storm.{IsStorm}
+use Rattle.psci_storm.specs.declared.outcome.StormedWorld.{StormedWorld}
 
 -- a replay ends early by a fault of its own, and not by the command line
 abbrev pub IsOfReplay : Failure → Type 0
 IsOfReplay CommandLine = ⊥
 IsOfReplay (GivenBoard fault) = ⊥
 IsOfReplay (Replay fault) = ⊤
+
+-- the storm could not be written, or there was no memory to
+abbrev pub IsUnkept : Failure → Type 0
+IsUnkept failure = (failure ≡ Replay Write) ⊎ (failure ≡ Replay Memory)
+
+-- A storm of so many events is that of the board that the text says; else the text is at fault, or
+-- memory ran out.
+abbrev pub IsStormed : Result StormedWorld Failure → Result BoardValue BoardFault → ℕ → Type 0
+IsStormed (Ok s) said count =
+    (said ≡ Ok s.world.board) × IsStorm s.world.board count s.world.past s.storm
+IsStormed (Err CommandLine) said count = ⊥
+IsStormed (Err (GivenBoard fault)) said count = Answers (Err fault) said
+IsStormed (Err (Replay fault)) said count = IsOk said × (fault ≡ Memory)
 
 -- How a storm of a board text ends, by what the text says: with the fault of the text, or for want
 -- of memory to keep its board; and where it has no fault with its line, or for want of memory, or

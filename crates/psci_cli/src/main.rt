@@ -5,11 +5,15 @@ mod storm_line;
 
 ghost use Rattle.std.specs.Prelude.{IfErr};
 ghost use Rattle.psci_command.specs.psci_board_text.Verdict.{board_of};
-ghost use Rattle.psci_cli.specs.Ends.{IsOfReplay, StormEnds};
+ghost use Rattle.psci_cli.specs.Ends.{IsOfReplay, IsUnkept, IsStormed, StormEnds};
 
 use psci_bench::{ReplayFault, Std, replay};
 use psci_command::{Board, Failure, ReadBoard, Request, StormRequest, asked, words};
-use psci_storm::storm_world;
+use psci_keep::write_script;
+use psci_storm::{StormedWorld, storm_world};
+use std::alloc::Global;
+use std::fs::File;
+use std::io::{self, BufWriter, Write};
 use std::process::ExitCode;
 use storm_line::write_storm;
 
@@ -25,14 +29,48 @@ fn replay_standard(rt: &HostRuntime) -> Result<(), Failure>
     }
 }
 
-/// Makes a storm, and writes on standard output what is asked of it.
+/// Makes the storm that is asked for.
+fn stormed(alloc: Global, request: StormRequest) -> Result<StormedWorld, Failure>
+    ensures { IsStormed result (board_of request.entry.board.now) request.entry.count }
+{
+    let board = Board::read(alloc, request.board).map_err(Failure::Board)?;
+    storm_world(alloc, &board, request.seed, request.count).map_err(|_| Failure::Replay(
+        ReplayFault::Memory,
+    ))
+}
+
+/// Writes the storm on the board of this text into the file of this path, as a script.
+fn keep(
+    rt: &HostRuntime,
+    path: &str,
+    board: &str,
+    stormed: &StormedWorld,
+) -> Result<(), io::Error> {
+    let mut script = BufWriter::new(rt.alloc(), File::create(rt, path)?)?;
+    write_script(&mut script, board, stormed.world.records())?;
+    script.flush()
+}
+
+/// Why a storm could not be kept in a file.
+fn unkept(error: &io::Error) -> Failure
+    ensures { IsUnkept result }
+{
+    Failure::Replay(if error.kind() == io::ErrorKind::OutOfMemory {
+        ReplayFault::Memory
+    } else {
+        ReplayFault::Write
+    })
+}
+
+/// Makes a storm, keeps it where that is asked for, and writes on standard output what is asked of
+/// it.
 fn storm_standard(rt: &HostRuntime, request: StormRequest) -> Result<(), Failure>
     ensures ends { StormEnds result (board_of request.entry.board.now) }
 {
-    let board = Board::read(rt.alloc(), request.board).map_err(Failure::Board)?;
-    let stormed = storm_world(rt.alloc(), &board, request.seed, request.count).map_err(
-        |_| Failure::Replay(ReplayFault::Memory),
-    )?;
+    let stormed = stormed(rt.alloc(), request)?;
+    if let Some(path) = request.keep {
+        keep(rt, path, request.board, &stormed).map_err(|error| unkept(&error))?;
+    }
     match write_storm(&mut rt.stdout(), &stormed, request.counts) {
         Ok(()) => Ok(()),
         Err(_) => Err(Failure::Replay(ReplayFault::Write)),

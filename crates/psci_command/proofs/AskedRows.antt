@@ -13,7 +13,7 @@ use Rattle.psci_command.specs.declared.command_line.StormRequest.{StormRequest}
 use Rattle.psci_command.specs.declared.exit.Failure.TheVariants as failures
 use Rattle.psci_command.specs.declared.exit.Failure.TheVariants.{CommandLine}
 use Rattle.psci_command.proofs.StormCommandRows.{board_row, count_row, counts_row, no_counts}
-use Rattle.psci_command.proofs.StormCommandRows.{seed_row, standard_row}
+use Rattle.psci_command.proofs.StormCommandRows.{keep_row, seed_row, standard_row}
 use Rattle.psci_command.proofs.ValueRows.{spelled}
 
 -- The storm of some matches -----------------------------------------------------------------------
@@ -26,6 +26,7 @@ request text seed count =
       seed = seed;
       count = count;
       counts = false;
+      keep = None;
     }
 
 -- matches of a storm of seed 7 and count 5: on the standard board, with the counts, on another
@@ -42,7 +43,7 @@ rows_of_board =
     board_row (codes "4") ∷ seed_row (codes "7") ∷ count_row (codes "5") ∷ no_counts ∷ []
 
 pub of_rows : IsStormOf rows (Some (request standard_board 7 5))
-of_rows = (refl, (spelled (codes "7") refl, refl), (spelled (codes "5") refl, refl), λ e. cc)
+of_rows = (refl, (spelled (codes "7") refl, refl), (spelled (codes "5") refl, refl), λ e. cc, refl)
 
 of_other_board : IsStormOf rows (Some (request (codes "4") 7 5)) → ⊥
 of_other_board h = let same = h.0 in cc
@@ -61,7 +62,7 @@ without_counts h = let text = h.3 in cc
 
 pub of_counts : IsStormOf rows_with_counts
     (Some (record (request standard_board 7 5) { counts = true }))
-of_counts = (refl, (spelled (codes "7") refl, refl), (spelled (codes "5") refl, refl), refl)
+of_counts = (refl, (spelled (codes "7") refl, refl), (spelled (codes "5") refl, refl), refl, refl)
 
 counts_left_out : IsStormOf rows_with_counts (Some (request standard_board 7 5)) → ⊥
 counts_left_out h = h.3 refl
@@ -73,7 +74,28 @@ none_of_rows (inr (inr no_count)) = no_count (spelled (codes "5") refl)
 
 -- the board that is given stands before the standard one
 pub of_given_board : IsStormOf rows_of_board (Some (request (codes "4") 7 5))
-of_given_board = (refl, (spelled (codes "7") refl, refl), (spelled (codes "5") refl, refl), λ e. cc)
+of_given_board = (refl, (spelled (codes "7") refl, refl), (spelled (codes "5") refl, refl), λ e. cc, refl)
+
+-- a file to keep the storm in, which is kept in that one and in no other
+abbrev pub kept : Text → StormRequest
+kept path = record (request standard_board 7 5) { keep = Some (record { ref_ptr = (0, 0); now = path }) }
+
+abbrev pub rows_with_file : List Row
+rows_with_file =
+    seed_row (codes "7") ∷ keep_row (codes "a b") ∷ count_row (codes "5") ∷ standard_row
+    ∷ no_counts ∷ []
+
+pub of_file : IsStormOf rows_with_file (Some (kept (codes "a b")))
+of_file = (refl, (spelled (codes "7") refl, refl), (spelled (codes "5") refl, refl), λ e. cc, refl)
+
+of_other_file : IsStormOf rows_with_file (Some (kept (codes "a"))) → ⊥
+of_other_file h = let same = h.4 in cc
+
+file_left_out : IsStormOf rows_with_file (Some (request standard_board 7 5)) → ⊥
+file_left_out h = let same = h.4 in cc
+
+file_of_nothing : IsStormOf rows (Some (kept [])) → ⊥
+file_of_nothing h = let same = h.4 in cc
 
 -- a part that is missing or spells no number
 none_without_board : IsStormOf (seed_row (codes "7") ∷ count_row (codes "5") ∷ []) None

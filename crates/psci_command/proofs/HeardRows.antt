@@ -6,12 +6,13 @@ use Rattle.clap.specs.declared.error.kind.ErrorKind.TheVariants.{DisplayHelp, Mi
 use Rattle.psci_script.specs.psci_board_text.declared.fault.BoardFault.TheVariants as boards
 use Rattle.psci_script.specs.declared.fault.ReplayFault.TheVariants.{Memory, Read, Script, Write}
 use Rattle.psci_script.specs.declared.fault.ScriptFault.TheVariants.{NoBoard}
-use Rattle.psci_command.proofs.AskedRows.{of_counts, of_given_board, of_rows, request, rows}
-use Rattle.psci_command.proofs.AskedRows.{rows_of_board, rows_with_counts}
+use Rattle.psci_command.proofs.AskedRows.{kept, of_counts, of_file, of_given_board, of_rows}
+use Rattle.psci_command.proofs.AskedRows.{request, rows, rows_of_board, rows_with_counts}
+use Rattle.psci_command.proofs.AskedRows.{rows_with_file}
 use Rattle.psci_command.proofs.CommandRows.{help_asked, nothing_asked, replay_asked, replay_met}
 use Rattle.psci_command.proofs.Hearing.{no_help}
 use Rattle.psci_command.proofs.StormCommandRows.{board, count, count_first, other_board, seed}
-use Rattle.psci_command.proofs.StormCommandRows.{storm_with, with_counts}
+use Rattle.psci_command.proofs.StormCommandRows.{storm_with, with_counts, with_file}
 use Rattle.psci_command.specs.declared.command_line.Request.TheVariants.{Nothing, Storm}
 use Rattle.psci_command.specs.declared.command_line.Request.TheVariants.{Replay as ReplayScript}
 use Rattle.psci_command.specs.declared.exit.Failure.TheVariants.{CommandLine, Replay}
@@ -60,6 +61,11 @@ heard_storm_with_counts : IsHeard
     (storm_with (seed (codes "7") (codes "--counts" ∷ count (codes "5") [])))
     (Ok (Storm (record (request standard_board 7 5) { counts = true })))
 heard_storm_with_counts = (with_counts.fault, (rows_with_counts, with_counts.met, of_counts))
+
+heard_storm_with_file : IsHeard
+    (storm_with (seed (codes "7") (codes "--keep" ∷ codes "a b" ∷ count (codes "5") [])))
+    (Ok (Storm (kept (codes "a b"))))
+heard_storm_with_file = (with_file.fault, (rows_with_file, with_file.met, of_file))
 
 -- a replay is no help, and no fault but for what memory or writing makes one
 replay_is_no_help : IsHeard replay_words (Ok Nothing) → ⊥

@@ -58,6 +58,10 @@ no_counts = row (codes "counts") DefaultValue (codes "false")
 abbrev pub counts_row : Row
 counts_row = row (codes "counts") CommandLine (codes "true")
 
+-- the file that the storm is to be kept in
+abbrev pub keep_row : Text → Row
+keep_row = row (codes "keep") CommandLine
+
 -- a storm with these words is taken, and this is found in them
 pub record IsTaken (words : List Text) (rows : List Row) : Type 0 where
   pub fault : fault_of program (storm_with words) ≡ []
@@ -145,6 +149,14 @@ pub with_counts : IsTaken (seed (codes "7") (codes "--counts" ∷ count (codes "
 unfolding clap_on_literals
 with_counts = record { fault = refl; met = refl }
 
+-- the storm is to be kept, in a file of any name
+pub with_file : IsTaken
+    (seed (codes "7") (codes "--keep" ∷ codes "a b" ∷ count (codes "5") []))
+    (seed_row (codes "7") ∷ keep_row (codes "a b") ∷ count_row (codes "5") ∷ standard_row
+    ∷ no_counts ∷ [])
+unfolding clap_on_literals
+with_file = record { fault = refl; met = refl }
+
 -- Refused -----------------------------------------------------------------------------------------
 
 -- a seed of 2^64, a count of 10001 and one of 2^64, which 64 bits would make a 0
@@ -218,6 +230,16 @@ counts_with_a_value : IsRefused (seed (codes "0") (count (codes "0") (codes "--c
     TooManyValues
 unfolding clap_on_literals
 counts_with_a_value = refl
+
+-- a file that is not named, and two
+no_file : IsRefused (seed (codes "0") (count (codes "0") (codes "--keep" ∷ []))) InvalidValue
+unfolding clap_on_literals
+no_file = refl
+
+two_files : IsRefused (seed (codes "0") (count (codes "0") (codes "--keep" ∷ codes "a"
+    ∷ codes "--keep" ∷ codes "b" ∷ []))) ArgumentConflict
+unfolding clap_on_literals
+two_files = refl
 
 -- an option that there is not, and a word too many
 other_option : IsRefused (seed (codes "0") (count (codes "0") (codes "--rounds" ∷ codes "3" ∷ [])))

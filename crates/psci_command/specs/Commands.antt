@@ -16,6 +16,7 @@ IsStormOf rows (Some storm) = (first_of (codes "board") rows ≡ Some storm.boar
     × IsNumberIn (one_of (codes "seed") rows) (Some storm.seed)
     × IsNumberIn (one_of (codes "count") rows) (Some storm.count)
     × IsFlagIn (one_of (codes "counts") rows) storm.counts
+    × (option_map (λ s. s.now) storm.keep ≡ first_of (codes "keep") rows)
 IsStormOf rows None = (first_of (codes "board") rows ≡ None)
     ⊎ (IsNumberIn (one_of (codes "seed") rows) None
     ⊎ IsNumberIn (one_of (codes "count") rows) None)

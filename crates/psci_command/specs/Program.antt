@@ -29,12 +29,17 @@ number_rule name parser =
 abbrev pub flag_rule : Text → Rule
 flag_rule name = record (new_rule name) { long = Some name; action = Some SetTrue }
 
--- `storm [--board TEXT] --seed N --count N [--counts]`: any seed of 64 bits, and at most 10,000
--- events
+-- a text that may be left out, under this name
+abbrev pub text_rule : Text → Rule
+text_rule name = record (new_rule name) { long = Some name }
+
+-- `storm [--board TEXT] --seed N --count N [--counts] [--keep FILE]`: any seed of 64 bits, and at
+-- most 10,000 events
 abbrev pub storm_shape : Shape
 storm_shape = record (new_shape (codes "storm")) {
   rules = board_rule ∷ number_rule (codes "seed") (Unsigned 0 18446744073709551615)
-      ∷ number_rule (codes "count") (Unsigned 0 10000) ∷ flag_rule (codes "counts") ∷ [];
+      ∷ number_rule (codes "count") (Unsigned 0 10000) ∷ flag_rule (codes "counts")
+      ∷ text_rule (codes "keep") ∷ [];
 }
 
 -- `psci_cli replay` and `psci_cli storm`; the program itself, and no command of it, has a version

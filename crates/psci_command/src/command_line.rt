@@ -10,7 +10,7 @@ ghost use Rattle.psci_command.specs.declared.command_line.Request.TheVariants.{N
 ghost use Rattle.psci_command.specs.declared.exit.Failure.TheVariants.{CommandLine};
 ghost use Rattle.psci_command.specs.Commands.{IsAsked, IsStormOf, IsWordless};
 ghost use Rattle.psci_command.specs.Program.{AsksHelp, board_rule, flag_rule, number_rule, program};
-ghost use Rattle.psci_command.specs.Program.{storm_shape};
+ghost use Rattle.psci_command.specs.Program.{storm_shape, text_rule};
 ghost use Rattle.psci_command.specs.Heard.{IsHeard};
 
 use crate::exit::Failure;
@@ -34,6 +34,8 @@ pub struct StormRequest<'a> {
     pub count: u64,
     /// Whether the count of each tally is to be written.
     pub counts: bool,
+    /// The file that the storm is to be kept in, if it is.
+    pub keep: Option<&'a str>,
 }
 
 /// What the command line asks for.
@@ -60,7 +62,8 @@ const ABOUT_STORM: &str =
     "Makes so many random events happen on a board, drawn from the seed, and then lets it settle.
 Standard output has one line: `storm events E sent S quiet R` (E events in all, S messages sent, at
 rest after R rounds) or `storm events E sent S halting`. With --counts there is a line more for each
-tally (what was asked, with what was answered), also if it never came: `TALLY N`, N records.";
+tally (what was asked, with what was answered), also if it never came: `TALLY N`, N records. With
+--keep FILE the storm is written into that file as a script, which `replay` answers.";
 
 const ABOUT_REPLAY: &str =
     "Takes a script from standard input. Each event of it is answered by a line on standard output.
@@ -101,7 +104,8 @@ fn storm_command<'a>(alloc: Global) -> Result<Command<'a>, AllocError>
         .arg(board(alloc))?
         .arg(number(alloc, "seed", value_parser!(u64)))?
         .arg(number(alloc, "count", value_parser!(u64).range(..=10_000)))?
-        .arg(flag(alloc, "counts"))
+        .arg(flag(alloc, "counts"))?
+        .arg(text(alloc, "keep"))
 }
 
 /// The commands of the program.
@@ -144,6 +148,14 @@ fn flag<'a>(alloc: Global, name: &'a str) -> Arg<'a>
     Arg::new(alloc, name).long(name).action(ArgAction::SetTrue)
 }
 
+/// A text, which may be left out, under this name.
+fn text<'a>(alloc: Global, name: &'a str) -> Arg<'a>
+    ensures rule { rule_of result ≡ text_rule name.entry.now }
+    ensures local { result.global ≡ false }
+{
+    Arg::new(alloc, name).long(name)
+}
+
 /// What these words ask for, the program's name first, or the parser's error.
 fn request_in<'a>(alloc: Global, words: &'a [String]) -> Result<Option<Request<'a>>, Error>
     ensures request { IfOk result (λ request.
@@ -167,6 +179,7 @@ fn storm_in<'a>(matches: &ArgMatches<'a>) -> Option<StormRequest<'a>>
         seed: matches.get_one("seed")?,
         count: matches.get_one("count")?,
         counts: matches.get_one("counts").unwrap_or(false),
+        keep: matches.get_str("keep"),
     })
 }
 

@@ -1,4 +1,4 @@
--- The command `storm` has the board, two numbers and a flag.
+-- The command `storm` has the board, two numbers, a flag and a text.
 use Rattle.std.proofs.Common.{◌≡◌, ◌∙◌, ap, ap₂, rules, codes}
 use Rattle.std.proofs.lemmas.Result.{IfOk-weaker}
 use Rattle.clap.specs.Words.{app_of, new_app, with_rule}
@@ -14,9 +14,11 @@ returns c =
     let seed_is = c.number.ensures.rule ∙ ap (number_rule (codes "seed")) any_seed in
     let count_is = c.number-2.ensures.rule ∙ ap (number_rule (codes "count")) any_count in
     let bare_is : app_of c.long_about.result ≡ new_app (codes "storm") = search rules in
-    IfOk-weaker c.arg-4.result _ _ (λ r h. h.shape c.flag.ensures.local
+    IfOk-weaker c.arg-5.result _ _ (λ r h. h.shape c.text.ensures.local
+    ∙ ap₂ with_rule (c.in_ok-arg-4.ensures.shape c.flag.ensures.local
     ∙ ap₂ with_rule (c.in_ok-arg-3.ensures.shape c.number-2.ensures.local
     ∙ ap₂ with_rule (c.in_ok-arg-2.ensures.shape c.number.ensures.local
     ∙ ap₂ with_rule (c.in_ok-arg.ensures.shape c.board.ensures.local
     ∙ ap₂ with_rule bare_is c.board.ensures.rule) seed_is) count_is) c.flag.ensures.rule)
-    c.arg-4.ensures
+    c.text.ensures.rule)
+    c.arg-5.ensures

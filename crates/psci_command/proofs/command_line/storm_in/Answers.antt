@@ -68,4 +68,5 @@ returns c =
       subst (λ (t : Option (List ℕ)). IsFlagIn t c.unwrap_or.result)
           (one_text-rows f (codes "counts"))
           (subst (IsFlagIn (one_text f (codes "counts"))) (sym c.unwrap_or.ensures) counts),
+      c.get_str-2.ensures ∙ first_value-rows f (codes "keep"),
     )
