@@ -1,5 +1,5 @@
 -- How commands end, and how they do not.
-use Rattle.std.proofs.Common.{Ok, Err, refl, inl, inr}
+use Rattle.std.proofs.Common.{ℕ, Ok, Err, refl, inl, inr}
 use Rattle.psci_command.specs.psci_board.Board.{BoardValue}
 use Rattle.psci_command.specs.psci_board_text.declared.fault.BoardFault.TheVariants as boards
 use Rattle.psci_command.specs.declared.exit.Failure.TheVariants.{CommandLine, Replay}
@@ -8,7 +8,9 @@ use Rattle.psci_command.specs.psci_script.declared.fault.ReplayFault.TheVariants
 use Rattle.psci_command.specs.psci_script.declared.fault.ReplayFault.TheVariants.{Read, Script}
 use Rattle.psci_command.specs.psci_script.declared.fault.ReplayFault.TheVariants.{Write}
 use Rattle.psci_command.specs.psci_script.declared.fault.ScriptFault.TheVariants as scripts
-use Rattle.psci_cli.specs.Ends.{IsOfReplay, StormEnds}
+use Rattle.psci_cli.specs.Ends.{IsOfReplay, IsStormed, IsUnkept, StormEnds}
+use Rattle.psci_storm.specs.Storm.{IsStorm}
+use Rattle.psci_storm.specs.declared.outcome.StormedWorld.{StormedWorld}
 
 -- a replay ends early by a fault of its own, of whatever kind, and not by the command line
 replay_ends_by_script : IsOfReplay (Replay (Script 2 scripts.Line))
@@ -31,6 +33,42 @@ replay_by_command_line h = h
 
 replay_by_given_board : IsOfReplay (GivenBoard boards.Grammar) → ⊥
 replay_by_given_board h = h
+
+-- a storm that was made is one of so many events on the board that the text says
+storm_made : (s : StormedWorld) → IsStorm s.world.board 3 s.world.past s.storm
+    → IsStormed (Ok s) (Ok s.world.board) 3
+storm_made s is = (refl, is)
+
+storm_without_board : (s : StormedWorld) → IsStormed (Ok s) (Err boards.Grammar) 3 → ⊥
+storm_without_board s h = let made = h.0 in cc
+
+-- a past that is no storm of so many events
+other_storm : (s : StormedWorld) (count : ℕ) → ¬ (IsStorm s.world.board count s.world.past s.storm)
+    → ¬ (IsStormed (Ok s) (Ok s.world.board) count)
+other_storm s count differs h = differs h.1
+
+storm_of_faulty_board : IsStormed (Err (GivenBoard boards.BadBoot)) (Err boards.BadBoot) 3
+storm_of_faulty_board = refl
+
+storm_of_other_fault : IsStormed (Err (GivenBoard boards.BadBoot)) (Err boards.Grammar) 3 → ⊥
+storm_of_other_fault h = cc
+
+storm_not_made : (b : BoardValue) → IsStormed (Err (Replay Memory)) (Ok b) 3
+storm_not_made b = (refl, refl)
+
+nothing_to_write : (b : BoardValue) → IsStormed (Err (Replay Write)) (Ok b) 3 → ⊥
+nothing_to_write b h = let memory = h.1 in cc
+
+-- a storm that cannot be kept is not written, or there is no memory to
+not_kept : IsUnkept (Replay Write)
+not_kept = inl refl
+
+not_kept_without_memory : IsUnkept (Replay Memory)
+not_kept_without_memory = inr refl
+
+not_kept_by_read : IsUnkept (Replay Read) → ⊥
+not_kept_by_read (inl e) = cc
+not_kept_by_read (inr e) = cc
 
 storm_done : (b : BoardValue) → StormEnds (Ok tt) (Ok b)
 storm_done b = refl
