@@ -36,7 +36,7 @@ use Rattle.psci_world_laws.specs.psci_fw_spec.Said.{arrived, listed}
 use Rattle.psci_world_laws.specs.psci_fw_spec.Values.{Values, updated}
 use Rattle.psci_world_laws.specs.psci_fw_laws.Allowed.{IsAllowed}
 use Rattle.psci_world_laws.proofs.fw_laws.Parts.{updated_at}
-use Rattle.psci_safe.specs.Moments.{goes_on_by}
+use Rattle.psci_safe.specs.Moments.{enters_or_resumes_by}
 use Rattle.psci_safe.specs.Openings.{AreTakenUp, EnteredAt, Made, TakenUp, entered_by, entered_to}
 use Rattle.psci_safe.specs.Openings.{made_at, made_for_boot, openings, taken_up}
 use Rattle.psci_safe.specs.Openings.{OfCall, OfLife}
@@ -110,7 +110,7 @@ entered_at b v c s acts.Stop m x e is = absurd (cc)
 entered_at b v c s acts.Resume m x e is = absurd (cc)
 
 -- a core that is not told to enter does not
-no_entry : (c before : ℕ) (act : Act) (x : EnteredAt) → goes_on_by act ≡ false
+no_entry : (c before : ℕ) (act : Act) (x : EnteredAt) → enters_or_resumes_by act ≡ false
     → entered_to c before act ≡ Some x → ⊥
 no_entry c before (acts.Enter address context) x ends is = absurd (cc)
 no_entry c before (acts.Return code) x ends is = absurd (cc)

@@ -13,11 +13,11 @@ use Rattle.psci_world_laws.specs.psci_fw_spec.Answer.{answer, reply_or}
 use Rattle.psci_world_laws.specs.psci_fw_spec.Calls.{call_fault, outcome_of}
 use Rattle.psci_world_laws.specs.psci_fw_spec.Values.{Values}
 use Rattle.psci_world_laws.proofs.fw_spec.Endings.{function_ends, outcome_ends}
-use Rattle.psci_safe.specs.Moments.{goes_on_by}
+use Rattle.psci_safe.specs.Moments.{enters_or_resumes_by}
 
 -- this outcome is no entry
 abbrev Ends : Outcome → Type 0
-Ends o = goes_on_by o.act ≡ false
+Ends o = enters_or_resumes_by o.act ≡ false
 
 no_entry : (b : BoardValue) (v : Values) (c : ℕ) (r : Request) → Ends (outcome_of b v c r)
 no_entry b v c r =
@@ -30,10 +30,10 @@ by_fault : (b : BoardValue) (v : Values) (c : ℕ) (r : Request) (o : Outcome) (
 by_fault b v c r o (Some fault) e = absurd (cc)
 by_fault b v c r o None e =
     let same : o ≡ outcome_of b v c r = cc in
-    ap (λ (x : Outcome). goes_on_by x.act) same ∙ no_entry b v c r
+    ap (λ (x : Outcome). enters_or_resumes_by x.act) same ∙ no_entry b v c r
 
 -- what a call is answered is no entry
 pub call_ends : (b : BoardValue) (v : Values) (c : ℕ) (regs : Regs) (o : Outcome)
-    → replies.Out o ≡ answer b v c (Smc regs) → goes_on_by o.act ≡ false
+    → replies.Out o ≡ answer b v c (Smc regs) → enters_or_resumes_by o.act ≡ false
 unfolding answer
 call_ends b v c regs o e = by_fault b v c (request_of regs) o (call_fault b v c) e

@@ -29,20 +29,20 @@ use Rattle.psci_world_laws.specs.psci_world_spec.Histories.{firmware_history, fi
 use Rattle.psci_world_laws.specs.psci_world_spec.Histories.{outcome_in}
 use Rattle.psci_world_laws.specs.psci_world_spec.Legal.{if_started, legal, on_board}
 use Rattle.psci_world_laws.specs.psci_world_spec.Places.{place}
-use Rattle.psci_safe.specs.Moments.{goes_on, goes_on_by}
+use Rattle.psci_safe.specs.Moments.{enters_or_resumes, enters_or_resumes_by}
 use Rattle.psci_headline.proofs.Functions.{call_ends}
 use Rattle.psci_headline.proofs.Records.{IsAdded, IsOfRecord, added}
 
 -- Going on ------------------------------------------------------------------------------------
 
 -- A core entered and goes on: the added exchange says so.
-record GoesOn (b : BoardValue) (c : ℕ) (es : List FwExchange) : Type 0 where
+record EntersOrResumes (b : BoardValue) (c : ℕ) (es : List FwExchange) : Type 0 where
   pub start : Start
   pub entry : FwExchange
   pub adds : es ≡ entry ∷ []
   pub enters : effect b entry ≡ Enters c start
 
-enters_by : (c : ℕ) (s : Start) (act : Act) (m : Option MessageValue) → goes_on_by act ≡ true
+enters_by : (c : ℕ) (s : Start) (act : Act) (m : Option MessageValue) → enters_or_resumes_by act ≡ true
     → enter_effect c s act m ≡ Enters c s
 enters_by c s (acts.Return code) m e = absurd (cc)
 enters_by c s acts.Stop m e = absurd (cc)
@@ -59,7 +59,7 @@ not_started b past c p act m false e = absurd (cc)
 
 goes_at : (b : BoardValue) (past : List Record) (c : ℕ) (act : Act) (m : Option Sent)
     (s : Option Start) → Fw act m ≡ on_board b c (if_started b past c (place b past c) s)
-    → goes_on_by act ≡ true → GoesOn b c (entered c s (outcome_in act m))
+    → enters_or_resumes_by act ≡ true → EntersOrResumes b c (entered c s (outcome_in act m))
 goes_at b past c act m None is by =
     absurd (not_started b past c (place b past c) act m (nat_lt c (cores b)) is)
 goes_at b past c act m (Some s) is by = record {
@@ -76,17 +76,17 @@ after_call b past event s =
 
 goes : (b : BoardValue) (past : List Record) (c : ℕ) (event : Event) (said : Said)
     → said ≡ legal b past event → IsLegal b (after_call b past event said)
-    → goes_on c event said ≡ true
-    → GoesOn b c (call (controller_values b past) (acks past) event said)
+    → enters_or_resumes c event said ≡ true
+    → EntersOrResumes b c (call (controller_values b past) (acks past) event said)
 unfolding legal
 goes b past c (Enter d) (Fw act m) is valid by =
-    let both = and_parts (c == d) (goes_on_by act) by in
+    let both = and_parts (c == d) (enters_or_resumes_by act) by in
     let v = controller_values b past in
-    subst (λ x. GoesOn b x (entered d (last_start v d) (outcome_in act m)))
+    subst (λ x. EntersOrResumes b x (entered d (last_start v d) (outcome_in act m)))
     (sym (eqb-true c d both.0))
     (goes_at b past d act m (last_start v d) is both.1)
 goes b past c (Call d regs) (Fw act m) is valid by =
-    let both = and_parts (c == d) (goes_on_by act) by in
+    let both = and_parts (c == d) (enters_or_resumes_by act) by in
     let ends = call_ends b (firmware_values b past) d regs (outcome_in act m) valid.0 in
     absurd (true≢false (sym both.1 ∙ ends))
 goes b past c event said is valid by = absurd (cc)
@@ -100,7 +100,7 @@ pub record Moves (b : BoardValue) (r : Record) (past : List Record) : Type 0 whe
   pub values : firmware_values b (r ∷ past) ≡ change b effect (firmware_values b past)
   pub says : IsOfRecord (controller_values b past) (acks past) effect
   -- a core that goes on enters by it
-  pub goes : (c : ℕ) → goes_on c r.event r.said ≡ true → (s : Start) × (effect ≡ Enters c s)
+  pub goes : (c : ℕ) → enters_or_resumes c r.event r.said ≡ true → (s : Start) × (effect ≡ Enters c s)
 
 -- What the firmware's laws say of its histories.
 pub record FirmwareLaws (b : BoardValue) : Type 0 where

@@ -23,7 +23,7 @@ use Rattle.psci_world_laws.specs.psci_world_spec.Histories.{controller_values, f
 use Rattle.psci_world_laws.specs.psci_world_spec.Histories.{firmware_values}
 use Rattle.psci_world_laws.specs.psci_world_spec.Histories.{sent}
 use Rattle.psci_world_laws.specs.psci_world_spec.Legal.{legal}
-use Rattle.psci_safe.specs.Moments.{goes_on, was_powered_down}
+use Rattle.psci_safe.specs.Moments.{enters_or_resumes, was_powered_down}
 use Rattle.psci_headline.specs.PoweredDown.{AreDown, IsDownBy}
 use Rattle.psci_headline.proofs.Acknowledging.{CoreLaws, new_is_down}
 use Rattle.psci_headline.proofs.CoreSteps.{IsStep}
@@ -45,7 +45,7 @@ pub record IsNext (b : BoardValue) (r : Record) (past : List Record) : Type 0 wh
 
 -- a core that goes on runs, and is ON
 pub goes_running : (b : BoardValue) (r : Record) (past : List Record) (c : ℕ) → IsNext b r past
-    → goes_on c r.event r.said ≡ true
+    → enters_or_resumes c r.event r.said ≡ true
     → ((firmware_values b (r ∷ past)).phase c ≡ Running)
     × ((firmware_values b (r ∷ past)).status c ≡ statuses.On)
 goes_running b r past c next by =

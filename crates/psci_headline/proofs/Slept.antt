@@ -12,7 +12,7 @@ use Rattle.psci_world_laws.specs.psci_fw_spec.declared.status.Status.TheVariants
 use Rattle.psci_world_laws.specs.psci_fw_spec.SystemCalls.{is_off_status}
 use Rattle.psci_world_laws.specs.psci_world_spec.declared.said.Record.{Record}
 use Rattle.psci_world_laws.specs.psci_world_spec.Histories.{controller_values, firmware_values}
-use Rattle.psci_safe.specs.Moments.{depth_at, goes_on, was_powered_down, is_powered_down}
+use Rattle.psci_safe.specs.Moments.{depth_at, enters_or_resumes, was_powered_down, is_powered_down}
 use Rattle.psci_safe.specs.Moments.{is_reported_off}
 
 -- Moments --------------------------------------------------------------------------------------
@@ -35,14 +35,14 @@ slept_now b life (r ∷ past) c e = or_left _ _ e
 -- a core that was, where it does not go on in that life
 pub slept_still : (b : BoardValue) (life : ℕ) (r : Record) (past : List Record) (c : ℕ)
     → was_powered_down b life past c ≡ true
-    → (goes_on c r.event r.said ≡ true → (firmware_values b (r ∷ past)).life ≡ life → ⊥)
+    → (enters_or_resumes c r.event r.said ≡ true → (firmware_values b (r ∷ past)).life ≡ life → ⊥)
     → was_powered_down b life (r ∷ past) c ≡ true
 unfolding was_powered_down
 slept_still b life r past c was none =
     let now = (firmware_values b (r ∷ past)).life in
-    let stays : (goes_on c r.event r.said && now == life) ≡ false =
+    let stays : (enters_or_resumes c r.event r.said && now == life) ≡ false =
     false_from_ne_true _ (λ e.
-    let both = and_parts (goes_on c r.event r.said) (now == life) e in
+    let both = and_parts (enters_or_resumes c r.event r.said) (now == life) e in
     none both.0 (eqb-true now life both.1)) in
     or_right _ _ (and_from _ _ (not_from_false _ stays) was)
 

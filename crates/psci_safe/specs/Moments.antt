@@ -39,22 +39,22 @@ is_powered_down b life past c =
     is_this_life (controller_values b past).life life && depth_at b past 0 c == 3
 
 -- a core goes on as one that entered: at an opening, or after its suspend
-abbrev pub goes_on_by : Act → Bool
-goes_on_by (acts.Return code) = false
-goes_on_by acts.Stop = false
-goes_on_by (acts.Enter address context) = true
-goes_on_by acts.Resume = true
+abbrev pub enters_or_resumes_by : Act → Bool
+enters_or_resumes_by (acts.Return code) = false
+enters_or_resumes_by acts.Stop = false
+enters_or_resumes_by (acts.Enter address context) = true
+enters_or_resumes_by acts.Resume = true
 
 -- this core entered and goes on, or a function told it to, as none shall
-abbrev pub goes_on : ℕ → Event → Said → Bool
-goes_on c (Enter d) (Fw act sent) = c == d && goes_on_by act
-goes_on c (Call d regs) (Fw act sent) = c == d && goes_on_by act
-goes_on c event said = false
+abbrev pub enters_or_resumes : ℕ → Event → Said → Bool
+enters_or_resumes c (Enter d) (Fw act sent) = c == d && enters_or_resumes_by act
+enters_or_resumes c (Call d regs) (Fw act sent) = c == d && enters_or_resumes_by act
+enters_or_resumes c event said = false
 
 -- at some moment of a life the core was powered down, and it has not gone on since in that life
 unfoldable pub was_powered_down : BoardValue → ℕ → List Record → ℕ → Bool
 was_powered_down b life [] c = is_powered_down b life [] c
 was_powered_down b life (r ∷ past) c =
     is_powered_down b life (r ∷ past) c
-    || (not (goes_on c r.event r.said && (firmware_values b (r ∷ past)).life == life)
+    || (not (enters_or_resumes c r.event r.said && (firmware_values b (r ∷ past)).life == life)
     && was_powered_down b life past c)

@@ -25,16 +25,16 @@ use Rattle.psci_settle.proofs.Starts.{HasBegun, has_begun}
 -- The start ------------------------------------------------------------------------------------
 
 -- A life that goes on.
-record GoesOn (b : BoardValue) (past : List Record) : Type 0 where
+record LifeGoesOn (b : BoardValue) (past : List Record) : Type 0 where
   pub life : ℕ
   pub present : (controller_values b past).life ≡ Some life
   pub awake : (in_life b life (firmware_values b past)).halting ≡ false
 
-going_life : (b : BoardValue) (past : List Record) → is_halting b past ≡ false → GoesOn b past
+going_life : (b : BoardValue) (past : List Record) → is_halting b past ≡ false → LifeGoesOn b past
 going_life b past awake = by_life (controller_values b past).life refl awake
   where
     by_life : (o : Option ℕ) → (controller_values b past).life ≡ o → halts_in b past o ≡ false
-        → GoesOn b past
+        → LifeGoesOn b past
     by_life None e f = absurd (cc)
     by_life (Some life) e f = record { life = life; present = e; awake = f }
 
