@@ -185,11 +185,5 @@ migrate = refl
 mem_protect : call 0x84000013 ≡ Unknown
 mem_protect = refl
 
-node_hw_state : call 0x8400000d ≡ Unknown
-node_hw_state = refl
-
-wide_node_hw_state : call 0xc400000d ≡ Unknown
-wide_node_hw_state = refl
-
 wide_mem_protect : call 0xc4000013 ≡ Unknown
 wide_mem_protect = refl
