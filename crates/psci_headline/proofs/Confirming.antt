@@ -16,7 +16,7 @@ use Rattle.psci_world_laws.specs.psci_fw_spec.Effects.{Effect, Nothing, GoesOn, 
 use Rattle.psci_world_laws.specs.psci_fw_spec.Effects.{Rests, Halts}
 use Rattle.psci_world_laws.specs.psci_fw_spec.Effects.{Stops, Enters, Parks, StopsAtOnce}
 use Rattle.psci_world_laws.specs.psci_fw_spec.Effects.{Acknowledges}
-use Rattle.psci_world_laws.specs.psci_fw_spec.Lives.{first_confirmed, start_of_life}
+use Rattle.psci_world_laws.specs.psci_fw_spec.Lives.{first_confirmed, first_granted, start_of_life}
 use Rattle.psci_world_laws.specs.psci_fw_spec.Paths.{claimed_or}
 use Rattle.psci_world_laws.specs.psci_fw_spec.Said.{Arrival, arrived}
 use Rattle.psci_world_laws.specs.psci_fw_spec.Values.{Values, updated}
@@ -76,7 +76,7 @@ unasked false before depth e = (e, refl)
 
 -- Entries -------------------------------------------------------------------------------------
 
-no_sum : (b : BoardValue) (level place : ℕ) → KnownLaws b → known_below b (λ c. 0) level place ≡ 0
+pub no_sum : (b : BoardValue) (level place : ℕ) → KnownLaws b → known_below b (λ c. 0) level place ≡ 0
 no_sum b level place laws =
     let few = laws.most (λ c. 0) level place 0 (λ c. omega arith) in
     omega (arith, few)
@@ -91,9 +91,10 @@ beside b f c number level place laws off =
     eqb-false place (up b level c) off (sym at ∙ ap (up b level) e)))
 
 -- off the boot path the power-down of a life's start is granted
-first_is : (t : Bool) → t ≡ true → cond t 3 0 ≡ 3
-first_is true e = refl
-first_is false e = absurd (cc)
+first_is : (b : BoardValue) (level place : ℕ) (t : Bool) → first_confirmed b level place ≡ t
+    → t ≡ true → first_granted b level place ≡ 3
+first_is b level place true same e = ap (λ t. cond t 3 0) same
+first_is b level place false same e = absurd (cc)
 
 off_boot : (b : BoardValue) (level place : ℕ) → first_confirmed b level place ≡ true
     → up b level 0 ≡ place → ⊥
@@ -103,8 +104,8 @@ off_boot b level place e at =
     by_test (is_path_place b 0 level place) refl both.1
   where
     by_test : (t : Bool) → (place == up b level 0) ≡ t → not t ≡ true → ⊥
-    by_test true f no = absurd (cc)
-    by_test false f no = eqb-false place (up b level 0) f (sym at)
+    by_test true f none = absurd (cc)
+    by_test false f none = eqb-false place (up b level 0) f (sym at)
 
 -- a core entered; what it found, and where the domain is
 entered : (b : BoardValue) (v w : Values) (c : ℕ) (s : starts.Start) (e : Effect)
@@ -133,7 +134,7 @@ entered b v w c s e level place false false laws same off is life known granted 
       new = sym life;
       known = ap (λ f. known_below b f level place) known
           ∙ (beside b (λ k. 0) c s.number level place laws off ∙ no_sum b level place laws);
-      granted = granted ∙ first_is (first_confirmed b level place) confirmed;
+      granted = granted ∙ first_is b level place (first_confirmed b level place) refl confirmed;
       off = off_boot b level place confirmed;
     }))
 

@@ -1,3 +1,4 @@
+pub mod Acknowledged
 pub mod Acknowledging
 pub mod AllDown
 pub mod Apart
@@ -25,6 +26,7 @@ pub mod Safety
 pub mod Slept
 pub mod Sound
 pub mod States
+pub mod StatesReal
 pub mod TakingUp
 pub mod ToldOff
 mod ToldOffRows
