@@ -184,7 +184,9 @@ class Firmware:
         below = self.board.named(target, level)
         if not below:
             return INVALID_PARAMETERS
-        node = self.board.path(below[0])[level]
+        return self.hw(self.board.path(below[0])[level])
+
+    def hw(self, node):
         if node not in self.confirmed:
             return HW_ON
         return HW_OFF if self.granted[node] == 3 else HW_STANDBY
