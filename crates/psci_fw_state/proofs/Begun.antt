@@ -162,7 +162,7 @@ granted_first b u l p is e law =
         flip false = refl
 
 -- nothing is confirmed of a domain that is not there
-confirmed_beyond : (t : TreeValue) (l p : ℕ) → IsDomainTree t
+pub confirmed_beyond : (t : TreeValue) (l p : ℕ) → IsDomainTree t
     → (l ≤ length t.levels → p < size_below (drop l t.levels) → ⊥) → is_confirmed_at t l p ≡ false
 confirmed_beyond t l p is n = elim (cases_lt (length t.levels) l) [
   | inl h ↦
@@ -276,3 +276,12 @@ granted_shown s now l p e is n =
     (subst (λ (ws : List (List ℕ)). l ≤ length ws → p < size_below (drop l ws) → ⊥)
     (sym is.levels) n))
     ∙ ap (λ (x : StateValue). granted_at x.tree l p) e
+
+pub confirmed_shown : (s now : StateValue) (l p : ℕ) → s ≡ now → IsState s
+    → (l ≤ height s.board → p < nodes s.board l → ⊥) → false ≡ (values_in now).confirmed l p
+unfolding values_in
+confirmed_shown s now l p e is n =
+    sym (confirmed_beyond s.tree l p is.tree
+    (subst (λ (ws : List (List ℕ)). l ≤ length ws → p < size_below (drop l ws) → ⊥)
+    (sym is.levels) n))
+    ∙ ap (λ (x : StateValue). is_confirmed_at x.tree l p) e
