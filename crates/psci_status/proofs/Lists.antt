@@ -1,0 +1,263 @@
+-- Lists of what was written and seen.
+use Rattle.std.proofs.Common.{◌≡◌, ◌≢◌, inl, inr, ℕ, zero, suc, ◌+◌, ◌*◌, ◌/◌, ◌%◌, ◌<◌}
+use Rattle.std.proofs.Common.{List, [], ◌∷◌, length, map, Bool, true, false}
+use Rattle.std.proofs.Common.{refl, sym, ap, ◌∙◌, subst, ⊎_elim, arith}
+use Rattle.std.specs.Prelude.{slice_index, slice_set, nat_lt, ◌==◌, if◌then◌else◌}
+use Rattle.std.proofs.lemmas.Bool.Decides.{nat_tests}
+use Rattle.psci_fw_spec.specs.declared.status.Status.{Status}
+use Rattle.psci_fw_spec.specs.declared.status.Status.TheVariants.{On, Off, Pending}
+use Rattle.psci_fw_spec.specs.AffinityInfo.{status_code}
+use Rattle.psci_fw_spec.specs.Statuses.{added}
+use Rattle.psci_status.specs.Lists.{Item, row, Stands, Within, Rises, gain, gain_from, gains}
+use Rattle.psci_status.specs.Lists.{newest, Begins, IsWord, item_of, IsLast, status_of}
+
+-- lists of one core
+
+pub longer : (x : Status) (log : List Status) (xs : List Item) → Within log xs → Within (x ∷ log) xs
+longer x log [] h = tt
+longer x log (i ∷ is) h = (inr h.0, h.1, longer x log is h.2)
+
+stands_below : (log : List Status) (i : Item) → Stands log i → i.0 < length log
+stands_below [] i h = absurd h
+stands_below (x ∷ xs) i h =
+    ⊎_elim
+    (λ (a : (i.0 ≡ length xs) × (i.1 ≡ x)). let e : i.0 ≡ length xs = a.0 in omega arith)
+    (λ (b : Stands xs i). let k : i.0 < length xs = stands_below xs i b in omega arith)
+    h
+
+is_less : (a b : ℕ) → nat_lt a b ≡ true → a < b
+is_less a b e = grind (arith, nat_tests)
+
+is_not_less : (a b : ℕ) → nat_lt a b ≡ false → a < b → ⊥
+is_not_less a b e h = grind (arith, nat_tests)
+
+gain_within_if : (log : List Status) (i j : Item) (js : List Item) (b : Bool) → nat_lt j.0 i.0 ≡ b
+    → Stands log i → Within log (j ∷ js) → Within log (if b then i ∷ j ∷ js else j ∷ js)
+gain_within_if log i j js true e s h = (s, is_less j.0 i.0 e, h)
+gain_within_if log i j js false e s h = h
+
+pub gain_within : (log : List Status) (i : Item) (xs : List Item) → Stands log i → Within log xs
+    → Within log (gain i xs)
+gain_within log i [] s h = (s, tt, tt)
+gain_within log i (j ∷ js) s h = gain_within_if log i j js (nat_lt j.0 i.0) refl s h
+
+gain_begins_if : (x : Status) (log : List Status) (j : Item) (js : List Item) (b : Bool)
+    → nat_lt j.0 (length log) ≡ b → Stands (x ∷ log) j
+    → Begins (length log, x) (if b then (length log, x) ∷ j ∷ js else j ∷ js)
+gain_begins_if x log j js true e s = (j ∷ js, refl)
+gain_begins_if x log j js false e s =
+    ⊎_elim
+    (λ (a : (j.0 ≡ length log) × (j.1 ≡ x)). let same : j ≡ (length log, x) =
+    (λ k. (a.0 k, a.1 k)) in (js, ap (λ (p : Item). p ∷ js) same))
+    (λ (b : Stands log j). absurd (is_not_less j.0 (length log) e (stands_below log j b)))
+    s
+
+pub gain_begins : (x : Status) (log : List Status) (xs : List Item) → Within (x ∷ log) xs
+    → Begins (length log, x) (gain (length log, x) xs)
+gain_begins x log [] h = ([], refl)
+gain_begins x log (j ∷ js) h = gain_begins_if x log j js (nat_lt j.0 (length log)) refl h.0
+
+pub newest_within : (log : List Status) → Within log (newest log)
+newest_within [] = tt
+newest_within (x ∷ xs) = (inl (refl, refl), tt, tt)
+
+gain_from_within : (log : List Status) (n xs : List Item) → Within log n → Within log xs
+    → Within log (gain_from n xs)
+gain_from_within log [] xs h k = k
+gain_from_within log (i ∷ is) xs h k = gain_within log i xs h.0 k
+
+status_of_code : (s : Status) → status_of (status_code s) ≡ s
+status_of_code On = refl
+status_of_code Off = refl
+status_of_code Pending = refl
+
+code_small : (s : Status) → status_code s < 3
+code_small On = omega arith
+code_small Off = omega arith
+code_small Pending = omega arith
+
+-- the item of a word with this serial and status
+pub item_at : (r n : ℕ) (s : Status) → r ≡ 4 * n + status_code s → item_of r ≡ (n, s)
+item_at r n s e =
+    let small : status_code s < 3 = code_small s in
+    let a : r / 4 ≡ n = omega arith in
+    let b : r % 4 ≡ status_code s = omega arith in
+    (λ k. (a k, (ap status_of b ∙ status_of_code s) k))
+
+-- what was written, where a word holds its last item
+pub item_is : (log : List Status) (r : ℕ) → IsWord log r → (s : Status) × (ss : List Status)
+    × (log ≡ s ∷ ss) × (item_of r ≡ (length ss, s))
+item_is [] r h = absurd h
+item_is (s ∷ ss) r h = (s, ss, refl, item_at r (length ss) s h)
+
+pub item_stands : (log : List Status) (r : ℕ) → IsWord log r → Stands log (item_of r)
+item_stands log r h =
+    let d = item_is log r h in
+    subst (λ (l : List Status). Stands l (item_of r)) (sym d.2)
+    (subst (λ (p : Item). Stands (d.0 ∷ d.1) p) (sym d.3) (inl (refl, refl)))
+
+pub item_begins : (log : List Status) (r : ℕ) (xs : List Item) → IsWord log r → Within log xs
+    → Begins (item_of r) (gain (item_of r) xs)
+item_begins log r xs h k =
+    let d = item_is log r h in
+    subst (λ (p : Item). Begins p (gain p xs)) (sym d.3)
+    (gain_begins d.0 d.1 xs (subst (λ (l : List Status). Within l xs) d.2 k))
+
+pub within_rises : (log : List Status) (xs : List Item) → Within log xs → Rises xs
+within_rises log [] h = tt
+within_rises log (i ∷ is) h = (h.1, within_rises log is h.2)
+
+-- lists of all cores
+
+pub row_set_all : {A : Type 0} (Q : ℕ → List A → Type 0) (xs : List (List A)) (c : ℕ) (y : List A)
+    → ((d : ℕ) → Q d (row xs d)) → Q c y → (d : ℕ) → Q d (row (slice_set xs c y) d)
+row_set_all Q [] c y all q d = all d
+row_set_all Q (x ∷ xs) zero y all q zero = q
+row_set_all Q (x ∷ xs) zero y all q (suc d) = all (suc d)
+row_set_all Q (x ∷ xs) (suc c) y all q zero = all zero
+row_set_all Q (x ∷ xs) (suc c) y all q (suc d) = row_set_all (λ k. Q (suc k)) xs c y
+    (λ k. all (suc k)) q d
+
+pub row_set_here : {A : Type 0} (xs : List (List A)) (c : ℕ) (y : List A) → c < length xs
+    → row (slice_set xs c y) c ≡ y
+row_set_here [] c y h = absurd (omega arith)
+row_set_here (x ∷ xs) zero y h = refl
+row_set_here (x ∷ xs) (suc c) y h = row_set_here xs c y (omega arith)
+
+pub row_newest : (log : List (List Status)) (d : ℕ) → row (map newest log) d ≡ newest (row log d)
+row_newest [] d = refl
+row_newest (x ∷ xs) zero = refl
+row_newest (x ∷ xs) (suc d) = row_newest xs d
+
+pub gains_within : (L : ℕ → List Status) (a b : List (List Item))
+    → ((d : ℕ) → Within (L d) (row a d)) → ((d : ℕ) → Within (L d) (row b d)) → (d : ℕ)
+    → Within (L d) (row (gains a b) d)
+gains_within L [] b f g d = f d
+gains_within L (x ∷ xs) [] f g d = f d
+gains_within L (x ∷ xs) (n ∷ ns) f g zero = gain_from_within (L zero) n x (g zero) (f zero)
+gains_within L (x ∷ xs) (n ∷ ns) f g (suc d) = gains_within (λ k. L (suc k)) xs ns (λ k. f (suc k))
+    (λ k. g (suc k)) d
+
+pub words_set : (log : List (List Status)) (ws : List ℕ) (c r : ℕ) (y : List Status)
+    → ((d : ℕ) → d < length log → IsWord (row log d) (slice_index ws d)) → length ws ≡ length log
+    → IsWord y r → (d : ℕ) → d < length log
+    → IsWord (row (slice_set log c y) d) (slice_index (slice_set ws c r) d)
+words_set [] ws c r y all same q d h = absurd (omega arith)
+words_set (x ∷ xs) [] c r y all same q d h = absurd (omega arith)
+words_set (x ∷ xs) (w ∷ ws) zero r y all same q zero h = q
+words_set (x ∷ xs) (w ∷ ws) zero r y all same q (suc d) h = all (suc d) h
+words_set (x ∷ xs) (w ∷ ws) (suc c) r y all same q zero h = all zero h
+words_set (x ∷ xs) (w ∷ ws) (suc c) r y all same q (suc d) h = words_set xs ws c r y
+    (λ k l. all (suc k) (omega arith)) (omega arith) q d (omega arith)
+
+pub set_same : (ws : List ℕ) (c : ℕ) → slice_set ws c (slice_index ws c) ≡ ws
+set_same [] c = refl
+set_same (w ∷ ws) zero = refl
+set_same (w ∷ ws) (suc c) = ap (λ (l : List ℕ). w ∷ l) (set_same ws c)
+
+-- the serial of the next item
+pub word_length : (log : List Status) (r : ℕ) → IsWord log r → r / 4 + 1 ≡ length log
+word_length [] r h = absurd h
+word_length (s ∷ ss) r h =
+    let e : r ≡ 4 * length ss + status_code s = h in
+    let small : status_code s < 3 = code_small s in
+    omega arith
+
+-- the word that the writer stores after this one
+pub next_word : (log : List Status) (r k : ℕ) (s : Status) (new : ℕ) → r / 4 + 1 ≡ length log
+    → k ≡ status_code s → new ≡ (r / 4 + 1) * 4 + k → IsWord (status_of (new % 4) ∷ log) new
+    × (status_of (new % 4) ≡ s)
+next_word log r k s new len code e =
+    let at : new ≡ 4 * length log + status_code s = omega arith in
+    let is : status_of (new % 4) ≡ s = ap (λ (i : Item). i.1) (item_at new (length log) s at) in
+    (subst (λ (t : Status). new ≡ 4 * length log + status_code t) (sym is) at, is)
+
+pub length-gains : (xs ns : List (List Item)) → length (gains xs ns) ≡ length xs
+length-gains [] ns = refl
+length-gains (x ∷ xs) [] = refl
+length-gains (x ∷ xs) (n ∷ ns) = ap suc (length-gains xs ns)
+
+pub length-informed_seen : (b : Bool) (seen note : List (List Item))
+    → length (if b then seen else gains seen note) ≡ length seen
+length-informed_seen true seen note = refl
+length-informed_seen false seen note = length-gains seen note
+
+pub row_set_else : (xs : List (List Status)) (c d : ℕ) (y : List Status) → d ≢ c
+    → row (slice_set xs c y) d ≡ row xs d
+row_set_else [] c d y n = refl
+row_set_else (x ∷ xs) zero zero y n = absurd (n refl)
+row_set_else (x ∷ xs) zero (suc d) y n = refl
+row_set_else (x ∷ xs) (suc c) zero y n = refl
+row_set_else (x ∷ xs) (suc c) (suc d) y n = row_set_else xs c d y (λ e. n (ap suc e))
+
+added_same_if : (s t : Status) (ss : List Status) (b : Bool) → (status_code s == status_code t) ≡ b
+    → s ≡ t → (if b then t ∷ ss else s ∷ t ∷ ss) ≡ t ∷ ss
+added_same_if s t ss true e same = refl
+added_same_if s t ss false e same = absurd
+    (differs (status_code s) (status_code t) e (ap status_code same))
+  where
+    differs : (a b : ℕ) → (a == b) ≡ false → a ≡ b → ⊥
+    differs a b e same = grind (arith, nat_tests)
+
+-- the last status is not written again
+pub added_same : (s : Status) (log rest : List Status) (t : Status) → log ≡ t ∷ rest → s ≡ t
+    → added s log ≡ log
+added_same s log rest t is same =
+    subst (λ (l : List Status). added s l ≡ l) (sym is)
+    (added_same_if s t rest (status_code s == status_code t) refl same)
+
+added_new_if : (s t : Status) (ss : List Status) (b : Bool) → (status_code s == status_code t) ≡ b
+    → (s ≡ t → ⊥) → (if b then t ∷ ss else s ∷ t ∷ ss) ≡ s ∷ t ∷ ss
+added_new_if s t ss true e apart = absurd
+    (apart (code_apart s t (same_code (status_code s) (status_code t) e)))
+  where
+    same_code : (a b : ℕ) → (a == b) ≡ true → a ≡ b
+    same_code a b e = grind (arith, nat_tests)
+
+    code_apart : (s t : Status) → status_code s ≡ status_code t → s ≡ t
+    code_apart s t e = sym (status_of_code s) ∙ ap status_of e ∙ status_of_code t
+added_new_if s t ss false e apart = refl
+
+-- another status is written
+pub added_new : (s : Status) (log rest : List Status) (t : Status) → log ≡ t ∷ rest → (s ≡ t → ⊥)
+    → added s log ≡ s ∷ log
+added_new s log rest t is apart =
+    subst (λ (l : List Status). added s l ≡ s ∷ l) (sym is)
+    (added_new_if s t rest (status_code s == status_code t) refl apart)
+
+-- what the writer was told stands in its log, so what it tells is the last that is seen
+last_of : (L : ℕ → List Status) (a b : List (List Item)) → ((d : ℕ) → Within (L d) (row a d))
+    → ((d : ℕ) → row b d ≡ newest (L d)) → (d : ℕ) → d < length a → IsLast (L d) (row (gains a b) d)
+last_of L [] b f g d h = absurd (omega arith)
+last_of L (x ∷ xs) [] f g d h = last_none (L d) (row (x ∷ xs) d) (g d)
+  where
+    last_none : (l : List Status) (s : List Item) → [] ≡ newest l → IsLast l s
+    last_none [] s e = tt
+    last_none (y ∷ ys) s e = absurd (cc)
+last_of L (x ∷ xs) (n ∷ ns) f g zero h = last_here (L zero) n x (f zero) (g zero)
+  where
+    last_here : (l : List Status) (m s : List Item) → Within l s → m ≡ newest l
+        → IsLast l (gain_from m s)
+    last_here [] m s k e = tt
+    last_here (y ∷ ys) m s k e = subst (λ (p : List Item). Begins (length ys, y) (gain_from p s))
+        (sym e) (gain_begins y ys s k)
+last_of L (x ∷ xs) (n ∷ ns) f g (suc d) h = last_of (λ k. L (suc k)) xs ns (λ k. f (suc k))
+    (λ k. g (suc k)) d (omega arith)
+
+pub met_last : (log : List (List Status)) (a : List (List Item))
+    → ((d : ℕ) → Within (row log d) (row a d)) → (d : ℕ) → d < length a
+    → IsLast (row log d) (row (gains a (map newest log)) d)
+met_last log a f = last_of (λ d. row log d) a (map newest log) f (row_newest log)
+
+pub met_within : (log : List (List Status)) (a : List (List Item))
+    → ((d : ℕ) → Within (row log d) (row a d)) → (d : ℕ)
+    → Within (row log d) (row (gains a (map newest log)) d)
+met_within log a f = gains_within (λ d. row log d) a (map newest log) f
+    (λ d. subst (λ (l : List Item). Within (row log d) l) (sym (row_newest log d))
+    (newest_within (row log d)))
+
+pub word_is : (log : List Status) (r : ℕ) → IsWord log r → (rest : List Status)
+    × (log ≡ status_of (r % 4) ∷ rest)
+word_is log r h =
+    let d = item_is log r h in
+    (d.1, d.2 ∙ ap (λ (i : Item). i.1 ∷ d.1) (sym d.3))

@@ -1,0 +1,28 @@
+-- What contracts see of the words, of their writer and of a reader.
+use Rattle.std.specs.Prelude.{List}
+use Rattle.atomic_table.specs.Seated.{TableId}
+use Rattle.psci_fw_spec.specs.declared.status.Status.{Status}
+use Rattle.psci_status.specs.declared.seats.Reader.{Reader}
+use Rattle.psci_status.specs.declared.seats.Writer.{Writer}
+use Rattle.psci_status.specs.declared.seats.StatusWords.{StatusWords}
+use Rattle.psci_status.specs.Lists.{Item}
+
+-- the table of words, by its name
+abbrev pub table : StatusWords → TableId
+table words = words.table.shared.table_id
+
+-- the table that a writer writes, by its name
+abbrev pub table_of_writer : Writer → TableId
+table_of_writer writer = writer.seat.table_id
+
+-- the table that a reader reads, by its name
+abbrev pub table_of_reader : Reader → TableId
+table_of_reader reader = reader.seat.table_id
+
+-- what was written of each core
+abbrev pub written : Writer → List (List Status)
+written writer = writer.seat.me.0.log
+
+-- what a reader has seen of each core
+abbrev pub seen : Reader → List (List Item)
+seen reader = reader.seat.me.0.seen
