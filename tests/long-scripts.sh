@@ -140,3 +140,12 @@ memory_of_messages() {
         fail "what was answered before memory ran out"
     fi
 }
+
+# In ample memory a replay sends as many messages as its script asks for: 200,000.
+many_messages() {
+    turns 2 100000 > "$work/script"
+    turned 2 100000 > "$work/lines"
+    run replay < "$work/script"
+    expect "200,000 messages" 0
+    answers "200,000 messages"
+}
