@@ -39,6 +39,13 @@ const CPU_SUSPEND: Regs = Regs {
     x3: 2,
 };
 
+const SYSTEM_RESET: Regs = Regs {
+    x0: 0x8400_0009,
+    x1: 0,
+    x2: 0,
+    x3: 0,
+};
+
 /// Something that happens to the world or is asked of it, and the answer.
 #[derive(Clone, Copy)]
 enum Step {
@@ -117,6 +124,23 @@ const HALTING: [Step; 7] = [
     Step::Happens(Event::Deliver(0)),
     Step::Settles(Settled::Halting),
     Step::Records(3),
+];
+
+/// A world that is reset halts until the message is delivered. Then the boot core enters its next
+/// life, which ends in its turn as the system goes off.
+const RESET: [Step; 12] = [
+    Step::Happens(Event::Enter(0)),
+    Step::Happens(Event::Call(0, SYSTEM_RESET)),
+    Step::Settles(Settled::Halting),
+    Step::Records(2),
+    Step::Happens(Event::Deliver(0)),
+    Step::Settles(Settled::Quiet(0)),
+    Step::Records(4),
+    Step::Recorded(3, Event::Enter(0)),
+    Step::Lives(Some(2), Some(2)),
+    Step::Happens(Event::Call(0, SYSTEM_OFF)),
+    Step::Happens(Event::Deliver(1)),
+    Step::Settles(Settled::Halting),
 ];
 
 /// Takes a step, and says whether it got its answer.
@@ -204,7 +228,8 @@ fn worlds_are_read_and_settle(rt: HostRuntime) -> Result<(), Fail> {
     tell(&rt, alloc, "new world", &NEW_WORLD)?;
     tell(&rt, alloc, "both clusters", &BOTH_CLUSTERS)?;
     tell(&rt, alloc, "outstanding start", &OUTSTANDING_START)?;
-    tell(&rt, alloc, "halting", &HALTING)
+    tell(&rt, alloc, "halting", &HALTING)?;
+    tell(&rt, alloc, "reset", &RESET)
 }
 
 /// Boards of each height, and the largest number of cores.

@@ -35,15 +35,20 @@ const AT_THE_START_LIMIT: [Step; 4] = [
     Step::Runs(0, true),
 ];
 
-/// A halting life stops every core, and takes the acknowledgement of the system's message.
-const HALTING: [Step; 12] = [
+/// A halting life stops every core, and takes the acknowledgement of the system's message. A core
+/// runs until it calls or enters.
+const HALTING: [Step; 16] = [
     Step::Halting(false),
     Step::Call(0, SYSTEM_OFF, Answer::Halts(Kind::Off, 0, 1, 1)),
     Step::Halting(true),
+    Step::Runs(0, false),
+    Step::Runs(3, true),
     Step::Waits(4, true),
     Step::CallRefused(0, VERSION, FwFault::NotRunning),
     Step::Call(3, VERSION, Answer::Stops),
+    Step::Runs(3, false),
     Step::Enter(3, 1, 2, Answer::Stops),
+    Step::Runs(3, false),
     Step::Knows(3, 2),
     Step::Grants(0, 3, 0),
     Step::Take(Kind::Off, 0, 1, 1, false, Taken::Used),
