@@ -1,0 +1,47 @@
+# Tests of `psci show`, sourced by ../test: runs in words, text for text, and as JSON.
+
+# show WORD..: tools/show over the built program, whose script is on standard input
+show() {
+    timeout 60 tools/show --program "$program" "$@" > "$work/out" 2> "$work/err"
+    echo $? > "$work/got"
+}
+
+# the stored examples in words, as wide as asked, and the legend
+shown() {
+    local name
+    has_python shown || return
+    for name in late-acknowledgement wake-overtakes-down os-initiated-refusals; do
+        show < "examples/$name.psci"
+        cp "tests/shown/$name.txt" "$work/lines"
+        expect "show $name" 0
+        answers "show $name"
+    done
+    show --width 120 --legend < examples/three-levels.psci
+    cp tests/shown/three-levels-wide.txt "$work/lines"
+    expect "show --width 120 --legend" 0
+    answers "show --width 120 --legend"
+    shown_answers
+    printf '%s\nenter 0' "$board" > "$work/script"
+    show < "$work/script"
+    expect "show without a last line feed" 0
+    printf '%s\nenter 0\nenter 1 2\n' "$board" > "$work/script"
+    show < "$work/script"
+    expect "show at a faulty line" 3 "line 3: script fault 2"
+    show < /dev/null
+    expect "show of an empty script" 3 "line 1: script fault 1"
+}
+
+# as JSON each example has its answers, and its lines are objects
+shown_answers() {
+    local file
+    for file in examples/*.psci; do
+        show --json < "$file"
+        python3 -c 'import json, sys
+for line in list(sys.stdin)[1:]:
+    it = json.loads(line)
+    print(it["number"], it["answer"])' < "$work/out" > "$work/lines"
+        cp "${file%.psci}.out" "$work/out"
+        expect "show --json < $file" 0
+        answers "show --json < $file"
+    done
+}
