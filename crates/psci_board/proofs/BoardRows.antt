@@ -1,7 +1,8 @@
 -- What is no board and no node.
-use Rattle.std.proofs.Common.{◌≡◌, ◌∷◌, [], ◌++◌, refl, arith}
+use Rattle.std.proofs.Common.{◌≡◌, ℕ, true, false, List, ◌∷◌, [], ◌++◌, refl, arith}
 use Rattle.std.specs.Prelude.{Some, None, map, replicate}
-use Rattle.psci_board.specs.Board.{IsBoard, HasNode, core_at, nodes}
+use Rattle.psci_board.specs.declared.range.AddressRange.{AddressRange}
+use Rattle.psci_board.specs.Board.{IsBoard, HasNode, core_at, nodes, may_enter, is_width}
 use Rattle.psci_board.proofs.AffinityRows.{board, at}
 use Rattle.psci_board.proofs.SpanRows.{uneven}
 
@@ -37,6 +38,29 @@ too_many_starts h = let starts = h.starts in absurd (omega arith)
 
 pub boot_outside : IsBoard (record uneven { boot = 0x40100000 }) → ⊥
 boot_outside h = let boot = h.boot in cc
+
+-- an address in a range, but not aligned
+pub boot_unaligned : IsBoard (record uneven { boot = 0x40000002 }) → ⊥
+boot_unaligned h = let boot = h.boot in cc
+
+-- how many children a node may have
+pub widths : map is_width (0 ∷ 1 ∷ 16 ∷ 17 ∷ []) ≡ false ∷ true ∷ true ∷ false ∷ []
+widths = refl
+
+-- Ranges --------------------------------------------------------------------------------------
+
+abbrev range : ℕ → ℕ → AddressRange
+range start end = record { start = start; end = end }
+
+-- the higher one first, and one in the other
+pub ranges_in_any_order : map (may_enter (record uneven {
+  ranges = range 0x50000000 0x50001000 ∷ range 0x40000000 0x40100000
+      ∷ range 0x40001000 0x40002000 ∷ range 0x10 0x14 ∷ [];
+}))
+    (0x10 ∷ 0x14 ∷ 0xc ∷ 0x40000000 ∷ 0x40001000 ∷ 0x40002000 ∷ 0x400ffffc ∷ 0x40100000
+    ∷ 0x50000000 ∷ 0x50000ffe ∷ 0x50000ffc ∷ 0x50001000 ∷ [])
+    ≡ true ∷ false ∷ false ∷ true ∷ true ∷ true ∷ true ∷ false ∷ true ∷ false ∷ true ∷ false ∷ []
+ranges_in_any_order = refl
 
 -- Nodes -----------------------------------------------------------------------------------------
 

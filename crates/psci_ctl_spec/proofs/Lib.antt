@@ -6,6 +6,7 @@ pub mod Front
 pub mod Kept
 mod LegalRows
 pub mod Nested
+mod NumberRows
 pub mod OneMore
 pub mod OneReply
 pub mod Past
