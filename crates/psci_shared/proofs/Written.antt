@@ -16,7 +16,7 @@ use Rattle.psci_fw.specs.psci_fw_spec.Said.{Arrival, arrived}
 use Rattle.psci_fw.specs.psci_fw_spec.Statuses.{added, statuses}
 use Rattle.psci_status.specs.Lists.{Item, IsLast, Within, row}
 use Rattle.psci_shared.specs.declared.entry.FwEntry.{FwEntry}
-use Rattle.psci_shared.specs.Books.{exchange_of, history_of}
+use Rattle.psci_shared.specs.Books.{BookView, entered, exchange_of, history_of}
 use Rattle.psci_shared.specs.Gathers.{AllSeen, AllStand}
 use Rattle.psci_shared.specs.Passes.{PassView}
 use Rattle.psci_shared.specs.Writing.{AllLast, IsWritten, Stand, one_more, written_after}
@@ -136,6 +136,28 @@ written_none b log is core small =
     row_same zero c h = absurd (omega arith)
     row_same (suc n) zero h = refl
     row_same (suc n) (suc c) h = row_same n c (omega arith)
+
+-- the same over books, as the lock has them
+pub written_on : (b : BoardValue) (log log1 log2 : List (List Status)) (k k' : BookView)
+    (e : FwEntry) (before : ℕ)
+    → k' ≡ entered k e → before ≡ life b (history_of k.entries) → IsWritten b log k.entries
+    → ((core : ℕ) → core < cores b
+    → row log1 core ≡ written_after b k'.entries before core (row log core))
+    → log2 ≡ log1 → IsWritten b log2 k'.entries
+written_on b log log1 log2 k k' e before more was is wrote met =
+    subst (λ (x : BookView). ((core : ℕ) → core < cores b
+    → row log1 core ≡ written_after b x.entries before core (row log core))
+    → IsWritten b log2 x.entries)
+    (sym more)
+    (λ w. subst (λ (l : List (List Status)). IsWritten b l (k.entries ++ e ∷ [])) (sym met)
+    (written_more b log log1 k.entries e before was is w))
+    wrote
+
+-- the same over the entries of a new book
+pub written_first : (b : BoardValue) (log : List (List Status)) (entries : List FwEntry)
+    → entries ≡ [] → log ≡ replicate (cores b) (Off ∷ []) → IsWritten b log entries
+written_first b log entries none is =
+    subst (λ (es : List FwEntry). IsWritten b log es) (sym none) (written_none b log is)
 
 -- What was seen -------------------------------------------------------------------------------
 

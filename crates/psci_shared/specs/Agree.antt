@@ -8,9 +8,13 @@ use Rattle.psci_shared.specs.Books.{BookView}
 use Rattle.psci_shared.specs.Passes.{PassView}
 
 -- the entry is the item's call of this core, with the item's reply
+abbrev pub IsOf : FwEntry → Core → FwItem → Type 0
+IsOf e core i = (e.core ≡ core) × (e.call ≡ i.call) × (e.reply ≡ i.reply)
+
+-- there is such an entry
 abbrev pub StandsAt : Option FwEntry → Core → FwItem → Type 0
 StandsAt None core i = ⊥
-StandsAt (Some e) core i = (e.core ≡ core) × (e.call ≡ i.call) × (e.reply ≡ i.reply)
+StandsAt (Some e) core i = IsOf e core i
 
 -- the item's place is not below this one, and its entry stands there
 abbrev pub StandsFrom : List FwEntry → Core → ℕ → FwItem → Type 0

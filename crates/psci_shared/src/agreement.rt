@@ -1,8 +1,8 @@
 //! Whether passes agree with a book.
 
 ghost use Rattle.std.specs.Prelude.{◌≡◌, ◌↔◌, IsTrue, slice_get, option_map};
-ghost use Rattle.psci_shared.specs.Agree.{Agree, Agrees, AllAgree, AllStandFrom, StandsAt};
-ghost use Rattle.psci_shared.specs.Agree.{StandsFrom, all_apart, apart, apart_from, has_place};
+ghost use Rattle.psci_shared.specs.Agree.{Agree, Agrees, AllAgree, AllStandFrom, IsOf};
+ghost use Rattle.psci_shared.specs.Agree.{StandsAt, StandsFrom, all_apart, apart, apart_from, has_place};
 
 use crate::book::FwBook;
 use crate::entry::{FwEntry, FwItem};
@@ -60,11 +60,17 @@ fn stands_at(found: Option<&FwEntry>, core: Core, item: &FwItem) -> bool
     ensures { IsTrue result ↔ StandsAt (option_map (λ e. e.now) found.entry) core item.now }
 {
     match found {
-        Some(entry) => {
-            entry.core == core && entry.call == item.call && entry.reply == item.reply
-        }
+        Some(entry) => is_of(entry, core, item),
         None => false,
     }
+}
+
+fn is_of(entry: &FwEntry, core: Core, item: &FwItem) -> bool
+    ensures { IsTrue result ↔ IsOf entry.now core item.now }
+{
+    let same_call = entry.call == item.call;
+    let same_reply = entry.reply == item.reply;
+    entry.core == core && same_call && same_reply
 }
 
 fn all_apart<N: Named>(passes: &[Pass<N>]) -> bool

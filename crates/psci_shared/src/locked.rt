@@ -74,11 +74,11 @@ impl<N: Named> FwLocked<N> {
             rest: _,
         } = self;
         total.audit(&mut pass.share);
+        let place = book.len();
         if pass.items.len() == pass.room as usize {
             pass.told_full = true;
             return Err(BookFull);
         }
-        let place = book.len();
         let before = book.life();
         match book.step(ticket, pass.core, call.copy()) {
             Ok(reply) => {

@@ -212,6 +212,7 @@ impl<'t, N: Named> SharedFirmware<'t, N> {
 }
 
 /// What the lock of a new firmware guards.
+#[tactic(auto, using(crate::proofs::Written::written_first))]
 fn locked_of<N: Named>(book: FwBook<N>, writer: Writer, count: u16, blank: Blank) -> FwLocked<N>
     requires book { book.entries ≡ [] }
     requires name { blank.name ≡ N.name }
