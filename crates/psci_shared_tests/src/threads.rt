@@ -1,6 +1,5 @@
 //! Stories of two threads with a pass each.
 
-use crate::named::{Story, told};
 use crate::passes::{CPU_ON, FIRST, VERSION};
 use psci_fw::Code;
 use psci_shared::{Core, Named, Pass, SharedFirmware};
@@ -8,7 +7,6 @@ use std::alloc::Global;
 use std::sync::Wait;
 use std::thread;
 use std::thread::Threads;
-use std::test::*;
 
 /// Each thread makes so many calls, core 0 after it has entered; all are in the book, each in one
 /// pass.
@@ -101,21 +99,4 @@ fn polling<N: Named>(shared: &SharedFirmware<'_, N>, pass: Pass<N>) -> (Pass<N>,
         pending = code == Code(2);
     }
     (pass, true)
-}
-
-#[test]
-fn passes_call_and_are_gathered(rt: HostRuntime) -> Result<(), Fail> {
-    assert_eq!(&rt; told(&rt, rt.alloc(), Story::ThreeCalls), Some(true));
-    assert_eq!(&rt; told(&rt, rt.alloc(), Story::OneIsMissing), Some(true));
-    assert_eq!(&rt; told(&rt, rt.alloc(), Story::FullBooks), Some(true));
-    assert_eq!(&rt; told(&rt, rt.alloc(), Story::TooMany), Some(true));
-    assert_eq!(&rt; told(&rt, rt.alloc(), Story::Statuses), Some(true));
-    Ok(())
-}
-
-#[test]
-fn threads_call_and_poll(rt: HostRuntime) -> Result<(), Fail> {
-    assert_eq!(&rt; told(&rt, rt.alloc(), Story::TwoThreads(40)), Some(true));
-    assert_eq!(&rt; told(&rt, rt.alloc(), Story::Polled), Some(true));
-    Ok(())
 }
