@@ -1,5 +1,6 @@
 pub mod Ahead
 pub mod Beginning
+mod DeviceRows
 pub mod Ends
 pub mod Finding
 pub mod Finish
