@@ -159,7 +159,7 @@ unfolding start_of_life made_pending
 granted_pending = refl
 
 -- a core that is suspended or off takes no grant away, nor gives one
-granted_kept : (turned_off (suspended at_start 3 (2 ∷ 0 ∷ 0 ∷ 0 ∷ [])) 0).granted
+granted_kept : (turned_off (suspended at_start 3 (2 ∷ 0 ∷ 0 ∷ 0 ∷ [])) 1).granted
     ≡ at_start.granted
 unfolding start_of_life made_pending suspended turned_off
 granted_kept = refl
