@@ -42,7 +42,8 @@ record EntersOrResumes (b : BoardValue) (c : ℕ) (es : List FwExchange) : Type 
   pub adds : es ≡ entry ∷ []
   pub enters : effect b entry ≡ Enters c start
 
-enters_by : (c : ℕ) (s : Start) (act : Act) (m : Option MessageValue) → enters_or_resumes_by act ≡ true
+enters_by : (c : ℕ) (s : Start) (act : Act) (m : Option MessageValue)
+    → enters_or_resumes_by act ≡ true
     → enter_effect c s act m ≡ Enters c s
 enters_by c s (acts.Return code) m e = absurd (cc)
 enters_by c s acts.Stop m e = absurd (cc)
@@ -100,7 +101,8 @@ pub record Moves (b : BoardValue) (r : Record) (past : List Record) : Type 0 whe
   pub values : firmware_values b (r ∷ past) ≡ change b effect (firmware_values b past)
   pub says : IsOfRecord (controller_values b past) (acks past) effect
   -- a core that goes on enters by it
-  pub goes : (c : ℕ) → enters_or_resumes c r.event r.said ≡ true → (s : Start) × (effect ≡ Enters c s)
+  pub goes : (c : ℕ) → enters_or_resumes c r.event r.said ≡ true
+      → (s : Start) × (effect ≡ Enters c s)
 
 -- What the firmware's laws say of its histories.
 pub record FirmwareLaws (b : BoardValue) : Type 0 where
