@@ -1,4 +1,5 @@
-# Tests of `psci show`, sourced by ../test: runs in words, text for text, and as JSON.
+# Tests of `psci show` and `psci draw`, sourced by ../test: runs in words and pictures, text for text,
+# and as JSON.
 
 # show WORD..: tools/show over the built program, whose script is on standard input
 show() {
@@ -43,5 +44,21 @@ for line in list(sys.stdin)[1:]:
         cp "${file%.psci}.out" "$work/out"
         expect "show --json < $file" 0
         answers "show --json < $file"
+    done
+}
+
+# the pictures of docs/runs/, made again
+drawn() {
+    local file name
+    has_python drawn || return
+    for file in docs/runs/*.svg; do
+        name=$(basename "$file" .svg)
+        show --json < "examples/$name.psci"
+        tools/draw < "$work/out" > "$work/drawn" 2> "$work/err"
+        echo $? > "$work/got"
+        cp "$file" "$work/lines"
+        cp "$work/drawn" "$work/out"
+        expect "draw $name" 0
+        answers "draw $name"
     done
 }
