@@ -1,7 +1,0 @@
-pub mod Agree
-pub mod Books
-pub mod Gathers
-pub mod Inside
-pub mod Names
-pub mod Passes
-pub mod Writing
