@@ -1,5 +1,5 @@
-# Tests of `psci show` and `psci draw`, sourced by ../test: runs in words and pictures, text for text,
-# and as JSON.
+# Tests of `psci show`, `psci draw`, the completion and the manual page, sourced by ../test: runs in
+# words and pictures, text for text, and as JSON.
 
 # show WORD..: tools/show over the built program, whose script is on standard input
 show() {
@@ -21,6 +21,10 @@ shown() {
     cp tests/shown/three-levels-wide.txt "$work/lines"
     expect "show --width 120 --legend" 0
     answers "show --width 120 --legend"
+    show --width 60 < examples/three-levels.psci
+    cp tests/shown/three-levels-narrow.txt "$work/lines"
+    expect "show --width 60" 0
+    answers "show --width 60"
     shown_answers
     printf '%s\nenter 0' "$board" > "$work/script"
     show < "$work/script"
@@ -60,5 +64,35 @@ drawn() {
         cp "$work/drawn" "$work/out"
         expect "draw $name" 0
         answers "draw $name"
+    done
+}
+
+# the long options that the help of each command names
+options() {
+    { "$program" --help; "$program" storm --help; tools/show --help; } |
+        grep -oE -- '--[a-z]+' | sort -u
+}
+
+# bash completes commands and options, and the manual page has every option
+completed() {
+    local option line wanted
+    has_python completed || return
+    while IFS='|' read -r line wanted; do
+        bash -c '. completions/psci.bash; COMP_WORDS=($1); COMP_CWORD=$((${#COMP_WORDS[@]} - 1))
+            _psci; echo "${COMPREPLY[*]}"' bash "$line" > "$work/out"
+        echo "$wanted" > "$work/lines"
+        answers "completion of $line"
+    done << 'EOF'
+./psci s|storm show
+./psci storm --se|--seed --seeds
+./psci storm --seed 1 --co|--count --counts
+./psci show --color a|auto always
+./psci draw --|--help
+EOF
+    for option in $(options) --seeds --unproved; do
+        if grep -q -- "$option" completions/psci.bash &&
+            sed 's/\\-/-/g' docs/psci.1 | grep -q -- "$option"; then pass; else
+            fail "$option is not in completions/psci.bash, or not in docs/psci.1"
+        fi
     done
 }

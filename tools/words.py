@@ -1,5 +1,5 @@
-"""The words of `psci show`: the one table of functions, codes, states of cores, depths and messages,
-and the sentences made of them. A function that is added is named here."""
+"""The words of `psci show`: the one table of functions, codes, states of cores, depths and
+messages, and the sentences made of them. A function that is added is named here."""
 import os
 import sys
 
@@ -26,6 +26,7 @@ FUNCTIONS = {
                           lambda run, args: mode_words(args[0] % 2**32), {}),
     fw.SYSTEM_RESET2: ("SYSTEM_RESET2", lambda run, args: f"of type {args[0] % 2**32:#x}", {}),
 }
+assert set(fw.SUPPORTED) <= {word for words in FUNCTIONS for word in words}, "not named"
 CODES = {0: "SUCCESS", -1: "NOT_SUPPORTED", -2: "INVALID_PARAMETERS", -3: "DENIED",
          -4: "ALREADY_ON", -5: "ON_PENDING", -6: "INTERNAL_FAILURE", -7: "NOT_PRESENT",
          -8: "DISABLED", -9: "INVALID_ADDRESS"}

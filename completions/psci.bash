@@ -1,0 +1,31 @@
+# Completion of `psci` and `./psci` for bash:
+#   source completions/psci.bash
+
+_psci() {
+    local word=${COMP_WORDS[COMP_CWORD]} before=${COMP_WORDS[COMP_CWORD - 1]} command=
+    local at
+    for ((at = 1; at < COMP_CWORD; at++)); do
+        case ${COMP_WORDS[at]} in
+            replay | storm | show | draw | prove | help) command=${COMP_WORDS[at]}; break ;;
+        esac
+    done
+    COMPREPLY=()
+    case $before in
+        --keep) mapfile -t COMPREPLY < <(compgen -f -- "$word"); return ;;
+        --color) mapfile -t COMPREPLY < <(compgen -W "auto always never" -- "$word"); return ;;
+        --board | --seed | --seeds | --count | --width) return ;;
+        \< | \>) mapfile -t COMPREPLY < <(compgen -f -- "$word"); return ;;
+    esac
+    case $command in
+        "") mapfile -t COMPREPLY < <(compgen -W \
+            "replay storm show draw prove help --unproved --help --version" -- "$word") ;;
+        storm) mapfile -t COMPREPLY < <(compgen -W \
+            "--board --seed --seeds --count --counts --keep --help" -- "$word") ;;
+        show) mapfile -t COMPREPLY < <(compgen -W \
+            "--json --legend --width --color --help" -- "$word") ;;
+        help) mapfile -t COMPREPLY < <(compgen -W "replay storm" -- "$word") ;;
+        replay | draw) mapfile -t COMPREPLY < <(compgen -W "--help" -- "$word") ;;
+    esac
+}
+
+complete -F _psci psci ./psci
