@@ -8,6 +8,7 @@ use crate::book::FwBook;
 use crate::entry::{FwEntry, FwItem};
 use crate::named::Named;
 use crate::pass::Pass;
+use crate::same::{is_same_call, is_same_reply};
 use psci_status::Core;
 
 /// Whether the passes agree with the book, and no two have one place.
@@ -68,8 +69,8 @@ fn stands_at(found: Option<&FwEntry>, core: Core, item: &FwItem) -> bool
 fn is_of(entry: &FwEntry, core: Core, item: &FwItem) -> bool
     ensures { IsTrue result ↔ IsOf entry.now core item.now }
 {
-    let same_call = entry.call == item.call;
-    let same_reply = entry.reply == item.reply;
+    let same_call = is_same_call(&entry.call, &item.call);
+    let same_reply = is_same_reply(&entry.reply, &item.reply);
     entry.core == core && same_call && same_reply
 }
 

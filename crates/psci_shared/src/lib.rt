@@ -17,6 +17,7 @@ mod gather;
 mod locked;
 mod named;
 mod pass;
+mod same;
 mod shared;
 mod tickets;
 mod writing;
