@@ -38,7 +38,8 @@ fn is_same_outcome(one: &Outcome, other: &Outcome) -> bool
     one.act == other.act && same_message
 }
 
-fn is_same_message(one: &Message, other: &Message) -> bool
+/// Whether two messages are the same in kind, core, life, number and parts.
+pub fn is_same_message(one: &Message, other: &Message) -> bool
     ensures { IsTrue result ↔ one.now ≡ other.now }
 {
     let same_parts = is_same_parts(one.parts.as_slice(), other.parts.as_slice());

@@ -3,6 +3,7 @@
 ghost use Rattle.std.specs.Prelude.{◌≡◌, ◌↔◌, IsTrue};
 
 use psci_ctl::{CtlCall, CtlReply};
+use psci_shared::is_same_message;
 
 /// A call of the power controller, as its book keeps it.
 #[derive(Drop)]
@@ -31,7 +32,7 @@ pub(crate) fn is_same_call(one: &CtlCall, other: &CtlCall) -> bool
     ensures { IsTrue result ↔ one.now ≡ other.now }
 {
     match (one, other) {
-        (CtlCall::Deliver(message), CtlCall::Deliver(other)) => message == other,
+        (CtlCall::Deliver(message), CtlCall::Deliver(other)) => is_same_message(message, other),
         (CtlCall::Wake(core, halted), CtlCall::Wake(other, number)) => {
             core == other && halted == number
         }
