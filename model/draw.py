@@ -8,7 +8,8 @@ from script import World, answer
 # each function by its words, and how often it is drawn
 FUNCTIONS = {
     fw.VERSION: 1, fw.CPU_SUSPEND: 6, fw.CPU_ON: 9, fw.AFFINITY_INFO: 5, fw.MIGRATE_INFO_TYPE: 1,
-    fw.FEATURES: 2, fw.SYSTEM_SUSPEND: 2, fw.SET_SUSPEND_MODE: 3, fw.SYSTEM_RESET2: 1,
+    fw.FEATURES: 2, fw.NODE_HW_STATE: 5, fw.SYSTEM_SUSPEND: 2, fw.SET_SUSPEND_MODE: 3,
+    fw.SYSTEM_RESET2: 1,
 }
 # what ends a life, or nearly
 LAST = (fw.CPU_OFF, fw.CPU_OFF, fw.SYSTEM_OFF, fw.SYSTEM_RESET, fw.SYSTEM_RESET, fw.SYSTEM_RESET,
@@ -16,9 +17,9 @@ LAST = (fw.CPU_OFF, fw.CPU_OFF, fw.SYSTEM_OFF, fw.SYSTEM_RESET, fw.SYSTEM_RESET,
 EVERY = tuple(dict.fromkeys((*FUNCTIONS, *LAST)))
 assert set(fw.SUPPORTED) <= {word for words in EVERY for word in words}, "not drawn"
 # functions that are left out, words of a width that a function lacks, and other services
-OTHERS = (0x84000005, 0x84000007, 0x8400000B, 0x8400000C, 0x8400000D, 0x84000010, 0x84000011,
+OTHERS = (0x84000005, 0x84000007, 0x8400000B, 0x8400000C, 0x84000010, 0x84000011,
           0x84000013, 0x84000014, 0x80000000, 0x04000003, 0xC4000000, 0xC4000002, 0xC4000006,
-          0xC4000008, 0xC4000009, 0xC400000A, 0xC400000D, 0xC400000F, 0xC4000013)
+          0xC4000008, 0xC4000009, 0xC400000A, 0xC400000F, 0xC4000013)
 # what is changed in a power state: depths, the state type, the power level, bits that are zero
 CHANGES = (1, 2, 3, 4, 16, 32, 48, 0x100, 0x200, 0x1000, 1 << 16, 1 << 24, 2 << 24,
            1 << 17, 1 << 23, 1 << 26, 1 << 27, 1 << 28, 1 << 30, 1 << 31)
@@ -103,7 +104,7 @@ class Draw(random.Random):
         """The arguments of a function, some faulty, and some with bits that are not looked at."""
         if words == fw.CPU_ON:
             regs = [self.affinity(world), self.entry(), self.getrandbits(self.choice((8, 64)))]
-        elif words == fw.AFFINITY_INFO:
+        elif words in (fw.AFFINITY_INFO, fw.NODE_HW_STATE):
             regs = [self.affinity(world), self.choice((0, 0, 1, 1, 1, 2, 3, 4)), 0]
         elif words == fw.CPU_SUSPEND:
             state = self.power_state(world.board)

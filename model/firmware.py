@@ -21,6 +21,7 @@ Outcome = namedtuple("Outcome", "act values message")
 NOT_SUPPORTED, INVALID_PARAMETERS, DENIED, ALREADY_ON, ON_PENDING = -1, -2, -3, -4, -5
 INTERNAL_FAILURE, INVALID_ADDRESS = -6, -9
 ON, OFF, PENDING = 0, 1, 2
+HW_ON, HW_OFF, HW_STANDBY = 0, 1, 2
 PLATFORM, OS_INITIATED = 0, 1
 SMC64 = 1 << 30
 SYSTEM = "system"
@@ -30,10 +31,10 @@ CPU_SUSPEND, CPU_OFF = (0x84000001, 0xC4000001), (0x84000002,)
 CPU_ON, AFFINITY_INFO = (0x84000003, 0xC4000003), (0x84000004, 0xC4000004)
 SYSTEM_OFF, SYSTEM_RESET = (0x84000008,), (0x84000009,)
 SYSTEM_SUSPEND, SET_SUSPEND_MODE = (0x8400000E, 0xC400000E), (0x8400000F,)
-SYSTEM_RESET2 = (0x84000012, 0xC4000012)
+NODE_HW_STATE, SYSTEM_RESET2 = (0x8400000D, 0xC400000D), (0x84000012, 0xC4000012)
 SUPPORTED = (VERSION + CPU_SUSPEND + CPU_OFF + CPU_ON + AFFINITY_INFO + MIGRATE_INFO_TYPE
-             + SYSTEM_OFF + SYSTEM_RESET + FEATURES + SYSTEM_SUSPEND + SET_SUSPEND_MODE
-             + SYSTEM_RESET2)
+             + SYSTEM_OFF + SYSTEM_RESET + FEATURES + NODE_HW_STATE + SYSTEM_SUSPEND
+             + SET_SUSPEND_MODE + SYSTEM_RESET2)
 
 
 def depths_of(word, board):
@@ -64,6 +65,9 @@ class Firmware:
         # "running", the depths of the suspend that the core stopped in, or "away"
         self.last = ["away" for _ in cores]
         self.granted = {node: 0 if node in path else 3 for node in self.board.nodes}
+        # the Down that last claimed a domain, and the domains whose last claim was carried out
+        self.claim = {}
+        self.confirmed = {node for node in self.board.nodes if node not in path}
         self.slots = {}
 
     def phase(self, core):
@@ -99,7 +103,11 @@ class Firmware:
                 break
             parts.append((node[0], depth, sum(self.known[it] for it in self.board.below(node))))
             self.granted[node] = depth
-        return Outcome("stop", (), self.send("down", core, parts))
+        message = self.send("down", core, parts)
+        for node in self.board.path(core)[:len(parts)]:
+            self.claim[node] = message
+            self.confirmed.discard(node)
+        return Outcome("stop", (), message)
 
     def claimed(self, node, last):
         """What a core that stops asks of a domain of its path."""
@@ -113,6 +121,8 @@ class Firmware:
     def disturb(self, core):
         for node in self.board.path(core):
             self.granted[node] = 0
+            self.claim[node] = None
+            self.confirmed.discard(node)
 
     # ---- calls
 
@@ -132,6 +142,7 @@ class Firmware:
             FEATURES: lambda: self.features(x1 % 2**32),
             CPU_ON: lambda: self.cpu_on(x1, x2, x3),
             AFFINITY_INFO: lambda: self.affinity_info(x1, x2 % 2**32),
+            NODE_HW_STATE: lambda: self.node_hw_state(x1, x2 % 2**32),
             CPU_SUSPEND: lambda: self.cpu_suspend(core, x1 % 2**32, x2, x3),
             CPU_OFF: lambda: self.stop(core, "away"),
             SYSTEM_SUSPEND: lambda: self.system_suspend(core, x1, x2),
@@ -168,6 +179,17 @@ class Firmware:
         if not found:
             return INVALID_PARAMETERS
         return ON if ON in found else PENDING if PENDING in found else OFF
+
+    def node_hw_state(self, target, level):
+        below = self.board.named(target, level)
+        if not below:
+            return INVALID_PARAMETERS
+        return self.hw(self.board.path(below[0])[level])
+
+    def hw(self, node):
+        if node not in self.confirmed:
+            return HW_ON
+        return HW_OFF if self.granted[node] == 3 else HW_STANDBY
 
     def cpu_suspend(self, core, word, entry, context):
         depths = depths_of(word, self.board)
@@ -254,6 +276,9 @@ class Firmware:
             return "old"
         if ack.kind == "down" and ack.applied >= 1 and self.phase(ack.core) == "away":
             self.status[ack.core] = OFF
+        if ack.kind == "down":
+            path = self.board.path(ack.core)[:ack.applied]
+            self.confirmed |= {node for node in path if self.claim.get(node) is held}
         if ack.kind != "down" or ack.stale or ack.applied >= len(held.parts):
             del self.slots[slot]
         return "used"

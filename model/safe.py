@@ -20,7 +20,7 @@ class Watched(World):
 
     def __init__(self, board):
         super().__init__(board)
-        self.claims, self.openings, self.slept = [], [], set()
+        self.claims, self.openings, self.slept, self.was = [], [], set(), set()
         self.begun = 0
         self.look()
 
@@ -107,6 +107,20 @@ class Watched(World):
                     raise Unsafe(f"1: core {core} is said to be OFF, and did not sleep")
         if controller.life is not None:
             self.look_at_domains()
+        self.look_at_states()
+
+    def look_at_states(self):
+        controller, firmware = self.controller, self.firmware
+        total = lambda numbers, node: sum(numbers[core] for core in self.board.below(node))
+        if controller.life is not None:
+            self.was |= {(controller.life, node, total(controller.starts, node), depth)
+                         for node, depth in controller.depth.items() if depth}
+        for node in self.board.nodes if firmware.life else ():
+            state = firmware.hw(node)
+            depths = {fw.HW_ON: (), fw.HW_OFF: (3,), fw.HW_STANDBY: (1, 2)}[state]
+            known = total(firmware.known, node)
+            if depths and not any((firmware.life, node, known, it) in self.was for it in depths):
+                raise Unsafe(f"5: domain {node} is said to be in state {state}, and never was")
 
     def look_at_domains(self):
         for node in self.board.nodes:

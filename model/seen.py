@@ -19,6 +19,7 @@ STOPS = "stops without a message"
 NAMES = {
     fw.VERSION: "PSCI_VERSION", fw.CPU_SUSPEND: "CPU_SUSPEND", fw.CPU_OFF: "CPU_OFF",
     fw.CPU_ON: "CPU_ON", fw.AFFINITY_INFO: "AFFINITY_INFO", fw.FEATURES: "PSCI_FEATURES",
+    fw.NODE_HW_STATE: "NODE_HW_STATE",
     fw.MIGRATE_INFO_TYPE: "MIGRATE_INFO_TYPE", fw.SYSTEM_OFF: "SYSTEM_OFF",
     fw.SYSTEM_RESET: "SYSTEM_RESET", fw.SYSTEM_RESET2: "SYSTEM_RESET2",
     fw.SYSTEM_SUSPEND: "SYSTEM_SUSPEND", fw.SET_SUSPEND_MODE: "PSCI_SET_SUSPEND_MODE",
@@ -30,6 +31,8 @@ ANSWERS = {
     OTHER: ("-1",),
     "CPU_ON": ("-2", "-9", "-4", "-5", "-6", "start"),
     "AFFINITY_INFO": tuple(f"{code} of a {what}" for what in ("core", "domain")
+                           for code in (-2, 0, 1, 2)),
+    "NODE_HW_STATE": tuple(f"{code} of a {what}" for what in ("core", "domain")
                            for code in (-2, 0, 1, 2)),
     "CPU_SUSPEND": ("-2 faulty", "-9", "0", "down 1", "down 2", "down 3"),
     "CPU_OFF": ("down",), "SYSTEM_OFF": ("off",), "SYSTEM_RESET": ("reset",),
@@ -85,7 +88,7 @@ class Counted(World):
         said = words[1] if words[0] == "return" else words[2]
         if name == "CPU_ON":
             return "start" if "start" in words else said
-        if name == "AFFINITY_INFO":
+        if name in ("AFFINITY_INFO", "NODE_HW_STATE"):
             return f"{said} of a {'domain' if regs[2] % 2**32 else 'core'}"
         if name == "PSCI_SET_SUSPEND_MODE" and said == "0":
             return "0 as before" if self.firmware.mode == mode else "0 changed"

@@ -59,6 +59,12 @@ system_reset = refl
 features : original 0x8400000a ≡ pos 0
 features = refl
 
+narrow_node_hw_state : original 0x8400000d ≡ pos 0
+narrow_node_hw_state = refl
+
+wide_node_hw_state : original 0xc400000d ≡ pos 0
+wide_node_hw_state = refl
+
 narrow_system_suspend : original 0x8400000e ≡ pos 0
 narrow_system_suspend = refl
 
@@ -81,9 +87,6 @@ wide_cpu_off = refl
 
 migrate : original 0x84000005 ≡ negsuc 0
 migrate = refl
-
-node_hw_state : original 0x8400000d ≡ negsuc 0
-node_hw_state = refl
 
 mem_protect : original 0x84000013 ≡ negsuc 0
 mem_protect = refl
@@ -112,6 +115,9 @@ yielding_cpu_on = refl
 extended_features : extended 0x8400000a ≡ pos 0
 extended_features = refl
 
+extended_node_hw_state : extended 0xc400000d ≡ pos 0
+extended_node_hw_state = refl
+
 extended_system_reset2 : extended 0xc4000012 ≡ pos 0
 extended_system_reset2 = refl
 
@@ -120,12 +126,13 @@ extended_mem_protect = refl
 
 -- All words -----------------------------------------------------------------------------------
 
--- No word but these seventeen is supported.
+-- No word but these nineteen is supported.
 these_words : (word : ℕ) → is_supported word ≡ (word == 0x84000000 || word == 0x84000001
     || word == 0xc4000001 || word == 0x84000002 || word == 0x84000003 || word == 0xc4000003
     || word == 0x84000004 || word == 0xc4000004 || word == 0x84000006 || word == 0x84000008
-    || word == 0x84000009 || word == 0x8400000a || word == 0x8400000e || word == 0xc400000e
-    || word == 0x8400000f || word == 0x84000012 || word == 0xc4000012)
+    || word == 0x84000009 || word == 0x8400000a || word == 0x8400000d || word == 0xc400000d
+    || word == 0x8400000e || word == 0xc400000e || word == 0x8400000f || word == 0x84000012
+    || word == 0xc4000012)
 these_words word = grind arith
 
 -- The format decides one flag of CPU_SUSPEND, and nothing else.

@@ -6,7 +6,7 @@ use Rattle.psci_abi.specs.declared.request.Request.TheVariants.{Version, CpuSusp
 use Rattle.psci_abi.specs.declared.request.Request.TheVariants.{AffinityInfo, MigrateInfoType}
 use Rattle.psci_abi.specs.declared.request.Request.TheVariants.{SystemOff, SystemReset, Features}
 use Rattle.psci_abi.specs.declared.request.Request.TheVariants.{SystemSuspend, SetSuspendMode}
-use Rattle.psci_abi.specs.declared.request.Request.TheVariants.{SystemReset2, Unknown}
+use Rattle.psci_abi.specs.declared.request.Request.TheVariants.{NodeHwState, SystemReset2, Unknown}
 use Rattle.psci_abi.specs.Calls.{request_of}
 
 abbrev regs : ℕ → ℕ → ℕ → ℕ → Regs
@@ -53,6 +53,12 @@ system_reset = refl
 
 features : call 0x8400000a ≡ Features 0x101
 features = refl
+
+narrow_node_hw_state : call 0x8400000d ≡ NodeHwState 0x101 0x40001000
+narrow_node_hw_state = refl
+
+wide_node_hw_state : call 0xc400000d ≡ NodeHwState 0xdead000000000101 0x40001000
+wide_node_hw_state = refl
 
 narrow_system_suspend : call 0x8400000e ≡ SystemSuspend 0x101 0x40001000
 narrow_system_suspend = refl
@@ -178,12 +184,6 @@ migrate = refl
 
 mem_protect : call 0x84000013 ≡ Unknown
 mem_protect = refl
-
-node_hw_state : call 0x8400000d ≡ Unknown
-node_hw_state = refl
-
-wide_node_hw_state : call 0xc400000d ≡ Unknown
-wide_node_hw_state = refl
 
 wide_mem_protect : call 0xc4000013 ≡ Unknown
 wide_mem_protect = refl

@@ -11,8 +11,9 @@ use Rattle.psci_abi.specs.declared.request.Request.{Request}
 use Rattle.psci_abi.specs.declared.request.Request.TheVariants.{Version, CpuSuspend, CpuOff, CpuOn}
 use Rattle.psci_abi.specs.declared.request.Request.TheVariants.{AffinityInfo, MigrateInfoType}
 use Rattle.psci_abi.specs.declared.request.Request.TheVariants.{SystemOff, SystemReset, Features}
-use Rattle.psci_abi.specs.declared.request.Request.TheVariants.{SystemSuspend, SetSuspendMode}
-use Rattle.psci_abi.specs.declared.request.Request.TheVariants.{SystemReset2, Unknown}
+use Rattle.psci_abi.specs.declared.request.Request.TheVariants.{NodeHwState, SystemSuspend}
+use Rattle.psci_abi.specs.declared.request.Request.TheVariants.{SetSuspendMode, SystemReset2}
+use Rattle.psci_abi.specs.declared.request.Request.TheVariants.{Unknown}
 
 -- the low half of a register, or of an argument: the function word, and what has 32 bits
 abbrev pub low_half : ℕ → ℕ
@@ -40,10 +41,11 @@ function_of word x1 x2 x3 =
     else (if word == 0x84000008 then SystemOff
     else (if word == 0x84000009 then SystemReset
     else (if word == 0x8400000A then Features (low_half x1)
+    else (if word == 0x8400000D || word == 0xC400000D then NodeHwState x1 (low_half x2)
     else (if word == 0x8400000E || word == 0xC400000E then SystemSuspend x1 x2
     else (if word == 0x8400000F then SetSuspendMode (low_half x1)
     else (if word == 0x84000012 || word == 0xC4000012 then SystemReset2 (low_half x1) x2
-    else Unknown))))))))))))
+    else Unknown)))))))))))))
 
 -- the function that registers call, and its arguments
 abbrev pub request_of : Regs → Request
@@ -60,6 +62,7 @@ is_known MigrateInfoType = true
 is_known SystemOff = true
 is_known SystemReset = true
 is_known (Features word) = true
+is_known (NodeHwState target level) = true
 is_known (SystemSuspend entry context) = true
 is_known (SetSuspendMode mode) = true
 is_known (SystemReset2 reset_type cookie) = true

@@ -6,9 +6,9 @@ ghost use Rattle.psci_abi.specs.Calls.{function_of, request_of};
 use crate::registers::{Regs, low};
 use crate::words::{
     AFFINITY_INFO_32, AFFINITY_INFO_64, CPU_OFF, CPU_ON_32, CPU_ON_64, CPU_SUSPEND_32,
-    CPU_SUSPEND_64, MIGRATE_INFO_TYPE, PSCI_FEATURES, PSCI_SET_SUSPEND_MODE, PSCI_VERSION,
-    SYSTEM_OFF, SYSTEM_RESET, SYSTEM_RESET2_32, SYSTEM_RESET2_64, SYSTEM_SUSPEND_32,
-    SYSTEM_SUSPEND_64,
+    CPU_SUSPEND_64, MIGRATE_INFO_TYPE, NODE_HW_STATE_32, NODE_HW_STATE_64, PSCI_FEATURES,
+    PSCI_SET_SUSPEND_MODE, PSCI_VERSION, SYSTEM_OFF, SYSTEM_RESET, SYSTEM_RESET2_32,
+    SYSTEM_RESET2_64, SYSTEM_SUSPEND_32, SYSTEM_SUSPEND_64,
 };
 
 /// A function with its arguments, each cut to its width, so that no later code sees a register.
@@ -57,6 +57,13 @@ pub enum Request {
     Features {
         /// The function word that is asked about.
         word: u32,
+    },
+    /// NODE_HW_STATE: the state of the hardware of a power domain.
+    NodeHwState {
+        /// An affinity word; fields below the level are ignored.
+        target: u64,
+        /// The level of the power domain, 0 for a core.
+        level: u32,
     },
     /// SYSTEM_SUSPEND: the caller, the last core that is not off, takes the system down with it.
     SystemSuspend {
@@ -111,6 +118,13 @@ impl Request {
         Request::AffinityInfo { target, level }
     }
 
+    /// NODE_HW_STATE with these arguments.
+    fn node_hw_state(target: u64, level: u32) -> Request
+        ensures { result ≡ Request.NodeHwState target level }
+    {
+        Request::NodeHwState { target, level }
+    }
+
     /// SYSTEM_SUSPEND with these arguments.
     fn system_suspend(entry: u64, context: u64) -> Request
         ensures { result ≡ Request.SystemSuspend entry context }
@@ -148,6 +162,7 @@ pub fn function(word: u32, x1: u64, x2: u64, x3: u64) -> Request
         SYSTEM_OFF => Request::SystemOff,
         SYSTEM_RESET => Request::SystemReset,
         PSCI_FEATURES => Request::Features { word: low(x1) },
+        NODE_HW_STATE_32 | NODE_HW_STATE_64 => Request::node_hw_state(x1, low(x2)),
         SYSTEM_SUSPEND_32 | SYSTEM_SUSPEND_64 => Request::system_suspend(x1, x2),
         PSCI_SET_SUSPEND_MODE => Request::SetSuspendMode { mode: low(x1) },
         SYSTEM_RESET2_32 | SYSTEM_RESET2_64 => Request::system_reset2(low(x1), x2),

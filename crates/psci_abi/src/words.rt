@@ -36,6 +36,12 @@ pub const SYSTEM_RESET: u32 = 0x8400_0009;
 /// PSCI_FEATURES.
 pub const PSCI_FEATURES: u32 = 0x8400_000A;
 
+/// NODE_HW_STATE in the SMC32 convention.
+pub const NODE_HW_STATE_32: u32 = 0x8400_000D;
+
+/// NODE_HW_STATE in the SMC64 convention.
+pub const NODE_HW_STATE_64: u32 = 0xC400_000D;
+
 /// SYSTEM_SUSPEND in the SMC32 convention.
 pub const SYSTEM_SUSPEND_32: u32 = 0x8400_000E;
 

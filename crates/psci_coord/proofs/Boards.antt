@@ -44,7 +44,12 @@ off known = record { activity = Off; known = known }
 
 -- a tree of a board with these cores, and granted depths by level and place
 abbrev pub seen : BoardValue → List CoreState → List (List ℕ) → PowerView
-seen b cores granted = view_of (record { levels = b.levels; cores = cores; granted = granted })
+seen b cores granted = view_of (record {
+  levels = b.levels;
+  cores = cores;
+  granted = granted;
+  confirmed = granted;
+})
 
 abbrev pub part : ℕ → ℕ → ℕ → Part
 part level depth generation = record { level = level; depth = depth; generation = generation }

@@ -26,7 +26,7 @@ impl Model for Parts {
     ghost inverse = { λ parts. record { parts = record { items = parts } } };
 }
 
-ghost use Rattle.std.specs.Prelude.{◌≡◌, ◌<◌, ◌≤◌, ◌++◌, ◌∷◌, [], ◌↔◌, IsTrue, length};
+ghost use Rattle.std.specs.Prelude.{◌≡◌, ◌<◌, ◌≤◌, ◌++◌, ◌∷◌, [], ◌↔◌, IsTrue, length, take};
 
 impl Parts {
     /// No parts.
@@ -70,6 +70,15 @@ impl Parts {
             parts.push(*part);
         }
         Parts { parts }
+    }
+
+    /// The first of these parts, so many where there are as many.
+    pub fn first(&self, count: usize) -> Parts
+        ensures { result ≡ take count self.now }
+    {
+        let mut first = self.copy();
+        first.parts.truncate(count);
+        first
     }
 }
 

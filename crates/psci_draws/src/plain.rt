@@ -74,7 +74,7 @@ impl Draws {
 
     /// Any request that does not end the life.
     fn request(&mut self, board: &Board) -> Request {
-        match self.below(11) {
+        match self.below(12) {
             0 => Request::Version,
             1 => Request::MigrateInfoType,
             2 => Request::Unknown,
@@ -85,6 +85,7 @@ impl Draws {
             7 => self.system_suspend(board),
             8 => self.suspend(board),
             9 => self.other_reset(),
+            10 => self.node_hw_state(board),
             _ => self.power_on(board),
         }
     }
@@ -106,6 +107,14 @@ impl Draws {
     /// An AFFINITY_INFO, good or bad.
     fn affinity_info(&mut self, board: &Board) -> Request {
         Request::AffinityInfo {
+            target: self.target(board),
+            level: self.below(5),
+        }
+    }
+
+    /// A NODE_HW_STATE, good or bad.
+    fn node_hw_state(&mut self, board: &Board) -> Request {
+        Request::NodeHwState {
             target: self.target(board),
             level: self.below(5),
         }

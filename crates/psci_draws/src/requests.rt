@@ -2,9 +2,9 @@
 
 use psci_abi::words::{
     AFFINITY_INFO_32, AFFINITY_INFO_64, CPU_OFF, CPU_ON_32, CPU_ON_64, CPU_SUSPEND_32,
-    CPU_SUSPEND_64, MIGRATE_INFO_TYPE, PSCI_FEATURES, PSCI_SET_SUSPEND_MODE, PSCI_VERSION,
-    SYSTEM_OFF, SYSTEM_RESET, SYSTEM_RESET2_32, SYSTEM_RESET2_64, SYSTEM_SUSPEND_32,
-    SYSTEM_SUSPEND_64,
+    CPU_SUSPEND_64, MIGRATE_INFO_TYPE, NODE_HW_STATE_32, NODE_HW_STATE_64, PSCI_FEATURES,
+    PSCI_SET_SUSPEND_MODE, PSCI_VERSION, SYSTEM_OFF, SYSTEM_RESET, SYSTEM_RESET2_32,
+    SYSTEM_RESET2_64, SYSTEM_SUSPEND_32, SYSTEM_SUSPEND_64,
 };
 use psci_abi::{Regs, Request};
 
@@ -23,6 +23,7 @@ fn narrow_word(request: Request) -> u32 {
         Request::SystemOff => SYSTEM_OFF,
         Request::SystemReset => SYSTEM_RESET,
         Request::Features { .. } => PSCI_FEATURES,
+        Request::NodeHwState { .. } => NODE_HW_STATE_32,
         Request::SystemSuspend { .. } => SYSTEM_SUSPEND_32,
         Request::SetSuspendMode { .. } => PSCI_SET_SUSPEND_MODE,
         Request::SystemReset2 { .. } => SYSTEM_RESET2_32,
@@ -36,6 +37,7 @@ fn wide_word(request: Request) -> Option<u32> {
         Request::CpuSuspend { .. } => Some(CPU_SUSPEND_64),
         Request::CpuOn { .. } => Some(CPU_ON_64),
         Request::AffinityInfo { .. } => Some(AFFINITY_INFO_64),
+        Request::NodeHwState { .. } => Some(NODE_HW_STATE_64),
         Request::SystemSuspend { .. } => Some(SYSTEM_SUSPEND_64),
         Request::SystemReset2 { .. } => Some(SYSTEM_RESET2_64),
         Request::Version
@@ -62,7 +64,9 @@ fn arguments(request: Request) -> [u64; 3] {
             entry,
             context,
         } => [target, entry, context],
-        Request::AffinityInfo { target, level } => [target, u64::from(level), 0],
+        Request::AffinityInfo { target, level } | Request::NodeHwState { target, level } => {
+            [target, u64::from(level), 0]
+        }
         Request::SystemSuspend { entry, context } => [entry, context, 0],
         Request::Features { word } => [u64::from(word), 0, 0],
         Request::SetSuspendMode { mode } => [u64::from(mode), 0, 0],

@@ -72,6 +72,7 @@ rest_away v c = same_values _ _ (record {
   phase = λ k. refl;
   opening = updated_same v.opening c (option_or None (v.opening c)) refl;
   granted = λ l p. refl;
+  confirmed = λ l p. refl;
   outstanding = λ slot. refl;
 })
 
@@ -111,6 +112,7 @@ goes_on v c e = same_values _ _ (record {
       (ap (λ (p : Phase). unless_pending p Running) e ∙ sym e) k);
   opening = λ k. refl;
   granted = λ l p. refl;
+  confirmed = λ l p. refl;
   outstanding = λ slot. refl;
 })
 

@@ -13,7 +13,6 @@ use Rattle.psci_coord.specs.Claim.{least_wish, platform_claims}
 use Rattle.psci_coord.specs.Laws.{ClaimLaws, LastCoreLaws}
 use Rattle.psci_coord.specs.View.{PowerView}
 use Rattle.psci_link.specs.declared.kind.Kind.TheVariants.{Down}
-use Rattle.psci_link.specs.Message.{MessageValue}
 use Rattle.psci_state.specs.Ask.{deepest_of, is_deep}
 use Rattle.psci_fw_spec.specs.declared.mode.SuspendMode.{SuspendMode}
 use Rattle.psci_fw_spec.specs.declared.mode.SuspendMode.TheVariants.{Platform, OsInitiated}

@@ -2,7 +2,9 @@
 use Rattle.std.specs.Prelude.{ℕ, ◌==◌, Option, None, Some, if◌then◌else◌}
 use Rattle.psci_board.specs.Board.{IsBoard}
 use Rattle.psci_board.specs.declared.node.Node.{Node}
+use Rattle.psci_fw_spec.specs.declared.hw.Hw.{Hw}
 use Rattle.psci_fw_spec.specs.declared.status.Status.{Status}
+use Rattle.psci_fw_spec.specs.NodeHwState.{node_hw}
 use Rattle.psci_fw_spec.specs.AffinityInfo.{node_status}
 use Rattle.psci_fw_spec.specs.Invariant.{AreValues}
 use Rattle.psci_fw_spec.specs.Values.{Values}
@@ -29,3 +31,7 @@ life_shown life = if life == 0 then None else Some life
 abbrev pub status_shown : FirmwareValue → Node → Option Status
 status_shown f n =
     if (seen f).life == 0 then None else Some (node_status f.board (seen f).status n)
+
+-- the hardware state of a node, None before any core has entered
+abbrev pub hw_shown : FirmwareValue → Node → Option Hw
+hw_shown f n = if (seen f).life == 0 then None else Some (node_hw (seen f) n)

@@ -2,7 +2,7 @@
 
 use psci_abi::{Regs, read};
 use psci_board::{Board, Core, Memory, Node};
-use psci_fw_spec::{FwFault, Outcome, Start, Status};
+use psci_fw_spec::{FwFault, Hw, Outcome, Start, Status};
 use psci_fw_state::State;
 use psci_link::{Ack, Message, Taken};
 use std::alloc::Global;
@@ -31,7 +31,7 @@ ghost use Rattle.psci_fw_spec.specs.After.{after};
 ghost use Rattle.psci_fw_spec.specs.Answer.{answer, reply_of};
 ghost use Rattle.psci_fw_spec.specs.Lives.{start_of_life};
 ghost use Rattle.psci_fw_spec.specs.Phases.{is_running};
-ghost use Rattle.psci_fw.specs.Seen.{life_shown, seen, status_shown};
+ghost use Rattle.psci_fw.specs.Seen.{hw_shown, life_shown, seen, status_shown};
 ghost use Rattle.psci_fw_state.specs.Seen.{message_shown};
 
 use crate::entering::{check_start, enter};
@@ -128,6 +128,14 @@ impl Firmware {
         ensures { result ≡ (seen self.now).granted node.level node.place }
     {
         self.state.granted(node)
+    }
+
+    /// The hardware state of a power domain, as far as the power controller has confirmed it; None
+    /// before any core has entered. A node that the board does not have is on.
+    pub fn hw(&self, node: Node) -> Option<Hw>
+        ensures { result ≡ hw_shown self.now node }
+    {
+        (self.state.life() != 0).then(|| self.state.hw(node))
     }
 
     /// The known start of a core: the number of the last start by which it entered in this life, or

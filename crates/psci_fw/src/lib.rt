@@ -10,6 +10,7 @@
 mod affinity;
 mod entering;
 mod firmware;
+mod hw;
 mod laws;
 mod mode;
 mod off;
@@ -22,7 +23,7 @@ pub use firmware::Firmware;
 pub use psci_abi::{Code, Regs};
 pub use psci_board::law_sizes;
 pub use psci_fw_spec::{
-    Act, Cause, FwCall, FwFault, FwReply, Opening, Outcome, Start, Status, SuspendMode, law_caller,
-    law_first_start, law_power_on, law_values,
+    Act, Cause, FwCall, FwFault, FwReply, Hw, Opening, Outcome, Start, Status, SuspendMode,
+    law_caller, law_first_start, law_power_on, law_values,
 };
 pub use psci_link::Taken;

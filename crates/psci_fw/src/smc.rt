@@ -12,6 +12,7 @@ ghost use Rattle.psci_fw.specs.Calls.{FunctionAnswered, MayCall};
 ghost use Rattle.psci_fw_state.specs.Seen.{values_in};
 
 use crate::affinity::affinity_info;
+use crate::hw::node_hw_state;
 use crate::mode::set_suspend_mode;
 use crate::off::cpu_off;
 use crate::on::cpu_on;
@@ -95,6 +96,9 @@ fn function(state: &mut State, caller: Core, request: Request) -> Outcome
         Request::Version => Outcome::returns(VERSION),
         Request::AffinityInfo { target, level } => {
             Outcome::returns(affinity_info(state, target, level))
+        }
+        Request::NodeHwState { target, level } => {
+            Outcome::returns(node_hw_state(state, target, level))
         }
         Request::MigrateInfoType => Outcome::returns(NO_MIGRATION),
         Request::Features { word } => Outcome::returns(feature_code(state.board(), word)),

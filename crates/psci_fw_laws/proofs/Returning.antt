@@ -38,6 +38,7 @@ returned b v c (requests.CpuSuspend state entry_point context) code calls are = 
 returned b v c requests.CpuOff code calls are = calls
 returned b v c (requests.CpuOn target entry_point context) code calls are = calls
 returned b v c (requests.AffinityInfo target level) code calls are = calls
+returned b v c (requests.NodeHwState target level) code calls are = calls
 returned b v c requests.MigrateInfoType code calls are = calls
 returned b v c requests.SystemOff code calls are = calls
 returned b v c requests.SystemReset code calls are = calls

@@ -162,7 +162,7 @@ halts b v sent m plain system holds = record {
 -- Acknowledgements ----------------------------------------------------------------------------
 
 pub takes : (b : BoardValue) (v : Values) (sent : List MessageValue) (a : AckValue)
-    → Holds b v sent → Holds b (with_acknowledgement a v) sent
+    → Holds b v sent → Holds b (with_acknowledgement b a v) sent
 takes b v sent a holds = record {
   lives = holds.lives;
   messages = holds.messages;

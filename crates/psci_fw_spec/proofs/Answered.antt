@@ -200,6 +200,7 @@ function_kept b v c requests.CpuOff is asks all = off_kept b v c is
 function_kept b v c (requests.CpuOn word entry_point context) is asks all =
     on_kept b v c word entry_point context (target_of b v word entry_point) is refl
 function_kept b v c (requests.AffinityInfo word level) is asks all = goes_on b v c is
+function_kept b v c (requests.NodeHwState word level) is asks all = goes_on b v c is
 function_kept b v c requests.MigrateInfoType is asks all = goes_on b v c is
 function_kept b v c requests.SystemOff is asks all =
     kept_halting b v c (message_for v kinds.Off c []) is.known is.runs is.are

@@ -209,7 +209,7 @@ off_agrees true s Away e = refl
 off_agrees false s p e = e
 
 pub kept_acknowledged : (b : BoardValue) (v : Values) (a : AckValue) → AreValues b v
-    → AreValues b (with_acknowledgement a v)
+    → AreValues b (with_acknowledgement b a v)
 unfolding view
 kept_acknowledged b v a are = record {
   known = are.known;

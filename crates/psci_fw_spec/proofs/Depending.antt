@@ -32,6 +32,7 @@ use Rattle.psci_fw_spec.specs.CpuSuspend.{ask_named, suspend_answer, suspend_ask
 use Rattle.psci_fw_spec.specs.Entering.{enter_outcome, is_wake, outcome_at, resumes}
 use Rattle.psci_fw_spec.specs.Lives.{in_life, start_of_life}
 use Rattle.psci_fw_spec.specs.Phases.{Away, is_resumable}
+use Rattle.psci_fw_spec.specs.NodeHwState.{hw_state_of}
 use Rattle.psci_fw_spec.specs.Outcomes.{message_for, returns, stops, stops_with}
 use Rattle.psci_fw_spec.specs.SuspendMode.{may_set, mode_asked, mode_of}
 use Rattle.psci_fw_spec.specs.SystemCalls.{all_others, is_off_status, system_message}
@@ -168,6 +169,16 @@ affinity_same b v w c d word level status = by_node (node_of b word level)
     by_node : (n : Option Node) → returns (affinity_of b v n) ≡ returns (affinity_of b w n)
     by_node None = refl
     by_node (Some n) = rw status refl
+
+pub node_hw_same : (b : BoardValue) (v w : Values) (c d word level : ℕ)
+    → v.granted ≡ w.granted → v.confirmed ≡ w.confirmed
+    → function_outcome b v c (requests.NodeHwState word level)
+    ≡ function_outcome b w d (requests.NodeHwState word level)
+node_hw_same b v w c d word level granted confirmed = by_node (node_of b word level)
+  where
+    by_node : (n : Option Node) → returns (hw_state_of v n) ≡ returns (hw_state_of w n)
+    by_node None = refl
+    by_node (Some n) = rw (granted, confirmed) refl
 
 pub mode_same : (b : BoardValue) (v w : Values) (c number : ℕ) → v.mode ≡ w.mode
     → v.phase ≡ w.phase → function_outcome b v c (requests.SetSuspendMode number)

@@ -111,6 +111,7 @@ function_ends P b v c (requests.CpuOn word entry_point context) returned stopped
     on_ends P v (target_of b v word entry_point) returned
     (λ core e. asked word entry_point context _ refl)
 function_ends P b v c (requests.AffinityInfo word level) returned stopped asked = returned _
+function_ends P b v c (requests.NodeHwState word level) returned stopped asked = returned _
 function_ends P b v c requests.MigrateInfoType returned stopped asked = returned _
 function_ends P b v c requests.SystemOff returned stopped asked = stopped _
 function_ends P b v c requests.SystemReset returned stopped asked = stopped _

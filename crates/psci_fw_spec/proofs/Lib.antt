@@ -6,6 +6,7 @@ mod Asked
 mod Callers
 mod Changing
 mod Claimed
+mod ConfirmedSay
 mod CpuOnRows
 mod Depending
 mod DomainsSay

@@ -63,6 +63,7 @@ module _ (b : BoardValue) (v : Values) (c : ℕ) where
       (record { kind = refl; core = refl; life = refl; number = refl })
   function_named requests.Version = tt
   function_named (requests.AffinityInfo word level) = tt
+  function_named (requests.NodeHwState word level) = tt
   function_named requests.MigrateInfoType = tt
   function_named (requests.Features word) = tt
   function_named (requests.SetSuspendMode mode) = tt

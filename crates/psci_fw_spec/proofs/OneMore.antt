@@ -6,6 +6,7 @@ use Rattle.psci_fw_spec.specs.After.{after}
 use Rattle.psci_fw_spec.specs.Exchange.{FwExchange, effect}
 use Rattle.psci_fw_spec.specs.History.{values_of}
 use Rattle.psci_fw_spec.specs.Lives.{start_of_life}
+use Rattle.psci_fw_spec.proofs.ConfirmedSay.{confirmed_more}
 use Rattle.psci_fw_spec.proofs.DomainsSay.{granted_more}
 use Rattle.psci_fw_spec.proofs.OpeningsSay.{opening_more}
 use Rattle.psci_fw_spec.proofs.PhasesSay.{phase_more}
@@ -30,5 +31,6 @@ values_more one b e h = λ i. record {
   phase = λ k. phase_more b h (effect b e) k i;
   opening = λ k. opening_more b h (effect b e) k i;
   granted = λ level place. granted_more b h (effect b e) level place i;
+  confirmed = λ level place. confirmed_more b h (effect b e) level place i;
   outstanding = λ slot. outstanding_more one b h (effect b e) slot i;
 }

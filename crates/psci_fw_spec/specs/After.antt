@@ -23,7 +23,7 @@ change b (Stops c) v = with_phase c Away v
 change b (Enters c s) v = with_running c (with_arrival b c s v)
 change b (Parks c s m) v = with_claims b m (with_phase c Away (with_arrival b c s v))
 change b (StopsAtOnce c s) v = with_phase c Away (with_arrival b c s v)
-change b (Acknowledges a) v = with_acknowledgement a v
+change b (Acknowledges a) v = with_acknowledgement b a v
 
 -- what is kept after a call with this reply
 unfoldable pub after : BoardValue → ℕ → FwCall → FwReply → Values → Values

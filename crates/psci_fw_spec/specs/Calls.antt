@@ -14,6 +14,7 @@ use Rattle.psci_fw_spec.specs.AffinityInfo.{affinity_info}
 use Rattle.psci_fw_spec.specs.CpuOff.{cpu_off}
 use Rattle.psci_fw_spec.specs.CpuOn.{cpu_on}
 use Rattle.psci_fw_spec.specs.CpuSuspend.{cpu_suspend}
+use Rattle.psci_fw_spec.specs.NodeHwState.{node_hw_state}
 use Rattle.psci_fw_spec.specs.Outcomes.{returns, stops}
 use Rattle.psci_fw_spec.specs.Phases.{is_running}
 use Rattle.psci_fw_spec.specs.SuspendMode.{set_suspend_mode}
@@ -50,6 +51,8 @@ function_outcome b v caller requests.SystemOff = system_message v kinds.Off call
 function_outcome b v caller requests.SystemReset = system_message v kinds.Reset caller
 function_outcome b v caller (requests.Features word) =
     returns (record { 0 = features_of b.format word })
+function_outcome b v caller (requests.NodeHwState target level) =
+    returns (node_hw_state b v target level)
 function_outcome b v caller (requests.SystemSuspend entry_point context) =
     system_suspend b v caller entry_point
 function_outcome b v caller (requests.SetSuspendMode mode) =

@@ -4,11 +4,12 @@ use Rattle.std.specs.Option.{option_or}
 use Rattle.psci_board.specs.Board.{BoardValue}
 use Rattle.psci_link.specs.declared.kind.Kind.TheVariants.{Down}
 use Rattle.psci_link.specs.Message.{AckValue, MessageValue}
-use Rattle.psci_link.specs.Slots.{Change, Put, Clear, Acknowledge, changed, is_kind}
+use Rattle.psci_link.specs.Slots.{Change, Put, Clear, Acknowledge, changed, is_kind, slot_of}
 use Rattle.psci_fw_spec.specs.declared.mode.SuspendMode.{SuspendMode}
 use Rattle.psci_fw_spec.specs.declared.opening.Opening.{Opening}
 use Rattle.psci_link.specs.declared.start.Start.{Start}
 use Rattle.psci_fw_spec.specs.declared.status.Status.TheVariants as statuses
+use Rattle.psci_fw_spec.specs.Confirmed.{claimed_anew, confirms, unconfirmed}
 use Rattle.psci_fw_spec.specs.Lives.{in_life}
 use Rattle.psci_fw_spec.specs.Paths.{cleared, granted_with}
 use Rattle.psci_fw_spec.specs.Phases.{Phase, is_away, unless_pending}
@@ -55,6 +56,7 @@ with_pending b asked v = with_sent asked.message (record v {
   phase = updated v.phase (target asked) phases.Pending;
   opening = updated v.opening (target asked) (Some asked.opening);
   granted = cleared b (target asked) v.granted;
+  confirmed = unconfirmed b (target asked) v.confirmed;
 })
 
 -- How a core stops that will be woken, or goes off.
@@ -73,7 +75,10 @@ with_rest c rest v = record (with_phase c rest.phase v) {
 -- a Down was sent: the domains of its parts are granted what it claims
 abbrev pub with_claims : BoardValue → MessageValue → Values → Values
 with_claims b m v =
-    with_sent m (record v { granted = granted_with b m.core.number m.parts v.granted })
+    with_sent m (record v {
+      granted = granted_with b m.core.number m.parts v.granted;
+      confirmed = claimed_anew b m.core.number m.parts v.confirmed;
+    })
 
 -- the system was asked to go off, or to be reset
 abbrev pub with_halt : MessageValue → Values → Values
@@ -90,6 +95,7 @@ with_arrival b c s v =
       known = updated found.known c s.number;
       opening = updated found.opening c None;
       granted = cleared b c found.granted;
+      confirmed = unconfirmed b c found.confirmed;
     })
 
 -- a core that has entered goes on: it is ON and runs
@@ -106,9 +112,16 @@ with_running c v = record v {
 abbrev pub turns_off : Values → AckValue → Bool
 turns_off v a = (is_kind a.kind Down && nat_lt 0 a.applied) && is_away (v.phase a.core.number)
 
+-- an acknowledgement of the outstanding message confirms the claim on this domain
+abbrev pub confirms_on : BoardValue → Values → AckValue → ℕ → ℕ → Bool
+confirms_on b v a level place =
+    confirms b v.known (v.granted level place) (v.outstanding (slot_of a.kind a.core)) a level place
+
 -- an acknowledgement of the outstanding message was taken
-abbrev pub with_acknowledgement : AckValue → Values → Values
-with_acknowledgement a v = with_slots (Acknowledge a) (record v {
+abbrev pub with_acknowledgement : BoardValue → AckValue → Values → Values
+with_acknowledgement b a v = with_slots (Acknowledge a) (record v {
   status = updated v.status a.core.number
       (if turns_off v a then statuses.Off else v.status a.core.number);
+  confirmed = λ level place.
+      if confirms_on b v a level place then true else v.confirmed level place;
 })

@@ -9,16 +9,17 @@ use Rattle.psci_link.specs.declared.kind.Kind.TheVariants.{Down}
 use Rattle.psci_link.specs.Message.{AckValue, MessageValue}
 use Rattle.psci_link.specs.OnlyIf.{only_if}
 use Rattle.psci_link.specs.Outstanding as slots
-use Rattle.psci_link.specs.Slots.{Change, is_kind}
+use Rattle.psci_link.specs.Slots.{Change, is_kind, slot_of}
 use Rattle.psci_fw_spec.specs.declared.mode.SuspendMode.{SuspendMode}
 use Rattle.psci_fw_spec.specs.declared.mode.SuspendMode.TheVariants.{Platform}
 use Rattle.psci_fw_spec.specs.declared.opening.Opening.{Opening}
 use Rattle.psci_fw_spec.specs.declared.status.Status.{Status}
 use Rattle.psci_fw_spec.specs.declared.status.Status.TheVariants as statuses
 use Rattle.psci_fw_spec.specs.Changes.{target}
+use Rattle.psci_fw_spec.specs.Confirmed.{confirms}
 use Rattle.psci_fw_spec.specs.Effects.{Effect, SetsMode, Rests, Halts, Acknowledges}
 use Rattle.psci_fw_spec.specs.Exchange.{FwExchange, effect}
-use Rattle.psci_fw_spec.specs.Lives.{first_granted, first_opening, first_status}
+use Rattle.psci_fw_spec.specs.Lives.{first_confirmed, first_granted, first_opening, first_status}
 use Rattle.psci_board.specs.Paths.{is_path_place}
 use Rattle.psci_fw_spec.specs.Phases.{Phase, is_away}
 use Rattle.psci_fw_spec.specs.Phases.{Pending, Away}
@@ -200,6 +201,30 @@ changes b [] = []
 changes b (e ∷ h) =
     slot_changes (begins (life b h) (arrived (effect b e))) (effect b e) ++ changes b h
 
+-- Confirmed claims ----------------------------------------------------------------------------
+
+-- a used acknowledgement says that a claim is confirmed, where it confirms it
+abbrev pub says_acknowledged : BoardValue → ℕ → ℕ → List FwExchange → Effect → Option Bool
+says_acknowledged b level place before (Acknowledges a) =
+    let sent = slots.outstanding (slot_of a.kind a.core) (changes b before) in
+    only_if (confirms b (known b before) (granted b before level place) sent a level place)
+    (Some true)
+says_acknowledged b level place before e = None
+
+-- a claim is not confirmed when it is made, and there is none once a core below was asked on or
+-- entered
+abbrev pub says_confirmed : BoardValue → ℕ → ℕ → List FwExchange → Effect → Option Bool
+says_confirmed b level place before e =
+    option_or (option_map (λ depth. false) (says_granted b level place before e))
+    (says_acknowledged b level place before e)
+
+-- whether the last claim on a domain is confirmed: it is that of the life's start, or of a Down of
+-- which an acknowledgement was used that had its part on the domain applied, and something is still
+-- granted
+abbrev pub confirmed : BoardValue → List FwExchange → ℕ → ℕ → Bool
+confirmed b h level place =
+    last_in_life b (says_confirmed b level place) (first_confirmed b level place) h
+
 -- All of them ---------------------------------------------------------------------------------
 
 -- the values that a history says
@@ -213,5 +238,6 @@ values_of b h = record {
   phase = phase b h;
   opening = opening b h;
   granted = granted b h;
+  confirmed = confirmed b h;
   outstanding = λ slot. slots.outstanding slot (changes b h);
 }

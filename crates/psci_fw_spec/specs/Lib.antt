@@ -4,6 +4,7 @@ pub mod Answer
 pub mod Calls
 pub mod Changes
 pub mod Claims
+pub mod Confirmed
 pub mod CpuOff
 pub mod CpuOn
 pub mod CpuSuspend
@@ -15,6 +16,7 @@ pub mod Invariant
 pub mod Legal
 pub mod Lives
 pub mod Named
+pub mod NodeHwState
 pub mod Outcomes
 pub mod Paths
 pub mod Phases

@@ -1,5 +1,5 @@
 -- The start of a life.
-use Rattle.std.specs.Prelude.{ℕ, ◌==◌, ◌&&◌, not, false, if◌then◌else◌, Option, None, Some}
+use Rattle.std.specs.Prelude.{ℕ, ◌==◌, ◌&&◌, Bool, not, false, if◌then◌else◌, Option, None, Some}
 use Rattle.psci_board.specs.Board.{BoardValue, has_node}
 use Rattle.psci_fw_spec.specs.declared.mode.SuspendMode.TheVariants.{Platform}
 use Rattle.psci_fw_spec.specs.declared.opening.Opening.{Opening}
@@ -29,6 +29,11 @@ first_granted b level place =
     then 3
     else 0
 
+-- the power-down of every domain off the path of the boot core is confirmed
+abbrev pub first_confirmed : BoardValue → ℕ → ℕ → Bool
+first_confirmed b level place =
+    has_node b (record { level = level; place = place }) && not (is_path_place b 0 level place)
+
 -- the values at the start of a life; before any core has entered the same, of life 0
 abbrev pub start_of_life : BoardValue → ℕ → Values
 start_of_life b life = record {
@@ -40,6 +45,7 @@ start_of_life b life = record {
   phase = first_phase;
   opening = first_opening b;
   granted = first_granted b;
+  confirmed = first_confirmed b;
   outstanding = λ slot. None;
 }
 

@@ -28,6 +28,9 @@ pub record Values : Type 0 where
   -- the granted depth of a domain: that of the last claim on it, 0 since a core below was asked on
   -- or entered
   pub granted : ℕ → ℕ → ℕ
+  -- whether the last claim on a domain is confirmed: it is that of the life's start, or the power
+  -- controller has acknowledged that it carried it out
+  pub confirmed : ℕ → ℕ → Bool
   -- the message that waits for its acknowledgement
   pub outstanding : Slot → Option MessageValue
 

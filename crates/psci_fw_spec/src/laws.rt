@@ -78,7 +78,7 @@ pub fn law_invariant()
         AreValues b (change b (enter_effect c s o.act o.message) v) }
     // So does an acknowledgement, whatever it says.
     ensures take { (b : BoardValue) (v : Values) (a : AckValue) → AreValues b v
-        → AreValues b (with_acknowledgement a v) }
+        → AreValues b (with_acknowledgement b a v) }
     ensures answer { (b : BoardValue) (v : Values) (c : ℕ) (call : FwCall) → IsBoard b
         → AreValues b v → AreValues b (after b c call (answer b v c call) v) }
     ensures legal { (b : BoardValue) (h : List FwExchange) → IsBoard b → IsLegal b h

@@ -13,6 +13,7 @@
 mod answers;
 mod call;
 mod fault;
+mod hw;
 mod laws;
 mod mode;
 mod opening;
@@ -23,6 +24,7 @@ mod status;
 pub use answers::{law_answers_depend, law_halting_life, law_message_names};
 pub use call::FwCall;
 pub use fault::FwFault;
+pub use hw::Hw;
 pub use laws::{
     law_caller, law_enters, law_first_start, law_invariant, law_legal, law_pending, law_power_on,
     law_stops, law_values,

@@ -1,5 +1,5 @@
 -- An acknowledgement is taken: what the values in the state are then.
-use Rattle.std.proofs.Common.{◌≡◌, ◌<◌, Bool, true, false, cond, List, length}
+use Rattle.std.proofs.Common.{◌≡◌, ℕ, ◌<◌, slice_get, Bool, true, false, cond, List, length}
 use Rattle.std.proofs.Common.{None, Some, Option, refl, sym, ◌∙◌, ap, inl, inr}
 use Rattle.std.proofs.Common.{slice_index_or}
 use Rattle.std.proofs.lemmas.Bool.{and_parts, cases_lt, eqb-true}
@@ -13,18 +13,22 @@ use Rattle.psci_link.specs.Slots.{left_by, message_in, slot_of, taken}
 use Rattle.psci_link.specs.Slots.Slot.{OfCore, OfSystem}
 use Rattle.psci_link.specs.Slots.Change.{Acknowledge}
 use Rattle.psci_fw_spec.specs.declared.status.Status.TheVariants as statuses
-use Rattle.psci_fw_spec.specs.Changes.{turns_off, with_acknowledgement}
+use Rattle.psci_fw_spec.specs.Changes.{confirms_on, turns_off, with_acknowledgement}
+use Rattle.psci_fw_spec.specs.Confirmed.{applied_part}
 use Rattle.psci_fw_spec.specs.Phases.{is_away}
 use Rattle.psci_fw_spec.specs.Values.{Values, updated}
-use Rattle.psci_tree.specs.Recount.{state_at}
+use Rattle.psci_coord.specs.declared.part.Part.{Part}
+use Rattle.psci_tree.specs.Recount.{TreeValue, state_at, granted_at, is_confirmed_at}
 use Rattle.psci_tree.specs.declared.state.Activity.{Activity}
 use Rattle.psci_tree.specs.declared.state.Activity.TheVariants as activities
 use Rattle.psci_tree.specs.declared.state.CoreState.{CoreState}
 use Rattle.psci_fw_spec.specs.declared.status.Status.{Status}
 use Rattle.psci_fw_state.specs.declared.row.CoreRow.{CoreRow}
+use Rattle.psci_fw_state.specs.Confirming.{is_last_claim}
 use Rattle.psci_fw_state.specs.Rows.{row_at}
 use Rattle.psci_fw_state.specs.Seen.{StateValue, phase_by, values_in}
-use Rattle.psci_fw_state.proofs.Changed.{Set, ap_set, both_set, same_set, stays, updated_is}
+use Rattle.psci_fw_state.proofs.Changed.{Set, ap_set, both_set, stays, updated_is}
+use Rattle.psci_fw_state.proofs.Confirming.{claims_confirmed}
 use Rattle.psci_fw_state.proofs.Equal.{same_values, updated_same}
 
 -- Slots -----------------------------------------------------------------------------------------
@@ -95,81 +99,128 @@ away_phase statuses.Pending statuses.On activities.Off e = refl
 away_phase statuses.Pending statuses.Off activities.Off e = refl
 away_phase statuses.Pending statuses.Pending activities.Off e = refl
 
+-- the tree after an acknowledgement: the claims that it says were carried out are confirmed
+pub record IsAcked (s : StateValue) (u : TreeValue) (a : AckValue) : Type 0 where
+  pub cores : (k : ℕ) → state_at u k ≡ state_at s.tree k
+  pub granted : (l p : ℕ) → granted_at u l p ≡ granted_at s.tree l p
+  pub confirmed : (l p : ℕ) → is_confirmed_at u l p
+      ≡ cond (confirms_on s.board (values_in s) a l p) true (is_confirmed_at s.tree l p)
+
+-- so it is once the parts that were applied are confirmed
+pub acked_by : (s : StateValue) (u : TreeValue) (a : AckValue) (parts : List Part)
+    → ((level : ℕ) → slice_get parts level
+    ≡ applied_part a level (message_in s.slots (slot_of a.kind a.core)))
+    → ((k : ℕ) → state_at u k ≡ state_at s.tree k)
+    → ((l p : ℕ) → granted_at u l p ≡ granted_at s.tree l p)
+    → ((l p : ℕ) → is_confirmed_at u l p
+    ≡ cond (is_last_claim s.board s.tree a.core.number parts l p) true (is_confirmed_at s.tree l p))
+    → IsAcked s u a
+acked_by s u a parts each cores granted law = record {
+  cores = cores;
+  granted = granted;
+  confirmed = λ l p.
+      law l p
+      ∙ ap (λ (t : Bool). cond t true (is_confirmed_at s.tree l p))
+      (claims_confirmed s a parts each l p);
+}
+
+-- the parts that were applied, as the state and the acknowledgement stand in memory
+pub sent_parts : (s now : StateValue) (a ack : AckValue) (parts : List Part) → s ≡ now → a ≡ ack
+    → ((level : ℕ) → slice_get parts level
+    ≡ applied_part ack level ((values_in now).outstanding (slot_of ack.kind ack.core)))
+    → (level : ℕ) → slice_get parts level
+    ≡ applied_part a level (message_in s.slots (slot_of a.kind a.core))
+unfolding values_in
+sent_parts s now a ack parts e f law level = rw (e, f) (law level)
+
+state_same : (s : StateValue) (u : TreeValue) (a : AckValue) → IsAcked s u a
+    → Set (state_at s.tree) (state_at u) a.core.number (state_at s.tree a.core.number)
+state_same s u a is = record { here = is.cores a.core.number; else = λ k n. is.cores k }
+
 -- the core of a used acknowledgement is off
-off_of : (s : StateValue) (rows : List CoreRow) (slots : SlotsValue) (a : AckValue)
-    → turns_off (values_in s) a ≡ true
+off_of : (s : StateValue) (u : TreeValue) (rows : List CoreRow) (slots : SlotsValue) (a : AckValue)
+    → turns_off (values_in s) a ≡ true → IsAcked s u a
     → Set (row_at s.rows) (row_at rows) a.core.number (record {
       status = statuses.Off;
       opening = (row_at s.rows a.core.number).opening;
     })
     → ((slot : Slot) → message_in slots slot
     ≡ changed slot (Acknowledge a) (message_in s.slots slot))
-    → values_in (record s { rows = rows; slots = slots }) ≡ with_acknowledgement a (values_in s)
+    → values_in (record s { tree = u; rows = rows; slots = slots })
+    ≡ with_acknowledgement s.board a (values_in s)
 unfolding values_in
-off_of s rows slots a off row left =
+off_of s u rows slots a off acked row left =
     let away : is_away ((values_in s).phase a.core.number) ≡ true = (and_parts _ _ off).1 in
     same_values _ _ (record {
       life = refl;
       halting = refl;
       mode = refl;
-      known = λ k. refl;
+      known = λ k. ap (λ (x : CoreState). x.known) (acked.cores k);
       status = λ k.
           updated_is (λ k. (row_at s.rows k).status) (λ k. (row_at rows k).status) a.core.number _
           (ap_set (λ (r : CoreRow). r.status) _ _ _ _ row) k
           ∙ ap (λ (t : Bool). updated (values_in s).status a.core.number
           (cond t statuses.Off ((values_in s).status a.core.number)) k) (sym off);
-      phase = stays (values_in s).phase (values_in (record s { rows = rows; slots = slots })).phase
-          a.core.number _
+      phase = stays (values_in s).phase
+          (values_in (record s { tree = u; rows = rows; slots = slots })).phase a.core.number _
           (both_set (λ (r : CoreRow) (x : CoreState). phase_by r.status x.activity) (row_at s.rows)
-          (row_at rows) (state_at s.tree) (state_at s.tree) a.core.number _ _ row
-          (same_set (state_at s.tree) a.core.number))
+          (row_at rows) (state_at s.tree) (state_at u) a.core.number _ _ row
+          (state_same s u a acked))
           (away_phase (row_at s.rows a.core.number).status statuses.Off
           (state_at s.tree a.core.number).activity away);
       opening = stays (λ k. (row_at s.rows k).opening) (λ k. (row_at rows k).opening)
           a.core.number _ (ap_set (λ (r : CoreRow). r.opening) _ _ _ _ row) refl;
-      granted = λ l p. refl;
+      granted = acked.granted;
+      confirmed = acked.confirmed;
       outstanding = left;
     })
 
-pub off_changed : (s now : StateValue) (rows : List CoreRow) (slots : SlotsValue) (a : AckValue)
-    → s ≡ now → turns_off (values_in now) a ≡ true
+pub off_changed : (s now : StateValue) (u : TreeValue) (rows : List CoreRow) (slots : SlotsValue)
+    (a : AckValue) → s ≡ now → turns_off (values_in now) a ≡ true → IsAcked s u a
     → Set (row_at s.rows) (row_at rows) a.core.number (record {
       status = statuses.Off;
       opening = (row_at s.rows a.core.number).opening;
     })
     → ((slot : Slot) → message_in slots slot
     ≡ changed slot (Acknowledge a) (message_in s.slots slot))
-    → values_in (record s { rows = rows; slots = slots }) ≡ with_acknowledgement a (values_in now)
-off_changed s now rows slots a e off row left =
-    rw (← e) (off_of s rows slots a (rw e off) row left)
+    → values_in (record s { tree = u; rows = rows; slots = slots })
+    ≡ with_acknowledgement now.board a (values_in now)
+off_changed s now u rows slots a e off acked row left =
+    rw (← e) (off_of s u rows slots a (rw e off) acked row left)
 
 -- a used acknowledgement that turns no core off
-used_of : (s : StateValue) (slots : SlotsValue) (a : AckValue) → turns_off (values_in s) a ≡ false
+used_of : (s : StateValue) (u : TreeValue) (slots : SlotsValue) (a : AckValue)
+    → turns_off (values_in s) a ≡ false → IsAcked s u a
     → ((slot : Slot) → message_in slots slot
     ≡ changed slot (Acknowledge a) (message_in s.slots slot))
-    → values_in (record s { slots = slots }) ≡ with_acknowledgement a (values_in s)
+    → values_in (record s { tree = u; slots = slots })
+    ≡ with_acknowledgement s.board a (values_in s)
 unfolding values_in
-used_of s slots a off left = same_values _ _ (record {
+used_of s u slots a off acked left = same_values _ _ (record {
   life = refl;
   halting = refl;
   mode = refl;
-  known = λ k. refl;
+  known = λ k. ap (λ (x : CoreState). x.known) (acked.cores k);
   status = λ k.
       sym (updated_same (values_in s).status a.core.number
       (cond (turns_off (values_in s) a) statuses.Off ((values_in s).status a.core.number))
       (rw off refl) k);
-  phase = λ k. refl;
+  phase = λ k.
+      ap (λ (x : CoreState). phase_by (row_at s.rows k).status x.activity) (acked.cores k);
   opening = λ k. refl;
-  granted = λ l p. refl;
+  granted = acked.granted;
+  confirmed = acked.confirmed;
   outstanding = left;
 })
 
-pub used_changed : (s now : StateValue) (slots : SlotsValue) (a : AckValue) → s ≡ now
-    → turns_off (values_in now) a ≡ false
+pub used_changed : (s now : StateValue) (u : TreeValue) (slots : SlotsValue) (a : AckValue)
+    → s ≡ now → turns_off (values_in now) a ≡ false → IsAcked s u a
     → ((slot : Slot) → message_in slots slot
     ≡ changed slot (Acknowledge a) (message_in s.slots slot))
-    → values_in (record s { slots = slots }) ≡ with_acknowledgement a (values_in now)
-used_changed s now slots a e off left = rw (← e) (used_of s slots a (rw e off) left)
+    → values_in (record s { tree = u; slots = slots })
+    ≡ with_acknowledgement now.board a (values_in now)
+used_changed s now u slots a e off acked left =
+    rw (← e) (used_of s u slots a (rw e off) acked left)
 
 -- an old acknowledgement
 old_of : (s : StateValue) (slots : SlotsValue)
@@ -185,6 +236,7 @@ old_of s slots left = same_values _ _ (record {
   phase = λ k. refl;
   opening = λ k. refl;
   granted = λ l p. refl;
+  confirmed = λ l p. refl;
   outstanding = left;
 })
 

@@ -15,10 +15,10 @@ use Rattle.psci_link.specs.Slots.Slot.{OfCore, OfSystem}
 use Rattle.psci_tree.specs.declared.state.Activity.TheVariants as activities
 use Rattle.psci_tree.specs.declared.state.CoreState.{CoreState}
 use Rattle.psci_tree.specs.Recount.{IsDomainTree, TreeValue, state_at, granted_at, level_sizes}
-use Rattle.psci_tree.specs.Recount.{never_started}
+use Rattle.psci_tree.specs.Recount.{never_started, is_confirmed_at}
 use Rattle.psci_fw_spec.specs.declared.mode.SuspendMode.TheVariants.{Platform}
 use Rattle.psci_fw_spec.specs.declared.status.Status.TheVariants as statuses
-use Rattle.psci_fw_spec.specs.Lives.{first_granted, first_phase, first_status, in_life}
+use Rattle.psci_fw_spec.specs.Lives.{first_confirmed, first_granted, first_phase, first_status, in_life}
 use Rattle.psci_fw_spec.specs.Lives.{start_of_life}
 use Rattle.psci_fw_spec.specs.Phases as phases
 use Rattle.psci_fw_spec.specs.Values.{Values}
@@ -161,11 +161,67 @@ granted_first b u l p is e law =
         flip true = refl
         flip false = refl
 
+-- nothing is confirmed of a domain that is not there
+pub confirmed_beyond : (t : TreeValue) (l p : ℕ) → IsDomainTree t
+    → (l ≤ length t.levels → p < size_below (drop l t.levels) → ⊥) → is_confirmed_at t l p ≡ false
+confirmed_beyond t l p is n = elim (cases_lt (length t.levels) l) [
+  | inl h ↦
+      let none : get_or t.confirmed l [] ≡ [] =
+      get_or_past t.confirmed l [] (omega (
+        arith,
+        length_mapped t.confirmed,
+        ap length is.confirmed,
+        sizes_length t.levels,
+      )) in
+      rw none refl
+  | inr h ↦ elim (cases_lt p (size_below (drop l t.levels))) [
+    | inl k ↦ absurd (n h k)
+    | inr k ↦
+        let long : length (get_or t.confirmed l []) ≡ size_below (drop l t.levels) =
+        sym (lengths_at t.confirmed l) ∙ ap (λ xs. get_or xs l 0) is.confirmed
+        ∙ sizes_at t.levels l h in
+        ap (ltb 0) (get_or_past (get_or t.confirmed l []) p 0 (omega arith))
+  ]
+]
+
+confirmed_first : (b : BoardValue) (u : TreeValue) (l p : ℕ) → IsDomainTree u
+    → u.levels ≡ b.levels
+    → (l ≤ height b → p < nodes b l
+    → is_confirmed_at u l p ≡ cond (place_above b.levels l 0 == p) false true)
+    → is_confirmed_at u l p ≡ first_confirmed b l p
+unfolding up
+confirmed_first b u l p is e law =
+    by (leb l (height b)) (ltb p (nodes b l)) refl refl
+  where
+    apart : (x y : Bool) → leb l (height b) ≡ x → ltb p (nodes b l) ≡ y → (x && y) ≡ false
+        → l ≤ height b → p < nodes b l → ⊥
+    apart x y f g h i j = grind arith
+
+    none : (l ≤ height b → p < nodes b l → ⊥) → is_confirmed_at u l p ≡ false
+    none n =
+        confirmed_beyond u l p is
+        (subst (λ (ws : List (List ℕ)). l ≤ length ws → p < size_below (drop l ws) → ⊥) (sym e) n)
+
+    by : (x y : Bool) → leb l (height b) ≡ x → ltb p (nodes b l) ≡ y
+        → is_confirmed_at u l p ≡ ((x && y) && not (p == place_above b.levels l 0))
+    by false y f g = none (apart false y f g refl)
+    by true false f g = none (apart true false f g refl)
+    by true true f g =
+        law (leb-true _ _ f) (ltb-true _ _ g)
+        ∙ ap (λ t. cond t false true) (eqb_swap (place_above b.levels l 0) p)
+        ∙ flip (p == place_above b.levels l 0)
+      where
+        flip : (t : Bool) → cond t false true ≡ not t
+        flip true = refl
+        flip false = refl
+
 pub at_start : (b kept : BoardValue) (life : ℕ) (u : TreeValue) (rows : List CoreRow)
     (slots : SlotsValue) → IsBoard b → IsDomainTree u → u.levels ≡ b.levels
     → ((c : ℕ) → state_at u c ≡ first_core c)
     → ((l p : ℕ) → l ≤ height b → p < nodes b l
     → granted_at u l p ≡ cond (place_above b.levels l 0 == p) 0 3)
+    → ((l p : ℕ) → l ≤ height b → p < nodes b l
+    → is_confirmed_at u l p ≡ cond (place_above b.levels l 0 == p) false true)
     → AreFirst b rows → ((slot : Slot) → message_in slots slot ≡ None)
     → values_in (record {
       board = kept;
@@ -177,7 +233,7 @@ pub at_start : (b kept : BoardValue) (life : ℕ) (u : TreeValue) (rows : List C
       slots = slots;
     }) ≡ start_of_life b life
 unfolding values_in
-at_start b kept life u rows slots is tree levels cores_are granted first empty =
+at_start b kept life u rows slots is tree levels cores_are granted confirmed first empty =
     let each : (k : ℕ) → row_at rows k ≡ first_row b k = each_first b rows is first in
     same_values _ _ (record {
       life = refl;
@@ -191,6 +247,7 @@ at_start b kept life u rows slots is tree levels cores_are granted first empty =
           ∙ first_is c;
       opening = λ c. ap (λ (r : CoreRow). r.opening) (each c);
       granted = λ l p. granted_first b u l p tree levels (granted l p);
+      confirmed = λ l p. confirmed_first b u l p tree levels (confirmed l p);
       outstanding = empty;
     })
 
@@ -219,3 +276,12 @@ granted_shown s now l p e is n =
     (subst (λ (ws : List (List ℕ)). l ≤ length ws → p < size_below (drop l ws) → ⊥)
     (sym is.levels) n))
     ∙ ap (λ (x : StateValue). granted_at x.tree l p) e
+
+pub confirmed_shown : (s now : StateValue) (l p : ℕ) → s ≡ now → IsState s
+    → (l ≤ height s.board → p < nodes s.board l → ⊥) → false ≡ (values_in now).confirmed l p
+unfolding values_in
+confirmed_shown s now l p e is n =
+    sym (confirmed_beyond s.tree l p is.tree
+    (subst (λ (ws : List (List ℕ)). l ≤ length ws → p < size_below (drop l ws) → ⊥)
+    (sym is.levels) n))
+    ∙ ap (λ (x : StateValue). is_confirmed_at x.tree l p) e

@@ -8,6 +8,7 @@ use Rattle.psci_board.specs.Board.{cores, size_below}
 use Rattle.psci_tree.specs.declared.state.Activity.TheVariants as activities
 use Rattle.psci_tree.specs.declared.state.CoreState.{CoreState}
 use Rattle.psci_tree.specs.Recount.{TreeValue, state_at, granted_at, known_at}
+use Rattle.psci_tree.specs.Recount.{is_confirmed_at}
 use Rattle.psci_fw_spec.specs.declared.status.Status.{Status}
 use Rattle.psci_fw_spec.specs.declared.status.Status.TheVariants as statuses
 use Rattle.psci_fw_spec.specs.Changes.{with_phase}
@@ -127,9 +128,10 @@ away_of : (s : StateValue) (u : TreeValue) (c : ℕ)
       known = known_at s.tree c;
     })
     → ((l p : ℕ) → granted_at u l p ≡ granted_at s.tree l p)
+    → ((l p : ℕ) → is_confirmed_at u l p ≡ is_confirmed_at s.tree l p)
     → values_in (record s { tree = u }) ≡ with_phase c phases.Away (values_in s)
 unfolding values_in
-away_of s u c not at granted = same_values _ _ (record {
+away_of s u c not at granted confirmed = same_values _ _ (record {
   life = refl;
   halting = refl;
   mode = refl;
@@ -144,6 +146,7 @@ away_of s u c not at granted = same_values _ _ (record {
       ∙ sym (left_not_pending ((values_in s).phase c) phases.Away not));
   opening = λ k. refl;
   granted = granted;
+  confirmed = confirmed;
   outstanding = λ slot. refl;
 })
 
@@ -153,6 +156,7 @@ pub away_changed : (s now : StateValue) (u : TreeValue) (c : ℕ) → s ≡ now
     ≡ cond (c == k) (record { activity = activities.Off; known = known_at s.tree c })
     (state_at s.tree k))
     → ((l p : ℕ) → granted_at u l p ≡ granted_at s.tree l p)
+    → ((l p : ℕ) → is_confirmed_at u l p ≡ is_confirmed_at s.tree l p)
     → values_in (record s { tree = u }) ≡ with_phase c phases.Away (values_in now)
-away_changed s now u c e not at granted =
-    rw (← e) (away_of s u c (rw e not) (core_set s.tree u c _ at) granted)
+away_changed s now u c e not at granted confirmed =
+    rw (← e) (away_of s u c (rw e not) (core_set s.tree u c _ at) granted confirmed)

@@ -5,6 +5,7 @@ use Rattle.psci_board.specs.Board.{BoardValue}
 use Rattle.psci_link.specs.Slots.{Slot, changed}
 use Rattle.psci_link.specs.Slots.Change.{Clear}
 use Rattle.psci_link.specs.declared.start.Start.{Start}
+use Rattle.psci_fw_spec.specs.Confirmed.{unconfirmed}
 use Rattle.psci_fw_spec.specs.Paths.{cleared}
 use Rattle.psci_fw_spec.specs.Values.{Values, updated}
 
@@ -18,6 +19,7 @@ pub record Same (v w : Values) : Type 0 where
   pub phase : (c : ℕ) → v.phase c ≡ w.phase c
   pub opening : (c : ℕ) → v.opening c ≡ w.opening c
   pub granted : (l p : ℕ) → v.granted l p ≡ w.granted l p
+  pub confirmed : (l p : ℕ) → v.confirmed l p ≡ w.confirmed l p
   pub outstanding : (slot : Slot) → v.outstanding slot ≡ w.outstanding slot
 
 pub same_values : (v w : Values) → Same v w → v ≡ w
@@ -30,6 +32,7 @@ same_values v w s = λ i. record {
   phase = λ c. s.phase c i;
   opening = λ c. s.opening c i;
   granted = λ l p. s.granted l p i;
+  confirmed = λ l p. s.confirmed l p i;
   outstanding = λ slot. s.outstanding slot i;
 }
 
@@ -48,5 +51,6 @@ arrived b c s v = record v {
   known = updated v.known c s.number;
   opening = updated v.opening c None;
   granted = cleared b c v.granted;
+  confirmed = unconfirmed b c v.confirmed;
   outstanding = λ slot. changed slot (Clear (record { number = c })) (v.outstanding slot);
 }

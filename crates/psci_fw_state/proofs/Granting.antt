@@ -3,7 +3,7 @@ use Rattle.std.proofs.Common.{◌≡◌, ℕ, ◌+◌, ◌-◌, ◌<◌, ◌≤�
 use Rattle.std.proofs.Common.{List, length, drop, get_or, slice_get, Some, Option, refl, sym}
 use Rattle.std.proofs.Common.{subst, ◌∙◌}
 use Rattle.std.proofs.Common.{ap, arith, inl, inr, add-one}
-use Rattle.std.proofs.lemmas.Bool.{cases_lt}
+use Rattle.std.proofs.lemmas.Bool.{cases_lt, eqb-true}
 use Rattle.std.proofs.lemmas.Option.{get_or_from_slice_get, slice_get_past}
 use Rattle.psci_board.specs.Board.{BoardValue, HasNodeIn, cores, height, path, place_above}
 use Rattle.psci_board.specs.Board.{size_below}
@@ -13,7 +13,8 @@ use Rattle.psci_board.specs.declared.node.Node.{Node}
 use Rattle.psci_coord.specs.declared.part.Part.{Part}
 use Rattle.psci_link.specs.Message.{PartByPart}
 use Rattle.psci_tree.specs.Changes.{MayGrant}
-use Rattle.psci_tree.specs.Recount.{TreeValue, granted_at}
+use Rattle.psci_tree.specs.Recount.{TreeValue, granted_at, is_confirmed_at}
+use Rattle.psci_fw_spec.specs.Confirmed.{claimed_anew, unless_claimed}
 use Rattle.psci_fw_spec.specs.Paths.{claimed_or, granted_with}
 use Rattle.psci_fw_state.specs.Claims.{MayClaim}
 
@@ -85,6 +86,71 @@ module _ (b : BoardValue) (c : ℕ) (parts : List Part) (before : ℕ → ℕ �
     low = more_low;
     high = λ l p h. other l p (λ e. absurd (omega arith)) ∙ so_far.high l p (omega arith);
   }
+
+-- below this level no claim of the parts is confirmed, and from it up all is as before
+pub record IsUnconfirmed (b : BoardValue) (c : ℕ) (parts : List Part) (before : ℕ → ℕ → Bool)
+    (t : TreeValue) (n : ℕ) : Type 0 where
+  pub low : (l p : ℕ) → l < n → is_confirmed_at t l p ≡ claimed_anew b c parts before l p
+  pub high : (l p : ℕ) → n ≤ l → is_confirmed_at t l p ≡ before l p
+
+-- one part more: something is granted now where nothing was
+module _ (b : BoardValue) (c : ℕ) (parts : List Part) (before : ℕ → ℕ → Bool) (t u : TreeValue)
+    (n : ℕ) (part : Part) (is : slice_get parts n ≡ Some part)
+    (free : granted_at t n (up b n c) ≡ 0) (some : 0 < part.depth)
+    (law : (l p : ℕ) → is_confirmed_at u l p
+    ≡ cond ((n == l) && (up b n c == p)) ((granted_at t l p == part.depth) && is_confirmed_at t l p)
+    (is_confirmed_at t l p))
+    (so_far : IsUnconfirmed b c parts before t n) where
+  other_level : (l p : ℕ) → (n ≡ l → ⊥) → is_confirmed_at u l p ≡ is_confirmed_at t l p
+  other_level l p ne = let no : (n == l) ≡ false = apart in law l p ∙ (rw no refl)
+    where
+      apart : (n == l) ≡ false
+      apart = grind arith
+
+  this_level : (p : ℕ) (on : Bool) → (p == up b n c) ≡ on
+      → is_confirmed_at u n p ≡ claimed_anew b c parts before n p
+  this_level p true e =
+      let at : p ≡ up b n c = eqb-true p (up b n c) e in
+      let same : (n == n) ≡ true = grind arith in
+      let own : (up b n c == up b n c) ≡ true = grind arith in
+      let new : (0 == part.depth) ≡ false = changed in
+      rw at (law n (up b n c) ∙ (rw (same, own, free, new, is) refl))
+    where
+      changed : (0 == part.depth) ≡ false
+      changed = grind arith
+  this_level p false e =
+      let same : (n == n) ≡ true = grind arith in
+      let no : (up b n c == p) ≡ false = eqb_swap (up b n c) p ∙ e in
+      rw e (law n p ∙ (rw (same, no) (so_far.high n p (omega arith))))
+
+  unconfirmed_low : (l p : ℕ) → l < n + 1
+      → is_confirmed_at u l p ≡ claimed_anew b c parts before l p
+  unconfirmed_low l p h = elim (cases_lt l n) [
+    | inl k ↦ other_level l p (λ e. absurd (omega arith)) ∙ so_far.low l p k
+    | inr k ↦
+        let same : l ≡ n = omega arith in rw same (this_level p (p == up b n c) refl)
+  ]
+
+  pub unconfirmed_more : IsUnconfirmed b c parts before u (n + 1)
+  unconfirmed_more = record {
+    low = unconfirmed_low;
+    high = λ l p h. other_level l p (λ e. absurd (omega arith)) ∙ so_far.high l p (omega arith);
+  }
+
+-- the whole claim
+pub unconfirmed_all : (b : BoardValue) (c : ℕ) (parts : List Part) (before : ℕ → ℕ → Bool)
+    (t : TreeValue) (n : ℕ) → length parts ≤ n → IsUnconfirmed b c parts before t n → (l p : ℕ)
+    → is_confirmed_at t l p ≡ claimed_anew b c parts before l p
+unconfirmed_all b c parts before t n long so_far l p = elim (cases_lt l n) [
+  | inl h ↦ so_far.low l p h
+  | inr h ↦ so_far.high l p h ∙ sym (beyond (p == up b l c) h)
+]
+  where
+    beyond : (on : Bool) → n ≤ l
+        → cond on (unless_claimed (slice_get parts l) (before l p)) (before l p) ≡ before l p
+    beyond true h =
+        ap (λ (o : Option Part). unless_claimed o (before l p)) (slice_get_past parts l (omega arith))
+    beyond false h = refl
 
 -- the next part may be granted
 module _ (b : BoardValue) (c : ℕ) (parts : List Part) (before : ℕ → ℕ → ℕ) (t : TreeValue) (n : ℕ)

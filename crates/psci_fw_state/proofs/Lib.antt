@@ -1,6 +1,7 @@
 mod Acked
 mod Begun
 mod Changed
+mod Confirming
 pub mod Equal
 mod Granting
 mod Moved

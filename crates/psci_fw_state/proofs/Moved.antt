@@ -14,6 +14,7 @@ use Rattle.psci_tree.specs.declared.state.Activity.{Activity}
 use Rattle.psci_tree.specs.declared.state.Activity.TheVariants as activities
 use Rattle.psci_tree.specs.declared.state.CoreState.{CoreState}
 use Rattle.psci_tree.specs.Recount.{TreeValue, state_at, granted_at, known_at}
+use Rattle.psci_tree.specs.Recount.{is_confirmed_at}
 use Rattle.psci_fw_spec.specs.declared.opening.Opening.{Opening}
 use Rattle.psci_link.specs.declared.start.Start.{Start}
 use Rattle.psci_fw_spec.specs.declared.status.Status.{Status}
@@ -22,6 +23,7 @@ use Rattle.psci_fw_spec.specs.Changes.{with_arrival, with_pending, with_phase, w
 use Rattle.psci_fw_spec.specs.Changes.{with_running}
 use Rattle.psci_fw_spec.specs.Effects.{suspends}
 use Rattle.psci_fw_spec.specs.Lives.{in_life}
+use Rattle.psci_fw_spec.specs.Confirmed.{unconfirmed}
 use Rattle.psci_fw_spec.specs.Paths.{cleared}
 use Rattle.psci_fw_spec.specs.Phases.{Phase, unless_pending}
 use Rattle.psci_fw_spec.specs.Phases as phases
@@ -55,10 +57,11 @@ pub suspended_of : (s : StateValue) (u : TreeValue) (rows : List CoreRow) (c : �
       opening = option_or o (row_at s.rows c).opening;
     })
     → ((l p : ℕ) → granted_at u l p ≡ granted_at s.tree l p)
+    → ((l p : ℕ) → is_confirmed_at u l p ≡ is_confirmed_at s.tree l p)
     → values_in (record s { tree = u; rows = rows })
     ≡ with_rest c (record { phase = phases.Suspended ask; opening = o }) (values_in s)
 unfolding values_in
-suspended_of s u rows c ask o running at row granted = same_values _ _ (record {
+suspended_of s u rows c ask o running at row granted confirmed = same_values _ _ (record {
   life = refl;
   halting = refl;
   mode = refl;
@@ -76,6 +79,7 @@ suspended_of s u rows c ask o running at row granted = same_values _ _ (record {
   opening = updated_is (λ k. (row_at s.rows k).opening) (λ k. (row_at rows k).opening) c _
       (ap_set (λ (r : CoreRow). r.opening) _ _ _ _ row);
   granted = granted;
+  confirmed = confirmed;
   outstanding = λ slot. refl;
 })
 
@@ -90,12 +94,14 @@ pub suspended_changed : (s now : StateValue) (u : TreeValue) (rows : List CoreRo
       opening = option_or o (row_at s.rows c).opening;
     })
     → ((l p : ℕ) → granted_at u l p ≡ granted_at s.tree l p)
+    → ((l p : ℕ) → is_confirmed_at u l p ≡ is_confirmed_at s.tree l p)
     → cond (is_deep ask) (Some opening) None ≡ o
     → values_in (record s { tree = u; rows = rows })
     ≡ with_rest c (suspends opening ask) (values_in now)
-suspended_changed s now u rows c ask opening o e running at row granted is =
+suspended_changed s now u rows c ask opening o e running at row granted confirmed is =
     rw (← e, is)
-    (suspended_of s u rows c ask o (rw e running) (core_set s.tree u c _ at) row granted)
+    (suspended_of s u rows c ask o (rw e running) (core_set s.tree u c _ at) row granted
+    confirmed)
 
 -- Paths -----------------------------------------------------------------------------------------
 
@@ -114,6 +120,19 @@ path_cleared s u c is law l p =
     is.levels
     ∙ ap (λ (t : Bool). cond t 0 (granted_at s.tree l p)) (eqb_swap (place_above s.board.levels l c) p)
 
+-- nor is anything confirmed there
+pub path_unconfirmed : (s : StateValue) (u : TreeValue) (c : ℕ) → IsState s
+    → ((l p : ℕ) → is_confirmed_at u l p
+    ≡ cond (place_above s.tree.levels l c == p) false (is_confirmed_at s.tree l p))
+    → (l p : ℕ) → is_confirmed_at u l p ≡ unconfirmed s.board c (is_confirmed_at s.tree) l p
+unfolding up
+path_unconfirmed s u c is law l p =
+    law l p
+    ∙ ap (λ (ws : List (List ℕ)). cond (place_above ws l c == p) false (is_confirmed_at s.tree l p))
+    is.levels
+    ∙ ap (λ (t : Bool). cond t false (is_confirmed_at s.tree l p))
+    (eqb_swap (place_above s.board.levels l c) p)
+
 -- Asked on --------------------------------------------------------------------------------------
 
 pub pending_of : (b : BoardValue) (s : StateValue) (u : TreeValue) (rows : List CoreRow)
@@ -127,11 +146,13 @@ pub pending_of : (b : BoardValue) (s : StateValue) (u : TreeValue) (rows : List 
       opening = Some o;
     })
     → ((l p : ℕ) → granted_at u l p ≡ cleared b m.core.number (granted_at s.tree) l p)
+    → ((l p : ℕ) → is_confirmed_at u l p
+    ≡ unconfirmed b m.core.number (is_confirmed_at s.tree) l p)
     → ((slot : Slot) → message_in slots slot ≡ changed slot (Put m) (message_in s.slots slot))
     → values_in (record s { tree = u; rows = rows; slots = slots })
     ≡ with_pending b (record { message = m; opening = o }) (values_in s)
 unfolding values_in
-pending_of b s u rows slots m o at row granted sent = same_values _ _ (record {
+pending_of b s u rows slots m o at row granted confirmed sent = same_values _ _ (record {
   life = refl;
   halting = refl;
   mode = refl;
@@ -146,6 +167,7 @@ pending_of b s u rows slots m o at row granted sent = same_values _ _ (record {
   opening = updated_is (λ k. (row_at s.rows k).opening) (λ k. (row_at rows k).opening)
       m.core.number _ (ap_set (λ (r : CoreRow). r.opening) _ _ _ _ row);
   granted = granted;
+  confirmed = confirmed;
   outstanding = sent;
 })
 
@@ -170,12 +192,13 @@ running_of : (b : BoardValue) (s : StateValue) (u : TreeValue) (rows : List Core
     })
     → Set (row_at s.rows) (row_at rows) c (record { status = statuses.On; opening = None })
     → ((l p : ℕ) → granted_at u l p ≡ cleared b c (granted_at s.tree) l p)
+    → ((l p : ℕ) → is_confirmed_at u l p ≡ unconfirmed b c (is_confirmed_at s.tree) l p)
     → ((slot : Slot) → message_in slots slot
     ≡ changed slot (Clear (record { number = c })) (message_in s.slots slot))
     → values_in (record s { tree = u; rows = rows; slots = slots })
     ≡ with_running c (arrived b c start (values_in s))
 unfolding values_in
-running_of b s u rows slots c start at row granted empty = same_values _ _ (record {
+running_of b s u rows slots c start at row granted confirmed empty = same_values _ _ (record {
   life = refl;
   halting = refl;
   mode = refl;
@@ -190,6 +213,7 @@ running_of b s u rows slots c start at row granted empty = same_values _ _ (reco
   opening = updated_is (λ k. (row_at s.rows k).opening) (λ k. (row_at rows k).opening) c _
       (ap_set (λ (r : CoreRow). r.opening) _ _ _ _ row);
   granted = granted;
+  confirmed = confirmed;
   outstanding = empty;
 })
 
@@ -200,13 +224,15 @@ pub running_changed : (s now : StateValue) (u : TreeValue) (rows : List CoreRow)
     (state_at s.tree k))
     → Set (row_at s.rows) (row_at rows) c (record { status = statuses.On; opening = None })
     → ((l p : ℕ) → granted_at u l p ≡ cleared s.board c (granted_at s.tree) l p)
+    → ((l p : ℕ) → is_confirmed_at u l p ≡ unconfirmed s.board c (is_confirmed_at s.tree) l p)
     → ((slot : Slot) → message_in slots slot
     ≡ changed slot (Clear (record { number = c })) (message_in s.slots slot))
     → values_in (record s { tree = u; rows = rows; slots = slots })
     ≡ with_running c (with_arrival now.board c start (values_in now))
-running_changed s now u rows slots c start e life at row granted empty =
+running_changed s now u rows slots c start e life at row granted confirmed empty =
     rw (← e)
-    (running_of s.board s u rows slots c start (core_set s.tree u c _ at) row granted empty
+    (running_of s.board s u rows slots c start (core_set s.tree u c _ at) row granted
+    confirmed empty
     ∙ ap (with_running c) (sym (arrives s.board c start (values_in s) (rw e life))))
 
 -- the phase of a core that stops, by whether it was pending
@@ -244,12 +270,13 @@ stopped_of : (b : BoardValue) (s : StateValue) (u : TreeValue) (rows : List Core
       opening = None;
     })
     → ((l p : ℕ) → granted_at u l p ≡ cleared b c (granted_at s.tree) l p)
+    → ((l p : ℕ) → is_confirmed_at u l p ≡ unconfirmed b c (is_confirmed_at s.tree) l p)
     → ((slot : Slot) → message_in slots slot
     ≡ changed slot (Clear (record { number = c })) (message_in s.slots slot))
     → values_in (record s { tree = u; rows = rows; slots = slots })
     ≡ with_phase c phases.Away (arrived b c start (values_in s))
 unfolding values_in
-stopped_of b s u rows slots c start pending was at row granted empty = same_values _ _ (record {
+stopped_of b s u rows slots c start pending was at row granted confirmed empty = same_values _ _ (record {
   life = refl;
   halting = refl;
   mode = refl;
@@ -267,6 +294,7 @@ stopped_of b s u rows slots c start pending was at row granted empty = same_valu
   opening = updated_is (λ k. (row_at s.rows k).opening) (λ k. (row_at rows k).opening) c _
       (ap_set (λ (r : CoreRow). r.opening) _ _ _ _ row);
   granted = granted;
+  confirmed = confirmed;
   outstanding = empty;
 })
 
@@ -281,12 +309,13 @@ pub stopped_changed : (s now : StateValue) (u : TreeValue) (rows : List CoreRow)
       opening = None;
     })
     → ((l p : ℕ) → granted_at u l p ≡ cleared s.board c (granted_at s.tree) l p)
+    → ((l p : ℕ) → is_confirmed_at u l p ≡ unconfirmed s.board c (is_confirmed_at s.tree) l p)
     → ((slot : Slot) → message_in slots slot
     ≡ changed slot (Clear (record { number = c })) (message_in s.slots slot))
     → values_in (record s { tree = u; rows = rows; slots = slots })
     ≡ with_phase c phases.Away (with_arrival now.board c start (values_in now))
-stopped_changed s now u rows slots c start pending e life was at row granted empty =
+stopped_changed s now u rows slots c start pending e life was at row granted confirmed empty =
     rw (← e)
     (stopped_of s.board s u rows slots c start pending (rw e (sym was)) (core_set s.tree u c _ at)
-    row granted empty
+    row granted confirmed empty
     ∙ ap (with_phase c phases.Away) (sym (arrives s.board c start (values_in s) (rw e life))))

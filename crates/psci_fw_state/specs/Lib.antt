@@ -1,3 +1,4 @@
 pub mod Claims
+pub mod Confirming
 pub mod Rows
 pub mod Seen

@@ -9,6 +9,7 @@ use Rattle.psci_link.specs.Slots.Slot.{OfCore, OfSystem}
 use Rattle.psci_tree.specs.declared.state.Activity.{Activity}
 use Rattle.psci_tree.specs.declared.state.Activity.TheVariants as activities
 use Rattle.psci_tree.specs.Recount.{TreeValue, IsDomainTree, state_at, granted_at, known_at}
+use Rattle.psci_tree.specs.Recount.{is_confirmed_at}
 use Rattle.psci_fw_spec.specs.declared.mode.SuspendMode.{SuspendMode}
 use Rattle.psci_fw_spec.specs.declared.status.Status.{Status}
 use Rattle.psci_fw_spec.specs.declared.status.Status.TheVariants.{On, Off, Pending}
@@ -26,7 +27,7 @@ pub record StateValue : Type 0 where
   pub life : ℕ
   pub halting : Bool
   pub mode : SuspendMode
-  -- what each core asks, its known start, and what each domain was granted
+  -- what each core asks, its known start, what each domain was granted, and what is confirmed
   pub tree : TreeValue
   -- of each core, in the order of their numbers
   pub rows : List CoreRow
@@ -68,6 +69,7 @@ values_in s = record {
   phase = λ c. phase_by (row_at s.rows c).status (state_at s.tree c).activity;
   opening = λ c. (row_at s.rows c).opening;
   granted = λ level place. granted_at s.tree level place;
+  confirmed = λ level place. is_confirmed_at s.tree level place;
   outstanding = λ slot. message_in s.slots slot;
 }
 

@@ -1,8 +1,8 @@
 //! What the entry of a core changes in the state.
 
-ghost use Rattle.std.specs.Prelude.{◌≡◌, ◌<◌, ◌==◌, ℕ, length, if◌then◌else◌};
+ghost use Rattle.std.specs.Prelude.{◌≡◌, ◌<◌, ◌==◌, ℕ, false, length, if◌then◌else◌};
 ghost use Rattle.psci_board.specs.Board.{cores, place_above};
-ghost use Rattle.psci_tree.specs.Recount.{IsDomainTree, state_at, granted_at};
+ghost use Rattle.psci_tree.specs.Recount.{IsDomainTree, state_at, granted_at, is_confirmed_at};
 ghost use Rattle.psci_fw_spec.specs.Changes.{with_arrival, with_phase, with_running};
 ghost use Rattle.psci_fw_spec.specs.Lives.{in_life};
 ghost use Rattle.psci_fw_spec.specs.Phases.{Away};
@@ -13,7 +13,7 @@ use crate::state::State;
 use psci_board::Core;
 use psci_fw_spec::{Start, Status, SuspendMode};
 use psci_link::law_slots;
-use psci_tree::{Tree, law_cores, law_granted, law_start_of_life};
+use psci_tree::{Tree, law_confirmed, law_cores, law_granted, law_start_of_life};
 
 impl State {
     /// The firmware is in this life: all is as at its start, if it is a new one.
@@ -46,6 +46,7 @@ impl State {
     {
         law_cores();
         law_granted();
+        law_confirmed();
         law_slots();
         self.tree.set_start(core, start.number);
         let row = CoreRow {
@@ -86,11 +87,15 @@ fn stop(tree: &mut Tree, core: Core, number: u32, pending: bool)
         then record { activity = stopped pending; known = number } else state_at tree.old c) }
     ensures granted { (l p : ℕ) → granted_at tree.new l p
         ≡ (if place_above tree.old.levels l core.number == p then 0 else granted_at tree.old l p) }
+    ensures confirmed { (l p : ℕ) → is_confirmed_at tree.new l p
+        ≡ (if place_above tree.old.levels l core.number == p
+        then false else is_confirmed_at tree.old l p) }
     ensures levels { tree.new.levels ≡ tree.old.levels }
     ensures tree { IsDomainTree tree.new }
 {
     law_cores();
     law_granted();
+    law_confirmed();
     tree.set_start(core, number);
     if !pending {
         tree.set_off(core);

@@ -13,13 +13,14 @@ ghost use Rattle.psci_fw_spec.specs.Phases.{Away, Running};
 ghost use Rattle.psci_fw_spec.specs.Taking.{taken_by};
 ghost use Rattle.psci_fw_state.specs.Seen.{values_in};
 
+use crate::confirm::confirm_parts;
 use crate::row::{CoreRow, row_of, set_row};
 use crate::state::State;
 use psci_board::Core;
 use psci_fw_spec::{Opening, Status, SuspendMode};
 use psci_link::{Ack, Kind, Message, Taken, law_slots};
 use psci_state::Ask;
-use psci_tree::{law_cores, law_granted};
+use psci_tree::{law_confirmed, law_cores, law_granted};
 
 impl State {
     /// A core is off or going off, unless it is pending: it stays so.
@@ -31,6 +32,7 @@ impl State {
     {
         law_cores();
         law_granted();
+        law_confirmed();
         if !self.is_pending(core) {
             self.tree.set_off(core);
         }
@@ -47,6 +49,7 @@ impl State {
     {
         law_cores();
         law_granted();
+        law_confirmed();
         self.tree.set_ask(core, ask);
         if ask.deep() {
             let row = CoreRow {
@@ -69,6 +72,7 @@ impl State {
     {
         law_cores();
         law_granted();
+        law_confirmed();
         law_slots();
         let target = message.core;
         self.tree.set_pending(target);
@@ -102,22 +106,26 @@ impl State {
     }
 
     /// An acknowledgement is taken: where it is of the outstanding message, and says that a part of
-    /// a Down was applied, its core is OFF if it is off or going off.
+    /// a Down was applied, its core is OFF if it is off or going off, and the claims of the parts
+    /// that were applied are confirmed.
     #[tactic(auto, unfolding(crate::specs::Seen::values_in))]
     pub fn acknowledge(&mut self, ack: Ack) -> Taken
         ensures taken { result ≡ taken_by (values_in self.old) ack }
         ensures used { result ≡ Used
-            → values_in self.new ≡ with_acknowledgement ack (values_in self.old) }
+            → values_in self.new
+            ≡ with_acknowledgement self.old.board ack (values_in self.old) }
         ensures old { result ≡ Old → values_in self.new ≡ values_in self.old }
         ensures board { self.new.board ≡ self.old.board }
     {
         law_slots();
         let core = ack.core;
         let is_off = self.turns_off(&ack);
+        let applied = self.applied_parts(&ack);
         let taken = self.slots.take_ack(ack);
         if taken == Taken::Old {
             return taken;
         }
+        confirm_parts(&mut self.tree, &self.board, core, applied.as_slice());
         if is_off {
             let row = CoreRow {
                 status: Status::Off,

@@ -7,8 +7,10 @@ ghost use Rattle.psci_coord.specs.LastCore.{last_core_check};
 ghost use Rattle.psci_link.specs.declared.kind.Kind.TheVariants as kinds;
 ghost use Rattle.psci_link.specs.Message.{ArePartsOf, AreClaims};
 ghost use Rattle.psci_tree.specs.Recount.{IsDomainTree, state_at, granted_at};
+ghost use Rattle.psci_tree.specs.Recount.{is_confirmed_at};
 ghost use Rattle.psci_fw_spec.specs.Changes.{with_claims, with_rest};
 ghost use Rattle.psci_fw_spec.specs.Claims.{leaving_claims, suspend_parts};
+ghost use Rattle.psci_fw_spec.specs.Confirmed.{claimed_anew};
 ghost use Rattle.psci_fw_spec.specs.Effects.{suspends};
 ghost use Rattle.psci_fw_spec.specs.Outcomes.{message_for};
 ghost use Rattle.psci_fw_spec.specs.Paths.{granted_with};
@@ -24,7 +26,7 @@ use psci_fw_spec::{Opening, SuspendMode};
 use psci_link::{Kind, Message, law_parts, law_slots};
 use psci_osi::{check, off_parts};
 use psci_state::Ask;
-use psci_tree::{Tree, law_cores, law_granted};
+use psci_tree::{Tree, law_confirmed, law_cores, law_granted};
 
 impl State {
     /// The parts of a core that is off or going off.
@@ -126,6 +128,7 @@ impl State {
     {
         law_slots();
         law_granted();
+        law_confirmed();
         grant_parts(
             &mut self.tree,
             &self.board,
@@ -147,6 +150,8 @@ fn grant_parts(tree: &mut Tree, board: &Board, core: Core, parts: &[Part])
     requires may { MayClaim board.now core.number parts.now (granted_at tree.old) }
     ensures granted { (level place : ℕ) → granted_at tree.new level place
         ≡ granted_with board.now core.number parts.now (granted_at tree.old) level place }
+    ensures confirmed { (level place : ℕ) → is_confirmed_at tree.new level place
+        ≡ claimed_anew board.now core.number parts.now (is_confirmed_at tree.old) level place }
     ensures cores { (c : ℕ) → state_at tree.new c ≡ state_at tree.old c }
     ensures levels { tree.new.levels ≡ tree.old.levels }
     ensures tree { IsDomainTree tree.new }
@@ -155,6 +160,7 @@ fn grant_parts(tree: &mut Tree, board: &Board, core: Core, parts: &[Part])
     law_parts();
     law_cores();
     law_granted();
+    law_confirmed();
     let path = board.path(core);
     for (level, part) in parts.iter().enumerate() {
         tree.grant(path[level], part.depth);

@@ -10,6 +10,7 @@
 mod arrival;
 mod changes;
 mod claim;
+mod confirm;
 mod domain;
 mod row;
 mod state;

@@ -2,7 +2,7 @@
 
 use crate::row::{CoreRow, first_rows, row_of};
 use psci_board::{Board, Core, Memory, Node};
-use psci_fw_spec::{Opening, Status, SuspendMode};
+use psci_fw_spec::{Hw, Opening, Status, SuspendMode};
 use psci_link::{Message, Slots};
 use psci_tree::{Activity, Tree, law_start_of_life};
 use std::alloc::Global;
@@ -53,6 +53,7 @@ impl Model for State {
 
 ghost use Rattle.std.specs.Prelude.{◌≡◌, IfOk, option_map};
 ghost use Rattle.psci_fw_spec.specs.Lives.{start_of_life};
+ghost use Rattle.psci_fw_spec.specs.NodeHwState.{node_hw};
 ghost use Rattle.psci_fw_spec.specs.Phases.{is_away, is_resumable, is_running};
 ghost use Rattle.psci_fw_spec.specs.Phases.{is_suspended_or_pending};
 ghost use Rattle.psci_board.specs.Board.{IsBoard};
@@ -141,6 +142,33 @@ impl State {
             self.tree.granted(node)
         } else {
             0
+        }
+    }
+
+    /// The hardware state of a power domain.
+    #[tactic(auto, unfolding(crate::specs::Seen::values_in))]
+    pub fn hw(&self, node: Node) -> Hw
+        ensures { result ≡ node_hw (values_in self.now) node }
+    {
+        if !self.confirmed(node) {
+            return Hw::On;
+        }
+        match self.granted(node) {
+            3 => Hw::Off,
+            0 => Hw::On,
+            _ => Hw::Standby,
+        }
+    }
+
+    /// Whether what was granted to a power domain is confirmed.
+    #[tactic(auto, unfolding(crate::specs::Seen::values_in))]
+    fn confirmed(&self, node: Node) -> bool
+        ensures { result ≡ (values_in self.now).confirmed node.level node.place }
+    {
+        if node.place < self.board.nodes(node.level) {
+            self.tree.confirmed(node)
+        } else {
+            false
         }
     }
 

@@ -31,7 +31,7 @@ use Rattle.psci_headline.proofs.Slept.{asleep_from, slept_now}
 -- Acknowledgements and their messages ----------------------------------------------------------
 
 -- An acknowledgement has the kind, core, life and number of its message.
-record IsAckOf (m : MessageValue) (a : AckValue) : Type 0 where
+pub record IsAckOf (m : MessageValue) (a : AckValue) : Type 0 where
   pub kind : a.kind ≡ m.kind
   pub core : a.core.number ≡ m.core.number
   pub life : a.life ≡ m.life
@@ -44,7 +44,7 @@ ack_if : (m : MessageValue) (t : Bool) → IsAckOf m (cond t (ack_of m 1 false) 
 ack_if m true = ack_of_message m 1 false
 ack_if m false = ack_of_message m 0 true
 
-acks_message : (b : BoardValue) (v : controlled.Values) (m : MessageValue) (k : Kind)
+pub acks_message : (b : BoardValue) (v : controlled.Values) (m : MessageValue) (k : Kind)
     → IsAckOf m (ack_by b v m k)
 acks_message b v m kinds.Down = ack_of_message m _ _
 acks_message b v m kinds.Start = ack_if m (may_follow b v m.core.number m.number)

@@ -55,7 +55,7 @@ fresh_next b r past life c laws next are now unknown other =
       | inr first ↦
           slept_now b life (r ∷ past) c
           (asleep_from b life (r ∷ past) c now
-          (ap (λ (f : ℕ → ℕ → ℕ). f 0 c) first ∙ first_deep b c laws other))
+          (ap (λ (f : ℕ → ℕ → ℕ). f 0 c) first.depth ∙ first_deep b c laws other))
     ]
 
 -- Reports --------------------------------------------------------------------------------------
@@ -144,7 +144,7 @@ pub record DownLaws (b : BoardValue) : Type 0 where
       → let v = firmware_values b past in Holds b v (sent past)
   pub agree : (past : List Record) → IsLegalPast b past → Agree b past
 
-next_of : (b : BoardValue) (r : Record) (past : List Record) → DownLaws b
+pub next_of : (b : BoardValue) (r : Record) (past : List Record) → DownLaws b
     → IsLegalPast b (r ∷ past) → IsNext b r past
 next_of b r past laws is =
     let m : Moves b r past =
@@ -158,7 +158,7 @@ next_of b r past laws is =
       begun = (laws.agree (r ∷ past) is).begun;
     }
 
-first_life : (b : BoardValue) → (firmware_values b []).life ≡ 0
+pub first_life : (b : BoardValue) → (firmware_values b []).life ≡ 0
 unfolding firmware_history Rattle.psci_world_laws.specs.psci_fw_spec.History.values_of
 first_life b = refl
 
@@ -166,7 +166,7 @@ no_acks : (k : ℕ) (a : AckValue) → slice_get (acks []) k ≡ Some a → ⊥
 unfolding acks
 no_acks k a e = absurd (cc)
 
-first_controlled : (b : BoardValue) → controller_values b [] ≡ controlled.start_of_life b
+pub first_controlled : (b : BoardValue) → controller_values b [] ≡ controlled.start_of_life b
 unfolding controller_history Rattle.psci_world_laws.specs.psci_ctl_spec.History.values_of
 first_controlled b = refl
 

@@ -18,7 +18,7 @@ use Rattle.psci_world_laws.specs.psci_ctl_spec.Exchange.{CtlExchange}
 use Rattle.psci_world_laws.specs.psci_ctl_spec.History.{values_of}
 use Rattle.psci_world_laws.specs.psci_ctl_spec.Replies.{ack_by, delivery_of, is_this_life}
 use Rattle.psci_world_laws.specs.psci_ctl_spec.Replies.{last_start, reply}
-use Rattle.psci_world_laws.specs.psci_ctl_spec.Values.{Values, first_depth}
+use Rattle.psci_world_laws.specs.psci_ctl_spec.Values.{Values, first_depth, first_starts}
 use Rattle.psci_world_laws.proofs.ctl_spec.OneMore.{values_more}
 use Rattle.psci_world_laws.specs.psci_fw_spec.declared.reply.FwReply.{FwReply}
 use Rattle.psci_world_laws.specs.psci_fw_spec.declared.reply.FwReply.TheVariants as replies
@@ -76,20 +76,25 @@ values_by b e h = values_more b e h
 
 -- Lives ----------------------------------------------------------------------------------------
 
+-- Depths and starts as a life begins.
+pub record IsFirst (b : BoardValue) (v : Values) : Type 0 where
+  pub depth : v.depth ≡ first_depth b
+  pub starts : v.starts ≡ first_starts
+
 life_by : (b : BoardValue) (e : Effect) (v : Values) (life : ℕ)
     → (change b e v).life ≡ Some life
-    → (v.life ≡ Some life) ⊎ ((change b e v).depth ≡ first_depth b)
+    → (v.life ≡ Some life) ⊎ IsFirst b (change b e v)
 life_by b Nothing v life e = inl e
 life_by b (Starts c cause) v life e = inl e
 life_by b (Deepens c ps) v life e = inl e
 life_by b Ends v life e = absurd (cc)
-life_by b Begins v life e = inr refl
+life_by b Begins v life e = inr (record { depth = refl; starts = refl })
 
 by_control : (b : BoardValue) (r : Record) (past : List Record) (life : ℕ) (es : List CtlExchange)
     → control (controller_values b past) (sent past) r.event r.said ≡ es → IsFew es
     → (controller_values b (r ∷ past)).life ≡ Some life
     → ((controller_values b past).life ≡ Some life)
-    ⊎ ((controller_values b (r ∷ past)).depth ≡ first_depth b)
+    ⊎ IsFirst b (controller_values b (r ∷ past))
 by_control b r past life [] adds is e =
     let more = ap (values_of b) (history_more b r past
     ∙ ap (λ (es : List CtlExchange). es ++ controller_history b past) adds) in
@@ -101,7 +106,7 @@ by_control b r past life (x ∷ []) adds is e =
     ap (values_of b) (history_more b r past ∙ ap (λ (es : List CtlExchange). es ++ h) adds)
     ∙ values_by b x h in
     subst (λ (v : Values). v.life ≡ Some life
-    → ((values_of b h).life ≡ Some life) ⊎ (v.depth ≡ first_depth b)) (sym more)
+    → ((values_of b h).life ≡ Some life) ⊎ IsFirst b v) (sym more)
     (life_by b (effect_of b x.call x.reply) (values_of b h) life) e
 by_control b r past life (x ∷ y ∷ es) adds is e = absurd is
 
@@ -109,7 +114,7 @@ by_control b r past life (x ∷ y ∷ es) adds is e = absurd is
 pub life_before : (b : BoardValue) (r : Record) (past : List Record) (life : ℕ)
     → (controller_values b (r ∷ past)).life ≡ Some life
     → ((controller_values b past).life ≡ Some life)
-    ⊎ ((controller_values b (r ∷ past)).depth ≡ first_depth b)
+    ⊎ IsFirst b (controller_values b (r ∷ past))
 life_before b r past life =
     by_control b r past life (control (controller_values b past) (sent past) r.event r.said) refl
     (few (controller_values b past) (sent past) r.event r.said)

@@ -1,8 +1,10 @@
+pub mod Acknowledged
 pub mod Acknowledging
 pub mod AllDown
 pub mod Apart
 pub mod Asking
 pub mod Claiming
+pub mod Confirming
 pub mod CoreSteps
 pub mod Deep
 pub mod Deliveries
@@ -23,6 +25,8 @@ pub mod Records
 pub mod Safety
 pub mod Slept
 pub mod Sound
+pub mod States
+pub mod StatesReal
 pub mod TakingUp
 pub mod ToldOff
 mod ToldOffRows

@@ -6,6 +6,7 @@ ghost use Rattle.psci_safe.specs.Safe.{AlwaysSafe};
 ghost use Rattle.psci_world_laws.specs.psci_world_spec.declared.said.Record.{Record};
 ghost use Rattle.psci_world_laws.specs.psci_world_spec.Legal.{IsLegalPast};
 
+use crate::hardware::law_states_real;
 use crate::live::{law_asked_claims, law_claimed_depths, law_live_claims, law_none_executes};
 use crate::openings::law_one_entry;
 use crate::powered_down::law_off_is_down;
@@ -13,8 +14,9 @@ use psci_world_laws::{law_agreement, law_histories, law_paths};
 
 /// A legal run is safe at every moment: no core that executes stands below a domain that is not
 /// fully on, and a core reported OFF was powered down since it last went on; each domain has at
-/// most one live claim; no domain is deeper than its cores asked; and each entry takes up one
-/// opening.
+/// most one live claim; no domain is deeper than its cores asked; each entry takes up one opening;
+/// and a domain that NODE_HW_STATE says is off or in standby was so, in this life and by the starts
+/// that the firmware knows of.
 pub fn law_safe()
     ensures { (b : BoardValue) (past : List Record) → IsBoard b → IsLegalPast b past
         → AlwaysSafe b past }
@@ -28,4 +30,5 @@ pub fn law_safe()
     law_none_executes();
     law_one_entry();
     law_off_is_down();
+    law_states_real();
 }

@@ -3,12 +3,14 @@
 #![tactic(auto)]
 
 mod affinity;
+mod hardware;
 mod laws;
 mod live;
 mod openings;
 mod powered_down;
 
 pub use affinity::law_told_off;
+pub use hardware::law_states_real;
 pub use laws::law_safe;
 pub use live::{law_asked_claims, law_claimed_depths, law_live_claims, law_none_executes};
 pub use openings::law_one_entry;

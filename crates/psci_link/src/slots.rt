@@ -98,7 +98,7 @@ impl Slots {
     }
 
     /// The outstanding message in the slot of this kind and core.
-    fn message(&self, kind: Kind, core: Core) -> Option<&Message>
+    pub fn message(&self, kind: Kind, core: Core) -> Option<&Message>
         ensures { option_map (λ message. message.now) result
             ≡ message_in self.now (slot_of kind core) }
     {

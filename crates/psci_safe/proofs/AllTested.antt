@@ -4,10 +4,12 @@ use Rattle.std.proofs.lemmas.Bool.{and_from, and_parts}
 use Rattle.psci_fw_laws.specs.psci_board.Board.{BoardValue}
 use Rattle.psci_world_spec.specs.declared.said.Record.{Record}
 use Rattle.psci_safe.specs.Safe.{AlwaysSafe, Safe}
-use Rattle.psci_safe.specs.Test.{is_always_safe, is_asked, is_off_down}
+use Rattle.psci_safe.specs.Test.{is_always_safe, is_asked, is_each_once, is_each_open}
+use Rattle.psci_safe.specs.Test.{is_off_down}
 use Rattle.psci_safe.specs.Test.{is_off_stopped, is_one, is_powered, is_safe}
 use Rattle.psci_safe.proofs.Once.{entries_tested}
 use Rattle.psci_safe.proofs.Tested.{asked_tested, off_tested, one_tested, powered_tested}
+use Rattle.psci_safe.proofs.Tested.{states_tested}
 
 pub safe_tested : (b : BoardValue) (past : List Record) → Safe b past → is_safe b past ≡ true
 safe_tested b past s =
@@ -15,7 +17,8 @@ safe_tested b past s =
     (and_from (is_off_stopped b past && is_off_down b past) _ ((off_tested b past).1 s.off)
     (and_from (is_one b past) _ ((one_tested b past).1 s.one)
     (and_from (is_asked b past) _ ((asked_tested b past).1 s.asked)
-    ((entries_tested b past).1 s.entries))))
+    (and_from (is_each_open b past && is_each_once b past) _ ((entries_tested b past).1 s.entries)
+    ((states_tested b past).1 s.states)))))
 
 pub tested_safe : (b : BoardValue) (past : List Record) → is_safe b past ≡ true → Safe b past
 tested_safe b past e =
@@ -23,12 +26,14 @@ tested_safe b past e =
     let second = and_parts (is_off_stopped b past && is_off_down b past) _ first.1 in
     let third = and_parts (is_one b past) _ second.1 in
     let fourth = and_parts (is_asked b past) _ third.1 in
+    let fifth = and_parts (is_each_open b past && is_each_once b past) _ fourth.1 in
     record {
       powered = (powered_tested b past).0 first.0;
       off = (off_tested b past).0 second.0;
       one = (one_tested b past).0 third.0;
       asked = (asked_tested b past).0 fourth.0;
-      entries = (entries_tested b past).0 fourth.1;
+      entries = (entries_tested b past).0 fifth.0;
+      states = (states_tested b past).0 fifth.1;
     }
 
 pub always_tested : (b : BoardValue) (past : List Record)

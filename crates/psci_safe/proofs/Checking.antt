@@ -8,14 +8,15 @@ use Rattle.psci_world_spec.specs.declared.said.Said.{Said}
 use Rattle.psci_world_spec.specs.Legal.{run_from}
 use Rattle.psci_world_spec.proofs.Scripts as scripts
 use Rattle.psci_safe.specs.Claims.{claims, live_claims}
+use Rattle.psci_safe.specs.Hardware.{was_in_state}
 use Rattle.psci_safe.specs.Moments.{was_powered_down}
 use Rattle.psci_safe.specs.Openings.{openings, taken_up}
-use Rattle.psci_safe.specs.Test.{is_always_safe, is_asked, is_each_once, is_each_open, is_off_down}
-use Rattle.psci_safe.specs.Test.{is_off_stopped, is_one, is_powered, is_safe}
+use Rattle.psci_safe.specs.Test.{is_always_safe, is_asked, is_each_once, is_each_open}
+use Rattle.psci_safe.specs.Test.{is_each_real, is_off_down, is_off_stopped, is_one, is_powered, is_safe}
 
 -- what an example unfolds to compute the tests of a moment
 unfoldable pub computing : Unit {0}
-unfolding scripts.computing claims live_claims was_powered_down openings taken_up
+unfolding scripts.computing claims live_claims was_powered_down openings taken_up was_in_state
 computing = tt
 
 -- Safe runs -----------------------------------------------------------------------------------
@@ -48,6 +49,7 @@ pub data Clause : Type 0 where
   Asked : Clause
   Open : Clause
   Once : Clause
+  Real : Clause
 
 -- this one, if its test fails
 abbrev pub if_fails : Bool → Clause → List Clause
@@ -63,32 +65,35 @@ failing b past =
     ++ (if_fails (is_one b past) One
     ++ (if_fails (is_asked b past) Asked
     ++ (if_fails (is_each_open b past) Open
-    ++ if_fails (is_each_once b past) Once)))))
+    ++ (if_fails (is_each_once b past) Once
+    ++ if_fails (is_each_real b past) Real))))))
 
 -- after these steps just these fail
 abbrev pub BreakAll : BoardValue → List Clause → List Steps → Type 0
 BreakAll b ks steps = failing b (past_from b [] steps) ≡ ks
 
 -- where something fails the world is not safe
-unsafe_where : (a b c d e f g : Bool) (k : Clause) (ks : List Clause)
+unsafe_where : (a b c d e f g h : Bool) (k : Clause) (ks : List Clause)
     → if_fails a Powered ++ (if_fails b Stopped ++ (if_fails c PoweredDown ++ (if_fails d One
-    ++ (if_fails e Asked ++ (if_fails f Open ++ if_fails g Once))))) ≡ k ∷ ks
-    → (a && ((b && c) && (d && (e && (f && g))))) ≡ false
-unsafe_where false b c d e f g k ks some = refl
-unsafe_where true false c d e f g k ks some = refl
-unsafe_where true true false d e f g k ks some = refl
-unsafe_where true true true false e f g k ks some = refl
-unsafe_where true true true true false f g k ks some = refl
-unsafe_where true true true true true false g k ks some = refl
-unsafe_where true true true true true true false k ks some = refl
-unsafe_where true true true true true true true k ks some = absurd (cc)
+    ++ (if_fails e Asked ++ (if_fails f Open ++ (if_fails g Once ++ if_fails h Real)))))) ≡ k ∷ ks
+    → (a && ((b && c) && (d && (e && ((f && g) && h))))) ≡ false
+unsafe_where false b c d e f g h k ks some = refl
+unsafe_where true false c d e f g h k ks some = refl
+unsafe_where true true false d e f g h k ks some = refl
+unsafe_where true true true false e f g h k ks some = refl
+unsafe_where true true true true false f g h k ks some = refl
+unsafe_where true true true true true false g h k ks some = refl
+unsafe_where true true true true true true false h k ks some = refl
+unsafe_where true true true true true true true false k ks some = refl
+unsafe_where true true true true true true true true k ks some = absurd (cc)
 
 -- so after such steps the world is not safe
 pub broken : (b : BoardValue) (past : List Record) (k : Clause) (ks : List Clause)
     → failing b past ≡ k ∷ ks → is_safe b past ≡ false
 broken b past k ks =
     unsafe_where (is_powered b past) (is_off_stopped b past) (is_off_down b past) (is_one b past)
-    (is_asked b past) (is_each_open b past) (is_each_once b past) k ks
+    (is_asked b past) (is_each_open b past) (is_each_once b past)
+    (is_each_real b past) k ks
 
 -- after these steps just this one fails
 abbrev pub Breaks : BoardValue → Clause → List Steps → Type 0

@@ -2,6 +2,7 @@ pub mod AllTested
 mod AxisRows
 mod Checking
 mod ClaimRows
+mod HardwareRows
 mod Once
 mod OpeningRows
 mod PowerRows

@@ -7,8 +7,8 @@ use Rattle.psci_world_spec.specs.declared.event.Event.TheVariants.{Take}
 use Rattle.psci_world_spec.proofs.Scripts.{acked, board, call, nothing, off, on_3, part, resumes}
 use Rattle.psci_world_spec.proofs.Scripts.{retention, returns, sends, stops, system_reset, used}
 use Rattle.psci_world_spec.proofs.Scripts.{version}
-use Rattle.psci_safe.proofs.Checking.{◌⇒◌, Breaks, Legal, Powered, PoweredDown, Stopped, WasUnsafe}
-use Rattle.psci_safe.proofs.Checking.{computing}
+use Rattle.psci_safe.proofs.Checking.{◌⇒◌, BreakAll, Breaks, Legal, Powered, PoweredDown, Real}
+use Rattle.psci_safe.proofs.Checking.{Stopped, WasUnsafe, computing}
 
 -- Below a sleeping domain ---------------------------------------------------------------------
 
@@ -49,8 +49,9 @@ off_in_retention : Breaks board PoweredDown
 unfolding computing
 off_in_retention = refl
 
--- a core that goes off is OFF by the acknowledgement of a suspend from which it has gone on
-old_acknowledgement_used : Breaks board PoweredDown
+-- a core that goes off is OFF, and its hardware is, by the acknowledgement of a suspend from which it
+-- has gone on
+old_acknowledgement_used : BreakAll board (PoweredDown ∷ Real ∷ [])
     (Legal (Enter 0 ∷ on_3 ∷ Deliver 0 ∷ Enter 3 ∷ call 3 0xc4000001 0x00010003 0x40004000 2
     ∷ Deliver 1 ∷ Wake 3 ∷ Enter 3 ∷ off 3 ∷ []) ∷ Take 1 ⇒ used ∷ [])
 unfolding computing

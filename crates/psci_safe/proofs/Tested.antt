@@ -15,10 +15,12 @@ use Rattle.psci_world_spec.specs.Histories.{controller_values}
 use Rattle.psci_world_spec.specs.Places.{place}
 use Rattle.psci_safe.specs.Claims.{live_claims}
 use Rattle.psci_safe.specs.Moments.{depth_at, executes, is_reported_off}
+use Rattle.psci_safe.specs.Hardware.{is_said_asleep}
 use Rattle.psci_safe.specs.Safe.{NoDeeperThanAsked, NoneBelowSleeping, OffIsDown, OneLiveClaim}
+use Rattle.psci_safe.specs.Safe.{StatesWereReal}
 use Rattle.psci_safe.specs.Test.{at_each_core, at_each_domain, at_each_level, has_one, is_asked}
 use Rattle.psci_safe.specs.Test.{is_off_down, is_off_stopped, is_one, is_powered}
-use Rattle.psci_safe.specs.Test.{executes_outside, was_asked}
+use Rattle.psci_safe.specs.Test.{executes_outside, is_each_real, was_asked, was_real}
 use Rattle.psci_safe.proofs.Ranges.{all_in, each_in, if_holds, where_holds}
 
 -- Everywhere on the board ---------------------------------------------------------------------
@@ -133,4 +135,15 @@ asked_tested b past = (
   λ h. domains_pass b (was_asked b past) (λ n has.
       if_holds (is_some (controller_values b past).life) _ (λ lives.
       claimed_deep (depth_at b past n.level n.place) _ (λ deep. h n has lives deep))),
+)
+
+-- Hardware states -----------------------------------------------------------------------------
+
+pub states_tested : (b : BoardValue) (past : List Record)
+    → (is_each_real b past ≡ true) ↔ StatesWereReal b past
+states_tested b past = (
+  (λ e n has said. where_holds (is_said_asleep b past n) _
+      (domain_passes b (was_real b past) n e has) said),
+  λ h. domains_pass b (was_real b past) (λ n has.
+      if_holds (is_said_asleep b past n) _ (λ said. h n has said)),
 )

@@ -1,4 +1,5 @@
 pub mod Claims
+pub mod Hardware
 pub mod Moments
 pub mod Openings
 pub mod Safe

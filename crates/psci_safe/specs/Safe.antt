@@ -8,6 +8,7 @@ use Rattle.psci_world_spec.specs.declared.said.Record.{Record}
 use Rattle.psci_world_spec.specs.Histories.{controller_values, firmware_history, firmware_values}
 use Rattle.psci_world_spec.specs.Places.{place}
 use Rattle.psci_safe.specs.Claims.{live_claims}
+use Rattle.psci_safe.specs.Hardware.{is_said_asleep, was_as_said}
 use Rattle.psci_safe.specs.Moments.{depth_at, executes, was_powered_down, is_reported_off}
 use Rattle.psci_safe.specs.Openings.{AreTakenUp}
 
@@ -36,6 +37,13 @@ NoDeeperThanAsked b past = (n : Node) → HasNode b n
     → list_any (λ k. k.depth == depth_at b past n.level n.place && k.asked) (live_claims b past n)
     ≡ true
 
+-- Reported states were real: a domain that NODE_HW_STATE says is off was powered down at some
+-- moment of this life, by the starts that the firmware knows of; one that it says is in standby was
+-- in standby or retention.
+abbrev pub StatesWereReal : BoardValue → List Record → Type 0
+StatesWereReal b past = (n : Node) → HasNode b n → is_said_asleep b past n ≡ true
+    → was_as_said b past n ≡ true
+
 -- The world is safe at this moment.
 pub record Safe (b : BoardValue) (past : List Record) : Type 0 where
   pub powered : NoneBelowSleeping b past
@@ -45,6 +53,7 @@ pub record Safe (b : BoardValue) (past : List Record) : Type 0 where
   -- each entry takes up one opening of its core and life, with its address and context id, and no
   -- two take up the same one
   pub entries : AreTakenUp b (firmware_history b past)
+  pub states : StatesWereReal b past
 
 -- The world was safe at every moment of these records.
 abbrev pub AlwaysSafe : BoardValue → List Record → Type 0

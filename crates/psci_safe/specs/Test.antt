@@ -10,6 +10,7 @@ use Rattle.psci_world_spec.specs.declared.said.Record.{Record}
 use Rattle.psci_world_spec.specs.Histories.{controller_values, firmware_history, firmware_values}
 use Rattle.psci_world_spec.specs.Places.{place}
 use Rattle.psci_safe.specs.Claims.{live_claims}
+use Rattle.psci_safe.specs.Hardware.{is_said_asleep, was_as_said}
 use Rattle.psci_safe.specs.Moments.{depth_at, executes, was_powered_down, is_reported_off}
 use Rattle.psci_safe.specs.Openings.{EnteredAt, Made, Maker, OfCall, OfLife, TakenUp, taken_up}
 
@@ -108,6 +109,16 @@ are_apart (t ∷ ts) = list_all (λ u. not (is_same_made t.made u.made)) ts && a
 abbrev pub is_each_once : BoardValue → List Record → Bool
 is_each_once b past = are_apart (taken_up b (firmware_history b past))
 
+-- Hardware states -----------------------------------------------------------------------------
+
+-- a domain is not said to be off or in standby, or it was
+abbrev pub was_real : BoardValue → List Record → Node → Bool
+was_real b past n = not (is_said_asleep b past n) || was_as_said b past n
+
+-- so it is with each domain
+abbrev pub is_each_real : BoardValue → List Record → Bool
+is_each_real b past = at_each_domain b (was_real b past)
+
 -- All of it -----------------------------------------------------------------------------------
 
 -- the world is safe at this moment
@@ -117,7 +128,8 @@ is_safe b past =
     && ((is_off_stopped b past && is_off_down b past)
     && (is_one b past
     && (is_asked b past
-    && (is_each_open b past && is_each_once b past))))
+    && ((is_each_open b past && is_each_once b past)
+    && is_each_real b past))))
 
 -- the world was safe at every moment of these records
 abbrev pub is_always_safe : BoardValue → List Record → Bool

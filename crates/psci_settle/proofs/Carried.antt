@@ -236,7 +236,7 @@ entering_waits b w place v sent made c s act o given on at last allowed h life f
 pub taking_waits : (b : BoardValue) (w : controlled.Values) (place : ℕ → Place) (v : Values)
     (sent : List MessageValue) (made : List AckValue) (a : AckValue) (i : ℕ)
     → IsGiven b w place v sent → slice_get made i ≡ Some a → WaitsNow b w v sent made
-    → WaitsNow b w (with_acknowledgement a v) sent made
+    → WaitsNow b w (with_acknowledgement b a v) sent made
 taking_waits b w place v sent made a i given at h life f = elim (cases_eq life v.life) [
   | inl own ↦
       let now : WaitingIn b life w v sent made =
@@ -244,11 +244,11 @@ taking_waits b w place v sent made a i given at h life f = elim (cases_eq life v
       let slots = subst (λ l. AreOutstanding l v.known v.phase sent v.outstanding) (sym own)
       given.holds.slots in
       subst (λ u. WaitingIn b life w u sent made)
-      (sym (found_own b life (with_acknowledgement a v) own))
+      (sym (found_own b life (with_acknowledgement b a v) own))
       (waiting_taken b life w.starts w.depth v.halting v.known v.phase v.outstanding sent made a i
       at (once_down b v sent given.holds) slots now)
   | inr other ↦
       subst (λ u. WaitingIn b life w u sent made)
-      (sym (found_other b life (with_acknowledgement a v) other))
+      (sym (found_other b life (with_acknowledgement b a v) other))
       (subst (λ u. WaitingIn b life w u sent made) (found_other b life v other) (h life f))
 ]

@@ -110,7 +110,7 @@ taken_said b past k a at used = ap (take b past) at ∙ ap Took used
 record AreTaken (b : BoardValue) (past : List Record) (k : ℕ) (a : AckValue) : Type 0 where
   pub control : controller_values b (step b past (Take k)) ≡ controller_values b past
   pub firmware : firmware_values b (step b past (Take k))
-      ≡ with_acknowledgement a (firmware_values b past)
+      ≡ with_acknowledgement b a (firmware_values b past)
   pub sent : sent (step b past (Take k)) ≡ sent past
   pub place : (x : ℕ) → place b (step b past (Take k)) x ≡ place b past x
 
@@ -148,7 +148,7 @@ pub record AreAnswered (b : BoardValue) (past : List Record) (k : ℕ) (m : Mess
       ≡ controlling.change b (message_effect b m (ack_to b past m) m.kind)
       (controller_values b past)
   pub firmware : firmware_values b (serving b past (Some k))
-      ≡ with_acknowledgement (ack_to b past m) (firmware_values b past)
+      ≡ with_acknowledgement b (ack_to b past m) (firmware_values b past)
   pub sent : sent (serving b past (Some k)) ≡ sent past
   pub place : (x : ℕ) → place b (serving b past (Some k)) x
       ≡ unwrap_or (place_of_effect x (message_effect b m (ack_to b past m) m.kind)) (place b past x)
@@ -165,7 +165,7 @@ answered_so b past k m laws is at present used = record {
       one_added before next (legal_record b next (Take n)) refl
       (one_added before past (legal_record b past (Deliver k)) refl are);
   control = two.control ∙ one.control;
-  firmware = two.firmware ∙ ap (with_acknowledgement a) one.firmware;
+  firmware = two.firmware ∙ ap (with_acknowledgement b a) one.firmware;
   sent = two.sent ∙ one.sent;
   place = λ x. two.place x ∙ one.place x;
   count = λ j. delivered_more j k (legal_record b past (Deliver k)) past refl;

@@ -38,6 +38,9 @@ system_reset_text = refl
 pub features_text : asked_text asked.Features ≡ codes "features"
 features_text = refl
 
+pub node_hw_state_text : asked_text asked.NodeHwState ≡ codes "node_hw_state"
+node_hw_state_text = refl
+
 pub system_suspend_text : asked_text asked.SystemSuspend ≡ codes "system_suspend"
 system_suspend_text = refl
 

@@ -56,6 +56,13 @@ pub tallies_spelled : map tally_text TALLIES ≡ codes "version return 65537"
     ∷ codes "features stop"
     ∷ codes "features ignored"
     ∷ codes "features absent"
+    ∷ codes "node_hw_state return 0"
+    ∷ codes "node_hw_state return 1"
+    ∷ codes "node_hw_state return 2"
+    ∷ codes "node_hw_state return -2"
+    ∷ codes "node_hw_state stop"
+    ∷ codes "node_hw_state ignored"
+    ∷ codes "node_hw_state absent"
     ∷ codes "system_suspend return -3"
     ∷ codes "system_suspend return -9"
     ∷ codes "system_suspend stop"
@@ -113,6 +120,7 @@ has_row asked.MigrateInfoType = refl
 has_row asked.SystemOff = refl
 has_row asked.SystemReset = refl
 has_row asked.Features = refl
+has_row asked.NodeHwState = refl
 has_row asked.SystemSuspend = refl
 has_row asked.SetSuspendMode = refl
 has_row asked.SystemReset2 = refl

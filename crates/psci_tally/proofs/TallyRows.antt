@@ -48,6 +48,12 @@ system_reset = refl
 pub features : asked_of (events.Call 0 (call 0x8400000a)) ≡ asked.Features
 features = refl
 
+pub node_hw_state : asked_of (events.Call 0 (call 0x8400000d)) ≡ asked.NodeHwState
+node_hw_state = refl
+
+pub wide_node_hw_state : asked_of (events.Call 0 (call 0xc400000d)) ≡ asked.NodeHwState
+wide_node_hw_state = refl
+
 pub system_suspend : asked_of (events.Call 0 (call 0xc400000e)) ≡ asked.SystemSuspend
 system_suspend = refl
 

@@ -7,8 +7,9 @@ use Rattle.psci_tally.specs.declared.asked.Asked.{Asked}
 use Rattle.psci_tally.specs.declared.asked.Asked.TheVariants.{Version, CpuSuspend, CpuOff, CpuOn}
 use Rattle.psci_tally.specs.declared.asked.Asked.TheVariants.{AffinityInfo, MigrateInfoType}
 use Rattle.psci_tally.specs.declared.asked.Asked.TheVariants.{SystemOff, SystemReset, Features}
-use Rattle.psci_tally.specs.declared.asked.Asked.TheVariants.{SystemSuspend, SetSuspendMode}
-use Rattle.psci_tally.specs.declared.asked.Asked.TheVariants.{SystemReset2, Unknown}
+use Rattle.psci_tally.specs.declared.asked.Asked.TheVariants.{NodeHwState, SystemSuspend}
+use Rattle.psci_tally.specs.declared.asked.Asked.TheVariants.{SetSuspendMode, SystemReset2}
+use Rattle.psci_tally.specs.declared.asked.Asked.TheVariants.{Unknown}
 use Rattle.psci_tally.specs.declared.asked.Asked.TheVariants.{Wake, Reset, Deliver, Take}
 use Rattle.psci_tally.specs.declared.asked.Asked.TheVariants.{Enter as Entry}
 use Rattle.psci_tally.specs.declared.answer.Answer.{Answer}
@@ -30,6 +31,7 @@ asked_text MigrateInfoType = codes "migrate_info_type"
 asked_text SystemOff = codes "system_off"
 asked_text SystemReset = codes "system_reset"
 asked_text Features = codes "features"
+asked_text NodeHwState = codes "node_hw_state"
 asked_text SystemSuspend = codes "system_suspend"
 asked_text SetSuspendMode = codes "set_suspend_mode"
 asked_text SystemReset2 = codes "system_reset2"

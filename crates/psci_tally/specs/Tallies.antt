@@ -17,8 +17,9 @@ use Rattle.psci_tally.specs.declared.asked.Asked.{Asked}
 use Rattle.psci_tally.specs.declared.asked.Asked.TheVariants.{Version, CpuSuspend, CpuOff, CpuOn}
 use Rattle.psci_tally.specs.declared.asked.Asked.TheVariants.{AffinityInfo, MigrateInfoType}
 use Rattle.psci_tally.specs.declared.asked.Asked.TheVariants.{SystemOff, SystemReset, Features}
-use Rattle.psci_tally.specs.declared.asked.Asked.TheVariants.{SystemSuspend, SetSuspendMode}
-use Rattle.psci_tally.specs.declared.asked.Asked.TheVariants.{SystemReset2, Unknown}
+use Rattle.psci_tally.specs.declared.asked.Asked.TheVariants.{NodeHwState, SystemSuspend}
+use Rattle.psci_tally.specs.declared.asked.Asked.TheVariants.{SetSuspendMode, SystemReset2}
+use Rattle.psci_tally.specs.declared.asked.Asked.TheVariants.{Unknown}
 use Rattle.psci_tally.specs.declared.asked.Asked.TheVariants.{Wake, Reset, Deliver, Take}
 use Rattle.psci_tally.specs.declared.asked.Asked.TheVariants.{Enter as Entry}
 use Rattle.psci_tally.specs.declared.answer.Answer.{Answer}
@@ -38,6 +39,7 @@ asked_in requests.MigrateInfoType = MigrateInfoType
 asked_in requests.SystemOff = SystemOff
 asked_in requests.SystemReset = SystemReset
 asked_in (requests.Features word) = Features
+asked_in (requests.NodeHwState target level) = NodeHwState
 asked_in (requests.SystemSuspend entry context) = SystemSuspend
 asked_in (requests.SetSuspendMode mode) = SetSuspendMode
 asked_in (requests.SystemReset2 reset_type cookie) = SystemReset2
@@ -88,15 +90,16 @@ asked_index MigrateInfoType = 5
 asked_index SystemOff = 6
 asked_index SystemReset = 7
 asked_index Features = 8
-asked_index SystemSuspend = 9
-asked_index SetSuspendMode = 10
-asked_index SystemReset2 = 11
-asked_index Unknown = 12
-asked_index Entry = 13
-asked_index Wake = 14
-asked_index Reset = 15
-asked_index Deliver = 16
-asked_index Take = 17
+asked_index NodeHwState = 9
+asked_index SystemSuspend = 10
+asked_index SetSuspendMode = 11
+asked_index SystemReset2 = 12
+asked_index Unknown = 13
+asked_index Entry = 14
+asked_index Wake = 15
+asked_index Reset = 16
+asked_index Deliver = 17
+asked_index Take = 18
 
 -- both are the same answer
 abbrev pub is_answer : Answer → Answer → Bool

@@ -26,6 +26,8 @@ pub enum Asked {
     SystemReset,
     /// PSCI_FEATURES.
     Features,
+    /// NODE_HW_STATE.
+    NodeHwState,
     /// SYSTEM_SUSPEND.
     SystemSuspend,
     /// PSCI_SET_SUSPEND_MODE.
@@ -75,6 +77,7 @@ impl Asked {
             Request::SystemOff => Asked::SystemOff,
             Request::SystemReset => Asked::SystemReset,
             Request::Features { .. } => Asked::Features,
+            Request::NodeHwState { .. } => Asked::NodeHwState,
             Request::SystemSuspend { .. } => Asked::SystemSuspend,
             Request::SetSuspendMode { .. } => Asked::SetSuspendMode,
             Request::SystemReset2 { .. } => Asked::SystemReset2,

@@ -16,7 +16,7 @@ macro_rules! tallies {
 /// All tallies that a legal run may have, in a fixed order. In a halting life a core stops,
 /// whatever it calls. On a board of height 1 or 2 no message has the fourth part that the last
 /// acknowledgements speak of. PSCI_FEATURES of CPU_SUSPEND returns 1 or 3, by the board's format.
-pub const TALLIES: [Tally; 90] = tallies! {
+pub const TALLIES: [Tally; 97] = tallies! {
     Version: Return(65537), Stop, Ignored, Absent;
     CpuSuspend: Return(0), Return(-2), Return(-3), Return(-9), Stop, Ignored, Absent;
     CpuOff: Stop, Ignored, Absent;
@@ -27,6 +27,7 @@ pub const TALLIES: [Tally; 90] = tallies! {
     SystemOff: Stop, Ignored, Absent;
     SystemReset: Stop, Ignored, Absent;
     Features: Return(0), Return(1), Return(3), Return(-1), Stop, Ignored, Absent;
+    NodeHwState: Return(0), Return(1), Return(2), Return(-2), Stop, Ignored, Absent;
     SystemSuspend: Return(-3), Return(-9), Stop, Ignored, Absent;
     SetSuspendMode: Return(0), Return(-2), Return(-3), Stop, Ignored, Absent;
     SystemReset2: Return(-2), Stop, Ignored, Absent;

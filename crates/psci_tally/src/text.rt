@@ -22,6 +22,7 @@ impl fmt::Display for Asked {
             Asked::SystemOff => write!(f, "system_off"),
             Asked::SystemReset => write!(f, "system_reset"),
             Asked::Features => write!(f, "features"),
+            Asked::NodeHwState => write!(f, "node_hw_state"),
             Asked::SystemSuspend => write!(f, "system_suspend"),
             Asked::SetSuspendMode => write!(f, "set_suspend_mode"),
             Asked::SystemReset2 => write!(f, "system_reset2"),

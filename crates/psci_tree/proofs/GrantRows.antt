@@ -15,6 +15,7 @@ granting cores clusters groups system = record {
   levels = uneven;
   cores = never_started ∷ never_started ∷ never_started ∷ never_started ∷ [];
   granted = cores ∷ clusters ∷ groups ∷ (system ∷ []) ∷ [];
+  confirmed = cores ∷ clusters ∷ groups ∷ (system ∷ []) ∷ [];
 }
 
 abbrev tree : TreeValue
@@ -129,6 +130,7 @@ four_levels = record {
   levels = (1 ∷ []) ∷ (1 ∷ []) ∷ (1 ∷ []) ∷ (1 ∷ []) ∷ [];
   cores = never_started ∷ [];
   granted = (0 ∷ []) ∷ (0 ∷ []) ∷ (0 ∷ []) ∷ (0 ∷ []) ∷ (0 ∷ []) ∷ [];
+  confirmed = (0 ∷ []) ∷ (0 ∷ []) ∷ (0 ∷ []) ∷ (0 ∷ []) ∷ (0 ∷ []) ∷ [];
 }
 
 too_high : IsDomainTree four_levels → ⊥
@@ -140,6 +142,7 @@ two_systems = record {
   levels = (1 ∷ 1 ∷ []) ∷ [];
   cores = never_started ∷ never_started ∷ [];
   granted = (0 ∷ 0 ∷ []) ∷ (0 ∷ []) ∷ [];
+  confirmed = (0 ∷ 0 ∷ []) ∷ (0 ∷ []) ∷ [];
 }
 
 no_tree : IsDomainTree two_systems → ⊥
@@ -151,6 +154,9 @@ core_missing v = absurd (omega (arith, v.cores))
 
 row_missing : IsDomainTree (record tree { granted = [] }) → ⊥
 row_missing v = absurd (omega (arith, ap length v.granted))
+
+confirmed_missing : IsDomainTree (record tree { confirmed = [] }) → ⊥
+confirmed_missing v = absurd (omega (arith, ap length v.confirmed))
 
 -- a depth above 3, and a domain granted more than one below it
 granted_four : IsDomainTree (granting (4 ∷ 2 ∷ 3 ∷ 0 ∷ []) (3 ∷ 2 ∷ 0 ∷ []) (1 ∷ 0 ∷ []) 0) → ⊥

@@ -9,7 +9,7 @@ use Rattle.std.proofs.lemmas.List.{get_or-map, length-map}
 use Rattle.psci_board.specs.declared.node.Node.{Node}
 use Rattle.psci_board.specs.Board.{group_of, IsTree, HasNodeIn, size_below, place_above}
 use Rattle.psci_tree.specs.Recount.{TreeValue, granted_at, level_sizes, IsDomainTree}
-use Rattle.psci_tree.specs.Changes.{path_cleared, with_grant, rows_with_depth}
+use Rattle.psci_tree.specs.Changes.{path_cleared, with_grant, depth_set, rows_with_depth}
 use Rattle.psci_tree.proofs.Places.{group_below}
 
 -- One written place --------------------------------------------------------------------------
@@ -144,30 +144,37 @@ row_length levels gs l e h =
 
 -- One domain ---------------------------------------------------------------------------------
 
+-- a depth of one domain
+pub depth_at : (levels gs : List (List ℕ)) (n : Node) (depth l p : ℕ)
+    → map length gs ≡ level_sizes levels → HasNodeIn levels n
+    → get_or (get_or (depth_set gs n depth) l []) p 0
+    ≡ cond (n.level == l && n.place == p) depth (get_or (get_or gs l []) p 0)
+depth_at levels gs n depth l p v h =
+    let long : length gs ≡ suc (length levels) =
+    sym (length-map gs length) ∙ ap length v ∙ length_level_sizes levels in
+    let row : length (get_or gs n.level []) ≡ size_below (drop n.level levels) =
+    row_length levels gs n.level v h.level in
+    elim (cases_eq n.level l) [
+      | inl e ↦ rw (
+        eq-eqb n.level l e,
+        ← e,
+        get_or-set_same gs n.level
+            (set (get_or gs n.level []) n.place depth) [] (omega (arith, h.level)),
+      )
+          (at_set (get_or gs n.level []) n.place depth p (omega (arith, h.place)))
+      | inr e ↦ rw (
+        ne_eqb n.level l e,
+        get_or-set_other gs n.level l
+            (set (get_or gs n.level []) n.place depth) [] (λ q. e (sym q)),
+      ) refl
+    ]
+
 -- a granted depth of one domain
 pub grant_at : (t : TreeValue) (n : Node) (depth l p : ℕ) → IsDomainTree t → HasNodeIn t.levels n
     → granted_at (with_grant t n depth) l p
     ≡ cond (n.level == l && n.place == p) depth (granted_at t l p)
 unfolding with_grant
-grant_at t n depth l p v h =
-    let long : length t.granted ≡ suc (length t.levels) =
-    sym (length-map t.granted length) ∙ ap length v.granted ∙ length_level_sizes t.levels in
-    let row : length (get_or t.granted n.level []) ≡ size_below (drop n.level t.levels) =
-    row_length t.levels t.granted n.level v.granted h.level in
-    elim (cases_eq n.level l) [
-      | inl e ↦ rw (
-        eq-eqb n.level l e,
-        ← e,
-        get_or-set_same t.granted n.level
-            (set (get_or t.granted n.level []) n.place depth) [] (omega (arith, h.level)),
-      )
-          (at_set (get_or t.granted n.level []) n.place depth p (omega (arith, h.place)))
-      | inr e ↦ rw (
-        ne_eqb n.level l e,
-        get_or-set_other t.granted n.level l
-            (set (get_or t.granted n.level []) n.place depth) [] (λ q. e (sym q)),
-      ) refl
-    ]
+grant_at t n depth l p v h = depth_at t.levels t.granted n depth l p v.granted h
 
 -- The start of a life ------------------------------------------------------------------------
 

@@ -1,13 +1,18 @@
 -- The values of a tree after each change, by core, and by level and place.
-use Rattle.std.proofs.Common.{◌≡◌, ℕ, zero, suc, ◌<◌, ◌≤◌, cond, ◌==◌, List, length}
-use Rattle.std.proofs.Common.{get_or, replicate, drop, refl, sym, arith, inl, inr}
+use Rattle.std.proofs.Common.{◌≡◌, ℕ, zero, suc, ◌<◌, ◌≤◌, Bool, true, false, cond, ◌==◌, ◌&&◌, List}
+use Rattle.std.proofs.Common.{length, ap, ◌∙◌, nat_lt, get_or, replicate, drop, refl, sym, arith, inl, inr}
 use Rattle.std.proofs.lemmas.Bool.{cases_eq, eq-eqb, ne_eqb}
+use Rattle.std.proofs.lemmas.Bool.Decides.{nat_tests}
 use Rattle.std.proofs.lemmas.List.{get_or-set_same, get_or-set_other, length-replicate}
-use Rattle.psci_board.specs.Board.{size_below, place_above}
+use Rattle.psci_board.specs.declared.node.Node.{Node}
+use Rattle.psci_board.specs.Board.{size_below, place_above, HasNodeIn}
 use Rattle.psci_tree.specs.declared.state.Activity.{Activity}
 use Rattle.psci_tree.specs.Recount.{TreeValue, state_at, granted_at, never_started, level_sizes}
-use Rattle.psci_tree.specs.Changes.{with_core_state, with_path_cleared, all_off}
-use Rattle.psci_tree.proofs.Granted.{zero_at, size_of_level, rows_at}
+use Rattle.psci_tree.specs.Recount.{IsDomainTree, confirmed_at, is_confirmed_at}
+use Rattle.psci_tree.specs.Changes.{with_core_state, with_path_cleared, all_off, still_confirmed}
+use Rattle.psci_tree.specs.Changes.{with_grant, with_confirmed}
+use Rattle.psci_tree.proofs.Granted.{zero_at, size_of_level, rows_at, depth_at}
+use Rattle.psci_tree.proofs.Valid.{is_domain}
 
 -- another state of one core
 pub core_with : (t : TreeValue) (core : ℕ) (activity : Activity) (known c : ℕ)
@@ -26,6 +31,64 @@ pub granted_with : (t : TreeValue) (core l p : ℕ) → granted_at (with_path_cl
     ≡ cond (place_above t.levels l core == p) 0 (granted_at t l p)
 granted_with t core l p = zero_at t.levels t.granted core l p
 
+-- no longer confirmed, or as before
+none_or_same : (b : Bool) (x : ℕ) → nat_lt 0 (cond b 0 x) ≡ cond b false (nat_lt 0 x)
+none_or_same true x = refl
+none_or_same false x = refl
+
+pub confirmed_with : (t : TreeValue) (core l p : ℕ)
+    → is_confirmed_at (with_path_cleared t core) l p
+    ≡ cond (place_above t.levels l core == p) false (is_confirmed_at t l p)
+confirmed_with t core l p =
+    ap (nat_lt 0) (zero_at t.levels t.confirmed core l p)
+    ∙ none_or_same (place_above t.levels l core == p) (confirmed_at t l p)
+
+-- what stays confirmed at a domain, and what was at the others
+kept_if_same : (at same : Bool) (own x : ℕ) → (at ≡ true → own ≡ x)
+    → nat_lt 0 (cond at (cond same own 0) x) ≡ cond at (same && nat_lt 0 x) (nat_lt 0 x)
+kept_if_same true true own x e = ap (nat_lt 0) (e refl)
+kept_if_same true false own x e = refl
+kept_if_same false same own x e = refl
+
+-- at the domain itself the granted depth that is read is its own
+own_depth : (t : TreeValue) (n : Node) (depth l p : ℕ) (b : Bool)
+    → cond (n.level == l && n.place == p) ((granted_at t n.level n.place == depth) && b) b
+    ≡ cond (n.level == l && n.place == p) ((granted_at t l p == depth) && b) b
+own_depth t n depth l p b = elim (cases_eq n.level l) [
+  | inr e ↦ rw (ne_eqb n.level l e) refl
+  | inl e ↦ elim (cases_eq n.place p) [
+    | inr f ↦ rw (eq-eqb n.level l e, ne_eqb n.place p f) refl
+    | inl f ↦ rw (← e, ← f) refl
+  ]
+]
+
+pub confirmed_grant : (t : TreeValue) (n : Node) (depth l p : ℕ) → IsDomainTree t
+    → HasNodeIn t.levels n → is_confirmed_at (with_grant t n depth) l p
+    ≡ cond (n.level == l && n.place == p)
+    ((granted_at t l p == depth) && is_confirmed_at t l p) (is_confirmed_at t l p)
+unfolding with_grant
+confirmed_grant t n depth l p v h =
+    let same : Bool = granted_at t n.level n.place == depth in
+    let at : Bool = n.level == l && n.place == p in
+    ap (nat_lt 0) (depth_at t.levels t.confirmed n (still_confirmed t n depth) l p v.confirmed h)
+    ∙ kept_if_same at same (confirmed_at t n.level n.place) (confirmed_at t l p)
+    (λ e. let d = is_domain n l p e in rw (d.0, d.1) refl)
+    ∙ own_depth t n depth l p (is_confirmed_at t l p)
+
+some_or_same : (b : Bool) (d x : ℕ) → 1 ≤ d → nat_lt 0 (cond b d x) ≡ cond b true (nat_lt 0 x)
+some_or_same true d x h = grind (arith, nat_tests)
+some_or_same false d x h = refl
+
+pub confirmed_now : (t : TreeValue) (n : Node) (l p : ℕ) → IsDomainTree t
+    → HasNodeIn t.levels n → 1 ≤ granted_at t n.level n.place
+    → is_confirmed_at (with_confirmed t n) l p
+    ≡ cond (n.level == l && n.place == p) true (is_confirmed_at t l p)
+unfolding with_confirmed
+confirmed_now t n l p v h some =
+    let depth : ℕ = granted_at t n.level n.place in
+    ap (nat_lt 0) (depth_at t.levels t.confirmed n depth l p v.confirmed h)
+    ∙ some_or_same (n.level == l && n.place == p) depth (confirmed_at t l p) some
+
 pub core_off : (levels : List (List ℕ)) (c : ℕ) → state_at (all_off levels) c ≡ never_started
 core_off levels c = filled (size_below levels) c
   where
@@ -38,6 +101,11 @@ pub granted_off : (levels : List (List ℕ)) (l p : ℕ) → l ≤ length levels
     → p < size_below (drop l levels) → granted_at (all_off levels) l p ≡ 3
 granted_off levels l p h i =
     rows_at (level_sizes levels) l p (omega (arith, size_of_level levels l h))
+
+pub confirmed_off : (levels : List (List ℕ)) (l p : ℕ) → l ≤ length levels
+    → p < size_below (drop l levels) → is_confirmed_at (all_off levels) l p ≡ true
+confirmed_off levels l p h i =
+    ap (nat_lt 0) (rows_at (level_sizes levels) l p (omega (arith, size_of_level levels l h)))
 
 pub cores_off : (levels : List (List ℕ)) → length (all_off levels).cores ≡ size_below levels
 cores_off levels = length-replicate (size_below levels) never_started

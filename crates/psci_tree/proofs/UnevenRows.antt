@@ -5,8 +5,9 @@ use Rattle.psci_board.specs.declared.node.Node.{Node}
 use Rattle.psci_tree.specs.declared.state.Activity.TheVariants.{Active, Off}
 use Rattle.psci_tree.specs.Recount.{TreeValue, state_at, ask_at, known_at, is_active_at, is_off_at}
 use Rattle.psci_tree.specs.Recount.{low, known, active, off, granted_at, level_sizes}
+use Rattle.psci_tree.specs.Recount.{is_confirmed_at}
 use Rattle.psci_tree.specs.Changes.{suspended, turned_off, made_pending, started, start_of_life}
-use Rattle.psci_tree.specs.Changes.{with_grant}
+use Rattle.psci_tree.specs.Changes.{with_grant, with_confirmed}
 
 abbrev pub uneven : List (List ℕ)
 uneven = (1 ∷ 2 ∷ 1 ∷ []) ∷ (2 ∷ 1 ∷ []) ∷ (2 ∷ []) ∷ []
@@ -177,3 +178,49 @@ granted_system = refl
 granted_read : granted_at (with_grant at_start (node 1 1) 2) 1 1 ≡ 2
 unfolding start_of_life made_pending with_grant
 granted_read = refl
+
+-- Confirmed depths ---------------------------------------------------------------------------
+
+-- at the start of a life each domain off the path of core 0
+confirmed_at_start : at_start.confirmed
+    ≡ (0 ∷ 3 ∷ 3 ∷ 3 ∷ []) ∷ (0 ∷ 3 ∷ 3 ∷ []) ∷ (0 ∷ 3 ∷ []) ∷ (0 ∷ []) ∷ []
+unfolding start_of_life made_pending
+confirmed_at_start = refl
+
+-- another depth is not confirmed, the same one stays so
+confirmed_lowered : (with_grant at_start (node 1 1) 2).confirmed
+    ≡ (0 ∷ 3 ∷ 3 ∷ 3 ∷ []) ∷ (0 ∷ 0 ∷ 3 ∷ []) ∷ (0 ∷ 3 ∷ []) ∷ (0 ∷ []) ∷ []
+unfolding start_of_life made_pending with_grant
+confirmed_lowered = refl
+
+confirmed_again : (with_grant at_start (node 1 1) 3).confirmed ≡ at_start.confirmed
+unfolding start_of_life made_pending with_grant
+confirmed_again = refl
+
+-- what is granted the second time waits to be confirmed anew
+confirmed_lost : (with_grant (with_grant at_start (node 1 1) 2) (node 1 1) 3).confirmed
+    ≡ (0 ∷ 3 ∷ 3 ∷ 3 ∷ []) ∷ (0 ∷ 0 ∷ 3 ∷ []) ∷ (0 ∷ 3 ∷ []) ∷ (0 ∷ []) ∷ []
+unfolding start_of_life made_pending with_grant
+confirmed_lost = refl
+
+-- the depth that was granted is confirmed, and no other domain's
+confirmed_one : (with_confirmed (with_grant at_start (node 1 1) 2) (node 1 1)).confirmed
+    ≡ (0 ∷ 3 ∷ 3 ∷ 3 ∷ []) ∷ (0 ∷ 2 ∷ 3 ∷ []) ∷ (0 ∷ 3 ∷ []) ∷ (0 ∷ []) ∷ []
+unfolding start_of_life made_pending with_grant with_confirmed
+confirmed_one = refl
+
+confirmed_read : map (is_confirmed_at at_start 1) (0 ∷ 1 ∷ 2 ∷ 3 ∷ [])
+    ≡ false ∷ true ∷ true ∷ false ∷ []
+unfolding start_of_life made_pending
+confirmed_read = refl
+
+-- a start takes it away on its path, at every level; a core that goes off takes none away
+confirmed_two_paths : (started at_start 3 4).confirmed
+    ≡ (0 ∷ 3 ∷ 3 ∷ 0 ∷ []) ∷ (0 ∷ 3 ∷ 0 ∷ []) ∷ (0 ∷ 0 ∷ []) ∷ (0 ∷ []) ∷ []
+unfolding start_of_life made_pending started
+confirmed_two_paths = refl
+
+confirmed_kept : (turned_off (suspended at_start 3 (2 ∷ 0 ∷ 0 ∷ 0 ∷ [])) 0).confirmed
+    ≡ at_start.confirmed
+unfolding start_of_life made_pending suspended turned_off
+confirmed_kept = refl

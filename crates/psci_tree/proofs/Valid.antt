@@ -9,7 +9,7 @@ use Rattle.psci_board.specs.Board.{IsTree, HasNodeIn, size_below, place_above}
 use Rattle.psci_tree.specs.Recount.{TreeValue, IsActivity, IsDomainTree, never_started}
 use Rattle.psci_tree.specs.Recount.{granted_at, level_sizes}
 use Rattle.psci_tree.specs.Changes.{with_path_cleared, with_grant, rows_with_depth, all_off}
-use Rattle.psci_tree.specs.Changes.{MayGrant}
+use Rattle.psci_tree.specs.Changes.{MayGrant, still_confirmed, with_confirmed}
 use Rattle.psci_tree.specs.declared.state.CoreState.{CoreState}
 use Rattle.psci_tree.proofs.Granted.{zero_at, zero_lengths, same_up, place_lt, size_of_level}
 use Rattle.psci_tree.proofs.Granted.{row_lengths, grant_at, rows_at}
@@ -33,6 +33,7 @@ path_valid t core v = record {
   cores = v.cores;
   asks = v.asks;
   granted = zero_lengths t.levels t.granted core ∙ v.granted;
+  confirmed = zero_lengths t.levels t.confirmed core ∙ v.confirmed;
   deepest = λ l p. rw (zero_at t.levels t.granted core l p) (zero_le _ _ 3 (v.deepest l p));
   nested = λ c l i h.
       rw (
@@ -62,10 +63,25 @@ pub both_tests : (a b : Bool) → (a && b) ≡ true → (a ≡ true) × (b ≡ t
 both_tests true b h = (refl, h)
 both_tests false b h = absurd (cc)
 
-is_domain : (n : Node) (l p : ℕ) → (n.level == l && n.place == p) ≡ true
+pub is_domain : (n : Node) (l p : ℕ) → (n.level == l && n.place == p) ≡ true
     → (n.level ≡ l) × (n.place ≡ p)
 is_domain n l p h = let e = both_tests (n.level == l) (n.place == p) h in
     (eqb-true _ _ e.0, eqb-true _ _ e.1)
+
+pub confirmed_valid : (t : TreeValue) (n : Node) → IsDomainTree t
+    → IsDomainTree (with_confirmed t n)
+unfolding with_confirmed
+confirmed_valid t n v = record {
+  tree = v.tree;
+  high = v.high;
+  cores = v.cores;
+  asks = v.asks;
+  granted = v.granted;
+  confirmed = row_lengths t.confirmed n.level n.place (granted_at t n.level n.place)
+      ∙ v.confirmed;
+  deepest = v.deepest;
+  nested = v.nested;
+}
 
 pub grant_valid : (t : TreeValue) (n : Node) (depth : ℕ) → IsDomainTree t → HasNodeIn t.levels n
     → MayGrant t n depth → IsDomainTree (with_grant t n depth)
@@ -76,6 +92,7 @@ grant_valid t n depth v h may = record {
   cores = v.cores;
   asks = v.asks;
   granted = row_lengths t.granted n.level n.place depth ∙ v.granted;
+  confirmed = row_lengths t.confirmed n.level n.place (still_confirmed t n depth) ∙ v.confirmed;
   deepest =
       λ l p. rw (grant_at t n depth l p v h) (grant_le _ depth _ 3 may.deepest (v.deepest l p));
   nested = λ c l i b.
@@ -125,6 +142,7 @@ pub full_valid : (levels : List (List ℕ)) (cores : List CoreState) → IsTree 
       levels = levels;
       cores = cores;
       granted = rows_with_depth (level_sizes levels) 3;
+      confirmed = rows_with_depth (level_sizes levels) 3;
     })
 full_valid levels cores t h e a = record {
   tree = t;
@@ -132,6 +150,7 @@ full_valid levels cores t h e a = record {
   cores = e;
   asks = a;
   granted = rows_lengths (level_sizes levels);
+  confirmed = rows_lengths (level_sizes levels);
   deepest = λ l p. rows_le (level_sizes levels) l p;
   nested = λ c l i b.
       let inside = place_lt levels l c t (omega arith) i in

@@ -1,6 +1,6 @@
 -- What a call changes in a tree of power domains.
 use Rattle.std.specs.Prelude.{◌≡◌, ℕ, ◌+◌, ◌-◌, ◌<◌, ◌≤◌, List, [], ◌∷◌, length}
-use Rattle.std.specs.Prelude.{map, replicate, slice_set, slice_index_or, unwrap_or}
+use Rattle.std.specs.Prelude.{map, replicate, slice_set, slice_index_or, unwrap_or, ◌==◌, if◌then◌else◌}
 use Rattle.psci_board.specs.declared.node.Node.{Node}
 use Rattle.psci_board.specs.Board.{size_below, group_of, place_above}
 use Rattle.psci_tree.specs.declared.state.CoreState.{CoreState}
@@ -8,6 +8,7 @@ use Rattle.psci_tree.specs.declared.state.Change.{Change}
 use Rattle.psci_tree.specs.declared.state.Activity.{Activity}
 use Rattle.psci_tree.specs.declared.state.Activity.TheVariants.{Active, Suspended, Off}
 use Rattle.psci_tree.specs.Recount.{TreeValue, never_started, known_at, granted_at, level_sizes}
+use Rattle.psci_tree.specs.Recount.{confirmed_at}
 
 -- what becomes of a core: another activity, and the number of its start, if it was started
 abbrev pub core_changed : Change → CoreState → CoreState
@@ -33,9 +34,12 @@ path_cleared levels place [] = []
 path_cleared [] place (g ∷ gs) = slice_set g place 0 ∷ path_cleared [] place gs
 path_cleared (w ∷ ws) place (g ∷ gs) = slice_set g place 0 ∷ path_cleared ws (group_of w place) gs
 
--- nothing is granted on the path of a core
+-- nothing is granted on the path of a core, and nothing confirmed
 abbrev pub with_path_cleared : TreeValue → ℕ → TreeValue
-with_path_cleared t core = record t { granted = path_cleared t.levels core t.granted }
+with_path_cleared t core = record t {
+  granted = path_cleared t.levels core t.granted;
+  confirmed = path_cleared t.levels core t.confirmed;
+}
 
 -- a core is suspended, and asks these depths; what was granted stays
 unfoldable pub suspended : TreeValue → ℕ → List ℕ → TreeValue
@@ -54,23 +58,40 @@ made_pending t core = with_path_cleared (with_core_state t core Active (known_at
 unfoldable pub started : TreeValue → ℕ → ℕ → TreeValue
 started t core known = with_path_cleared (with_core_state t core Active known) core
 
--- another granted depth of one domain
+-- this depth at the place of one domain
+abbrev pub depth_set : List (List ℕ) → Node → ℕ → List (List ℕ)
+depth_set rows n depth =
+    slice_set rows n.level (slice_set (slice_index_or rows n.level []) n.place depth)
+
+-- what stays confirmed of a domain that is granted this depth: nothing, if it was granted another
+abbrev pub still_confirmed : TreeValue → Node → ℕ → ℕ
+still_confirmed t n depth = if granted_at t n.level n.place == depth
+    then confirmed_at t n.level n.place else 0
+
+-- a granted depth of one domain: another one than before is not confirmed
 unfoldable pub with_grant : TreeValue → Node → ℕ → TreeValue
 with_grant t n depth = record t {
-  granted = slice_set t.granted n.level
-      (slice_set (slice_index_or t.granted n.level []) n.place depth);
+  granted = depth_set t.granted n depth;
+  confirmed = depth_set t.confirmed n (still_confirmed t n depth);
+}
+
+-- what was granted to one domain is confirmed
+unfoldable pub with_confirmed : TreeValue → Node → TreeValue
+with_confirmed t n = record t {
+  confirmed = depth_set t.confirmed n (granted_at t n.level n.place);
 }
 
 -- rows of these lengths, with one depth throughout
 abbrev pub rows_with_depth : List ℕ → ℕ → List (List ℕ)
 rows_with_depth counts depth = map (λ count. replicate count depth) counts
 
--- every core off and never started, every domain granted depth 3
+-- every core off and never started, every domain granted depth 3, which is confirmed
 abbrev pub all_off : List (List ℕ) → TreeValue
 all_off levels = record {
   levels = levels;
   cores = replicate (size_below levels) never_started;
   granted = rows_with_depth (level_sizes levels) 3;
+  confirmed = rows_with_depth (level_sizes levels) 3;
 }
 
 -- the start of a life: the boot core, core 0, is pending, and all else is off

@@ -1,6 +1,6 @@
 -- What a tree of power domains holds, and what is counted over the cores below a domain.
 use Rattle.std.specs.Prelude.{◌≡◌, ℕ, ◌+◌, ◌<◌, ◌≤◌, min, Bool, true, false, List, [], ◌∷◌, length}
-use Rattle.std.specs.Prelude.{map, slice_index, slice_index_or, nat_le, if◌then◌else◌}
+use Rattle.std.specs.Prelude.{map, slice_index, slice_index_or, nat_le, nat_lt, if◌then◌else◌}
 use Rattle.std.specs.List.{sum_by, count_by}
 use Rattle.psci_state.specs.Ask.{IsAsk}
 use Rattle.psci_board.specs.declared.node.Node.{Node}
@@ -17,6 +17,8 @@ pub record TreeValue : Type 0 where
   pub cores : List CoreState
   -- granted depths, by level and place
   pub granted : List (List ℕ)
+  -- the depths that are confirmed, by level and place: 0 of a domain of which none is
+  pub confirmed : List (List ℕ)
 
 -- One core -------------------------------------------------------------------------------------
 
@@ -100,6 +102,14 @@ off t n = count_by (λ c. is_off_at t c) (below_in t.levels n)
 abbrev pub granted_at : TreeValue → ℕ → ℕ → ℕ
 granted_at t level place = slice_index (slice_index_or t.granted level []) place
 
+-- the depth that is confirmed of the domain of this level and place, or 0
+abbrev pub confirmed_at : TreeValue → ℕ → ℕ → ℕ
+confirmed_at t level place = slice_index (slice_index_or t.confirmed level []) place
+
+-- whether what was granted to the domain of this level and place is confirmed
+abbrev pub is_confirmed_at : TreeValue → ℕ → ℕ → Bool
+is_confirmed_at t level place = nat_lt 0 (confirmed_at t level place)
+
 -- how many domains each level has, from the cores up
 abbrev pub level_sizes : List (List ℕ) → List ℕ
 level_sizes [] = 1 ∷ []
@@ -111,6 +121,7 @@ pub record IsDomainTree (t : TreeValue) : Type 0 where
   pub high : length t.levels ≤ 3
   pub cores : length t.cores ≡ size_below t.levels
   pub granted : map length t.granted ≡ level_sizes t.levels
+  pub confirmed : map length t.confirmed ≡ level_sizes t.levels
   -- a suspended core asks what a power state can ask
   pub asks : (core : ℕ) → IsActivity (state_at t core).activity
   -- no granted depth is above 3

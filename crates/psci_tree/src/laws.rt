@@ -8,9 +8,10 @@ ghost use Rattle.psci_board.specs.Board.{HasNodeIn, size_below, place_above, bel
 ghost use Rattle.psci_tree.specs.declared.state.Activity.TheVariants.{Active, Suspended, Off};
 ghost use Rattle.psci_tree.specs.Recount.{TreeValue, IsDomainTree, active, ask_at, state_at};
 ghost use Rattle.psci_tree.specs.Recount.{granted_at, is_active_at, is_off_at, known, known_at};
+ghost use Rattle.psci_tree.specs.Recount.{is_confirmed_at};
 ghost use Rattle.psci_tree.specs.Recount.{low, never_started, off};
 ghost use Rattle.psci_tree.specs.Changes.{start_of_life, made_pending, started};
-ghost use Rattle.psci_tree.specs.Changes.{suspended, turned_off, with_grant};
+ghost use Rattle.psci_tree.specs.Changes.{suspended, turned_off, with_grant, with_confirmed};
 
 use psci_board::law_spans;
 
@@ -57,8 +58,33 @@ pub fn law_granted()
         ≡ (if n.level == l && n.place == p then depth else granted_at t l p) }
 {}
 
+/// Of which domains the granted depth is confirmed after each change.
+pub fn law_confirmed()
+    ensures suspended { (t : TreeValue) (core l p : ℕ) (depths : List ℕ)
+        → is_confirmed_at (suspended t core depths) l p ≡ is_confirmed_at t l p }
+    ensures off { (t : TreeValue) (core l p : ℕ)
+        → is_confirmed_at (turned_off t core) l p ≡ is_confirmed_at t l p }
+    ensures pending { (t : TreeValue) (core l p : ℕ) → is_confirmed_at (made_pending t core) l p
+        ≡ (if place_above t.levels l core == p then false else is_confirmed_at t l p) }
+    ensures started { (t : TreeValue) (core known l p : ℕ)
+        → is_confirmed_at (started t core known) l p
+        ≡ (if place_above t.levels l core == p then false else is_confirmed_at t l p) }
+    ensures grant { (t : TreeValue) (n : Node) (depth l p : ℕ) → IsDomainTree t
+        → HasNodeIn t.levels n → is_confirmed_at (with_grant t n depth) l p
+        ≡ (if n.level == l && n.place == p
+        then granted_at t l p == depth && is_confirmed_at t l p else is_confirmed_at t l p) }
+    ensures confirmed { (t : TreeValue) (n : Node) (l p : ℕ) → IsDomainTree t
+        → HasNodeIn t.levels n → 1 ≤ granted_at t n.level n.place
+        → is_confirmed_at (with_confirmed t n) l p
+        ≡ (if n.level == l && n.place == p then true else is_confirmed_at t l p) }
+    ensures granted { (t : TreeValue) (n : Node) (l p : ℕ)
+        → granted_at (with_confirmed t n) l p ≡ granted_at t l p }
+    ensures cores { (t : TreeValue) (n : Node) (c : ℕ)
+        → state_at (with_confirmed t n) c ≡ state_at t c }
+{}
+
 /// The start of a life: core 0 is pending and every other core off, none was started, and depth 3
-/// is granted to each domain off the path of core 0.
+/// is granted to each domain off the path of core 0, and confirmed.
 pub fn law_start_of_life()
     ensures cores { (levels : List (List ℕ)) (c : ℕ) → 0 < size_below levels
         → state_at (start_of_life levels) c ≡ (if 0 == c
@@ -66,6 +92,9 @@ pub fn law_start_of_life()
     ensures granted { (levels : List (List ℕ)) (l p : ℕ) → l ≤ length levels
         → p < size_below (drop l levels) → granted_at (start_of_life levels) l p
         ≡ (if place_above levels l 0 == p then 0 else 3) }
+    ensures confirmed { (levels : List (List ℕ)) (l p : ℕ) → l ≤ length levels
+        → p < size_below (drop l levels) → is_confirmed_at (start_of_life levels) l p
+        ≡ (if place_above levels l 0 == p then false else true) }
 {}
 
 /// What a core of any tree asks: at no level more than at the one below it, and of its own level

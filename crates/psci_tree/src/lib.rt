@@ -9,6 +9,7 @@
 //!   life.
 //! - The *granted depth* of a domain is the depth that it was granted last, 0 once a core below it
 //!   became pending or started.
+//! - A granted depth is *confirmed* once the power controller said that the domain is at it.
 //! - A value of a domain *below* is recounted over all cores whose path the domain is on.
 #![tactic(auto)]
 
@@ -22,7 +23,8 @@ mod state;
 mod tree;
 
 pub use laws::{
-    law_asks, law_cores, law_counts, law_granted, law_known, law_low, law_start_of_life, law_states,
+    law_asks, law_confirmed, law_cores, law_counts, law_granted, law_known, law_low,
+    law_start_of_life, law_states,
 };
 pub use state::Activity;
 pub use tree::Tree;

@@ -20,6 +20,8 @@ pub struct Tree {
     board: Board,
     /// From level 0 up, the granted depth of each domain.
     granted: Vec<Vec<u8>>,
+    /// From level 0 up, the depth of each domain that is confirmed, 0 of one that has none.
+    confirmed: Vec<Vec<u8>>,
     /// The domain of the whole system, with all others below it.
     root: Domain,
 }
@@ -36,12 +38,14 @@ impl Model for Tree {
       levels = t.board.levels;
       cores = leaves t.root;
       granted = map (λ v. v.items) t.granted.items;
+      confirmed = map (λ v. v.items) t.confirmed.items;
     } };
 
     ghost invariant = { λ t. IsTied t.root (record {
       levels = t.board.levels;
       cores = leaves t.root;
       granted = map (λ v. v.items) t.granted.items;
+      confirmed = map (λ v. v.items) t.confirmed.items;
     }) };
 }
 
@@ -51,15 +55,17 @@ ghost use Rattle.psci_tree.specs.declared.domain.Domain.{Domain, out-Domain};
 ghost use Rattle.psci_tree.specs.declared.state.Activity.TheVariants.{Active, Suspended, Off};
 ghost use Rattle.psci_tree.specs.Recount.{IsActivity, IsDomainTree, state_at};
 ghost use Rattle.psci_tree.specs.Recount.{known_at, low, known, active, off, granted_at};
+ghost use Rattle.psci_tree.specs.Recount.{confirmed_at, is_confirmed_at};
 ghost use Rattle.psci_tree.specs.Changes.{MayGrant, suspended, turned_off, made_pending, started};
-ghost use Rattle.psci_tree.specs.Changes.{with_grant, with_core_state, with_path_cleared};
-ghost use Rattle.psci_tree.specs.Changes.{all_off, start_of_life};
+ghost use Rattle.psci_tree.specs.Changes.{with_grant, with_confirmed, with_core_state, with_path_cleared};
+ghost use Rattle.psci_tree.specs.Changes.{all_off, start_of_life, still_confirmed};
 ghost use Rattle.psci_tree.specs.Domains.{leaves};
 ghost use Rattle.psci_tree.specs.Kept.{Keeps};
 
 impl Tree {
     /// The tree of a board at the start of a life: the boot core, core 0, is pending, every other
-    /// core is off, and every domain off the boot core's path is granted depth 3.
+    /// core is off, and every domain off the boot core's path is granted depth 3, which is
+    /// confirmed.
     pub fn new(alloc: Global, board: &Board) -> Result<Tree, Memory>
         ensures value { IfOk result (λ tree. tree ≡ start_of_life board.now.levels) }
         ensures levels { IfOk result (λ tree. tree.levels ≡ board.now.levels) }
@@ -68,6 +74,7 @@ impl Tree {
         let mut tree = Tree {
             board: board.copy(alloc)?,
             granted: deepest_rows(alloc, board)?,
+            confirmed: deepest_rows(alloc, board)?,
             root: build(alloc, board)?,
         };
         law_sizes();
@@ -132,6 +139,14 @@ impl Tree {
         row[node.place as usize]
     }
 
+    /// Whether what was granted to a domain is confirmed.
+    pub fn confirmed(&self, node: Node) -> bool
+        requires { HasNodeIn self.now.levels node }
+        ensures { result ≡ is_confirmed_at self.now node.level node.place }
+    {
+        self.confirmed_depth(node) > 0
+    }
+
     /// What a core does. A core that the board does not have is off.
     pub fn activity(&self, core: Core) -> Activity
         ensures { result ≡ (state_at self.now core.number).activity }
@@ -146,7 +161,7 @@ impl Tree {
         self.core(core).known
     }
 
-    /// Grants a depth to a domain.
+    /// Grants a depth to a domain. Another one than before is not confirmed.
     pub fn grant(&mut self, node: Node, depth: u8)
         requires domain { HasNodeIn self.old.levels node }
         requires depth { MayGrant self.old node depth }
@@ -154,7 +169,21 @@ impl Tree {
         ensures levels { self.new.levels ≡ self.old.levels }
         ensures tree { IsDomainTree self.new }
     {
+        let confirmed = self.still_confirmed(node, depth);
+        write(&mut self.confirmed, node, confirmed);
         write(&mut self.granted, node, depth);
+    }
+
+    /// Confirms what was granted to a domain.
+    pub fn confirm(&mut self, node: Node)
+        requires domain { HasNodeIn self.old.levels node }
+        requires granted { 1 ≤ granted_at self.old node.level node.place }
+        ensures value { self.new ≡ with_confirmed self.old node }
+        ensures levels { self.new.levels ≡ self.old.levels }
+        ensures tree { IsDomainTree self.new }
+    {
+        let depth = self.granted(node);
+        write(&mut self.confirmed, node, depth);
     }
 
     /// A core is suspended, with this ask.
@@ -177,7 +206,7 @@ impl Tree {
         self.set_core(core, Activity::Off, None);
     }
 
-    /// A core is pending: nothing is granted any more on its path.
+    /// A core is pending: nothing is granted or confirmed any more on its path.
     pub fn set_pending(&mut self, core: Core)
         requires { core.number < size_below self.old.levels }
         ensures value { self.new ≡ made_pending self.old core.number }
@@ -188,7 +217,8 @@ impl Tree {
         self.clear_path(core);
     }
 
-    /// A core runs in its start of this number: nothing is granted any more on its path.
+    /// A core runs in its start of this number: nothing is granted or confirmed any more on its
+    /// path.
     pub fn set_start(&mut self, core: Core, number: u32)
         requires { core.number < size_below self.old.levels }
         ensures value { self.new ≡ started self.old core.number number }
@@ -197,6 +227,27 @@ impl Tree {
     {
         self.set_core(core, Activity::Active, Some(number));
         self.clear_path(core);
+    }
+
+    /// The depth of a domain that is confirmed, or 0.
+    fn confirmed_depth(&self, node: Node) -> u8
+        requires { HasNodeIn self.now.levels node }
+        ensures { result ≡ confirmed_at self.now node.level node.place }
+    {
+        let places = &self.confirmed[node.level as usize];
+        places[node.place as usize]
+    }
+
+    /// What stays confirmed of a domain that is granted this depth.
+    fn still_confirmed(&self, node: Node, depth: u8) -> u8
+        requires { HasNodeIn self.now.levels node }
+        ensures { result ≡ still_confirmed self.now node depth }
+    {
+        if self.granted(node) == depth {
+            self.confirmed_depth(node)
+        } else {
+            0
+        }
     }
 
     /// What is kept of a core.
@@ -222,7 +273,7 @@ impl Tree {
         change_core(&mut self.root, &self.board, core, &change);
     }
 
-    /// Takes away what is granted on the path of a core.
+    /// Takes away what is granted and confirmed on the path of a core.
     fn clear_path(&mut self, core: Core)
         requires { core.number < size_below self.old.levels }
         ensures value { self.new ≡ with_path_cleared self.old core.number }
@@ -230,9 +281,10 @@ impl Tree {
         ensures tree { IsDomainTree self.new }
     {
         clear_up(&mut self.granted, &self.board, core.node());
+        clear_up(&mut self.confirmed, &self.board, core.node());
     }
 
-    /// Turns off every core, and grants depth 3 to every domain.
+    /// Turns off every core, and grants depth 3 to every domain, which is confirmed.
     fn turn_off(&mut self)
         ensures value { self.new ≡ all_off self.old.levels }
         ensures levels { self.new.levels ≡ self.old.levels }
@@ -240,6 +292,7 @@ impl Tree {
     {
         turn_off(&mut self.root, &self.board);
         fill_rows(&mut self.granted, 3);
+        fill_rows(&mut self.confirmed, 3);
     }
 
     /// The domain of a node.

@@ -94,6 +94,7 @@ return_call b c (requests.CpuSuspend state entry_point context) code = goes c
 return_call b c requests.CpuOff code = goes c
 return_call b c (requests.CpuOn target entry_point context) code = goes c
 return_call b c (requests.AffinityInfo target level) code = goes c
+return_call b c (requests.NodeHwState target level) code = goes c
 return_call b c requests.MigrateInfoType code = goes c
 return_call b c requests.SystemOff code = goes c
 return_call b c requests.SystemReset code = goes c
@@ -112,6 +113,7 @@ sent_call b c requests.CpuOff code m = goes c
 sent_call b c (requests.CpuOn target entry_point context) code m =
     record { is = refl; core = refl; runs = refl }
 sent_call b c (requests.AffinityInfo target level) code m = goes c
+sent_call b c (requests.NodeHwState target level) code m = goes c
 sent_call b c requests.MigrateInfoType code m = goes c
 sent_call b c requests.SystemOff code m = goes c
 sent_call b c requests.SystemReset code m = goes c
@@ -130,6 +132,8 @@ stop_call b c requests.CpuOff m = record { is = refl; core = refl; runs = refl }
 stop_call b c (requests.CpuOn target entry_point context) m =
     record { is = refl; core = refl; runs = refl }
 stop_call b c (requests.AffinityInfo target level) m =
+    record { is = refl; core = refl; runs = refl }
+stop_call b c (requests.NodeHwState target level) m =
     record { is = refl; core = refl; runs = refl }
 stop_call b c requests.MigrateInfoType m = record { is = refl; core = refl; runs = refl }
 stop_call b c requests.SystemOff m = record { is = refl; core = refl; runs = refl }

@@ -215,7 +215,7 @@ enter_agrees b u place v c s act o last h =
 
 -- an acknowledgement changes neither known starts nor phases
 pub take_agrees : (b : BoardValue) (u : controlled.Values) (place : ℕ → Place) (v : Values)
-    (a : AckValue) → AreAgreed b u place v → AreAgreed b u place (with_acknowledgement a v)
+    (a : AckValue) → AreAgreed b u place v → AreAgreed b u place (with_acknowledgement b a v)
 take_agrees b u place v a h = record {
   begun = h.begun;
   stopped = h.stopped;
@@ -223,7 +223,7 @@ take_agrees b u place v a h = record {
 }
   where
     w : Values
-    w = with_acknowledgement a v
+    w = with_acknowledgement b a v
 
     by_cases : (life : ℕ) → (life ≡ v.life) ⊎ (life ≡ v.life → ⊥)
         → AgreeIn b u.starts place (in_life b life v)

@@ -1,5 +1,6 @@
 pub mod Answered
 mod EntryRows
+mod HardwareRows
 mod LossRows
 mod ModeRows
 mod OffRows

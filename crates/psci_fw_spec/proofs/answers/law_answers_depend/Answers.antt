@@ -1,8 +1,8 @@
 -- What an answer depends on.
 use Rattle.std.proofs.Common.{ap, refl}
 use Rattle.psci_link.specs.Slots.{taken}
-use Rattle.psci_fw_spec.proofs.Depending.{affinity_same, enter_same, mode_same, off_same}
-use Rattle.psci_fw_spec.proofs.Depending.{on_same, reset_same, suspend_same, system_same}
+use Rattle.psci_fw_spec.proofs.Depending.{affinity_same, enter_same, mode_same, node_hw_same}
+use Rattle.psci_fw_spec.proofs.Depending.{off_same, on_same, reset_same, suspend_same, system_same}
 use Rattle.psci_fw_spec.proofs.answers.law_answers_depend.Goals as goal
 
 pub returns-clause-version : goal.returns-clause-version
@@ -25,6 +25,9 @@ returns-clause-on c = on_same
 
 pub returns-clause-affinity : goal.returns-clause-affinity
 returns-clause-affinity c = affinity_same
+
+pub returns-clause-hardware : goal.returns-clause-hardware
+returns-clause-hardware c = node_hw_same
 
 pub returns-clause-mode : goal.returns-clause-mode
 returns-clause-mode c = mode_same

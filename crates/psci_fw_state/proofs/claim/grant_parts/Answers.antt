@@ -2,8 +2,9 @@ use Rattle.std.proofs.Common.{◌≤◌, arith, ◌∙◌}
 use Rattle.std.proofs.lemmas.Option.{slice_get-get_or}
 use Rattle.psci_board.specs.Board.{height}
 use Rattle.psci_coord.specs.declared.part.Part.{Part}
-use Rattle.psci_tree.specs.Recount.{granted_at}
+use Rattle.psci_tree.specs.Recount.{granted_at, is_confirmed_at}
 use Rattle.psci_fw_state.proofs.Granting.{laid_all, laid_more, may_grant, on_path, path_at}
+use Rattle.psci_fw_state.proofs.Granting.{unconfirmed_all, unconfirmed_more}
 use Rattle.psci_fw_state.proofs.claim.grant_parts.Goals as goal
 
 pub grant-requires-clause-domain : goal.grant-requires-clause-domain
@@ -53,6 +54,14 @@ loop-level-preserved c =
           (λ l p. rw (c.grant.ensures.value, node)
           (c.law_granted.ensures.grant c.loop-level.tree _ _ l p c.loop-level.invariant.tree
           has)) c.loop-level.invariant.laid;
+      unconfirmed = unconfirmed_more b c.args.core.number c.args.parts.now
+          (is_confirmed_at c.args.tree.now) c.loop-level.tree c.grant.new.self c.loop-level.level _
+          part (c.loop-level.invariant.laid.high _ _ (omega arith)
+          ∙ c.requires.may.free c.loop-level.level low)
+          ((c.law_parts.ensures.parts c.args.parts.now c.requires.claim).least _ _ part)
+          (λ l p. rw (c.grant.ensures.value, node)
+          (c.law_confirmed.ensures.grant c.loop-level.tree _ _ l p c.loop-level.invariant.tree
+          has)) c.loop-level.invariant.unconfirmed;
       cores = λ k. rw c.grant.ensures.value
           (c.law_cores.ensures.grant c.loop-level.tree _ _ k ∙ c.loop-level.invariant.cores k);
       levels = c.grant.ensures.levels ∙ c.loop-level.invariant.levels;
@@ -63,3 +72,9 @@ pub returns-clause-granted : goal.returns-clause-granted
 returns-clause-granted c = λ l p.
     laid_all c.args.board.now c.args.core.number c.args.parts.now (granted_at c.args.tree.now)
     c.loop-level.tree c.loop-level.level c.loop-level-test.false c.loop-level.invariant.laid l p
+
+pub returns-clause-confirmed : goal.returns-clause-confirmed
+returns-clause-confirmed c = λ l p.
+    unconfirmed_all c.args.board.now c.args.core.number c.args.parts.now
+    (is_confirmed_at c.args.tree.now) c.loop-level.tree c.loop-level.level c.loop-level-test.false
+    c.loop-level.invariant.unconfirmed l p

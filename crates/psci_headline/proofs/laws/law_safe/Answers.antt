@@ -18,4 +18,5 @@ returns c = λ b past board. always b (λ before legal.
       asked = no_deeper b before claimed (c.law_asked_claims.ensures b before board legal);
       entries = c.law_one_entry.ensures b (firmware_history b before) board
           (c.law_histories.ensures.firmware b before legal);
+      states = c.law_states_real.ensures b before board legal;
     }) past

@@ -2,6 +2,7 @@
 use Rattle.psci_safe.proofs.AllTested.{always_tested, safe_tested, tested_safe}
 use Rattle.psci_safe.proofs.Once.{entries_tested}
 use Rattle.psci_safe.proofs.Tested.{asked_tested, off_tested, one_tested, powered_tested}
+use Rattle.psci_safe.proofs.Tested.{states_tested}
 use Rattle.psci_safe.proofs.laws.law_tested.Goals as goal
 
 pub returns-clause-tested : goal.returns-clause-tested
@@ -27,3 +28,6 @@ returns-clause-asked c = asked_tested
 
 pub returns-clause-entries : goal.returns-clause-entries
 returns-clause-entries c = entries_tested
+
+pub returns-clause-states : goal.returns-clause-states
+returns-clause-states c = states_tested

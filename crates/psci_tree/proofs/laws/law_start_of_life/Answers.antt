@@ -1,10 +1,11 @@
-use Rattle.std.proofs.Common.{◌≡◌, ℕ, ◌∙◌, arith, ap, cond, ◌==◌}
+use Rattle.std.proofs.Common.{◌≡◌, ℕ, ◌∙◌, arith, ap, cond, ◌==◌, false}
 use Rattle.psci_board.specs.Board.{place_above}
 use Rattle.psci_tree.specs.Recount.{known_at, never_started}
 use Rattle.psci_tree.specs.Changes.{made_pending, with_core_state, start_of_life, all_off}
 use Rattle.psci_tree.specs.declared.state.Activity.TheVariants.{Active}
 use Rattle.psci_tree.specs.declared.state.CoreState.{CoreState}
 use Rattle.psci_tree.proofs.Looked.{core_with, core_off, cores_off, granted_with, granted_off}
+use Rattle.psci_tree.proofs.Looked.{confirmed_with, confirmed_off}
 use Rattle.psci_tree.proofs.laws.law_start_of_life.Goals as goal
 
 pub returns-clause-cores : goal.returns-clause-cores
@@ -25,3 +26,9 @@ unfolding start_of_life made_pending
 returns-clause-granted c = λ levels l p h i.
     granted_with (with_core_state (all_off levels) 0 Active (known_at (all_off levels) 0)) 0 l p
     ∙ ap (λ (d : ℕ). cond (place_above levels l 0 == p) 0 d) (granted_off levels l p h i)
+
+pub returns-clause-confirmed : goal.returns-clause-confirmed
+unfolding start_of_life made_pending
+returns-clause-confirmed c = λ levels l p h i.
+    confirmed_with (with_core_state (all_off levels) 0 Active (known_at (all_off levels) 0)) 0 l p
+    ∙ ap (λ b. cond (place_above levels l 0 == p) false b) (confirmed_off levels l p h i)

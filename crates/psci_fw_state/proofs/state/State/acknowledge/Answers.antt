@@ -8,7 +8,7 @@ use Rattle.psci_fw_spec.specs.Changes.{turns_off}
 use Rattle.psci_fw_state.specs.Rows.{row_at}
 use Rattle.psci_fw_state.specs.Seen.{StateValue, values_in}
 use Rattle.psci_fw_state.proofs.Acked.{down_has_slot, off_changed, old_changed, old_slot}
-use Rattle.psci_fw_state.proofs.Acked.{used_changed}
+use Rattle.psci_fw_state.proofs.Acked.{IsAcked, acked_by, sent_parts, used_changed}
 use Rattle.psci_fw_state.proofs.Changed.{row_set}
 use Rattle.psci_fw_state.proofs.Moved.{rows_set}
 use Rattle.psci_fw_state.proofs.state.State.acknowledge.Goals as goal
@@ -47,8 +47,13 @@ returns-then-is_off-clause-used c = λ used.
     let rows = rows_set c.self.inside.rows c.deref_mut.result.now c.set_row.new.rows
     a.core.number (record { status = statuses.Off; opening = c.row_of.result.opening })
     c.deref_mut.ensures.value c.set_row.ensures in
+    let acked : IsAcked s c.confirm_parts.new.tree a =
+    acked_by s c.confirm_parts.new.tree a c.as_slice.result.now
+    (λ level. rw (c.as_slice.ensures.parts) (sent_parts s _ a _ _ c.self.view_is c.ack.view_is
+    c.applied_parts-applied.ensures level))
+    c.confirm_parts.ensures.cores c.confirm_parts.ensures.granted c.confirm_parts.ensures.confirmed in
     rw (← c.ack.view_is)
-    (off_changed s _ _ c.take_ack-taken.new.self a c.self.view_is off
+    (off_changed s _ c.confirm_parts.new.tree _ c.take_ack-taken.new.self a c.self.view_is off acked
     (rw (rows, row) (row_set s.rows a.core.number _ row_inside))
     (λ slot. rw (c.take_ack-taken.ensures.slots, ← c.ack.view_is)
     (c.law_slots.ensures.changed s.slots (Acknowledge a) tt slot)))
@@ -102,7 +107,12 @@ returns-else-is_off-clause-used c = λ used.
     let off : turns_off (values_in c.args.self.now) a ≡ false =
     subst (λ (x : AckValue). turns_off (values_in c.args.self.now) x ≡ false) (sym c.ack.view_is)
     (sym c.turns_off-is_off.ensures ∙ c.if-is_off.false) in
+    let acked : IsAcked s c.confirm_parts.new.tree a =
+    acked_by s c.confirm_parts.new.tree a c.as_slice.result.now
+    (λ level. rw (c.as_slice.ensures.parts) (sent_parts s _ a _ _ c.self.view_is c.ack.view_is
+    c.applied_parts-applied.ensures level))
+    c.confirm_parts.ensures.cores c.confirm_parts.ensures.granted c.confirm_parts.ensures.confirmed in
     rw (← c.ack.view_is)
-    (used_changed s _ c.take_ack-taken.new.self a c.self.view_is off
+    (used_changed s _ c.confirm_parts.new.tree c.take_ack-taken.new.self a c.self.view_is off acked
     (λ slot. rw (c.take_ack-taken.ensures.slots, ← c.ack.view_is)
     (c.law_slots.ensures.changed s.slots (Acknowledge a) tt slot)))

@@ -3,7 +3,7 @@ use Rattle.psci_link.specs.Slots.Change.{Clear}
 use Rattle.psci_fw_state.specs.Rows.{row_at}
 use Rattle.psci_fw_state.specs.Seen.{StateValue}
 use Rattle.psci_fw_state.proofs.Changed.{in_rows, row_set}
-use Rattle.psci_fw_state.proofs.Moved.{path_cleared, rows_set}
+use Rattle.psci_fw_state.proofs.Moved.{path_cleared, path_unconfirmed, rows_set}
 use Rattle.psci_fw_state.proofs.Moved.{stopped_changed}
 use Rattle.psci_fw_state.proofs.state.State.arrive_away.Goals as goal
 
@@ -33,5 +33,7 @@ returns-clause-after c =
     (in_rows _ _ _ c.self.view_is c.self.invariant c.requires.inside)))
     (path_cleared s c.stop.new.tree c.args.core.number c.self.invariant
     c.stop.ensures.granted)
+    (path_unconfirmed s c.stop.new.tree c.args.core.number c.self.invariant
+    c.stop.ensures.confirmed)
     (λ slot. rw c.clear.ensures.slots
     (c.law_slots.ensures.changed s.slots (Clear c.args.core) tt slot))

@@ -3,7 +3,8 @@ use Rattle.psci_link.specs.Slots.Change.{Clear}
 use Rattle.psci_fw_spec.specs.declared.status.Status.TheVariants as statuses
 use Rattle.psci_fw_state.specs.Seen.{StateValue}
 use Rattle.psci_fw_state.proofs.Changed.{in_rows, row_set, within}
-use Rattle.psci_fw_state.proofs.Moved.{path_cleared, rows_set, running_changed}
+use Rattle.psci_fw_state.proofs.Moved.{path_cleared, path_unconfirmed, rows_set}
+use Rattle.psci_fw_state.proofs.Moved.{running_changed}
 use Rattle.psci_fw_state.proofs.state.State.arrive_running.Goals as goal
 
 pub returns-clause-after : goal.returns-clause-after
@@ -31,5 +32,8 @@ returns-clause-after c =
     (path_cleared s c.set_start.new.self c.args.core.number c.self.invariant
     (λ l p. rw c.set_start.ensures.value
     (c.law_granted.ensures.started s.tree c.args.core.number c.args.start.number l p)))
+    (path_unconfirmed s c.set_start.new.self c.args.core.number c.self.invariant
+    (λ l p. rw c.set_start.ensures.value
+    (c.law_confirmed.ensures.started s.tree c.args.core.number c.args.start.number l p)))
     (λ slot. rw c.clear.ensures.slots
     (c.law_slots.ensures.changed s.slots (Clear c.args.core) tt slot))

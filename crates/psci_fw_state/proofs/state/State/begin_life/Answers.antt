@@ -29,5 +29,7 @@ returns-clause-after c =
     (λ k. rw c.reset_life.ensures.value (c.law_start_of_life.ensures.cores s.tree.levels k some))
     (λ l p h i. rw (c.reset_life.ensures.value, levels)
     (c.law_start_of_life.ensures.granted s.board.levels l p h i))
+    (λ l p h i. rw (c.reset_life.ensures.value, levels)
+    (c.law_start_of_life.ensures.confirmed s.board.levels l p h i))
     c.reset_rows.ensures
     (λ slot. rw c.clear_all.ensures.slots (c.law_slots.ensures.changed s.slots ClearAll tt slot))))

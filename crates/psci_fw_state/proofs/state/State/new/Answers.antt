@@ -10,5 +10,6 @@ returns-clause-values c =
     (λ k. rw value (c.law_start_of_life.ensures.cores c.args.board.now.levels k
     (some_below c.args.board.now.levels board.tree)))
     (λ l p h i. rw value (c.law_start_of_life.ensures.granted c.args.board.now.levels l p h i))
+    (λ l p h i. rw value (c.law_start_of_life.ensures.confirmed c.args.board.now.levels l p h i))
     (c.in_ok-first_rows.ensures {u = tt})
     (λ slot. rw (c.in_ok-new-2.ensures.slots) (none_in _ slot))

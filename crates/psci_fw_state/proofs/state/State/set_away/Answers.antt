@@ -10,3 +10,4 @@ returns-then-not-is_pending-clause-after c =
     (sym c.is_pending.ensures ∙ c.if-not-is_pending.true)
     (λ k. rw c.set_off.ensures.value (c.law_cores.ensures.off _ _ k inside))
     (λ l p. rw c.set_off.ensures.value (c.law_granted.ensures.off _ _ l p))
+    (λ l p. rw c.set_off.ensures.value (c.law_confirmed.ensures.off _ _ l p))

@@ -7,7 +7,7 @@ use Rattle.psci_link.specs.Slots.Change.{Put}
 use Rattle.psci_fw_spec.specs.declared.status.Status.TheVariants as statuses
 use Rattle.psci_fw_state.specs.Seen.{StateValue}
 use Rattle.psci_fw_state.proofs.Changed.{core_set, in_rows, row_set, within}
-use Rattle.psci_fw_state.proofs.Moved.{path_cleared, pending_of, rows_set}
+use Rattle.psci_fw_state.proofs.Moved.{path_cleared, path_unconfirmed, pending_of, rows_set}
 use Rattle.psci_fw_state.proofs.state.State.set_pending.Goals as goal
 
 pub returns-clause-after : goal.returns-clause-after
@@ -52,5 +52,8 @@ returns-clause-after c =
     (path_cleared s c.set_pending.new.self m.core.number c.self.invariant
     (λ l p. rw c.set_pending.ensures.value
     (c.law_granted.ensures.pending s.tree m.core.number l p)))
+    (path_unconfirmed s c.set_pending.new.self m.core.number c.self.invariant
+    (λ l p. rw c.set_pending.ensures.value
+    (c.law_confirmed.ensures.pending s.tree m.core.number l p)))
     (λ slot. rw (c.put.ensures.slots, ← c.message.view_is)
     (c.law_slots.ensures.changed s.slots (Put m) has_slot slot)))

@@ -34,6 +34,8 @@ returns-then-deep-clause-after c =
     (in_rows _ _ _ c.self.view_is c.self.invariant c.requires.inside)))
     (λ l p. rw c.set_ask.ensures.value
     (c.law_granted.ensures.suspended s.tree c.args.core.number l p c.args.ask))
+    (λ l p. rw c.set_ask.ensures.value
+    (c.law_confirmed.ensures.suspended s.tree c.args.core.number l p c.args.ask))
     (rw (sym c.deep.ensures ∙ c.if-deep.true) refl)
 
 pub returns-else-deep-clause-after : goal.returns-else-deep-clause-after
@@ -56,4 +58,6 @@ returns-else-deep-clause-after c =
     (same_set (row_at s.rows) c.args.core.number)
     (λ l p. rw c.set_ask.ensures.value
     (c.law_granted.ensures.suspended s.tree c.args.core.number l p c.args.ask))
+    (λ l p. rw c.set_ask.ensures.value
+    (c.law_confirmed.ensures.suspended s.tree c.args.core.number l p c.args.ask))
     (rw (sym c.deep.ensures ∙ c.if-deep.false) refl)

@@ -19,19 +19,23 @@ invariant_of-tree c =
     let board : IsBoard own = subst IsBoard c.drop.view_is c.drop.invariant in
     let whole : IsWhole root own.levels =
     subst (IsWhole root) same (c.in_ok-build.ensures.whole) in
-    let granted : map (λ v. v.items) c.in_ok-deepest_rows.field-0.items
-    ≡ rows_with_depth (level_sizes own.levels) 3 =
+    let full : List (List ℕ) = rows_with_depth (level_sizes own.levels) 3 in
+    let granted : map (λ v. v.items) c.in_ok-deepest_rows.field-0.items ≡ full =
     c.in_ok-deepest_rows.ensures {u = tt} ∙ ap (λ ls. rows_with_depth (level_sizes ls) 3) same in
+    let confirmed : map (λ v. v.items) c.in_ok-deepest_rows-2.field-0.items ≡ full =
+    c.in_ok-deepest_rows-2.ensures {u = tt} ∙ ap (λ ls. rows_with_depth (level_sizes ls) 3) same in
     let idle : (d : ℕ) → IsActivity (get_or (leaves root) d never_started).activity =
     subst (λ (cs : List CoreState). (d : ℕ) → IsActivity (get_or cs d never_started).activity)
     (sym (c.in_ok-build.ensures.off)) (all_idle _) in
-    let at : List (List ℕ) → TreeValue =
-    λ gs. record { levels = own.levels; cores = leaves root; granted = gs } in
+    let at : List (List ℕ) → List (List ℕ) → TreeValue =
+    λ gs fs. record { levels = own.levels; cores = leaves root; granted = gs; confirmed = fs } in
     record {
       whole = whole;
       kept = c.in_ok-build.ensures.kept;
-      valid = subst (λ gs. IsDomainTree (at gs)) (sym granted) (full_valid own.levels
-          (leaves root) board.tree board.high (length_cores root own.levels board.tree whole) idle);
+      valid = subst (λ gs. IsDomainTree (at gs
+          (map (λ v. v.items) c.in_ok-deepest_rows-2.field-0.items))) (sym granted)
+          (subst (λ fs. IsDomainTree (at full fs)) (sym confirmed) (full_valid own.levels
+          (leaves root) board.tree board.high (length_cores root own.levels board.tree whole) idle));
     }
 
 pub set_pending-requires : goal.set_pending-requires
@@ -47,12 +51,13 @@ returns-clause-value c =
     let same : c.in_ok-copy.field-0.levels ≡ levels =
     ap (λ (b : BoardValue). b.levels) c.in_ok-copy.ensures in
     let rows : List (List ℕ) = map (λ v. v.items) c.in_ok-deepest_rows.field-0.items in
+    let rows-2 : List (List ℕ) = map (λ v. v.items) c.in_ok-deepest_rows-2.field-0.items in
+    let at : List (List ℕ) → List CoreState → List (List ℕ) → List (List ℕ) → TreeValue =
+    λ ls cs gs fs.
+    made_pending (record { levels = ls; cores = cs; granted = gs; confirmed = fs }) 0 in
+    let off : List CoreState = (all_off levels).cores in
     c.set_pending.ensures.value
-    ∙ ap (λ ls. made_pending (record { levels = ls; cores = leaves root; granted = rows }) 0) same
-    ∙ ap (λ cs. made_pending (record { levels = levels; cores = cs; granted = rows }) 0)
-    (c.in_ok-build.ensures.off)
-    ∙ ap (λ gs. made_pending (record {
-      levels = levels;
-      cores = (all_off levels).cores;
-      granted = gs;
-    }) 0) (c.in_ok-deepest_rows.ensures {u = tt})
+    ∙ ap (λ ls. at ls (leaves root) rows rows-2) same
+    ∙ ap (λ cs. at levels cs rows rows-2) (c.in_ok-build.ensures.off)
+    ∙ ap (λ gs. at levels off gs rows-2) (c.in_ok-deepest_rows.ensures {u = tt})
+    ∙ ap (at levels off (all_off levels).granted) (c.in_ok-deepest_rows-2.ensures {u = tt})

@@ -1,4 +1,5 @@
 use Rattle.std.proofs.Common.{◌≡◌, ◌∙◌, arith, ap, sym, subst, map, length, replicate, ℕ, List}
+use Rattle.std.specs.Vec.{with_items}
 use Rattle.std.proofs.lemmas.List.{with_items_is}
 use Rattle.psci_board.specs.Board.{size_below}
 use Rattle.psci_tree.specs.declared.state.CoreState.{CoreState}
@@ -14,20 +15,29 @@ use Rattle.psci_tree.proofs.tree.Tree.turn_off.Goals as goal
 pub returns-clause-value : goal.returns-clause-value
 returns-clause-value c =
     let levels : List (List ℕ) = c.self.inside.board.levels in
-    let long : length c.fill_rows.new.rows ≡ c.self.inside.granted.len =
-    omega (arith, c.fill_rows.auto.rows, c.deref_mut.ensures.len) in
-    let kept = with_items_is c.self.inside.granted c.fill_rows.new.rows long in
-    let change : List CoreState → List (List ℕ) → TreeValue =
-    λ cs gs. record { levels = levels; cores = cs; granted = gs } in
+    let kept = with_items_is c.self.inside.granted c.fill_rows.new.rows
+    (omega (arith, c.fill_rows.auto.rows, c.deref_mut.ensures.len)) in
+    let kept-2 = with_items_is c.self.inside.confirmed c.fill_rows-2.new.rows
+    (omega (arith, c.fill_rows-2.auto.rows, c.deref_mut-2.ensures.len)) in
+    let change : List CoreState → List (List ℕ) → List (List ℕ) → TreeValue =
+    λ cs gs fs. record { levels = levels; cores = cs; granted = gs; confirmed = fs } in
+    let full : List (List ℕ) = rows_with_depth (level_sizes levels) 3 in
     let states : leaves c.turn_off.new.root ≡ replicate (size_below levels) never_started =
     c.turn_off.ensures.cores
     ∙ ap (λ n. replicate n never_started) c.self.invariant.valid.cores in
-    let rows : map (λ v. v.items) c.fill_rows.new.rows ≡ rows_with_depth (level_sizes levels) 3 =
+    let rows : map (λ v. v.items) c.fill_rows.new.rows ≡ full =
     c.fill_rows.ensures
     ∙ ap (λ xs. rows_with_depth (map length (map (λ v. v.items) xs)) 3) c.deref_mut.ensures.value
     ∙ ap (λ ns. rows_with_depth ns 3) c.self.invariant.valid.granted in
-    ap (change (leaves c.turn_off.new.root)) (ap (map (λ v. v.items)) kept ∙ rows)
-    ∙ ap (λ cs. change cs (rows_with_depth (level_sizes levels) 3)) states
+    let rows-2 : map (λ v. v.items) c.fill_rows-2.new.rows ≡ full =
+    c.fill_rows-2.ensures
+    ∙ ap (λ xs. rows_with_depth (map length (map (λ v. v.items) xs)) 3) c.deref_mut-2.ensures.value
+    ∙ ap (λ ns. rows_with_depth ns 3) c.self.invariant.valid.confirmed in
+    let now-2 : List (List ℕ) = map (λ v. v.items)
+    (with_items c.self.inside.confirmed c.fill_rows-2.new.rows).items in
+    ap (λ gs. change (leaves c.turn_off.new.root) gs now-2) (ap (map (λ v. v.items)) kept ∙ rows)
+    ∙ ap (change (leaves c.turn_off.new.root) full) (ap (map (λ v. v.items)) kept-2 ∙ rows-2)
+    ∙ ap (λ cs. change cs full full) states
     ∙ ap (λ (t : TreeValue). all_off t.levels) c.self.view_is
 
 pub returns-clause-tree : goal.returns-clause-tree

@@ -1,0 +1,148 @@
+-- Claims are confirmed one after another, from the core up.
+use Rattle.std.proofs.Common.{◌≡◌, ℕ, ◌+◌, ◌<◌, ◌≤◌, ◌==◌, ◌&&◌, Bool, true, false, cond, nat_lt}
+use Rattle.std.proofs.Common.{List, length, slice_get, None, Option, refl, sym, ◌∙◌}
+use Rattle.std.proofs.Common.{ap, arith, inl, inr}
+use Rattle.std.specs.List.{sum_by}
+use Rattle.std.proofs.lemmas.Bool.{cases_lt, eqb-true}
+use Rattle.psci_board.specs.Board.{BoardValue, below, below_in, cores, height, up}
+use Rattle.psci_board.specs.declared.node.Node.{Node}
+use Rattle.psci_coord.specs.declared.part.Part.{Part}
+use Rattle.psci_link.specs.Message.{AckValue}
+use Rattle.psci_link.specs.Slots.{message_in, slot_of}
+use Rattle.psci_tree.specs.Recount.{TreeValue, IsDomainTree, state_at, granted_at, known_at, known}
+use Rattle.psci_tree.specs.Recount.{is_confirmed_at}
+use Rattle.psci_fw_spec.specs.Changes.{confirms_on}
+use Rattle.psci_fw_spec.specs.Confirmed.{applied_part, is_made_at}
+use Rattle.psci_fw_state.specs.Confirming.{is_last_claim}
+use Rattle.psci_fw_state.specs.Seen.{StateValue, values_in}
+use Rattle.psci_fw_state.proofs.Begun.{granted_beyond}
+
+-- what is confirmed once the parts below this level were looked at
+pub record IsConfirmed (b : BoardValue) (c : ℕ) (parts : List Part) (t u : TreeValue) (n : ℕ)
+    : Type 0 where
+  pub low : (l p : ℕ) → l < n → is_confirmed_at u l p
+      ≡ cond (is_last_claim b t c parts l p) true (is_confirmed_at t l p)
+  pub high : (l p : ℕ) → n ≤ l → is_confirmed_at u l p ≡ is_confirmed_at t l p
+  pub granted : (l p : ℕ) → granted_at u l p ≡ granted_at t l p
+  pub cores : (k : ℕ) → state_at u k ≡ state_at t k
+  pub levels : u.levels ≡ t.levels
+  pub tree : IsDomainTree u
+
+pub none_yet : (b : BoardValue) (c : ℕ) (parts : List Part) (t : TreeValue) → IsDomainTree t
+    → IsConfirmed b c parts t t 0
+none_yet b c parts t is = record {
+  low = λ l p h. absurd (omega arith);
+  high = λ l p h. refl;
+  granted = λ l p. refl;
+  cores = λ k. refl;
+  levels = refl;
+  tree = is;
+}
+
+-- the sum of the known starts below a domain, as the values have it
+pub known_below : (b : BoardValue) (t u : TreeValue) (n : Node)
+    → ((k : ℕ) → state_at u k ≡ state_at t k) → u.levels ≡ b.levels
+    → known u n ≡ sum_by (known_at t) (below b n)
+unfolding known
+known_below b t u n cores levels =
+    let same : (λ k. known_at u k) ≡ (λ k. known_at t k) = λ i k. (cores k i).known in
+    ap (λ (f : ℕ → ℕ). sum_by f (below_in u.levels n)) same
+    ∙ ap (λ (ws : List (List ℕ)). sum_by (known_at t) (below_in ws n)) levels
+
+-- one level more
+module _ (b : BoardValue) (c : ℕ) (parts : List Part) (t u w : TreeValue) (n : ℕ)
+    (part : Option Part) (is : part ≡ slice_get parts n) (board : t.levels ≡ b.levels)
+    (so_far : IsConfirmed b c parts t u n)
+    (law : (l p : ℕ) → is_confirmed_at w l p
+    ≡ cond (((n == l) && (up b n c == p)) && (nat_lt 0 (granted_at u n (up b n c))
+    && is_made_at (known u (record { level = n; place = up b n c })) part))
+    true (is_confirmed_at u l p))
+    (granted : (l p : ℕ) → granted_at w l p ≡ granted_at u l p)
+    (cores : (k : ℕ) → state_at w k ≡ state_at u k) (levels : w.levels ≡ u.levels)
+    (tree : IsDomainTree w) where
+  other : (l p : ℕ) → (n ≡ l → ⊥) → is_confirmed_at w l p ≡ is_confirmed_at u l p
+  other l p ne = let no : (n == l) ≡ false = apart in law l p ∙ (rw no refl)
+    where
+      apart : (n == l) ≡ false
+      apart = grind arith
+
+  sums : known u (record { level = n; place = up b n c })
+      ≡ sum_by (known_at t) (below b (record { level = n; place = up b n c }))
+  sums = known_below b t u _ so_far.cores (so_far.levels ∙ board)
+
+  here : (p : ℕ) (on : Bool) → (p == up b n c) ≡ on → is_confirmed_at w n p
+      ≡ cond (is_last_claim b t c parts n p) true (is_confirmed_at t n p)
+  here p true e =
+      let at : p ≡ up b n c = eqb-true p (up b n c) e in
+      let same : (n == n) ≡ true = grind arith in
+      let own : (up b n c == up b n c) ≡ true = grind arith in
+      rw at (law n (up b n c)
+      ∙ (rw (same, own, so_far.granted n (up b n c), sums, is, so_far.high n (up b n c) (omega arith))
+      refl))
+  here p false e =
+      let swapped : (up b n c == p) ≡ false = turned in
+      let same : (n == n) ≡ true = grind arith in
+      rw e (law n p ∙ (rw (same, swapped) (so_far.high n p (omega arith))))
+    where
+      turned : (up b n c == p) ≡ false
+      turned = grind (arith, e)
+
+  more_low : (l p : ℕ) → l < n + 1 → is_confirmed_at w l p
+      ≡ cond (is_last_claim b t c parts l p) true (is_confirmed_at t l p)
+  more_low l p h = elim (cases_lt l n) [
+    | inl k ↦ other l p (λ e. absurd (omega arith)) ∙ so_far.low l p k
+    | inr k ↦
+        let same : l ≡ n = omega arith in rw same (here p (p == up b n c) refl)
+  ]
+
+  pub confirmed_more : IsConfirmed b c parts t w (n + 1)
+  confirmed_more = record {
+    low = more_low;
+    high = λ l p h. other l p (λ e. absurd (omega arith)) ∙ so_far.high l p (omega arith);
+    granted = λ l p. granted l p ∙ so_far.granted l p;
+    cores = λ k. cores k ∙ so_far.cores k;
+    levels = levels ∙ so_far.levels;
+    tree = tree;
+  }
+
+-- all levels: above them nothing is granted
+pub confirmed_all : (b : BoardValue) (c : ℕ) (parts : List Part) (t u : TreeValue) (n : ℕ)
+    → IsDomainTree t → t.levels ≡ b.levels → height b < n → IsConfirmed b c parts t u n
+    → (l p : ℕ) → is_confirmed_at u l p
+    ≡ cond (is_last_claim b t c parts l p) true (is_confirmed_at t l p)
+confirmed_all b c parts t u n is board above done l p = elim (cases_lt l n) [
+  | inl h ↦ done.low l p h
+  | inr h ↦
+      let none : granted_at t l p ≡ 0 =
+      granted_beyond t l p is (λ low in'. absurd (omega (arith, ap length board))) in
+      done.high l p h ∙ sym (rw none (off (p == up b l c)))
+]
+  where
+    off : (on : Bool) → cond (on && false) true (is_confirmed_at t l p) ≡ is_confirmed_at t l p
+    off true = refl
+    off false = refl
+
+-- no parts, nothing is confirmed
+pub confirmed_none : (b : BoardValue) (c : ℕ) (parts : List Part) (t : TreeValue) (l p : ℕ)
+    → slice_get parts l ≡ None
+    → is_confirmed_at t l p ≡ cond (is_last_claim b t c parts l p) true (is_confirmed_at t l p)
+confirmed_none b c parts t l p none =
+    rw none (sym (off (p == up b l c) (nat_lt 0 (granted_at t l p))))
+  where
+    off : (on some : Bool)
+        → cond (on && (some && false)) true (is_confirmed_at t l p) ≡ is_confirmed_at t l p
+    off true true = refl
+    off true false = refl
+    off false some = refl
+
+-- the values say the same
+pub claims_confirmed : (s : StateValue) (a : AckValue) (parts : List Part)
+    → ((level : ℕ) → slice_get parts level
+    ≡ applied_part a level (message_in s.slots (slot_of a.kind a.core)))
+    → (l p : ℕ) → is_last_claim s.board s.tree a.core.number parts l p
+    ≡ confirms_on s.board (values_in s) a l p
+unfolding values_in
+claims_confirmed s a parts each l p =
+    ap (λ (o : Option Part). (p == up s.board l a.core.number) && (nat_lt 0 (granted_at s.tree l p)
+    && is_made_at (sum_by (known_at s.tree) (below s.board (record { level = l; place = p }))) o))
+    (each l)

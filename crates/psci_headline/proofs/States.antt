@@ -1,0 +1,52 @@
+-- Domains that were in a state at some moment.
+use Rattle.std.proofs.Common.{◌≡◌, ℕ, true, ◌==◌, List, [], ◌∷◌, ◌++◌, Some, refl, ap, ◌∙◌}
+use Rattle.std.proofs.lemmas.Bool.{and_from, eq-eqb, or_left, or_right}
+use Rattle.psci_world_laws.specs.psci_board.Board.{BoardValue}
+use Rattle.psci_world_laws.specs.psci_board.declared.node.Node.{Node}
+use Rattle.psci_world_laws.specs.psci_ctl_spec.Replies.{is_this_life}
+use Rattle.psci_world_laws.specs.psci_ctl_spec.Values.{starts_below}
+use Rattle.psci_world_laws.specs.psci_fw_spec.declared.hw.Hw.{Hw}
+use Rattle.psci_world_laws.specs.psci_fw_spec.NodeHwState.{hw_at, hw_code}
+use Rattle.psci_world_laws.specs.psci_world_spec.declared.said.Record.{Record}
+use Rattle.psci_world_laws.specs.psci_world_spec.Histories.{controller_values}
+use Rattle.psci_safe.specs.Hardware.{is_hw, is_in_state, was_in_state}
+
+-- a domain that is so deep now, after so many starts below, in this life
+in_state : (b : BoardValue) (life sum depth : ℕ) (past : List Record) (n : Node)
+    → (controller_values b past).life ≡ Some life
+    → starts_below b (controller_values b past).starts n ≡ sum
+    → (controller_values b past).depth n.level n.place ≡ depth
+    → is_in_state b life sum (hw_at depth) past n ≡ true
+in_state b life sum depth past n now count deep =
+    let h = hw_at depth in
+    and_from _ _ (ap (λ o. is_this_life o life) now ∙ eq-eqb life life refl)
+    (and_from _ _ (eq-eqb _ sum count)
+    (ap (λ d. is_hw (hw_at d) h) deep ∙ eq-eqb (hw_code h) (hw_code h) refl))
+
+by_now : (b : BoardValue) (life sum : ℕ) (h : Hw) (past : List Record) (n : Node)
+    → is_in_state b life sum h past n ≡ true → was_in_state b life sum h past n ≡ true
+unfolding was_in_state
+by_now b life sum h [] n e = e
+by_now b life sum h (r ∷ past) n e = or_left _ _ e
+
+pub seen_now : (b : BoardValue) (life sum depth : ℕ) (past : List Record) (n : Node)
+    → (controller_values b past).life ≡ Some life
+    → starts_below b (controller_values b past).starts n ≡ sum
+    → (controller_values b past).depth n.level n.place ≡ depth
+    → was_in_state b life sum (hw_at depth) past n ≡ true
+seen_now b life sum depth past n now count deep =
+    by_now b life sum (hw_at depth) past n (in_state b life sum depth past n now count deep)
+
+-- what was once so has been so ever since
+pub seen_later : (b : BoardValue) (life sum : ℕ) (h : Hw) (r : Record) (past : List Record)
+    (n : Node) → was_in_state b life sum h past n ≡ true
+    → was_in_state b life sum h (r ∷ past) n ≡ true
+unfolding was_in_state
+seen_later b life sum h r past n e = or_right _ _ e
+
+pub seen_since : (b : BoardValue) (life sum : ℕ) (h : Hw) (since past : List Record) (n : Node)
+    → was_in_state b life sum h past n ≡ true
+    → was_in_state b life sum h (since ++ past) n ≡ true
+seen_since b life sum h [] past n e = e
+seen_since b life sum h (r ∷ since) past n e =
+    seen_later b life sum h r (since ++ past) n (seen_since b life sum h since past n e)

@@ -1,0 +1,210 @@
+-- The hardware states that are said of domains were real, after every legal past.
+use Rattle.std.proofs.Common.{◌≡◌, ℕ, ◌<◌, inl, inr, Bool, true, false, not, ◌==◌, ◌&&◌, cond}
+use Rattle.std.proofs.Common.{List, [], ◌∷◌, Some, refl, subst, ap, sym, ◌∙◌, arith}
+use Rattle.std.specs.Prelude.{nat_le, nat_lt, slice_get}
+use Rattle.std.proofs.lemmas.Bool.{and_parts, and_right, cases_eq, ltb-true, ne_eqb}
+use Rattle.psci_world_laws.specs.psci_board.Board.{BoardValue, HasNode, cores, height, up}
+use Rattle.psci_world_laws.specs.psci_board.Laws.{PathLaws}
+use Rattle.psci_world_laws.specs.psci_board.declared.node.Node.{Node}
+use Rattle.psci_world_laws.specs.psci_ctl_spec.Values as controlled
+use Rattle.psci_world_laws.specs.psci_ctl_spec.Values.{first_depth, first_starts, starts_below}
+use Rattle.psci_world_laws.specs.psci_fw_spec.declared.hw.Hw.{Hw}
+use Rattle.psci_world_laws.specs.psci_fw_spec.declared.hw.Hw.TheVariants.{On}
+use Rattle.psci_world_laws.specs.psci_fw_spec.After.{change}
+use Rattle.psci_world_laws.specs.psci_fw_spec.Invariant.{AreValues}
+use Rattle.psci_world_laws.specs.psci_fw_spec.NodeHwState.{hw_at, hw_code, node_hw}
+use Rattle.psci_world_laws.specs.psci_fw_spec.Values.{Values}
+use Rattle.psci_world_laws.specs.psci_link.Message.{AckValue}
+use Rattle.psci_world_laws.specs.psci_fw_laws.Allowed.{IsAllowed}
+use Rattle.psci_world_laws.specs.psci_fw_laws.KnownBelow.{KnownLaws, known_below}
+use Rattle.psci_world_laws.specs.Acknowledged.{WasMade}
+use Rattle.psci_world_laws.specs.psci_world_spec.declared.said.Record.{Record}
+use Rattle.psci_world_laws.specs.psci_world_spec.Histories.{acks, controller_values}
+use Rattle.psci_world_laws.specs.psci_world_spec.Histories.{firmware_values}
+use Rattle.psci_world_laws.specs.psci_world_spec.Legal.{IsLegalPast}
+use Rattle.psci_safe.specs.Hardware.{is_said_asleep, said_hw, was_as_said, was_in_state}
+use Rattle.psci_safe.specs.Safe.{StatesWereReal}
+use Rattle.psci_headline.proofs.Acknowledged.{IsTaken, carried_out}
+use Rattle.psci_headline.proofs.AllDown.{DownLaws, first_controlled, first_life, next_of}
+use Rattle.psci_headline.proofs.Confirming.{HasBegun, How, IsConfirmed, Stays, WasConfirmed}
+use Rattle.psci_headline.proofs.Confirming.{confirmed_how, no_sum}
+use Rattle.psci_headline.proofs.Deliveries.{IsFirst, life_before}
+use Rattle.psci_headline.proofs.Nexts.{IsNext}
+use Rattle.psci_headline.proofs.States.{seen_later, seen_now}
+
+-- What the laws below say of a board and of its legal pasts.
+pub record RealLaws (b : BoardValue) : Type 0 where
+  pub down : DownLaws b
+  pub paths : PathLaws b
+  pub sums : KnownLaws b
+  pub values : (past : List Record) → IsLegalPast b past → AreValues b (firmware_values b past)
+  pub made : (past : List Record) → IsLegalPast b past → (k : ℕ) (a : AckValue)
+      → slice_get (acks past) k ≡ Some a → WasMade b past a
+
+-- a domain was as deep as it is granted by these values, in their life and by their known starts
+abbrev WasSo : BoardValue → List Record → Values → Node → Type 0
+WasSo b past v n = was_in_state b v.life (known_below b v.known n.level n.place)
+    (hw_at (v.granted n.level n.place)) past n ≡ true
+
+-- What is known of all domains after these records.
+record AreReal (b : BoardValue) (past : List Record) : Type 0 where
+  -- one with a confirmed claim was as deep as it is granted
+  pub seen : (n : Node) → HasNode b n → 0 < (firmware_values b past).life
+      → (firmware_values b past).confirmed n.level n.place ≡ true
+      → WasSo b past (firmware_values b past) n
+  -- in a life that the firmware does not know of yet, each off the boot path was powered down
+  pub fresh : (life : ℕ) (n : Node) → HasNode b n → (controller_values b past).life ≡ Some life
+      → ((firmware_values b past).life ≡ life → ⊥) → (up b n.level 0 ≡ n.place → ⊥)
+      → was_in_state b life 0 (hw_at 3) past n ≡ true
+
+-- Lives that the firmware does not know of -----------------------------------------------------
+
+first_down : (b : BoardValue) (n : Node) → (up b n.level 0 ≡ n.place → ⊥)
+    → first_depth b n.level n.place ≡ 3
+first_down b n off =
+    ap (λ t. cond t 0 3) (and_right (nat_le n.level (height b)) (up b n.level 0 == n.place)
+    (ne_eqb (up b n.level 0) n.place off))
+
+first_sum : (b : BoardValue) (n : Node) → KnownLaws b → (up b n.level 0 ≡ n.place → ⊥)
+    → starts_below b first_starts n ≡ 0
+unfolding starts_below known_below
+first_sum b n laws off =
+    laws.same first_starts (λ c. 0) n.level n.place (λ c inside at.
+    ap (λ t. cond t 1 0) (ne_eqb c 0 (λ e. off (sym (ap (up b n.level) e) ∙ at))))
+    ∙ no_sum b n.level n.place laws
+
+first_seen : (b : BoardValue) (past : List Record) (life : ℕ) (n : Node) → KnownLaws b
+    → (controller_values b past).life ≡ Some life → IsFirst b (controller_values b past)
+    → (up b n.level 0 ≡ n.place → ⊥) → was_in_state b life 0 (hw_at 3) past n ≡ true
+first_seen b past life n laws now first off =
+    seen_now b life 0 3 past n now
+    (ap (λ f. starts_below b f n) first.starts ∙ first_sum b n laws off)
+    (ap (λ (f : ℕ → ℕ → ℕ). f n.level n.place) first.depth ∙ first_down b n off)
+
+fresh_next : (b : BoardValue) (r : Record) (past : List Record) (life : ℕ) (n : Node)
+    → KnownLaws b → IsNext b r past → AreReal b past → HasNode b n
+    → (controller_values b (r ∷ past)).life ≡ Some life
+    → ((firmware_values b (r ∷ past)).life ≡ life → ⊥) → (up b n.level 0 ≡ n.place → ⊥)
+    → was_in_state b life 0 (hw_at 3) (r ∷ past) n ≡ true
+fresh_next b r past life n laws next are has now unknown off =
+    elim (life_before b r past life now) [
+      | inl before ↦
+          let low = (next.step 0).life in
+          let high = next.begun life now in
+          seen_later b life 0 (hw_at 3) r past n
+          (are.fresh life n has before (λ e. unknown (omega (arith, low, high, e))) off)
+      | inr first ↦ first_seen b (r ∷ past) life n laws now first off
+    ]
+
+-- Confirmed claims -----------------------------------------------------------------------------
+
+-- the same life, sum and depth
+so_still : (b : BoardValue) (past : List Record) (v w : Values) (n : Node)
+    → Stays b v w n.level n.place → WasSo b past v n → WasSo b past w n
+so_still b past v w n s was =
+    subst (λ l. was_in_state b l (known_below b w.known n.level n.place)
+    (hw_at (w.granted n.level n.place)) past n ≡ true) (sym s.life)
+    (subst (λ k. was_in_state b v.life k (hw_at (w.granted n.level n.place)) past n ≡ true)
+    (sym s.known)
+    (subst (λ d. was_in_state b v.life (known_below b v.known n.level n.place) (hw_at d) past n
+    ≡ true) (sym s.granted) was))
+
+so_first : (b : BoardValue) (past : List Record) (w : Values) (n : Node)
+    → known_below b w.known n.level n.place ≡ 0 → w.granted n.level n.place ≡ 3
+    → was_in_state b w.life 0 (hw_at 3) past n ≡ true → WasSo b past w n
+so_first b past w n known granted was =
+    subst (λ k. was_in_state b w.life k (hw_at (w.granted n.level n.place)) past n ≡ true)
+    (sym known)
+    (subst (λ d. was_in_state b w.life 0 (hw_at d) past n ≡ true) (sym granted) was)
+
+seen_by : (b : BoardValue) (r : Record) (past : List Record) (n : Node) → RealLaws b
+    → IsLegalPast b past → (next : IsNext b r past) → AreReal b past → HasNode b n → (w : Values)
+    → 0 < w.life
+    → How b (firmware_values b past) w next.moves.effect n.level n.place
+    → WasSo b past w n
+seen_by b r past n laws legal next are has w some how =
+    let v : Values = firmware_values b past in
+    elim how [
+      | inl was ↦
+          let begun : 0 < v.life = subst (λ l. 0 < l) was.stays.life some in
+          so_still b past v w n was.stays (are.seen n has begun was.before)
+      | inr more ↦ elim more [
+        | inl begun ↦
+            let present = next.moves.says.starts begun.arrival begun.is in
+            so_first b past w n begun.known begun.granted
+            (are.fresh w.life n has (present ∙ ap (λ x. Some x) begun.new)
+            (λ e. begun.other (sym e)) begun.off)
+        | inr taken ↦
+            let made = next.moves.says.takes taken.ack taken.is in
+            let t : IsTaken b past taken.ack = record {
+              paths = laws.paths;
+              holds = next.holds;
+              values = laws.values past legal;
+              made = laws.made past legal made.index taken.ack made.at;
+              awaited = subst (IsAllowed b v) taken.is next.moves.allowed;
+            } in
+            so_still b past v w n taken.stays (carried_out b past taken.ack t n has taken.by)
+      ]
+    ]
+
+seen_next : (b : BoardValue) (r : Record) (past : List Record) (n : Node) → RealLaws b
+    → IsLegalPast b past → IsNext b r past → AreReal b past → HasNode b n
+    → 0 < (firmware_values b (r ∷ past)).life
+    → (firmware_values b (r ∷ past)).confirmed n.level n.place ≡ true
+    → WasSo b (r ∷ past) (firmware_values b (r ∷ past)) n
+seen_next b r past n laws legal next are has some confirmed =
+    let v : Values = firmware_values b past in
+    let w : Values = firmware_values b (r ∷ past) in
+    let e = next.moves.effect in
+    let how = subst (λ (x : Values). x.confirmed n.level n.place ≡ true
+    → How b v x e n.level n.place) (sym next.moves.values)
+    (confirmed_how b v laws.sums n.level n.place e) confirmed in
+    seen_later b w.life (known_below b w.known n.level n.place)
+    (hw_at (w.granted n.level n.place)) r past n
+    (seen_by b r past n laws legal next are has w some how)
+
+all_real : (b : BoardValue) (past : List Record) → RealLaws b → IsLegalPast b past
+    → AreReal b past
+all_real b [] laws legal = record {
+  seen = λ n has some. absurd (omega (arith, some, first_life b));
+  fresh = λ life n has now unknown off.
+      let first = first_controlled b in
+      first_seen b [] life n laws.sums now (record {
+        depth = ap (λ (v : controlled.Values). v.depth) first;
+        starts = ap (λ (v : controlled.Values). v.starts) first;
+      }) off;
+}
+all_real b (r ∷ past) laws legal =
+    let next : IsNext b r past = next_of b r past laws.down legal in
+    let are : AreReal b past = all_real b past laws legal.1 in
+    record {
+      seen = λ n has. seen_next b r past n laws legal.1 next are has;
+      fresh = λ life n has. fresh_next b r past life n laws.sums next are has;
+    }
+
+-- What is said ---------------------------------------------------------------------------------
+
+-- What it means that a domain is said to be off or in standby.
+record IsAsleep (v : Values) (n : Node) : Type 0 where
+  pub confirmed : v.confirmed n.level n.place ≡ true
+  pub hw : node_hw v n ≡ hw_at (v.granted n.level n.place)
+
+asleep_by : (v : Values) (n : Node) (t : Bool) → v.confirmed n.level n.place ≡ t
+    → not (hw_code (cond t (hw_at (v.granted n.level n.place)) On) == 0) ≡ true → IsAsleep v n
+asleep_by v n true e other = record {
+  confirmed = e;
+  hw = ap (λ t. cond t (hw_at (v.granted n.level n.place)) On) e;
+}
+asleep_by v n false e other = absurd (cc)
+
+pub states_real : (b : BoardValue) (past : List Record) → RealLaws b → IsLegalPast b past
+    → StatesWereReal b past
+unfolding known_below
+states_real b past laws legal n has said =
+    let v : Values = firmware_values b past in
+    let both = and_parts (nat_lt 0 v.life) (not (hw_code (said_hw b past n) == 0)) said in
+    let is : IsAsleep v n = asleep_by v n (v.confirmed n.level n.place) refl both.1 in
+    let was : WasSo b past v n = (all_real b past laws legal).seen n has
+    (ltb-true 0 v.life both.0) is.confirmed in
+    subst (λ h. was_in_state b v.life (known_below b v.known n.level n.place) h past n ≡ true)
+    (sym is.hw) was

@@ -1,0 +1,167 @@
+-- Worked examples: the hardware states of domains, as NODE_HW_STATE says them, and those of all
+-- domains after some events.
+use Rattle.std.proofs.Common.{◌≡◌, ◌+◌, ◌++◌, ℕ, List, [], ◌∷◌, map, pos, negsuc, true, false, refl}
+use Rattle.std.specs.List.{range_with_len}
+use Rattle.psci_fw_spec.specs.NodeHwState.{hw_code, node_hw}
+use Rattle.psci_fw_spec.specs.psci_board.Board.{BoardValue, height, nodes}
+use Rattle.psci_fw_spec.specs.psci_link.declared.kind.Kind.TheVariants.{Down, Start}
+use Rattle.psci_world_spec.specs.declared.event.Event.{Event}
+use Rattle.psci_world_spec.specs.declared.event.Event.TheVariants.{Enter, Wake, Deliver, Take}
+use Rattle.psci_world_spec.specs.Histories.{firmware_values}
+use Rattle.psci_world_spec.specs.Legal.{run_from}
+use Rattle.psci_world_spec.proofs.Scripts.{IsSaid, acked, board, call, computing, enters, nothing}
+use Rattle.psci_world_spec.proofs.Scripts.{off, on_3, part, retention, returns, sends, status_3}
+use Rattle.psci_world_spec.proofs.Scripts.{stops, system_reset, tall, used}
+
+-- the boot core asks for the hardware state of core 3, and of its cluster
+abbrev hw_3 : Event
+hw_3 = call 0 0xc400000d 0x101 0 0
+
+abbrev hw_cluster : Event
+hw_cluster = call 0 0xc400000d 0x100 1 0
+
+-- a core goes off: HW_ON until the acknowledgement of its Down is taken, HW_OFF then, its cluster
+-- too; HW_ON again from when it is asked on
+off_and_asked_on : IsSaid board
+    (Enter 0 ∷ on_3 ∷ status_3 ∷ Deliver 0 ∷ Enter 3 ∷ off 3 ∷ hw_3 ∷ Deliver 1 ∷ hw_3 ∷ Take 1
+    ∷ hw_3 ∷ hw_cluster ∷ on_3 ∷ hw_3 ∷ hw_cluster ∷ [])
+    (enters 0x40000000 0x0 ∷ returns (pos 0) (sends 0 Start 3 1 0 []) ∷ returns (pos 2) nothing
+    ∷ acked 0 Start 3 1 0 1 false ∷ enters 0x40001000 0x7
+    ∷ stops (sends 1 Down 3 1 1 (part 0 3 1 ∷ part 1 3 1 ∷ [])) ∷ returns (pos 0) nothing
+    ∷ acked 1 Down 3 1 1 2 false ∷ returns (pos 0) nothing ∷ used ∷ returns (pos 1) nothing
+    ∷ returns (pos 1) nothing ∷ returns (pos 0) (sends 2 Start 3 1 1 []) ∷ returns (pos 0) nothing
+    ∷ returns (pos 0) nothing ∷ [])
+unfolding computing
+off_and_asked_on = refl
+
+-- at the start of a life the domains off the boot path are off, the system is on; there is no
+-- domain above it
+start_of_a_life : IsSaid board
+    (Enter 0 ∷ hw_3 ∷ hw_cluster ∷ call 0 0xc400000d 0 2 0 ∷ call 0 0xc400000d 0 3 0
+    ∷ call 0 0x8400000d 0x200 0 0 ∷ [])
+    (enters 0x40000000 0x0 ∷ returns (pos 1) nothing ∷ returns (pos 1) nothing
+    ∷ returns (pos 0) nothing ∷ returns (negsuc 1) nothing ∷ returns (negsuc 1) nothing ∷ [])
+unfolding computing
+start_of_a_life = refl
+
+-- a core in retention is in standby, its cluster on; once it is woken and has entered it is on
+retention_of_a_core : IsSaid board
+    (Enter 0 ∷ on_3 ∷ Deliver 0 ∷ Enter 3 ∷ retention 3 ∷ Deliver 1 ∷ Take 1 ∷ hw_3 ∷ hw_cluster
+    ∷ call 0 0xc400000d 0 0 0 ∷ [])
+    (enters 0x40000000 0x0 ∷ returns (pos 0) (sends 0 Start 3 1 0 []) ∷ acked 0 Start 3 1 0 1 false
+    ∷ enters 0x40001000 0x7 ∷ stops (sends 1 Down 3 1 1 (part 0 2 1 ∷ []))
+    ∷ acked 1 Down 3 1 1 1 false ∷ used ∷ returns (pos 2) nothing ∷ returns (pos 0) nothing
+    ∷ returns (pos 0) nothing ∷ [])
+unfolding computing
+retention_of_a_core = refl
+
+-- All domains ---------------------------------------------------------------------------------
+
+-- the states of all domains after these events, by their codes: of each level from the cores up, from
+-- left to right
+abbrev HaveStates : BoardValue → List Event → List (List ℕ) → Type 0
+HaveStates b events states =
+    map (λ level. map (λ place.
+    hw_code (node_hw (firmware_values b (run_from b [] events))
+    (record { level = level; place = place })))
+    (range_with_len 0 (nodes b level))) (range_with_len 0 (height b + 1))
+    ≡ states
+
+-- cores 0 and 3 run
+abbrev two_run : List Event
+two_run = Enter 0 ∷ on_3 ∷ Deliver 0 ∷ Enter 3 ∷ []
+
+-- both suspend to power-down of the system
+abbrev two_suspend : List Event
+two_suspend = call 3 0xc4000001 0x02010333 0x40004000 2 ∷ call 0 0xc4000001 0x02010333 0x40000100 0 ∷ []
+
+-- the claims of a Down that was carried out in part: two of three levels
+two_of_three_parts : HaveStates board (two_run ++ (two_suspend ++ (Deliver 2 ∷ Take 1 ∷ [])))
+    ((1 ∷ 1 ∷ 1 ∷ 0 ∷ []) ∷ (1 ∷ 0 ∷ []) ∷ (0 ∷ []) ∷ [])
+unfolding computing
+two_of_three_parts = refl
+
+-- and once both were carried out
+all_parts : HaveStates board
+    (two_run ++ (two_suspend ++ (Deliver 2 ∷ Take 1 ∷ Deliver 1 ∷ Deliver 2 ∷ Take 2 ∷ Take 3 ∷ [])))
+    ((1 ∷ 1 ∷ 1 ∷ 1 ∷ []) ∷ (1 ∷ 1 ∷ []) ∷ (1 ∷ []) ∷ [])
+unfolding computing
+all_parts = refl
+
+-- on three levels above the cores: three of four parts, then all
+abbrev tall_suspends : List Event
+tall_suspends = Enter 0 ∷ call 0 0xc4000003 0x10100 0x40001000 7 ∷ Deliver 0 ∷ Enter 3 ∷ off 3
+    ∷ call 0 0xc4000001 0x03013333 0x40000100 0 ∷ Deliver 2 ∷ Take 1 ∷ []
+
+three_of_four_parts : HaveStates tall tall_suspends
+    ((1 ∷ 1 ∷ 1 ∷ 0 ∷ []) ∷ (1 ∷ 1 ∷ 1 ∷ 0 ∷ []) ∷ (1 ∷ 0 ∷ []) ∷ (0 ∷ []) ∷ [])
+unfolding computing
+three_of_four_parts = refl
+
+all_four_parts : HaveStates tall
+    (tall_suspends ++ (Deliver 1 ∷ Deliver 2 ∷ Take 2 ∷ Take 3 ∷ []))
+    ((1 ∷ 1 ∷ 1 ∷ 1 ∷ []) ∷ (1 ∷ 1 ∷ 1 ∷ 1 ∷ []) ∷ (1 ∷ 1 ∷ []) ∷ (1 ∷ []) ∷ [])
+unfolding computing
+all_four_parts = refl
+
+-- a cluster in retention with its last core
+cluster_retention : HaveStates board
+    (two_run ++ (call 3 0xc4000001 0x01000022 0 0 ∷ Deliver 1 ∷ Take 1 ∷ []))
+    ((0 ∷ 1 ∷ 1 ∷ 2 ∷ []) ∷ (0 ∷ 2 ∷ []) ∷ (0 ∷ []) ∷ [])
+unfolding computing
+cluster_retention = refl
+
+-- woken, its core has not entered: nothing is known of it yet; once it has, all is on above it
+woken_and_not_entered : HaveStates board
+    (two_run ++ (call 3 0xc4000001 0x01000022 0 0 ∷ Deliver 1 ∷ Take 1 ∷ Wake 3 ∷ []))
+    ((0 ∷ 1 ∷ 1 ∷ 2 ∷ []) ∷ (0 ∷ 2 ∷ []) ∷ (0 ∷ []) ∷ [])
+unfolding computing
+woken_and_not_entered = refl
+
+woken_and_entered : HaveStates board
+    (two_run ++ (call 3 0xc4000001 0x01000022 0 0 ∷ Deliver 1 ∷ Take 1 ∷ Wake 3 ∷ Enter 3 ∷ []))
+    ((0 ∷ 1 ∷ 1 ∷ 0 ∷ []) ∷ (0 ∷ 0 ∷ []) ∷ (0 ∷ []) ∷ [])
+unfolding computing
+woken_and_entered = refl
+
+-- an acknowledgement that comes after the next entry is old, and so is one of a Down that a later one
+-- has replaced
+old_acknowledgement : HaveStates board
+    (two_run ++ (retention 3 ∷ Deliver 1 ∷ Wake 3 ∷ Enter 3 ∷ Take 1 ∷ retention 3 ∷ Take 1 ∷ []))
+    ((0 ∷ 1 ∷ 1 ∷ 0 ∷ []) ∷ (0 ∷ 0 ∷ []) ∷ (0 ∷ []) ∷ [])
+unfolding computing
+old_acknowledgement = refl
+
+-- a stale one with a part that was applied confirms that part; the cluster has a core that was asked on
+stale_with_a_part : HaveStates board
+    (two_run ++ (off 3 ∷ call 0 0xc4000003 0x100 0x40002000 0 ∷ Deliver 2 ∷ Deliver 1 ∷ Take 2 ∷ []))
+    ((0 ∷ 1 ∷ 0 ∷ 1 ∷ []) ∷ (0 ∷ 0 ∷ []) ∷ (0 ∷ []) ∷ [])
+unfolding computing
+stale_with_a_part = refl
+
+-- the claims of a last core in OS-initiated mode; they end as it enters
+abbrev by_the_os : List Event
+by_the_os = Enter 0 ∷ call 0 0x8400000f 1 0 0 ∷ call 0 0xc4000001 0x02010333 0x40000100 0
+    ∷ Deliver 0 ∷ Take 0 ∷ []
+
+os_initiated : HaveStates board by_the_os
+    ((1 ∷ 1 ∷ 1 ∷ 1 ∷ []) ∷ (1 ∷ 1 ∷ []) ∷ (1 ∷ []) ∷ [])
+unfolding computing
+os_initiated = refl
+
+os_initiated_woken : HaveStates board (by_the_os ++ (Wake 0 ∷ Enter 0 ∷ []))
+    ((0 ∷ 1 ∷ 1 ∷ 1 ∷ []) ∷ (0 ∷ 1 ∷ []) ∷ (0 ∷ []) ∷ [])
+unfolding computing
+os_initiated_woken = refl
+
+-- claims are confirmed in a halting life too, and a new life begins as the first one did
+halting_life : HaveStates board (two_run ++ (retention 3 ∷ Deliver 1 ∷ system_reset 0 ∷ Take 1 ∷ []))
+    ((0 ∷ 1 ∷ 1 ∷ 2 ∷ []) ∷ (0 ∷ 0 ∷ []) ∷ (0 ∷ []) ∷ [])
+unfolding computing
+halting_life = refl
+
+next_life : HaveStates board
+    (two_run ++ (retention 3 ∷ Deliver 1 ∷ system_reset 0 ∷ Take 1 ∷ Deliver 2 ∷ Enter 0 ∷ []))
+    ((0 ∷ 1 ∷ 1 ∷ 1 ∷ []) ∷ (0 ∷ 1 ∷ []) ∷ (0 ∷ []) ∷ [])
+unfolding computing
+next_life = refl
