@@ -4,7 +4,7 @@ use crate::answer::Answer;
 use psci_abi::Regs;
 use psci_board::{Board, Core, Node};
 use psci_board_text::ReadBoard;
-use psci_fw::{Cause, Firmware, FwFault, Start, Status};
+use psci_fw::{Cause, Firmware, FwFault, Hw, Start, Status};
 use psci_link::{Ack, Kind, Taken};
 use std::alloc::Global;
 use std::process::Abort;
@@ -88,6 +88,8 @@ enum Step {
     Shows(u32, u16, Option<Status>),
     /// The granted depth of a level and place.
     Grants(u32, u16, u8),
+    /// The hardware state of a level and place.
+    Hardware(u32, u16, Option<Hw>),
     /// The known start of a core.
     Knows(u16, u32),
     /// Whether a core runs.
@@ -174,6 +176,7 @@ fn is_answered(firmware: &mut Firmware, step: Step) -> bool {
         }
         Step::Shows(level, place, status) => firmware.status(Node { level, place }) == status,
         Step::Grants(level, place, depth) => firmware.granted(Node { level, place }) == depth,
+        Step::Hardware(level, place, hw) => firmware.hw(Node { level, place }) == hw,
         Step::Knows(number, known) => firmware.known(Core { number }) == known,
         Step::Runs(number, running) => firmware.running(Core { number }) == running,
         Step::Waits(number, waiting) => firmware.outstanding(number).is_some() == waiting,

@@ -80,6 +80,34 @@ const NOTHING_APPLIED: [Step; 4] = [
     Step::Waits(3, false),
 ];
 
+/// The hardware state follows what is acknowledged, part by part: of a system that goes down while
+/// the Down of its last core but one is still on its way.
+const CONFIRMED_IN_PART: [Step; 19] = [
+    Step::Hardware(2, 0, None),
+    Step::Enter(0, 1, 1, BOOTS),
+    Step::Hardware(1, 1, Some(Hw::Off)),
+    Step::Call(0, ON, Answer::Asks(3, 1, 0)),
+    Step::Hardware(1, 1, Some(Hw::On)),
+    Step::Enter(3, 1, 1, LAST_GOES),
+    Step::Call(3, [0xc400_0001, 0x0201_0333, 0x4000_4000, 2], LAST_DOWN),
+    Step::Call(
+        0,
+        ALL_DOWN,
+        Answer::Down(0, 1, 1, &[(3, 1), (3, 1), (3, 2)]),
+    ),
+    Step::Hardware(1, 0, Some(Hw::On)),
+    Step::Take(Kind::Down, 0, 1, 2, false, Taken::Used),
+    Step::Hardware(1, 0, Some(Hw::Off)),
+    Step::Hardware(1, 1, Some(Hw::On)),
+    Step::Hardware(2, 0, Some(Hw::On)),
+    Step::Take(Kind::Down, 3, 1, 2, false, Taken::Used),
+    Step::Take(Kind::Down, 0, 1, 3, false, Taken::Used),
+    Step::Hardware(0, 0, Some(Hw::Off)),
+    Step::Hardware(1, 0, Some(Hw::Off)),
+    Step::Hardware(1, 1, Some(Hw::Off)),
+    Step::Hardware(2, 0, Some(Hw::Off)),
+];
+
 #[test]
 fn cores_are_off_once_acknowledged(rt: HostRuntime) -> Result<(), Fail> {
     let alloc = rt.alloc();
@@ -88,5 +116,6 @@ fn cores_are_off_once_acknowledged(rt: HostRuntime) -> Result<(), Fail> {
     tell_both(&rt, alloc, "woken from off", &WOKEN_FROM_OFF)?;
     tell_both(&rt, alloc, "all parts", &ALL_PARTS)?;
     tell_both(&rt, alloc, "partly applied", &PARTLY_APPLIED)?;
-    tell_both(&rt, alloc, "nothing applied", &NOTHING_APPLIED)
+    tell_both(&rt, alloc, "nothing applied", &NOTHING_APPLIED)?;
+    tell(&rt, alloc, "confirmed in part", BOARD, &CONFIRMED_IN_PART)
 }
