@@ -320,11 +320,11 @@ many_storms() {
     done
     # known lines: the second model has answered the kept scripts with as many events and messages
     cat > "$work/known" << 'END'
-1 storm events 10000 sent 509 quiet 0
-2 storm events 10005 sent 878 quiet 1
-12 storm events 10003 sent 608 quiet 1
-4294967297 storm events 10003 sent 854 quiet 1
-18446744073709551615 storm events 10005 sent 602 quiet 1
+1 storm events 10005 sent 558 quiet 1
+2 storm events 10002 sent 906 quiet 1
+12 storm events 10000 sent 517 halting
+4294967297 storm events 10006 sent 816 quiet 1
+18446744073709551615 storm events 10002 sent 543 quiet 1
 END
     while read -r seed words; do
         run storm --seed "$seed" --count 10000
