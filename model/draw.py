@@ -217,6 +217,8 @@ class Draw(random.Random):
             yield self.last(world, "deliver")
             yield self.last(world, "take")
         running = [core for core in world.board.cores if world.place[core] == "running"]
+        if len(running) > 1 and not ends and self.randrange(3):
+            yield from self.put_to_sleep(world, running)
         if len(running) > 1 and ends:
             # mostly another core, so that the boot core is there to call afterwards
             caller = self.choice(running[1:] * 6 + running[:1])
@@ -234,6 +236,22 @@ class Draw(random.Random):
                 yield f"enter {core}"
                 if world.firmware.mode == fw.OS_INITIATED and self.randrange(3) == 0:
                     yield f"call {core} 0xc4000001 {self.choice((1, 2))}"
+
+    def put_to_sleep(self, world, running):
+        """A core goes to standby or retention, which is acknowledged; another asks for its state."""
+        board, core = world.board, self.choice(running)
+        caller = self.choice([other for other in running if other != core])
+        is_last = all(board.places[other][1:] != board.places[core][1:]
+                      for other in running if other != core)
+        levels, depth = self.choice((1, 2, 2, 2)) if is_last else 1, self.choice((1, 2))
+        word = sum(depth << 4 * level for level in range(levels))
+        if not board.extended:
+            word |= levels - 1 << 24
+        yield f"call {core} 0xc4000001 {word:#x}"
+        yield self.last(world, "deliver")
+        yield self.last(world, "take")
+        target, level = self.word_of(board, core), self.choice((0, levels - 1, levels - 1))
+        yield f"call {caller} 0xc400000d {target:#x} {level}"
 
     @staticmethod
     def last(world, word):
