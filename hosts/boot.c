@@ -228,7 +228,9 @@ int main(void) {
     smc(0, 0xc4000004, 0x101, 0, 0);               /* AFFINITY_INFO of core 3 */
     start(3, PSCI_WAKE);
     smc(3, 0x84000002, 0, 0, 0);                   /* CPU_OFF */
+    smc(0, 0xc400000d, 0x101, 0, 0);               /* NODE_HW_STATE: on, until it is confirmed */
     serve();
+    smc(0, 0xc400000d, 0x101, 0, 0);
     smc(0, 0xc4000004, 0x101, 0, 0);
     smc(0, 0xc4000003, 0x9, 0x40001000, 0);        /* CPU_ON of no core */
     smc(0, 0x84000009, 0, 0, 0);                   /* SYSTEM_RESET: the next life */

@@ -1,28 +1,64 @@
-# The firmware as a C library, sourced by ../test after tests/program.sh: the hosts of hosts/ over the
-# archive that `rt lib` builds in crates/psci_ffi.
+# The firmware as a C library, sourced by ../test after tests/program.sh: the archive that `rt lib`
+# builds in crates/psci_ffi, and the hosts of hosts/ over it.
 
 archive=crates/psci_ffi/out/libpsci_ffi.a
-# what the archive may want of its user, and how many bytes of text and data it may have
+# what the archive may want of its user, how many bytes of text and data it may have, and how many of
+# stack a call may take
 wants='memcpy|memmove|memset|rattle_alloc|rattle_realloc|rattle_dealloc'
 most_text=65536
+most_stack=16384
 
-has_archive() {
-    command -v cc > /dev/null || { skip "$1" cc; return 1; }
-    [ -f "$archive" ] || { skip "$1" "$archive, which rt lib builds in crates/psci_ffi,"; return 1; }
+has_cc() { command -v cc > /dev/null || { skip "$1" cc; false; }; }
+
+# Builds the archive, over what earlier checks kept of the crates below it. The gate leaves nothing
+# of the kind: where no check came before, these are proved once more.
+build_archive() {
+    rm -f "$archive"
+    say "building the library, some minutes where no earlier check has kept the crates below it"
+    (cd crates/psci_ffi && rt lib < /dev/null) > "$work/lib" 2>&1 && [ -f "$archive" ]
 }
 
-# build_host NAME: a host over the archive and the pool
-build_host() {
-    cc -std=c11 -O2 -Wall -Wextra -Werror -Iinclude -Ihosts -o "$work/$1" "hosts/$1.c" \
-        hosts/pool.c "$archive" > "$work/err" 2>&1
+# build_c NAME SOURCE: a C program over the archive and the pool
+build_c() {
+    cc -std=c11 -O2 -Wall -Wextra -Werror -Iinclude -Ihosts -o "$work/$1" "$2" \
+        hosts/pool.c "$archive" > "$work/err" 2>&1 || { fail "$2"; head -n 20 "$work/err"; false; }
+}
+
+# at_most WHAT NUMBER MOST: says the number, which is at most so large
+at_most() {
+    say "$1: $2 bytes"
+    if [ "$2" -le "$3" ]; then pass; else fail "$1: $2 bytes, more than $3"; fi
+}
+
+# The archive: it is built, what it wants, how large it is; then what tests/programs/library.c looks
+# at, which ends with the stack that a call takes.
+c_archive() {
+    local beyond
+    has_cc "the archive" || return
+    if build_archive; then pass; else
+        fail "rt lib in crates/psci_ffi"
+        tail -n 20 "$work/lib"
+        return
+    fi
+    beyond=$(nm --undefined-only "$archive" | awk 'NF == 2 { print $2 }' | grep -Evx "$wants")
+    if [ -z "$beyond" ]; then pass; else fail "the archive wants $beyond"; fi
+    at_most "the archive's text and data" \
+        "$(size "$archive" | awk 'NR > 1 { sum += $1 + $2 + $3 } END { print sum }')" "$most_text"
+    build_c library tests/programs/library.c || return
+    if "$work/library" > "$work/out"; then pass; else
+        fail "tests/programs/library.c"
+        head -n 20 "$work/out"
+    fi
+    at_most "the stack of a call" "$(awk '$1 == "stack" { print $2 }' "$work/out")" "$most_stack"
 }
 
 # the firmware's side of each script that has no fault, and the story of hosts/boot.c
 c_hosts() {
     local file name
-    has_archive "the hosts in C" || return
+    has_cc "the hosts in C" || return
+    [ -f "$archive" ] || { fail "the hosts in C, without an archive"; return; }
     for name in loop boot; do
-        build_host "$name" || { fail "hosts/$name.c"; head -n 20 "$work/err"; return; }
+        build_c "$name" "hosts/$name.c" || return
     done
     for file in examples/*.psci tests/scripts/*/*.psci; do
         name=${file%.psci}
@@ -38,15 +74,4 @@ c_hosts() {
         fail "hosts/boot.c"
         diff hosts/boot.out "$work/out" | head -n 5
     fi
-}
-
-# what the archive wants, and how large it is
-c_archive() {
-    local beyond text
-    has_archive "the archive" || return
-    beyond=$(nm --undefined-only "$archive" | awk 'NF == 2 { print $2 }' | grep -Evx "$wants")
-    if [ -z "$beyond" ]; then pass; else fail "the archive wants $beyond"; fi
-    text=$(size "$archive" | awk 'NR > 1 { sum += $1 + $2 + $3 } END { print sum }')
-    say "the archive has $text bytes of text and data"
-    if [ "$text" -le "$most_text" ]; then pass; else fail "the archive has $text bytes"; fi
 }

@@ -7,8 +7,10 @@ use Rattle.psci_board_text.specs.declared.fault.BoardFault.TheVariants.{BadBoot,
 use Rattle.psci_fw_spec.specs.declared.fault.FwFault.{FwFault}
 use Rattle.psci_fw_spec.specs.declared.fault.FwFault.TheVariants.{NoCore, NoLife, NotRunning}
 use Rattle.psci_fw_spec.specs.declared.fault.FwFault.TheVariants.{OldStart}
+use Rattle.psci_fw_spec.specs.declared.hw.Hw.{Hw}
 use Rattle.psci_fw_spec.specs.declared.status.Status.{Status}
 use Rattle.psci_fw_spec.specs.declared.status.Status.TheVariants.{On, Off, Pending}
+use Rattle.psci_fw_spec.specs.NodeHwState.{hw_code}
 use Rattle.psci_link.specs.declared.fault.FrameFault.{FrameFault}
 use Rattle.psci_link.specs.declared.fault.FrameFault.TheVariants as faults
 use Rattle.psci_link.specs.declared.start.Cause.{Cause}
@@ -79,3 +81,8 @@ status_code (Some On) = 0
 status_code (Some Off) = 1
 status_code (Some Pending) = 2
 status_code None = refusal NoLife
+
+-- a hardware state as NODE_HW_STATE has it, and no life before any core has entered
+abbrev pub hw_number : Option Hw → ℕ
+hw_number (Some hw) = hw_code hw
+hw_number None = refusal NoLife

@@ -1,11 +1,11 @@
 -- What C reads of a place; an empty one is as a firmware before any core has entered.
 use Rattle.std.specs.Prelude.{ℕ, Bool, false, Option, None, Some, ◌&&◌}
 use Rattle.psci_board.specs.declared.node.Node.{Node}
-use Rattle.psci_fw.specs.Seen.{seen, status_shown}
+use Rattle.psci_fw.specs.Seen.{hw_shown, seen, status_shown}
 use Rattle.psci_fw_spec.specs.Phases.{is_running}
 use Rattle.psci_fw_state.specs.Seen.{message_shown}
 use Rattle.psci_ffi.specs.declared.answer.SomeFrame.{SomeFrame}
-use Rattle.psci_ffi.specs.Codes.{no_firmware, status_code}
+use Rattle.psci_ffi.specs.Codes.{hw_number, no_firmware, status_code}
 use Rattle.psci_ffi.specs.Shown.{frame_shown, no_frame}
 use Rattle.psci_ffi.specs.Slot.{Kept}
 
@@ -28,6 +28,11 @@ status_read (Some f) node = status_code (status_shown f node)
 abbrev pub granted_read : Kept → Node → ℕ
 granted_read None node = 0
 granted_read (Some f) node = (seen f).granted node.level node.place
+
+-- the hardware state of a core or power domain
+abbrev pub hw_read : Kept → Node → ℕ
+hw_read None node = no_firmware
+hw_read (Some f) node = hw_number (hw_shown f node)
 
 -- the known start of a core
 abbrev pub known_read : Kept → ℕ → ℕ

@@ -8,6 +8,7 @@ ghost use Rattle.psci_ffi.specs.Shown.{act_shown, frame_shown, no_frame, plain, 
 use crate::codes::refusal;
 use psci_fw::{Act, FwFault, Outcome};
 use psci_link::{FRAME_LEN, Frame, Message, encode};
+use std::mem::size_of;
 
 /// A frame, if there is one.
 #[repr(C)]
@@ -35,6 +36,10 @@ pub struct Answer {
     /// The message that is sent to the power controller.
     pub message: SomeFrame,
 }
+
+// The sizes that psci.h gives these.
+const _: () = prove!(size_of::<SomeFrame>() == 54);
+const _: () = prove!(size_of::<Answer>() == 80);
 
 /// No frame.
 pub fn no_frame() -> SomeFrame

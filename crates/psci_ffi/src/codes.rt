@@ -2,10 +2,10 @@
 
 ghost use Rattle.std.specs.Prelude.{◌≡◌};
 ghost use Rattle.psci_ffi.specs.Codes.{cause_said, frame_code, opened_said, refusal, status_code};
-ghost use Rattle.psci_ffi.specs.Codes.{taken_code};
+ghost use Rattle.psci_ffi.specs.Codes.{hw_number, taken_code};
 
 use psci_board_text::BoardFault;
-use psci_fw::{Cause, FwFault, Status, Taken};
+use psci_fw::{Cause, FwFault, Hw, Status, Taken};
 use psci_link::FrameFault;
 
 /// There is no firmware in the place.
@@ -93,6 +93,18 @@ pub fn status_code(status: Option<Status>) -> u32
         Some(Status::On) => 0,
         Some(Status::Off) => 1,
         Some(Status::Pending) => 2,
+        None => 18,
+    }
+}
+
+/// The number of a hardware state, as NODE_HW_STATE has it.
+pub fn hw_number(hw: Option<Hw>) -> u32
+    ensures { result ≡ hw_number hw }
+{
+    match hw {
+        Some(Hw::On) => 0,
+        Some(Hw::Off) => 1,
+        Some(Hw::Standby) => 2,
         None => 18,
     }
 }

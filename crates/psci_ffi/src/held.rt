@@ -1,7 +1,7 @@
 //! What is in a place: a firmware, with the board that frames are read on.
 
 use psci_board::{Board, Core, Memory, Node};
-use psci_fw::{Cause, Firmware, FwFault, Outcome, Regs, Start, Status};
+use psci_fw::{Cause, Firmware, FwFault, Hw, Outcome, Regs, Start, Status};
 use psci_link::{Frame, Message, decode};
 use std::alloc::Global;
 use std::marker::Model;
@@ -25,7 +25,7 @@ impl Model for Held {
 }
 
 ghost use Rattle.std.specs.Prelude.{◌≡◌, IfOk, OnErr, option_map};
-ghost use Rattle.psci_fw.specs.Seen.{life_shown, seen, status_shown};
+ghost use Rattle.psci_fw.specs.Seen.{hw_shown, life_shown, seen, status_shown};
 ghost use Rattle.psci_fw_spec.specs.After.{after};
 ghost use Rattle.psci_fw_spec.specs.Answer.{answer, reply_of};
 ghost use Rattle.psci_fw_spec.specs.Lives.{start_of_life};
@@ -106,6 +106,13 @@ impl Held {
         ensures { result ≡ (seen self.now).granted node.level node.place }
     {
         self.firmware.granted(node)
+    }
+
+    /// `Firmware::hw`.
+    pub fn hw(&self, node: Node) -> Option<Hw>
+        ensures { result ≡ hw_shown self.now node }
+    {
+        self.firmware.hw(node)
     }
 
     /// `Firmware::known`.

@@ -5,7 +5,7 @@ ghost use Rattle.std.specs.Prelude.{◌≡◌, None, Some, is_some, option_map};
 use crate::held::Held;
 use crate::slot::Slot;
 use std::alloc::Global;
-use std::mem;
+use std::mem::{self, size_of};
 use std::ptr::null_mut;
 
 /// A place for a firmware. With all bytes zero it is empty.
@@ -18,6 +18,9 @@ pub struct Place {
     pub full: bool,
     ghost tied: { full ≡ is_some slot.kept },
 }
+
+// The size that psci.h gives it.
+const _: () = prove!(size_of::<Place>() == 16);
 
 impl Place {
     /// An empty one.

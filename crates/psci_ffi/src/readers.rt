@@ -1,11 +1,11 @@
 //! What is read of a firmware. An empty place is as a firmware before any core has entered.
 
 ghost use Rattle.std.specs.Prelude.{◌≡◌};
-ghost use Rattle.psci_ffi.specs.Readers.{granted_read, halting_read, known_read, life_read};
-ghost use Rattle.psci_ffi.specs.Readers.{outstanding_read, running_read, status_read};
+ghost use Rattle.psci_ffi.specs.Readers.{granted_read, halting_read, hw_read, known_read};
+ghost use Rattle.psci_ffi.specs.Readers.{life_read, outstanding_read, running_read, status_read};
 
 use crate::answer::{SomeFrame, frame_of, no_frame};
-use crate::codes::{NO_FIRMWARE, status_code};
+use crate::codes::{NO_FIRMWARE, hw_number, status_code};
 use crate::place::Place;
 use psci_board::{Core, Node};
 use std::alloc::Global;
@@ -74,6 +74,26 @@ pub extern "C" fn psci_granted(alloc: Global, place: &mut Place, level: u32, ind
     });
     place.put(held);
     granted
+}
+
+/// The state of the hardware of a core (level 0) or power domain, as far as the power controller has
+/// confirmed it: 0 HW_ON, 1 HW_OFF, 2 HW_STANDBY; 18 before any core has entered, 16 where there is
+/// no firmware. A node that the board does not have is on.
+#[unsafe(no_mangle)]
+pub extern "C" fn psci_hw(alloc: Global, place: &mut Place, level: u32, index: u16) -> u32
+    ensures hw { result
+        ≡ hw_read place.old.slot.kept (record { level = level; place = index }) }
+    ensures same { place.new.slot.kept ≡ place.old.slot.kept }
+{
+    let Some(held) = place.take(alloc) else {
+        return NO_FIRMWARE;
+    };
+    let hw = held.hw(Node {
+        level,
+        place: index,
+    });
+    place.put(held);
+    hw_number(hw)
 }
 
 /// The number of the last start by which a core entered in this life, or 0.
