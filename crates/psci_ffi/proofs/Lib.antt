@@ -1,2 +1,3 @@
 pub mod AsBox
+mod CodeRows
 pub mod Taking
