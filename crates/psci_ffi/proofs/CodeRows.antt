@@ -1,6 +1,6 @@
 -- Each number that crosses to C, as psci.h has it; each act, with and without a message; an empty
 -- place.
-use Rattle.std.proofs.Common.{◌≡◌, ℕ, pos, negsuc, true, false, [], ◌∷◌, ◌++◌, map, refl}
+use Rattle.std.proofs.Common.{◌≡◌, ℕ, pos, negsuc, true, false, [], ◌∷◌, map, refl}
 use Rattle.std.specs.Prelude.{None, Some, Ok, Err, replicate}
 use Rattle.psci_board_text.specs.declared.fault.BoardFault.TheVariants as boards
 use Rattle.psci_fw_spec.specs.declared.fault.FwFault.TheVariants as refusals

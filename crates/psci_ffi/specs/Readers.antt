@@ -1,5 +1,5 @@
 -- What C reads of a place; an empty one is as a firmware before any core has entered.
-use Rattle.std.specs.Prelude.{ℕ, Bool, false, Option, None, Some, ◌&&◌}
+use Rattle.std.specs.Prelude.{ℕ, Bool, false, None, Some}
 use Rattle.psci_board.specs.declared.node.Node.{Node}
 use Rattle.psci_fw.specs.Seen.{hw_shown, seen, status_shown}
 use Rattle.psci_fw_spec.specs.Phases.{is_running}

@@ -1,5 +1,5 @@
 -- What C is told, and what a call leaves in a place.
-use Rattle.std.specs.Prelude.{◌≡◌, ℕ, List, Bool, true, false, pos, Option, None, Some}
+use Rattle.std.specs.Prelude.{◌≡◌, ℕ, true, false, pos, Option, None, Some}
 use Rattle.std.specs.Prelude.{Result, Ok, Err, IsOk, IsSomeAnd, option_map, replicate}
 use Rattle.psci_board.specs.Board.{BoardValue}
 use Rattle.psci_board_text.specs.declared.fault.BoardFault.{BoardFault}

@@ -39,6 +39,7 @@ pub struct Answer {
 
 // The sizes that psci.h gives these.
 const _: () = prove!(size_of::<SomeFrame>() == 54);
+
 const _: () = prove!(size_of::<Answer>() == 80);
 
 /// No frame.

@@ -1,5 +1,4 @@
 -- A slot may go to another thread: so may its value, and any thread may free the block.
-use Prim.Native.Nat.{ℕ}
 use mir.Raw.{raw}
 use base.Shift.{Keyless}
 use denote.Memory.{lone}
