@@ -2,11 +2,11 @@
 # builds in crates/psci_ffi, and the hosts of hosts/ over it.
 
 archive=crates/psci_ffi/out/libpsci_ffi.a
-# what the archive may want of its user, how many bytes of text and data it may have, and how many of
-# stack a call may take
+# what the archive may want of its user; how many bytes of text and data it may have, and a call of
+# stack
 wants='memcpy|memmove|memset|rattle_alloc|rattle_realloc|rattle_dealloc'
 most_text=65536
-most_stack=16384
+most_stack=8192
 
 has_cc() { command -v cc > /dev/null || { skip "$1" cc; false; }; }
 
@@ -30,8 +30,7 @@ at_most() {
     if [ "$2" -le "$3" ]; then pass; else fail "$1: $2 bytes, more than $3"; fi
 }
 
-# The archive: it is built, what it wants, how large it is; then what tests/programs/library.c looks
-# at, which ends with the stack that a call takes.
+# the archive: it is built; what it wants, how large it is, how much stack a call takes by its code
 c_archive() {
     local beyond
     has_cc "the archive" || return
@@ -44,19 +43,31 @@ c_archive() {
     if [ -z "$beyond" ]; then pass; else fail "the archive wants $beyond"; fi
     at_most "the archive's text and data" \
         "$(size "$archive" | awk 'NR > 1 { sum += $1 + $2 + $3 } END { print sum }')" "$most_text"
+    has_python "tests/stack-need" || return
+    if tests/stack-need "$archive" > "$work/out"; then pass; else
+        fail "tests/stack-need"
+        return
+    fi
+    at_most "the stack of a call, by its code" \
+        "$(awk '$2 > most { most = $2 } END { print most }' "$work/out")" "$most_stack"
+}
+
+# what no script comes to: tests/programs/library.c, which ends with the stack that a call took
+c_calls() {
+    has_cc "calls from C" || return
     build_c library tests/programs/library.c || return
     if "$work/library" > "$work/out"; then pass; else
         fail "tests/programs/library.c"
         head -n 20 "$work/out"
     fi
-    at_most "the stack of a call" "$(awk '$1 == "stack" { print $2 }' "$work/out")" "$most_stack"
+    at_most "the stack that a call took" \
+        "$(awk '$1 == "stack" { print $2 }' "$work/out")" "$most_stack"
 }
 
 # the firmware's side of each script that has no fault, and the story of hosts/boot.c
 c_hosts() {
     local file name
     has_cc "the hosts in C" || return
-    [ -f "$archive" ] || { fail "the hosts in C, without an archive"; return; }
     for name in loop boot; do
         build_c "$name" "hosts/$name.c" || return
     done
