@@ -27,9 +27,9 @@ static unsigned char *next(unsigned char *place) {
     return place + sizeof(struct header) + at(place)->size;
 }
 
-/* Measured on boards of each height, not proved: what grows with the square of the cores is room
- * that the lists of many small clusters keep. */
-size_t pool_size(uint16_t cores) { return 6144 + 640u * cores + 40u * cores * cores; }
+/* By how the lists of a tree are made (docs/DECISIONS.md), not proved. The boards that take most are
+ * tried at each number of cores. */
+size_t pool_size(uint16_t cores) { return 4096 + 1792u * cores + 32u * cores * cores; }
 
 void pool_give(void *memory, size_t size) {
     first = memory;

@@ -10,12 +10,11 @@ most_stack=8192
 
 has_cc() { command -v cc > /dev/null || { skip "$1" cc; false; }; }
 
-# Builds the archive, over what earlier checks kept of the crates below it. The gate leaves nothing
-# of the kind: where no check came before, these are proved once more.
+# Builds the archive by these words of `rt lib`, over what earlier checks kept of the crates below it.
+# The gate leaves nothing of the kind: where no check came before, these are proved once more.
 build_archive() {
     rm -f "$archive"
-    say "building the library, some minutes where no earlier check has kept the crates below it"
-    (cd crates/psci_ffi && rt lib < /dev/null) > "$work/lib" 2>&1 && [ -f "$archive" ]
+    (cd crates/psci_ffi && rt lib "$@" < /dev/null) > "$work/lib" 2>&1 && [ -f "$archive" ]
 }
 
 # build_c NAME SOURCE: a C program over the archive and the pool
@@ -30,19 +29,28 @@ at_most() {
     if [ "$2" -le "$3" ]; then pass; else fail "$1: $2 bytes, more than $3"; fi
 }
 
-# the archive: it is built; what it wants, how large it is, how much stack a call takes by its code
-c_archive() {
-    local beyond
-    has_cc "the archive" || return
-    if build_archive; then pass; else
-        fail "rt lib in crates/psci_ffi"
+# archive_of MACHINE WORD..: builds the archive; what it wants, how large it is
+archive_of() {
+    local machine=$1 beyond
+    shift
+    if build_archive "$@"; then pass; else
+        fail "rt lib $* in crates/psci_ffi"
         tail -n 20 "$work/lib"
-        return
+        return 1
     fi
     beyond=$(nm --undefined-only "$archive" | awk 'NF == 2 { print $2 }' | grep -Evx "$wants")
-    if [ -z "$beyond" ]; then pass; else fail "the archive wants $beyond"; fi
-    at_most "the archive's text and data" \
+    if [ -z "$beyond" ]; then pass; else fail "the archive for $machine wants $beyond"; fi
+    at_most "text and data of the archive for $machine" \
         "$(size "$archive" | awk 'NR > 1 { sum += $1 + $2 + $3 } END { print sum }')" "$most_text"
+}
+
+# the archive for two machines, of which that for the hosts stays; how much stack a call takes there
+# by its code
+c_archive() {
+    has_cc "the archive" || return
+    say "building the library, minutes where no earlier check has kept the crates below it"
+    archive_of aarch64 --target aarch64-unknown-linux-gnu || return
+    archive_of x86-64 || return
     has_python "tests/stack-need" || return
     if tests/stack-need "$archive" > "$work/out"; then pass; else
         fail "tests/stack-need"

@@ -1,6 +1,6 @@
 /* Tests the C library where no script of hosts/loop.c comes: numbers of refusals, openings in ever
  * less memory, what a call writes, and how much stack it takes. What is wanted is written here, by
- * include/psci.h and docs/FORMATS.md. The last line is 'stack N', the most bytes that a call took. */
+ * include/psci.h and docs/FORMATS.md. The last line is 'stack N': the most bytes that a call took. */
 #define _XOPEN_SOURCE 700
 #include "pool.h"
 #include "psci.h"
@@ -170,6 +170,32 @@ static void little_memory(void) {
     free(memory);
 }
 
+/* So many clusters of one core, in as many groups as there may be, the small ones first: of all
+ * boards with so many cores it takes most. */
+static const char *scattered(unsigned cores) {
+    static char board[2048];
+    unsigned groups = cores < 16 ? cores : 16;
+    char *at = board;
+    for (unsigned group = 0; group < groups; group++) {
+        unsigned clusters = cores / groups + (groups - group <= cores % groups);
+        at += sprintf(at, group ? " (1" : "((1");
+        for (unsigned k = 1; k < clusters; k++)
+            at += sprintf(at, " 1");
+        at += sprintf(at, ")");
+    }
+    strcpy(at, ")" REST);
+    return board;
+}
+
+/* What pool_size says is enough at each number of cores. */
+static void each_size(void *memory) {
+    for (uint16_t cores = 1; cores <= 256; cores++) {
+        pool_give(memory, pool_size(cores));
+        want("in as much as pool_size says", PSCI_OPENED, open_text(scattered(cores)));
+        make(do_close);
+    }
+}
+
 /* What is wrong with a call, and with bytes that are given as an acknowledgement. */
 static void refusals(void) {
     want("opened", PSCI_OPENED, open_text(small));
@@ -226,6 +252,7 @@ int main(void) {
     void *memory = malloc(size);
     empty_place();
     little_memory();
+    each_size(memory);
     pool_give(memory, size);
     refusals();
     faulty_texts();
