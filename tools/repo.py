@@ -55,8 +55,10 @@ class Crates:
         for line in text_of(f"{top}/crates.txt").splitlines():
             name, _, words = line.partition("#")[0].partition(":")
             if name.strip():
-                self.lines[name.strip()] = line.partition("#")[0].strip()
-                listed[name.strip()] = words.split()
+                # behind its name may stand what the crate is, as staticlib
+                name = name.split()[0]
+                self.lines[name] = line.partition("#")[0].strip()
+                listed[name] = words.split()
         # of each crate the libraries of this repository that its line names
         self.named = {name: [it for it in words if it in listed] for name, words in listed.items()}
 

@@ -1,0 +1,113 @@
+-- Each number that crosses to C, as psci.h has it; each act, with and without a message; an empty
+-- place.
+use Rattle.std.proofs.Common.{◌≡◌, ℕ, pos, negsuc, true, false, [], ◌∷◌, map, refl}
+use Rattle.std.specs.Prelude.{None, Some, Ok, Err, replicate}
+use Rattle.psci_board_text.specs.declared.fault.BoardFault.TheVariants as boards
+use Rattle.psci_fw_spec.specs.declared.fault.FwFault.TheVariants as refusals
+use Rattle.psci_fw_spec.specs.declared.hw.Hw.TheVariants as hardware
+use Rattle.psci_fw_spec.specs.declared.outcome.Act.TheVariants.{Return, Stop, Enter, Resume}
+use Rattle.psci_fw_spec.specs.declared.reply.FwReply.TheVariants.{Out, Fault}
+use Rattle.psci_fw_spec.specs.declared.status.Status.TheVariants as statuses
+use Rattle.psci_link.specs.declared.fault.FrameFault.TheVariants as faults
+use Rattle.psci_link.specs.declared.kind.Kind.TheVariants.{Start}
+use Rattle.psci_link.specs.declared.start.Cause.TheVariants as causes
+use Rattle.psci_link.specs.declared.taken.Taken.TheVariants as takens
+use Rattle.psci_link.specs.Frame.{part_fields}
+use Rattle.psci_link.specs.Message.{MessageValue}
+use Rattle.psci_ffi.specs.declared.answer.Answer.{Answer}
+use Rattle.psci_ffi.specs.declared.answer.SomeFrame.{SomeFrame}
+use Rattle.psci_ffi.specs.Codes.{cause_said, frame_code, hw_number, not_an_ack, opened_said}
+use Rattle.psci_ffi.specs.Codes.{refusal, status_code, taken_code}
+use Rattle.psci_ffi.specs.Shown.{answered, shown, start_called}
+
+-- Numbers -------------------------------------------------------------------------------------
+
+openings : map opened_said (0 ∷ 1 ∷ 2 ∷ 3 ∷ 4 ∷ 5 ∷ 6 ∷ 7 ∷ 8 ∷ [])
+    ≡ Ok tt ∷ Err boards.Grammar ∷ Err boards.Uneven ∷ Err boards.TooWide
+    ∷ Err boards.TooManyCores ∷ Err boards.BadRange ∷ Err boards.BadBoot ∷ Err boards.BadLimit
+    ∷ Err boards.Memory ∷ []
+openings = refl
+
+refused-calls : map refusal
+    (refusals.NoCore ∷ refusals.NoLife ∷ refusals.NotRunning ∷ refusals.OldStart ∷ [])
+    ≡ 17 ∷ 18 ∷ 19 ∷ 20 ∷ []
+refused-calls = refl
+
+starts : map cause_said (0 ∷ 1 ∷ 2 ∷ 3 ∷ 4 ∷ [])
+    ≡ Some causes.Boot ∷ Some causes.On ∷ Some causes.Wake ∷ Some causes.Reset ∷ None ∷ []
+starts = refl
+
+frames : map frame_code
+    (faults.Length ∷ faults.Magic ∷ faults.Kind ∷ faults.Count ∷ faults.Unused ∷ faults.Core
+    ∷ faults.Depth ∷ faults.Level ∷ [])
+    ≡ 33 ∷ 34 ∷ 35 ∷ 36 ∷ 37 ∷ 38 ∷ 39 ∷ 40 ∷ []
+frames = refl
+
+message-taken : not_an_ack ≡ 41
+message-taken = refl
+
+acknowledgements : map taken_code (takens.Used ∷ takens.Old ∷ []) ≡ 0 ∷ 1 ∷ []
+acknowledgements = refl
+
+affinity : map status_code
+    (Some statuses.On ∷ Some statuses.Off ∷ Some statuses.Pending ∷ None ∷ [])
+    ≡ 0 ∷ 1 ∷ 2 ∷ 18 ∷ []
+affinity = refl
+
+hardware-states : map hw_number
+    (Some hardware.On ∷ Some hardware.Off ∷ Some hardware.Standby ∷ None ∷ [])
+    ≡ 0 ∷ 1 ∷ 2 ∷ 18 ∷ []
+hardware-states = refl
+
+-- Acts ----------------------------------------------------------------------------------------
+
+abbrev nothing : SomeFrame
+nothing = record { some = false; bytes = replicate 53 0 }
+
+-- core 3 is to be started, by its second start in life 1
+abbrev message : MessageValue
+message =
+    record { kind = Start; core = record { number = 3 }; life = 1; number = 1; parts = [] }
+
+abbrev sent : SomeFrame
+sent = record {
+  some = true;
+  bytes = 0x50 ∷ 0x44 ∷ 2 ∷ 3 ∷ 0 ∷ 0 ∷ 0 ∷ 1 ∷ 0 ∷ 0 ∷ 0 ∷ 1 ∷ 0 ∷ replicate 40 0;
+}
+
+returned : shown (Out (record { act = Return (record { 0 = negsuc 1 }); message = None }))
+    ≡ record { what = 0; code = negsuc 1; address = 0; context = 0; message = nothing }
+returned = refl
+
+returned-and-sent : shown (Out (record { act = Return (record { 0 = pos 0 }); message = Some message }))
+    ≡ record { what = 0; code = pos 0; address = 0; context = 0; message = sent }
+unfolding part_fields
+returned-and-sent = refl
+
+stopped : shown (Out (record { act = Stop; message = None }))
+    ≡ record { what = 1; code = pos 0; address = 0; context = 0; message = nothing }
+stopped = refl
+
+entered : shown (Out (record { act = Enter 0x40001000 7; message = None }))
+    ≡ record { what = 2; code = pos 0; address = 0x40001000; context = 7; message = nothing }
+entered = refl
+
+resumed : shown (Out (record { act = Resume; message = None }))
+    ≡ record { what = 3; code = pos 0; address = 0; context = 0; message = nothing }
+resumed = refl
+
+-- Refusals ------------------------------------------------------------------------------------
+
+abbrev refused-by : ℕ → Answer
+refused-by number =
+    record { what = number; code = pos 0; address = 0; context = 0; message = nothing }
+
+used-start : shown (Fault refusals.OldStart) ≡ refused-by 20
+used-start = refl
+
+empty-place : answered None 0 (start_called 1 1 0) ≡ refused-by 16
+empty-place = refl
+
+-- a start with no such cause, also where the place is empty
+no-cause : answered None 0 (start_called 1 1 4) ≡ refused-by 21
+no-cause = refl

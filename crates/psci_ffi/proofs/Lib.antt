@@ -1,0 +1,3 @@
+pub mod AsBox
+mod CodeRows
+pub mod Taking

@@ -1,0 +1,91 @@
+//! The calls of the cores, and the acknowledgements of the power controller.
+
+ghost use Rattle.std.specs.Prelude.{◌≡◌, None, Some};
+ghost use Rattle.psci_fw_spec.specs.declared.call.FwCall.TheVariants.{Smc};
+ghost use Rattle.psci_link.specs.Message.{AckValue, MessageValue};
+ghost use Rattle.psci_ffi.specs.Frames.{IsTakenIn};
+ghost use Rattle.psci_ffi.specs.Shown.{IsAfter, IsSameRefused, answered, start_called};
+
+use crate::answer::{Answer, answer_of, refused};
+use crate::codes::{NO_CAUSE, NO_FIRMWARE, cause_of};
+use crate::place::Place;
+use psci_board::Core;
+use psci_fw::{Regs, Start};
+use std::alloc::Global;
+
+/// A secure monitor call of a core with these registers.
+#[unsafe(no_mangle)]
+pub extern "C" fn psci_smc(
+    alloc: Global,
+    place: &mut Place,
+    core: u16,
+    x0: u64,
+    x1: u64,
+    x2: u64,
+    x3: u64,
+    answer: &mut Answer,
+)
+    ensures answer { let call = Some (Smc (record { x0 = x0; x1 = x1; x2 = x2; x3 = x3 })) in
+        answer.new ≡ answered place.old.slot.kept core call }
+    ensures after { let call = Some (Smc (record { x0 = x0; x1 = x1; x2 = x2; x3 = x3 })) in
+        IsAfter place.old.slot.kept core call place.new.slot.kept }
+    ensures refused { let call = Some (Smc (record { x0 = x0; x1 = x1; x2 = x2; x3 = x3 })) in
+        IsSameRefused place.old.slot.kept core call place.new.slot.kept }
+{
+    let Some(mut held) = place.take(alloc) else {
+        *answer = refused(NO_FIRMWARE);
+        return;
+    };
+    *answer = answer_of(held.smc(Core { number: core }, Regs { x0, x1, x2, x3 }));
+    place.put(held);
+}
+
+/// A core enters by the start of this number in this life, whose cause is 0 a boot, 1 CPU_ON, 2 a
+/// wake-up, or 3 a reset of the core.
+#[unsafe(no_mangle)]
+pub extern "C" fn psci_enter(
+    alloc: Global,
+    place: &mut Place,
+    core: u16,
+    life: u32,
+    number: u32,
+    cause: u32,
+    answer: &mut Answer,
+)
+    ensures answer { answer.new
+        ≡ answered place.old.slot.kept core (start_called life number cause) }
+    ensures after { IsAfter place.old.slot.kept core (start_called life number cause)
+        place.new.slot.kept }
+    ensures refused { IsSameRefused place.old.slot.kept core (start_called life number cause)
+        place.new.slot.kept }
+{
+    let Some(cause) = cause_of(cause) else {
+        *answer = refused(NO_CAUSE);
+        return;
+    };
+    let Some(mut held) = place.take(alloc) else {
+        *answer = refused(NO_FIRMWARE);
+        return;
+    };
+    let start = Start {
+        life,
+        number,
+        cause,
+    };
+    *answer = answer_of(held.enter(Core { number: core }, start));
+    place.put(held);
+}
+
+/// Takes the acknowledgement whose frame these bytes are: 0 where it was used, 1 where it was old.
+/// From 16 on nothing changed: 33 to 40 are the faults of frames, 41 says the frame of a message.
+#[unsafe(no_mangle)]
+pub extern "C" fn psci_take(alloc: Global, place: &mut Place, frame: &[u8]) -> u32
+    ensures { IsTakenIn place.old.slot.kept frame.now result place.new.slot.kept }
+{
+    let Some(mut held) = place.take(alloc) else {
+        return NO_FIRMWARE;
+    };
+    let code = held.take(frame);
+    place.put(held);
+    code
+}

@@ -1,0 +1,15 @@
+//! The firmware for C, kept between calls in a place of the caller's.
+//!
+//! - A *place* is memory of the caller's that holds a firmware, or is empty; all zero is empty.
+//! - An *answer* is what came of a call, as C sees it, with the frame of the message that is sent.
+//! - A *refusal* is an answer from 16 on: the caller's mistake has a number, and nothing changed.
+#![tactic(auto)]
+
+mod answer;
+mod calls;
+mod codes;
+mod held;
+mod opening;
+mod place;
+mod readers;
+mod slot;

@@ -1,0 +1,242 @@
+/* What a monitor does with the firmware: an exception handler at EL3, or a hypervisor's loop of
+ * exits. The machine is played: four cores in two clusters, an operating system of some calls in a
+ * row, and a power controller that keeps to the rules of docs/PORTING.md. Prints what happens. */
+#include "pool.h"
+#include "psci.h"
+
+#include <inttypes.h>
+#include <stdatomic.h>
+#include <stdio.h>
+#include <stdlib.h>
+#include <string.h>
+
+enum { CORES = 4, LEVELS = 3, STARTS = 1000, LIVES = 3 };
+static const char board[] = "(2 2) exec 0x40000000-0x40100000 boot 0x40000000 starts 1000 lives 3";
+
+/* The monitor -------------------------------------------------------------------------------- */
+
+/* A core, as the monitor sees it: its registers, and whether it executes the normal world. */
+static struct cpu {
+    uint64_t x[4], pc;
+    bool runs;
+} cpus[CORES];
+
+static struct psci_place firmware;
+static atomic_flag taken = ATOMIC_FLAG_INIT;
+
+/* The mailbox: frames to the power controller, in the order in which they were made. */
+static struct { uint8_t frames[64][PSCI_FRAME_LEN]; unsigned first, end; } box;
+
+/* One call of the firmware at a time, and its message into the mailbox before the next one. */
+static void lock(void) {
+    while (atomic_flag_test_and_set(&taken)) {
+    }
+}
+static void unlock(void) { atomic_flag_clear(&taken); }
+
+static void post(const struct psci_frame *message) {
+    if (message->some)
+        memcpy(box.frames[box.end++ % 64], message->bytes, PSCI_FRAME_LEN);
+}
+
+/* The code of a 64-bit function is sign-extended, that of a 32-bit one stands in the low half. */
+static uint64_t register_of(int32_t code, uint64_t word) {
+    return word & 0x40000000 ? (uint64_t)(int64_t)code : (uint32_t)code;
+}
+
+static void fail(const char *why, uint32_t what) {
+    fprintf(stderr, "boot: %s: %" PRIu32 "\n", why, what);
+    exit(1);
+}
+
+/* What the core does next, once the lock is given back. */
+static void obey(unsigned core, const struct psci_answer *answer) {
+    struct cpu *cpu = &cpus[core];
+    switch (answer->what) {
+    case PSCI_RETURN: /* ERET behind the call */
+        cpu->x[0] = register_of(answer->code, cpu->x[0]);
+        printf("core %u returns 0x%" PRIx64 "\n", core, cpu->x[0]);
+        break;
+    case PSCI_STOP: /* caches are cleaned here; then WFI until the power goes */
+        cpu->runs = false;
+        printf("core %u stops\n", core);
+        break;
+    case PSCI_ENTER: /* ERET to the entry point; no other register says anything */
+        *cpu = (struct cpu){{answer->context}, answer->address, true};
+        printf("core %u enters at 0x%" PRIx64 " with 0x%" PRIx64 "\n", core, cpu->pc, cpu->x[0]);
+        break;
+    case PSCI_RESUME: /* ERET behind the CPU_SUSPEND: the registers were kept */
+        cpu->x[0] = 0;
+        cpu->runs = true;
+        printf("core %u resumes\n", core);
+        break;
+    default: /* the monitor has lost count of cores or starts */
+        fail("refused", answer->what);
+    }
+}
+
+/* The exception: a core of the normal world made an SMC with these registers. */
+static void on_smc(unsigned core) {
+    const uint64_t *x = cpus[core].x;
+    struct psci_answer answer;
+    lock();
+    psci_smc(&firmware, core, x[0], x[1], x[2], x[3], &answer);
+    post(&answer.message);
+    unlock();
+    obey(core, &answer);
+}
+
+/* The reset vector: a core was started. */
+static void on_start(unsigned core, uint32_t life, uint32_t number, uint32_t cause) {
+    struct psci_answer answer;
+    lock();
+    psci_enter(&firmware, core, life, number, cause, &answer);
+    post(&answer.message);
+    unlock();
+    obey(core, &answer);
+}
+
+/* The interrupt of the mailbox: an acknowledgement has come. */
+static void on_ack(const uint8_t *frame) {
+    lock();
+    uint32_t what = psci_take(&firmware, frame, PSCI_FRAME_LEN);
+    unlock();
+    if (what > PSCI_OLD)
+        fail("a frame was refused", what);
+}
+
+/* The power controller ----------------------------------------------------------------------- */
+
+static uint32_t life, starts[CORES];
+static uint8_t depths[LEVELS][CORES];
+
+/* A core of a level has this many cores below each of its domains. */
+static unsigned width(unsigned level) { return 1u << level; }
+
+static uint64_t starts_below(unsigned core, unsigned level) {
+    uint64_t sum = 0;
+    for (unsigned k = 0; k < CORES; k++)
+        if (k / width(level) == core / width(level))
+            sum += starts[k];
+    return sum;
+}
+
+/* Each domain one level down is at least as deep. */
+static bool is_covered(unsigned core, unsigned level, uint8_t depth) {
+    if (level == 0)
+        return true;
+    const uint8_t *below = depths[level - 1] + core / width(level) * 2;
+    return below[0] >= depth && below[1] >= depth;
+}
+
+/* A core is started: its path is fully on, and it comes to its reset vector. */
+static void start(unsigned core, uint32_t cause) {
+    for (unsigned level = 0; level < LEVELS; level++)
+        depths[level][core / width(level)] = 0;
+    on_start(core, life, ++starts[core], cause);
+}
+
+static void begin_life(void) {
+    life++;
+    memset(starts, 0, sizeof starts);
+    memset(depths, 3, sizeof depths);
+    memset(cpus, 0, sizeof cpus);
+    start(0, PSCI_BOOT);
+}
+
+static uint64_t number_at(const uint8_t *bytes, int length) {
+    uint64_t number = 0;
+    for (int i = 0; i < length; i++)
+        number = number << 8 | bytes[i];
+    return number;
+}
+
+/* Part by part: how many were applied, and whether the first that was not is out of date. */
+static uint8_t take_down(const uint8_t *frame, bool *stale) {
+    unsigned core = frame[3], level = 0;
+    for (; level < frame[12]; level++) {
+        const uint8_t *part = frame + 13 + 10 * level;
+        *stale = number_at(part + 2, 8) != starts_below(core, level);
+        if (*stale || !is_covered(core, level, part[1]))
+            return level;
+        depths[level][core / width(level)] = part[1];
+    }
+    return level;
+}
+
+/* Carries a message out, if it is of this life, and acknowledges it. */
+static void deliver(const uint8_t *frame) {
+    uint8_t ack[PSCI_FRAME_LEN] = {0}, applied = 1;
+    bool stale = false;
+    if (number_at(frame + 4, 4) != life)
+        return;
+    if (frame[2] == 1)
+        applied = take_down(frame, &stale);
+    bool starts_one = frame[2] == 2 && starts[frame[3]] == number_at(frame + 8, 4)
+        && starts[frame[3]] < STARTS;
+    if (frame[2] == 2 && !starts_one)
+        applied = 0, stale = true;
+    memcpy(ack, frame, 12);
+    ack[2] |= stale ? 0x20 : 0x10;
+    ack[12] = applied;
+    on_ack(ack);
+    if (starts_one)
+        start(frame[3], PSCI_ON);
+    if (frame[2] == 4 && life < LIVES)
+        begin_life();
+    else if (frame[2] >= 3)
+        life = 0, memset(cpus, 0, sizeof cpus);
+}
+
+/* All that is in the mailbox. */
+static void serve(void) {
+    while (box.first != box.end)
+        deliver(box.frames[box.first++ % 64]);
+    printf("depths");
+    for (unsigned level = 0; level < LEVELS; level++)
+        for (unsigned k = 0; k < CORES / width(level); k++)
+            printf(" %u", depths[level][k]);
+    printf("\n");
+}
+
+/* The normal world --------------------------------------------------------------------------- */
+
+static void smc(unsigned core, uint64_t x0, uint64_t x1, uint64_t x2, uint64_t x3) {
+    if (!cpus[core].runs)
+        fail("a core that does not run made a call", core);
+    cpus[core] = (struct cpu){{x0, x1, x2, x3}, cpus[core].pc, true};
+    on_smc(core);
+}
+
+int main(void) {
+    size_t size = pool_size(CORES);
+    pool_give(malloc(size), size);
+    uint32_t opened = psci_open(&firmware, (const uint8_t *)board, strlen(board));
+    if (opened != PSCI_OPENED)
+        fail("no firmware", opened);
+    begin_life();
+    smc(0, 0x84000000, 0, 0, 0);                   /* PSCI_VERSION */
+    smc(0, 0xc4000003, 0x101, 0x40001000, 7);      /* CPU_ON of core 3 */
+    serve();
+    smc(3, 0xc4000001, 2, 0, 0);                   /* CPU_SUSPEND: retention of the core */
+    serve();
+    start(3, PSCI_WAKE);
+    smc(3, 0xc4000001, 0x02010333, 0x40002000, 8); /* power-down, up to the system */
+    smc(0, 0xc4000001, 0x02010333, 0x40003000, 9);
+    serve();
+    start(0, PSCI_WAKE);
+    smc(0, 0xc4000004, 0x101, 0, 0);               /* AFFINITY_INFO of core 3 */
+    start(3, PSCI_WAKE);
+    smc(3, 0x84000002, 0, 0, 0);                   /* CPU_OFF */
+    smc(0, 0xc400000d, 0x101, 0, 0);               /* NODE_HW_STATE: on, until it is confirmed */
+    serve();
+    smc(0, 0xc400000d, 0x101, 0, 0);
+    smc(0, 0xc4000004, 0x101, 0, 0);
+    smc(0, 0xc4000003, 0x9, 0x40001000, 0);        /* CPU_ON of no core */
+    smc(0, 0x84000009, 0, 0, 0);                   /* SYSTEM_RESET: the next life */
+    serve();
+    smc(0, 0x84000008, 0, 0, 0);                   /* SYSTEM_OFF */
+    serve();
+    psci_close(&firmware);
+    return 0;
+}

@@ -1,0 +1,215 @@
+/* loop SCRIPT ANSWERS: plays the firmware's side of a script. Calls, entries and acknowledgements
+ * go to the library; what the power controller says is taken from the answers that the program
+ * gave. Writes the answer lines: the program's, where the library answers as the program does. */
+#include "pool.h"
+#include "psci.h"
+
+#include <inttypes.h>
+#include <stdio.h>
+#include <stdlib.h>
+#include <string.h>
+
+enum { MOST_CORES = 256, MOST_FRAMES = 100000, MOST_LINE = 512 };
+
+/* Where a core is, and its last start. */
+enum place { STOPPED, STARTED, RUNNING };
+static struct core {
+    enum place place;
+    uint32_t number, cause;
+} cores[MOST_CORES];
+
+static struct psci_place place;
+static unsigned many_cores;
+static uint32_t life, lives;
+static uint8_t messages[MOST_FRAMES][PSCI_FRAME_LEN], acks[MOST_FRAMES][PSCI_FRAME_LEN];
+static uint64_t many_messages, many_acks;
+
+static void fail(const char *why) {
+    fprintf(stderr, "loop: %s\n", why);
+    exit(1);
+}
+
+/* A number in a frame, its highest byte first. */
+static uint64_t number_at(const uint8_t *bytes, int length) {
+    uint64_t number = 0;
+    for (int i = 0; i < length; i++)
+        number = number << 8 | bytes[i];
+    return number;
+}
+
+static uint32_t life_of(const uint8_t *frame) { return number_at(frame + 4, 4); }
+static uint32_t number_of(const uint8_t *frame) { return number_at(frame + 8, 4); }
+
+/* The boot core is started, and every other is stopped. */
+static void begin_life(void) {
+    memset(cores, 0, sizeof cores);
+    cores[0] = (struct core){STARTED, 1, PSCI_BOOT};
+    life++;
+}
+
+static void start(unsigned core, uint32_t number, uint32_t cause) {
+    cores[core] = (struct core){STARTED, number, cause};
+}
+
+/* Cores are counted as the tree has numbers that are no lists. */
+static unsigned count_cores(const char *tree) {
+    unsigned count = 0;
+    for (; *tree && strncmp(tree, " exec", 5) != 0; tree++)
+        if (*tree >= '0' && *tree <= '9')
+            count += strtoul(tree, (char **)&tree, 10), tree--;
+    return count;
+}
+
+static void open_board(const char *text) {
+    many_cores = count_cores(text);
+    lives = strtoul(strstr(text, " lives ") + 7, NULL, 10);
+    size_t size = pool_size(many_cores);
+    pool_give(malloc(size), size);
+    if (psci_open(&place, (const uint8_t *)text, strlen(text)) != PSCI_OPENED)
+        fail("the board did not open");
+    begin_life();
+}
+
+/* The message of an answer: it is kept, and follows the answer in its line. */
+static void send(const struct psci_frame *message) {
+    static const char *const kinds[] = {"", "down", "start", "off", "reset"};
+    if (!message->some)
+        return;
+    if (many_messages == MOST_FRAMES)
+        fail("too many messages");
+    const uint8_t *frame = message->bytes;
+    memcpy(messages[many_messages], frame, PSCI_FRAME_LEN);
+    printf(" #%" PRIu64 " %s %u life %" PRIu32 " number %" PRIu32, many_messages++,
+           kinds[frame[2]], frame[3], life_of(frame), number_of(frame));
+    if (frame[12])
+        printf(" parts");
+    for (const uint8_t *part = frame + 13; part < frame + 13 + 10 * frame[12]; part += 10)
+        printf(" %u:%u:%" PRIu64, part[0], part[1], number_at(part + 2, 8));
+}
+
+/* What a core does with its answer. */
+static void obey(unsigned core, const struct psci_answer *answer) {
+    cores[core].place = answer->what == PSCI_STOP ? STOPPED : RUNNING;
+    switch (answer->what) {
+    case PSCI_RETURN: printf("return %" PRId32, answer->code); break;
+    case PSCI_STOP: printf("stop"); break;
+    case PSCI_ENTER:
+        printf("enter 0x%" PRIx64 " 0x%" PRIx64, answer->address, answer->context);
+        break;
+    case PSCI_RESUME: printf("resume 0"); break;
+    default: fail("a call was refused");
+    }
+    send(&answer->message);
+}
+
+static void call(unsigned core, char *words) {
+    uint64_t x[4] = {0};
+    for (int i = 0; i < 4 && words; i++)
+        x[i] = strtoull(words, &words, 0);
+    struct psci_answer answer;
+    if (cores[core].place != RUNNING) {
+        printf("ignored");
+        return;
+    }
+    psci_smc(&place, core, x[0], x[1], x[2], x[3], &answer);
+    obey(core, &answer);
+}
+
+static void enter(unsigned core) {
+    struct psci_answer answer;
+    if (cores[core].place != STARTED) {
+        printf("ignored");
+        return;
+    }
+    psci_enter(&place, core, life, cores[core].number, cores[core].cause, &answer);
+    obey(core, &answer);
+}
+
+static void take(uint64_t k) {
+    if (k >= many_acks) {
+        printf("absent");
+        return;
+    }
+    uint32_t taken = psci_take(&place, acks[k], PSCI_FRAME_LEN);
+    if (taken > PSCI_OLD)
+        fail("an acknowledgement was refused");
+    printf(taken == PSCI_USED ? "used" : "old");
+}
+
+/* What the power controller has carried out of a message. */
+static void carried_out(const uint8_t *message, unsigned applied) {
+    if (message[2] == 2 && applied)
+        start(message[3], number_of(message) + 1, PSCI_ON);
+    if (message[2] == 4 && life < lives) {
+        begin_life();
+    } else if (message[2] >= 3) {
+        memset(cores, 0, sizeof cores);
+    }
+}
+
+/* The power controller says this of message k: its acknowledgement is the message's frame, with
+ * what was applied and without parts. */
+static void deliver(uint64_t k, const char *said) {
+    uint64_t index;
+    unsigned applied;
+    printf("%s", said);
+    if (sscanf(said, "ack #%" SCNu64 " applied %u", &index, &applied) != 2)
+        return;
+    if (many_acks == MOST_FRAMES)
+        fail("too many acknowledgements");
+    uint8_t *ack = acks[many_acks++];
+    memcpy(ack, messages[k], 12);
+    ack[2] |= strstr(said, " stale") ? 0x20 : 0x10;
+    ack[12] = applied;
+    carried_out(messages[k], applied);
+}
+
+/* The power controller says this of a wake-up or a reset. */
+static void kick(unsigned core, uint32_t cause, const char *said) {
+    uint32_t number;
+    printf("%s", said);
+    if (sscanf(said, "started %" SCNu32, &number) == 1)
+        start(core, number, cause);
+}
+
+/* One event, and what the program said of it. */
+static void event(char *line, const char *said) {
+    char *words = strchr(line, ' ');
+    uint64_t number = strtoull(words, &words, 10);
+    bool names_a_core = strchr("cewr", *line) != NULL;
+    if (names_a_core && number >= many_cores)
+        printf("absent");
+    else if (*line == 'c')
+        call(number, words);
+    else if (*line == 'e')
+        enter(number);
+    else if (*line == 't')
+        take(number);
+    else if (*line == 'd')
+        deliver(number, said);
+    else
+        kick(number, *line == 'w' ? PSCI_WAKE : PSCI_RESET, said);
+    putchar('\n');
+}
+
+int main(int count, char **words) {
+    static char line[MOST_LINE], answer[MOST_LINE];
+    FILE *script = count == 3 ? fopen(words[1], "r") : NULL;
+    FILE *answers = count == 3 ? fopen(words[2], "r") : NULL;
+    if (!script || !answers)
+        fail("give a script and its answers");
+    for (uint64_t at = 0, events = 0; fgets(line, sizeof line, script); at++) {
+        line[strcspn(line, "\n")] = 0;
+        if (at == 0) {
+            open_board(line + strlen("board "));
+        } else if (*line && *line != '#') {
+            if (!fgets(answer, sizeof answer, answers))
+                fail("there are fewer answers than events");
+            answer[strcspn(answer, "\n")] = 0;
+            printf("%" PRIu64 " ", ++events);
+            event(line, strchr(answer, ' ') + 1);
+        }
+    }
+    psci_close(&place);
+    return 0;
+}

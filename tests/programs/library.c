@@ -1,0 +1,265 @@
+/* Tests the C library where no script of hosts/loop.c comes: numbers of refusals, openings in ever
+ * less memory, what a call writes, and how much stack it takes. What is wanted is written here, by
+ * include/psci.h and docs/FORMATS.md. The last line is 'stack N', by the call that took most. */
+#define _XOPEN_SOURCE 700
+#include "pool.h"
+#include "psci.h"
+
+#include <stdio.h>
+#include <stdlib.h>
+#include <string.h>
+#include <ucontext.h>
+
+static int failed;
+
+static void want(const char *what, uint64_t wanted, uint64_t got) {
+    if (wanted != got) {
+        printf("%s: wanted %llu, got %llu\n", what, (unsigned long long)wanted,
+               (unsigned long long)got);
+        failed = 1;
+    }
+}
+
+/* A stack of its own for each call ----------------------------------------------------------- */
+
+enum { STACK = 65536, PAINT = 0x5a };
+static _Alignas(16) unsigned char stack[STACK];
+static ucontext_t outside, inside;
+static size_t most_stack;
+
+/* Makes a call on a stack that is painted first, and looks how far down the paint is gone. */
+static void on_painted(void (*call)(void)) {
+    size_t left = 0;
+    memset(stack, PAINT, STACK);
+    getcontext(&inside);
+    inside.uc_stack.ss_sp = stack;
+    inside.uc_stack.ss_size = STACK;
+    inside.uc_link = &outside;
+    makecontext(&inside, call, 0);
+    swapcontext(&outside, &inside);
+    while (left < STACK && stack[left] == PAINT)
+        left++;
+    if (STACK - left > most_stack)
+        most_stack = STACK - left;
+}
+
+/* The calls. Round the place and the answer stand bytes that no call may write. */
+static struct { uint64_t before; struct psci_place it; uint64_t after; } place;
+static struct { uint64_t before; struct psci_answer it; uint64_t after; } answer;
+static struct { uint64_t before; struct psci_frame it; unsigned char after[8]; } frame;
+static const char *text;
+static uint16_t core;
+static uint64_t x[4];
+static uint32_t life, number, cause, code;
+static size_t length;
+
+static void do_open(void) {
+    code = psci_open(&place.it, (const uint8_t *)text, strlen(text));
+}
+static void do_close(void) { psci_close(&place.it); }
+static void do_smc(void) { psci_smc(&place.it, core, x[0], x[1], x[2], x[3], &answer.it); }
+static void do_enter(void) { psci_enter(&place.it, core, life, number, cause, &answer.it); }
+static void do_take(void) { code = psci_take(&place.it, frame.it.bytes, length); }
+static void do_outstanding(void) { psci_outstanding(&place.it, core, &frame.it); }
+static void do_read(void) {
+    psci_life(&place.it);
+    psci_halting(&place.it);
+    psci_status(&place.it, 3, 0);
+    psci_hw(&place.it, 3, 0);
+    psci_granted(&place.it, 3, 0);
+    psci_known(&place.it, core);
+    psci_running(&place.it, core);
+}
+
+static void make(void (*call)(void)) {
+    place.before = place.after = answer.before = answer.after = frame.before = 0x1122334455667788;
+    memset(frame.after, PAINT, sizeof frame.after);
+    on_painted(call);
+    want("what stands round a place", 1, place.before == 0x1122334455667788
+        && place.after == 0x1122334455667788);
+    want("what stands round an answer", 1, answer.before == 0x1122334455667788
+        && answer.after == 0x1122334455667788);
+    want("what stands round a frame", 1, frame.before == 0x1122334455667788
+        && frame.after[0] == PAINT && frame.after[7] == PAINT);
+}
+
+static uint32_t open_text(const char *board) {
+    text = board;
+    make(do_open);
+    return code;
+}
+
+static uint32_t smc(uint16_t caller, uint64_t x0, uint64_t x1, uint64_t x2, uint64_t x3) {
+    core = caller, x[0] = x0, x[1] = x1, x[2] = x2, x[3] = x3;
+    make(do_smc);
+    return answer.it.what;
+}
+
+static uint32_t enter(uint16_t entering, uint32_t of_life, uint32_t by, uint32_t because) {
+    core = entering, life = of_life, number = by, cause = because;
+    make(do_enter);
+    return answer.it.what;
+}
+
+/* Takes what the answer sent as an acknowledgement, with this byte of it changed. */
+static uint32_t take_changed(size_t at, uint8_t byte, size_t bytes) {
+    frame.it = answer.it.message;
+    frame.it.bytes[2] |= 0x10;
+    memset(frame.it.bytes + 13, 0, PSCI_FRAME_LEN - 13);
+    frame.it.bytes[at] = byte;
+    length = bytes;
+    make(do_take);
+    return code;
+}
+
+/* The tests ---------------------------------------------------------------------------------- */
+
+#define REST " exec 0x40000000-0x40100000 boot 0x40000000 starts 3 lives 3"
+static const char small[] = "(2 2)" REST;
+static const char *const large = "((16 16 16 16) (16 16 16 16) (16 16 16 16) (16 16 16 16))" REST;
+
+/* An empty place refuses each call, or reads as before any core has entered. */
+static void empty_place(void) {
+    struct psci_place none = {0};
+    want("an empty place, smc", PSCI_NO_FIRMWARE, smc(0, 0x84000000, 0, 0, 0));
+    want("an empty place, enter", PSCI_NO_FIRMWARE, enter(0, 1, 1, PSCI_BOOT));
+    want("an empty place, a start of no cause", PSCI_NO_CAUSE, enter(0, 1, 1, 4));
+    want("an empty place, take", PSCI_NO_FIRMWARE, take_changed(0, 0, 0));
+    want("an empty place, status", PSCI_NO_FIRMWARE, psci_status(&none, 0, 0));
+    want("an empty place, hardware", PSCI_NO_FIRMWARE, psci_hw(&none, 0, 0));
+    want("an empty place, life", 0, psci_life(&none));
+    psci_close(&none);
+    want("an empty place, closed", 1, !none.full && !none.firmware);
+}
+
+/* Each fault of a board text; the firmware that was there stays. */
+static void faulty_texts(void) {
+    want("grammar", PSCI_BOARD_GRAMMAR, open_text("(2 2)"));
+    want("uneven", PSCI_BOARD_UNEVEN, open_text("(2 (2))" REST));
+    want("too wide", PSCI_BOARD_TOO_WIDE, open_text("17" REST));
+    want("too many cores", PSCI_BOARD_TOO_MANY_CORES,
+         open_text("((16 16 16 16 16) (16 16 16 16 16) (16 16 16 16 16) (16 16))" REST));
+    want("bad range", PSCI_BOARD_BAD_RANGE,
+         open_text("2 exec 0x4-0x4 boot 0x4 starts 1 lives 1"));
+    want("bad boot", PSCI_BOARD_BAD_BOOT,
+         open_text("2 exec 0x0-0x8 boot 0x2 starts 1 lives 1"));
+    want("bad limit", PSCI_BOARD_BAD_LIMIT,
+         open_text("2 exec 0x0-0x8 boot 0x0 starts 0 lives 1"));
+}
+
+/* With ever less memory an opening fails, and changes nothing; with what pool_size says it does
+ * not. It gives all its memory back: the pool would not last for a thousand. */
+static void little_memory(void) {
+    size_t size = pool_size(4), refused = 0;
+    void *memory = malloc(size);
+    for (size_t given = size; given >= 64; given -= 16) {
+        struct psci_place at = {0};
+        pool_give(memory, given);
+        uint32_t opened = psci_open(&at, (const uint8_t *)small, strlen(small));
+        want("little memory", 1, opened == (at.full ? PSCI_OPENED : PSCI_NO_MEMORY));
+        want("a place after an opening", at.full, at.firmware != NULL);
+        want("as much as pool_size says", 1, given != size || at.full);
+        refused += !at.full;
+    }
+    want("some amount is too little", 1, refused > 0);
+    pool_give(memory, size);
+    for (int i = 0; i < 1000; i++) {
+        want("opened again and again", PSCI_OPENED, open_text(small));
+        make(do_close);
+    }
+    free(memory);
+}
+
+/* So many clusters of one core, in as many groups as there may be, the small ones first: of all
+ * boards with so many cores it takes most. */
+static const char *scattered(unsigned cores) {
+    static char board[2048];
+    unsigned groups = cores < 16 ? cores : 16;
+    char *at = board;
+    for (unsigned group = 0; group < groups; group++) {
+        unsigned clusters = cores / groups + (groups - group <= cores % groups);
+        at += sprintf(at, group ? " (1" : "((1");
+        for (unsigned k = 1; k < clusters; k++)
+            at += sprintf(at, " 1");
+        at += sprintf(at, ")");
+    }
+    strcpy(at, ")" REST);
+    return board;
+}
+
+/* What pool_size says is enough at each number of cores. */
+static void each_size(void *memory) {
+    for (uint16_t cores = 1; cores <= 256; cores++) {
+        pool_give(memory, pool_size(cores));
+        want("in as much as pool_size says", PSCI_OPENED, open_text(scattered(cores)));
+        make(do_close);
+    }
+}
+
+/* What is wrong with a call, and with bytes that are given as an acknowledgement. */
+static void refusals(void) {
+    want("opened", PSCI_OPENED, open_text(small));
+    want("no life", PSCI_NO_LIFE, smc(0, 0x84000000, 0, 0, 0));
+    want("status without a life", PSCI_NO_LIFE, psci_status(&place.it, 0, 0));
+    want("hardware without a life", PSCI_NO_LIFE, psci_hw(&place.it, 0, 0));
+    want("no such core", PSCI_NO_CORE, enter(4, 1, 1, PSCI_BOOT));
+    want("no such life", PSCI_NO_LIFE, enter(0, 4, 1, PSCI_BOOT));
+    want("no such cause", PSCI_NO_CAUSE, enter(0, 1, 1, 4));
+    want("enters", PSCI_ENTER, enter(0, 1, 1, PSCI_BOOT));
+    want("at its entry point", 0x40000000, answer.it.address);
+    want("a used start", PSCI_OLD_START, enter(0, 1, 1, PSCI_BOOT));
+    want("not running", PSCI_NOT_RUNNING, smc(1, 0x84000000, 0, 0, 0));
+    want("on", PSCI_RETURN, smc(0, 0xc4000003, 0x1, 0x40001000, 7));
+    want("its message", 2, answer.it.message.some ? answer.it.message.bytes[2] : 0);
+    want("length", PSCI_FRAME_LENGTH, take_changed(0, 0x50, 52));
+    want("magic", PSCI_FRAME_MAGIC, take_changed(0, 0x51, PSCI_FRAME_LEN));
+    want("kind", PSCI_FRAME_KIND, take_changed(2, 0x15, PSCI_FRAME_LEN));
+    want("count", PSCI_FRAME_COUNT, take_changed(12, 5, PSCI_FRAME_LEN));
+    want("unused", PSCI_FRAME_UNUSED, take_changed(52, 1, PSCI_FRAME_LEN));
+    want("no core", PSCI_FRAME_CORE, take_changed(3, 4, PSCI_FRAME_LEN));
+    want("a message", PSCI_FRAME_NOT_AN_ACK, take_changed(2, 0x02, PSCI_FRAME_LEN));
+    want("used", PSCI_USED, take_changed(12, 1, PSCI_FRAME_LEN));
+    want("old", PSCI_OLD, take_changed(12, 1, PSCI_FRAME_LEN));
+}
+
+/* The last core of the largest board comes and goes in each way. */
+static void largest_board(void) {
+    want("opened", PSCI_OPENED, open_text(large));
+    enter(0, 1, 1, PSCI_BOOT);
+    for (uint32_t start = 1; start <= 3; start++) {
+        want("on", PSCI_RETURN, smc(0, 0xc4000003, 0x3030f, 0x40001000, 7));
+        want("entered", PSCI_ENTER, enter(255, 1, start, PSCI_ON));
+        smc(255, 0xc4000004, 0, 3, 0);
+        smc(255, 0xc400000d, 0, 3, 0);
+        want("off", PSCI_STOP, smc(255, 0x84000002, 0, 0, 0));
+        make(do_outstanding);
+        want("outstanding", 1, frame.it.some);
+        want("used", PSCI_USED, take_changed(12, 3, PSCI_FRAME_LEN));
+        make(do_read);
+    }
+    want("suspended", PSCI_STOP, smc(0, 0xc4000001, 0x03013333, 0x40002000, 8));
+    want("woken", PSCI_ENTER, enter(0, 1, 2, PSCI_WAKE));
+    want("initiated by the system", PSCI_RETURN, smc(0, 0x8400000f, 1, 0, 0));
+    want("suspended again", PSCI_STOP, smc(0, 0xc400000e, 0x40002000, 8, 0));
+    want("woken again", PSCI_ENTER, enter(0, 1, 3, PSCI_WAKE));
+    want("reset", PSCI_STOP, smc(0, 0x84000009, 0, 0, 0));
+    want("the next life", PSCI_ENTER, enter(0, 2, 1, PSCI_BOOT));
+    make(do_close);
+}
+
+int main(void) {
+    size_t size = pool_size(256);
+    void *memory = malloc(size);
+    empty_place();
+    little_memory();
+    each_size(memory);
+    pool_give(memory, size);
+    refusals();
+    faulty_texts();
+    want("the firmware that was there", 1, psci_life(&place.it));
+    make(do_close);
+    pool_give(memory, size);
+    largest_board();
+    printf("stack %zu\n", most_stack);
+    return failed;
+}
