@@ -5,6 +5,7 @@ pub mod Fields
 pub mod FirstCores
 pub mod Groups
 pub mod Levels
+mod LimitRows
 pub mod Named
 pub mod Parents
 pub mod Parts

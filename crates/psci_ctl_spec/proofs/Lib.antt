@@ -12,6 +12,7 @@ pub mod OneReply
 pub mod Past
 pub mod Paths
 mod ScriptRows
+mod ShallowerRows
 pub mod StartLaws
 pub mod Steps
 pub mod Sums

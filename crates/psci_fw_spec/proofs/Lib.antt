@@ -6,6 +6,7 @@ mod Asked
 mod Callers
 mod Changing
 mod Claimed
+mod ConfirmedRows
 mod ConfirmedSay
 mod CpuOnRows
 mod Depending
@@ -18,6 +19,7 @@ mod FormatRows
 mod FormatWordRows
 mod Granting
 mod HaltingRows
+mod HardwareRows
 mod Holding
 mod InvariantRows
 mod LargestRows

@@ -8,11 +8,13 @@ pub mod Confirming
 pub mod CoreSteps
 pub mod Deep
 pub mod Deliveries
+mod DownRows
 pub mod Entering
 pub mod Filters
 pub mod Functions
 pub mod LiveClaims
 pub mod LiveOnes
+mod LiveRows
 pub mod Moments
 pub mod Moves
 pub mod Naming

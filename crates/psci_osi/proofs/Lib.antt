@@ -2,3 +2,4 @@ mod Climbs
 mod Counts
 mod Gathered
 mod Refusals
+mod WorseRows

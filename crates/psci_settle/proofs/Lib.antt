@@ -47,3 +47,4 @@ mod Failing
 mod RestRows
 mod SettledRows
 mod SettleRows
+mod WaitingRows

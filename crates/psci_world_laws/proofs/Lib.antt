@@ -1,5 +1,6 @@
 pub mod Agreed
 pub mod Agreeing
+mod AgreementRows
 pub mod Applied
 pub mod Controlling
 pub mod Happening

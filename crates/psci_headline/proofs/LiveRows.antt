@@ -1,0 +1,138 @@
+-- Worked examples: records after which just one thing is not so that is said of live claims.
+use Rattle.std.proofs.Common.{◌≡◌, ◌<◌, ℕ, zero, suc, pos, true, false, List, [], ◌∷◌, None, Some}
+use Rattle.std.proofs.Common.{refl, arith, slice_get, ap, sym, ◌∙◌}
+use Rattle.psci_world_laws.specs.psci_board.declared.node.Node.{Node}
+use Rattle.psci_world_laws.specs.psci_link.declared.kind.Kind.TheVariants.{Down}
+use Rattle.psci_world_laws.specs.psci_world_spec.declared.event.Event.{Event}
+use Rattle.psci_world_laws.specs.psci_world_spec.declared.event.Event.TheVariants.{Deliver, Enter}
+use Rattle.psci_world_laws.specs.psci_world_spec.declared.said.Record.{Record}
+use Rattle.psci_world_laws.specs.psci_world_spec.declared.said.Said.{Said}
+use Rattle.psci_world_laws.specs.psci_world_spec.Legal.{run_from}
+use Rattle.psci_world_laws.proofs.world_spec.Scripts.{acked, board, computing, off, on_3, part}
+use Rattle.psci_world_laws.proofs.world_spec.Scripts.{retention, returns, sends, stops}
+use Rattle.psci_safe.specs.Claims.{Claim, claims, live_claims}
+use Rattle.psci_headline.specs.Live.{AreApart, AreAsked, AreClaimed, HasLive, NoneExecutes}
+
+-- core 3 runs beside the boot core
+abbrev two_run : List Record
+two_run = run_from board [] (Enter 0 ∷ on_3 ∷ Deliver 0 ∷ Enter 3 ∷ [])
+
+-- one more record: of this event this is said
+abbrev more : Event → Said → List Record → List Record
+more event said past = record { event = event; said = said } ∷ past
+
+-- a domain: its level and place
+abbrev at : ℕ → ℕ → Node
+at level place = record { level = level; place = place }
+
+-- Apart ---------------------------------------------------------------------------------------
+
+-- core 3 sends two claims in one start: of two depths, and of one
+abbrev two_claims : ℕ → ℕ → List Record
+two_claims first second =
+    more (retention 3) (stops (sends 2 Down 3 1 1 (part 0 second 1 ∷ [])))
+    (more (off 3) (stops (sends 1 Down 3 1 1 (part 0 first 1 ∷ []))) two_run)
+
+claims_of_two_depths : AreApart board (two_claims 3 2) → ⊥
+unfolding computing claims
+claims_of_two_depths apart =
+    let no : 0 ≡ 1 = apart 1 (at 0 3) 0 1 _ _
+    (record { level = omega arith; place = omega arith }) refl refl refl in
+    absurd (omega (arith, no))
+
+claims_of_one_depth : AreApart board (two_claims 2 2) → ⊥
+unfolding computing claims
+claims_of_one_depth apart =
+    let no : 0 ≡ 1 = apart 1 (at 0 3) 0 1 _ _
+    (record { level = omega arith; place = omega arith }) refl refl refl in
+    absurd (omega (arith, no))
+
+-- two claims on the system, by core 0 and by core 3
+claims_on_the_system : AreApart board
+    (more (off 0) (stops (sends 2 Down 0 1 1 (part 0 3 1 ∷ part 1 3 1 ∷ part 2 3 2 ∷ [])))
+    (more (off 3) (stops (sends 1 Down 3 1 1 (part 0 3 1 ∷ part 1 3 1 ∷ part 2 3 2 ∷ []))) two_run))
+    → ⊥
+unfolding computing claims
+claims_on_the_system apart =
+    let no : 0 ≡ 1 = apart 1 (at 2 0) 0 1 _ _
+    (record { level = omega arith; place = omega arith }) refl refl refl in
+    absurd (omega (arith, no))
+
+-- Asked ---------------------------------------------------------------------------------------
+
+-- core 3 asks for retention of itself alone, and claims that of its cluster, which is carried out
+abbrev not_asked : List Record
+not_asked =
+    more (Deliver 1) (acked 0 Down 3 1 1 2 false)
+    (more (retention 3) (stops (sends 1 Down 3 1 1 (part 0 2 1 ∷ part 1 2 1 ∷ []))) two_run)
+
+cluster_not_asked : AreAsked board not_asked → ⊥
+unfolding computing claims
+cluster_not_asked asked =
+    let no : false ≡ true = asked 1 (at 1 1) 0 _
+    (record { level = omega arith; place = omega arith }) refl in absurd (cc)
+
+-- it claims power-down of itself, and is asked for retention
+core_not_asked : AreAsked board
+    (more (retention 3) (stops (sends 1 Down 3 1 1 (part 0 3 1 ∷ []))) two_run) → ⊥
+unfolding computing claims
+core_not_asked asked =
+    let no : false ≡ true = asked 1 (at 0 3) 0 _
+    (record { level = omega arith; place = omega arith }) refl in absurd (cc)
+
+-- Claimed -------------------------------------------------------------------------------------
+
+-- core 3 has gone off with a live claim on itself, and an old one put it in retention
+abbrev deep_by_another : List Record
+deep_by_another =
+    more (Deliver 2) (acked 0 Down 3 1 1 1 false)
+    (more (retention 3) (stops (sends 2 Down 3 1 1 (part 0 2 7 ∷ [])))
+    (more (off 3) (stops (sends 1 Down 3 1 1 (part 0 3 1 ∷ []))) two_run))
+
+-- a list of one claim of depth 3 has none of depth 2
+one_of_three : (k : ℕ) (c d : Claim) → slice_get (c ∷ []) k ≡ Some d → c.depth ≡ 3 → d.depth ≡ 2 → ⊥
+one_of_three zero c d at three two =
+    let some : Some c ≡ Some d = at in
+    let same : c ≡ d = cc in
+    let no : 3 ≡ 2 = sym three ∙ (ap (λ (x : Claim). x.depth) same ∙ two) in
+    absurd (omega (arith, no))
+one_of_three (suc k) c d at three two = let no : None ≡ Some d = at in absurd (cc)
+
+core_not_claimed : AreClaimed board deep_by_another → ⊥
+unfolding computing claims live_claims
+core_not_claimed claimed =
+    let live = claimed 1 (at 0 3) (record { level = omega arith; place = omega arith }) refl
+    (omega arith) in
+    one_of_three live.index _ live.claim live.at refl live.deep
+
+-- the domain of a core in standby that claimed nothing of its cluster
+none_at_all : (k : ℕ) (d : Claim) → slice_get [] k ≡ Some d → ⊥
+none_at_all k d at = let no : None ≡ Some d = at in absurd (cc)
+
+cluster_not_claimed : AreClaimed board
+    (more (Deliver 1) (acked 0 Down 3 1 1 2 false)
+    (more (retention 3) (stops (sends 1 Down 3 1 1 (part 0 2 1 ∷ part 1 1 7 ∷ []))) two_run)) → ⊥
+unfolding computing claims live_claims
+cluster_not_claimed claimed =
+    let live = claimed 1 (at 1 1) (record { level = omega arith; place = omega arith }) refl
+    (omega arith) in
+    none_at_all live.index live.claim live.at
+
+-- None executes -------------------------------------------------------------------------------
+
+-- core 3 claims its cluster and goes on; so does core 0 with the system
+runs_below_its_claim : NoneExecutes board
+    (more (retention 3) (returns (pos 0) (sends 1 Down 3 1 1 (part 0 0 1 ∷ part 1 2 1 ∷ [])))
+    two_run) → ⊥
+unfolding computing claims live_claims
+runs_below_its_claim none =
+    none (at 1 1) 3 0 _ (record { level = omega arith; place = omega arith }) (omega arith)
+    refl refl refl
+
+runs_below_the_system : NoneExecutes board
+    (more (off 0) (stops (sends 1 Down 0 1 1 (part 0 3 1 ∷ part 1 3 1 ∷ part 2 3 2 ∷ []))) two_run)
+    → ⊥
+unfolding computing claims live_claims
+runs_below_the_system none =
+    none (at 2 0) 3 0 _ (record { level = omega arith; place = omega arith }) (omega arith)
+    refl refl refl

@@ -1,0 +1,211 @@
+-- Worked examples: what the firmware and the power controller know of each other in two runs, and
+-- records and values of which just one thing is not so.
+use Rattle.std.proofs.Common.{◌≡◌, ◌≤◌, ◌<◌, ℕ, zero, suc, pos, Bool, true, false, cond, ◌==◌}
+use Rattle.std.proofs.Common.{◌+◌, List, [], ◌∷◌, None, Some, unwrap_or, refl, arith, subst}
+use Rattle.std.proofs.lemmas.Option.{same_Some}
+use Rattle.psci_board.specs.Board.{cores}
+use Rattle.psci_ctl_spec.specs.psci_link.declared.start.Cause.TheVariants as causes
+use Rattle.psci_ctl_spec.specs.psci_link.OnlyIf.{only_if}
+use Rattle.psci_fw_laws.specs.psci_fw_spec.Lives.{in_life, start_of_life}
+use Rattle.psci_fw_laws.specs.psci_fw_spec.Phases as phases
+use Rattle.psci_fw_laws.specs.psci_fw_spec.Values.{updated}
+use Rattle.psci_world_spec.specs.declared.event.Event.TheVariants.{Enter, Wake, Deliver}
+use Rattle.psci_world_spec.specs.declared.place.Place.TheVariants.{Started, Running, Stopped}
+use Rattle.psci_world_spec.specs.declared.said.Record.{Record}
+use Rattle.psci_world_spec.specs.Histories.{controller_values, firmware_values}
+use Rattle.psci_world_spec.specs.Legal.{run_from}
+use Rattle.psci_world_spec.specs.Places.{place}
+use Rattle.psci_world_spec.proofs.Scripts.{board, computing, nothing, on_3, returns, started, stops}
+use Rattle.psci_world_spec.proofs.Scripts.{system_off, system_reset, version}
+use Rattle.psci_world_laws.specs.Agreement.{Agree, AgreeIn}
+
+-- In a first life ------------------------------------------------------------------------------
+
+-- core 0 runs, core 3 was woken and has not entered, and the others are stopped
+abbrev woken : List Record
+woken = run_from board [] (Enter 0 ∷ Wake 3 ∷ [])
+
+-- of the known starts that of core 0 is 1, and both it and core 3 were started
+no_more : (first fourth : Bool) → unwrap_or (only_if first (Some 1)) 0
+    ≤ cond fourth (cond first 1 0 + 1) (cond first 1 0)
+no_more true true = omega arith
+no_more true false = omega arith
+no_more false true = omega arith
+no_more false false = omega arith
+
+woken_agree : AgreeIn board (controller_values board woken).starts (place board woken)
+    (in_life board 1 (firmware_values board woken))
+unfolding computing
+woken_agree = record {
+  known = λ c. no_more (c == 0) (c == 3);
+  waits = waits;
+  started = is_started;
+  runs = runs;
+  rests = rests;
+}
+  where
+    waits : (c : ℕ) → c < cores board → place board woken c ≡ Started
+        → (in_life board 1 (firmware_values board woken)).known c
+        < (controller_values board woken).starts c
+    waits zero on is = let no : Running ≡ Started = is in absurd (cc)
+    waits (suc zero) on is = let no : Stopped ≡ Started = is in absurd (cc)
+    waits (suc (suc zero)) on is = let no : Stopped ≡ Started = is in absurd (cc)
+    waits (suc (suc (suc zero))) on is = let yes : 0 < 1 = omega arith in yes
+    waits (suc (suc (suc (suc c)))) on is =
+        let no : suc (suc (suc (suc c))) < 4 = on in absurd (omega (arith, no))
+
+    is_started : (c : ℕ) → c < cores board
+        → (in_life board 1 (firmware_values board woken)).known c
+        < (controller_values board woken).starts c
+        → place board woken c ≡ Started
+    is_started zero on less = let no : 1 < 1 = less in absurd (omega (arith, no))
+    is_started (suc zero) on less = let no : 0 < 0 = less in absurd (omega (arith, no))
+    is_started (suc (suc zero)) on less = let no : 0 < 0 = less in absurd (omega (arith, no))
+    is_started (suc (suc (suc zero))) on less = refl
+    is_started (suc (suc (suc (suc c)))) on less =
+        let no : suc (suc (suc (suc c))) < 4 = on in absurd (omega (arith, no))
+
+    runs : (c : ℕ) → c < cores board → place board woken c ≡ Running
+        → (in_life board 1 (firmware_values board woken)).phase c ≡ phases.Running
+    runs zero on is = refl
+    runs (suc zero) on is = let no : Stopped ≡ Running = is in absurd (cc)
+    runs (suc (suc zero)) on is = let no : Stopped ≡ Running = is in absurd (cc)
+    runs (suc (suc (suc zero))) on is = let no : Started ≡ Running = is in absurd (cc)
+    runs (suc (suc (suc (suc c)))) on is =
+        let no : suc (suc (suc (suc c))) < 4 = on in absurd (omega (arith, no))
+
+    rests : (c : ℕ) → c < cores board → place board woken c ≡ Stopped
+        → (in_life board 1 (firmware_values board woken)).phase c ≡ phases.Running → ⊥
+    rests zero on is running = let no : Running ≡ Stopped = is in absurd (cc)
+    rests (suc zero) on is running =
+        let no : phases.Away ≡ phases.Running = running in absurd (cc)
+    rests (suc (suc zero)) on is running =
+        let no : phases.Away ≡ phases.Running = running in absurd (cc)
+    rests (suc (suc (suc zero))) on is running = let no : Started ≡ Stopped = is in absurd (cc)
+    rests (suc (suc (suc (suc c)))) on is running =
+        let no : suc (suc (suc (suc c))) < 4 = on in absurd (omega (arith, no))
+
+in_the_first_life : Agree board woken
+unfolding computing
+in_the_first_life = record {
+  begun = λ life is. let one : 1 ≡ life = same_Some 1 life is in omega (arith, one);
+  stopped = λ none. let no : Some 1 ≡ None = none in absurd (cc);
+  present = λ life is. subst (λ l. AgreeIn board (controller_values board woken).starts
+      (place board woken) (in_life board l (firmware_values board woken)))
+      (same_Some 1 life is) woken_agree;
+}
+
+-- In a life that the firmware does not know of --------------------------------------------------
+
+-- the system was reset: core 0 is started in life 2, and the firmware's life is 1
+abbrev reset : List Record
+reset = run_from board [] (Enter 0 ∷ system_reset 0 ∷ Deliver 0 ∷ [])
+
+reset_agree : AgreeIn board (controller_values board reset).starts (place board reset)
+    (in_life board 2 (firmware_values board reset))
+unfolding computing
+reset_agree = record {
+  known = λ c. omega arith;
+  waits = waits;
+  started = is_started;
+  runs = runs;
+  rests = rests;
+}
+  where
+    waits : (c : ℕ) → c < cores board → place board reset c ≡ Started
+        → (in_life board 2 (firmware_values board reset)).known c
+        < (controller_values board reset).starts c
+    waits zero on is = let yes : 0 < 1 = omega arith in yes
+    waits (suc zero) on is = let no : Stopped ≡ Started = is in absurd (cc)
+    waits (suc (suc zero)) on is = let no : Stopped ≡ Started = is in absurd (cc)
+    waits (suc (suc (suc zero))) on is = let no : Stopped ≡ Started = is in absurd (cc)
+    waits (suc (suc (suc (suc c)))) on is =
+        let no : suc (suc (suc (suc c))) < 4 = on in absurd (omega (arith, no))
+
+    is_started : (c : ℕ) → c < cores board
+        → (in_life board 2 (firmware_values board reset)).known c
+        < (controller_values board reset).starts c
+        → place board reset c ≡ Started
+    is_started zero on less = refl
+    is_started (suc zero) on less = let no : 0 < 0 = less in absurd (omega (arith, no))
+    is_started (suc (suc zero)) on less = let no : 0 < 0 = less in absurd (omega (arith, no))
+    is_started (suc (suc (suc zero))) on less = let no : 0 < 0 = less in absurd (omega (arith, no))
+    is_started (suc (suc (suc (suc c)))) on less =
+        let no : suc (suc (suc (suc c))) < 4 = on in absurd (omega (arith, no))
+
+    runs : (c : ℕ) → c < cores board → place board reset c ≡ Running
+        → (in_life board 2 (firmware_values board reset)).phase c ≡ phases.Running
+    runs zero on is = let no : Started ≡ Running = is in absurd (cc)
+    runs (suc zero) on is = let no : Stopped ≡ Running = is in absurd (cc)
+    runs (suc (suc zero)) on is = let no : Stopped ≡ Running = is in absurd (cc)
+    runs (suc (suc (suc zero))) on is = let no : Stopped ≡ Running = is in absurd (cc)
+    runs (suc (suc (suc (suc c)))) on is =
+        let no : suc (suc (suc (suc c))) < 4 = on in absurd (omega (arith, no))
+
+    rests : (c : ℕ) → c < cores board → place board reset c ≡ Stopped
+        → (in_life board 2 (firmware_values board reset)).phase c ≡ phases.Running → ⊥
+    rests zero on is running = let no : Started ≡ Stopped = is in absurd (cc)
+    rests (suc zero) on is running =
+        let no : phases.Away ≡ phases.Running = running in absurd (cc)
+    rests (suc (suc zero)) on is running =
+        let no : phases.Away ≡ phases.Running = running in absurd (cc)
+    rests (suc (suc (suc zero))) on is running =
+        let no : phases.Away ≡ phases.Running = running in absurd (cc)
+    rests (suc (suc (suc (suc c)))) on is running =
+        let no : suc (suc (suc (suc c))) < 4 = on in absurd (omega (arith, no))
+
+in_the_next_life : Agree board reset
+unfolding computing
+in_the_next_life = record {
+  begun = λ life is. let two : 2 ≡ life = same_Some 2 life is in omega (arith, two);
+  stopped = λ none. let no : Some 2 ≡ None = none in absurd (cc);
+  present = λ life is. subst (λ l. AgreeIn board (controller_values board reset).starts
+      (place board reset) (in_life board l (firmware_values board reset)))
+      (same_Some 2 life is) reset_agree;
+}
+
+-- Records ---------------------------------------------------------------------------------------
+
+-- core 3 was woken, and stops before it has entered
+stops_unknown : Agree board (record { event = version 3; said = stops nothing } ∷ woken) → ⊥
+unfolding computing
+stops_unknown a =
+    let no : Stopped ≡ Started = (a.present 1 refl).started 3 (omega arith) (omega arith) in
+    absurd (cc)
+
+-- core 3 was asked on, and runs before it was started
+runs_pending : Agree board (record { event = version 3; said = returns (pos 65537) nothing }
+    ∷ run_from board [] (Enter 0 ∷ on_3 ∷ [])) → ⊥
+unfolding computing
+runs_pending a =
+    let no : phases.Pending ≡ phases.Running = (a.present 1 refl).runs 3 (omega arith) refl in
+    absurd (cc)
+
+-- core 3 runs that was never started, and stops as it enters without a start
+stops_running : Agree board (record { event = Enter 3; said = stops nothing }
+    ∷ record { event = version 3; said = returns (pos 65537) nothing }
+    ∷ run_from board [] (Enter 0 ∷ [])) → ⊥
+unfolding computing
+stops_running a = (a.present 1 refl).rests 3 (omega arith) refl refl
+
+-- core 3 was woken once no life was left
+started_without_a_life : Agree board (record { event = Wake 3; said = started 1 1 causes.Wake }
+    ∷ run_from board [] (Enter 0 ∷ system_off 0 ∷ Deliver 0 ∷ [])) → ⊥
+unfolding computing
+started_without_a_life a = let no : Started ≡ Stopped = a.stopped refl 3 in absurd (cc)
+
+-- Values ----------------------------------------------------------------------------------------
+
+-- a known start of a core that was never started, on the board and beside it
+known_of_none : AgreeIn board (λ c. 0) (λ c. Stopped)
+    (record (start_of_life board 1) { known = updated (λ c. 0) 3 1 }) → ⊥
+known_of_none a = let no : 1 ≤ 0 = a.known 3 in absurd (omega (arith, no))
+
+known_beside_the_board : AgreeIn board (λ c. 0) (λ c. Stopped)
+    (record (start_of_life board 1) { known = updated (λ c. 0) 9 1 }) → ⊥
+known_beside_the_board a = let no : 1 ≤ 0 = a.known 9 in absurd (omega (arith, no))
+
+-- the last core of the board is at a start that is known
+known_start : AgreeIn board (updated (λ c. 0) 3 2) (updated (λ c. Stopped) 3 Started)
+    (record (start_of_life board 1) { known = updated (λ c. 0) 3 2 }) → ⊥
+known_start a = let no : 2 < 2 = a.waits 3 (omega arith) refl in absurd (omega (arith, no))
