@@ -1,2 +1,3 @@
+pub mod ListRows
 pub mod Lists
 pub mod Steps

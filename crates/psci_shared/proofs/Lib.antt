@@ -1,0 +1,4 @@
+pub mod Histories
+pub mod Placed
+pub mod Places
+pub mod Written
