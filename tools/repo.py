@@ -53,10 +53,12 @@ class Crates:
     def __init__(self, top=TOP):
         self.top, self.lines, listed = top, {}, {}
         for line in text_of(f"{top}/crates.txt").splitlines():
+            # behind the name may stand what is allowed, as in 'app may_wait=1: low'
             name, _, words = line.partition("#")[0].partition(":")
             if name.strip():
-                self.lines[name.strip()] = line.partition("#")[0].strip()
-                listed[name.strip()] = words.split()
+                name = name.split()[0]
+                self.lines[name] = line.partition("#")[0].strip()
+                listed[name] = words.split()
         # of each crate the libraries of this repository that its line names
         self.named = {name: [it for it in words if it in listed] for name, words in listed.items()}
 
