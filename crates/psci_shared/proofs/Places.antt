@@ -124,9 +124,9 @@ one_of_two k (p ∷ ps) qs e =
       | inl is ↦
           inr (not_has k qs (subst (λ (m : ℕ). has m qs ≡ false) is (not-true (has p qs) parts.0)))
       | inr ne ↦ elim (one_of_two k ps qs parts.1) [
-          | inl none ↦ inl (let a : once p k ≡ 0 = once_other p k ne in omega arith)
-          | inr none ↦ inr none
-        ]
+        | inl none ↦ inl (let a : once p k ≡ 0 = once_other p k ne in omega arith)
+        | inr none ↦ inr none
+      ]
     ]
 
 one_of_more : (k : ℕ) (ps : List ℕ) (qss : List (List ℕ)) → apart_from ps qss ≡ true
@@ -137,9 +137,9 @@ one_of_more k ps (qs ∷ qss) e =
     elim (one_of_two k ps qs parts.0) [
       | inl none ↦ inl none
       | inr here ↦ elim (one_of_more k ps qss parts.1) [
-          | inl none ↦ inl none
-          | inr there ↦ inr (omega arith)
-        ]
+        | inl none ↦ inl none
+        | inr there ↦ inr (omega arith)
+      ]
     ]
 
 most_once : (n : ℕ) (pss : List (List ℕ)) (k : ℕ) → AllRising n pss → all_apart pss ≡ true
@@ -204,7 +204,7 @@ up_lists : (n : ℕ) (pss : List (List ℕ)) → AllRising n pss → up (λ k. i
 up_lists n [] h = up_none n
 up_lists n (ps ∷ pss) h =
     let a : up (λ k. in_list k ps + in_lists k pss) n
-        ≡ up (λ k. in_list k ps) n + up (λ k. in_lists k pss) n =
+    ≡ up (λ k. in_list k ps) n + up (λ k. in_lists k pss) n =
     up_both (λ k. in_list k ps) (λ k. in_lists k pss) n in
     let b : up (λ k. in_list k ps) n ≡ length ps = up_list n 0 ps h.0 in
     let c : up (λ k. in_lists k pss) n ≡ total pss = up_lists n pss h.1 in

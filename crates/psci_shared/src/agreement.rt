@@ -2,7 +2,8 @@
 
 ghost use Rattle.std.specs.Prelude.{◌≡◌, ◌↔◌, IsTrue, slice_get, option_map};
 ghost use Rattle.psci_shared.specs.Agree.{Agree, Agrees, AllAgree, AllStandFrom, IsOf};
-ghost use Rattle.psci_shared.specs.Agree.{StandsAt, StandsFrom, all_apart, apart, apart_from, has_place};
+ghost use Rattle.psci_shared.specs.Agree.{StandsAt, StandsFrom, all_apart, apart, apart_from};
+ghost use Rattle.psci_shared.specs.Agree.{has_place};
 
 use crate::book::FwBook;
 use crate::entry::{FwEntry, FwItem};

@@ -1,10 +1,10 @@
 //! One firmware that core threads share, behind a lock, with a book of all that it was asked.
 //!
 //! - A *book* has an *entry* for each call, in the order in which the calls were carried out.
-//! - A *pass* is what one thread calls by: it has a core, and keeps an *item* for each of its calls:
-//!   the place of its entry, the call and the reply.
-//! - A *ticket* is a number that is drawn while a lock is held; tickets of both books are drawn from
-//!   one row.
+//! - A *pass* is what one thread calls by: it has a core, and keeps an *item* for each of its
+//!   calls: the place of its entry, the call and the reply.
+//! - A *ticket* is a number that is drawn while a lock is held; tickets of both books are drawn
+//!   from one row.
 //! - Passes are *gathered* with the book once all calls are done, and each place then stands in one
 //!   pass.
 #![tactic(auto)]

@@ -65,7 +65,8 @@ total_same [] = refl
 total_same (p ∷ ps) =
     let a : items_of (p ∷ ps) ≡ length p.items + items_of ps = sum_by-cons
     (λ (q : PassView). length q.items) p ps in
-    let b : length (places p.items) ≡ length p.items = length-map p.items (λ (i : CtlItem). i.place) in
+    let b : length (places p.items) ≡ length p.items = length-map p.items
+    (λ (i : CtlItem). i.place) in
     let c : lists.total (map places_of ps) ≡ items_of ps = total_same ps in
     omega arith
 

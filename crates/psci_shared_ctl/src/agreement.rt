@@ -2,7 +2,8 @@
 
 ghost use Rattle.std.specs.Prelude.{◌≡◌, ◌↔◌, IsTrue, slice_get, option_map};
 ghost use Rattle.psci_shared_ctl.specs.Agree.{Agree, Agrees, AllAgree, AllStandFrom, IsOf};
-ghost use Rattle.psci_shared_ctl.specs.Agree.{StandsAt, StandsFrom, all_apart, apart, apart_from, has_place};
+ghost use Rattle.psci_shared_ctl.specs.Agree.{StandsAt, StandsFrom, all_apart, apart, apart_from};
+ghost use Rattle.psci_shared_ctl.specs.Agree.{has_place};
 
 use crate::book::CtlBook;
 use crate::entry::{CtlEntry, CtlItem, is_same_call, is_same_reply};

@@ -39,8 +39,8 @@ fn tell_of_starts<N: Named, R: Wait>(
     two_wake_ups(rt, alloc, shared, core)
 }
 
-/// A core that was not started yet is woken, and is started; it is not woken a second time. Then the
-/// book with its two entries is full, and a reset is refused. The core's start is known meanwhile.
+/// A core that was not started yet is woken, and is started; it is not woken a second time. Then
+/// the book with its two entries is full, and a reset is refused. The core's start is known.
 fn two_wake_ups<N: Named, R: Wait>(
     rt: &R,
     alloc: Global,

@@ -1,5 +1,4 @@
-//! Tests of the firmware and the power controller that threads share, through their public calls. Some start threads, and all
-//! end the same whatever the schedule.
+//! Tests of the firmware and the power controller that threads share, through their public calls.
 //!
 //! - A *story* is what is done with one shared firmware, and what is seen of it at the end.
 #![tactic(auto)]
@@ -7,13 +6,9 @@
 #[cfg(test)]
 mod controller;
 #[cfg(test)]
-mod held;
-#[cfg(test)]
 mod named;
 #[cfg(test)]
 mod passes;
-#[cfg(test)]
-mod threads;
 
 #[cfg(test)]
 mod tests {
@@ -28,14 +23,6 @@ mod tests {
         assert_eq!(rt; told(&rt, rt.alloc(), Story::FullBooks), Some(true));
         assert_eq!(rt; told(&rt, rt.alloc(), Story::TooMany), Some(true));
         assert_eq!(rt; told(&rt, rt.alloc(), Story::Statuses), Some(true));
-        Ok(())
-    }
-
-    #[test]
-    fn threads_call_and_poll(rt: HostRuntime) -> Result<(), Fail> {
-        assert_eq!(rt; told(&rt, rt.alloc(), Story::TwoThreads(40)), Some(true));
-        assert_eq!(rt; told(&rt, rt.alloc(), Story::Polled), Some(true));
-        assert_eq!(rt; told(&rt, rt.alloc(), Story::PolledWhileHeld), Some(true));
         Ok(())
     }
 
