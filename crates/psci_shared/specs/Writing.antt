@@ -5,7 +5,7 @@ use Rattle.psci_fw.specs.psci_fw_spec.declared.status.Status.{Status}
 use Rattle.psci_fw.specs.psci_fw_spec.History.{life, status}
 use Rattle.psci_fw.specs.psci_fw_spec.Lives.{first_status}
 use Rattle.psci_fw.specs.psci_fw_spec.Statuses.{added, statuses}
-use Rattle.psci_status.specs.Lists.{Item, IsLast, Within, row}
+use Rattle.psci_status.specs.Lists.{Begins, Item, IsLast, Within, row}
 use Rattle.psci_shared.specs.declared.entry.FwEntry.{FwEntry}
 use Rattle.psci_shared.specs.Books.{history_of}
 
@@ -30,6 +30,10 @@ abbrev pub AllLast : BoardValue → List FwEntry → List (List Item) → Type 0
 AllLast b entries seen =
     (core : ℕ) → core < cores b
     → IsLast (statuses b (history_of entries) core) (row seen core)
+
+-- the last that was seen of a core is this status
+abbrev pub HasSeen : List (List Item) → ℕ → Status → Type 0
+HasSeen seen core status = (serial : ℕ) × Begins (serial, status) (row seen core)
 
 -- what is written of a core after the last call, by the life before it and what was written then
 abbrev pub written_after : BoardValue → List FwEntry → ℕ → ℕ → List Status → List Status

@@ -1,9 +1,9 @@
 -- Worked examples of what was written and what was seen of a core. It was OFF, ON_PENDING and ON.
-use Rattle.std.proofs.Common.{◌≡◌, ◌⊎◌, inl, inr, ℕ, ◌+◌, ◌*◌, ◌<◌, List, [], ◌∷◌, length, map, refl}
-use Rattle.std.proofs.Common.{⊎_elim, arith}
+use Rattle.std.proofs.Common.{◌≡◌, inl, inr, ◌+◌, ◌*◌, ◌<◌, List, [], ◌∷◌, map, refl}
+use Rattle.std.proofs.Common.{arith}
 use Rattle.psci_fw_spec.specs.declared.status.Status.{Status}
 use Rattle.psci_fw_spec.specs.declared.status.Status.TheVariants.{On, Off, Pending}
-use Rattle.psci_status.specs.Lists.{Begins, IsLast, IsWord, Item, Rises, Stands, Within, gain}
+use Rattle.psci_status.specs.Lists.{IsLast, IsWord, Rises, Stands, Within, gain}
 use Rattle.psci_status.specs.Lists.{gain_from, gains, item_of, newest, row}
 
 abbrev written : List Status
