@@ -1,9 +1,8 @@
 -- Worked examples of passes that agree with a book, and for each clause one that breaks just it.
 -- One pass woke a core, and woke it again; another one reset it in between.
 use Rattle.std.proofs.lemmas.Bool.{false≢true}
-use Rattle.std.proofs.Common.{◌≡◌, ℕ, ◌+◌, ◌<◌, ◌≤◌, List, [], ◌∷◌, length, map, Bool, true, false}
+use Rattle.std.proofs.Common.{◌≡◌, ℕ, ◌<◌, ◌≤◌, List, [], ◌∷◌, map, Bool, true, false}
 use Rattle.std.proofs.Common.{refl, ap, arith}
-use Rattle.psci_board.specs.declared.node.Core.{Core}
 use Rattle.psci_ctl.specs.psci_ctl_spec.declared.call.CtlCall.{CtlCall}
 use Rattle.psci_ctl.specs.psci_ctl_spec.declared.call.CtlCall.TheVariants.{Deliver, Reset, Wake}
 use Rattle.psci_ctl.specs.psci_ctl_spec.declared.delivery.Delivery.TheVariants as deliveries

@@ -1,7 +1,6 @@
 -- Histories of books.
-use Rattle.std.proofs.Common.{◌≡◌, ℕ, List, [], ◌∷◌, ◌++◌, map, reverse, refl, ap, ◌∙◌}
+use Rattle.std.proofs.Common.{◌≡◌, List, [], ◌∷◌, ◌++◌, map, refl, ap}
 use Rattle.std.proofs.lemmas.List.{reverse-append}
-use Rattle.psci_ctl.specs.psci_ctl_spec.Exchange.{CtlExchange}
 use Rattle.psci_shared_ctl.specs.declared.entry.CtlEntry.{CtlEntry}
 use Rattle.psci_shared_ctl.specs.Books.{exchange_of, history_of}
 

@@ -1,5 +1,5 @@
 -- What is gathered.
-use Rattle.std.specs.Prelude.{◌≡◌, ◌<◌, ℕ, List, length, sum_by}
+use Rattle.std.specs.Prelude.{◌<◌, ℕ, List, length, sum_by}
 use Rattle.psci_shared.specs.declared.fault.GatherCause.{GatherCause}
 use Rattle.psci_shared.specs.declared.fault.GatherCause.TheVariants.{Astray, Missing}
 use Rattle.psci_shared_ctl.specs.Passes.{PassView}
