@@ -1,2 +1,4 @@
+pub mod ListRows
 pub mod Lists
+pub mod RuleRows
 pub mod Steps

@@ -1,0 +1,183 @@
+-- Worked examples of passes that agree with a book, and for each clause one that breaks just it.
+-- Core 0 asked twice, and core 1 in between.
+use Rattle.std.proofs.lemmas.Bool.{false≢true}
+use Rattle.std.proofs.Common.{◌≡◌, ℕ, ◌<◌, ◌≤◌, List, [], ◌∷◌, map, Bool, true, false}
+use Rattle.std.proofs.Common.{refl, ap, arith}
+use Rattle.psci_fw.specs.psci_board.declared.node.Core.{Core}
+use Rattle.psci_fw.specs.psci_fw_spec.declared.call.FwCall.{FwCall}
+use Rattle.psci_fw.specs.psci_fw_spec.declared.call.FwCall.TheVariants.{Smc, Enter, Take}
+use Rattle.psci_fw.specs.psci_fw_spec.declared.fault.FwFault.TheVariants.{NoCore, NoLife}
+use Rattle.psci_fw.specs.psci_fw_spec.declared.fault.FwFault.TheVariants.{NotRunning, OldStart}
+use Rattle.psci_fw.specs.psci_fw_spec.declared.reply.FwReply.{FwReply}
+use Rattle.psci_fw.specs.psci_fw_spec.declared.reply.FwReply.TheVariants.{Out, Taken, Fault}
+use Rattle.psci_shared.specs.declared.entry.FwEntry.{FwEntry}
+use Rattle.psci_shared.specs.declared.entry.FwItem.{FwItem}
+use Rattle.psci_shared.specs.declared.fault.GatherCause.TheVariants.{Astray, Missing}
+use Rattle.psci_shared.specs.Agree.{Agree, Agrees, AllStandFrom, all_apart, apart, apart_from}
+use Rattle.psci_shared.specs.Agree.{has_place}
+use Rattle.psci_shared.specs.Books.{BookView, entered, entry, history_of}
+use Rattle.psci_shared.specs.Gathers.{IsCause, items_of}
+use Rattle.psci_shared.specs.Passes.{PassView, item}
+use Rattle.psci_shared.specs.Places.{places_of, times}
+
+abbrev core : ℕ → Core
+core n = record { number = n }
+
+abbrev ask : ℕ → FwCall
+ask word = Smc (record { x0 = word; x1 = 0; x2 = 0; x3 = 0 })
+
+abbrev entries : List FwEntry
+entries =
+    entry 5 (core 0) (ask 1) (Fault NoLife)
+    ∷ entry 6 (core 1) (ask 2) (Fault NotRunning)
+    ∷ entry 9 (core 0) (ask 3) (Fault NoLife) ∷ []
+
+-- a book that is full, and one that is not
+abbrev full : BookView
+full = record { entries = entries; room = 3 }
+
+abbrev wide : BookView
+wide = record { entries = entries; room = 4 }
+
+abbrev pass : Bool → ℕ → List FwItem → PassView
+pass told n items =
+    record { core = core n; room = 4; told_full = told; items = items; seen = [] }
+
+-- the items of both cores
+abbrev ours : List FwItem
+ours = item 0 (ask 1) (Fault NoLife) ∷ item 2 (ask 3) (Fault NoLife) ∷ []
+
+abbrev theirs : List FwItem
+theirs = item 1 (ask 2) (Fault NotRunning) ∷ []
+
+-- Passes that agree -------------------------------------------------------------------------------
+
+ours_stand : AllStandFrom entries (core 0) 0 ours
+ours_stand = ((omega arith, (refl, refl, refl)), ((omega arith, (refl, refl, refl)), tt))
+
+theirs_stand : AllStandFrom entries (core 1) 0 theirs
+theirs_stand = ((omega arith, (refl, refl, refl)), tt)
+
+told_when_full : Agrees full (pass true 0 ours)
+told_when_full = ((λ is. refl), ours_stand)
+
+both_agree : Agree wide (pass false 0 ours ∷ pass false 1 theirs ∷ [])
+both_agree = (
+  (
+    ((λ is. absurd (false≢true is)), ours_stand),
+    (((λ is. absurd (false≢true is)), theirs_stand), tt),
+  ),
+  refl,
+)
+
+-- a pass without items agrees with every book
+no_items : Agrees wide (pass false 1 [])
+no_items = ((λ is. absurd (false≢true is)), tt)
+
+-- Passes that break one clause --------------------------------------------------------------------
+
+told_while_there_is_room : Agrees wide (pass true 0 ours) → ⊥
+told_while_there_is_room h = let e : ◌≡◌ {A = ℕ} 3 4 = h.0 refl in omega arith
+
+another_core : AllStandFrom entries (core 1) 0 ours → ⊥
+another_core h = let e : ◌≡◌ {A = ℕ} 0 1 = ap (λ (c : Core). c.number) h.0.1.0 in omega arith
+
+-- what tells calls and replies apart
+abbrev word : FwCall → ℕ
+word (Smc regs) = regs.x0
+word (Enter start) = 0
+word (Take ack) = 0
+
+abbrev number : FwReply → ℕ
+number (Fault NoLife) = 1
+number (Fault NotRunning) = 2
+number (Fault NoCore) = 3
+number (Fault OldStart) = 4
+number (Out outcome) = 5
+number (Taken taken) = 6
+
+another_call : AllStandFrom entries (core 0) 0 (item 0 (ask 7) (Fault NoLife) ∷ []) → ⊥
+another_call h = let e : ◌≡◌ {A = ℕ} 1 7 = ap word h.0.1.1 in omega arith
+
+another_reply : AllStandFrom entries (core 0) 0 (item 0 (ask 1) (Fault OldStart) ∷ []) → ⊥
+another_reply h = let e : ◌≡◌ {A = ℕ} 1 4 = ap number h.0.1.2 in omega arith
+
+-- the same entry twice; entries in the wrong order
+place_twice : AllStandFrom entries (core 1) 0
+    (item 1 (ask 2) (Fault NotRunning) ∷ item 1 (ask 2) (Fault NotRunning) ∷ []) → ⊥
+place_twice h = let e : 2 ≤ 1 = h.1.0.0 in omega arith
+
+places_fall : AllStandFrom entries (core 0) 0
+    (item 2 (ask 3) (Fault NoLife) ∷ item 0 (ask 1) (Fault NoLife) ∷ []) → ⊥
+places_fall h = let e : 3 ≤ 0 = h.1.0.0 in omega arith
+
+-- there is no such entry
+place_is_past : AllStandFrom entries (core 0) 0 (item 3 (ask 1) (Fault NoLife) ∷ []) → ⊥
+place_is_past h = h.0.1
+
+-- two passes that agree, with one place
+one_place_in_two : Agree wide (pass false 1 theirs ∷ pass false 1 theirs ∷ []) → ⊥
+one_place_in_two h = false≢true h.1
+
+-- Places ------------------------------------------------------------------------------------------
+
+found : map (λ place. has_place place ours) (0 ∷ 1 ∷ 2 ∷ 3 ∷ [])
+    ≡ true ∷ false ∷ true ∷ false ∷ []
+found = refl
+
+lists_apart : apart ours theirs ∷ apart ours ours ∷ apart [] ours ∷ []
+    ≡ true ∷ false ∷ true ∷ []
+lists_apart = refl
+
+-- the second pass of two others has a place in common, the first has none
+second_is_not_apart : apart_from (pass false 0 ours)
+    (pass false 1 theirs ∷ pass false 0 (item 2 (ask 3) (Fault NoLife) ∷ []) ∷ []) ≡ false
+second_is_not_apart = refl
+
+-- not the first pass, but the two behind it
+last_two_are_not_apart :
+    all_apart (pass false 1 theirs ∷ pass false 0 ours ∷ pass false 0 ours ∷ []) ≡ false
+last_two_are_not_apart = refl
+
+all_are_apart : all_apart (pass false 1 theirs ∷ pass false 0 ours ∷ pass false 1 [] ∷ []) ≡ true
+all_are_apart = refl
+
+-- each place of the book stands in one of two passes; the place in none, and the one in two
+placed : map (λ place. times place (map places_of (pass false 0 ours ∷ pass false 1 theirs ∷ [])))
+    (0 ∷ 1 ∷ 2 ∷ 3 ∷ []) ≡ 1 ∷ 1 ∷ 1 ∷ 0 ∷ []
+placed = refl
+
+placed_wrongly : map (λ place. times place (map places_of (pass false 0 ours ∷ pass false 0 ours ∷ [])))
+    (0 ∷ 1 ∷ []) ≡ 2 ∷ 0 ∷ []
+placed_wrongly = refl
+
+-- Gathering ---------------------------------------------------------------------------------------
+
+three_items : items_of (pass false 0 ours ∷ pass false 1 theirs ∷ []) ≡ 3
+three_items = refl
+
+-- all agree, and one pass of two came
+one_is_missing : IsCause Missing (Agree wide (pass false 0 ours ∷ [])) 1 2
+one_is_missing = (((((λ is. absurd (false≢true is)), ours_stand), tt), refl), omega arith)
+
+-- all came
+none_is_missing : IsCause Missing (Agree wide (pass false 0 ours ∷ [])) 1 1 → ⊥
+none_is_missing h = let e : 1 < 1 = h.1 in omega arith
+
+-- a pass that agrees is no reason
+not_astray : IsCause Astray (Agree wide (pass false 0 ours ∷ [])) 1 1 → ⊥
+not_astray h = h ((((λ is. absurd (false≢true is)), ours_stand), tt), refl)
+
+-- Books -------------------------------------------------------------------------------------------
+
+-- the last call of a book is the first of its history
+last_call_first : history_of entries
+    ≡ record { core = 0; call = ask 3; reply = Fault NoLife }
+    ∷ record { core = 1; call = ask 2; reply = Fault NotRunning }
+    ∷ record { core = 0; call = ask 1; reply = Fault NoLife } ∷ []
+unfolding history_of
+last_call_first = refl
+
+one_more_entry : entered (record { entries = []; room = 3 }) (entry 5 (core 0) (ask 1) (Fault NoLife))
+    ≡ record { entries = entry 5 (core 0) (ask 1) (Fault NoLife) ∷ []; room = 3 }
+one_more_entry = refl

@@ -1,0 +1,162 @@
+-- Worked examples of what is written of each core, of what a pass has seen of it, and of what a pass
+-- is answered. The boot core has entered: it was OFF, ON_PENDING and ON, and the others are OFF.
+use Rattle.std.proofs.Common.{◌≡◌, inl, inr, ℕ, zero, suc, ◌<◌, ◌≤◌, List, [], ◌∷◌, length, pos}
+use Rattle.std.proofs.Common.{negsuc, Bool, true, false, refl, ap, arith, Some, None}
+use Rattle.std.specs.Prelude.{nat_lt, if◌then◌else◌}
+use Rattle.psci_fw.specs.psci_abi.declared.format.Format.TheVariants.{Original}
+use Rattle.psci_fw.specs.psci_board.Board.{BoardValue}
+use Rattle.psci_fw.specs.psci_fw_spec.declared.call.FwCall.TheVariants.{Enter}
+use Rattle.psci_fw.specs.psci_fw_spec.declared.outcome.Act.TheVariants as acts
+use Rattle.psci_fw.specs.psci_fw_spec.declared.reply.FwReply.TheVariants.{Out}
+use Rattle.psci_fw.specs.psci_fw_spec.declared.status.Status.TheVariants.{On, Off, Pending}
+use Rattle.psci_fw.specs.psci_fw_spec.AffinityInfo.{status_code}
+use Rattle.psci_fw.specs.psci_fw_spec.Statuses.{statuses}
+use Rattle.psci_link.specs.declared.start.Cause.TheVariants.{Boot}
+use Rattle.psci_status.specs.Lists.{Item, gain, row}
+use Rattle.psci_shared.specs.declared.entry.FwEntry.{FwEntry}
+use Rattle.psci_shared.specs.Books.{entry, history_of}
+use Rattle.psci_shared.specs.Passes.{IsAffinity, IsRead, PassView}
+use Rattle.psci_shared.specs.Writing.{AllLast, IsWritten, Stand, one_more, written_after}
+
+-- two cores
+abbrev board : BoardValue
+board = record {
+  levels = (2 ∷ []) ∷ [];
+  ranges = record { start = 0; end = 64 } ∷ [];
+  boot = 0;
+  starts = 9;
+  lives = 3;
+  format = Original;
+}
+
+abbrev entries : List FwEntry
+entries =
+    entry 1 (record { number = 0 }) (Enter (record { life = 1; number = 1; cause = Boot }))
+    (Out (record { act = acts.Enter 0 0; message = None })) ∷ []
+
+-- What is written ---------------------------------------------------------------------------------
+
+written : IsWritten board ((On ∷ Pending ∷ Off ∷ []) ∷ (Off ∷ []) ∷ []) entries
+unfolding statuses history_of
+written zero h = refl
+written (suc zero) h = refl
+written (suc (suc core)) h = let k : suc (suc core) < 2 = h in absurd (omega arith)
+
+-- the status at the life's start is not written; nothing is; another status is
+opening_is_missing : IsWritten board ((On ∷ Off ∷ []) ∷ (Off ∷ []) ∷ []) entries → ⊥
+unfolding statuses history_of
+opening_is_missing h = let e : ◌≡◌ {A = ℕ} 2 3 = ap length (h 0 (omega arith)) in omega arith
+
+nothing_is_written : IsWritten board ((Off ∷ []) ∷ (Off ∷ []) ∷ []) entries → ⊥
+unfolding statuses history_of
+nothing_is_written h = let e : ◌≡◌ {A = ℕ} 1 3 = ap length (h 0 (omega arith)) in omega arith
+
+-- before any call
+first_written : IsWritten board ((Off ∷ []) ∷ (Off ∷ []) ∷ []) []
+unfolding statuses history_of
+first_written zero h = refl
+first_written (suc zero) h = refl
+first_written (suc (suc core)) h = let k : suc (suc core) < 2 = h in absurd (omega arith)
+
+-- one status more: another one, the same, and one that opens a life; of the boot core, and of another
+another_status : one_more false 0 Pending (Off ∷ []) ≡ Pending ∷ Off ∷ []
+another_status = refl
+
+same_status : one_more false 1 Off (Off ∷ []) ≡ Off ∷ []
+same_status = refl
+
+boot_core_in_a_new_life : one_more true 0 On (Off ∷ []) ≡ On ∷ Pending ∷ Off ∷ []
+boot_core_in_a_new_life = refl
+
+core_in_a_new_life : one_more true 1 Pending (On ∷ []) ≡ Pending ∷ Off ∷ On ∷ []
+core_in_a_new_life = refl
+
+-- by the life before: none, or the same; and where there is no life yet
+after_an_opening : written_after board entries 0 0 (Off ∷ []) ≡ On ∷ Pending ∷ Off ∷ []
+unfolding history_of
+after_an_opening = refl
+
+after_no_opening : written_after board entries 1 0 (Off ∷ []) ≡ On ∷ Off ∷ []
+unfolding history_of
+after_no_opening = refl
+
+without_a_life : written_after board [] 0 0 (Off ∷ []) ≡ Off ∷ []
+unfolding history_of
+without_a_life = refl
+
+-- What a pass has seen ----------------------------------------------------------------------------
+
+-- a pass that has missed ON_PENDING
+seen : Stand board entries (((2, On) ∷ (0, Off) ∷ []) ∷ ((0, Off) ∷ []) ∷ [])
+unfolding statuses history_of
+seen zero h = (inl (refl, refl), omega arith, (inr (inr (inl (refl, refl))), tt, tt))
+seen (suc zero) h = (inl (refl, refl), tt, tt)
+seen (suc (suc core)) h = tt
+
+all_last : AllLast board entries (((2, On) ∷ (0, Off) ∷ []) ∷ ((0, Off) ∷ []) ∷ [])
+unfolding statuses history_of
+all_last zero h = ((0, Off) ∷ [], refl)
+all_last (suc zero) h = ([], refl)
+all_last (suc (suc core)) h = let k : suc (suc core) < 2 = h in absurd (omega arith)
+
+-- the serial of the last item
+abbrev last : List Item → ℕ
+last [] = 9
+last (i ∷ is) = i.0
+
+not_the_last : AllLast board entries (((1, Pending) ∷ []) ∷ ((0, Off) ∷ []) ∷ []) → ⊥
+unfolding statuses history_of
+not_the_last h = let e : ◌≡◌ {A = ℕ} 1 2 = ap last (h 0 (omega arith)).1 in omega arith
+
+seen_backwards : Stand board entries (((0, Off) ∷ (2, On) ∷ []) ∷ []) → ⊥
+unfolding statuses history_of
+seen_backwards h = let e : 2 < 0 = (h 0 (omega arith)).1 in omega arith
+
+-- What a poll is answered -------------------------------------------------------------------------
+
+abbrev pass : List (List Item) → PassView
+pass seen =
+    record { core = record { number = 0 }; room = 4; told_full = false; items = []; seen = seen }
+
+abbrev before : PassView
+before = pass (((0, Off) ∷ []) ∷ ((0, Off) ∷ []) ∷ [])
+
+pending_is_read : IsAffinity (Some (record { number = 0 })) before
+    (pass (((1, Pending) ∷ (0, Off) ∷ []) ∷ ((0, Off) ∷ []) ∷ [])) (record { 0 = pos 2 })
+pending_is_read = (Pending, (1, refl, ((0, Off) ∷ [], refl)), refl)
+
+-- the word holds what the pass has seen last
+nothing_new_is_read : IsAffinity (Some (record { number = 0 })) before before (record { 0 = pos 1 })
+nothing_new_is_read = (Off, (0, refl, ([], refl)), refl)
+
+-- the word names no core
+nobody_is_read : IsAffinity None before before (record { 0 = negsuc 1 })
+nobody_is_read = (refl, refl)
+
+-- the status of the last item
+abbrev last_code : List Item → ℕ
+last_code [] = 9
+last_code (i ∷ is) = status_code i.1
+
+-- another status than the last that was seen
+another_is_read : IsRead before before 0 On → ⊥
+another_is_read h = let e : ◌≡◌ {A = ℕ} 1 0 = ap last_code h.2.1 in omega arith
+
+gain_one : (b : Bool) (i j : Item) → length (if b then i ∷ j ∷ [] else j ∷ []) ≤ 2
+gain_one true i j = omega arith
+gain_one false i j = omega arith
+
+-- two items more, and one more of another core
+two_are_read : IsRead before
+    (pass (((2, On) ∷ (1, Pending) ∷ (0, Off) ∷ []) ∷ ((0, Off) ∷ []) ∷ [])) 0 On → ⊥
+two_are_read h =
+    let e : 3 ≡ length (gain (h.0, On) ((0, Off) ∷ [])) =
+    ap (λ (p : PassView). length (row p.seen 0)) h.1 in
+    let few : length (gain (h.0, On) ((0, Off) ∷ [])) ≤ 2 = gain_one (nat_lt 0 h.0) (h.0, On)
+    (0, Off) in
+    omega arith
+
+other_core_is_read : IsRead before
+    (pass (((1, On) ∷ (0, Off) ∷ []) ∷ ((1, On) ∷ (0, Off) ∷ []) ∷ [])) 0 On → ⊥
+other_core_is_read h =
+    let e : ◌≡◌ {A = ℕ} 2 1 = ap (λ (p : PassView). length (row p.seen 1)) h.1 in omega arith

@@ -1,0 +1,9 @@
+use Rattle.std.proofs.Common.{drop}
+use Rattle.std.specs.Prelude.{◌↔◌}
+use Rattle.psci_shared.specs.Agree.{AllStandFrom}
+use Rattle.psci_shared.proofs.agreement.all_stand.Given as goal
+
+abbrev pub invariant-loop-item : goal.invariant-loop-item
+invariant-loop-item l =
+    AllStandFrom l.entries l.core l.from (drop l.item-index l.items)
+    ↔ AllStandFrom l.entries l.core 0 l.items

@@ -1,0 +1,12 @@
+use Rattle.psci_shared.proofs.Written.{few_written, written_on}
+use Rattle.psci_shared.proofs.locked.FwLocked.call.Goals as goal
+
+pub write_all-requires-clause-few : goal.write_all-requires-clause-few
+write_all-requires-clause-few g c =
+    let old = c.args.self.now in
+    few_written _ _ old.book.entries old.written c.len-place.ensures.small
+
+pub invariant_of-self-in-Ok-clause-written : goal.invariant_of-self-in-Ok-clause-written
+invariant_of-self-in-Ok-clause-written g c =
+    written_on _ _ _ _ _ _ _ _ c.in-Ok.ensures.ok c.life-before.ensures c.args.self.now.written
+    c.write_all.ensures.log c.meet.ensures.log

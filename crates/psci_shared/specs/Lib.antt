@@ -1,0 +1,8 @@
+pub mod Agree
+pub mod Books
+pub mod Gathers
+pub mod Inside
+pub mod Names
+pub mod Passes
+pub mod Places
+pub mod Writing

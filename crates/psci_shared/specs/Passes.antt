@@ -1,0 +1,72 @@
+-- Passes as contracts see them.
+use Rattle.std.specs.Prelude.{◌≡◌, ℕ, List, [], ◌∷◌, ◌++◌, Bool, true, slice_set, Option, None, Some, pos}
+use Rattle.psci_fw.specs.psci_abi.Codes.{invalid_parameters}
+use Rattle.psci_fw.specs.psci_abi.declared.code.Code.{Code}
+use Rattle.psci_fw.specs.psci_board.declared.node.Core.{Core}
+use Rattle.psci_fw.specs.psci_fw_spec.declared.call.FwCall.{FwCall}
+use Rattle.psci_fw.specs.psci_fw_spec.declared.reply.FwReply.{FwReply}
+use Rattle.psci_fw.specs.psci_fw_spec.declared.call.FwCall.TheVariants.{Smc, Enter, Take}
+use Rattle.psci_fw.specs.psci_fw_spec.declared.reply.FwReply.TheVariants.{Out, Taken, Fault}
+use Rattle.psci_fw.specs.psci_fw_spec.declared.status.Status.{Status}
+use Rattle.psci_fw.specs.psci_fw_spec.AffinityInfo.{status_code}
+use Rattle.psci_status.specs.Lists.{Item, row, gain, Begins}
+use Rattle.psci_shared.specs.declared.entry.FwItem.{FwItem}
+use Rattle.psci_shared.specs.declared.fault.CallFault.{CallFault}
+use Rattle.psci_shared.specs.declared.fault.CallFault.TheVariants.{BookFull, Fw}
+
+-- a pass: its core, for how many items it has room, whether it was told that the book is full, its
+-- items, the first call first, and what it has seen of each core
+pub record PassView : Type 0 where
+  pub core : Core
+  pub room : ℕ
+  pub told_full : Bool
+  pub items : List FwItem
+  pub seen : List (List Item)
+
+-- an item
+abbrev pub item : ℕ → FwCall → FwReply → FwItem
+item place call reply = record { place = place; call = call; reply = reply }
+
+-- a pass with one item more, which has now seen this
+abbrev pub called : PassView → FwItem → List (List Item) → PassView
+called p i seen = record p { items = p.items ++ i ∷ []; seen = seen }
+
+-- a pass that was told that the book is full
+abbrev pub told : PassView → PassView
+told p = record p { told_full = true }
+
+-- a pass that read the status of a core: it has now seen one item more of it at most, and the last
+-- is the status
+abbrev pub IsRead : PassView → PassView → ℕ → Status → Type 0
+IsRead p p' core status =
+    (serial : ℕ)
+    × (p' ≡ record p { seen = slice_set p.seen core (gain (serial, status) (row p.seen core)) })
+    × Begins (serial, status) (row p'.seen core)
+
+-- the reply is one to such a call: an acknowledgement is taken, and nothing else is
+abbrev pub Fits : FwCall → FwReply → Type 0
+Fits (Smc regs) (Out outcome) = Unit {0}
+Fits (Smc regs) (Fault fault) = Unit {0}
+Fits (Smc regs) (Taken taken) = ⊥
+Fits (Enter start) (Out outcome) = Unit {0}
+Fits (Enter start) (Fault fault) = Unit {0}
+Fits (Enter start) (Taken taken) = ⊥
+Fits (Take ack) (Taken taken) = Unit {0}
+Fits (Take ack) (Out outcome) = ⊥
+Fits (Take ack) (Fault fault) = ⊥
+
+-- a call was entered: the pass has one item more
+abbrev pub IsCalled : PassView → PassView → FwCall → FwReply → Type 0
+IsCalled p p' call reply = (place : ℕ) × (p' ≡ called p (item place call reply) p'.seen)
+
+-- a call was refused: by the firmware, and that was entered; or the book or the pass's list is full
+abbrev pub IsRefused : PassView → PassView → FwCall → CallFault → Type 0
+IsRefused p p' call BookFull = p' ≡ told p
+IsRefused p p' call (Fw fault) = IsCalled p p' call (Fault fault)
+
+-- what affinity_core answers by the core that the word names, and what the pass has seen then
+abbrev pub IsAffinity : Option Core → PassView → PassView → Code → Type 0
+IsAffinity None p p' code = (code ≡ invalid_parameters) × (p' ≡ p)
+IsAffinity (Some core) p p' code =
+    (status : Status) × IsRead p p' core.number status
+    × (code ≡ record { 0 = pos (status_code status) })

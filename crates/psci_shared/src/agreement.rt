@@ -1,0 +1,118 @@
+//! Whether passes agree with a book.
+
+ghost use Rattle.std.specs.Prelude.{◌≡◌, ◌↔◌, IsTrue, slice_get, option_map};
+ghost use Rattle.psci_shared.specs.Agree.{Agree, Agrees, AllAgree, AllStandFrom, IsOf};
+ghost use Rattle.psci_shared.specs.Agree.{StandsAt, StandsFrom, all_apart, apart, apart_from};
+ghost use Rattle.psci_shared.specs.Agree.{has_place};
+
+use crate::book::FwBook;
+use crate::entry::{FwEntry, FwItem};
+use crate::named::Named;
+use crate::pass::Pass;
+use crate::same::{is_same_call, is_same_reply};
+use psci_status::Core;
+
+/// Whether the passes agree with the book, and no two have one place.
+pub fn agree<N: Named>(book: &FwBook<N>, passes: &[Pass<N>]) -> bool
+    ensures { IsTrue result ↔ Agree book.now passes.now }
+{
+    all_agree(book, passes) && all_apart(passes)
+}
+
+fn all_agree<N: Named>(book: &FwBook<N>, passes: &[Pass<N>]) -> bool
+    ensures { IsTrue result ↔ AllAgree book.now passes.now }
+{
+    for pass in passes {
+        if !agrees(book, pass) {
+            return false;
+        }
+    }
+    true
+}
+
+fn agrees<N: Named>(book: &FwBook<N>, pass: &Pass<N>) -> bool
+    ensures { IsTrue result ↔ Agrees book.now pass.now }
+{
+    if pass.told_full() && book.len() != book.room() {
+        return false;
+    }
+    all_stand(book.entries(), pass.core(), pass.items())
+}
+
+fn all_stand(entries: &[FwEntry], core: Core, items: &[FwItem]) -> bool
+    ensures { IsTrue result ↔ AllStandFrom entries.now core 0 items.now }
+{
+    let mut from: u64 = 0;
+    for item in items {
+        if !stands_from(entries, core, from, item) {
+            return false;
+        }
+        from = u64::from(item.place) + 1;
+    }
+    true
+}
+
+fn stands_from(entries: &[FwEntry], core: Core, from: u64, item: &FwItem) -> bool
+    ensures { IsTrue result ↔ StandsFrom entries.now core from item.now }
+{
+    from <= u64::from(item.place) && stands_at(entries.get(item.place as usize), core, item)
+}
+
+fn stands_at(found: Option<&FwEntry>, core: Core, item: &FwItem) -> bool
+    ensures { IsTrue result ↔ StandsAt (option_map (λ e. e.now) found.entry) core item.now }
+{
+    match found {
+        Some(entry) => is_of(entry, core, item),
+        None => false,
+    }
+}
+
+fn is_of(entry: &FwEntry, core: Core, item: &FwItem) -> bool
+    ensures { IsTrue result ↔ IsOf entry.now core item.now }
+{
+    let same_call = is_same_call(&entry.call, &item.call);
+    let same_reply = is_same_reply(&entry.reply, &item.reply);
+    entry.core == core && same_call && same_reply
+}
+
+fn all_apart<N: Named>(passes: &[Pass<N>]) -> bool
+    ensures { result ≡ all_apart passes.now }
+{
+    match passes {
+        [] => true,
+        [first, rest @ ..] => apart_from(first, rest) && all_apart(rest),
+    }
+}
+
+fn apart_from<N: Named>(one: &Pass<N>, others: &[Pass<N>]) -> bool
+    ensures { result ≡ apart_from one.now others.now }
+{
+    for other in others {
+        if !apart(one.items(), other.items()) {
+            return false;
+        }
+    }
+    true
+}
+
+fn apart(one: &[FwItem], other: &[FwItem]) -> bool
+    ensures { result ≡ apart one.now other.now }
+{
+    for item in one {
+        if has_place(other, item.place) {
+            return false;
+        }
+    }
+    true
+}
+
+fn has_place(items: &[FwItem], place: u32) -> bool
+    ensures { result ≡ has_place place items.now }
+{
+    for item in items {
+        if item.place == place {
+            return true;
+        }
+    }
+    false
+}

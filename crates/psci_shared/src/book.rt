@@ -1,0 +1,163 @@
+//! The firmware with all that it was asked and answered.
+
+use crate::entry::{BookFull, FwEntry};
+use crate::named::Named;
+use psci_fw::{Firmware, FwCall, FwFault, FwReply, Outcome, Status, law_values};
+use psci_status::{Board, Core, Memory};
+use std::alloc::Global;
+use std::marker::{Model, PhantomData};
+
+/// A firmware and its book. Each reply in it is the firmware's answer after the entries before.
+#[derive(Drop)]
+pub struct FwBook<N: Named> {
+    firmware: Firmware,
+    entries: Vec<FwEntry>,
+    room: u32,
+    of: PhantomData<N>,
+}
+
+impl<N: Named> Model for FwBook<N> {
+    ghost use Rattle.std.specs.Prelude.{vec_capacity};
+    ghost use Rattle.psci_shared.specs.Books.{BookView};
+    ghost use Rattle.psci_shared.specs.Inside.{IsTied};
+
+    ghost Value = { BookView };
+
+    ghost view = { λ b. record { entries = b.entries.items; room = b.room } };
+
+    ghost invariant = { λ b.
+        IsTied N.board N.parts b.firmware b.entries.items (vec_capacity b.entries) b.room };
+}
+
+ghost use Rattle.std.specs.Prelude.{◌≡◌, ◌≢◌, ◌<◌, ◌≤◌, ◌^◌, [], ◌∷◌, ◌++◌, length, IfOk, OnOk};
+ghost use Rattle.std.specs.Prelude.{OnErr};
+ghost use Rattle.psci_fw.specs.Seen.{seen};
+ghost use Rattle.psci_fw.specs.psci_board.Board.{cores};
+ghost use Rattle.psci_fw.specs.psci_fw_spec.After.{after};
+ghost use Rattle.psci_fw.specs.psci_fw_spec.Answer.{answer, reply_of};
+ghost use Rattle.psci_fw.specs.psci_fw_spec.History.{life, status, values_of};
+ghost use Rattle.psci_fw.specs.psci_fw_spec.Legal.{IsLegal};
+ghost use Rattle.psci_shared.specs.Passes.{Fits};
+ghost use Rattle.psci_shared.specs.Books.{answer_after, entered, entry, history_of};
+
+impl<N: Named> FwBook<N> {
+    /// A firmware of this board that was asked nothing, and a book with room for so many entries.
+    /// It takes the memory of all its calls here.
+    #[tactic(auto, using(crate::proofs::Histories::history_none))]
+    pub fn new(alloc: Global, board: &Board, room: u32) -> Result<FwBook<N>, Memory>
+        requires board { board.now ≡ N.board }
+        requires parts { N.parts ≡ 1001 }
+        ensures { IfOk result (λ b. b ≡ record { entries = []; room = room }) }
+    {
+        law_values();
+        let firmware = Firmware::new(alloc, board)?;
+        let entries = Vec::with_capacity(alloc, room as usize)?;
+        Ok(FwBook {
+            firmware,
+            entries,
+            room,
+            of: PhantomData,
+        })
+    }
+
+    /// Carries out a call of this core and enters it, unless the book is full.
+    #[tactic(auto, using(crate::proofs::Histories::history_more))]
+    pub fn step(&mut self, ticket: u64, core: Core, call: FwCall) -> Result<FwReply, BookFull>
+        ensures reply { IfOk result (λ reply. reply
+            ≡ answer_after N.board self.old.entries core.number call) }
+        ensures fits { IfOk result (λ reply. Fits call reply) }
+        ensures ok { IfOk result (λ reply. self.new
+            ≡ entered self.old (entry ticket core call reply)) }
+        ensures room { OnOk result (length self.old.entries < self.old.room) }
+        ensures full { OnErr result
+            ((length self.old.entries ≡ self.old.room) × (self.new ≡ self.old)) }
+    {
+        if self.entries.len() == self.room as usize {
+            return Err(BookFull);
+        }
+        law_values();
+        let reply = ask(&mut self.firmware, core, &call);
+        self.entries.push_reserved(FwEntry {
+            ticket,
+            core,
+            call,
+            reply: reply.copy(),
+        });
+        Ok(reply)
+    }
+
+    /// How many entries there are.
+    pub fn len(&self) -> u32
+        ensures len { result ≡ length self.now.entries }
+        ensures within { length self.now.entries ≤ self.now.room }
+        ensures small { length self.now.entries < 2 ^ 32 }
+    {
+        self.entries.len() as u32
+    }
+
+    /// How many entries there is room for.
+    pub fn room(&self) -> u32
+        ensures { result ≡ self.now.room }
+    {
+        self.room
+    }
+
+    /// The entries. Each reply is the answer after the entries before it.
+    pub fn entries(&self) -> &[FwEntry]
+        ensures entries { result.now ≡ self.now.entries }
+        ensures legal { IsLegal N.board (history_of self.now.entries) }
+    {
+        self.entries.as_slice()
+    }
+
+    /// The ledger has 1,001 parts: one for each pass, and one that is no pass's.
+    pub(crate) fn whole(&self)
+        ensures { N.parts ≡ 1001 }
+    {
+        let _room = self.room;
+    }
+
+    /// The firmware's life, 0 before any core has entered.
+    #[tactic(auto, unfolding(psci_fw_spec::specs::History::values_of))]
+    pub fn life(&self) -> u32
+        ensures { result ≡ life N.board (history_of self.now.entries) }
+    {
+        self.firmware.life().unwrap_or(0)
+    }
+
+    /// The status of a core of the board, once a core has entered.
+    #[tactic(auto, unfolding(psci_fw_spec::specs::History::values_of, psci_fw_spec::specs::AffinityInfo::node_status))]
+    pub fn status(&self, core: Core) -> Status
+        requires { core.number < cores N.board }
+        ensures { life N.board (history_of self.now.entries) ≢ 0
+            → result ≡ status N.board (history_of self.now.entries) core.number }
+    {
+        self.firmware.status(core.node()).unwrap_or(Status::Off)
+    }
+}
+
+/// The firmware's reply to a call of this core.
+fn ask(firmware: &mut Firmware, core: Core, call: &FwCall) -> FwReply
+    ensures reply { result
+        ≡ answer firmware.old.board (seen firmware.old) core.number call.now }
+    ensures fits { Fits call.now result }
+    ensures after { seen firmware.new
+        ≡ after firmware.old.board core.number call.now result (seen firmware.old) }
+    ensures board { firmware.new.board ≡ firmware.old.board }
+{
+    match call {
+        FwCall::Smc(regs) => reply_of(firmware.smc(core, *regs)),
+        FwCall::Enter(start) => reply_of(firmware.enter(core, *start)),
+        FwCall::Take(ack) => FwReply::Taken(firmware.take(ack.copy())),
+    }
+}
+
+/// An outcome or a refusal, as a reply.
+fn reply_of(answered: Result<Outcome, FwFault>) -> FwReply
+    ensures { result ≡ reply_of answered }
+{
+    match answered {
+        Ok(outcome) => FwReply::Out(outcome),
+        Err(fault) => FwReply::Fault(fault),
+    }
+}

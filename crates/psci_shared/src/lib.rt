@@ -1,0 +1,40 @@
+//! One firmware that core threads share, behind a lock, with a book of all that it was asked.
+//!
+//! - A *book* has an *entry* for each call, in the order in which the calls were carried out.
+//! - A *pass* is what one thread calls by: it has a core, and keeps an *item* for each of its
+//!   calls: the place of its entry, the call and the reply.
+//! - A *ticket* is a number that is drawn while a lock is held; tickets of both books are drawn
+//!   from one row.
+//! - Passes are *gathered* with the book once all calls are done, and each place then stands in one
+//!   pass.
+#![tactic(auto)]
+
+mod agreement;
+mod book;
+mod entry;
+mod fault;
+mod gather;
+mod laws;
+mod locked;
+mod named;
+mod pass;
+mod same;
+mod shared;
+mod tickets;
+mod writing;
+
+pub use agreement::agree;
+pub use book::FwBook;
+pub use entry::{BookFull, FwEntry, FwItem};
+pub use fault::{CallFault, GatherCause, PassFault};
+pub use gather::{Books, GatherFault};
+pub use laws::law_own_calls;
+pub use locked::FwLocked;
+pub use named::Named;
+pub use pass::Pass;
+pub use psci_fw::{Code, FwCall, FwFault, FwReply, Outcome, Regs, Start, Status, Taken};
+pub use psci_link::Ack;
+pub use psci_status::{Board, Core, Memory, Reader, StatusWords, Writer};
+pub use same::is_same_message;
+pub use shared::SharedFirmware;
+pub use tickets::Tickets;

@@ -1,0 +1,23 @@
+//! Which firmware a value is of.
+
+use std::marker::Brand;
+use std::sync::ledger::Ledger;
+
+/// One firmware: its ledger, its board and its table of status words. A pass of another firmware
+/// has another type.
+pub trait Named: Ledger {
+    ghost use Rattle.psci_fw.specs.psci_board.Board.{BoardValue};
+    ghost use Rattle.atomic_table.specs.Seated.{TableId};
+
+    ghost board: { BoardValue };
+
+    ghost table: { TableId };
+}
+
+impl Named for Brand {
+    ghost use Rattle.psci_shared.specs.Names.{no_board, no_table};
+
+    ghost board = { no_board };
+
+    ghost table = { no_table };
+}

@@ -1,0 +1,281 @@
+//! The firmware that threads share.
+
+ghost use Rattle.std.specs.Prelude.{◌≡◌, ◌≤◌, ◌+◌, ◌<◌, List, [], ◌∷◌, length, replicate};
+ghost use Rattle.std.specs.Prelude.{map};
+ghost use Rattle.std.specs.Prelude.{IfOk, IfErr, OnOk, OnErr, MatchResult};
+ghost use Rattle.std.specs.Fn.{FnOnceReturnsAt};
+ghost use Rattle.psci_fw.specs.psci_board.Board.{core_of, cores};
+ghost use Rattle.psci_fw.specs.psci_fw_spec.declared.call.FwCall.TheVariants as calls;
+ghost use Rattle.psci_fw.specs.psci_fw_spec.declared.reply.FwReply.TheVariants as replies;
+ghost use Rattle.psci_fw.specs.psci_fw_spec.declared.status.Status.TheVariants.{Off};
+ghost use Rattle.psci_status.specs.Seats.{table, table_of_writer, written};
+ghost use Rattle.psci_shared.specs.declared.entry.FwEntry.{FwEntry};
+ghost use Rattle.psci_shared.specs.Agree.{Agree};
+ghost use Rattle.psci_shared.specs.Gathers.{AllStand, IsCause, items_of, plain};
+ghost use Rattle.psci_shared.specs.Passes.{Fits, IsAffinity, IsCalled, IsRefused, told};
+ghost use Rattle.psci_shared.specs.Places.{AllPlaced};
+
+use crate::agreement::agree;
+use crate::book::FwBook;
+use crate::entry::{BookFull, FwEntry};
+use crate::fault::{CallFault, GatherCause, PassFault};
+use crate::gather::{Books, GatherFault};
+use crate::locked::FwLocked;
+use crate::named::Named;
+use crate::pass::Pass;
+use crate::tickets::Tickets;
+use psci_fw::{Code, FwCall, FwReply, Outcome, Regs, Start, Taken};
+use psci_link::Ack;
+use psci_status::{Board, Core, Memory, StatusWords, Writer};
+use std::alloc::Global;
+use std::sync::ledger::Blank;
+use std::sync::{Mutex, Wait};
+
+/// How many passes are made of one firmware.
+const MOST_PASSES: u32 = 1000;
+
+/// A firmware that threads share: it is called by passes, under a lock, and the status of a core is
+/// read without the lock.
+#[derive(Drop)]
+pub struct SharedFirmware<'t, N: Named> {
+    locked: Mutex<FwLocked<N>>,
+    words: StatusWords,
+    tickets: &'t Tickets,
+    board: Board,
+    alloc: Global,
+    room: u32,
+    ghost named: { board ≡ N.board },
+    ghost table: { table words ≡ N.table },
+    ghost count: { N.table.words ≡ cores N.board },
+}
+
+impl<'t, N: Named> SharedFirmware<'t, N> {
+    /// A firmware of this board, over status words that nothing was written to, with a book of so
+    /// much room. Tickets are drawn of these.
+    pub fn new(
+        alloc: Global,
+        board: &Board,
+        words: StatusWords,
+        writer: Writer,
+        room: u32,
+        tickets: &'t Tickets,
+        blank: Blank,
+    ) -> Result<SharedFirmware<'t, N>, Memory>
+        requires board { board.now ≡ N.board }
+        requires name { blank.name ≡ N.name }
+        requires parts { (blank.parts ≡ N.parts) × (N.parts ≡ 1001) }
+        requires words { (table words ≡ N.table) × (N.table.words ≡ cores N.board) }
+        requires writer { (table_of_writer writer ≡ N.table)
+            × (written writer ≡ replicate (cores N.board) (Off ∷ [])) }
+    {
+        let book = FwBook::new(alloc, board, room)?;
+        let board = board.copy(alloc)?;
+        let locked = locked_of(book, writer, board.cores(), blank);
+        Ok(SharedFirmware {
+            locked: Mutex::new(locked),
+            words,
+            tickets,
+            board,
+            alloc,
+            room,
+        })
+    }
+
+    /// A pass for a core, before the firmware is shared. It takes the memory of all its calls here.
+    pub fn pass(&mut self, core: Core) -> Result<Pass<N>, PassFault>
+        ensures { IfOk result (λ p. (p.core ≡ core) × (p.items ≡ [])) }
+    {
+        if core.number >= self.board.cores() {
+            return Err(PassFault::NoCore);
+        }
+        let SharedFirmware {
+            locked,
+            words,
+            tickets: _,
+            board: _,
+            alloc,
+            room,
+        } = self;
+        new_pass(*alloc, words, locked.get_mut(), core, *room)
+    }
+
+    /// A secure monitor call of the pass's core.
+    pub fn smc<R: Wait>(&self, rt: &R, pass: &mut Pass<N>, regs: Regs) -> Result<Outcome, CallFault>
+        ensures ok { IfOk result (λ outcome.
+            IsCalled pass.old pass.new (calls.Smc regs) (replies.Out outcome)) }
+        ensures err { IfErr result (λ fault.
+            IsRefused pass.old pass.new (calls.Smc regs) fault) }
+    {
+        match self.call(rt, pass, FwCall::Smc(regs)) {
+            Ok(FwReply::Out(outcome)) => Ok(outcome),
+            Ok(FwReply::Fault(fault)) => Err(CallFault::Fw(fault)),
+            Ok(FwReply::Taken(_)) => unreachable!(),
+            Err(BookFull) => Err(CallFault::BookFull),
+        }
+    }
+
+    /// The pass's core enters by this start.
+    pub fn enter<R: Wait>(
+        &self,
+        rt: &R,
+        pass: &mut Pass<N>,
+        start: Start,
+    ) -> Result<Outcome, CallFault>
+        ensures ok { IfOk result (λ outcome.
+            IsCalled pass.old pass.new (calls.Enter start) (replies.Out outcome)) }
+        ensures err { IfErr result (λ fault.
+            IsRefused pass.old pass.new (calls.Enter start) fault) }
+    {
+        match self.call(rt, pass, FwCall::Enter(start)) {
+            Ok(FwReply::Out(outcome)) => Ok(outcome),
+            Ok(FwReply::Fault(fault)) => Err(CallFault::Fw(fault)),
+            Ok(FwReply::Taken(_)) => unreachable!(),
+            Err(BookFull) => Err(CallFault::BookFull),
+        }
+    }
+
+    /// The firmware takes an acknowledgement of the power controller.
+    pub fn take<R: Wait>(&self, rt: &R, pass: &mut Pass<N>, ack: Ack) -> Result<Taken, BookFull>
+        ensures ok { IfOk result (λ taken.
+            IsCalled pass.old pass.new (calls.Take ack) (replies.Taken taken)) }
+        ensures err { OnErr result (pass.new ≡ told pass.old) }
+    {
+        match self.call(rt, pass, FwCall::Take(ack)) {
+            Ok(FwReply::Taken(taken)) => Ok(taken),
+            Ok(_) => unreachable!(),
+            Err(BookFull) => Err(BookFull),
+        }
+    }
+
+    /// What AFFINITY_INFO answers for a core, by one load of its status word: no lock is taken, and
+    /// nothing is entered.
+    pub fn affinity_core(&self, pass: &mut Pass<N>, word: u64) -> Code
+        ensures { IsAffinity (core_of N.board word) pass.old pass.new result }
+    {
+        match self.board.core_of(word) {
+            Some(core) => pass.read(&self.words, core).code(),
+            None => Code::INVALID_PARAMETERS,
+        }
+    }
+
+    /// Looks at the entries of the book while the lock is held. The status of a core is read
+    /// meanwhile, too.
+    pub fn look<R: Wait, T, F: FnOnce(&[FwEntry]) -> T>(&self, rt: &R, f: F) -> T
+        requires { F.IsAlwaysCallable f }
+        ensures { (entries : List FwEntry) × FnOnceReturnsAt F.FnOnce f entries result }
+    {
+        let locked = self.locked.lock(rt);
+        f(locked.book.entries())
+    }
+
+    /// Gathers the passes with the book, in which each place then stands in one of them.
+    #[tactic(auto, using(crate::proofs::Placed::all_placed))]
+    pub fn gather(self, passes: Vec<Pass<N>>) -> Result<Books<N>, GatherFault<N>>
+        ensures fault { IfErr result (λ f. IsCause f.cause (Agree f.locked.book f.passes.items)
+            (length f.passes.items) f.locked.made) }
+        ensures books { IfOk result (λ b. Agree b.book b.passes.items
+            × (length b.book.entries ≡ items_of b.passes.items)) }
+        ensures placed { IfOk result (λ b. AllPlaced b.book b.passes.items) }
+        ensures stand { IfOk result (λ b. AllStand N.board b.book.entries b.passes.items) }
+        ensures passes { MatchResult result
+            (λ b. map plain b.passes.items ≡ map plain passes.items)
+            (λ f. map plain f.passes.items ≡ map plain passes.items) }
+    {
+        let SharedFirmware {
+            locked,
+            words,
+            tickets: _,
+            board: _,
+            alloc: _,
+            room: _,
+        } = self;
+        let mut passes = passes;
+        let mut locked = locked.into_inner();
+        locked.meet(&words, &mut passes);
+        if !agree(&locked.book, &passes) {
+            return Err(GatherFault {
+                cause: GatherCause::Astray,
+                locked,
+                words,
+                passes,
+            });
+        }
+        let made = locked.count(&mut passes);
+        if (passes.len() as u64) < u64::from(made) {
+            return Err(GatherFault {
+                cause: GatherCause::Missing,
+                locked,
+                words,
+                passes,
+            });
+        }
+        Ok(Books {
+            book: locked.into_book(),
+            passes,
+        })
+    }
+
+    /// A call for the pass's core, under the lock.
+    fn call<R: Wait>(&self, rt: &R, pass: &mut Pass<N>, call: FwCall) -> Result<FwReply, BookFull>
+        ensures ok { IfOk result (λ reply. IsCalled pass.old pass.new call reply) }
+        ensures fits { IfOk result (λ reply. Fits call reply) }
+        ensures err { OnErr result (pass.new ≡ told pass.old) }
+    {
+        let mut locked = self.locked.lock(rt);
+        let ticket = self.tickets.draw();
+        locked.call(&self.words, ticket, pass, call)
+    }
+}
+
+/// What the lock of a new firmware guards.
+#[tactic(auto, using(crate::proofs::Written::written_first))]
+fn locked_of<N: Named>(book: FwBook<N>, writer: Writer, count: u16, blank: Blank) -> FwLocked<N>
+    requires book { book.entries ≡ [] }
+    requires name { blank.name ≡ N.name }
+    requires parts { (blank.parts ≡ N.parts) × (N.parts ≡ 1001) }
+    requires cores { (count ≡ cores N.board) × (N.table.words ≡ cores N.board) }
+    requires writer { (table_of_writer writer ≡ N.table)
+        × (written writer ≡ replicate (cores N.board) (Off ∷ [])) }
+{
+    let (total, rest) = blank.open::<N>();
+    FwLocked {
+        book,
+        made: 0,
+        writer,
+        count,
+        total,
+        rest,
+    }
+}
+
+/// One pass more.
+fn new_pass<N: Named>(
+    alloc: Global,
+    words: &StatusWords,
+    locked: &mut FwLocked<N>,
+    core: Core,
+    room: u32,
+) -> Result<Pass<N>, PassFault>
+    requires { table words.now ≡ N.table }
+    ensures pass { IfOk result (λ p. (p.core ≡ core) × (p.items ≡ []) × (p.room ≡ room)) }
+    ensures made { OnOk result (locked.new.made ≡ locked.old.made + 1) }
+{
+    if locked.made == MOST_PASSES {
+        return Err(PassFault::TooMany);
+    }
+    let Ok(items) = Vec::with_capacity(alloc, room as usize) else {
+        return Err(PassFault::Memory);
+    };
+    let FwLocked {
+        book: _,
+        made,
+        writer,
+        count: _,
+        total: _,
+        rest,
+    } = locked;
+    let share = rest.split_off(1, 0);
+    *made += 1;
+    let reader = words.reader(writer);
+    Ok(Pass::of(core, room, items, share, reader))
+}

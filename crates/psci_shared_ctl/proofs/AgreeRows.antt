@@ -1,0 +1,155 @@
+-- Worked examples of passes that agree with a book, and for each clause one that breaks just it.
+-- One pass woke a core, and woke it again; another one reset it in between.
+use Rattle.std.proofs.lemmas.Bool.{false≢true}
+use Rattle.std.proofs.Common.{◌≡◌, ℕ, ◌<◌, ◌≤◌, List, [], ◌∷◌, map, Bool, true, false}
+use Rattle.std.proofs.Common.{refl, ap, arith}
+use Rattle.psci_ctl.specs.psci_ctl_spec.declared.call.CtlCall.{CtlCall}
+use Rattle.psci_ctl.specs.psci_ctl_spec.declared.call.CtlCall.TheVariants.{Deliver, Reset, Wake}
+use Rattle.psci_ctl.specs.psci_ctl_spec.declared.delivery.Delivery.TheVariants as deliveries
+use Rattle.psci_ctl.specs.psci_ctl_spec.declared.kick.Kick.TheVariants as kicks
+use Rattle.psci_ctl.specs.psci_ctl_spec.declared.reply.CtlReply.{CtlReply}
+use Rattle.psci_ctl.specs.psci_ctl_spec.declared.reply.CtlReply.TheVariants.{Delivery, Kick}
+use Rattle.psci_shared_ctl.specs.declared.entry.CtlEntry.{CtlEntry}
+use Rattle.psci_shared_ctl.specs.declared.entry.CtlItem.{CtlItem}
+use Rattle.psci_shared.specs.declared.fault.GatherCause.TheVariants.{Astray, Missing}
+use Rattle.psci_shared.specs.Places.{times}
+use Rattle.psci_shared_ctl.specs.Agree.{Agree, Agrees, AllStandFrom, all_apart, apart, apart_from}
+use Rattle.psci_shared_ctl.specs.Agree.{has_place}
+use Rattle.psci_shared_ctl.specs.Books.{BookView, entered, entry, history_of}
+use Rattle.psci_shared_ctl.specs.Gathers.{IsCause, items_of}
+use Rattle.psci_shared_ctl.specs.Passes.{PassView, item}
+use Rattle.psci_shared_ctl.specs.Places.{places_of}
+
+abbrev wake : ℕ → CtlCall
+wake halted = Wake (record { number = 3 }) halted
+
+abbrev reset : CtlCall
+reset = Reset (record { number = 3 })
+
+abbrev ignored : CtlReply
+ignored = Kick kicks.Ignored
+
+abbrev entries : List CtlEntry
+entries = entry 5 (wake 1) ignored ∷ entry 6 reset ignored ∷ entry 9 (wake 2) ignored ∷ []
+
+-- a book that is full, and one that is not
+abbrev full : BookView
+full = record { entries = entries; room = 3 }
+
+abbrev wide : BookView
+wide = record { entries = entries; room = 4 }
+
+abbrev pass : Bool → List CtlItem → PassView
+pass told items = record { room = 4; told_full = told; items = items }
+
+-- the items of both passes
+abbrev ours : List CtlItem
+ours = item 0 (wake 1) ignored ∷ item 2 (wake 2) ignored ∷ []
+
+abbrev theirs : List CtlItem
+theirs = item 1 reset ignored ∷ []
+
+-- Passes that agree -------------------------------------------------------------------------------
+
+ours_stand : AllStandFrom entries 0 ours
+ours_stand = ((omega arith, (refl, refl)), ((omega arith, (refl, refl)), tt))
+
+theirs_stand : AllStandFrom entries 0 theirs
+theirs_stand = ((omega arith, (refl, refl)), tt)
+
+told_when_full : Agrees full (pass true ours)
+told_when_full = ((λ is. refl), ours_stand)
+
+both_agree : Agree wide (pass false ours ∷ pass false theirs ∷ [])
+both_agree = (
+  (
+    ((λ is. absurd (false≢true is)), ours_stand),
+    (((λ is. absurd (false≢true is)), theirs_stand), tt),
+  ),
+  refl,
+)
+
+-- Passes that break one clause --------------------------------------------------------------------
+
+told_while_there_is_room : Agrees wide (pass true ours) → ⊥
+told_while_there_is_room h = let e : ◌≡◌ {A = ℕ} 3 4 = h.0 refl in omega arith
+
+-- what tells calls and replies apart
+abbrev number : CtlCall → ℕ
+number (Wake core halted) = halted
+number (Reset core) = 8
+number (Deliver message) = 9
+
+abbrev is_kick : CtlReply → ℕ
+is_kick (Kick kick) = 1
+is_kick (Delivery delivery) = 0
+
+another_call : AllStandFrom entries 0 (item 0 (wake 7) ignored ∷ []) → ⊥
+another_call h = let e : ◌≡◌ {A = ℕ} 1 7 = ap number h.0.1.0 in omega arith
+
+another_reply : AllStandFrom entries 0 (item 0 (wake 1) (Delivery deliveries.Ignored) ∷ []) → ⊥
+another_reply h = let e : ◌≡◌ {A = ℕ} 1 0 = ap is_kick h.0.1.1 in omega arith
+
+-- the same entry twice; entries in the wrong order; no such entry
+place_twice : AllStandFrom entries 0 (item 1 reset ignored ∷ item 1 reset ignored ∷ []) → ⊥
+place_twice h = let e : 2 ≤ 1 = h.1.0.0 in omega arith
+
+places_fall : AllStandFrom entries 0 (item 2 (wake 2) ignored ∷ item 0 (wake 1) ignored ∷ []) → ⊥
+places_fall h = let e : 3 ≤ 0 = h.1.0.0 in omega arith
+
+place_is_past : AllStandFrom entries 0 (item 3 (wake 1) ignored ∷ []) → ⊥
+place_is_past h = h.0.1
+
+-- two passes that agree, with one place
+one_place_in_two : Agree wide (pass false theirs ∷ pass false theirs ∷ []) → ⊥
+one_place_in_two h = false≢true h.1
+
+-- Places ------------------------------------------------------------------------------------------
+
+found : map (λ place. has_place place ours) (0 ∷ 1 ∷ 2 ∷ 3 ∷ [])
+    ≡ true ∷ false ∷ true ∷ false ∷ []
+found = refl
+
+lists_apart : apart ours theirs ∷ apart ours ours ∷ apart [] ours ∷ []
+    ≡ true ∷ false ∷ true ∷ []
+lists_apart = refl
+
+second_is_not_apart : apart_from (pass false ours)
+    (pass false theirs ∷ pass false (item 2 (wake 2) ignored ∷ []) ∷ []) ≡ false
+second_is_not_apart = refl
+
+last_two_are_not_apart : all_apart (pass false theirs ∷ pass false ours ∷ pass false ours ∷ [])
+    ≡ false
+last_two_are_not_apart = refl
+
+all_are_apart : all_apart (pass false theirs ∷ pass false ours ∷ pass false [] ∷ []) ≡ true
+all_are_apart = refl
+
+placed : map (λ place. times place (map places_of (pass false ours ∷ pass false theirs ∷ [])))
+    (0 ∷ 1 ∷ 2 ∷ 3 ∷ []) ≡ 1 ∷ 1 ∷ 1 ∷ 0 ∷ []
+placed = refl
+
+-- Gathering, and books ----------------------------------------------------------------------------
+
+three_items : items_of (pass false ours ∷ pass false theirs ∷ []) ≡ 3
+three_items = refl
+
+one_is_missing : IsCause Missing (Agree wide (pass false ours ∷ [])) 1 2
+one_is_missing = (((((λ is. absurd (false≢true is)), ours_stand), tt), refl), omega arith)
+
+none_is_missing : IsCause Missing (Agree wide (pass false ours ∷ [])) 1 1 → ⊥
+none_is_missing h = let e : 1 < 1 = h.1 in omega arith
+
+not_astray : IsCause Astray (Agree wide (pass false ours ∷ [])) 1 1 → ⊥
+not_astray h = h ((((λ is. absurd (false≢true is)), ours_stand), tt), refl)
+
+-- the last call of a book is the first of its history
+last_call_first : history_of entries
+    ≡ record { call = wake 2; reply = ignored } ∷ record { call = reset; reply = ignored }
+    ∷ record { call = wake 1; reply = ignored } ∷ []
+unfolding history_of
+last_call_first = refl
+
+one_more_entry : entered (record { entries = []; room = 3 }) (entry 5 reset ignored)
+    ≡ record { entries = entry 5 reset ignored ∷ []; room = 3 }
+one_more_entry = refl

@@ -1,0 +1,3 @@
+pub mod AgreeRows
+pub mod Histories
+pub mod Placed

@@ -1,0 +1,116 @@
+//! Whether passes agree with a book.
+
+ghost use Rattle.std.specs.Prelude.{◌≡◌, ◌↔◌, IsTrue, slice_get, option_map};
+ghost use Rattle.psci_shared_ctl.specs.Agree.{Agree, Agrees, AllAgree, AllStandFrom, IsOf};
+ghost use Rattle.psci_shared_ctl.specs.Agree.{StandsAt, StandsFrom, all_apart, apart, apart_from};
+ghost use Rattle.psci_shared_ctl.specs.Agree.{has_place};
+
+use crate::book::CtlBook;
+use crate::entry::{CtlEntry, CtlItem, is_same_call, is_same_reply};
+use crate::pass::CtlPass;
+use psci_shared::Named;
+
+/// Whether the passes agree with the book, and no two have one place.
+pub fn agree<N: Named>(book: &CtlBook<N>, passes: &[CtlPass<N>]) -> bool
+    ensures { IsTrue result ↔ Agree book.now passes.now }
+{
+    all_agree(book, passes) && all_apart(passes)
+}
+
+fn all_agree<N: Named>(book: &CtlBook<N>, passes: &[CtlPass<N>]) -> bool
+    ensures { IsTrue result ↔ AllAgree book.now passes.now }
+{
+    for pass in passes {
+        if !agrees(book, pass) {
+            return false;
+        }
+    }
+    true
+}
+
+fn agrees<N: Named>(book: &CtlBook<N>, pass: &CtlPass<N>) -> bool
+    ensures { IsTrue result ↔ Agrees book.now pass.now }
+{
+    if pass.told_full() && book.len() != book.room() {
+        return false;
+    }
+    all_stand(book.entries(), pass.items())
+}
+
+fn all_stand(entries: &[CtlEntry], items: &[CtlItem]) -> bool
+    ensures { IsTrue result ↔ AllStandFrom entries.now 0 items.now }
+{
+    let mut from: u64 = 0;
+    for item in items {
+        if !stands_from(entries, from, item) {
+            return false;
+        }
+        from = u64::from(item.place) + 1;
+    }
+    true
+}
+
+fn stands_from(entries: &[CtlEntry], from: u64, item: &CtlItem) -> bool
+    ensures { IsTrue result ↔ StandsFrom entries.now from item.now }
+{
+    from <= u64::from(item.place) && stands_at(entries.get(item.place as usize), item)
+}
+
+fn stands_at(found: Option<&CtlEntry>, item: &CtlItem) -> bool
+    ensures { IsTrue result ↔ StandsAt (option_map (λ e. e.now) found.entry) item.now }
+{
+    match found {
+        Some(entry) => is_of(entry, item),
+        None => false,
+    }
+}
+
+fn is_of(entry: &CtlEntry, item: &CtlItem) -> bool
+    ensures { IsTrue result ↔ IsOf entry.now item.now }
+{
+    let same_call = is_same_call(&entry.call, &item.call);
+    let same_reply = is_same_reply(&entry.reply, &item.reply);
+    same_call && same_reply
+}
+
+fn all_apart<N: Named>(passes: &[CtlPass<N>]) -> bool
+    ensures { result ≡ all_apart passes.now }
+{
+    match passes {
+        [] => true,
+        [first, rest @ ..] => apart_from(first, rest) && all_apart(rest),
+    }
+}
+
+fn apart_from<N: Named>(one: &CtlPass<N>, others: &[CtlPass<N>]) -> bool
+    ensures { result ≡ apart_from one.now others.now }
+{
+    for other in others {
+        if !apart(one.items(), other.items()) {
+            return false;
+        }
+    }
+    true
+}
+
+fn apart(one: &[CtlItem], other: &[CtlItem]) -> bool
+    ensures { result ≡ apart one.now other.now }
+{
+    for item in one {
+        if has_place(other, item.place) {
+            return false;
+        }
+    }
+    true
+}
+
+fn has_place(items: &[CtlItem], place: u32) -> bool
+    ensures { result ≡ has_place place items.now }
+{
+    for item in items {
+        if item.place == place {
+            return true;
+        }
+    }
+    false
+}

@@ -1,0 +1,241 @@
+//! The power controller that threads share.
+
+ghost use Rattle.std.specs.Prelude.{◌≡◌, ◌≤◌, ◌+◌, ◌<◌, [], length, IfOk, IfErr, OnOk, OnErr};
+ghost use Rattle.std.specs.Prelude.{MatchResult};
+ghost use Rattle.psci_board.specs.Board.{cores};
+ghost use Rattle.psci_ctl.specs.psci_ctl_spec.declared.call.CtlCall.TheVariants as calls;
+ghost use Rattle.psci_ctl.specs.psci_ctl_spec.declared.reply.CtlReply.TheVariants as replies;
+ghost use Rattle.psci_ctl.specs.psci_ctl_spec.Legal.{IsCall, IsSendable};
+ghost use Rattle.psci_shared_ctl.specs.Agree.{Agree};
+ghost use Rattle.psci_shared_ctl.specs.Gathers.{IsCause, items_of};
+ghost use Rattle.psci_shared_ctl.specs.Passes.{Fits, IsCalled, told};
+ghost use Rattle.psci_shared_ctl.specs.Places.{AllPlaced};
+
+use crate::agreement::agree;
+use crate::book::CtlBook;
+use crate::gather::{CtlBooks, CtlGatherFault};
+use crate::locked::CtlLocked;
+use crate::pass::CtlPass;
+use psci_ctl::{CtlCall, CtlReply, Delivery, Kick, Message, Start};
+use psci_shared::{Board, BookFull, Core, GatherCause, Memory, Named, PassFault, Tickets};
+use std::alloc::Global;
+use std::sync::ledger::Blank;
+use std::sync::{Mutex, Wait};
+
+/// How many passes are made of one power controller.
+const MOST_PASSES: u32 = 1000;
+
+/// A power controller that threads share: it is called by passes, under a lock.
+#[derive(Drop)]
+pub struct SharedController<'t, N: Named> {
+    locked: Mutex<CtlLocked<N>>,
+    tickets: &'t Tickets,
+    alloc: Global,
+    room: u32,
+}
+
+impl<'t, N: Named> SharedController<'t, N> {
+    /// A power controller of this board, with a book of so much room. Tickets are drawn of these.
+    pub fn new(
+        alloc: Global,
+        board: &Board,
+        room: u32,
+        tickets: &'t Tickets,
+        blank: Blank,
+    ) -> Result<SharedController<'t, N>, Memory>
+        requires board { board.now ≡ N.board }
+        requires name { blank.name ≡ N.name }
+        requires parts { (blank.parts ≡ N.parts) × (N.parts ≡ 1001) }
+    {
+        let book = CtlBook::new(alloc, board, room)?;
+        let locked = locked_of(book, blank);
+        Ok(SharedController {
+            locked: Mutex::new(locked),
+            tickets,
+            alloc,
+            room,
+        })
+    }
+
+    /// A pass, before the power controller is shared. It takes the memory of all its calls here.
+    pub fn pass(&mut self) -> Result<CtlPass<N>, PassFault>
+        ensures { IfOk result (λ p. p.items ≡ []) }
+    {
+        let SharedController {
+            locked,
+            tickets: _,
+            alloc,
+            room,
+        } = self;
+        new_pass(*alloc, locked.get_mut(), *room)
+    }
+
+    /// A message that can be sent on this board is delivered.
+    pub fn deliver<R: Wait>(
+        &self,
+        rt: &R,
+        pass: &mut CtlPass<N>,
+        message: &Message,
+    ) -> Result<Delivery, BookFull>
+        requires { IsSendable N.board message.now }
+        ensures ok { IfOk result (λ delivery. IsCalled pass.old pass.new
+            (calls.Deliver message.now) (replies.Delivery delivery)) }
+        ensures err { OnErr result (pass.new ≡ told pass.old) }
+    {
+        match self.call(rt, pass, CtlCall::Deliver(message.copy())) {
+            Ok(CtlReply::Delivery(delivery)) => Ok(delivery),
+            Ok(_) => unreachable!(),
+            Err(BookFull) => Err(BookFull),
+        }
+    }
+
+    /// A core that stopped in its start of this number has a wake-up event.
+    pub fn wake<R: Wait>(
+        &self,
+        rt: &R,
+        pass: &mut CtlPass<N>,
+        core: Core,
+        halted: u32,
+    ) -> Result<Kick, BookFull>
+        requires { core.number < cores N.board }
+        ensures ok { IfOk result (λ kick. IsCalled pass.old pass.new
+            (calls.Wake core halted) (replies.Kick kick)) }
+        ensures err { OnErr result (pass.new ≡ told pass.old) }
+    {
+        match self.call(rt, pass, CtlCall::Wake(core, halted)) {
+            Ok(CtlReply::Kick(kick)) => Ok(kick),
+            Ok(_) => unreachable!(),
+            Err(BookFull) => Err(BookFull),
+        }
+    }
+
+    /// A core is reset by itself.
+    pub fn reset<R: Wait>(
+        &self,
+        rt: &R,
+        pass: &mut CtlPass<N>,
+        core: Core,
+    ) -> Result<Kick, BookFull>
+        requires { core.number < cores N.board }
+        ensures ok { IfOk result (λ kick. IsCalled pass.old pass.new
+            (calls.Reset core) (replies.Kick kick)) }
+        ensures err { OnErr result (pass.new ≡ told pass.old) }
+    {
+        match self.call(rt, pass, CtlCall::Reset(core)) {
+            Ok(CtlReply::Kick(kick)) => Ok(kick),
+            Ok(_) => unreachable!(),
+            Err(BookFull) => Err(BookFull),
+        }
+    }
+
+    /// The last start of a core in this life, if there is a life and a start. Nothing is entered.
+    pub fn started<R: Wait>(&self, rt: &R, core: Core) -> Option<Start>
+        requires { core.number < cores N.board }
+    {
+        let locked = self.locked.lock(rt);
+        locked.book.started(core)
+    }
+
+    /// Gathers the passes with the book, in which each place then stands in one of them.
+    #[tactic(auto, using(crate::proofs::Placed::all_placed))]
+    pub fn gather(self, passes: Vec<CtlPass<N>>) -> Result<CtlBooks<N>, CtlGatherFault<N>>
+        ensures fault { IfErr result (λ f. IsCause f.cause (Agree f.locked.book f.passes.items)
+            (length f.passes.items) f.locked.made) }
+        ensures books { IfOk result (λ b. Agree b.book b.passes.items
+            × (length b.book.entries ≡ items_of b.passes.items)) }
+        ensures placed { IfOk result (λ b. AllPlaced b.book b.passes.items) }
+        ensures passes { MatchResult result
+            (λ b. b.passes.items ≡ passes.items) (λ f. f.passes.items ≡ passes.items) }
+    {
+        let mut passes = passes;
+        let mut locked = self.into_locked();
+        if !agree(&locked.book, &passes) {
+            return Err(CtlGatherFault {
+                cause: GatherCause::Astray,
+                locked,
+                passes,
+            });
+        }
+        let made = locked.count(&mut passes);
+        if (passes.len() as u64) < u64::from(made) {
+            return Err(CtlGatherFault {
+                cause: GatherCause::Missing,
+                locked,
+                passes,
+            });
+        }
+        Ok(CtlBooks {
+            book: locked.into_book(),
+            passes,
+        })
+    }
+
+    /// A call of this board, under the lock.
+    fn call<R: Wait>(
+        &self,
+        rt: &R,
+        pass: &mut CtlPass<N>,
+        call: CtlCall,
+    ) -> Result<CtlReply, BookFull>
+        requires { IsCall N.board call }
+        ensures ok { IfOk result (λ reply. IsCalled pass.old pass.new call reply) }
+        ensures fits { IfOk result (λ reply. Fits call reply) }
+        ensures err { OnErr result (pass.new ≡ told pass.old) }
+    {
+        let mut locked = self.locked.lock(rt);
+        let ticket = self.tickets.draw();
+        locked.call(ticket, pass, call)
+    }
+
+    /// What the lock guarded.
+    fn into_locked(self) -> CtlLocked<N> {
+        let SharedController {
+            locked,
+            tickets: _,
+            alloc: _,
+            room: _,
+        } = self;
+        locked.into_inner()
+    }
+}
+
+/// What the lock of a new power controller guards.
+fn locked_of<N: Named>(book: CtlBook<N>, blank: Blank) -> CtlLocked<N>
+    requires book { book.entries ≡ [] }
+    requires name { blank.name ≡ N.name }
+    requires parts { (blank.parts ≡ N.parts) × (N.parts ≡ 1001) }
+{
+    let (total, rest) = blank.open::<N>();
+    CtlLocked {
+        book,
+        made: 0,
+        total,
+        rest,
+    }
+}
+
+/// One pass more.
+fn new_pass<N: Named>(
+    alloc: Global,
+    locked: &mut CtlLocked<N>,
+    room: u32,
+) -> Result<CtlPass<N>, PassFault>
+    ensures pass { IfOk result (λ p. (p.items ≡ []) × (p.room ≡ room)) }
+    ensures made { OnOk result (locked.new.made ≡ locked.old.made + 1) }
+{
+    if locked.made == MOST_PASSES {
+        return Err(PassFault::TooMany);
+    }
+    let Ok(items) = Vec::with_capacity(alloc, room as usize) else {
+        return Err(PassFault::Memory);
+    };
+    let CtlLocked {
+        book: _,
+        made,
+        total: _,
+        rest,
+    } = locked;
+    let share = rest.split_off(1, 0);
+    *made += 1;
+    Ok(CtlPass::of(room, items, share))
+}

@@ -1,0 +1,142 @@
+//! Stories of one thread with its passes.
+
+use psci_fw::{Act, Cause, Code, FwFault, Regs, Start};
+use psci_shared::{Books, CallFault, Core, GatherCause, Named, Pass, PassFault, SharedFirmware};
+use std::alloc::Global;
+use std::sync::Wait;
+
+/// The boot core's first start.
+pub(crate) const FIRST: Start = Start {
+    life: 1,
+    number: 1,
+    cause: Cause::Boot,
+};
+
+/// PSCI_VERSION, which answers 65537.
+pub(crate) const VERSION: Regs = Regs {
+    x0: 0x8400_0000,
+    x1: 0,
+    x2: 0,
+    x3: 0,
+};
+
+/// The last core is asked on, with context id 7.
+pub(crate) const CPU_ON: Regs = Regs {
+    x0: 0xc400_0003,
+    x1: 0x101,
+    x2: 0x4000_1000,
+    x3: 7,
+};
+
+/// Core 0 enters at the board's boot address and calls, core 1 may not call; both are gathered, or
+/// core 0's pass alone.
+pub(crate) fn three_calls<N: Named, R: Wait>(
+    rt: &R,
+    alloc: Global,
+    mut shared: SharedFirmware<'_, N>,
+    both: bool,
+) -> Option<bool> {
+    let mut first = shared.pass(Core { number: 0 }).ok()?;
+    let mut second = shared.pass(Core { number: 1 }).ok()?;
+    let entered = shared.enter(rt, &mut first, FIRST).ok()?.act;
+    let called = shared.smc(rt, &mut first, VERSION).ok()?.act;
+    let refused = shared.smc(rt, &mut second, VERSION).err()?;
+    let enters = Act::Enter {
+        address: 0x4000_0000,
+        context: 0,
+    };
+    let right = entered == enters
+        && called == Act::Return(Code(65537))
+        && refused == CallFault::Fw(FwFault::NotRunning);
+    let mut passes = Vec::with_capacity(alloc, 2).ok()?;
+    passes.push(first).ok()?;
+    if both {
+        passes.push(second).ok()?;
+    }
+    match shared.gather(passes) {
+        Ok(books) => Some(right && both && has_places(&books)),
+        Err(fault) => Some(right && !both && fault.cause == GatherCause::Missing),
+    }
+}
+
+/// Whether the first pass has the places 0 and 1 and the second one place 2.
+fn has_places<N: Named>(books: &Books<N>) -> bool {
+    let [first, second] = books.passes.as_slice() else {
+        return false;
+    };
+    books.book.len() == 3 && places(first) == Some((0, 1)) && place(second) == Some(2)
+}
+
+fn places<N: Named>(pass: &Pass<N>) -> Option<(u32, u32)> {
+    match pass.items() {
+        [one, other] => Some((one.place, other.place)),
+        _ => None,
+    }
+}
+
+fn place<N: Named>(pass: &Pass<N>) -> Option<u32> {
+    match pass.items() {
+        [one] => Some(one.place),
+        _ => None,
+    }
+}
+
+/// A book with room for one entry takes one call, and no pass is made for a core of a larger board.
+pub(crate) fn full_books<N: Named, R: Wait>(
+    rt: &R,
+    alloc: Global,
+    mut shared: SharedFirmware<'_, N>,
+) -> Option<bool> {
+    let none = shared.pass(Core { number: 9 }).err()?;
+    let mut first = shared.pass(Core { number: 0 }).ok()?;
+    let entered = shared.enter(rt, &mut first, FIRST).is_ok();
+    let refused = shared.smc(rt, &mut first, VERSION).err()?;
+    let right = none == PassFault::NoCore && entered && refused == CallFault::BookFull;
+    let mut passes = Vec::with_capacity(alloc, 1).ok()?;
+    passes.push(first).ok()?;
+    let books = shared.gather(passes).ok()?;
+    Some(right && books.book.len() == 1)
+}
+
+/// A book without room refuses each call, and there are 1,000 passes at most.
+pub(crate) fn too_many<N: Named, R: Wait>(
+    rt: &R,
+    alloc: Global,
+    mut shared: SharedFirmware<'_, N>,
+) -> Option<bool> {
+    let mut passes = Vec::with_capacity(alloc, 1000).ok()?;
+    for _ in 0..1000u32 {
+        passes.push(shared.pass(Core { number: 0 }).ok()?).ok()?;
+    }
+    let none = shared.pass(Core { number: 0 }).err()?;
+    let mut one = passes.pop()?;
+    let refused = shared.smc(rt, &mut one, VERSION).err()?;
+    Some(none == PassFault::TooMany && refused == CallFault::BookFull)
+}
+
+/// A core is OFF, ON_PENDING once it is asked on, and ON once it has entered; a pass that made no
+/// call reads the same.
+pub(crate) fn statuses_are_read<N: Named, R: Wait>(
+    rt: &R,
+    mut shared: SharedFirmware<'_, N>,
+) -> Option<bool> {
+    let mut first = shared.pass(Core { number: 0 }).ok()?;
+    let mut other = shared.pass(Core { number: 1 }).ok()?;
+    let before = shared.affinity_core(&mut other, 0);
+    shared.enter(rt, &mut first, FIRST).ok()?;
+    let own = shared.affinity_core(&mut first, 0);
+    let off = shared.affinity_core(&mut first, 0x1);
+    let asked = shared.smc(rt, &mut first, CPU_ON).ok()?.act;
+    let pending = shared.affinity_core(&mut first, 0x101);
+    let seen = shared.affinity_core(&mut other, 0x101);
+    let nobody = shared.affinity_core(&mut other, 0x200);
+    Some(
+        before == Code(1)
+            && own == Code(0)
+            && off == Code(1)
+            && asked == Act::Return(Code(0))
+            && pending == Code(2)
+            && seen == Code(2)
+            && nobody == Code(-2),
+    )
+}

@@ -1,0 +1,161 @@
+-- Worked examples of the rule: a run that keeps it, and for each of its clauses one that breaks just
+-- that. Two cores have words; the first was OFF, ON_PENDING and ON, the other OFF alone. The first
+-- seat is the writer's, the second a reader's, and the third one that was taken in.
+use Rattle.std.proofs.lemmas.Bool.{false≢true}
+use Rattle.std.proofs.Common.{◌≡◌, inl, inr, ℕ, zero, suc, ◌<◌, List, [], ◌∷◌, length}
+use Rattle.std.proofs.Common.{true, false, refl, sym, ap, subst, arith}
+use mathlib.Core.Option.{some, some-ne-none, some-injective}
+use lib.ListN.{get_elem?}
+use Rattle.atomic_table.specs.Table.{State}
+use Rattle.psci_fw_spec.specs.declared.status.Status.{Status}
+use Rattle.psci_fw_spec.specs.declared.status.Status.TheVariants.{On, Off, Pending}
+use Rattle.psci_status.specs.declared.rule.View.{View}
+use Rattle.std.specs.Prelude.{slice_index}
+use Rattle.psci_status.specs.Lists.{IsWord, Item, Stands, Within, row}
+use Rattle.psci_status.specs.Rule.{Fits, Kept, begins, informed, nobody, note_of}
+
+-- A run that keeps it -----------------------------------------------------------------------------
+
+abbrev log : List (List Status)
+log = (On ∷ Pending ∷ Off ∷ []) ∷ (Off ∷ []) ∷ []
+
+-- the writer was told of the reader's items, and the reader has missed ON_PENDING
+abbrev items : List (List Item)
+items = ((2, On) ∷ (0, Off) ∷ []) ∷ ((0, Off) ∷ []) ∷ []
+
+abbrev writer : View
+writer = record { writer = true; log = log; seen = []; told = items }
+
+abbrev reader : View
+reader = record { writer = false; log = []; seen = items; told = [] }
+
+abbrev run : List ℕ → List View → State (Unit {0}) View
+run words views = record { words = words; homes = []; views = views }
+
+items_stand : (core : ℕ) → Within (row log core) (row items core)
+items_stand zero = (inl (refl, refl), omega arith, (inr (inr (inl (refl, refl))), tt, tt))
+items_stand (suc zero) = (inl (refl, refl), tt, tt)
+items_stand (suc (suc core)) = tt
+
+writer_fits : Fits 0 log 0 writer
+writer_fits = ((λ is. (refl, refl)), (λ core. tt), items_stand)
+
+reader_fits : Fits 0 log 1 reader
+reader_fits = ((λ is. absurd (false≢true is)), items_stand, (λ core. tt))
+
+nobody_fits : Fits 0 log 2 nobody
+nobody_fits = ((λ is. absurd (false≢true is)), (λ core. tt), (λ core. tt))
+
+kept : Kept 2 (run (8 ∷ 1 ∷ []) (writer ∷ reader ∷ nobody ∷ []))
+kept = record {
+  writer = 0;
+  log = log;
+  wide = refl;
+  long = refl;
+  words = words;
+  seats = seats;
+}
+  where
+    words : (core : ℕ) → core < 2 → IsWord (row log core) (slice_index (8 ∷ 1 ∷ []) core)
+    words zero h = refl
+    words (suc zero) h = refl
+    words (suc (suc core)) h = absurd (omega arith)
+
+    seats : (seat : ℕ) (v : View) → get_elem? (writer ∷ reader ∷ nobody ∷ []) seat ≡ some v
+        → Fits 0 log seat v
+    seats zero v e = subst (Fits 0 log 0) (some-injective _ _ e) writer_fits
+    seats (suc zero) v e = subst (Fits 0 log 1) (some-injective _ _ e) reader_fits
+    seats (suc (suc zero)) v e = subst (Fits 0 log 2) (some-injective _ _ e) nobody_fits
+    seats (suc (suc (suc seat))) v e = absurd (some-ne-none v (sym e))
+
+-- Runs that break one clause ----------------------------------------------------------------------
+
+-- the writer has all that was written, so its lists are the log
+the_log : (words : List ℕ) (views : List View) (k : Kept 2 (run words (writer ∷ views)))
+    → log ≡ k.log
+the_log words views k = ((k.seats 0 writer refl).0 refl).1
+
+-- a core has no word
+word_is_missing : Kept 2 (run (8 ∷ []) (writer ∷ [])) → ⊥
+word_is_missing k = let e : ◌≡◌ {A = ℕ} 1 2 = k.wide in omega arith
+
+-- nothing is said of what was written of a core
+log_is_short : Kept 3 (run (8 ∷ 1 ∷ 1 ∷ []) (writer ∷ [])) → ⊥
+log_is_short k =
+    let same : log ≡ k.log = ((k.seats 0 writer refl).0 refl).1 in
+    let e : ◌≡◌ {A = ℕ} 2 3 = subst (λ (l : List (List Status)). length l ≡ 3) (sym same) k.long in
+    omega arith
+
+-- a word holds the serial before the last
+word_is_late : Kept 2 (run (4 ∷ 1 ∷ []) (writer ∷ [])) → ⊥
+word_is_late k =
+    let e : ◌≡◌ {A = ℕ} 4 8 = subst (λ (l : List (List Status)). IsWord (row l 0) 4) (sym (the_log _ _ k))
+    (k.words 0 (omega arith)) in
+    omega arith
+
+-- a word holds another status than the last
+word_is_other : Kept 2 (run (8 ∷ 2 ∷ []) (writer ∷ [])) → ⊥
+word_is_other k =
+    let e : ◌≡◌ {A = ℕ} 2 1 = subst (λ (l : List (List Status)). IsWord (row l 1) 2) (sym (the_log _ _ k))
+    (k.words 1 (omega arith)) in
+    omega arith
+
+-- two seats write
+two_writers : Kept 2 (run (8 ∷ 1 ∷ []) (writer ∷ writer ∷ [])) → ⊥
+two_writers k =
+    let first : 0 ≡ k.writer = ((k.seats 0 writer refl).0 refl).0 in
+    let second : 1 ≡ k.writer = ((k.seats 1 writer refl).0 refl).0 in
+    omega arith
+
+-- the writer has something else than what was written
+writer_forgets : Fits 0 log 0 (record writer { log = (On ∷ Off ∷ []) ∷ (Off ∷ []) ∷ [] }) → ⊥
+writer_forgets f =
+    let e : ◌≡◌ {A = ℕ} 2 3 = ap (λ (l : List (List Status)). length (row l 0)) (f.0 refl).1 in
+    omega arith
+
+-- a reader has seen what was not written
+seen_unwritten : Fits 0 log 1 (record reader { seen = [] ∷ ((1, On) ∷ []) ∷ [] }) → ⊥
+seen_unwritten f = let stands : Stands (Off ∷ []) (1, On) = (f.1 1).0 in not_there stands
+  where
+    not_there : Stands (Off ∷ []) (1, On) → ⊥
+    not_there (inl is) = let e : ◌≡◌ {A = ℕ} 1 0 = is.0 in omega arith
+    not_there (inr other) = other
+
+-- serials that fall
+seen_backwards : Fits 0 log 1 (record reader { seen = ((0, Off) ∷ (2, On) ∷ []) ∷ [] }) → ⊥
+seen_backwards f = let e : 2 < 0 = (f.1 0).1 in omega arith
+
+-- the writer was told what was not written
+told_unwritten : Fits 0 log 0 (record writer { told = ((3, Off) ∷ []) ∷ [] }) → ⊥
+told_unwritten f =
+    let stands : Stands (On ∷ Pending ∷ Off ∷ []) (3, Off) = (f.2 0).0 in not_there stands
+  where
+    not_there : Stands (On ∷ Pending ∷ Off ∷ []) (3, Off) → ⊥
+    not_there (inl is) = let e : ◌≡◌ {A = ℕ} 3 2 = is.0 in omega arith
+    not_there (inr (inl is)) = let e : ◌≡◌ {A = ℕ} 3 1 = is.0 in omega arith
+    not_there (inr (inr (inl is))) = let e : ◌≡◌ {A = ℕ} 3 0 = is.0 in omega arith
+    not_there (inr (inr (inr other))) = other
+
+-- Views -------------------------------------------------------------------------------------------
+
+-- at the start OFF was written of each core
+at_the_start : begins 2 ≡ record {
+  writer = true;
+  log = (Off ∷ []) ∷ (Off ∷ []) ∷ [];
+  seen = [];
+  told = [];
+}
+at_the_start = refl
+
+-- a note of the writer has the last items, one of a reader what it has seen
+notes_of_both : (note_of writer).seen ∷ (note_of reader).seen ∷ []
+    ≡ (((2, On) ∷ []) ∷ ((0, Off) ∷ []) ∷ []) ∷ items ∷ []
+notes_of_both = refl
+
+-- a reader gains what a note of the writer has; the writer keeps what a reader's note says
+reader_is_informed : (informed (record reader { seen = ((0, Off) ∷ []) ∷ ((0, Off) ∷ []) ∷ [] })
+    (note_of writer)).seen ≡ items
+reader_is_informed = refl
+
+writer_is_informed : informed (record writer { told = [] }) (note_of reader) ≡ writer
+writer_is_informed = refl
