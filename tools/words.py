@@ -21,6 +21,8 @@ FUNCTIONS = {
     fw.SYSTEM_RESET: ("SYSTEM_RESET", lambda run, args: "", {}),
     fw.FEATURES: ("PSCI_FEATURES", lambda run, args: f"of {function_name(args[0] % 2**32)}",
                   {0: "there, no flags", 1: "there, flags 1", 3: "there, flags 3"}),
+    fw.NODE_HW_STATE: ("NODE_HW_STATE", lambda run, args: f"of {run.target(*args[:2])}",
+                       {0: "HW_ON", 1: "HW_OFF", 2: "HW_STANDBY"}),
     fw.SYSTEM_SUSPEND: ("SYSTEM_SUSPEND", lambda run, args: entry_words(*args[:2])[2:], {}),
     fw.SET_SUSPEND_MODE: ("PSCI_SET_SUSPEND_MODE",
                           lambda run, args: mode_words(args[0] % 2**32), {}),
