@@ -1,2 +1,3 @@
 mod AskedRows
+mod ColumnRows
 mod SaidRows

@@ -2,8 +2,8 @@
 
 use crate::domain::{SharesText, TargetText};
 use crate::names::{function_name, mode_name};
-use psci_board::Board;
 use psci_state::Ask;
+use psci_world::Board;
 use psci_world_spec::{Regs, Request, read};
 use std::fmt;
 
@@ -89,7 +89,7 @@ impl fmt::Display for EntryText {
 
 impl fmt::Display for StateText<'_> {
     ghost use Rattle.std.specs.Prelude.{Some};
-    ghost use Rattle.psci_board.specs.Board.{height};
+    ghost use Rattle.psci_world.specs.psci_board.Board.{height};
     ghost use Rattle.psci_state.specs.PowerState.{ask_of};
     ghost use Rattle.psci_show.specs.Words.{ask_text};
 

@@ -3,7 +3,7 @@
 ghost use Rattle.std.specs.Prelude.{◌≡◌};
 
 use crate::names::{depth_name, level_name};
-use psci_board::{Board, Node};
+use psci_world::{Board, Node};
 use std::fmt;
 
 /// A power domain of a board.
@@ -63,7 +63,7 @@ impl fmt::Display for NodeText<'_> {
 
 impl fmt::Display for TargetText<'_> {
     ghost use Rattle.std.specs.Prelude.{Some};
-    ghost use Rattle.psci_board.specs.Board.{node_of};
+    ghost use Rattle.psci_world.specs.psci_board.Board.{node_of};
     ghost use Rattle.psci_show.specs.Words.{target_text};
 
     ghost output = { λ text. Some (target_text text.board.now

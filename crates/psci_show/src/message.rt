@@ -5,7 +5,7 @@ ghost use Rattle.psci_show.specs.Words as words;
 
 use crate::domain::SharesText;
 use crate::names::kind_name;
-use psci_link::Message;
+use psci_world::Message;
 use psci_world_spec::{Kind, Part, Sent};
 use std::fmt;
 
@@ -45,7 +45,7 @@ fn is_of_core(kind: Kind) -> bool
 }
 
 /// The depth that the parts ask of a level, 0 where they ask none.
-fn depth_at(parts: &[Part], level: usize) -> u8
+pub fn depth_at(parts: &[Part], level: usize) -> u8
     ensures { result ≡ words.depth_at parts.now level }
 {
     parts.get(level).map(|part| part.depth).unwrap_or(0)

@@ -6,8 +6,7 @@ ghost use Rattle.psci_show.specs.Words as words;
 use crate::call::CallText;
 use crate::message::{MessageText, SentText};
 use crate::names::returned_name;
-use psci_board::Board;
-use psci_link::Message;
+use psci_world::{Board, Message};
 use psci_world_spec::{Act, Code, Event, Record, Request, Said, Sent, Taken, read};
 use std::fmt;
 
