@@ -79,6 +79,12 @@ refused : letters (on (call 3 0xc4000001 0 0 0 ∷ [])) ≡ codes "R..R"
 unfolding computing sleep_of
 refused = refl
 
+-- a core that is woken in a halting life stops as it enters, and is suspended no more
+woken_while_halting : letters (on (retention 3 ∷ system_off 0 ∷ Wake 3 ∷ Enter 3 ∷ []))
+    ≡ codes "g..g"
+unfolding computing sleep_of
+woken_while_halting = refl
+
 -- the system is off; and in the next life a core that was suspended in the last one is off
 without_life : letters (on (retention 3 ∷ system_off 0 ∷ Deliver 2 ∷ [])) ≡ codes "...."
 unfolding computing sleep_of
