@@ -176,6 +176,26 @@ version() {
     expect "--version with standard output closed" 4 "write fault"
 }
 
+# the name that was typed stands in help and in what is said of a faulty command line
+typed_name() {
+    ./psci --help > "$work/out" 2> "$work/err"
+    echo $? > "$work/got"
+    expect "./psci --help" 0
+    ./psci storm --seed 1 > "$work/all" 2>&1
+    ./psci storm --seeds 1..2 >> "$work/all" 2>&1
+    grep -h '^Usage: ' "$work/out" "$work/all" > "$work/usage"
+    cat > "$work/lines" << 'END'
+Usage: psci <COMMAND>
+Usage: psci storm --seed <seed> --count <count>
+Usage: psci storm --seed <seed> --count <count>
+END
+    for word in "storm --seeds" show draw prove; do
+        if grep -q "^  $word " "$work/out"; then pass; else fail "./psci --help without $word"; fi
+    done
+    mv "$work/usage" "$work/out"
+    answers "the name in usages"
+}
+
 # front_of FOLDER WORD..: runs a faulty script by the command ./psci of this folder
 front_of() {
     local at=$1 lines=tests/scripts/lines/event-of-no-form
@@ -295,8 +315,8 @@ kept_storms() {
 
 has_parallel() { command -v parallel > /dev/null || { skip "$1" parallel; false; }; }
 
-# storms of several seeds: each has its line, in order, also where two processors make them; known
-# lines, by which no part of a seed or of the count is cut
+# storms of several seeds: each has its line, in order, also where two jobs make them side by side;
+# known lines, by which no part of a seed or of the count is cut
 many_storms() {
     local seed
     : > "$work/lines"
@@ -308,6 +328,9 @@ many_storms() {
     echo $? > "$work/got"
     expect "storms of four seeds" 0
     answers "storms of four seeds"
+    seq 8 11 | xargs -P 2 -I{} sh -c 'echo seed {} "$("$0" storm --seed {} --count 300)"' "$program" |
+        sort -n -k 2 > "$work/out" 2> "$work/err"
+    answers "storms by two jobs"
     if has_parallel "storms by two processors"; then
         seq 8 11 | parallel --will-cite -k -j 2 \
             echo seed {} '$('"$program"' storm --seed {} --count 300)' > "$work/out" 2> "$work/err"

@@ -9,10 +9,12 @@ show() {
 
 # the stored examples in words, as wide as asked, and the legend
 shown() {
-    local name
+    local file name
     has_python shown || return
-    for name in late-acknowledgement wake-overtakes-down os-initiated-refusals; do
-        show < "examples/$name.psci"
+    for file in examples/{late-acknowledgement,wake-overtakes-down,os-initiated-refusals}.psci \
+        tests/scripts/calls/hw-standby.psci; do
+        name=$(basename "$file" .psci)
+        show < "$file"
         cp "tests/shown/$name.txt" "$work/lines"
         expect "show $name" 0
         answers "show $name"

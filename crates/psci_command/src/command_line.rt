@@ -74,9 +74,20 @@ or an event: `call CORE X0 [X1 [X2 [X3]]]` (an SMC of a core, with its registers
 gets message K) or `take K` (the firmware gets acknowledgement K). A fault of the script is named on
 standard error, with its line.";
 
+const BOARD_HELP: &str = "The board, as the first line of a script has it behind its first word";
+
+const SEED_HELP: &str =
+    "What the storm is drawn from, 0 to 18446744073709551615; a seed has one storm";
+
+const COUNT_HELP: &str = "How many events are drawn, 0 to 10000";
+
+const COUNTS_HELP: &str = "Write a line more for each tally, with how often it came";
+
+const KEEP_HELP: &str = "The file that the storm is written into, as a script";
+
 const EXAMPLE: &str = "Example:
   printf '%s\\n' 'board (2 2) exec 0x40000000-0x40100000 boot 0x40000000 starts 1000 lives 3' \\
-      'enter 0' 'call 0 0x84000000' | psci_cli replay
+      'enter 0' 'call 0 0x84000000' | ./psci replay
 writes
   1 enter 0x40000000 0x0
   2 return 65537
@@ -102,10 +113,15 @@ fn storm_command<'a>(alloc: Global) -> Result<Command<'a>, AllocError>
         .about("Make a storm of random events, and let it settle")
         .long_about(ABOUT_STORM)
         .arg(board(alloc))?
-        .arg(number(alloc, "seed", value_parser!(u64)))?
-        .arg(number(alloc, "count", value_parser!(u64).range(..=10_000)))?
-        .arg(flag(alloc, "counts"))?
-        .arg(text(alloc, "keep"))
+        .arg(number(alloc, "seed", SEED_HELP, value_parser!(u64)))?
+        .arg(number(
+            alloc,
+            "count",
+            COUNT_HELP,
+            value_parser!(u64).range(..=10_000),
+        ))?
+        .arg(flag(alloc, "counts", COUNTS_HELP))?
+        .arg(text(alloc, "keep", KEEP_HELP))
 }
 
 /// The commands of the program.
@@ -126,34 +142,41 @@ fn board<'a>(alloc: Global) -> Arg<'a>
     ensures rule { rule_of result ≡ board_rule }
     ensures local { result.global ≡ false }
 {
-    Arg::new(alloc, "board").long("board").default_value(BOARD)
+    Arg::new(alloc, "board")
+        .long("board")
+        .help(BOARD_HELP)
+        .default_value(BOARD)
 }
 
 /// A number that must be given, under this name.
-fn number<'a>(alloc: Global, name: &'a str, parser: ValueParser<'a>) -> Arg<'a>
+fn number<'a>(alloc: Global, name: &'a str, help: &'a str, parser: ValueParser<'a>) -> Arg<'a>
     ensures rule { rule_of result ≡ number_rule name.entry.now parser.entry }
     ensures local { result.global ≡ false }
 {
     Arg::new(alloc, name)
         .long(name)
+        .help(help)
         .required(true)
         .value_parser(parser)
 }
 
 /// A flag of this name, which may be left out.
-fn flag<'a>(alloc: Global, name: &'a str) -> Arg<'a>
+fn flag<'a>(alloc: Global, name: &'a str, help: &'a str) -> Arg<'a>
     ensures rule { rule_of result ≡ flag_rule name.entry.now }
     ensures local { result.global ≡ false }
 {
-    Arg::new(alloc, name).long(name).action(ArgAction::SetTrue)
+    Arg::new(alloc, name)
+        .long(name)
+        .help(help)
+        .action(ArgAction::SetTrue)
 }
 
 /// A text, which may be left out, under this name.
-fn text<'a>(alloc: Global, name: &'a str) -> Arg<'a>
+fn text<'a>(alloc: Global, name: &'a str, help: &'a str) -> Arg<'a>
     ensures rule { rule_of result ≡ text_rule name.entry.now }
     ensures local { result.global ≡ false }
 {
-    Arg::new(alloc, name).long(name)
+    Arg::new(alloc, name).long(name).help(help)
 }
 
 /// What these words ask for, the program's name first, or the parser's error.

@@ -1,0 +1,3 @@
+mod AskedRows
+mod ColumnRows
+mod SaidRows

@@ -1,0 +1,199 @@
+//! Calls, in words.
+
+use crate::domain::{SharesText, TargetText};
+use crate::names::{function_name, mode_name};
+use psci_state::Ask;
+use psci_world::Board;
+use psci_world_spec::{Regs, Request, read};
+use std::fmt;
+
+/// The function of a word.
+#[derive(Clone, Copy)]
+struct FunctionText(u64);
+
+/// Where a core enters.
+#[derive(Clone, Copy)]
+struct EntryText {
+    entry: u64,
+    context: u64,
+}
+
+/// The power state of a CPU_SUSPEND, and where the core enters again.
+#[derive(Clone, Copy)]
+struct StateText<'a> {
+    board: &'a Board,
+    state: u32,
+    back: EntryText,
+}
+
+/// The arguments of a call.
+#[derive(Clone, Copy)]
+struct ArgumentsText<'a> {
+    board: &'a Board,
+    request: Request,
+}
+
+/// A mode of PSCI_SET_SUSPEND_MODE.
+#[derive(Clone, Copy)]
+struct ModeText(u32);
+
+/// The call of a core with these registers.
+#[derive(Clone, Copy)]
+pub struct CallText<'a> {
+    /// The board.
+    pub board: &'a Board,
+    /// The number of the core.
+    pub core: u64,
+    /// The registers.
+    pub regs: Regs,
+}
+
+impl fmt::Display for FunctionText {
+    ghost use Rattle.std.specs.Prelude.{Some};
+    ghost use Rattle.psci_show.specs.Words.{function_text};
+
+    ghost output = { λ text. Some (function_text text.0) };
+
+    fn fmt<W: fmt::Write>(&self, f: &mut fmt::Formatter<W>) -> fmt::Result {
+        let alone = Regs {
+            x0: self.0,
+            x1: 0,
+            x2: 0,
+            x3: 0,
+        };
+        match function_name(read(alone)) {
+            Some(name) => write!(f, "{name}"),
+            None => {
+                let word = self.0 % (1 << 32);
+                write!(f, "unknown function 0x{word:x}")
+            }
+        }
+    }
+}
+
+impl fmt::Display for EntryText {
+    ghost use Rattle.std.specs.Prelude.{Some};
+    ghost use Rattle.psci_show.specs.Words.{entry_text};
+
+    ghost output = { λ text. Some (entry_text text.entry text.context) };
+
+    fn fmt<W: fmt::Write>(&self, f: &mut fmt::Formatter<W>) -> fmt::Result {
+        let EntryText { entry, context } = *self;
+        if context == 0 {
+            write!(f, "entry 0x{entry:x}")
+        } else {
+            write!(f, "entry 0x{entry:x}, context 0x{context:x}")
+        }
+    }
+}
+
+impl fmt::Display for StateText<'_> {
+    ghost use Rattle.std.specs.Prelude.{Some};
+    ghost use Rattle.psci_world.specs.psci_board.Board.{height};
+    ghost use Rattle.psci_state.specs.PowerState.{ask_of};
+    ghost use Rattle.psci_show.specs.Words.{ask_text};
+
+    ghost output = { λ text. Some (ask_text (height text.board.now)
+        (ask_of text.board.now.format (height text.board.now) text.state) text.state
+        text.back.entry text.back.context) };
+
+    fn fmt<W: fmt::Write>(&self, f: &mut fmt::Formatter<W>) -> fmt::Result {
+        let StateText { board, state, back } = *self;
+        let height = board.height();
+        let Ok(ask) = Ask::read(state, board.format(), height) else {
+            return write!(f, "to the faulty power state 0x{state:x}");
+        };
+        let depths = [ask.depth(0), ask.depth(1), ask.depth(2), ask.depth(3)];
+        let shares = SharesText { height, depths };
+        if ask.deep() {
+            write!(f, "to {shares}, {back}")
+        } else {
+            write!(f, "to {shares}")
+        }
+    }
+}
+
+impl fmt::Display for ModeText {
+    ghost use Rattle.std.specs.Prelude.{◌++◌, Some, codes};
+    ghost use Rattle.psci_show.specs.Names.{mode_name};
+    ghost use Rattle.psci_show.specs.Words.{hexadecimal, name_or};
+
+    ghost output = { λ text. Some (name_or (mode_name text.0)
+        (codes "unknown mode " ++ hexadecimal text.0)) };
+
+    fn fmt<W: fmt::Write>(&self, f: &mut fmt::Formatter<W>) -> fmt::Result {
+        match mode_name(self.0) {
+            Some(name) => write!(f, "{name}"),
+            None => write!(f, "unknown mode 0x{:x}", self.0),
+        }
+    }
+}
+
+impl fmt::Display for ArgumentsText<'_> {
+    ghost use Rattle.std.specs.Prelude.{Some};
+    ghost use Rattle.psci_show.specs.Words.{arguments_text};
+
+    ghost output = { λ text. Some (arguments_text text.board.now text.request) };
+
+    fn fmt<W: fmt::Write>(&self, f: &mut fmt::Formatter<W>) -> fmt::Result {
+        let board = self.board;
+        match self.request {
+            Request::CpuSuspend {
+                state,
+                entry,
+                context,
+            } => {
+                let back = EntryText { entry, context };
+                write!(f, " {}", StateText { board, state, back })
+            }
+            Request::CpuOn {
+                target: word,
+                entry,
+                context,
+            } => {
+                let target = TargetText {
+                    board,
+                    word,
+                    level: 0,
+                };
+                write!(f, " of {target}, {}", EntryText { entry, context })
+            }
+            Request::AffinityInfo {
+                target: word,
+                level,
+            }
+            | Request::NodeHwState {
+                target: word,
+                level,
+            } => write!(f, " of {}", TargetText { board, word, level }),
+            Request::Features { word } => write!(f, " of {}", FunctionText(u64::from(word))),
+            Request::SystemSuspend { entry, context } => {
+                write!(f, " {}", EntryText { entry, context })
+            }
+            Request::SetSuspendMode { mode } => write!(f, " {}", ModeText(mode)),
+            Request::SystemReset2 { reset_type, .. } => write!(f, " of type 0x{reset_type:x}"),
+            Request::Version
+            | Request::CpuOff
+            | Request::MigrateInfoType
+            | Request::SystemOff
+            | Request::SystemReset
+            | Request::Unknown => Ok(()),
+        }
+    }
+}
+
+impl fmt::Display for CallText<'_> {
+    ghost use Rattle.std.specs.Prelude.{Some};
+    ghost use Rattle.psci_show.specs.Words.{call_text};
+
+    ghost output = { λ text. Some (call_text text.board.now text.core text.regs) };
+
+    fn fmt<W: fmt::Write>(&self, f: &mut fmt::Formatter<W>) -> fmt::Result {
+        let function = FunctionText(self.regs.x0);
+        let arguments = ArgumentsText {
+            board: self.board,
+            request: read(self.regs),
+        };
+        write!(f, "core {} {function}{arguments}", self.core)
+    }
+}

@@ -1,0 +1,143 @@
+//! The one table of names.
+
+ghost use Rattle.std.specs.Prelude.{◌≡◌, option_map};
+ghost use Rattle.psci_show.specs.Names as names;
+
+use psci_world_spec::{Kind, Request};
+
+/// The name of a function, as the standard has it, or none of an unknown one.
+pub fn function_name(request: Request) -> Option<&'static str>
+    ensures { option_map (λ name. name.now) result ≡ names.function_name request }
+{
+    match request {
+        Request::Version => Some("PSCI_VERSION"),
+        Request::CpuSuspend { .. } => Some("CPU_SUSPEND"),
+        Request::CpuOff => Some("CPU_OFF"),
+        Request::CpuOn { .. } => Some("CPU_ON"),
+        Request::AffinityInfo { .. } => Some("AFFINITY_INFO"),
+        Request::MigrateInfoType => Some("MIGRATE_INFO_TYPE"),
+        Request::SystemOff => Some("SYSTEM_OFF"),
+        Request::SystemReset => Some("SYSTEM_RESET"),
+        Request::Features { .. } => Some("PSCI_FEATURES"),
+        Request::NodeHwState { .. } => Some("NODE_HW_STATE"),
+        Request::SystemSuspend { .. } => Some("SYSTEM_SUSPEND"),
+        Request::SetSuspendMode { .. } => Some("PSCI_SET_SUSPEND_MODE"),
+        Request::SystemReset2 { .. } => Some("SYSTEM_RESET2"),
+        Request::Unknown => None,
+    }
+}
+
+/// The name of a return code that is no value of a function.
+pub fn code_name(code: i32) -> Option<&'static str>
+    ensures { option_map (λ name. name.now) result ≡ names.code_name code }
+{
+    match code {
+        0 => Some("SUCCESS"),
+        -1 => Some("NOT_SUPPORTED"),
+        -2 => Some("INVALID_PARAMETERS"),
+        -3 => Some("DENIED"),
+        -4 => Some("ALREADY_ON"),
+        -5 => Some("ON_PENDING"),
+        -6 => Some("INTERNAL_FAILURE"),
+        -7 => Some("NOT_PRESENT"),
+        -8 => Some("DISABLED"),
+        -9 => Some("INVALID_ADDRESS"),
+        _ => None,
+    }
+}
+
+/// The status of a power domain.
+fn status_name(code: i32) -> Option<&'static str>
+    ensures { option_map (λ name. name.now) result ≡ names.status_name code }
+{
+    match code {
+        0 => Some("ON"),
+        1 => Some("OFF"),
+        2 => Some("ON_PENDING"),
+        _ => code_name(code),
+    }
+}
+
+/// The state of the hardware of a power domain.
+fn hw_name(code: i32) -> Option<&'static str>
+    ensures { option_map (λ name. name.now) result ≡ names.hw_name code }
+{
+    match code {
+        0 => Some("HW_ON"),
+        1 => Some("HW_OFF"),
+        2 => Some("HW_STANDBY"),
+        _ => code_name(code),
+    }
+}
+
+/// The flags of a function that is there.
+fn flags_name(code: i32) -> Option<&'static str>
+    ensures { option_map (λ name. name.now) result ≡ names.flags_name code }
+{
+    match code {
+        0 => Some("there, no flags"),
+        1 => Some("there, flags 1"),
+        3 => Some("there, flags 3"),
+        _ => code_name(code),
+    }
+}
+
+/// What a function returned, by name: a value of its own, or a code.
+pub fn returned_name(request: Request, code: i32) -> Option<&'static str>
+    ensures { option_map (λ name. name.now) result ≡ names.returned_name request code }
+{
+    match request {
+        Request::Version if code == 0x1_0001 => Some("version 1.1"),
+        Request::MigrateInfoType if code == 2 => Some("2, nothing to migrate"),
+        Request::AffinityInfo { .. } => status_name(code),
+        Request::NodeHwState { .. } => hw_name(code),
+        Request::Features { .. } => flags_name(code),
+        _ => code_name(code),
+    }
+}
+
+/// A mode of PSCI_SET_SUSPEND_MODE, if there is one of this number.
+pub fn mode_name(mode: u32) -> Option<&'static str>
+    ensures { option_map (λ name. name.now) result ≡ names.mode_name mode }
+{
+    match mode {
+        0 => Some("platform-coordinated"),
+        1 => Some("OS-initiated"),
+        _ => None,
+    }
+}
+
+/// A depth that is not 0.
+pub fn depth_name(depth: u8) -> &'static str
+    ensures { result.now ≡ names.depth_name depth }
+{
+    match depth {
+        1 => "standby",
+        2 => "retention",
+        _ => "power-down",
+    }
+}
+
+/// A level of a board of this height.
+pub fn level_name(height: u32, level: u32) -> &'static str
+    ensures { result.now ≡ names.level_name height level }
+{
+    match level {
+        0 => "core",
+        1 => "cluster",
+        2 if height == 3 => "group",
+        _ => "system",
+    }
+}
+
+/// What a message is.
+pub fn kind_name(kind: Kind) -> &'static str
+    ensures { result.now ≡ names.kind_name kind }
+{
+    match kind {
+        Kind::Down => "Down",
+        Kind::Start => "Start",
+        Kind::Off => "Off",
+        Kind::Reset => "Reset",
+    }
+}

@@ -1,0 +1,75 @@
+//! Which cores are suspended, and how deep.
+
+ghost use Rattle.std.specs.Prelude.{◌≡◌, ◌<◌, ◌==◌, ℕ, length};
+ghost use Rattle.std.specs.Prelude.{if◌then◌else◌, option_map};
+ghost use Rattle.psci_show.specs.Columns as columns;
+ghost use Rattle.psci_show.specs.Columns.{sleep_after, sleep_in};
+
+use crate::message::depth_at;
+use psci_world_spec::{Act, Event, Record, Request, Said, Sent, read};
+
+/// A suspended core: what it asked of itself, and in which life.
+#[derive(Clone, Copy, Debug, PartialEq, Eq)]
+pub struct Sleep {
+    /// 1 standby, 2 retention, 3 power-down.
+    pub depth: u8,
+    /// The life.
+    pub life: u32,
+}
+
+/// The sleep of each core after this record, by those before it. Before any record no core has one.
+pub fn note(sleeps: &mut [Option<Sleep>], item: &Record)
+    ensures length { length sleeps.new ≡ length sleeps.old }
+    ensures each { (c : ℕ) → c < length sleeps.old
+        → sleep_in sleeps.new c ≡ sleep_after c item.now (sleep_in sleeps.old c) }
+{
+    let Said::Fw { act, sent } = &item.said else {
+        return;
+    };
+    match &item.event {
+        Event::Call(core, regs) => {
+            set(sleeps, *core, sleep_by(read(*regs), act, sent.as_ref()));
+        }
+        Event::Enter(core) => set(sleeps, *core, None),
+        Event::Wake(_) | Event::Reset(_) | Event::Deliver(_) | Event::Take(_) => {}
+    }
+}
+
+/// Sets the sleep of the core of this number, if there is one.
+fn set(sleeps: &mut [Option<Sleep>], core: u64, sleep: Option<Sleep>)
+    ensures length { length sleeps.new ≡ length sleeps.old }
+    ensures each { (c : ℕ) → c < length sleeps.old
+        → sleep_in sleeps.new c ≡ (if c == core then sleep else sleep_in sleeps.old c) }
+{
+    let place = core as usize;
+    if place < sleeps.len() {
+        sleeps[place] = sleep;
+    }
+}
+
+/// Whether a function suspends its caller.
+fn is_suspend(request: Request) -> bool
+    ensures { result ≡ columns.is_suspend request }
+{
+    matches!(
+        request,
+        Request::CpuSuspend { .. } | Request::SystemSuspend { .. }
+    )
+}
+
+/// The sleep that a call leaves.
+fn sleep_by(request: Request, act: &Act, sent: Option<&Sent>) -> Option<Sleep>
+    ensures { result ≡ columns.sleep_by request act.now (option_map (λ s. s.now) sent.entry) }
+{
+    let Act::Stop = act else {
+        return None;
+    };
+    if !is_suspend(request) {
+        return None;
+    }
+    let message = &sent?.message;
+    Some(Sleep {
+        depth: depth_at(message.parts.as_slice(), 0),
+        life: message.life,
+    })
+}
