@@ -1,0 +1,4 @@
+pub mod Following
+pub mod Only
+pub mod Reading
+pub mod Telling
