@@ -50,13 +50,12 @@ pub record IsNext (b : BoardValue) (past : List Record) (e : Entry) : Type 0 whe
   pub event : Event
   pub told : IsTold b past event (legal b past event) e
 
--- by what is said of the event
-next : (b : BoardValue) (past : List Record) (e : Entry) (event : Event) (said : Said)
-    → legal b past event ≡ said → IsTold b past event said e → IsNext b past e
-next b past e event said says told = record {
-  event = event;
-  told = subst (λ (s : Said). IsTold b past event s e) (sym says) told;
-}
+-- what is said of the event is what is legal to say
+told_by : (b : BoardValue) (past : List Record) (e : Entry) (event : Event) (said : Said)
+    → legal b past event ≡ said → IsTold b past event said e
+    → IsTold b past event (legal b past event) e
+told_by b past e event said says told =
+    subst (λ (s : Said). IsTold b past event s e) (sym says) told
 
 -- Calls of the firmware ------------------------------------------------------------------------
 
@@ -112,22 +111,42 @@ take_answer : (b : BoardValue) (past : List Record) (c : ℕ) (ack : AckValue)
 unfolding answer
 take_answer b past c ack = refl
 
+pub call_next : (b : BoardValue) (past : List Record) (c : ℕ) (regs : Regs) (r : FwReply)
+    → MayAsk b (now_of b past) c (calls.Smc regs) r
+    → IsTold b past (Call c regs) (legal b past (Call c regs))
+    (Asked (asked c (calls.Smc regs) r))
+call_next b past c regs r may =
+    told_by b past _ (Call c regs) (said_of (length (sent past)) r)
+    (call_said b past c regs r may.0 may.1 may.3)
+    (call_told b past (length (sent past)) c regs r may.2)
+
+pub enter_next : (b : BoardValue) (past : List Record) (c : ℕ) (start : Start) (r : FwReply)
+    → MayAsk b (now_of b past) c (calls.Enter start) r
+    → IsTold b past (Enter c) (legal b past (Enter c)) (Asked (asked c (calls.Enter start) r))
+enter_next b past c start r may =
+    told_by b past _ (Enter c) (said_of (length (sent past)) r)
+    (enter_said b past c start r may.0 may.1 may.2 may.4)
+    (enter_told b past (length (sent past)) c start r may.2 may.3)
+
+-- whichever number the acknowledgement has
+pub take_next : (b : BoardValue) (past : List Record) (k c : ℕ) (ack : AckValue) (r : FwReply)
+    → indexed (acks past) k ≡ Some ack → MayAsk b (now_of b past) c (calls.Take ack) r
+    → IsTold b past (Take k) (legal b past (Take k)) (Asked (asked c (calls.Take ack) r))
+take_next b past k c ack r at may =
+    told_by b past _ (Take k) (Took (taken_by (firmware_values b past) ack))
+    (take_said b past k ack at)
+    (ack, at,
+    ap (λ (x : ℕ). asked x (calls.Take ack) r) may.0
+    ∙ ap (λ (x : FwReply). asked 0 (calls.Take ack) x) (may.2 ∙ take_answer b past c ack))
+
 ask_next : (b : BoardValue) (past : List Record) (c : ℕ) (call : FwCall) (r : FwReply)
     → MayAsk b (now_of b past) c call r → IsNext b past (Asked (asked c call r))
 ask_next b past c (calls.Smc regs) r may =
-    next b past _ (Call c regs) (said_of (length (sent past)) r)
-    (call_said b past c regs r may.0 may.1 may.3)
-    (call_told b past (length (sent past)) c regs r may.2)
+    record { event = Call c regs; told = call_next b past c regs r may }
 ask_next b past c (calls.Enter start) r may =
-    next b past _ (Enter c) (said_of (length (sent past)) r)
-    (enter_said b past c start r may.0 may.1 may.2 may.4)
-    (enter_told b past (length (sent past)) c start r may.2 may.3)
+    record { event = Enter c; told = enter_next b past c start r may }
 ask_next b past c (calls.Take ack) r may =
-    next b past _ (Take may.1.0) (Took (taken_by (firmware_values b past) ack))
-    (take_said b past may.1.0 ack may.1.1)
-    (ack, may.1.1,
-    ap (λ (x : ℕ). asked x (calls.Take ack) r) may.0
-    ∙ ap (λ (x : FwReply). asked 0 (calls.Take ack) x) (may.2 ∙ take_answer b past c ack))
+    record { event = Take may.1.0; told = take_next b past may.1.0 c ack r may.1.1 may }
 
 -- Calls of the power controller ----------------------------------------------------------------
 
@@ -138,14 +157,18 @@ delivery_told : (b : BoardValue) (past : List Record) (n k : ℕ) (m : MessageVa
 delivery_told b past n k m (deliveries.Applied ack) at = (m, at, refl)
 delivery_told b past n k m deliveries.Ignored at = (m, at, refl)
 
-deliver_next : (b : BoardValue) (past : List Record) (k : ℕ) (m : MessageValue) (r : CtlReply)
-    → indexed (sent past) k ≡ Some m → r ≡ reply b (controller_values b past) (asks.Deliver m)
-    → IsNext b past (Controlled (controlled (asks.Deliver m) r))
+-- whichever number the message has
+pub deliver_next : (b : BoardValue) (past : List Record) (k : ℕ) (m : MessageValue)
+    (r : CtlReply) → indexed (sent past) k ≡ Some m
+    → MayControl b (now_of b past) (asks.Deliver m) r
+    → IsTold b past (Deliver k) (legal b past (Deliver k))
+    (Controlled (controlled (asks.Deliver m) r))
 unfolding legal reply
-deliver_next b past k m r at e =
+deliver_next b past k m r at may =
     let d : Delivery = delivery_of b (controller_values b past) m in
-    subst (λ (x : CtlReply). IsNext b past (Controlled (controlled (asks.Deliver m) x))) (sym e)
-    (next b past _ (Deliver k) (said_by (length (acks past)) (replied.Delivery d))
+    subst (λ (x : CtlReply). IsTold b past (Deliver k) (deliver b past (indexed (sent past) k))
+    (Controlled (controlled (asks.Deliver m) x))) (sym may.1)
+    (told_by b past _ (Deliver k) (said_by (length (acks past)) (replied.Delivery d))
     (ap (deliver b past) at) (delivery_told b past (length (acks past)) k m d at))
 
 wake_told : (b : BoardValue) (past : List Record) (n c halted : ℕ) (k : KickReply)
@@ -157,32 +180,33 @@ wake_told b past n c halted (kicks.Started start) e =
     (replied.Kick (kicks.Started start))) e
 wake_told b past n c halted kicks.Ignored e = (halted, λ stopped. e, refl)
 
-wake_next : (b : BoardValue) (past : List Record) (c halted : ℕ) (r : CtlReply) (p : Place)
+wake_at : (b : BoardValue) (past : List Record) (c halted : ℕ) (r : CtlReply) (p : Place)
     → c < cores b → place b past c ≡ p
     → MayWake p halted ((controller_values b past).starts c) r
     (reply b (controller_values b past) (asks.Wake (record { number = c }) halted))
-    → IsNext b past (Controlled (controlled (asks.Wake (record { number = c }) halted) r))
+    → IsTold b past (Wake c) (legal b past (Wake c))
+    (Controlled (controlled (asks.Wake (record { number = c }) halted) r))
 unfolding legal reply
-wake_next b past c halted r Stopped on at may =
+wake_at b past c halted r Stopped on at may =
     let starts : ℕ = (controller_values b past).starts c in
     let woken : ℕ → KickReply = wake_of b (controller_values b past) c in
-    subst (λ (x : CtlReply). IsNext b past
+    subst (λ (x : CtlReply). IsTold b past (Wake c) (legal b past (Wake c))
     (Controlled (controlled (asks.Wake (record { number = c }) halted) x))) (sym may.1)
-    (next b past _ (Wake c) (said_by (length (acks past)) (replied.Kick (woken halted)))
+    (told_by b past _ (Wake c) (said_by (length (acks past)) (replied.Kick (woken halted)))
     (on_core b c _ on
     ∙ ap (λ (x : Place). if_stopped x
     (said_by (length (acks past)) (replied.Kick (woken starts)))) at
     ∙ ap (λ (x : ℕ). said_by (length (acks past)) (replied.Kick (woken x))) (sym may.0))
     (wake_told b past (length (acks past)) c halted (woken halted) may.0))
-wake_next b past c halted r Started on at may =
-    next b past _ (Wake c) Ignored
+wake_at b past c halted r Started on at may =
+    told_by b past _ (Wake c) Ignored
     (on_core b c _ on ∙ ap (λ (x : Place). if_stopped x (said_by (length (acks past))
     (replied.Kick (wake_of b (controller_values b past) c
     ((controller_values b past).starts c))))) at)
     (halted, λ stopped. absurd (let f : Started ≡ Stopped = sym at ∙ stopped in cc),
     ap (λ (x : CtlReply). controlled (asks.Wake (record { number = c }) halted) x) may)
-wake_next b past c halted r Running on at may =
-    next b past _ (Wake c) Ignored
+wake_at b past c halted r Running on at may =
+    told_by b past _ (Wake c) Ignored
     (on_core b c _ on ∙ ap (λ (x : Place). if_stopped x (said_by (length (acks past))
     (replied.Kick (wake_of b (controller_values b past) c
     ((controller_values b past).starts c))))) at)
@@ -195,23 +219,33 @@ reset_told : (b : BoardValue) (past : List Record) (n c : ℕ) (k : KickReply)
 reset_told b past n c (kicks.Started start) = refl
 reset_told b past n c kicks.Ignored = refl
 
-reset_next : (b : BoardValue) (past : List Record) (c : ℕ) (r : CtlReply) → c < cores b
-    → r ≡ reply b (controller_values b past) (asks.Reset (record { number = c }))
-    → IsNext b past (Controlled (controlled (asks.Reset (record { number = c })) r))
+pub wake_next : (b : BoardValue) (past : List Record) (c halted : ℕ) (r : CtlReply)
+    → MayControl b (now_of b past) (asks.Wake (record { number = c }) halted) r
+    → IsTold b past (Wake c) (legal b past (Wake c))
+    (Controlled (controlled (asks.Wake (record { number = c }) halted) r))
+wake_next b past c halted r may = wake_at b past c halted r (place b past c) may.0 refl may.1
+
+pub reset_next : (b : BoardValue) (past : List Record) (c : ℕ) (r : CtlReply)
+    → MayControl b (now_of b past) (asks.Reset (record { number = c })) r
+    → IsTold b past (Reset c) (legal b past (Reset c))
+    (Controlled (controlled (asks.Reset (record { number = c })) r))
 unfolding legal reply
-reset_next b past c r on e =
+reset_next b past c r may =
     let k : KickReply = reset_of b (controller_values b past) c in
-    subst (λ (x : CtlReply). IsNext b past
-    (Controlled (controlled (asks.Reset (record { number = c })) x))) (sym e)
-    (next b past _ (Reset c) (said_by (length (acks past)) (replied.Kick k)) (on_core b c _ on)
+    subst (λ (x : CtlReply). IsTold b past (Reset c) (legal b past (Reset c))
+    (Controlled (controlled (asks.Reset (record { number = c })) x))) (sym may.1)
+    (told_by b past _ (Reset c) (said_by (length (acks past)) (replied.Kick k))
+    (on_core b c _ may.0)
     (reset_told b past (length (acks past)) c k))
 
 control_next : (b : BoardValue) (past : List Record) (call : CtlCall) (r : CtlReply)
     → MayControl b (now_of b past) call r → IsNext b past (Controlled (controlled call r))
-control_next b past (asks.Deliver m) r may = deliver_next b past may.0.0 m r may.0.1 may.1
+control_next b past (asks.Deliver m) r may =
+    record { event = Deliver may.0.0; told = deliver_next b past may.0.0 m r may.0.1 may }
 control_next b past (asks.Wake core halted) r may =
-    wake_next b past core.number halted r (place b past core.number) may.0 refl may.1
-control_next b past (asks.Reset core) r may = reset_next b past core.number r may.0 may.1
+    record { event = Wake core.number; told = wake_next b past core.number halted r may }
+control_next b past (asks.Reset core) r may =
+    record { event = Reset core.number; told = reset_next b past core.number r may }
 
 -- All calls ------------------------------------------------------------------------------------
 
