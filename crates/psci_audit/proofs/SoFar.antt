@@ -2,7 +2,8 @@
 use Rattle.std.proofs.Common.{◌≡◌, ℕ, ◌+◌, Bool, true, false, cond, List, [], ◌∷◌, ◌++◌, length}
 use Rattle.std.proofs.Common.{map, reverse, refl, ap, sym, ◌∙◌, subst, arith}
 use Rattle.std.specs.Prelude.{nat_lt}
-use Rattle.std.proofs.lemmas.List.{append-nil, append_assoc, reverse-append, reverse-reverse}
+use Rattle.std.proofs.lemmas.List.{append-nil, append_assoc, length-reverse, reverse-append}
+use Rattle.std.proofs.lemmas.List.{reverse-reverse}
 use Rattle.psci_world_spec.specs.psci_board.Board.{BoardValue}
 use Rattle.psci_world_spec.specs.declared.said.Record.{Record}
 use Rattle.psci_shared.specs.declared.entry.FwEntry.{FwEntry}

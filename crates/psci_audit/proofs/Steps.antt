@@ -57,27 +57,31 @@ Next old event e =
     MayBe old.board (now_of old.board old.past) e
     → IsTold old.board old.past event (legal old.board old.past event) e
 
+-- what a test denies
+pub not_so : {P : Type 0} → (P → IsTrue false) → P → ⊥
+not_so f p = let e : IsTrue false = f p in cc
+
 step : (old new : WorldValue) (event : Event) (e : Entry) (r : Record) (may : Bool)
     (Says : Type 0) → Happened old new event r → (IsTrue may ↔ Says)
     → (Says ↔ IsTold old.board old.past event r.said e) → Next old event e
     → IsStep old new e may
-step old new event e r true Says is tested says next entries tells =
+step old new event e r true Says is tested says next = λ entries tells.
     let said : r.said ≡ legal old.board old.past event = ap (λ (x : Record). x.said) is.0 in
     let same : r.event ≡ event = ap (λ (x : Record). x.event) is.0 in
-    let told : IsTold old.board old.past event r.said e = says.0 (tested.0 tt) in
+    let told : IsTold old.board old.past event r.said e = says.0 (tested.0 refl) in
     (may_follow old.board old.past entries event r.said e tells said told,
     subst (λ (past : List Record). Tells old.board past (e ∷ entries)) (sym is.1)
     (subst (λ (x : Event). IsTold old.board old.past x r.said e) (sym same) told, tells))
-step old new event e r false Says is tested says next entries tells follow =
+step old new event e r false Says is tested says next = λ entries tells follow.
     let said : r.said ≡ legal old.board old.past event = ap (λ (x : Record). x.said) is.0 in
-    tested.1 (says.1 (subst (λ (s : Said). IsTold old.board old.past event s e) (sym said)
+    not_so tested.1 (says.1 (subst (λ (s : Said). IsTold old.board old.past event s e) (sym said)
     (next (follows old.board old.past entries e tells follow))))
 
 -- an entry that can't be there may not follow
 never : (old new : WorldValue) (e : Entry)
     → (MayBe old.board (now_of old.board old.past) e → ⊥) → IsStep old new e false
-never old new e no entries tells follow =
-    no (follows old.board old.past entries e tells follow)
+never old new e cannot entries tells follow =
+    cannot (follows old.board old.past entries e tells follow)
 
 -- Calls of the firmware ------------------------------------------------------------------------
 
@@ -123,12 +127,12 @@ entered old new c start r rec may last is tested =
 
 pub enters_nowhere : (old new : WorldValue) (c : ℕ) (start : Start) (r : FwReply)
     → (c < cores old.board → ⊥) → IsStep old new (Asked (asked c (calls.Enter start) r)) false
-enters_nowhere old new c start r no = never old new _ (λ may. no may.0)
+enters_nowhere old new c start r cannot = never old new _ (λ may. cannot may.0)
 
 pub enters_late : (old new : WorldValue) (c : ℕ) (start : Start) (r : FwReply)
     → (last_start (controller_values old.board old.past) c ≡ Some start → ⊥)
     → IsStep old new (Asked (asked c (calls.Enter start) r)) false
-enters_late old new c start r no = never old new _ (λ may. no may.2)
+enters_late old new c start r cannot = never old new _ (λ may. cannot may.2)
 
 take_says : (b : BoardValue) (past : List Record) (k : ℕ) (ack : AckValue) (r : FwReply)
     (s : Said) → indexed (acks past) k ≡ Some ack
@@ -255,7 +259,7 @@ woken old new core halted r rec may last is tested =
 pub wakes_nowhere : (old new : WorldValue) (core : Core) (halted : ℕ) (r : CtlReply)
     → (core.number < cores old.board → ⊥)
     → IsStep old new (Controlled (controlled (asks.Wake core halted) r)) false
-wakes_nowhere old new core halted r no = never old new _ (λ may. no may.0)
+wakes_nowhere old new core halted r cannot = never old new _ (λ may. cannot may.0)
 
 last_of : (p : Place) (halted starts : ℕ) (r answered : CtlReply)
     → MayWake p halted starts r answered → p ≡ Stopped → halted ≡ starts
@@ -266,5 +270,5 @@ last_of Running halted starts r answered may e = absurd (cc)
 pub wakes_late : (old new : WorldValue) (core : Core) (halted : ℕ) (r : CtlReply)
     → (MayBeWoken old core.number halted → ⊥)
     → IsStep old new (Controlled (controlled (asks.Wake core halted) r)) false
-wakes_late old new core halted r no =
-    never old new _ (λ may. no (last_of (place old.board old.past core.number) halted _ r _ may.1))
+wakes_late old new core halted r cannot =
+    never old new _ (λ may. cannot (last_of (place old.board old.past core.number) halted _ r _ may.1))

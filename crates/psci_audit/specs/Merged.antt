@@ -122,4 +122,4 @@ is_asked_first (f ∷ fs) (c ∷ cs) = nat_lt f.ticket c.ticket
 abbrev pub IsFollowed : Result Bool NoMemory → ℕ → Result (Unit {0}) AuditFault → Type 0
 IsFollowed (Ok true) place r = r ≡ Ok tt
 IsFollowed (Ok false) place r = r ≡ Err (Illegal place)
-IsFollowed (Err no) place r = r ≡ Err Memory
+IsFollowed (Err out) place r = r ≡ Err Memory

@@ -1,7 +1,7 @@
 //! A message or an acknowledgement is looked for among all so far. What was made last is looked at
 //! first: it is what most often comes next.
 
-ghost use Rattle.std.specs.Prelude.{◌≡◌, ℕ, MatchOption, Some, slice_get};
+ghost use Rattle.std.specs.Prelude.{◌≡◌, ◌↔◌, ℕ, IsTrue, MatchOption, Some, slice_get};
 
 use psci_shared::is_same_message;
 use psci_world::{Ack, Message};
@@ -31,9 +31,16 @@ pub(crate) fn find_ack(acks: &[Ack], ack: &Ack) -> Option<u64>
     let mut left = acks.len();
     while left > 0 {
         left -= 1;
-        if acks[left] == *ack {
+        if is_same_ack(&acks[left], ack) {
             return Some(left as u64);
         }
     }
     None
+}
+
+/// Whether two acknowledgements are one.
+fn is_same_ack(one: &Ack, other: &Ack) -> bool
+    ensures { IsTrue result ↔ one.now ≡ other.now }
+{
+    one == other
 }

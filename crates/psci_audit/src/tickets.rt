@@ -11,7 +11,13 @@ use psci_shared_ctl::CtlEntry;
 pub(crate) fn tickets_fit(firmware: &[FwEntry], controller: &[CtlEntry]) -> bool
     ensures { IsTrue result ↔ TicketsFit firmware.now controller.now }
 {
-    firmware_rises(firmware) && controller_rises(controller) && are_apart(firmware, controller)
+    if !firmware_rises(firmware) {
+        return false;
+    }
+    if !controller_rises(controller) {
+        return false;
+    }
+    are_apart(firmware, controller)
 }
 
 fn is_after(last: Option<u64>, ticket: u64) -> bool
