@@ -52,7 +52,7 @@ abbrev pub tail : {A : Type 0} → List A → List A
 tail xs = take (length xs - 1) (drop 1 xs)
 
 all_taken : {A : Type 0} (n : ℕ) (xs : List A) → n ≡ length xs → take n xs ≡ xs
-all_taken n xs e = rw e take-length
+all_taken n xs e = rw e (take-length xs)
 
 pub parts : {A : Type 0} (xs : List A) (x : A) → 0 < length xs → x ≡ get_or xs 0 x
     → xs ≡ x ∷ tail xs

@@ -119,7 +119,7 @@ is_asked_first (f ∷ fs) [] = true
 is_asked_first (f ∷ fs) (c ∷ cs) = nat_lt f.ticket c.ticket
 
 -- an entry at some place may follow, or why the audit ends with it
-abbrev pub IsFollowed : Result Bool NoMemory → ℕ → Result (Unit {0}) AuditFault → Type 0
-IsFollowed (Ok true) place r = r ≡ Ok tt
-IsFollowed (Ok false) place r = r ≡ Err (Illegal place)
-IsFollowed (Err out) place r = r ≡ Err Memory
+abbrev pub IsFollowed : Result Bool NoMemory → ℕ → Option AuditFault → Type 0
+IsFollowed (Ok true) place fault = fault ≡ None
+IsFollowed (Ok false) place fault = fault ≡ Some (Illegal place)
+IsFollowed (Err out) place fault = fault ≡ Some Memory

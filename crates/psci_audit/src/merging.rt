@@ -58,26 +58,30 @@ fn follow_all(
                 return Ok(place as u64);
             };
             asked = rest;
-            judged(follow_firmware(world, entry), place as u64)?;
+            if let Some(fault) = fault_of(follow_firmware(world, entry), place as u64) {
+                return Err(fault);
+            }
         } else {
             let [entry, rest @ ..] = controlled else {
                 return Ok(place as u64);
             };
             controlled = rest;
-            judged(follow_controller(world, entry), place as u64)?;
+            if let Some(fault) = fault_of(follow_controller(world, entry), place as u64) {
+                return Err(fault);
+            }
         }
     }
     Ok(total as u64)
 }
 
-/// The fault of an entry at this place that may not follow, or that memory did not suffice for.
-fn judged(followed: Result<bool, Memory>, place: u64) -> Result<(), AuditFault>
+/// The fault of the entry at this place, if it may not follow or memory ran out.
+fn fault_of(followed: Result<bool, Memory>, place: u64) -> Option<AuditFault>
     ensures { IsFollowed followed place result }
 {
     match followed {
-        Ok(true) => Ok(()),
-        Ok(false) => Err(AuditFault::Illegal(place)),
-        Err(Memory) => Err(AuditFault::Memory),
+        Ok(true) => None,
+        Ok(false) => Some(AuditFault::Illegal(place)),
+        Err(Memory) => Some(AuditFault::Memory),
     }
 }
 

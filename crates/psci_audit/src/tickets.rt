@@ -63,7 +63,10 @@ fn are_apart(firmware: &[FwEntry], controller: &[CtlEntry]) -> bool
 {
     let mut ones = firmware;
     let mut others = controller;
-    while let ([one, after @ ..], [other, rest @ ..]) = (ones, others) {
+    while let [one, after @ ..] = ones {
+        let [other, rest @ ..] = others else {
+            return true;
+        };
         if one.ticket == other.ticket {
             return false;
         }
