@@ -2,22 +2,23 @@
 use Rattle.std.proofs.Common.{◌≡◌, ℕ, ◌+◌, Bool, true, false, cond, List, [], ◌∷◌, ◌++◌, length}
 use Rattle.std.proofs.Common.{map, reverse, refl, ap, sym, ◌∙◌, subst, arith}
 use Rattle.std.proofs.Common.{Option, None, Some, Result, Ok, Err}
-use Rattle.std.specs.Prelude.{IfOk, nat_lt, unwrap_or}
+use Rattle.std.specs.Prelude.{IfOk, OnOk, nat_lt, unwrap_or}
 use Rattle.std.proofs.lemmas.List.{append-nil, append_assoc, length-reverse, reverse-append}
 use Rattle.std.proofs.lemmas.List.{reverse-reverse}
-use Rattle.psci_world_spec.specs.psci_board.Board.{BoardValue}
+use Rattle.psci_world_spec.specs.psci_board.Board.{BoardValue, IsBoard}
 use Rattle.psci_world_spec.specs.declared.said.Record.{Record}
 use Rattle.psci_shared.specs.declared.entry.FwEntry.{FwEntry}
 use Rattle.psci_shared_ctl.specs.declared.entry.CtlEntry.{CtlEntry}
 use Rattle.psci_world.specs.Seen.{WorldValue}
 use Rattle.psci_audit_spec.specs.Entries.{Entry}
 use Rattle.psci_audit_spec.specs.Legal.{IsLegal}
-use Rattle.psci_audit_spec.specs.Told.{Tells}
+use Rattle.psci_audit_spec.specs.Told.{IsListOfSafe, Tells}
 use Rattle.psci_audit.specs.Following.{IsStep}
 use Rattle.psci_world.specs.psci_board.declared.memory.Memory.{Memory as NoMemory}
 use Rattle.psci_audit.specs.declared.fault.AuditFault.{AuditFault}
 use Rattle.psci_audit.specs.Merged.{IsFirstIllegal, IsFollowed, IsJudged, asked_by}
-use Rattle.psci_audit.specs.Merged.{controlled_by, is_asked_first, merged, put_in}
+use Rattle.psci_audit.specs.Merged.{controlled_by, history_of, is_asked_first, merged}
+use Rattle.psci_audit.specs.Merged.{put_in}
 use Rattle.psci_audit.proofs.Apart.{tail}
 
 pub merged_asked : (f : FwEntry) (fs : List FwEntry) (cs : List CtlEntry)
@@ -187,6 +188,41 @@ stops_controlled b all old new fs cs n c r fault is e first step some =
     (stops all (merged fs cs) (merged fs (tail cs)) (controlled_by c) old new n r fault
     (at_board b all old fs cs n is) (left_controlled fs cs c e first) step some)
 
+-- What holds after an entry, and how much is left.
+abbrev IsAfter : BoardValue → List Entry → WorldValue → List FwEntry → List CtlEntry → ℕ → ℕ
+    → Type 0
+IsAfter b all w fs cs n total =
+    IsBetween b all w fs cs (n + 1) × (length fs + length cs + (n + 1) ≡ total)
+
+one_less : {A : Type 0} (xs : List A) (x : A) → xs ≡ x ∷ tail xs → length xs ≡ length (tail xs) + 1
+one_less xs x e = ap length e ∙ omega arith
+
+pub after_asked : (b : BoardValue) (all : List Entry) (old new now : WorldValue)
+    (fs gs : List FwEntry) (cs ds : List CtlEntry) (n total : ℕ) (f : FwEntry)
+    (r : Result Bool NoMemory) → now ≡ new → gs ≡ tail fs → ds ≡ cs
+    → IsBetween b all old fs cs n → length fs + length cs + n ≡ total
+    → new.board ≡ old.board → fs ≡ f ∷ tail fs → is_asked_first fs cs ≡ true
+    → Judges old new (asked_by f) r → IsFollowed r n None → IsAfter b all now gs ds n total
+after_asked b all old new now fs gs cs ds n total f r w a c is left same e first step none =
+    subst (λ (x : WorldValue). IsAfter b all x gs ds n total) (sym w)
+    (subst (λ (x : List FwEntry). IsAfter b all new x ds n total) (sym a)
+    (subst (λ (x : List CtlEntry). IsAfter b all new (tail fs) x n total) (sym c)
+    (next_asked b all old new fs cs n f r is same e first step none,
+    omega (arith, left, one_less fs f e))))
+
+pub after_controlled : (b : BoardValue) (all : List Entry) (old new now : WorldValue)
+    (fs gs : List FwEntry) (cs ds : List CtlEntry) (n total : ℕ) (c : CtlEntry)
+    (r : Result Bool NoMemory) → now ≡ new → gs ≡ fs → ds ≡ tail cs
+    → IsBetween b all old fs cs n → length fs + length cs + n ≡ total
+    → new.board ≡ old.board → cs ≡ c ∷ tail cs → is_asked_first fs cs ≡ false
+    → Judges old new (controlled_by c) r → IsFollowed r n None → IsAfter b all now gs ds n total
+after_controlled b all old new now fs gs cs ds n total c r w a d is left same e first step none =
+    subst (λ (x : WorldValue). IsAfter b all x gs ds n total) (sym w)
+    (subst (λ (x : List FwEntry). IsAfter b all new x ds n total) (sym a)
+    (subst (λ (x : List CtlEntry). IsAfter b all new fs x n total) (sym d)
+    (next_controlled b all old new fs cs n c r is same e first step none,
+    omega (arith, left, one_less cs c e))))
+
 -- The end --------------------------------------------------------------------------------------
 
 no_entries : (fs : List FwEntry) (cs : List CtlEntry) → length fs + length cs ≡ 0
@@ -212,3 +248,16 @@ pub ended : (b : BoardValue) (all : List Entry) (w : WorldValue) (fs : List FwEn
 ended b all w fs cs n m is none same =
     let end = whole b all (merged fs cs) w.past n is.so_far (no_entries fs cs none) in
     (end.0, end.1 ∙ same)
+
+-- a list that is judged legal is the list of a safe run
+pub safe : (w b : BoardValue) (fs gs : List FwEntry) (cs ds : List CtlEntry)
+    (r : Result ℕ AuditFault) → w ≡ b → fs ≡ gs → cs ≡ ds → IsBoard w
+    → IsJudged w (merged fs cs) r
+    → ((entries : List Entry) → IsBoard b → IsLegal b entries → IsListOfSafe b entries)
+    → OnOk r (IsListOfSafe b (history_of gs ds))
+safe w b fs gs cs ds (Ok n) board same also is judged law =
+    law (history_of gs ds) (subst IsBoard board is)
+    (subst (λ (x : BoardValue). IsLegal x (history_of gs ds)) board
+    (subst (λ (l : List CtlEntry). IsLegal w (history_of gs l)) also
+    (subst (λ (l : List FwEntry). IsLegal w (history_of l cs)) same judged.0)))
+safe w b fs gs cs ds (Err fault) board same also is judged law = tt
