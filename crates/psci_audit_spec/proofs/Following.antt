@@ -80,9 +80,11 @@ call_said b past c regs r on at e =
 enter_told : (b : BoardValue) (past : List Record) (n c : ℕ) (start : Start) (r : FwReply)
     → last_start (controller_values b past) c ≡ Some start → IsOutcome r
     → IsTold b past (Enter c) (said_of n r) (Asked (asked c (calls.Enter start) r))
-enter_told b past n c start (replies.Out o) last is =
-    (start, last,
-    ap (λ (x : Outcome). asked c (calls.Enter start) (replies.Out x)) (sym (same_outcome n o)))
+enter_told b past n c start (replies.Out o) last is = (
+  start,
+  last,
+  ap (λ (x : Outcome). asked c (calls.Enter start) (replies.Out x)) (sym (same_outcome n o)),
+)
 enter_told b past n c start (replies.Taken t) last is = absurd is
 enter_told b past n c start (replies.Fault f) last is = absurd is
 
@@ -134,10 +136,12 @@ pub take_next : (b : BoardValue) (past : List Record) (k c : ℕ) (ack : AckValu
     → IsTold b past (Take k) (legal b past (Take k)) (Asked (asked c (calls.Take ack) r))
 take_next b past k c ack r at may =
     told_by b past _ (Take k) (Took (taken_by (firmware_values b past) ack))
-    (take_said b past k ack at)
-    (ack, at,
-    ap (λ (x : ℕ). asked x (calls.Take ack) r) may.0
-    ∙ ap (λ (x : FwReply). asked 0 (calls.Take ack) x) (may.2 ∙ take_answer b past c ack))
+    (take_said b past k ack at) (
+      ack,
+      at,
+      ap (λ (x : ℕ). asked x (calls.Take ack) r) may.0
+          ∙ ap (λ (x : FwReply). asked 0 (calls.Take ack) x) (may.2 ∙ take_answer b past c ack),
+    )
 
 ask_next : (b : BoardValue) (past : List Record) (c : ℕ) (call : FwCall) (r : FwReply)
     → MayAsk b (now_of b past) c call r → IsNext b past (Asked (asked c call r))
@@ -202,16 +206,20 @@ wake_at b past c halted r Started on at may =
     told_by b past _ (Wake c) Ignored
     (on_core b c _ on ∙ ap (λ (x : Place). if_stopped x (said_by (length (acks past))
     (replied.Kick (wake_of b (controller_values b past) c
-    ((controller_values b past).starts c))))) at)
-    (halted, λ stopped. absurd (let f : Started ≡ Stopped = sym at ∙ stopped in cc),
-    ap (λ (x : CtlReply). controlled (asks.Wake (record { number = c }) halted) x) may)
+    ((controller_values b past).starts c))))) at) (
+      halted,
+      λ stopped. absurd (let f : Started ≡ Stopped = sym at ∙ stopped in cc),
+      ap (λ (x : CtlReply). controlled (asks.Wake (record { number = c }) halted) x) may,
+    )
 wake_at b past c halted r Running on at may =
     told_by b past _ (Wake c) Ignored
     (on_core b c _ on ∙ ap (λ (x : Place). if_stopped x (said_by (length (acks past))
     (replied.Kick (wake_of b (controller_values b past) c
-    ((controller_values b past).starts c))))) at)
-    (halted, λ stopped. absurd (let f : Running ≡ Stopped = sym at ∙ stopped in cc),
-    ap (λ (x : CtlReply). controlled (asks.Wake (record { number = c }) halted) x) may)
+    ((controller_values b past).starts c))))) at) (
+      halted,
+      λ stopped. absurd (let f : Running ≡ Stopped = sym at ∙ stopped in cc),
+      ap (λ (x : CtlReply). controlled (asks.Wake (record { number = c }) halted) x) may,
+    )
 
 reset_told : (b : BoardValue) (past : List Record) (n c : ℕ) (k : KickReply)
     → IsTold b past (Reset c) (said_by n (replied.Kick k))

@@ -100,9 +100,11 @@ delivered : (b : BoardValue) (past : List Record) (k : ℕ) (said : Said) (m : M
     → delivery_said said ≡ d
     → MayControl b (now_of b past) (asks.Deliver m) (replied.Delivery d)
 unfolding legal reply
-delivered b past k said m d e at is =
-    ((k, at), ap replied.Delivery (sym is ∙ sym (is_delivery (length (acks past)) said
-    (delivery_of b (controller_values b past) m) (e ∙ ap (deliver b past) at))))
+delivered b past k said m d e at is = (
+  (k, at),
+  ap replied.Delivery (sym is ∙ sym (is_delivery (length (acks past)) said
+      (delivery_of b (controller_values b past) m) (e ∙ ap (deliver b past) at))),
+)
 
 reset : (b : BoardValue) (past : List Record) (c : ℕ) (said : Said) (k : KickReply)
     → said ≡ legal b past (Reset c) → (said ≡ Absent → ⊥) → kick_said said ≡ k
@@ -110,9 +112,11 @@ reset : (b : BoardValue) (past : List Record) (c : ℕ) (said : Said) (k : KickR
 unfolding legal reply
 reset b past c said k e some is =
     let at = at_core b c (said_by (length (acks past))
-    (replied.Kick (reset_of b (controller_values b past) c))) said e some in
-    (at.0, ap replied.Kick (sym is ∙ sym (is_kick (length (acks past)) said
-    (reset_of b (controller_values b past) c) at.1)))
+    (replied.Kick (reset_of b (controller_values b past) c))) said e some in (
+      at.0,
+      ap replied.Kick (sym is ∙ sym (is_kick (length (acks past)) said
+          (reset_of b (controller_values b past) c) at.1)),
+    )
 
 woken : (b : BoardValue) (past : List Record) (c halted : ℕ) (said : Said) (k : KickReply)
     → said ≡ legal b past (Wake c) → (said ≡ Absent → ⊥) → kick_said said ≡ k
@@ -130,9 +134,11 @@ woken b past c halted said k e some is last =
         ((controller_values b past).starts c))))
         → MayWake p halted ((controller_values b past).starts c) (replied.Kick k)
         (replied.Kick (wake_of b (controller_values b past) c halted))
-    by_place Stopped at f =
-        (last at, ap replied.Kick (sym is ∙ sym (is_kick (length (acks past)) said _ f)
-        ∙ ap (wake_of b (controller_values b past) c) (sym (last at))))
+    by_place Stopped at f = (
+      last at,
+      ap replied.Kick (sym is ∙ sym (is_kick (length (acks past)) said _ f)
+          ∙ ap (wake_of b (controller_values b past) c) (sym (last at))),
+    )
     by_place Started at f = ap replied.Kick (sym is ∙ ap kick_said f)
     by_place Running at f = ap replied.Kick (sym is ∙ ap kick_said f)
 
@@ -183,9 +189,10 @@ only_legal : (b : BoardValue) (past : List Record) (entries : List Entry) → Is
 only_legal b [] [] legal tells = tt
 only_legal b [] (e ∷ entries) legal tells = absurd tells
 only_legal b (r ∷ past) [] legal tells = absurd tells
-only_legal b (r ∷ past) (e ∷ entries) legal tells =
-    (may_follow b past entries r.event r.said e tells.1 legal.0 tells.0,
-    only_legal b past entries legal.1 tells.1)
+only_legal b (r ∷ past) (e ∷ entries) legal tells = (
+  may_follow b past entries r.event r.said e tells.1 legal.0 tells.0,
+  only_legal b past entries legal.1 tells.1,
+)
 
 -- the list of a legal run is legal
 pub legal_list : (b : BoardValue) (entries : List Entry) → IsListOf b entries → IsLegal b entries

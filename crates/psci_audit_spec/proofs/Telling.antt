@@ -45,9 +45,13 @@ adds b past (Call c regs) (Fw act sends) (Asked e) is =
     subst (λ (x : FwExchange). Adds b past (Call c regs) (Fw act sends) (Asked x)) (sym is)
     (refl, refl, refl, refl, λ d. refl)
 adds b past (Enter c) (Fw act sends) (Asked e) is =
-    subst (λ (x : FwExchange). Adds b past (Enter c) (Fw act sends) (Asked x)) (sym is.2)
-    (ap (λ (s : Option Start). entered c s (outcome_in act sends)) is.1, refl, refl, refl,
-    λ d. refl)
+    subst (λ (x : FwExchange). Adds b past (Enter c) (Fw act sends) (Asked x)) (sym is.2) (
+      ap (λ (s : Option Start). entered c s (outcome_in act sends)) is.1,
+      refl,
+      refl,
+      refl,
+      λ d. refl,
+    )
 adds b past (Take k) (Took taken) (Asked e) is =
     subst (λ (x : FwExchange). Adds b past (Take k) (Took taken) (Asked x)) (sym is.2)
     (ap (λ (a : Option AckValue). took a taken) is.1, refl, refl, refl, λ d. refl)
