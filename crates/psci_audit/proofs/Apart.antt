@@ -1,7 +1,7 @@
 -- Tickets that rise in two lists, and are in both or not.
 use Rattle.std.proofs.Common.{◌≡◌, ℕ, ◌<◌, ◌≤◌, List, [], ◌∷◌, None, Some, inl, inr, refl, sym, arith}
-use Rattle.std.proofs.Common.{◌+◌, ◌-◌, length, take, drop, get_or, ap, ◌∙◌, subst, map}
-use Rattle.std.specs.Prelude.{◌⊎◌, ◌↔◌}
+use Rattle.std.proofs.Common.{◌-◌, length, take, drop, get_or, ap, ◌∙◌, subst}
+use Rattle.std.specs.Prelude.{◌↔◌}
 use Rattle.std.proofs.Math.Seq.{take-length}
 use Rattle.psci_shared.specs.declared.entry.FwEntry.{FwEntry}
 use Rattle.psci_shared_ctl.specs.declared.entry.CtlEntry.{CtlEntry}
@@ -38,6 +38,7 @@ next_other x y xs ys less rise = (there, λ apart t at in_ys. apart t at (inr in
     below : IsIn y (x ∷ xs) → ⊥
     below (inl e) = absurd (omega (arith, less, e))
     below (inr at) = let more : y ≤ x = omega (arith, less) in not_in y x xs rise.1 more at
+
     there : AreApart (x ∷ xs) ys → AreApart (x ∷ xs) (y ∷ ys)
     there apart t at (inl e) = below (subst (λ u. IsIn u (x ∷ xs)) e at)
     there apart t at (inr in_ys) = apart t at in_ys
@@ -75,13 +76,14 @@ next_ones ones others f c e d less one other =
     let rise : RiseAfter None (f.ticket ∷ tickets_of fs) =
     subst (λ (l : List FwEntry). RiseAfter None (tickets_of l)) e one in
     let goes : RiseAfter None (c.ticket ∷ tickets_by cs) =
-    subst (λ (l : List CtlEntry). RiseAfter None (tickets_by l)) d other in
-    (rises f.ticket (tickets_of fs) rise.1,
-    subst (λ (l : List CtlEntry). AreApart (tickets_of fs) (tickets_by l)
-    ↔ AreApart (tickets_of ones) (tickets_by l)) (sym d)
-    (subst (λ (l : List FwEntry). AreApart (tickets_of fs) (c.ticket ∷ tickets_by cs)
-    ↔ AreApart (tickets_of l) (c.ticket ∷ tickets_by cs)) (sym e)
-    (next_one f.ticket c.ticket (tickets_of fs) (tickets_by cs) less goes)))
+    subst (λ (l : List CtlEntry). RiseAfter None (tickets_by l)) d other in (
+      rises f.ticket (tickets_of fs) rise.1,
+      subst (λ (l : List CtlEntry). AreApart (tickets_of fs) (tickets_by l)
+          ↔ AreApart (tickets_of ones) (tickets_by l)) (sym d)
+          (subst (λ (l : List FwEntry). AreApart (tickets_of fs) (c.ticket ∷ tickets_by cs)
+          ↔ AreApart (tickets_of l) (c.ticket ∷ tickets_by cs)) (sym e)
+          (next_one f.ticket c.ticket (tickets_of fs) (tickets_by cs) less goes)),
+    )
 
 pub next_others : (ones : List FwEntry) (others : List CtlEntry) (f : FwEntry) (c : CtlEntry)
     → ones ≡ f ∷ tail ones → others ≡ c ∷ tail others → c.ticket < f.ticket
@@ -95,13 +97,14 @@ next_others ones others f c e d less one other =
     let rise : RiseAfter None (f.ticket ∷ tickets_of fs) =
     subst (λ (l : List FwEntry). RiseAfter None (tickets_of l)) e one in
     let goes : RiseAfter None (c.ticket ∷ tickets_by cs) =
-    subst (λ (l : List CtlEntry). RiseAfter None (tickets_by l)) d other in
-    (rises c.ticket (tickets_by cs) goes.1,
-    subst (λ (l : List FwEntry). AreApart (tickets_of l) (tickets_by cs)
-    ↔ AreApart (tickets_of l) (tickets_by others)) (sym e)
-    (subst (λ (l : List CtlEntry). AreApart (f.ticket ∷ tickets_of fs) (tickets_by cs)
-    ↔ AreApart (f.ticket ∷ tickets_of fs) (tickets_by l)) (sym d)
-    (next_other f.ticket c.ticket (tickets_of fs) (tickets_by cs) less rise)))
+    subst (λ (l : List CtlEntry). RiseAfter None (tickets_by l)) d other in (
+      rises c.ticket (tickets_by cs) goes.1,
+      subst (λ (l : List FwEntry). AreApart (tickets_of l) (tickets_by cs)
+          ↔ AreApart (tickets_of l) (tickets_by others)) (sym e)
+          (subst (λ (l : List CtlEntry). AreApart (f.ticket ∷ tickets_of fs) (tickets_by cs)
+          ↔ AreApart (f.ticket ∷ tickets_of fs) (tickets_by l)) (sym d)
+          (next_other f.ticket c.ticket (tickets_of fs) (tickets_by cs) less rise)),
+    )
 
 pub same_ones : (ones : List FwEntry) (others : List CtlEntry) (f : FwEntry) (c : CtlEntry)
     → ones ≡ f ∷ tail ones → others ≡ c ∷ tail others → f.ticket ≡ c.ticket

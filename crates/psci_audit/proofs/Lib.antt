@@ -1,3 +1,4 @@
 pub mod Apart
+mod MergedRows
 pub mod SoFar
 pub mod Steps

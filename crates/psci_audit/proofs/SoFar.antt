@@ -1,8 +1,8 @@
 -- The merged list, entry by entry.
 use Rattle.std.proofs.Common.{◌≡◌, ℕ, ◌+◌, Bool, true, false, cond, List, [], ◌∷◌, ◌++◌, length}
-use Rattle.std.proofs.Common.{map, reverse, refl, ap, sym, ◌∙◌, subst, arith}
+use Rattle.std.proofs.Common.{reverse, refl, ap, sym, ◌∙◌, subst, arith}
 use Rattle.std.proofs.Common.{Option, None, Some, Result, Ok, Err}
-use Rattle.std.specs.Prelude.{IfOk, OnOk, nat_lt, unwrap_or}
+use Rattle.std.specs.Prelude.{IfOk, OnOk, unwrap_or}
 use Rattle.std.proofs.lemmas.List.{append-nil, append_assoc, length-reverse, reverse-append}
 use Rattle.std.proofs.lemmas.List.{reverse-reverse}
 use Rattle.psci_world_spec.specs.psci_board.Board.{BoardValue, IsBoard}
@@ -206,9 +206,10 @@ pub after_asked : (b : BoardValue) (all : List Entry) (old new now : WorldValue)
 after_asked b all old new now fs gs cs ds n total f r w a c is left same e first step none =
     subst (λ (x : WorldValue). IsAfter b all x gs ds n total) (sym w)
     (subst (λ (x : List FwEntry). IsAfter b all new x ds n total) (sym a)
-    (subst (λ (x : List CtlEntry). IsAfter b all new (tail fs) x n total) (sym c)
-    (next_asked b all old new fs cs n f r is same e first step none,
-    omega (arith, left, one_less fs f e))))
+    (subst (λ (x : List CtlEntry). IsAfter b all new (tail fs) x n total) (sym c) (
+      next_asked b all old new fs cs n f r is same e first step none,
+      omega (arith, left, one_less fs f e),
+    )))
 
 pub after_controlled : (b : BoardValue) (all : List Entry) (old new now : WorldValue)
     (fs gs : List FwEntry) (cs ds : List CtlEntry) (n total : ℕ) (c : CtlEntry)
@@ -219,9 +220,10 @@ pub after_controlled : (b : BoardValue) (all : List Entry) (old new now : WorldV
 after_controlled b all old new now fs gs cs ds n total c r w a d is left same e first step none =
     subst (λ (x : WorldValue). IsAfter b all x gs ds n total) (sym w)
     (subst (λ (x : List FwEntry). IsAfter b all new x ds n total) (sym a)
-    (subst (λ (x : List CtlEntry). IsAfter b all new fs x n total) (sym d)
-    (next_controlled b all old new fs cs n c r is same e first step none,
-    omega (arith, left, one_less cs c e))))
+    (subst (λ (x : List CtlEntry). IsAfter b all new fs x n total) (sym d) (
+      next_controlled b all old new fs cs n c r is same e first step none,
+      omega (arith, left, one_less cs c e),
+    )))
 
 -- The end --------------------------------------------------------------------------------------
 
@@ -238,9 +240,10 @@ whole b all left past n so is =
     let same : reverse so.done ≡ all =
     sym (append-nil (reverse so.done)) ∙ ap (λ (l : List Entry). reverse so.done ++ l) (sym is)
     ∙ so.parts in
-    let back : so.done ≡ reverse all = sym (reverse-reverse so.done) ∙ ap reverse same in
-    (subst (IsLegal b) back so.legal,
-    ap length (sym same) ∙ length-reverse so.done ∙ so.count)
+    let back : so.done ≡ reverse all = sym (reverse-reverse so.done) ∙ ap reverse same in (
+      subst (IsLegal b) back so.legal,
+      ap length (sym same) ∙ length-reverse so.done ∙ so.count,
+    )
 
 pub ended : (b : BoardValue) (all : List Entry) (w : WorldValue) (fs : List FwEntry)
     (cs : List CtlEntry) (n m : ℕ) → IsBetween b all w fs cs n → length fs + length cs ≡ 0

@@ -1,21 +1,18 @@
 -- One entry more: what was said of the event that stands for it tells whether it may follow.
-use Rattle.std.proofs.Common.{◌≡◌, ℕ, ◌<◌, Bool, true, false, List, [], ◌∷◌, refl, ap, sym, ◌∙◌}
-use Rattle.std.proofs.Common.{subst, Option, None, Some}
+use Rattle.std.proofs.Common.{◌≡◌, ℕ, ◌<◌, Bool, true, false, List, ◌∷◌, refl, ap, sym, ◌∙◌}
+use Rattle.std.proofs.Common.{subst, Some}
 use Rattle.std.specs.Prelude.{◌↔◌, IsTrue}
 use Rattle.psci_world_spec.specs.psci_abi.declared.registers.Regs.{Regs}
 use Rattle.psci_world_spec.specs.psci_board.declared.node.Core.{Core}
 use Rattle.psci_world_spec.specs.psci_board.Board.{BoardValue, cores}
-use Rattle.psci_world_spec.specs.psci_ctl_spec.declared.call.CtlCall.{CtlCall}
 use Rattle.psci_world_spec.specs.psci_ctl_spec.declared.call.CtlCall.TheVariants as asks
 use Rattle.psci_world_spec.specs.psci_ctl_spec.declared.kick.Kick.TheVariants as kicks
-use Rattle.psci_world_spec.specs.psci_ctl_spec.declared.delivery.Delivery.TheVariants as deliveries
 use Rattle.psci_world_spec.specs.psci_ctl_spec.declared.reply.CtlReply.{CtlReply}
 use Rattle.psci_world_spec.specs.psci_ctl_spec.declared.reply.CtlReply.TheVariants as replied
 use Rattle.psci_world_spec.specs.psci_ctl_spec.Exchange.{CtlExchange}
-use Rattle.psci_world_spec.specs.psci_ctl_spec.Replies.{last_start, reply}
+use Rattle.psci_world_spec.specs.psci_ctl_spec.Replies.{last_start}
 use Rattle.psci_world_spec.specs.psci_fw_spec.declared.call.FwCall.TheVariants as calls
 use Rattle.psci_world_spec.specs.psci_fw_spec.declared.reply.FwReply.{FwReply}
-use Rattle.psci_world_spec.specs.psci_fw_spec.declared.reply.FwReply.TheVariants as replies
 use Rattle.psci_world_spec.specs.psci_fw_spec.Exchange.{FwExchange}
 use Rattle.psci_world_spec.specs.psci_link.declared.start.Start.{Start}
 use Rattle.psci_world_spec.specs.psci_link.Message.{AckValue, MessageValue}
@@ -28,20 +25,20 @@ use Rattle.psci_world_spec.specs.declared.said.Record.{Record}
 use Rattle.psci_world_spec.specs.declared.said.Said.{Said}
 use Rattle.psci_world_spec.specs.declared.said.Said.TheVariants.{Fw, Kick, Acked, Ignored, Absent}
 use Rattle.psci_world_spec.specs.declared.said.Said.TheVariants.{Taken as Took}
-use Rattle.psci_world_spec.specs.Histories.{acks, controller_values, outcome_in, sent}
-use Rattle.psci_world_spec.specs.Legal.{if_stopped, legal, legal_record, said_by}
+use Rattle.psci_world_spec.specs.Histories.{acks, controller_values, sent}
+use Rattle.psci_world_spec.specs.Legal.{if_stopped, legal, legal_record}
 use Rattle.psci_world_spec.specs.Lists.{indexed}
 use Rattle.psci_world_spec.specs.Places.{place}
 use Rattle.psci_world.specs.Seen.{WorldValue}
 use Rattle.psci_audit_spec.specs.Entries.{Entry, Asked, Controlled}
-use Rattle.psci_audit_spec.specs.Legal.{MayBe, MayFollow, MayWake}
+use Rattle.psci_audit_spec.specs.Legal.{MayBe, MayWake}
 use Rattle.psci_audit_spec.specs.Told.{IsTold, Tells, asked, controlled}
 use Rattle.psci_audit_spec.proofs.Following.{call_next, deliver_next, enter_next, follows}
 use Rattle.psci_audit_spec.proofs.Following.{reset_next, take_next, wake_next}
 use Rattle.psci_audit_spec.proofs.Only.{may_follow}
 use Rattle.psci_audit_spec.proofs.Reading.{at_core}
 use Rattle.psci_audit_spec.proofs.Telling.{now_of}
-use Rattle.psci_audit.specs.Following.{Follows, IsStep}
+use Rattle.psci_audit.specs.Following.{IsStep}
 use Rattle.psci_audit.specs.Replies.{SaysDelivery, SaysKick, SaysOutcome, SaysTaken}
 
 -- All entries ----------------------------------------------------------------------------------
@@ -68,10 +65,11 @@ step : (old new : WorldValue) (event : Event) (e : Entry) (r : Record) (may : Bo
 step old new event e r true Says is tested says next = λ entries tells.
     let said : r.said ≡ legal old.board old.past event = ap (λ (x : Record). x.said) is.0 in
     let same : r.event ≡ event = ap (λ (x : Record). x.event) is.0 in
-    let told : IsTold old.board old.past event r.said e = says.0 (tested.0 refl) in
-    (may_follow old.board old.past entries event r.said e tells said told,
-    subst (λ (past : List Record). Tells old.board past (e ∷ entries)) (sym is.1)
-    (subst (λ (x : Event). IsTold old.board old.past x r.said e) (sym same) told, tells))
+    let told : IsTold old.board old.past event r.said e = says.0 (tested.0 refl) in (
+      may_follow old.board old.past entries event r.said e tells said told,
+      subst (λ (past : List Record). Tells old.board past (e ∷ entries)) (sym is.1)
+          (subst (λ (x : Event). IsTold old.board old.past x r.said e) (sym same) told, tells),
+    )
 step old new event e r false Says is tested says next = λ entries tells follow.
     let said : r.said ≡ legal old.board old.past event = ap (λ (x : Record). x.said) is.0 in
     not_so tested.1 (says.1 (subst (λ (s : Said). IsTold old.board old.past event s e) (sym said)
@@ -87,9 +85,10 @@ never old new e cannot entries tells follow =
 
 call_says : (b : BoardValue) (past : List Record) (c : ℕ) (regs : Regs) (r : FwReply) (s : Said)
     → SaysOutcome s r ↔ IsTold b past (Call c regs) s (Asked (asked c (calls.Smc regs) r))
-call_says b past c regs r (Fw act sends) =
-    (λ e. ap (λ (x : FwReply). asked c (calls.Smc regs) x) e,
-    λ e. ap (λ (x : FwExchange). x.reply) e)
+call_says b past c regs r (Fw act sends) = (
+  λ e. ap (λ (x : FwReply). asked c (calls.Smc regs) x) e,
+  λ e. ap (λ (x : FwExchange). x.reply) e,
+)
 call_says b past c regs r (Kick start) = (λ h. h, λ h. h)
 call_says b past c regs r (Acked index ack) = (λ h. h, λ h. h)
 call_says b past c regs r (Took taken) = (λ h. h, λ h. h)
@@ -107,9 +106,10 @@ called old new c regs r rec may is tested =
 enter_says : (b : BoardValue) (past : List Record) (c : ℕ) (start : Start) (r : FwReply)
     (s : Said) → last_start (controller_values b past) c ≡ Some start
     → SaysOutcome s r ↔ IsTold b past (Enter c) s (Asked (asked c (calls.Enter start) r))
-enter_says b past c start r (Fw act sends) last =
-    (λ e. (start, last, ap (λ (x : FwReply). asked c (calls.Enter start) x) e),
-    λ is. ap (λ (x : FwExchange). x.reply) is.2)
+enter_says b past c start r (Fw act sends) last = (
+  λ e. (start, last, ap (λ (x : FwReply). asked c (calls.Enter start) x) e),
+  λ is. ap (λ (x : FwExchange). x.reply) is.2,
+)
 enter_says b past c start r (Kick s) last = (λ h. h, λ h. h)
 enter_says b past c start r (Acked index ack) last = (λ h. h, λ h. h)
 enter_says b past c start r (Took taken) last = (λ h. h, λ h. h)
@@ -137,9 +137,10 @@ enters_late old new c start r cannot = never old new _ (λ may. cannot may.2)
 take_says : (b : BoardValue) (past : List Record) (k : ℕ) (ack : AckValue) (r : FwReply)
     (s : Said) → indexed (acks past) k ≡ Some ack
     → SaysTaken s r ↔ IsTold b past (Take k) s (Asked (asked 0 (calls.Take ack) r))
-take_says b past k ack r (Took taken) at =
-    (λ e. (ack, at, ap (λ (x : FwReply). asked 0 (calls.Take ack) x) e),
-    λ is. ap (λ (x : FwExchange). x.reply) is.2)
+take_says b past k ack r (Took taken) at = (
+  λ e. (ack, at, ap (λ (x : FwReply). asked 0 (calls.Take ack) x) e),
+  λ is. ap (λ (x : FwExchange). x.reply) is.2,
+)
 take_says b past k ack r (Kick s) at = (λ h. h, λ h. h)
 take_says b past k ack r (Acked index a) at = (λ h. h, λ h. h)
 take_says b past k ack r (Fw act sends) at = (λ h. h, λ h. h)
@@ -165,12 +166,14 @@ never_made old new ack r none = never old new _ (λ may. none may.1.0 may.1.1)
 deliver_says : (b : BoardValue) (past : List Record) (k : ℕ) (m : MessageValue) (r : CtlReply)
     (s : Said) → indexed (sent past) k ≡ Some m
     → SaysDelivery s r ↔ IsTold b past (Deliver k) s (Controlled (controlled (asks.Deliver m) r))
-deliver_says b past k m r (Acked index ack) at =
-    (λ e. (m, at, ap (λ (x : CtlReply). controlled (asks.Deliver m) x) e),
-    λ is. ap (λ (x : CtlExchange). x.reply) is.2)
-deliver_says b past k m r Ignored at =
-    (λ e. (m, at, ap (λ (x : CtlReply). controlled (asks.Deliver m) x) e),
-    λ is. ap (λ (x : CtlExchange). x.reply) is.2)
+deliver_says b past k m r (Acked index ack) at = (
+  λ e. (m, at, ap (λ (x : CtlReply). controlled (asks.Deliver m) x) e),
+  λ is. ap (λ (x : CtlExchange). x.reply) is.2,
+)
+deliver_says b past k m r Ignored at = (
+  λ e. (m, at, ap (λ (x : CtlReply). controlled (asks.Deliver m) x) e),
+  λ is. ap (λ (x : CtlExchange). x.reply) is.2,
+)
 deliver_says b past k m r (Kick s) at = (λ h. h, λ h. h)
 deliver_says b past k m r (Took taken) at = (λ h. h, λ h. h)
 deliver_says b past k m r (Fw act sends) at = (λ h. h, λ h. h)
@@ -193,12 +196,14 @@ never_sent old new m r none = never old new _ (λ may. none may.0.0 may.0.1)
 reset_says : (b : BoardValue) (past : List Record) (core : Core) (r : CtlReply) (s : Said)
     → SaysKick s r
     ↔ IsTold b past (Reset core.number) s (Controlled (controlled (asks.Reset core) r))
-reset_says b past core r (Kick start) =
-    (λ e. ap (λ (x : CtlReply). controlled (asks.Reset core) x) e,
-    λ is. ap (λ (x : CtlExchange). x.reply) is)
-reset_says b past core r Ignored =
-    (λ e. ap (λ (x : CtlReply). controlled (asks.Reset core) x) e,
-    λ is. ap (λ (x : CtlExchange). x.reply) is)
+reset_says b past core r (Kick start) = (
+  λ e. ap (λ (x : CtlReply). controlled (asks.Reset core) x) e,
+  λ is. ap (λ (x : CtlExchange). x.reply) is,
+)
+reset_says b past core r Ignored = (
+  λ e. ap (λ (x : CtlReply). controlled (asks.Reset core) x) e,
+  λ is. ap (λ (x : CtlExchange). x.reply) is,
+)
 reset_says b past core r (Acked index ack) = (λ h. h, λ h. h)
 reset_says b past core r (Took taken) = (λ h. h, λ h. h)
 reset_says b past core r (Fw act sends) = (λ h. h, λ h. h)
@@ -234,13 +239,15 @@ wake_says : (w : WorldValue) (core : Core) (halted : ℕ) (r : CtlReply) (s : Sa
     → SaysKick s r ↔ IsTold w.board w.past (Wake core.number) s
     (Controlled (controlled (asks.Wake core halted) r))
 wake_says w core halted r (Kick start) said last =
-    let same = last (stopped w.board w.past core.number start said) in
-    (λ e. ap (λ (x : CtlReply). controlled (asks.Wake core halted) x) e
-    ∙ ap (λ (x : ℕ). controlled (asks.Wake core x) (replied.Kick (kicks.Started start))) same,
-    λ is. ap (λ (x : CtlExchange). x.reply) is)
-wake_says w core halted r Ignored said last =
-    (λ e. (halted, last, ap (λ (x : CtlReply). controlled (asks.Wake core halted) x) e),
-    λ is. ap (λ (x : CtlExchange). x.reply) is.2)
+    let same = last (stopped w.board w.past core.number start said) in (
+      λ e. ap (λ (x : CtlReply). controlled (asks.Wake core halted) x) e
+          ∙ ap (λ (x : ℕ). controlled (asks.Wake core x) (replied.Kick (kicks.Started start))) same,
+      λ is. ap (λ (x : CtlExchange). x.reply) is,
+    )
+wake_says w core halted r Ignored said last = (
+  λ e. (halted, last, ap (λ (x : CtlReply). controlled (asks.Wake core halted) x) e),
+  λ is. ap (λ (x : CtlExchange). x.reply) is.2,
+)
 wake_says w core halted r (Acked index ack) said last = (λ h. h, λ h. h)
 wake_says w core halted r (Took taken) said last = (λ h. h, λ h. h)
 wake_says w core halted r (Fw act sends) said last = (λ h. h, λ h. h)

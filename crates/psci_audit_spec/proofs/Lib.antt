@@ -1,4 +1,5 @@
 pub mod Following
+mod ListRows
 pub mod Only
 pub mod Reading
 pub mod Telling

@@ -1,7 +1,7 @@
 -- Entry by entry.
-use Rattle.std.proofs.Common.{◌≡◌, ◌+◌, ◌∷◌, length, refl, ap, sym, ◌∙◌, arith}
+use Rattle.std.proofs.Common.{refl, ap, sym, ◌∙◌, arith}
 use Rattle.psci_audit.specs.Merged.{merged}
-use Rattle.psci_audit.proofs.Apart.{parts, tail}
+use Rattle.psci_audit.proofs.Apart.{parts}
 use Rattle.psci_audit.proofs.SoFar.{after_asked, after_controlled, begin, ended, stops_asked}
 use Rattle.psci_audit.proofs.SoFar.{stops_controlled}
 use Rattle.psci_audit.proofs.merging.follow_all.Goals as goal
@@ -21,31 +21,31 @@ loop-place-init c = record {
 pub loop-place-preserved : goal.loop-place-preserved
 loop-place-preserved c =
     elim c.if-is_asked_first.branch [
-    then-is_asked_first+in-len1-up+in_default-fault_of w ↦
-    let after = after_asked c.args.world.now.board
-    (merged c.args.firmware.now c.args.controller.now) c.loop-place.world
-    w.follow_firmware.new.world c.if-is_asked_first.world c.loop-place.asked.now
-    c.if-is_asked_first.asked.now c.loop-place.controlled.now c.if-is_asked_first.controlled.now
-    c.loop-place.place _ w.entry-item.result w.follow_firmware.result w.world-is
-    (ap (λ x. x.now) w.asked-is) (ap (λ x. x.now) w.controlled-is) c.loop-place.invariant.between
-    c.loop-place.invariant.left w.follow_firmware.ensures.board
-    (parts c.loop-place.asked.now _ w.in-len1-up.len_at_least w.entry-item.is)
-    (sym c.is_asked_first.ensures ∙ w.if-is_asked_first.true) w.follow_firmware.ensures.step
-    (w.in_default-fault_of.ensures {u = tt}) in
-    record { between = after.0; left = after.1 }
-    | else-is_asked_first+in-len1-up-controlled+in_default-fault_of-2 w ↦
-    let after = after_controlled c.args.world.now.board
-    (merged c.args.firmware.now c.args.controller.now) c.loop-place.world
-    w.follow_controller.new.world c.if-is_asked_first.world c.loop-place.asked.now
-    c.if-is_asked_first.asked.now c.loop-place.controlled.now c.if-is_asked_first.controlled.now
-    c.loop-place.place _ w.entry-item-else-is_asked_first.result w.follow_controller.result
-    w.world-is (ap (λ x. x.now) w.asked-is) (ap (λ x. x.now) w.controlled-is)
-    c.loop-place.invariant.between c.loop-place.invariant.left w.follow_controller.ensures.board
-    (parts c.loop-place.controlled.now _ w.in-len1-up-controlled.len_at_least
-    w.entry-item-else-is_asked_first.is)
-    (sym c.is_asked_first.ensures ∙ w.if-is_asked_first.false) w.follow_controller.ensures.step
-    (w.in_default-fault_of-2.ensures {u = tt}) in
-    record { between = after.0; left = after.1 }
+      | then-is_asked_first+in-len1-up+in_default-fault_of w ↦
+          let after = after_asked c.args.world.now.board
+          (merged c.args.firmware.now c.args.controller.now) c.loop-place.world
+          w.follow_firmware.new.world c.if-is_asked_first.world c.loop-place.asked.now
+          c.if-is_asked_first.asked.now c.loop-place.controlled.now c.if-is_asked_first.controlled.now
+          c.loop-place.place _ w.entry-item.result w.follow_firmware.result w.world-is
+          (ap (λ x. x.now) w.asked-is) (ap (λ x. x.now) w.controlled-is) c.loop-place.invariant.between
+          c.loop-place.invariant.left w.follow_firmware.ensures.board
+          (parts c.loop-place.asked.now _ w.in-len1-up.len_at_least w.entry-item.is)
+          (sym c.is_asked_first.ensures ∙ w.if-is_asked_first.true) w.follow_firmware.ensures.step
+          (w.in_default-fault_of.ensures {u = tt}) in
+          record { between = after.0; left = after.1 }
+      | else-is_asked_first+in-len1-up-controlled+in_default-fault_of-2 w ↦
+          let after = after_controlled c.args.world.now.board
+          (merged c.args.firmware.now c.args.controller.now) c.loop-place.world
+          w.follow_controller.new.world c.if-is_asked_first.world c.loop-place.asked.now
+          c.if-is_asked_first.asked.now c.loop-place.controlled.now c.if-is_asked_first.controlled.now
+          c.loop-place.place _ w.entry-item-else-is_asked_first.result w.follow_controller.result
+          w.world-is (ap (λ x. x.now) w.asked-is) (ap (λ x. x.now) w.controlled-is)
+          c.loop-place.invariant.between c.loop-place.invariant.left w.follow_controller.ensures.board
+          (parts c.loop-place.controlled.now _ w.in-len1-up-controlled.len_at_least
+          w.entry-item-else-is_asked_first.is)
+          (sym c.is_asked_first.ensures ∙ w.if-is_asked_first.false) w.follow_controller.ensures.step
+          (w.in_default-fault_of-2.ensures {u = tt}) in
+          record { between = after.0; left = after.1 }
     ]
 
 pub returns-in-Some : goal.returns-in-Some

@@ -6,18 +6,22 @@ use Rattle.psci_audit.proofs.Apart.{same_ones}
 use Rattle.psci_audit.proofs.tickets.are_apart.Goals as goal
 
 pub returns-in_default-others : goal.returns-in_default-others
-returns-in_default-others c =
-    (λ t. c.loop-ones.invariant.apart.0 (none_there (tickets_of c.loop-ones.ones.now)
-    c.loop-ones.others.now c.in_default-others.len_below), λ apart. refl)
+returns-in_default-others c = (
+  λ t. c.loop-ones.invariant.apart.0 (none_there (tickets_of c.loop-ones.ones.now)
+      c.loop-ones.others.now c.in_default-others.len_below),
+  λ apart. refl,
+)
 
 pub returns-then-one-other : goal.returns-then-one-other
 returns-then-one-other c =
     let ones = c.loop-ones.ones.now in
-    let others = c.loop-ones.others.now in
-    (λ t. absurd (cc), λ apart. absurd (same_ones ones others c.one-item.result
-    c.other-item.result (parts ones _ c.in-len1-up.len_at_least c.one-item.is)
-    (parts others _ c.in-len1-up-others.len_at_least c.other-item.is) c.if-one-other.true
-    (c.loop-ones.invariant.apart.1 apart)))
+    let others = c.loop-ones.others.now in (
+      λ t. absurd (cc),
+      λ apart. absurd (same_ones ones others c.one-item.result
+          c.other-item.result (parts ones _ c.in-len1-up.len_at_least c.one-item.is)
+          (parts others _ c.in-len1-up-others.len_at_least c.other-item.is) c.if-one-other.true
+          (c.loop-ones.invariant.apart.1 apart)),
+    )
 
 pub loop-ones-preserved-then-one-other-2 : goal.loop-ones-preserved-then-one-other-2
 loop-ones-preserved-then-one-other-2 c =
@@ -49,6 +53,8 @@ loop-ones-preserved c =
     }
 
 pub returns : goal.returns
-returns c =
-    (λ t. c.loop-ones.invariant.apart.0 (none_here c.loop-ones.ones.now
-    (tickets_by c.loop-ones.others.now) c.in_default.len_below), λ apart. refl)
+returns c = (
+  λ t. c.loop-ones.invariant.apart.0 (none_here c.loop-ones.ones.now
+      (tickets_by c.loop-ones.others.now) c.in_default.len_below),
+  λ apart. refl,
+)
