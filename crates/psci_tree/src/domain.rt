@@ -6,8 +6,10 @@ ghost use Rattle.psci_tree.specs.Changes.{with_change};
 ghost use Rattle.psci_tree.specs.Domains.{branches, leaves, cores_in, child_counts, IsWay};
 ghost use Rattle.psci_tree.specs.Domains.{index_by};
 ghost use Rattle.psci_tree.specs.Kept.{AreKept, IsKept, Keeps};
+ghost use Rattle.psci_tree.specs.Standing.{kept_standing};
 
 use crate::kept::Kept;
+use crate::standing::Standing;
 use crate::state::{Change, CoreState};
 
 /// A power domain. One without children is a core.
@@ -42,6 +44,17 @@ impl Domain {
         let number = way[level as usize - 1] as usize;
         self.children[number].change(level - 1, way, change);
         self.kept = self.anew();
+    }
+
+    /// How the domain stands, which is one of this level.
+    pub fn standing(&self, level: u32) -> Standing
+        requires { level ≤ 3 }
+        ensures { result ≡ kept_standing self.now level }
+    {
+        Standing {
+            low: self.kept.lows[level as usize],
+            known: self.kept.known,
+        }
     }
 
     /// What is kept of the cores below, computed anew from what the children keep.
