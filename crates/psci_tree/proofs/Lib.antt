@@ -7,6 +7,7 @@ pub mod Granted
 pub mod Keeping
 pub mod KeptRows
 pub mod Looked
+pub mod OffOnes
 pub mod Places
 pub mod Recounted
 pub mod Rows

@@ -14,7 +14,7 @@ ghost use Rattle.psci_tree.specs.Kept.{IsKept};
 
 use crate::domain::Domain;
 use crate::standing::Standing;
-use crate::state::{Activity, Change};
+use crate::state::Change;
 use psci_board::{Board, Core, MOST_LEVELS, Node};
 
 /// The domain of a node of the board, one step down for each level.
@@ -84,13 +84,7 @@ pub fn turn_off(root: &mut Domain, board: &Board)
     ensures shape { (k : ℕ) → child_counts k root.new ≡ child_counts k root.old }
     ensures kept { IsKept root.new }
 {
-    let change = Change {
-        activity: Activity::Off,
-        started: Some(0),
-    };
-    for number in 0..board.cores() {
-        change_core(root, board, Core { number }, &change);
-    }
+    root.turn_off();
 }
 
 /// The way from the system down to a core, one step for each level: the number, among its siblings,
