@@ -1,11 +1,10 @@
 -- Worked examples: records after which just one thing is not so that is said of cores that are
 -- powered down.
-use Rattle.std.proofs.Common.{◌≡◌, ◌≤◌, ◌<◌, ℕ, true, false, List, [], ◌∷◌, refl, arith}
+use Rattle.std.proofs.Common.{◌≡◌, ◌≤◌, ℕ, true, false, List, [], ◌∷◌, refl, arith}
 use Rattle.psci_world_laws.specs.psci_link.declared.kind.Kind.TheVariants.{Down}
 use Rattle.psci_world_laws.specs.psci_world_spec.declared.event.Event.TheVariants.{Deliver, Enter}
-use Rattle.psci_world_laws.specs.psci_world_spec.declared.event.Event.TheVariants.{Take, Wake}
+use Rattle.psci_world_laws.specs.psci_world_spec.declared.event.Event.TheVariants.{Take}
 use Rattle.psci_world_laws.specs.psci_world_spec.declared.said.Record.{Record}
-use Rattle.psci_world_laws.specs.psci_world_spec.declared.said.Said.{Said}
 use Rattle.psci_world_laws.specs.psci_world_spec.Legal.{run_from}
 use Rattle.psci_world_laws.proofs.world_spec.Scripts.{acked, board, computing, off, on_3, used}
 use Rattle.psci_safe.specs.Moments.{was_powered_down}
