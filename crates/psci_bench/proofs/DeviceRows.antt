@@ -10,11 +10,11 @@ use Rattle.psci_bench.specs.Progress.{OnlyGivenUp}
 -- Given up --------------------------------------------------------------------------------------
 
 -- one that has failed, and one that was interrupted 1,000 times in a row
-failed : GaveUp true 0
-failed = inl refl
+has_failed : GaveUp true 0
+has_failed = inl refl
 
-interrupted : GaveUp false 1000
-interrupted = inr refl
+often_interrupted : GaveUp false 1000
+often_interrupted = inr refl
 
 -- a sound one did not, and neither did one with an interruption less
 sound : GaveUp false 0 → ⊥

@@ -1,6 +1,9 @@
 -- Worked examples: records after which just one thing is not so that is said of live claims.
-use Rattle.std.proofs.Common.{◌≡◌, ℕ, zero, suc, pos, true, false, List, [], ◌∷◌, None, Some}
+use Rattle.std.proofs.Common.{◌≡◌, ◌≤◌, ◌<◌, ℕ, zero, suc, pos}
+use Rattle.std.proofs.Common.{true, false, List, [], ◌∷◌, None, Some}
 use Rattle.std.proofs.Common.{refl, arith, slice_get, ap, sym, ◌∙◌}
+use Rattle.std.specs.Prelude.{drop}
+use Rattle.psci_world_laws.specs.psci_board.Board.{size_below}
 use Rattle.psci_world_laws.specs.psci_board.declared.node.Node.{Node}
 use Rattle.psci_world_laws.specs.psci_link.declared.kind.Kind.TheVariants.{Down}
 use Rattle.psci_world_laws.specs.psci_world_spec.declared.event.Event.{Event}
@@ -11,7 +14,7 @@ use Rattle.psci_world_laws.specs.psci_world_spec.declared.said.Said.{Said}
 use Rattle.psci_world_laws.specs.psci_world_spec.Legal.{run_from}
 use Rattle.psci_world_laws.proofs.world_spec.Scripts.{acked, board, computing, off, on_3, part}
 use Rattle.psci_world_laws.proofs.world_spec.Scripts.{retention, returns, sends, stops}
-use Rattle.psci_world_laws.proofs.world_spec.Scripts.{system_reset, tall}
+use Rattle.psci_world_laws.proofs.world_spec.Scripts.{one_core, system_reset, tall}
 use Rattle.psci_safe.specs.Claims.{Claim, claims, live_claims}
 use Rattle.psci_headline.specs.Live.{AreApart, AreAsked, AreClaimed, NoneExecutes}
 
@@ -138,6 +141,27 @@ unfolding computing claims live_claims
 runs_below_the_system none =
     none (at 2 0) 3 0 _ (record { level = omega arith; place = omega arith }) (omega arith)
     refl refl refl
+
+-- a core executes below a claim that is live no more: it was in retention, and has resumed
+abbrev resumed : List Record
+resumed = run_from one_core [] (Enter 0 ∷ retention 0 ∷ Deliver 0 ∷ Wake 0 ∷ Enter 0 ∷ [])
+
+runs_below_an_old_claim : NoneExecutes one_core resumed
+unfolding computing claims live_claims
+runs_below_an_old_claim n c k p has on up at runs =
+    none_on n.level n.place has.level has.place at
+  where
+    none_on : (level place : ℕ) → level ≤ 1 → place < size_below (drop level one_core.levels)
+        → slice_get (live_claims one_core resumed (record { level = level; place = place })) k
+        ≡ Some p → ⊥
+    none_on zero zero low inside at = none_at_all k p at
+    none_on (suc zero) zero low inside at = none_at_all k p at
+    none_on zero (suc place) low inside at =
+        let no : suc place < 1 = inside in absurd (omega (arith, no))
+    none_on (suc zero) (suc place) low inside at =
+        let no : suc place < 1 = inside in absurd (omega (arith, no))
+    none_on (suc (suc level)) place low inside at =
+        let no : suc (suc level) ≤ 1 = low in absurd (omega (arith, no))
 
 -- In a later life -------------------------------------------------------------------------------
 

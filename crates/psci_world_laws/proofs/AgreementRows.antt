@@ -15,7 +15,8 @@ use Rattle.psci_world_spec.specs.declared.said.Record.{Record}
 use Rattle.psci_world_spec.specs.Histories.{controller_values, firmware_values}
 use Rattle.psci_world_spec.specs.Legal.{run_from}
 use Rattle.psci_world_spec.specs.Places.{place}
-use Rattle.psci_world_spec.proofs.Scripts.{board, call, computing, nothing, on_3, retention, returns}
+use Rattle.psci_world_spec.proofs.Scripts.{board, call, computing}
+use Rattle.psci_world_spec.proofs.Scripts.{nothing, on_3, retention, returns}
 use Rattle.psci_world_spec.proofs.Scripts.{started, stops}
 use Rattle.psci_world_spec.proofs.Scripts.{system_off, system_reset, version}
 use Rattle.psci_world_laws.specs.Agreement.{Agree, AgreeIn}
@@ -48,15 +49,21 @@ no_more false true false = omega arith
 no_more false false true = omega arith
 no_more false false false = omega arith
 
-woken_agree : AgreeIn board (controller_values board woken).starts (place board woken)
-    (in_life board 1 (firmware_values board woken))
+in_the_first_life : Agree board woken
 unfolding computing
-woken_agree = record {
-  known = λ c. no_more (c == 0) (c == 2) (c == 3);
-  waits = waits;
-  started = is_started;
-  runs = runs;
-  rests = rests;
+in_the_first_life = record {
+  begun = λ life is. let one : 1 ≡ life = same_Some 1 life is in omega (arith, one);
+  stopped = λ none. let no : Some 1 ≡ None = none in absurd (cc);
+  present = λ life is. subst (λ l. AgreeIn board (controller_values board woken).starts
+      (place board woken) (in_life board l (firmware_values board woken)))
+      (same_Some 1 life is)
+      (record {
+        known = λ c. no_more (c == 0) (c == 2) (c == 3);
+        waits = waits;
+        started = is_started;
+        runs = runs;
+        rests = rests;
+      });
 }
   where
     waits : (c : ℕ) → c < cores board → place board woken c ≡ Started
@@ -96,31 +103,27 @@ woken_agree = record {
     rests (suc (suc (suc zero))) on is running = let no : Started ≡ Stopped = is in absurd (cc)
     rests (suc (suc (suc (suc c)))) on is running = absurd (no_core c on)
 
-in_the_first_life : Agree board woken
-unfolding computing
-in_the_first_life = record {
-  begun = λ life is. let one : 1 ≡ life = same_Some 1 life is in omega (arith, one);
-  stopped = λ none. let no : Some 1 ≡ None = none in absurd (cc);
-  present = λ life is. subst (λ l. AgreeIn board (controller_values board woken).starts
-      (place board woken) (in_life board l (firmware_values board woken)))
-      (same_Some 1 life is) woken_agree;
-}
-
 -- In a life that the firmware does not know of --------------------------------------------------
 
 -- the system was reset: core 0 is started in life 2, and the firmware's life is 1
 abbrev reset : List Record
 reset = run_from board [] (Enter 0 ∷ system_reset 0 ∷ Deliver 0 ∷ [])
 
-reset_agree : AgreeIn board (controller_values board reset).starts (place board reset)
-    (in_life board 2 (firmware_values board reset))
+in_the_next_life : Agree board reset
 unfolding computing
-reset_agree = record {
-  known = λ c. omega arith;
-  waits = waits;
-  started = is_started;
-  runs = runs;
-  rests = rests;
+in_the_next_life = record {
+  begun = λ life is. let two : 2 ≡ life = same_Some 2 life is in omega (arith, two);
+  stopped = λ none. let no : Some 2 ≡ None = none in absurd (cc);
+  present = λ life is. subst (λ l. AgreeIn board (controller_values board reset).starts
+      (place board reset) (in_life board l (firmware_values board reset)))
+      (same_Some 2 life is)
+      (record {
+        known = λ c. omega arith;
+        waits = waits;
+        started = is_started;
+        runs = runs;
+        rests = rests;
+      });
 }
   where
     waits : (c : ℕ) → c < cores board → place board reset c ≡ Started
@@ -160,16 +163,6 @@ reset_agree = record {
     rests (suc (suc (suc zero))) on is running =
         let no : phases.Away ≡ phases.Running = running in absurd (cc)
     rests (suc (suc (suc (suc c)))) on is running = absurd (no_core c on)
-
-in_the_next_life : Agree board reset
-unfolding computing
-in_the_next_life = record {
-  begun = λ life is. let two : 2 ≡ life = same_Some 2 life is in omega (arith, two);
-  stopped = λ none. let no : Some 2 ≡ None = none in absurd (cc);
-  present = λ life is. subst (λ l. AgreeIn board (controller_values board reset).starts
-      (place board reset) (in_life board l (firmware_values board reset)))
-      (same_Some 2 life is) reset_agree;
-}
 
 -- Records ---------------------------------------------------------------------------------------
 
