@@ -6,6 +6,7 @@ use Rattle.psci_board.specs.declared.node.Node.{Node}
 use Rattle.psci_board.specs.Board.{BoardValue, up, path, height}
 use Rattle.psci_board.specs.Laws.{PathLaws}
 use Rattle.psci_tree.specs.Recount.{TreeValue, low, known}
+use Rattle.psci_tree.specs.Standing.{on_path}
 use Rattle.psci_coord.specs.declared.claim.Wish.{Wish}
 use Rattle.psci_coord.specs.declared.claim.Wish.TheVariants.{Least, Own}
 use Rattle.psci_coord.specs.View.{domain_of, least_ask, generation}
@@ -24,6 +25,12 @@ pub known-is : (b : BoardValue) (t : TreeValue) (core level : ℕ) (n : Node) �
     → n ≡ domain_of b core level → known t n ≡ generation b (view_of t) (domain_of b core level)
 unfolding known generation up
 known-is b t core level n e at = rw (at, e) refl
+
+-- the domain of a level on a core's path
+pub node-is : (b : BoardValue) (t : TreeValue) (core level : ℕ) → t.levels ≡ b.levels
+    → on_path t.levels core level ≡ domain_of b core level
+unfolding up
+node-is b t core level e = ap (λ ls. on_path ls core level) e
 
 -- the node of a level on a core's path
 pub path-at : (b : BoardValue) (core level : ℕ) (nodes : List Node) (n : Node) → PathLaws b

@@ -2,6 +2,7 @@ pub mod Claim
 pub mod LastCore
 pub mod Laws
 pub mod Looked
+pub mod Places
 pub mod View
 pub mod Wish
 pub use Rattle.psci_state.specs.psci_abi

@@ -1,16 +1,18 @@
 //! The parts that a core sends when it stops.
 
 ghost use Rattle.std.specs.Prelude.{◌≡◌, ◌<◌};
-ghost use Rattle.psci_board.specs.Board.{HasNodeIn, cores};
+ghost use Rattle.psci_board.specs.declared.node.Node.{Node};
+ghost use Rattle.psci_board.specs.Board.{cores};
+ghost use Rattle.psci_tree.specs.Recount.{TreeValue, low as low_of};
 ghost use Rattle.psci_coord.specs.Claim.{claims_of, platform_claims, own_claims};
 ghost use Rattle.psci_coord.specs.Wish.{depth_of, wanted};
 ghost use Rattle.psci_coord.specs.Looked.{view_of};
 
 use crate::part::Part;
 use crate::parts::Parts;
-use psci_board::{Board, Core, Node, law_paths};
+use psci_board::{Board, Core};
 use psci_state::Ask;
-use psci_tree::Tree;
+use psci_tree::{Standing, Tree};
 
 /// The depth that a core that stops wants of the domains on its path.
 #[derive(Drop)]
@@ -22,14 +24,15 @@ enum Wish {
 }
 
 impl Wish {
-    /// The depth that is wanted of a domain.
-    fn depth(&self, tree: &Tree, node: Node) -> u8
-        requires { HasNodeIn tree.now.levels node }
-        ensures { result ≡ depth_of tree.now node self.now }
+    /// The depth that is wanted of a domain of this level, of which the cores below ask this at
+    /// least.
+    fn depth(&self, level: u32, low: u8) -> u8
+        ensures { (t : TreeValue) (n : Node) → level ≡ n.level → low ≡ low_of t n n.level
+            → result ≡ depth_of t n self.now }
     {
         match self {
-            Wish::Least => tree.low(node, node.level),
-            Wish::Own(ask) => ask.depth(node.level),
+            Wish::Least => low,
+            Wish::Own(ask) => ask.depth(level),
         }
     }
 }
@@ -62,19 +65,18 @@ fn climb(tree: &Tree, board: &Board, core: Core, wish: &Wish) -> Parts
     ensures { result ≡ claims_of board.now (view_of tree.now) core.number
         (wanted board.now (view_of tree.now) core.number wish.now) }
 {
-    law_paths();
-    let path = board.path(core);
+    let standings = tree.standings(core);
     let mut parts = Parts::new();
     for level in 0..board.height() + 1 {
-        let node = path[level as usize];
-        let depth = wish.depth(tree, node);
+        let Standing { low, known } = standings[level as usize];
+        let depth = wish.depth(level, low);
         if depth == 0 {
             break;
         }
         parts.push(Part {
             level,
             depth,
-            generation: tree.known(node),
+            generation: known,
         });
     }
     parts

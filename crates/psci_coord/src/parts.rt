@@ -7,23 +7,37 @@ use std::marker::Model;
 /// How many parts a claim has at most: one for each level of the highest board.
 pub const MOST_PARTS: usize = 4;
 
-/// The parts of a claim, the lowest level first.
-#[derive(Debug, PartialEq, Eq, Drop)]
+/// What a place holds that is not used.
+const UNUSED: Part = Part {
+    level: 0,
+    depth: 0,
+    generation: 0,
+};
+
+/// The parts of a claim, the lowest level first. They lie in the value itself, which is so copied
+/// as a whole.
+#[derive(Clone, Copy, Debug, PartialEq, Eq)]
 pub struct Parts {
-    parts: ArrayVec<Part, MOST_PARTS>,
+    /// The parts, and then the places that are not used.
+    places: [Part; MOST_PARTS],
+    /// How many parts there are.
+    count: usize,
 }
 
 impl Model for Parts {
-    ghost use Rattle.std.specs.Prelude.{List, ◌≤◌, length};
+    ghost use Rattle.std.specs.Prelude.{List, take, length};
     ghost use Rattle.psci_coord.specs.declared.part.Part.{Part};
+    ghost use Rattle.psci_coord.specs.Places.{AreAtPlaces, places_of};
 
     ghost Value = { List Part };
 
-    ghost view = { λ p. p.parts.items };
+    ghost view = { λ p. take p.count p.places };
 
-    ghost invariant = { λ p. length p.parts.items ≤ 4 };
+    ghost invariant = { λ p. AreAtPlaces p.count p.places };
 
-    ghost inverse = { λ parts. record { parts = record { items = parts } } };
+    ghost inverse = { λ parts. record { places = places_of parts; count = length parts } };
+
+    ghost inverse_ok = { λ p h i. record { places = h.rest i; count = h.used i } };
 }
 
 ghost use Rattle.std.specs.Prelude.{◌≡◌, ◌<◌, ◌≤◌, ◌++◌, ◌∷◌, [], ◌↔◌, IsTrue, length, take};
@@ -34,7 +48,8 @@ impl Parts {
         ensures { result ≡ [] }
     {
         Parts {
-            parts: ArrayVec::new(),
+            places: [UNUSED; MOST_PARTS],
+            count: 0,
         }
     }
 
@@ -42,7 +57,7 @@ impl Parts {
     pub fn is_full(&self) -> bool
         ensures { IsTrue result ↔ (length self.now ≡ MOST_PARTS) }
     {
-        self.parts.is_full()
+        self.count == MOST_PARTS
     }
 
     /// Adds a part after the others.
@@ -50,7 +65,8 @@ impl Parts {
         requires { length self.old < MOST_PARTS }
         ensures { self.new ≡ self.old ++ part ∷ [] }
     {
-        self.parts.push(part);
+        self.places[self.count] = part;
+        self.count += 1;
     }
 
     /// The parts in their order.
@@ -58,26 +74,25 @@ impl Parts {
         ensures parts { result.now ≡ self.now }
         ensures few { length self.now ≤ MOST_PARTS }
     {
-        self.parts.as_slice()
+        &self.places[..self.count]
     }
 
     /// The same parts again.
     pub fn copy(&self) -> Parts
         ensures { result ≡ self.now }
     {
-        let mut parts = ArrayVec::new();
-        for part in self.parts.as_slice() {
-            parts.push(*part);
-        }
-        Parts { parts }
+        *self
     }
 
     /// The first of these parts, so many where there are as many.
     pub fn first(&self, count: usize) -> Parts
         ensures { result ≡ take count self.now }
     {
-        let mut first = self.copy();
-        first.parts.truncate(count);
+        let parts = self.as_slice();
+        let mut first = Parts::new();
+        for place in 0..count.min(parts.len()) {
+            first.push(parts[place]);
+        }
         first
     }
 }
@@ -86,7 +101,11 @@ impl From<ArrayVec<Part, MOST_PARTS>> for Parts {
     ghost from_gives = { λ items parts. parts ≡ items.items };
 
     fn from(parts: ArrayVec<Part, MOST_PARTS>) -> Parts {
-        Parts { parts }
+        let mut own = Parts::new();
+        for part in parts.as_slice() {
+            own.push(*part);
+        }
+        own
     }
 }
 
@@ -94,6 +113,10 @@ impl From<Parts> for ArrayVec<Part, MOST_PARTS> {
     ghost from_gives = { λ parts items. items.items ≡ parts };
 
     fn from(parts: Parts) -> ArrayVec<Part, MOST_PARTS> {
-        parts.parts
+        let mut items = ArrayVec::new();
+        for part in parts.as_slice() {
+            items.push(*part);
+        }
+        items
     }
 }

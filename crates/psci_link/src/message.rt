@@ -7,7 +7,7 @@ use std::marker::Model;
 
 /// A message to the power controller. Two messages of the same kind, core, life and number are the
 /// same message.
-#[derive(Debug, PartialEq, Eq, Drop)]
+#[derive(Clone, Copy, Debug, PartialEq, Eq)]
 pub struct Message {
     /// What is asked for.
     pub kind: Kind,
@@ -58,12 +58,6 @@ impl Message {
     pub fn copy(&self) -> Message
         ensures { result ≡ self.now }
     {
-        Message {
-            kind: self.kind,
-            core: self.core,
-            life: self.life,
-            number: self.number,
-            parts: self.parts.copy(),
-        }
+        *self
     }
 }

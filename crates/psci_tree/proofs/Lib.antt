@@ -6,13 +6,14 @@ pub mod GrantRows
 pub mod Granted
 pub mod Keeping
 pub mod KeptRows
-pub mod Leaves
 pub mod Looked
+pub mod OffOnes
 pub mod Places
 pub mod Recounted
 pub mod Rows
 pub mod Shapes
 pub mod Slices
+pub mod Standings
 pub mod Sums
 pub mod UnevenRows
 pub mod Upward

@@ -1,4 +1,6 @@
 -- How the domains in memory and the value of a tree belong together.
+use Rattle.std.specs.Prelude.{◌≡◌, List}
+use Rattle.psci_tree.specs.declared.state.CoreState.{CoreState}
 use Rattle.psci_tree.specs.declared.domain.Domain.{Domain}
 use Rattle.psci_tree.specs.Domains.{IsWhole}
 use Rattle.psci_tree.specs.Kept.{IsKept}
@@ -9,3 +11,8 @@ pub record IsTied (root : Domain) (t : TreeValue) : Type 0 where
   pub whole : IsWhole root t.levels
   pub kept : IsKept root
   pub valid : IsDomainTree t
+
+-- and the row beside them has the state of each core
+pub record IsHeld (root : Domain) (cores : List CoreState) (t : TreeValue) : Type 0 where
+  pub tied : IsTied root t
+  pub row : cores ≡ t.cores

@@ -3,3 +3,4 @@ pub mod Domains
 pub mod Inside
 pub mod Kept
 pub mod Recount
+pub mod Standing

@@ -1,7 +1,10 @@
 //! The way down from the system to a domain, and back up from a core that changes.
 
-ghost use Rattle.std.specs.Prelude.{◌≡◌, ℕ, ◌-◌, ◌<◌, length, get_or, replicate};
-ghost use Rattle.psci_board.specs.Board.{HasNode, IsTree, height, size_below};
+ghost use Rattle.std.specs.Prelude.{◌≡◌, ℕ, ◌-◌, ◌<◌, ◌≤◌, length, get_or, replicate};
+ghost use Rattle.std.specs.Prelude.{slice_index_or};
+ghost use Rattle.psci_board.specs.Board.{HasNode, IsTree, height, place_above, size_below};
+ghost use Rattle.psci_tree.specs.declared.standing.Standing.{Standing};
+ghost use Rattle.psci_tree.specs.Standing.{kept_standing};
 ghost use Rattle.psci_tree.specs.declared.domain.Domain.{Domain};
 ghost use Rattle.psci_tree.specs.Recount.{never_started};
 ghost use Rattle.psci_tree.specs.Changes.{with_change};
@@ -10,7 +13,8 @@ ghost use Rattle.psci_tree.specs.Domains.{domains_down};
 ghost use Rattle.psci_tree.specs.Kept.{IsKept};
 
 use crate::domain::Domain;
-use crate::state::{Activity, Change};
+use crate::standing::Standing;
+use crate::state::Change;
 use psci_board::{Board, Core, MOST_LEVELS, Node};
 
 /// The domain of a node of the board, one step down for each level.
@@ -26,6 +30,36 @@ pub fn domain_at<'a>(root: &'a Domain, board: &Board, node: Node) -> &'a Domain
     };
     let parent = domain_at(root, board, parent);
     &parent.children[number as usize]
+}
+
+/// The domain of a node, by one way down, on which is written by level how each domain stands.
+pub fn domain_of_path<'a>(
+    root: &'a Domain,
+    board: &Board,
+    node: Node,
+    standings: &mut [Standing],
+) -> &'a Domain
+    requires tree { IsTree board.now.levels }
+    requires shape { HasShape root.now board.now.levels }
+    requires node { HasNode board.now node }
+    requires high { height board.now ≤ 3 }
+    requires room { height board.now < length standings.old }
+    ensures domain { (d : Domain) → result.now
+        ≡ get_or (domains_down (height board.now - node.level) root.now) node.place d }
+    ensures standings { (core level : ℕ) (d : Domain) (s : Standing)
+        → place_above board.now.levels node.level core ≡ node.place → node.level ≤ level
+        → level ≤ height board.now → slice_index_or standings.new level s
+        ≡ kept_standing (get_or (domains_down (height board.now - level) root.now)
+        (place_above board.now.levels level core) d) level }
+{
+    let (Some(parent), Some(number)) = (board.parent(node), board.child_number(node)) else {
+        standings[node.level as usize] = root.standing(node.level);
+        return root;
+    };
+    let parent = domain_of_path(root, board, parent, standings);
+    let own = &parent.children[number as usize];
+    standings[node.level as usize] = own.standing(node.level);
+    own
 }
 
 /// Changes a core, and what each domain on its path keeps.
@@ -50,13 +84,7 @@ pub fn turn_off(root: &mut Domain, board: &Board)
     ensures shape { (k : ℕ) → child_counts k root.new ≡ child_counts k root.old }
     ensures kept { IsKept root.new }
 {
-    let change = Change {
-        activity: Activity::Off,
-        started: Some(0),
-    };
-    for number in 0..board.cores() {
-        change_core(root, board, Core { number }, &change);
-    }
+    root.turn_off();
 }
 
 /// The way from the system down to a core, one step for each level: the number, among its siblings,

@@ -1,14 +1,17 @@
 //! Power domains that hold those below them.
 
-ghost use Rattle.std.specs.Prelude.{◌≡◌, ℕ, ◌^◌, ◌<◌, ◌≤◌, length};
+ghost use Rattle.std.specs.Prelude.{◌≡◌, ℕ, ◌^◌, ◌<◌, ◌≤◌, length, replicate};
 ghost use Rattle.psci_tree.specs.declared.domain.Domain.{Domain};
 ghost use Rattle.psci_tree.specs.Changes.{with_change};
+ghost use Rattle.psci_tree.specs.Recount.{never_started};
 ghost use Rattle.psci_tree.specs.Domains.{branches, leaves, cores_in, child_counts, IsWay};
 ghost use Rattle.psci_tree.specs.Domains.{index_by};
 ghost use Rattle.psci_tree.specs.Kept.{AreKept, IsKept, Keeps};
+ghost use Rattle.psci_tree.specs.Standing.{kept_standing};
 
 use crate::kept::Kept;
-use crate::state::{Change, CoreState};
+use crate::standing::Standing;
+use crate::state::{Change, CoreState, NEVER_STARTED};
 
 /// A power domain. One without children is a core.
 #[derive(Drop)]
@@ -42,6 +45,35 @@ impl Domain {
         let number = way[level as usize - 1] as usize;
         self.children[number].change(level - 1, way, change);
         self.kept = self.anew();
+    }
+
+    /// Turns off every core below, and forgets its starts.
+    pub fn turn_off(&mut self)
+        requires few { length (leaves self.old) < 2 ^ 16 }
+        ensures cores { leaves self.new ≡ replicate (length (leaves self.old)) never_started }
+        ensures shape { (k : ℕ) → child_counts k self.new ≡ child_counts k self.old }
+        ensures kept { IsKept self.new }
+    {
+        if self.children.is_empty() {
+            self.core = NEVER_STARTED;
+            self.kept = Kept::of_core(&NEVER_STARTED);
+            return;
+        }
+        for number in 0..self.children.len() {
+            self.children[number].turn_off();
+        }
+        self.kept = self.anew();
+    }
+
+    /// How the domain stands, which is one of this level.
+    pub fn standing(&self, level: u32) -> Standing
+        requires { level ≤ 3 }
+        ensures { result ≡ kept_standing self.now level }
+    {
+        Standing {
+            low: self.kept.lows[level as usize],
+            known: self.kept.known,
+        }
     }
 
     /// What is kept of the cores below, computed anew from what the children keep.

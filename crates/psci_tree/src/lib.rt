@@ -10,6 +10,8 @@
 //! - The *granted depth* of a domain is the depth that it was granted last, 0 once a core below it
 //!   became pending or started.
 //! - A granted depth is *confirmed* once the power controller said that the domain is at it.
+//! - How a domain *stands* is the least ask of it of the cores below, and the sum of their known
+//!   starts.
 //! - A value of a domain *below* is recounted over all cores whose path the domain is on.
 #![tactic(auto)]
 
@@ -19,6 +21,7 @@ mod domain;
 mod grants;
 mod kept;
 mod laws;
+mod standing;
 mod state;
 mod tree;
 
@@ -26,5 +29,6 @@ pub use laws::{
     law_asks, law_confirmed, law_cores, law_counts, law_granted, law_known, law_low,
     law_start_of_life, law_states,
 };
+pub use standing::Standing;
 pub use state::Activity;
 pub use tree::Tree;

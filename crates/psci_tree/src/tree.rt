@@ -1,11 +1,12 @@
 //! The tree of power domains.
 
 use crate::build::build;
-use crate::descent::{change_core, domain_at, turn_off};
+use crate::descent::{change_core, domain_at, domain_of_path, turn_off};
 use crate::domain::Domain;
 use crate::grants::{clear_up, deepest_rows, fill_rows, write};
+use crate::standing::Standing;
 use crate::state::{Activity, Change, CoreState, NEVER_STARTED};
-use psci_board::{Board, Core, Memory, Node, law_sizes, law_spans};
+use psci_board::{Board, Core, MOST_ON_PATH, Memory, Node, law_sizes, law_spans};
 use psci_state::Ask;
 use std::alloc::Global;
 use std::marker::Model;
@@ -18,6 +19,9 @@ const BOOT_CORE: Core = Core { number: 0 };
 pub struct Tree {
     /// The board whose power domains they are.
     board: Board,
+    /// What is kept of each core, in the order of their numbers. Its leaf holds the same: here it is
+    /// read without a way down.
+    cores: Vec<CoreState>,
     /// From level 0 up, the granted depth of each domain.
     granted: Vec<Vec<u8>>,
     /// From level 0 up, the depth of each domain that is confirmed, 0 of one that has none.
@@ -30,7 +34,7 @@ impl Model for Tree {
     ghost use Rattle.std.specs.Prelude.{map};
     ghost use Rattle.psci_tree.specs.Recount.{TreeValue};
     ghost use Rattle.psci_tree.specs.Domains.{leaves};
-    ghost use Rattle.psci_tree.specs.Inside.{IsTied};
+    ghost use Rattle.psci_tree.specs.Inside.{IsHeld};
 
     ghost Value = { TreeValue };
 
@@ -41,7 +45,7 @@ impl Model for Tree {
       confirmed = map (λ v. v.items) t.confirmed.items;
     } };
 
-    ghost invariant = { λ t. IsTied t.root (record {
+    ghost invariant = { λ t. IsHeld t.root t.cores.items (record {
       levels = t.board.levels;
       cores = leaves t.root;
       granted = map (λ v. v.items) t.granted.items;
@@ -61,6 +65,9 @@ ghost use Rattle.psci_tree.specs.Changes.{with_grant, with_confirmed, with_core_
 ghost use Rattle.psci_tree.specs.Changes.{all_off, start_of_life, still_confirmed};
 ghost use Rattle.psci_tree.specs.Domains.{leaves};
 ghost use Rattle.psci_tree.specs.Kept.{Keeps};
+ghost use Rattle.psci_tree.specs.declared.standing.Standing.{Standing};
+ghost use Rattle.psci_tree.specs.Standing.{on_path, standing};
+ghost use Rattle.std.specs.Prelude.{slice_index_or};
 
 impl Tree {
     /// The tree of a board at the start of a life: the boot core, core 0, is pending, every other
@@ -73,6 +80,7 @@ impl Tree {
     {
         let mut tree = Tree {
             board: board.copy(alloc)?,
+            cores: vec![in alloc; NEVER_STARTED; board.cores() as usize]?,
             granted: deepest_rows(alloc, board)?,
             confirmed: deepest_rows(alloc, board)?,
             root: build(alloc, board)?,
@@ -127,6 +135,19 @@ impl Tree {
         ensures { result ≡ off self.now node }
     {
         self.domain(node).kept.off
+    }
+
+    /// How the domains on the path of a core stand, by level, after one way down.
+    pub fn standings(&self, core: Core) -> [Standing; MOST_ON_PATH]
+        requires { core.number < size_below self.now.levels }
+        ensures { (level : ℕ) (s : Standing) → level ≤ length self.now.levels
+            → slice_index_or result level s
+            ≡ standing self.now (on_path self.now.levels core.number level) }
+    {
+        law_spans();
+        let mut standings = [Standing::UNKNOWN; MOST_ON_PATH];
+        let _core = domain_of_path(&self.root, &self.board, core.node(), &mut standings);
+        standings
     }
 
     /// The granted depth of a domain.
@@ -254,10 +275,10 @@ impl Tree {
     fn core(&self, core: Core) -> CoreState
         ensures { result ≡ state_at self.now core.number }
     {
-        if core.number >= self.board.cores() {
-            return NEVER_STARTED;
-        }
-        self.domain(core.node()).core
+        self.cores
+            .get(core.number as usize)
+            .copied()
+            .unwrap_or(NEVER_STARTED)
     }
 
     /// Changes a core.
@@ -271,6 +292,8 @@ impl Tree {
     {
         let change = Change { activity, started };
         change_core(&mut self.root, &self.board, core, &change);
+        let own = &mut self.cores[core.number as usize];
+        *own = own.changed(&change);
     }
 
     /// Takes away what is granted and confirmed on the path of a core.
@@ -293,6 +316,7 @@ impl Tree {
         turn_off(&mut self.root, &self.board);
         fill_rows(&mut self.granted, 3);
         fill_rows(&mut self.confirmed, 3);
+        self.cores.fill(NEVER_STARTED);
     }
 
     /// The domain of a node.
@@ -301,8 +325,6 @@ impl Tree {
         ensures cores { leaves result.now
             ≡ map (λ c. state_at self.now c) (below_in self.now.levels node) }
         ensures kept { Keeps (out-Domain result.now).kept (leaves result.now) }
-        ensures core { node.level ≡ 0 → (out-Domain result.now).core
-            ≡ state_at self.now node.place }
     {
         law_spans();
         domain_at(&self.root, &self.board, node)

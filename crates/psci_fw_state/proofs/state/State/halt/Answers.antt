@@ -1,7 +1,33 @@
-use Rattle.std.proofs.Common.{rules}
-use Rattle.psci_fw_state.specs.Seen.{values_in}
+use Rattle.std.proofs.Common.{◌≡◌, ◌∙◌, ℕ, ap, sym, length, subst}
+use Rattle.psci_board.specs.Board.{BoardValue, cores}
+use Rattle.psci_link.specs.Message.{MessageValue}
+use Rattle.psci_link.specs.Slots.{Slot, SlotsValue, IsOfCores, message_in, slot_of, changed}
+use Rattle.psci_link.specs.Slots.Change.{Put}
+use Rattle.psci_fw_spec.specs.Changes.{with_halt}
+use Rattle.psci_fw_state.specs.Seen.{StateValue, values_in}
 use Rattle.psci_fw_state.proofs.state.State.halt.Goals as goal
 
 pub returns-clause-after : goal.returns-clause-after
 unfolding values_in
-returns-clause-after c = search rules
+returns-clause-after c =
+    let s : StateValue = record {
+      board = c.self.inside.board;
+      life = c.self.inside.life;
+      halting = c.self.inside.halting;
+      mode = c.self.inside.mode;
+      tree = c.self.inside.tree;
+      rows = c.self.inside.rows.items;
+      slots = c.self.inside.slots;
+    } in
+    let m : MessageValue = c.args.message in
+    let own : IsOfCores (cores s.board) (slot_of m.kind m.core) =
+    subst (λ (t : StateValue). IsOfCores (cores t.board) (slot_of m.kind m.core))
+    (sym c.self.view_is) c.requires.slot in
+    let has : IsOfCores (length s.slots.cores) (slot_of m.kind m.core) =
+    subst (λ (n : ℕ). IsOfCores n (slot_of m.kind m.core)) (sym c.self.invariant.slots) own in
+    let sent : (slot : Slot) → message_in c.put.new.self slot
+    ≡ changed slot (Put m) (message_in s.slots slot) = λ slot.
+    ap (λ (x : SlotsValue). message_in x slot) c.put.ensures.slots
+    ∙ c.law_slots.ensures.changed s.slots (Put m) has slot in
+    (λ i. record (with_halt m (values_in s)) { outstanding = λ slot. sent slot i })
+    ∙ ap (λ (t : StateValue). with_halt m (values_in t)) c.self.view_is

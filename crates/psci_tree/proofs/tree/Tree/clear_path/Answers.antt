@@ -7,16 +7,17 @@ use Rattle.psci_board.specs.Board.{HasNodeIn, size_below}
 use Rattle.psci_tree.specs.Recount.{TreeValue, IsDomainTree}
 use Rattle.psci_tree.specs.Changes.{with_path_cleared, path_cleared}
 use Rattle.psci_tree.specs.Domains.{leaves}
-use Rattle.psci_tree.specs.Inside.{IsTied}
+use Rattle.psci_tree.specs.Inside.{IsTied, IsHeld}
+use Rattle.psci_tree.specs.declared.state.CoreState.{CoreState}
 use Rattle.psci_tree.proofs.Valid.{path_valid}
 use Rattle.psci_tree.proofs.tree.Tree.clear_path.Goals as goal
 
 pub clear_up-requires : goal.clear_up-requires
 clear_up-requires c =
     record {
-      tree = c.self.invariant.valid.tree;
+      tree = c.self.invariant.tied.valid.tree;
       rows = ap (λ xs. map length (map (λ v. v.items) xs)) c.deref_mut.ensures.value
-          ∙ c.self.invariant.valid.granted;
+          ∙ c.self.invariant.tied.valid.granted;
       node = subst (HasNodeIn c.self.inside.board.levels) (sym c.node.ensures) (record {
         level = omega arith;
         place = subst (λ (t : TreeValue). c.args.core.number < size_below t.levels)
@@ -27,9 +28,9 @@ clear_up-requires c =
 pub clear_up-requires-2 : goal.clear_up-requires-2
 clear_up-requires-2 c =
     record {
-      tree = c.self.invariant.valid.tree;
+      tree = c.self.invariant.tied.valid.tree;
       rows = ap (λ xs. map length (map (λ v. v.items) xs)) c.deref_mut-2.ensures.value
-          ∙ c.self.invariant.valid.confirmed;
+          ∙ c.self.invariant.tied.valid.confirmed;
       node = subst (HasNodeIn c.self.inside.board.levels) (sym c.node-2.ensures) (record {
         level = omega arith;
         place = subst (λ (t : TreeValue). c.args.core.number < size_below t.levels)
@@ -76,16 +77,21 @@ returns-clause-value c =
 pub returns-clause-tree : goal.returns-clause-tree
 returns-clause-tree c =
     let tied : IsTied c.self.inside.root c.args.self.now =
-    subst (IsTied c.self.inside.root) c.self.view_is c.self.invariant in
+    subst (IsTied c.self.inside.root) c.self.view_is c.self.invariant.tied in
     subst IsDomainTree (sym (returns-clause-value c))
     (path_valid c.args.self.now c.args.core.number tied.valid)
 
 pub invariant_of-self : goal.invariant_of-self
 invariant_of-self c =
-    let tied : IsTied c.self.inside.root c.args.self.now =
-    subst (IsTied c.self.inside.root) c.self.view_is c.self.invariant in
-    subst (IsTied c.self.inside.root) (sym (returns-clause-value c)) (record {
-      whole = tied.whole;
-      kept = tied.kept;
-      valid = path_valid c.args.self.now c.args.core.number tied.valid;
+    let row : List CoreState = c.self.inside.cores.items in
+    let held : IsHeld c.self.inside.root row c.args.self.now =
+    subst (IsHeld c.self.inside.root row) c.self.view_is c.self.invariant in
+    let tied : IsTied c.self.inside.root c.args.self.now = held.tied in
+    subst (IsHeld c.self.inside.root row) (sym (returns-clause-value c)) (record {
+      tied = record {
+        whole = tied.whole;
+        kept = tied.kept;
+        valid = path_valid c.args.self.now c.args.core.number tied.valid;
+      };
+      row = held.row;
     })

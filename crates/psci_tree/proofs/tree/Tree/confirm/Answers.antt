@@ -5,7 +5,8 @@ use Rattle.psci_board.specs.declared.node.Node.{Node}
 use Rattle.psci_tree.specs.Recount.{TreeValue, IsDomainTree, granted_at}
 use Rattle.psci_tree.specs.Changes.{with_confirmed, depth_set}
 use Rattle.psci_tree.specs.Domains.{leaves}
-use Rattle.psci_tree.specs.Inside.{IsTied}
+use Rattle.psci_tree.specs.Inside.{IsTied, IsHeld}
+use Rattle.psci_tree.specs.declared.state.CoreState.{CoreState}
 use Rattle.psci_tree.proofs.Granted.{RowOf, row_of}
 use Rattle.psci_tree.proofs.Valid.{confirmed_valid}
 use Rattle.psci_tree.proofs.tree.Tree.confirm.Goals as goal
@@ -14,7 +15,7 @@ pub write-requires : goal.write-requires
 write-requires c =
     let rows : List (List ℕ) = map (λ v. v.items) c.self.inside.confirmed.items in
     let at : RowOf rows c.args.node =
-    row_of _ _ c.args.node c.self.invariant.valid.confirmed (subst (λ (t : TreeValue). HasNodeIn
+    row_of _ _ c.args.node c.self.invariant.tied.valid.confirmed (subst (λ (t : TreeValue). HasNodeIn
     t.levels c.args.node) (sym c.self.view_is) c.requires.domain) in
     let same : map (λ v. v.items) c.deref_mut.result.now ≡ rows =
     ap (map (λ v. v.items)) c.deref_mut.ensures.value in
@@ -56,17 +57,22 @@ returns-clause-value c =
 pub returns-clause-tree : goal.returns-clause-tree
 returns-clause-tree c =
     let tied : IsTied c.self.inside.root c.args.self.now =
-    subst (IsTied c.self.inside.root) c.self.view_is c.self.invariant in
+    subst (IsTied c.self.inside.root) c.self.view_is c.self.invariant.tied in
     subst IsDomainTree (sym (returns-clause-value c))
     (confirmed_valid c.args.self.now c.args.node tied.valid)
 
 pub invariant_of-self : goal.invariant_of-self
 unfolding with_confirmed
 invariant_of-self c =
-    let tied : IsTied c.self.inside.root c.args.self.now =
-    subst (IsTied c.self.inside.root) c.self.view_is c.self.invariant in
-    subst (IsTied c.self.inside.root) (sym (returns-clause-value c)) (record {
-      whole = tied.whole;
-      kept = tied.kept;
-      valid = confirmed_valid c.args.self.now c.args.node tied.valid;
+    let row : List CoreState = c.self.inside.cores.items in
+    let held : IsHeld c.self.inside.root row c.args.self.now =
+    subst (IsHeld c.self.inside.root row) c.self.view_is c.self.invariant in
+    let tied : IsTied c.self.inside.root c.args.self.now = held.tied in
+    subst (IsHeld c.self.inside.root row) (sym (returns-clause-value c)) (record {
+      tied = record {
+        whole = tied.whole;
+        kept = tied.kept;
+        valid = confirmed_valid c.args.self.now c.args.node tied.valid;
+      };
+      row = held.row;
     })

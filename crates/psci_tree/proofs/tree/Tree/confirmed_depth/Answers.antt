@@ -9,7 +9,7 @@ pub index-requires : goal.index-requires
 index-requires c =
     let row = c.index-places.result.now in
     let at : RowOf (map (λ v. v.items) c.self.inside.confirmed.items) c.args.node =
-    row_of _ _ c.args.node c.self.invariant.valid.confirmed (subst
+    row_of _ _ c.args.node c.self.invariant.tied.valid.confirmed (subst
     (λ (t : TreeValue). HasNodeIn t.levels c.args.node) (sym c.self.view_is) c.requires) in
     let same : row.items
     ≡ get_or (map (λ v. v.items) c.self.inside.confirmed.items) c.args.node.level [] =
@@ -22,7 +22,7 @@ pub returns : goal.returns
 returns c =
     let row = c.index-places.result.now in
     let at : RowOf (map (λ v. v.items) c.self.inside.confirmed.items) c.args.node =
-    row_of _ _ c.args.node c.self.invariant.valid.confirmed (subst
+    row_of _ _ c.args.node c.self.invariant.tied.valid.confirmed (subst
     (λ (t : TreeValue). HasNodeIn t.levels c.args.node) (sym c.self.view_is) c.requires) in
     let same : row.items
     ≡ get_or (map (λ v. v.items) c.self.inside.confirmed.items) c.args.node.level [] =

@@ -6,7 +6,8 @@ use Rattle.psci_board.specs.declared.node.Node.{Node}
 use Rattle.psci_tree.specs.Recount.{TreeValue, IsDomainTree, level_sizes}
 use Rattle.psci_tree.specs.Changes.{with_grant, depth_set, still_confirmed}
 use Rattle.psci_tree.specs.Domains.{leaves}
-use Rattle.psci_tree.specs.Inside.{IsTied}
+use Rattle.psci_tree.specs.Inside.{IsTied, IsHeld}
+use Rattle.psci_tree.specs.declared.state.CoreState.{CoreState}
 use Rattle.psci_tree.proofs.Granted.{RowOf, row_of}
 use Rattle.psci_tree.proofs.Valid.{grant_valid}
 use Rattle.psci_tree.proofs.tree.Tree.grant.Goals as goal
@@ -19,7 +20,7 @@ at_row levels rows now n e h same =
 
 pub write-requires : goal.write-requires
 write-requires c =
-    let at = at_row c.self.inside.board.levels _ _ c.args.node c.self.invariant.valid.confirmed (subst (λ (t : TreeValue).
+    let at = at_row c.self.inside.board.levels _ _ c.args.node c.self.invariant.tied.valid.confirmed (subst (λ (t : TreeValue).
     HasNodeIn t.levels c.args.node) (sym c.self.view_is) c.requires.domain)
     (ap (map (λ v. v.items)) c.deref_mut.ensures.value) in
     record {
@@ -29,7 +30,7 @@ write-requires c =
 
 pub write-requires-2 : goal.write-requires-2
 write-requires-2 c =
-    let at = at_row c.self.inside.board.levels _ _ c.args.node c.self.invariant.valid.granted (subst (λ (t : TreeValue).
+    let at = at_row c.self.inside.board.levels _ _ c.args.node c.self.invariant.tied.valid.granted (subst (λ (t : TreeValue).
     HasNodeIn t.levels c.args.node) (sym c.self.view_is) c.requires.domain)
     (ap (map (λ v. v.items)) c.deref_mut-2.ensures.value) in
     record {
@@ -77,18 +78,23 @@ returns-clause-value c =
 pub returns-clause-tree : goal.returns-clause-tree
 returns-clause-tree c =
     let tied : IsTied c.self.inside.root c.args.self.now =
-    subst (IsTied c.self.inside.root) c.self.view_is c.self.invariant in
+    subst (IsTied c.self.inside.root) c.self.view_is c.self.invariant.tied in
     subst IsDomainTree (sym (returns-clause-value c)) (grant_valid c.args.self.now c.args.node
     c.args.depth tied.valid c.requires.domain c.requires.depth)
 
 pub invariant_of-self : goal.invariant_of-self
 unfolding with_grant
 invariant_of-self c =
-    let tied : IsTied c.self.inside.root c.args.self.now =
-    subst (IsTied c.self.inside.root) c.self.view_is c.self.invariant in
-    subst (IsTied c.self.inside.root) (sym (returns-clause-value c)) (record {
-      whole = tied.whole;
-      kept = tied.kept;
-      valid = grant_valid c.args.self.now c.args.node c.args.depth tied.valid c.requires.domain
-          c.requires.depth;
+    let row : List CoreState = c.self.inside.cores.items in
+    let held : IsHeld c.self.inside.root row c.args.self.now =
+    subst (IsHeld c.self.inside.root row) c.self.view_is c.self.invariant in
+    let tied : IsTied c.self.inside.root c.args.self.now = held.tied in
+    subst (IsHeld c.self.inside.root row) (sym (returns-clause-value c)) (record {
+      tied = record {
+        whole = tied.whole;
+        kept = tied.kept;
+        valid = grant_valid c.args.self.now c.args.node c.args.depth tied.valid c.requires.domain
+            c.requires.depth;
+      };
+      row = held.row;
     })

@@ -9,7 +9,7 @@ pub index-requires : goal.index-requires
 index-requires c =
     let row = c.index-row.result.now in
     let at : RowOf (map (λ v. v.items) c.self.inside.granted.items) c.args.node =
-    row_of _ _ c.args.node c.self.invariant.valid.granted (subst
+    row_of _ _ c.args.node c.self.invariant.tied.valid.granted (subst
     (λ (t : TreeValue). HasNodeIn t.levels c.args.node) (sym c.self.view_is) c.requires) in
     let same : row.items
     ≡ get_or (map (λ v. v.items) c.self.inside.granted.items) c.args.node.level [] =
@@ -22,7 +22,7 @@ pub returns-clause-value : goal.returns-clause-value
 returns-clause-value c =
     let row = c.index-row.result.now in
     let at : RowOf (map (λ v. v.items) c.self.inside.granted.items) c.args.node =
-    row_of _ _ c.args.node c.self.invariant.valid.granted (subst
+    row_of _ _ c.args.node c.self.invariant.tied.valid.granted (subst
     (λ (t : TreeValue). HasNodeIn t.levels c.args.node) (sym c.self.view_is) c.requires) in
     let same : row.items
     ≡ get_or (map (λ v. v.items) c.self.inside.granted.items) c.args.node.level [] =

@@ -12,7 +12,7 @@ pub returns-then-level-height : goal.returns-then-level-height
 returns-then-level-height c =
     let t : TreeValue = c.args.self.now in
     let tied : IsTied c.self.inside.root t =
-    subst (IsTied c.self.inside.root) c.self.view_is c.self.invariant in
+    subst (IsTied c.self.inside.root) c.self.view_is c.self.invariant.tied in
     let laws : SpanLaws t.levels = c.law_spans.ensures t.levels tied.valid.tree in
     let some : 0 < length (below_in t.levels c.args.node) = omega (
       arith,

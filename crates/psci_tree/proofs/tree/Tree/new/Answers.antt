@@ -1,4 +1,4 @@
-use Rattle.std.proofs.Common.{◌≡◌, ◌∙◌, ap, sym, subst, map, get_or, ℕ, List}
+use Rattle.std.proofs.Common.{◌≡◌, ◌∙◌, ap, sym, subst, map, get_or, replicate, ℕ, List}
 use Rattle.psci_board.specs.Board.{BoardValue, IsBoard}
 use Rattle.psci_tree.specs.declared.state.CoreState.{CoreState}
 use Rattle.psci_tree.specs.declared.domain.Domain.{Domain}
@@ -30,12 +30,18 @@ invariant_of-tree c =
     let at : List (List ℕ) → List (List ℕ) → TreeValue =
     λ gs fs. record { levels = own.levels; cores = leaves root; granted = gs; confirmed = fs } in
     record {
-      whole = whole;
-      kept = c.in_ok-build.ensures.kept;
-      valid = subst (λ gs. IsDomainTree (at gs
-          (map (λ v. v.items) c.in_ok-deepest_rows-2.field-0.items))) (sym granted)
-          (subst (λ fs. IsDomainTree (at full fs)) (sym confirmed) (full_valid own.levels
-          (leaves root) board.tree board.high (length_cores root own.levels board.tree whole) idle));
+      tied = record {
+        whole = whole;
+        kept = c.in_ok-build.ensures.kept;
+        valid = subst (λ gs. IsDomainTree (at gs
+            (map (λ v. v.items) c.in_ok-deepest_rows-2.field-0.items))) (sym granted)
+            (subst (λ fs. IsDomainTree (at full fs)) (sym confirmed) (full_valid own.levels
+            (leaves root) board.tree board.high (length_cores root own.levels board.tree whole)
+            idle));
+      };
+      row = c.in_ok-vec.ensures.items_if_clones_equal (λ y h. h)
+          ∙ ap (λ n. replicate n never_started) c.cores.ensures.cores
+          ∙ sym (c.in_ok-build.ensures.off);
     }
 
 pub set_pending-requires : goal.set_pending-requires

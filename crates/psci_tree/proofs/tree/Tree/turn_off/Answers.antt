@@ -7,7 +7,7 @@ use Rattle.psci_tree.specs.declared.domain.Domain.{Domain}
 use Rattle.psci_tree.specs.Recount.{TreeValue, IsDomainTree, never_started, level_sizes}
 use Rattle.psci_tree.specs.Changes.{all_off, rows_with_depth}
 use Rattle.psci_tree.specs.Domains.{leaves}
-use Rattle.psci_tree.specs.Inside.{IsTied}
+use Rattle.psci_tree.specs.Inside.{IsTied, IsHeld}
 use Rattle.psci_tree.proofs.Valid.{all_off_valid}
 use Rattle.psci_tree.proofs.Slices.{whole_kept}
 use Rattle.psci_tree.proofs.tree.Tree.turn_off.Goals as goal
@@ -24,15 +24,15 @@ returns-clause-value c =
     let full : List (List ℕ) = rows_with_depth (level_sizes levels) 3 in
     let states : leaves c.turn_off.new.root ≡ replicate (size_below levels) never_started =
     c.turn_off.ensures.cores
-    ∙ ap (λ n. replicate n never_started) c.self.invariant.valid.cores in
+    ∙ ap (λ n. replicate n never_started) c.self.invariant.tied.valid.cores in
     let rows : map (λ v. v.items) c.fill_rows.new.rows ≡ full =
     c.fill_rows.ensures
     ∙ ap (λ xs. rows_with_depth (map length (map (λ v. v.items) xs)) 3) c.deref_mut.ensures.value
-    ∙ ap (λ ns. rows_with_depth ns 3) c.self.invariant.valid.granted in
+    ∙ ap (λ ns. rows_with_depth ns 3) c.self.invariant.tied.valid.granted in
     let rows-2 : map (λ v. v.items) c.fill_rows-2.new.rows ≡ full =
     c.fill_rows-2.ensures
     ∙ ap (λ xs. rows_with_depth (map length (map (λ v. v.items) xs)) 3) c.deref_mut-2.ensures.value
-    ∙ ap (λ ns. rows_with_depth ns 3) c.self.invariant.valid.confirmed in
+    ∙ ap (λ ns. rows_with_depth ns 3) c.self.invariant.tied.valid.confirmed in
     let now-2 : List (List ℕ) = map (λ v. v.items)
     (with_items c.self.inside.confirmed c.fill_rows-2.new.rows).items in
     ap (λ gs. change (leaves c.turn_off.new.root) gs now-2) (ap (map (λ v. v.items)) kept ∙ rows)
@@ -43,18 +43,24 @@ returns-clause-value c =
 pub returns-clause-tree : goal.returns-clause-tree
 returns-clause-tree c =
     let tied : IsTied c.self.inside.root c.args.self.now =
-    subst (IsTied c.self.inside.root) c.self.view_is c.self.invariant in
+    subst (IsTied c.self.inside.root) c.self.view_is c.self.invariant.tied in
     subst IsDomainTree (sym (returns-clause-value c))
     (all_off_valid c.args.self.now.levels tied.valid.tree tied.valid.high)
 
 pub invariant_of-self : goal.invariant_of-self
 invariant_of-self c =
-    let tied : IsTied c.self.inside.root c.args.self.now =
-    subst (IsTied c.self.inside.root) c.self.view_is c.self.invariant in
+    let cores : List CoreState = c.self.inside.cores.items in
+    let held : IsHeld c.self.inside.root cores c.args.self.now =
+    subst (IsHeld c.self.inside.root cores) c.self.view_is c.self.invariant in
     let root : Domain = c.turn_off.new.root in
-    subst (IsTied root) (sym (returns-clause-value c)) (record {
-      whole = whole_kept c.self.inside.root root c.args.self.now.levels
-          c.turn_off.ensures.shape tied.whole;
-      kept = c.turn_off.ensures.kept;
-      valid = all_off_valid c.args.self.now.levels tied.valid.tree tied.valid.high;
+    let levels : List (List ℕ) = c.args.self.now.levels in
+    subst (IsHeld root c.fill.new.self.items) (sym (returns-clause-value c)) (record {
+      tied = record {
+        whole = whole_kept c.self.inside.root root levels c.turn_off.ensures.shape held.tied.whole;
+        kept = c.turn_off.ensures.kept;
+        valid = all_off_valid levels held.tied.valid.tree held.tied.valid.high;
+      };
+      row = c.fill.ensures.items (λ y h. h)
+          ∙ ap (λ n. replicate n never_started) (c.self.inside.cores.ok.0
+          ∙ ap length held.row ∙ held.tied.valid.cores);
     })

@@ -1,0 +1,210 @@
+use Rattle.std.proofs.Common.{◌≡◌, ◌≢◌, ◌<◌, ◌≤◌, ◌+◌, ◌∙◌, ◌==◌, ℕ, zero, suc, Bool, true, false, List}
+use Rattle.std.proofs.Common.{length, get_or, replicate, arith, rules, ap, sym, subst}
+use Rattle.std.proofs.Common.{get_or-set_other}
+use Rattle.std.proofs.lemmas.Bool.{eqb-true}
+use Rattle.std.proofs.Math.ListN.{set, length-set}
+use Rattle.std.specs.Vec.{with_item}
+use Rattle.std.proofs.lemmas.List.{get_or_default, length-replicate}
+use Rattle.psci_tree.specs.Recount.{never_started}
+use Rattle.psci_tree.specs.Domains.{leaves, branches, cores_in, child_counts}
+use Rattle.psci_tree.specs.declared.domain.Domain.{Domain}
+use Rattle.psci_tree.specs.declared.domain.Domain.TheOpen.{Domain-F}
+use Rattle.psci_tree.specs.declared.domain.Domain.TheViews.{out-Domain, the_lemmas}
+use Rattle.psci_tree.proofs.Below.{children_roll, cores_le, cores_roll, length_of_domain}
+use Rattle.psci_tree.proofs.Keeping.{kept_roll, kept_roll_core}
+use Rattle.psci_tree.proofs.OffOnes.{AreOffTo, IsOffOne, off_cores, off_kept, off_length, off_more}
+use Rattle.psci_tree.proofs.OffOnes.{off_next, off_widths}
+use Rattle.psci_tree.proofs.domain.Domain.+turn_off.Goals as goal
+
+-- what is not empty has children, and what is empty has none
+some_of_test : (n : ℕ) (b : Bool) → b ≡ (n == 0) → b ≡ false → 0 < n
+some_of_test zero b e f = absurd (let no : true ≡ false = sym e ∙ f in cc)
+some_of_test (suc n) b e f = omega arith
+
+none_of_test : (n : ℕ) (b : Bool) → b ≡ (n == 0) → b ≡ true → n ≡ 0
+none_of_test n b e f = eqb-true n 0 (sym e ∙ f)
+
+pub returns-then-is_empty-clause-kept : goal.returns-then-is_empty-clause-kept
+returns-then-is_empty-clause-kept t c =
+    let own : Domain = c.args.self.now in
+    let none : length (branches own) ≡ 0 = omega (
+      arith,
+      none_of_test _ _ c.is_empty.ensures c.if-is_empty.true,
+      (out-Domain own).children.ok.0,
+    ) in
+    let here = kept_roll_core (record {
+      children = (out-Domain own).children;
+      core = never_started;
+      kept = c.of_core-self.result;
+    }) none c.of_core-self.ensures in
+    simp the_lemmas (simp the_lemmas at here)
+
+-- the child that the loop is at, and what it was
+record At (ns ms : List Domain) (i : ℕ) (child own : Domain) : Type 0 where
+  pub inside : i < length ns
+  pub is : child ≡ get_or ns i own
+
+at_child : (ns ms : List Domain) (i : ℕ) (child own : Domain) → i < length ms
+    → child ≡ get_or ms i child → AreOffTo i ns ms → At ns ms i child own
+at_child ns ms i child own h e a = record {
+  inside = omega (arith, off_length i ns ms a);
+  is = e ∙ get_or_default ms i child own h ∙ off_next i ns ms own a;
+}
+
+pub turn_off-requires : goal.turn_off-requires
+turn_off-requires t c =
+    let own : Domain = c.args.self.now in
+    let ns : List Domain = branches own in
+    let ms : List Domain = branches c.loop-number.self in
+    let i : ℕ = c.loop-number.number in
+    let at : At ns ms i c.index_mut.result.now own = at_child ns ms i c.index_mut.result.now own
+    (omega (
+      arith,
+      c.loop-number-test.true,
+      c.len-number-end.ensures,
+      off_length i ns ms c.loop-number.invariant.done,
+      (out-Domain own).children.ok.0,
+    )) c.index_mut.ensures.value c.loop-number.invariant.done in (
+      search (rules, the_lemmas),
+      omega (
+        arith,
+        c.requires.few,
+        ap (λ x. length (leaves x)) at.is,
+        cores_le ns i own at.inside,
+        length_of_domain own (omega (arith, at.inside)),
+      ),
+    )
+
+pub loop-number-preserved : goal.loop-number-preserved
+loop-number-preserved t c =
+    let own : Domain = c.args.self.now in
+    let ns : List Domain = branches own in
+    let ms : List Domain = branches c.loop-number.self in
+    let i : ℕ = c.loop-number.number in
+    let new : Domain = c.turn_off.new.self in
+    let fits : i < length ms = omega (
+      arith,
+      c.loop-number-test.true,
+      c.len-number-end.ensures,
+      off_length i ns ms c.loop-number.invariant.done,
+      (out-Domain own).children.ok.0,
+    ) in
+    let at : At ns ms i c.index_mut.result.now own =
+    at_child ns ms i c.index_mut.result.now own fits c.index_mut.ensures.value
+    c.loop-number.invariant.done in
+    let one : IsOffOne (get_or ns i own) new = record {
+      cores = c.turn_off.ensures.cores ∙ ap (λ x. replicate (length (leaves x)) never_started) at.is;
+      shape = λ k. c.turn_off.ensures.shape k ∙ ap (child_counts k) at.is;
+      kept = c.turn_off.ensures.kept;
+    } in
+    let half : Domain-F Domain = record {
+      children = with_item (out-Domain c.loop-number.self).children i new;
+      core = (out-Domain c.loop-number.self).core;
+      kept = (out-Domain c.loop-number.self).kept;
+    } in
+    let up : suc i ≡ i + 1 = omega arith in
+    let more : AreOffTo (i + 1) ns (set ms i new) = subst (λ j. AreOffTo j ns (set ms i new)) up
+    (off_more i ns ms new own at.inside c.loop-number.invariant.done one) in
+    record {
+      rest = (
+        ap length (children_roll half) ∙ length-set ms i new ∙ c.loop-number.invariant.rest.0,
+        λ k d h.
+            let other : k ≢ i = omega arith in
+            ap (λ xs. get_or xs k d) (children_roll half)
+            ∙ get_or-set_other ms i k new d other
+            ∙ c.loop-number.invariant.rest.1 k d (omega arith),
+      );
+      done = subst (AreOffTo (i + 1) ns) (sym (children_roll half)) more;
+    }
+
+pub anew-self-requires-clause-kept : goal.anew-self-requires-clause-kept
+anew-self-requires-clause-kept t c =
+    let own : Domain = c.args.self.now in
+    off_kept c.loop-number.number (branches own) (branches c.loop-number.self) (omega (
+      arith,
+      c.loop-number-test.false,
+      c.len-number-end.ensures,
+      (out-Domain own).children.ok.0,
+    )) c.loop-number.invariant.done
+
+pub anew-self-requires-clause-few : goal.anew-self-requires-clause-few
+anew-self-requires-clause-few t c =
+    let own : Domain = c.args.self.now in
+    let ms : List Domain = branches c.loop-number.self in
+    let all : length (branches own) ≤ c.loop-number.number = omega (
+      arith,
+      c.loop-number-test.false,
+      c.len-number-end.ensures,
+      (out-Domain own).children.ok.0,
+    ) in
+    omega (
+      arith,
+      c.requires.few,
+      ap length (off_cores c.loop-number.number (branches own) ms all c.loop-number.invariant.done),
+      length-replicate (length (cores_in (branches own))) never_started,
+      length_of_domain own (omega (
+        arith,
+        some_of_test _ _ c.is_empty.ensures c.if-is_empty.false,
+        (out-Domain own).children.ok.0,
+      )),
+    )
+
+pub returns-clause-cores : goal.returns-clause-cores
+returns-clause-cores t c =
+    let own : Domain = c.args.self.now in
+    let now : Domain = c.loop-number.self in
+    let i : ℕ = c.loop-number.number in
+    let some : 0 < length (branches own) = omega (
+      arith,
+      some_of_test _ _ c.is_empty.ensures c.if-is_empty.false,
+      (out-Domain own).children.ok.0,
+    ) in
+    let all : length (branches own) ≤ i = omega (
+      arith,
+      c.loop-number-test.false,
+      c.len-number-end.ensures,
+      (out-Domain own).children.ok.0,
+    ) in
+    cores_roll (record {
+      children = (out-Domain now).children;
+      core = (out-Domain now).core;
+      kept = c.anew-self.result;
+    }) (omega (arith, some, off_length i (branches own) (branches now) c.loop-number.invariant.done))
+    ∙ off_cores i (branches own) (branches now) all c.loop-number.invariant.done
+    ∙ ap (λ n. replicate n never_started) (sym (length_of_domain own some))
+
+pub returns-clause-shape : goal.returns-clause-shape
+returns-clause-shape t c =
+    let own : Domain = c.args.self.now in
+    let now : Domain = c.loop-number.self in
+    off_widths own (record {
+      children = (out-Domain now).children;
+      core = (out-Domain now).core;
+      kept = c.anew-self.result;
+    }) c.loop-number.number (omega (
+      arith,
+      c.loop-number-test.false,
+      c.len-number-end.ensures,
+      (out-Domain own).children.ok.0,
+    )) c.loop-number.invariant.done
+
+pub returns-clause-kept : goal.returns-clause-kept
+returns-clause-kept t c =
+    let own : Domain = c.args.self.now in
+    let now : Domain = c.loop-number.self in
+    let i : ℕ = c.loop-number.number in
+    kept_roll (record {
+      children = (out-Domain now).children;
+      core = (out-Domain now).core;
+      kept = c.anew-self.result;
+    }) (omega (
+      arith,
+      some_of_test _ _ c.is_empty.ensures c.if-is_empty.false,
+      (out-Domain own).children.ok.0,
+      off_length i (branches own) (branches now) c.loop-number.invariant.done,
+    )) c.anew-self.ensures (off_kept i (branches own) (branches now) (omega (
+      arith,
+      c.loop-number-test.false,
+      c.len-number-end.ensures,
+      (out-Domain own).children.ok.0,
+    )) c.loop-number.invariant.done)

@@ -1,0 +1,13 @@
+-- The children that the loop went over were turned off, and the others are as they were.
+use Rattle.psci_tree.specs.Domains.{branches}
+use Rattle.psci_tree.proofs.OffOnes.{AreOffTo}
+use Rattle.psci_tree.proofs.domain.Domain.+turn_off.Given as goal
+
+abbrev pub decreases-turn_off : goal.decreases-turn_off
+decreases-turn_off l = goal.size-turn_off l
+
+abbrev pub invariant-loop-number : goal.invariant-loop-number
+invariant-loop-number l = record {
+  rest : goal.unvisited-loop-number l;
+  done : AreOffTo l.number (branches l.fn.self) (branches l.self);
+}
