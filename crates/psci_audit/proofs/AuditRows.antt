@@ -1,0 +1,116 @@
+-- Worked examples: what an audit answers, and what it does not.
+use Rattle.std.proofs.Common.{◌≡◌, ℕ, [], ◌∷◌, None, Some, Ok, Err, true, false, pos}
+use Rattle.std.proofs.Common.{ap, refl, arith}
+use Rattle.psci_world_spec.specs.psci_fw_spec.declared.call.FwCall.TheVariants as calls
+use Rattle.psci_world_spec.specs.psci_fw_spec.declared.outcome.Act.{Act}
+use Rattle.psci_world_spec.specs.psci_fw_spec.declared.outcome.Act.TheVariants as acts
+use Rattle.psci_world_spec.specs.psci_fw_spec.declared.reply.FwReply.TheVariants as replies
+use Rattle.psci_world_spec.specs.psci_link.declared.start.Cause.TheVariants as causes
+use Rattle.psci_world_spec.proofs.Scripts.{board}
+use Rattle.psci_shared.specs.declared.entry.FwEntry.{FwEntry}
+use Rattle.psci_audit_spec.specs.Entries.{Entry}
+use Rattle.psci_audit_spec.specs.Legal.{IsLegal}
+use Rattle.psci_audit_spec.proofs.ListRows.{boots, judging, number_in, start, version}
+use Rattle.psci_audit.specs.declared.fault.AuditFault.TheVariants.{Ticket, Illegal, Memory}
+use Rattle.psci_audit.specs.Merged.{IsFault, IsFirstIllegal, IsFollowed, IsJudged, IsSound}
+use Rattle.psci_audit.specs.Merged.{asked_by, history_of, merged}
+
+unfoldable auditing : Unit {0}
+unfolding judging merged
+auditing = tt
+
+-- the boot core enters, with this outcome
+abbrev entry : ℕ → Act → FwEntry
+entry ticket act = record {
+  ticket = ticket;
+  core = record { number = 0 };
+  call = calls.Enter (start 1 causes.Boot);
+  reply = replies.Out (record { act = act; message = None });
+}
+
+abbrev enters : ℕ → FwEntry
+enters ticket = entry ticket (acts.Enter 0x40000000 0)
+
+abbrev returns : ℕ → FwEntry
+returns ticket = entry ticket (acts.Return (record { 0 = pos 1 }))
+
+-- Sound ----------------------------------------------------------------------------------------
+
+nothing : IsSound board [] [] 0
+unfolding auditing
+nothing = (record { firmware = tt; controller = tt; apart = λ t at other. at }, tt, refl)
+
+one_entry : IsSound board (enters 7 ∷ []) [] 1
+unfolding auditing
+one_entry = (
+  record { firmware = (tt, tt); controller = tt; apart = λ t at other. other },
+  ((omega arith, refl, refl, tt, refl), tt),
+  refl,
+)
+
+not_two : IsSound board (enters 7 ∷ []) [] 2 → ⊥
+unfolding auditing
+not_two sound = let e : 1 ≡ 2 = sound.2 in omega (arith, e)
+
+twice : IsSound board (enters 7 ∷ enters 8 ∷ []) [] 2 → ⊥
+unfolding auditing
+twice sound = let e = sound.1.0.1 in cc
+
+-- Refused --------------------------------------------------------------------------------------
+
+-- another outcome, at the first place
+other_outcome : IsFault board (returns 7 ∷ []) [] (Illegal 0)
+unfolding auditing
+other_outcome = (
+  record { firmware = (tt, tt); controller = tt; apart = λ t at other. other },
+  record {
+    before = [];
+    entry = asked_by (returns 7);
+    since = [];
+    parts = refl;
+    at = refl;
+    legal = tt;
+    illegal = λ may. let e : 1 ≡ 0x40000000 = ap number_in may.4 in omega (arith, e);
+  },
+)
+
+-- the second entry of a core that runs, at the second place
+second_place : IsFirstIllegal board (boots ∷ boots ∷ version 0 65537 ∷ []) 1
+unfolding auditing
+second_place = record {
+  before = boots ∷ [];
+  entry = boots;
+  since = version 0 65537 ∷ [];
+  parts = refl;
+  at = refl;
+  legal = ((omega arith, refl, refl, tt, refl), tt);
+  illegal = λ may. let e = may.1 in cc;
+}
+
+-- tickets that fall come before an entry that may not follow
+falling : IsFault board (returns 2 ∷ enters 1 ∷ []) [] Ticket
+falling fit = let less = fit.firmware.1.0 in omega (arith, less)
+
+tickets_first : IsFault board (returns 2 ∷ enters 1 ∷ []) [] (Illegal 0) → ⊥
+tickets_first fault = let less = fault.0.firmware.1.0 in omega (arith, less)
+
+-- tickets that rise are no fault
+no_ticket_fault : IsFault board (enters 1 ∷ []) [] Ticket → ⊥
+no_ticket_fault cannot =
+    cannot (record { firmware = (tt, tt); controller = tt; apart = λ t at other. other })
+
+-- One entry of a list --------------------------------------------------------------------------
+
+goes_on : IsFollowed (Ok true) 3 None
+goes_on = refl
+
+stops : IsFollowed (Ok false) 3 (Some (Illegal 3))
+stops = refl
+
+-- a list that is judged never has a ticket that does not fit
+no_ticket : IsJudged board [] (Err Ticket) → ⊥
+no_ticket judged = judged
+
+is_judged : IsJudged board (boots ∷ []) (Ok 1)
+unfolding auditing
+is_judged = (((omega arith, refl, refl, tt, refl), tt), refl)

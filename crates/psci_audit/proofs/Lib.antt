@@ -1,0 +1,5 @@
+pub mod Apart
+mod AuditRows
+mod MergedRows
+pub mod SoFar
+pub mod Steps

@@ -1,0 +1,102 @@
+-- Worked examples: books that are merged, tickets that fit and that do not, and what is answered.
+use Rattle.std.proofs.Common.{◌≡◌, ℕ, [], ◌∷◌, false, inl, inr, refl, arith}
+use Rattle.psci_world_spec.specs.psci_ctl_spec.declared.call.CtlCall.TheVariants as asks
+use Rattle.psci_world_spec.specs.psci_ctl_spec.declared.kick.Kick.TheVariants as kicks
+use Rattle.psci_world_spec.specs.psci_ctl_spec.declared.reply.CtlReply.TheVariants as replied
+use Rattle.psci_world_spec.specs.psci_fw_spec.declared.call.FwCall.TheVariants as calls
+use Rattle.psci_world_spec.specs.psci_fw_spec.declared.fault.FwFault.TheVariants.{NoCore}
+use Rattle.psci_world_spec.specs.psci_fw_spec.declared.reply.FwReply.TheVariants as replies
+use Rattle.psci_world_spec.specs.psci_link.declared.kind.Kind.TheVariants as kinds
+use Rattle.psci_shared.specs.declared.entry.FwEntry.{FwEntry}
+use Rattle.psci_shared_ctl.specs.declared.entry.CtlEntry.{CtlEntry}
+use Rattle.psci_audit_spec.specs.Entries.{Asked}
+use Rattle.psci_audit_spec.specs.Told.{asked}
+use Rattle.psci_audit.specs.Merged.{IsIn, TicketsFit, asked_by, controlled_by, merged}
+
+-- an entry of the firmware's book under a ticket
+abbrev f : ℕ → FwEntry
+f ticket = record {
+  ticket = ticket;
+  core = record { number = 3 };
+  call = calls.Smc (record { x0 = 0; x1 = 0; x2 = 0; x3 = 0 });
+  reply = replies.Fault NoCore;
+}
+
+-- an entry of the power controller's book under a ticket
+abbrev c : ℕ → CtlEntry
+c ticket = record {
+  ticket = ticket;
+  call = asks.Reset (record { number = 3 });
+  reply = replied.Kick kicks.Ignored;
+}
+
+-- The merged list ------------------------------------------------------------------------------
+
+none : merged [] [] ≡ []
+unfolding merged
+none = refl
+
+one_book : merged [] (c 2 ∷ c 5 ∷ []) ≡ controlled_by (c 2) ∷ controlled_by (c 5) ∷ []
+unfolding merged
+one_book = refl
+
+other_book : merged (f 2 ∷ f 5 ∷ []) [] ≡ asked_by (f 2) ∷ asked_by (f 5) ∷ []
+unfolding merged
+other_book = refl
+
+-- by the tickets, whichever book is looked at first
+by_ticket : merged (f 1 ∷ f 4 ∷ f 6 ∷ []) (c 2 ∷ c 3 ∷ c 5 ∷ [])
+    ≡ asked_by (f 1) ∷ controlled_by (c 2) ∷ controlled_by (c 3) ∷ asked_by (f 4)
+    ∷ controlled_by (c 5) ∷ asked_by (f 6) ∷ []
+unfolding merged
+by_ticket = refl
+
+controller_first : merged (f 7 ∷ []) (c 0 ∷ c 8 ∷ [])
+    ≡ controlled_by (c 0) ∷ asked_by (f 7) ∷ controlled_by (c 8) ∷ []
+unfolding merged
+controller_first = refl
+
+-- an acknowledgement stands under core 0, whichever pass took it
+no_core_of_a_take : asked_by (record (f 1) {
+  call = calls.Take (record {
+    kind = kinds.Start;
+    core = record { number = 3 };
+    life = 1;
+    number = 0;
+    applied = 1;
+    stale = false;
+  });
+})
+    ≡ Asked (asked 0 (calls.Take (record {
+      kind = kinds.Start;
+      core = record { number = 3 };
+      life = 1;
+      number = 0;
+      applied = 1;
+      stale = false;
+    })) (replies.Fault NoCore))
+no_core_of_a_take = refl
+
+-- Tickets --------------------------------------------------------------------------------------
+
+fall : TicketsFit (f 2 ∷ f 1 ∷ []) [] → ⊥
+fall fit = let less = fit.firmware.1.0 in omega (arith, less)
+
+equal : TicketsFit [] (c 2 ∷ c 2 ∷ []) → ⊥
+equal fit = let less = fit.controller.1.0 in omega (arith, less)
+
+in_both : TicketsFit (f 1 ∷ f 4 ∷ []) (c 2 ∷ c 4 ∷ []) → ⊥
+in_both fit = fit.apart 4 (inr (inl refl)) (inr (inl refl))
+
+rising : TicketsFit (f 1 ∷ f 4 ∷ []) (c 2 ∷ [])
+rising = record {
+  firmware = (tt, (omega arith, tt));
+  controller = (tt, tt);
+  apart = apart;
+}
+  where
+    apart : (ticket : ℕ) → IsIn ticket (1 ∷ 4 ∷ []) → IsIn ticket (2 ∷ []) → ⊥
+    apart t (inl e) (inl d) = omega (arith, e, d)
+    apart t (inr (inl e)) (inl d) = omega (arith, e, d)
+    apart t (inr (inr at)) (inl d) = absurd at
+    apart t at (inr other) = absurd other

@@ -1,0 +1,82 @@
+-- Entry by entry.
+use Rattle.std.proofs.Common.{refl, ap, sym, ◌∙◌, arith}
+use Rattle.psci_audit.specs.Merged.{merged}
+use Rattle.psci_audit.proofs.Apart.{parts}
+use Rattle.psci_audit.proofs.SoFar.{after_asked, after_controlled, begin, ended, stops_asked}
+use Rattle.psci_audit.proofs.SoFar.{stops_controlled}
+use Rattle.psci_audit.proofs.merging.follow_all.Goals as goal
+use Rattle.psci_audit.proofs.merging.follow_all.Goals.{then-is_asked_first+in-len1-up+in_default-fault_of}
+use Rattle.psci_audit.proofs.merging.follow_all.Goals.{else-is_asked_first+in-len1-up-controlled+in_default-fault_of-2}
+
+pub loop-place-init : goal.loop-place-init
+loop-place-init c = record {
+  between = record {
+    board = refl;
+    so_far = begin c.args.world.now.board (merged c.args.firmware.now c.args.controller.now)
+        c.args.world.now.past c.requires;
+  };
+  left = omega arith;
+}
+
+pub loop-place-preserved : goal.loop-place-preserved
+loop-place-preserved c =
+    elim c.if-is_asked_first.branch [
+      | then-is_asked_first+in-len1-up+in_default-fault_of w ↦
+          let after = after_asked c.args.world.now.board
+          (merged c.args.firmware.now c.args.controller.now) c.loop-place.world
+          w.follow_firmware.new.world c.if-is_asked_first.world c.loop-place.asked.now
+          c.if-is_asked_first.asked.now c.loop-place.controlled.now
+          c.if-is_asked_first.controlled.now c.loop-place.place _ w.entry-item.result
+          w.follow_firmware.result w.world-is
+          (ap (λ x. x.now) w.asked-is) (ap (λ x. x.now) w.controlled-is)
+          c.loop-place.invariant.between c.loop-place.invariant.left w.follow_firmware.ensures.board
+          (parts c.loop-place.asked.now _ w.in-len1-up.len_at_least w.entry-item.is)
+          (sym c.is_asked_first.ensures ∙ w.if-is_asked_first.true) w.follow_firmware.ensures.step
+          (w.in_default-fault_of.ensures {u = tt}) in
+          record { between = after.0; left = after.1 }
+      | else-is_asked_first+in-len1-up-controlled+in_default-fault_of-2 w ↦
+          let after = after_controlled c.args.world.now.board
+          (merged c.args.firmware.now c.args.controller.now) c.loop-place.world
+          w.follow_controller.new.world c.if-is_asked_first.world c.loop-place.asked.now
+          c.if-is_asked_first.asked.now c.loop-place.controlled.now
+          c.if-is_asked_first.controlled.now c.loop-place.place _
+          w.entry-item-else-is_asked_first.result w.follow_controller.result
+          w.world-is (ap (λ x. x.now) w.asked-is) (ap (λ x. x.now) w.controlled-is)
+          c.loop-place.invariant.between c.loop-place.invariant.left
+          w.follow_controller.ensures.board
+          (parts c.loop-place.controlled.now _ w.in-len1-up-controlled.len_at_least
+          w.entry-item-else-is_asked_first.is)
+          (sym c.is_asked_first.ensures ∙ w.if-is_asked_first.false)
+          w.follow_controller.ensures.step
+          (w.in_default-fault_of-2.ensures {u = tt}) in
+          record { between = after.0; left = after.1 }
+    ]
+
+pub returns-in-Some : goal.returns-in-Some
+returns-in-Some c =
+    stops_asked c.args.world.now.board (merged c.args.firmware.now c.args.controller.now)
+    c.loop-place.world c.follow_firmware.new.world c.loop-place.asked.now
+    c.loop-place.controlled.now c.loop-place.place c.entry-item.result c.follow_firmware.result
+    c.in-Some.fault c.loop-place.invariant.between
+    (parts c.loop-place.asked.now _ c.in-len1-up.len_at_least c.entry-item.is)
+    (sym c.is_asked_first.ensures ∙ c.if-is_asked_first.true) c.follow_firmware.ensures.step
+    c.in-Some.ensures
+
+pub returns-in-Some-fault_of : goal.returns-in-Some-fault_of
+returns-in-Some-fault_of c =
+    stops_controlled c.args.world.now.board (merged c.args.firmware.now c.args.controller.now)
+    c.loop-place.world c.follow_controller.new.world c.loop-place.asked.now
+    c.loop-place.controlled.now c.loop-place.place c.entry-item-else-is_asked_first.result
+    c.follow_controller.result c.in-Some-fault_of.fault c.loop-place.invariant.between
+    (parts c.loop-place.controlled.now _ c.in-len1-up-controlled.len_at_least
+    c.entry-item-else-is_asked_first.is)
+    (sym c.is_asked_first.ensures ∙ c.if-is_asked_first.false) c.follow_controller.ensures.step
+    c.in-Some-fault_of.ensures
+
+pub returns : goal.returns
+returns c =
+    ended c.args.world.now.board (merged c.args.firmware.now c.args.controller.now)
+    c.loop-place.world c.loop-place.asked.now c.loop-place.controlled.now c.loop-place.place _
+    c.loop-place.invariant.between
+    (omega (arith, c.loop-place.invariant.left, c.loop-place-test.false))
+    (omega (arith, c.loop-place.invariant.left, c.loop-place-test.false, c.loop-place.auto))

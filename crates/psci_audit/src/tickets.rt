@@ -1,0 +1,80 @@
+//! Whether the tickets of two books fit.
+
+ghost use Rattle.std.specs.Prelude.{◌≡◌, ◌↔◌, IsTrue, None, option_map};
+ghost use Rattle.psci_audit.specs.Merged.{AreApart, IsAfter, RiseAfter, TicketsFit};
+ghost use Rattle.psci_audit.specs.Merged.{tickets_by, tickets_of};
+
+use psci_shared::FwEntry;
+use psci_shared_ctl::CtlEntry;
+
+/// Whether the tickets rise in each book, and none is in both.
+pub(crate) fn tickets_fit(firmware: &[FwEntry], controller: &[CtlEntry]) -> bool
+    ensures { IsTrue result ↔ TicketsFit firmware.now controller.now }
+{
+    if !firmware_rises(firmware) {
+        return false;
+    }
+    if !controller_rises(controller) {
+        return false;
+    }
+    are_apart(firmware, controller)
+}
+
+fn is_after(last: Option<u64>, ticket: u64) -> bool
+    ensures { IsTrue result ↔ IsAfter last ticket }
+{
+    match last {
+        Some(last) => last < ticket,
+        None => true,
+    }
+}
+
+fn firmware_rises(entries: &[FwEntry]) -> bool
+    ensures { IsTrue result ↔ RiseAfter None (tickets_of entries.now) }
+{
+    let mut last = None;
+    for entry in entries {
+        if !is_after(last, entry.ticket) {
+            return false;
+        }
+        last = Some(entry.ticket);
+    }
+    true
+}
+
+fn controller_rises(entries: &[CtlEntry]) -> bool
+    ensures { IsTrue result ↔ RiseAfter None (tickets_by entries.now) }
+{
+    let mut last = None;
+    for entry in entries {
+        if !is_after(last, entry.ticket) {
+            return false;
+        }
+        last = Some(entry.ticket);
+    }
+    true
+}
+
+/// Whether no ticket is in both, where they rise in each.
+fn are_apart(firmware: &[FwEntry], controller: &[CtlEntry]) -> bool
+    requires firmware { RiseAfter None (tickets_of firmware.now) }
+    requires controller { RiseAfter None (tickets_by controller.now) }
+    ensures { IsTrue result ↔ AreApart (tickets_of firmware.now) (tickets_by controller.now) }
+{
+    let mut ones = firmware;
+    let mut others = controller;
+    while let [one, after @ ..] = ones {
+        let [other, rest @ ..] = others else {
+            return true;
+        };
+        if one.ticket == other.ticket {
+            return false;
+        }
+        if one.ticket < other.ticket {
+            ones = after;
+        } else {
+            others = rest;
+        }
+    }
+    true
+}

@@ -1,0 +1,13 @@
+//! What was asked of a firmware and a power controller.
+
+use psci_shared::FwEntry;
+use psci_shared_ctl::CtlEntry;
+
+/// The entries of both books, each in the order of its book.
+#[derive(Drop)]
+pub struct Trace {
+    /// What the firmware was asked, with its replies.
+    pub firmware: Vec<FwEntry>,
+    /// What the power controller was asked, with its replies.
+    pub controller: Vec<CtlEntry>,
+}

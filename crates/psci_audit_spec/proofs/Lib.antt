@@ -1,0 +1,6 @@
+pub mod Following
+pub mod ListRows
+pub mod Only
+pub mod Reading
+pub mod Telling
+mod ToldRows

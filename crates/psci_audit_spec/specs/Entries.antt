@@ -1,0 +1,118 @@
+-- Lists of entries, and what a list says by itself: the two histories, what was sent and what was
+-- acknowledged, and where each core is. A list has its newest entry first; every definition looks
+-- backwards along it.
+use Rattle.std.specs.Prelude.{ℕ, ◌==◌, if◌then◌else◌, List, [], ◌∷◌, ◌++◌}
+use Rattle.std.specs.Prelude.{Option, None, Some, unwrap_or}
+use Rattle.psci_world_spec.specs.psci_board.Board.{BoardValue}
+use Rattle.psci_world_spec.specs.psci_ctl_spec.declared.delivery.Delivery.TheVariants as deliveries
+use Rattle.psci_world_spec.specs.psci_ctl_spec.declared.kick.Kick.TheVariants as kicks
+use Rattle.psci_world_spec.specs.psci_ctl_spec.declared.reply.CtlReply.{CtlReply}
+use Rattle.psci_world_spec.specs.psci_ctl_spec.declared.reply.CtlReply.TheVariants as replied
+use Rattle.psci_world_spec.specs.psci_ctl_spec.Exchange.{CtlExchange}
+use Rattle.psci_world_spec.specs.psci_ctl_spec.History as controls
+use Rattle.psci_world_spec.specs.psci_ctl_spec.Values as controlled
+use Rattle.psci_world_spec.specs.psci_fw_spec.declared.reply.FwReply.{FwReply}
+use Rattle.psci_world_spec.specs.psci_fw_spec.declared.reply.FwReply.TheVariants as replies
+use Rattle.psci_world_spec.specs.psci_fw_spec.Exchange.{FwExchange}
+use Rattle.psci_world_spec.specs.psci_fw_spec.History as remembers
+use Rattle.psci_world_spec.specs.psci_fw_spec.Said.{listed}
+use Rattle.psci_world_spec.specs.psci_fw_spec.Values as kept
+use Rattle.psci_world_spec.specs.psci_link.Message.{AckValue, MessageValue}
+use Rattle.psci_world_spec.specs.declared.place.Place.{Place}
+use Rattle.psci_world_spec.specs.Places.{first_place, place_after, place_controlled}
+
+-- One call with its reply. An acknowledgement that the firmware takes names no core; it stands
+-- under core 0.
+pub data Entry : Type 0 where
+  -- of the firmware
+  Asked : (e : FwExchange) → Entry
+  -- of the power controller
+  Controlled : (e : CtlExchange) → Entry
+
+-- The two histories ----------------------------------------------------------------------------
+
+-- what an entry adds to the firmware's history
+abbrev pub asked_in : Entry → List FwExchange
+asked_in (Asked e) = e ∷ []
+asked_in (Controlled e) = []
+
+-- the calls of the firmware
+unfoldable pub firmware_history : List Entry → List FwExchange
+firmware_history [] = []
+firmware_history (e ∷ past) = asked_in e ++ firmware_history past
+
+-- a call that was ignored counts nowhere
+abbrev pub counted : CtlExchange → CtlReply → List CtlExchange
+counted e (replied.Delivery (deliveries.Applied ack)) = e ∷ []
+counted e (replied.Delivery deliveries.Ignored) = []
+counted e (replied.Kick (kicks.Started start)) = e ∷ []
+counted e (replied.Kick kicks.Ignored) = []
+
+-- what an entry adds to the power controller's history
+abbrev pub controlled_in : Entry → List CtlExchange
+controlled_in (Asked e) = []
+controlled_in (Controlled e) = counted e e.reply
+
+-- the calls of the power controller, but for those that it ignored
+unfoldable pub controller_history : List Entry → List CtlExchange
+controller_history [] = []
+controller_history (e ∷ past) = controlled_in e ++ controller_history past
+
+-- the values of the firmware, and of the power controller, after these entries
+abbrev pub firmware_values : BoardValue → List Entry → kept.Values
+firmware_values b past = remembers.values_of b (firmware_history past)
+
+abbrev pub controller_values : BoardValue → List Entry → controlled.Values
+controller_values b past = controls.values_of b (controller_history past)
+
+-- Messages and acknowledgements ----------------------------------------------------------------
+
+-- the message that was sent with a reply
+abbrev pub message_in : FwReply → Option MessageValue
+message_in (replies.Out o) = o.message
+message_in (replies.Taken taken) = None
+message_in (replies.Fault fault) = None
+
+abbrev pub sent_by : Entry → Option MessageValue
+sent_by (Asked e) = message_in e.reply
+sent_by (Controlled e) = None
+
+-- all messages sent
+unfoldable pub sent : List Entry → List MessageValue
+sent [] = []
+sent (e ∷ past) = listed (sent_by e) ++ sent past
+
+-- the acknowledgement that a reply is
+abbrev pub ack_in : CtlReply → Option AckValue
+ack_in (replied.Delivery (deliveries.Applied ack)) = Some ack
+ack_in (replied.Delivery deliveries.Ignored) = None
+ack_in (replied.Kick kick) = None
+
+abbrev pub made_by : Entry → Option AckValue
+made_by (Asked e) = None
+made_by (Controlled e) = ack_in e.reply
+
+-- all acknowledgements made
+unfoldable pub acks : List Entry → List AckValue
+acks [] = []
+acks (e ∷ past) = listed (made_by e) ++ acks past
+
+-- Places ---------------------------------------------------------------------------------------
+
+-- an outcome says where its core is
+abbrev pub left_at : ℕ → ℕ → FwReply → Option Place
+left_at c core (replies.Out o) = if c == core then Some (place_after o.act) else None
+left_at c core (replies.Taken taken) = None
+left_at c core (replies.Fault fault) = None
+
+abbrev pub place_by : ℕ → Entry → Option Place
+place_by c (Asked e) = left_at c e.core e.reply
+place_by c (Controlled e) = None
+
+-- where a core is, by the last entry that says it: an outcome of the core, or what the power
+-- controller did
+unfoldable pub place : BoardValue → List Entry → ℕ → Place
+place b [] c = first_place c
+place b (e ∷ past) c =
+    unwrap_or (place_by c e)
+    (unwrap_or (place_controlled b c (controlled_in e)) (place b past c))
