@@ -5,7 +5,9 @@ ghost use Rattle.psci_board.specs.Board.{cores};
 ghost use Rattle.psci_fw_spec.specs.declared.status.Status.TheVariants.{Off};
 ghost use Rattle.psci_status.specs.Seats.{table, table_of_writer, written};
 
+use crate::held::poll_while_held;
 use crate::passes::{full_books, statuses_are_read, three_calls, too_many};
+use crate::threads::{poll_in_two_threads, two_threads};
 use psci_board::Board;
 use psci_board_text::ReadBoard;
 use psci_shared::{Named, SharedFirmware, StatusWords, Tickets, Writer};
@@ -13,6 +15,7 @@ use std::alloc::Global;
 use std::marker::Brand;
 use std::sync::Wait;
 use std::sync::ledger::Blank;
+use std::thread::Threads;
 
 /// Two clusters of two cores.
 pub(crate) const BOARD: &str =
@@ -31,10 +34,16 @@ pub(crate) enum Story {
     TooMany,
     /// The statuses of cores are read without the lock.
     Statuses,
+    /// Two threads make so many calls each.
+    TwoThreads(u32),
+    /// One thread calls while another one polls.
+    Polled,
+    /// One thread polls while another one holds the lock.
+    PolledWhileHeld,
 }
 
 /// Tells a story of this board's firmware, and whether all went as it has to.
-pub(crate) fn told<R: Wait>(rt: &R, alloc: Global, story: Story) -> Option<bool> {
+pub(crate) fn told<R: Threads + Wait + Sync>(rt: &R, alloc: Global, story: Story) -> Option<bool> {
     let board = Board::read(alloc, BOARD).ok()?;
     let (words, writer) = StatusWords::new(alloc, &board).ok()?;
     let tickets = Tickets::new();
@@ -50,7 +59,7 @@ pub(crate) fn told<R: Wait>(rt: &R, alloc: Global, story: Story) -> Option<bool>
     )
 }
 
-fn tell<N: Named, R: Wait>(
+fn tell<N: Named + Send + Sync, R: Threads + Wait + Sync>(
     rt: &R,
     alloc: Global,
     story: Story,
@@ -79,5 +88,8 @@ fn tell<N: Named, R: Wait>(
         Story::FullBooks => full_books(rt, alloc, shared),
         Story::TooMany => too_many(rt, alloc, shared),
         Story::Statuses => statuses_are_read(rt, shared),
+        Story::TwoThreads(calls) => two_threads(rt, alloc, shared, calls),
+        Story::Polled => poll_in_two_threads(rt, alloc, shared),
+        Story::PolledWhileHeld => poll_while_held(rt, shared),
     }
 }

@@ -12,6 +12,12 @@ pub(crate) const FIRST: Start = Start {
     cause: Cause::Boot,
 };
 
+/// What its entry answers: it goes on at the board's boot address.
+pub(crate) const ENTERS: Act = Act::Enter {
+    address: 0x4000_0000,
+    context: 0,
+};
+
 /// PSCI_VERSION, which answers 65537.
 pub(crate) const VERSION: Regs = Regs {
     x0: 0x8400_0000,
@@ -41,11 +47,7 @@ pub(crate) fn three_calls<N: Named, R: Wait>(
     let entered = shared.enter(rt, &mut first, FIRST).ok()?.act;
     let called = shared.smc(rt, &mut first, VERSION).ok()?.act;
     let refused = shared.smc(rt, &mut second, VERSION).err()?;
-    let enters = Act::Enter {
-        address: 0x4000_0000,
-        context: 0,
-    };
-    let right = entered == enters
+    let right = entered == ENTERS
         && called == Act::Return(Code(65537))
         && refused == CallFault::Fw(FwFault::NotRunning);
     let mut passes = Vec::with_capacity(alloc, 2).ok()?;

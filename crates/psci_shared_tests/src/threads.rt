@@ -1,0 +1,131 @@
+//! Stories of two threads with a pass each.
+
+use crate::passes::{CPU_ON, ENTERS, FIRST, VERSION};
+use psci_fw::{Act, Code, FwFault};
+use psci_shared::{CallFault, Core, Named, Pass, SharedFirmware};
+use std::alloc::Global;
+use std::sync::Wait;
+use std::thread;
+use std::thread::Threads;
+
+/// Core 0 enters and calls so many times, while core 1 calls as often without having entered: each
+/// gets its own answers whatever the order, and each entry of the book is in one pass.
+pub(crate) fn two_threads<N: Named + Send + Sync, R: Threads + Wait + Sync>(
+    rt: &R,
+    alloc: Global,
+    mut shared: SharedFirmware<'_, N>,
+    calls: u32,
+) -> Option<bool> {
+    let first = shared.pass(Core { number: 0 }).ok()?;
+    let second = shared.pass(Core { number: 1 }).ok()?;
+    let lock = &shared;
+    let ((first, answered), (second, refused)) = thread::join(
+        rt,
+        move || enters_and_calls(rt, lock, first, calls),
+        move || is_refused(rt, lock, second, calls),
+    );
+    let each = calls as usize;
+    let counted = first.items().len() == each + 1 && second.items().len() == each;
+    let mut passes = Vec::with_capacity(alloc, 2).ok()?;
+    passes.push(first).ok()?;
+    passes.push(second).ok()?;
+    let books = shared.gather(passes).ok()?;
+    Some(answered && refused && counted && books.book.len() as usize == 2 * each + 1)
+}
+
+/// An entry and so many calls of PSCI_VERSION, and whether each had its answer.
+fn enters_and_calls<N: Named, R: Wait>(
+    rt: &R,
+    shared: &SharedFirmware<'_, N>,
+    pass: Pass<N>,
+    calls: u32,
+) -> (Pass<N>, bool) {
+    let mut pass = pass;
+    let mut right = match shared.enter(rt, &mut pass, FIRST) {
+        Ok(outcome) => outcome.act == ENTERS,
+        Err(_) => false,
+    };
+    for _ in 0..calls {
+        right &= match shared.smc(rt, &mut pass, VERSION) {
+            Ok(outcome) => outcome.act == Act::Return(Code(65537)),
+            Err(_) => false,
+        };
+    }
+    (pass, right)
+}
+
+/// So many calls of a core that has not entered, and whether each was refused: by a firmware
+/// without a life, or because the core does not run.
+fn is_refused<N: Named, R: Wait>(
+    rt: &R,
+    shared: &SharedFirmware<'_, N>,
+    pass: Pass<N>,
+    calls: u32,
+) -> (Pass<N>, bool) {
+    let mut pass = pass;
+    let mut right = true;
+    for _ in 0..calls {
+        right &= match shared.smc(rt, &mut pass, VERSION) {
+            Err(CallFault::Fw(fault)) => fault == FwFault::NoLife || fault == FwFault::NotRunning,
+            _ => false,
+        };
+    }
+    (pass, right)
+}
+
+/// A thread asks a core on, while another one polls that core: it reads OFF or ON_PENDING, and once
+/// both are done ON_PENDING.
+pub(crate) fn poll_in_two_threads<N: Named + Send + Sync, R: Threads + Wait + Sync>(
+    rt: &R,
+    alloc: Global,
+    mut shared: SharedFirmware<'_, N>,
+) -> Option<bool> {
+    let first = shared.pass(Core { number: 0 }).ok()?;
+    let second = shared.pass(Core { number: 1 }).ok()?;
+    let lock = &shared;
+    let ((first, asked), (second, polled)) = thread::join(
+        rt,
+        move || asks(rt, lock, first),
+        move || polls(lock, second),
+    );
+    let mut first = first;
+    let mut second = second;
+    let own = shared.affinity_core(&mut first, 0x101);
+    let other = shared.affinity_core(&mut second, 0x101);
+    let mut passes = Vec::with_capacity(alloc, 2).ok()?;
+    passes.push(first).ok()?;
+    passes.push(second).ok()?;
+    let books = shared.gather(passes).ok()?;
+    Some(asked && polled && own == Code(2) && other == Code(2) && books.book.len() == 2)
+}
+
+/// Enters and asks the last core on, and whether that core then reads ON_PENDING, the own core ON
+/// and the one beside it OFF.
+fn asks<N: Named, R: Wait>(
+    rt: &R,
+    shared: &SharedFirmware<'_, N>,
+    pass: Pass<N>,
+) -> (Pass<N>, bool) {
+    let mut pass = pass;
+    let entered = shared.enter(rt, &mut pass, FIRST).is_ok();
+    let asked = shared.smc(rt, &mut pass, CPU_ON).is_ok();
+    let pending = shared.affinity_core(&mut pass, 0x101) == Code(2);
+    let on = shared.affinity_core(&mut pass, 0) == Code(0);
+    let off = shared.affinity_core(&mut pass, 0x1) == Code(1);
+    (pass, entered && asked && pending && on && off)
+}
+
+/// Polls a thousand times, and says whether each answer was OFF or ON_PENDING, and none OFF after
+/// ON_PENDING.
+fn polls<N: Named>(shared: &SharedFirmware<'_, N>, pass: Pass<N>) -> (Pass<N>, bool) {
+    let mut pass = pass;
+    let mut pending = false;
+    for _ in 0..1000u32 {
+        let code = shared.affinity_core(&mut pass, 0x101);
+        if code != Code(2) && (pending || code != Code(1)) {
+            return (pass, false);
+        }
+        pending = code == Code(2);
+    }
+    (pass, true)
+}
