@@ -4,3 +4,4 @@ pub mod Kept
 pub mod Looked
 pub mod Started
 pub mod Walked
+pub mod KeptRows

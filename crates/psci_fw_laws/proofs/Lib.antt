@@ -1,6 +1,7 @@
 pub mod Allowing
 pub mod Arriving
 pub mod BrokenRows
+mod SentRows
 pub mod Calls
 pub mod ClaimRows
 pub mod Claiming

@@ -107,6 +107,16 @@ one_core_in_retention : Confirms one_core
 unfolding computing
 one_core_in_retention = record { history = refl; kept = refl }
 
+-- a core below the cluster was asked on: it is granted nothing, and nothing of it is confirmed,
+-- whatever the acknowledgement says
+granted_nothing : Confirms board
+    (history_of board (boot ∷ on_3 ∷ enter_on 3 1 1 ∷ off 3 ∷ on 0x100 0x40002000 0
+    ∷ take_down 3 1 1 2 ∷ []))
+    ((false ∷ true ∷ false ∷ true ∷ false ∷ []) ∷ (false ∷ false ∷ false ∷ [])
+    ∷ (false ∷ false ∷ []) ∷ (false ∷ []) ∷ [])
+unfolding computing
+granted_nothing = record { history = refl; kept = refl }
+
 -- Halting -------------------------------------------------------------------------------------
 
 -- an acknowledgement is used in a halting life, too; that of the Reset confirms nothing

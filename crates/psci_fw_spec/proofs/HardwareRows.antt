@@ -1,6 +1,6 @@
 -- Worked examples: hardware states, by any caller, in each mode, in the first life and in later
 -- ones.
-use Rattle.std.proofs.Common.{◌∷◌, ℕ, [], false, refl, true}
+use Rattle.std.proofs.Common.{◌∷◌, ℕ, [], false, refl}
 use Rattle.psci_link.specs.declared.kind.Kind.TheVariants as kinds
 use Rattle.psci_fw_spec.proofs.Lopsided.{lopsided}
 use Rattle.psci_fw_spec.proofs.Steps.{◌⇒◌, AreAnswered, Step, board, boot, boots, computing}
@@ -101,6 +101,25 @@ of_other_messages : AreAnswered board
     ∷ hw 0 0x100 1 ⇒ value 1 ∷ [])
 unfolding computing
 of_other_messages = record { history = refl; values = refl }
+
+-- an acknowledgement of one core's Down says nothing of another core, which asked the same
+beside_its_path : AreAnswered board
+    (boot ⇒ boots
+    ∷ on 0x1 0x40005000 0 ⇒ starts 1 1 0
+    ∷ enter_on 1 1 1 ⇒ goes_to 0x40005000 0
+    ∷ on 0x100 0x40002000 0 ⇒ starts 2 1 0
+    ∷ enter_on 2 1 1 ⇒ goes_to 0x40002000 0
+    ∷ suspend 1 0x2 0 0 ⇒ stops 1 1 1 (part 0 2 1 ∷ [])
+    ∷ suspend 2 0x01000011 0 0 ⇒ stops 2 1 1 (part 0 1 1 ∷ part 1 1 1 ∷ [])
+    ∷ take_down 1 1 1 1 ⇒ used
+    ∷ hw 0 0x1 0 ⇒ value 2
+    ∷ hw 0 0x100 0 ⇒ value 0
+    ∷ hw 0 0x100 1 ⇒ value 0
+    ∷ take_down 2 1 1 2 ⇒ used
+    ∷ hw 0 0x100 1 ⇒ value 2
+    ∷ hw 0 0 1 ⇒ value 0 ∷ [])
+unfolding computing
+beside_its_path = record { history = refl; values = refl }
 
 -- Asked on, woken, replaced -------------------------------------------------------------------
 

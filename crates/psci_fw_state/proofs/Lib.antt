@@ -7,3 +7,4 @@ mod Granting
 mod Moved
 mod Spanned
 mod Viewed
+mod KeptRows

@@ -1,15 +1,21 @@
 -- Worked examples: records after which just one thing is not so that is said of cores that are
 -- powered down.
-use Rattle.std.proofs.Common.{◌≡◌, ◌≤◌, ◌<◌, ℕ, true, false, List, [], ◌∷◌, refl, arith}
+use Rattle.std.proofs.Common.{◌≡◌, ◌≤◌, ◌<◌, ◌==◌, ◌||◌, ℕ, zero, suc, Bool, true, false, cond}
+use Rattle.std.proofs.Common.{List, [], ◌∷◌, None, Some, slice_get, refl, arith, sym, subst}
+use Rattle.std.proofs.lemmas.Bool.{ne_eqb}
+use Rattle.std.proofs.lemmas.Option.{same_Some}
 use Rattle.psci_world_laws.specs.psci_link.declared.kind.Kind.TheVariants.{Down}
+use Rattle.psci_world_laws.specs.psci_link.Message.{AckValue}
+use Rattle.psci_world_laws.specs.psci_fw_spec.Phases.{Running, Suspended, Away}
 use Rattle.psci_world_laws.specs.psci_world_spec.declared.event.Event.TheVariants.{Deliver, Enter}
-use Rattle.psci_world_laws.specs.psci_world_spec.declared.event.Event.TheVariants.{Take, Wake}
+use Rattle.psci_world_laws.specs.psci_world_spec.declared.event.Event.TheVariants.{Take}
 use Rattle.psci_world_laws.specs.psci_world_spec.declared.said.Record.{Record}
-use Rattle.psci_world_laws.specs.psci_world_spec.declared.said.Said.{Said}
+use Rattle.psci_world_laws.specs.psci_world_spec.Histories.{firmware_values}
 use Rattle.psci_world_laws.specs.psci_world_spec.Legal.{run_from}
-use Rattle.psci_world_laws.proofs.world_spec.Scripts.{acked, board, computing, off, on_3, used}
+use Rattle.psci_world_laws.proofs.world_spec.Scripts.{acked, board, computing, off, on_3, retention}
+use Rattle.psci_world_laws.proofs.world_spec.Scripts.{system_reset, used}
 use Rattle.psci_safe.specs.Moments.{was_powered_down}
-use Rattle.psci_headline.specs.PoweredDown.{AreDown}
+use Rattle.psci_headline.specs.PoweredDown.{AreDown, IsDownBy}
 
 -- core 3 runs beside the boot core
 abbrev two_run : List Record
@@ -25,12 +31,32 @@ told core life number past =
 abbrev going_off : List Record
 going_off = run_from board two_run (off 3 ∷ [])
 
+-- the acknowledgement of the Down of core 3 of which one part was applied
+abbrev ack_3 : AckValue
+ack_3 = record {
+  kind = Down;
+  core = record { number = 3 };
+  life = 1;
+  number = 1;
+  applied = 1;
+  stale = false;
+}
+
 -- Reported off --------------------------------------------------------------------------------
 
 -- it is OFF by an acknowledgement of nothing
 off_and_not_down : AreDown board (record { event = Take 1; said = used } ∷ told 3 1 1 going_off) → ⊥
 unfolding computing was_powered_down
 off_and_not_down down = let no : false ≡ true = down.off 3 refl in absurd (cc)
+
+-- the same in life 2 of a core that was powered down in life 1
+off_and_not_down_in_life_2 : AreDown board
+    (record { event = Take 4; said = used }
+    ∷ record { event = Deliver 9; said = acked 4 Down 3 2 1 1 false }
+    ∷ run_from board going_off (Deliver 1 ∷ Take 1 ∷ system_reset 0 ∷ Deliver 2 ∷ Enter 0
+    ∷ on_3 ∷ Deliver 3 ∷ Enter 3 ∷ off 3 ∷ [])) → ⊥
+unfolding computing was_powered_down
+off_and_not_down_in_life_2 down = let no : false ≡ true = down.off 3 refl in absurd (cc)
 
 -- Acknowledged --------------------------------------------------------------------------------
 
@@ -71,3 +97,50 @@ unfolding computing was_powered_down
 of_the_second down =
     let no : false ≡ true = (down.acked 1 _ refl refl (omega arith)).slept refl refl refl in
     absurd (cc)
+
+-- Held ------------------------------------------------------------------------------------------
+
+-- of a core in retention, which was not powered down and is not off
+of_a_core_in_retention : IsDownBy board
+    (run_from board two_run (retention 3 ∷ Deliver 1 ∷ Take 1 ∷ []))
+    (firmware_values board (run_from board two_run (retention 3 ∷ Deliver 1 ∷ Take 1 ∷ []))) ack_3
+unfolding computing was_powered_down
+of_a_core_in_retention = record {
+  begun = let yes : 1 ≤ 1 = omega arith in yes;
+  number = λ life. let yes : 1 ≤ 1 = omega arith in yes;
+  rests = λ life number runs. let no : Suspended _ ≡ Running = runs in absurd (cc);
+  slept = λ life number away. let no : Suspended _ ≡ Away = away in absurd (cc);
+}
+
+-- before any entry: an acknowledgement of which nothing was applied says nothing, and each core but
+-- the boot core is powered down
+abbrev nothing_applied : AckValue
+nothing_applied = record ack_3 { applied = 0; stale = true }
+
+abbrev before_any_entry : List Record
+before_any_entry = record { event = Deliver 9; said = acked 0 Down 3 1 1 0 true } ∷ []
+
+deep_or : (t rest : Bool) → t ≡ false → ((cond t 0 3 == 3) || rest) ≡ true
+deep_or false rest e = refl
+deep_or true rest e = absurd (cc)
+
+not_positive : 0 < 0 → ⊥
+not_positive less = omega (arith, less)
+
+nothing_entered : AreDown board before_any_entry
+unfolding computing was_powered_down
+nothing_entered = record {
+  off = λ c is. let no : false ≡ true = is in absurd (cc);
+  acked = λ k a at down some. absurd (acked_at k a at some);
+  fresh = λ life c now unknown other.
+      subst (λ l. was_powered_down board l before_any_entry c ≡ true) (same_Some 1 life now)
+      (deep_or (0 == c) _ (ne_eqb 0 c (λ e. other (sym e))));
+}
+  where
+    acked_at : (k : ℕ) (a : AckValue) → slice_get (nothing_applied ∷ []) k ≡ Some a
+        → 0 < a.applied → ⊥
+    acked_at zero a at some =
+        let one : Some nothing_applied ≡ Some a = at in
+        let same : nothing_applied ≡ a = cc in
+        not_positive (subst (λ (x : AckValue). 0 < x.applied) (sym same) some)
+    acked_at (suc k) a at some = let no : None ≡ Some a = at in absurd (cc)

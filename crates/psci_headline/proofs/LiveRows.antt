@@ -1,17 +1,22 @@
 -- Worked examples: records after which just one thing is not so that is said of live claims.
-use Rattle.std.proofs.Common.{◌≡◌, ◌<◌, ℕ, zero, suc, pos, true, false, List, [], ◌∷◌, None, Some}
+use Rattle.std.proofs.Common.{◌≡◌, ◌≤◌, ◌<◌, ℕ, zero, suc, pos}
+use Rattle.std.proofs.Common.{true, false, List, [], ◌∷◌, None, Some}
 use Rattle.std.proofs.Common.{refl, arith, slice_get, ap, sym, ◌∙◌}
+use Rattle.std.specs.Prelude.{drop}
+use Rattle.psci_world_laws.specs.psci_board.Board.{size_below}
 use Rattle.psci_world_laws.specs.psci_board.declared.node.Node.{Node}
 use Rattle.psci_world_laws.specs.psci_link.declared.kind.Kind.TheVariants.{Down}
 use Rattle.psci_world_laws.specs.psci_world_spec.declared.event.Event.{Event}
 use Rattle.psci_world_laws.specs.psci_world_spec.declared.event.Event.TheVariants.{Deliver, Enter}
+use Rattle.psci_world_laws.specs.psci_world_spec.declared.event.Event.TheVariants.{Wake}
 use Rattle.psci_world_laws.specs.psci_world_spec.declared.said.Record.{Record}
 use Rattle.psci_world_laws.specs.psci_world_spec.declared.said.Said.{Said}
 use Rattle.psci_world_laws.specs.psci_world_spec.Legal.{run_from}
 use Rattle.psci_world_laws.proofs.world_spec.Scripts.{acked, board, computing, off, on_3, part}
 use Rattle.psci_world_laws.proofs.world_spec.Scripts.{retention, returns, sends, stops}
+use Rattle.psci_world_laws.proofs.world_spec.Scripts.{one_core, system_reset, tall}
 use Rattle.psci_safe.specs.Claims.{Claim, claims, live_claims}
-use Rattle.psci_headline.specs.Live.{AreApart, AreAsked, AreClaimed, HasLive, NoneExecutes}
+use Rattle.psci_headline.specs.Live.{AreApart, AreAsked, AreClaimed, NoneExecutes}
 
 -- core 3 runs beside the boot core
 abbrev two_run : List Record
@@ -135,4 +140,70 @@ runs_below_the_system : NoneExecutes board
 unfolding computing claims live_claims
 runs_below_the_system none =
     none (at 2 0) 3 0 _ (record { level = omega arith; place = omega arith }) (omega arith)
+    refl refl refl
+
+-- a core executes below a claim that is live no more: it was in retention, and has resumed
+abbrev resumed : List Record
+resumed = run_from one_core [] (Enter 0 ∷ retention 0 ∷ Deliver 0 ∷ Wake 0 ∷ Enter 0 ∷ [])
+
+runs_below_an_old_claim : NoneExecutes one_core resumed
+unfolding computing claims live_claims
+runs_below_an_old_claim n c k p has on up at runs =
+    none_on n.level n.place has.level has.place at
+  where
+    none_on : (level place : ℕ) → level ≤ 1 → place < size_below (drop level one_core.levels)
+        → slice_get (live_claims one_core resumed (record { level = level; place = place })) k
+        ≡ Some p → ⊥
+    none_on zero zero low inside at = none_at_all k p at
+    none_on (suc zero) zero low inside at = none_at_all k p at
+    none_on zero (suc place) low inside at =
+        let no : suc place < 1 = inside in absurd (omega (arith, no))
+    none_on (suc zero) (suc place) low inside at =
+        let no : suc place < 1 = inside in absurd (omega (arith, no))
+    none_on (suc (suc level)) place low inside at =
+        let no : suc (suc level) ≤ 1 = low in absurd (omega (arith, no))
+
+-- In a later life -------------------------------------------------------------------------------
+
+-- three levels above the cores, in life 2, which the boot core has entered
+abbrev second_life : List Record
+second_life = run_from tall [] (Enter 0 ∷ system_reset 0 ∷ Deliver 0 ∷ Enter 0 ∷ [])
+
+-- it asks for retention of itself, and claims a depth of each level at this generation
+abbrev claimed_whole : ℕ → ℕ → List Record
+claimed_whole depth generation =
+    more (retention 0) (stops (sends 1 Down 0 2 1 (part 0 2 generation ∷ part 1 2 generation
+    ∷ part 2 2 generation ∷ part 3 depth generation ∷ []))) second_life
+
+two_claims_in_life_2 : AreApart tall
+    (more (off 0) (stops (sends 2 Down 0 2 1 (part 0 3 1 ∷ [])))
+    (more (retention 0) (stops (sends 1 Down 0 2 1 (part 0 2 1 ∷ []))) second_life)) → ⊥
+unfolding computing claims
+two_claims_in_life_2 apart =
+    let no : 0 ≡ 1 = apart 2 (at 0 0) 0 1 _ _
+    (record { level = omega arith; place = omega arith }) refl refl refl in
+    absurd (omega (arith, no))
+
+system_not_asked : AreAsked tall (claimed_whole 1 1) → ⊥
+unfolding computing claims
+system_not_asked asked =
+    let no : false ≡ true = asked 2 (at 3 0) 0 _
+    (record { level = omega arith; place = omega arith }) refl in
+    absurd (cc)
+
+system_not_claimed : AreClaimed tall
+    (more (Deliver 1) (acked 1 Down 0 2 1 4 false) (claimed_whole 1 7)) → ⊥
+unfolding computing claims live_claims
+system_not_claimed claimed =
+    let live = claimed 2 (at 3 0) (record { level = omega arith; place = omega arith }) refl
+    (omega arith) in
+    none_at_all live.index live.claim live.at
+
+-- core 3 was started, and has not entered, below a claim of the system
+starts_below_the_system : NoneExecutes tall
+    (more (off 0) (stops (sends 1 Down 0 2 1 (part 0 3 1 ∷ part 1 3 1 ∷ part 2 3 1
+    ∷ part 3 3 2 ∷ []))) (run_from tall second_life (Wake 3 ∷ []))) → ⊥
+unfolding computing claims live_claims
+starts_below_the_system none =
+    none (at 3 0) 3 0 _ (record { level = omega arith; place = omega arith }) (omega arith)
     refl refl refl

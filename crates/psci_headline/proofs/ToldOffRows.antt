@@ -9,7 +9,8 @@ use Rattle.psci_world_laws.specs.psci_world_spec.declared.event.Event.TheVariant
 use Rattle.psci_world_laws.specs.psci_world_spec.declared.said.Record.{Record}
 use Rattle.psci_world_laws.specs.psci_world_spec.Legal.{run_from}
 use Rattle.psci_world_laws.proofs.world_spec.Scripts.{board, call, computing, nothing, off, on_3}
-use Rattle.psci_world_laws.proofs.world_spec.Scripts.{retention, returns, status_3, stops, tall}
+use Rattle.psci_world_laws.proofs.world_spec.Scripts.{retention, returns, status_3, stops}
+use Rattle.psci_world_laws.proofs.world_spec.Scripts.{system_reset, tall}
 use Rattle.psci_safe.specs.Moments.{was_powered_down}
 use Rattle.psci_headline.specs.ToldOff.{AllOff, told_off}
 
@@ -107,3 +108,9 @@ in_retention : AllOff board (after (Enter 0 ∷ on_3 ∷ Deliver 0 ∷ Enter 3 �
     ∷ [])) (at 1 1) → ⊥
 unfolding computing was_powered_down
 in_retention all = let no : false ≡ true = (all 3 (omega arith) refl).1 in absurd (cc)
+
+-- in life 2 core 3 goes off and was not powered down, though it was in life 1
+going_off_in_life_2 : AllOff board (run_from board gone_off (system_reset 0 ∷ Deliver 2 ∷ Enter 0
+    ∷ on_3 ∷ Deliver 3 ∷ Enter 3 ∷ off 3 ∷ [])) (at 0 3) → ⊥
+unfolding computing was_powered_down
+going_off_in_life_2 all = let no : false ≡ true = (all 3 (omega arith) refl).1 in absurd (cc)

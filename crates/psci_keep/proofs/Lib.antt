@@ -1,2 +1,3 @@
 pub mod KeptLines
 mod KeptRows
+mod WordRows

@@ -8,15 +8,14 @@ use Rattle.psci_ctl_spec.specs.psci_link.declared.kind.Kind.TheVariants.{Down, S
 use Rattle.psci_ctl_spec.specs.psci_link.Message.{AckValue, MessageValue}
 use Rattle.psci_ctl_spec.specs.psci_link.Slots.{answers}
 use Rattle.psci_world_laws.specs.psci_fw_laws.KnownBelow.{known_below}
-use Rattle.psci_world_laws.specs.psci_fw_spec.Phases.{Pending, Away}
+use Rattle.psci_world_laws.specs.psci_fw_spec.Phases.{Pending, Suspended, Away}
 use Rattle.psci_world_laws.specs.psci_world_spec.declared.event.Event.{Event}
 use Rattle.psci_world_laws.specs.psci_world_spec.declared.event.Event.TheVariants.{Deliver, Enter}
 use Rattle.psci_world_laws.specs.psci_world_spec.declared.event.Event.TheVariants.{Take}
 use Rattle.psci_world_laws.specs.psci_world_spec.declared.said.Record.{Record}
-use Rattle.psci_world_laws.specs.psci_world_spec.Legal.{run_from}
 use Rattle.psci_world_laws.proofs.world_spec.Scripts as scripts
 use Rattle.psci_world_laws.proofs.world_spec.Scripts.{acked, board, off, on_3, part, retention}
-use Rattle.psci_world_laws.proofs.world_spec.Scripts.{sends, stops}
+use Rattle.psci_world_laws.proofs.world_spec.Scripts.{sends, stops, system_reset}
 use Rattle.psci_settle.proofs.Failing.{◌⇒◌, Legal, Steps, past_from}
 use Rattle.psci_settle.specs.Waiting.{IsTold, Waiting, WasTold}
 
@@ -62,6 +61,16 @@ forgotten_cluster w = neither
     (λ sent. let no : None ≡ Some _ = sent in absurd (cc))
     (λ pending. let no : Away ≡ Pending = pending in absurd (cc))
     ((w 1 refl).pursued 0 _ refl refl refl 1 _ refl refl)
+
+-- in life 2: the boot core is in no retention
+forgotten_in_life_2 : Waiting board (after (Legal (Enter 0 ∷ system_reset 0 ∷ Deliver 0 ∷ Enter 0
+    ∷ retention 0 ∷ []) ∷ Deliver 9 ⇒ acked 1 Down 0 2 1 1 false ∷ Legal (Take 1 ∷ []) ∷ [])) → ⊥
+unfolding scripts.computing known_below
+forgotten_in_life_2 w = neither
+    (λ deep. let no : 0 ≡ 2 = deep in absurd (omega (arith, no)))
+    (λ sent. let no : None ≡ Some _ = sent in absurd (cc))
+    (λ pending. let no : Suspended _ ≡ Pending = pending in absurd (cc))
+    ((w 2 refl).pursued 0 _ refl refl refl 0 _ refl refl)
 
 -- First depths --------------------------------------------------------------------------------
 

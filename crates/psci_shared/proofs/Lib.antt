@@ -1,7 +1,9 @@
 pub mod AgreeRows
+pub mod BookRows
+pub mod CallRows
 pub mod Histories
 pub mod OwnCalls
 pub mod Placed
 pub mod Places
-pub mod Written
 pub mod WritingRows
+pub mod Written

@@ -1,3 +1,4 @@
 pub mod AgreeRows
+pub mod CallRows
 pub mod Histories
 pub mod Placed

@@ -1,4 +1,5 @@
 pub mod ListRows
 pub mod Lists
 pub mod RuleRows
+pub mod StepRows
 pub mod Steps

@@ -61,6 +61,19 @@ no_events past (event ∷ events) many = absurd (omega arith)
 pub none_drawn : (before after : List Record) → IsDrawn one_core before 0 after → after ≡ before
 none_drawn before after d = d.run ∙ no_events before d.drawn d.many
 
+-- one event was drawn, and none happened; two were, and one happened
+none_of_one : IsDrawn one_core [] 1 [] → ⊥
+none_of_one d =
+    let many : ◌≡◌ {A = ℕ} 0 1 =
+    ap length d.run ∙ run_length [] d.drawn ∙ ap (λ (n : ℕ). n + 0) d.many in
+    absurd (omega (arith, many))
+
+one_of_two : IsDrawn one_core [] 2 (wrong ∷ []) → ⊥
+one_of_two d =
+    let many : ◌≡◌ {A = ℕ} 1 2 =
+    ap length d.run ∙ run_length [] d.drawn ∙ ap (λ (n : ℕ). n + 0) d.many in
+    absurd (omega (arith, many))
+
 -- Events that happen ------------------------------------------------------------------------------
 
 none_happens : HappensBy one_core (after asleep) (after asleep)

@@ -1,5 +1,6 @@
 pub mod Values
 pub mod Prefixes
 pub mod Rows
+mod SpellingRows
 pub mod SpelledLiterals
 pub mod SpelledNumbers

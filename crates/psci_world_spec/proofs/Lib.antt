@@ -1,6 +1,7 @@
 pub mod Answered
 mod EntryRows
 mod HardwareRows
+mod HistoryRows
 mod LossRows
 mod ModeRows
 mod OffRows

@@ -1,0 +1,187 @@
+-- Worked examples of what the power controller keeps, row by row. Two clusters of two cores; core 3
+-- was started twice, by a wake-up, and its cluster is in retention.
+use Rattle.std.proofs.Common.{◌≡◌, ℕ, ◌+◌, ◌*◌, ◌≤◌, List, [], ◌∷◌, map, length, true, false}
+use Rattle.std.proofs.Common.{None, Some, refl, ap, arith}
+use Rattle.psci_board.specs.Board.{BoardValue, up}
+use Rattle.psci_coord.specs.declared.part.Part.{Part}
+use Rattle.psci_ctl_spec.specs.psci_abi.declared.format.Format.TheVariants.{Original}
+use Rattle.psci_ctl_spec.specs.Values.{Values, starts_below}
+use Rattle.psci_link.specs.declared.start.Cause.TheVariants.{Boot, On, Wake}
+use Rattle.psci_ctl.specs.declared.done.Done.{Done}
+use Rattle.psci_ctl.specs.declared.level.DomainRow.{DomainRow}
+use Rattle.psci_ctl.specs.declared.row.CoreRow.{CoreRow}
+use Rattle.psci_ctl.specs.Rows.{HasRows, HasSums, core_row, deepened, depth_in, domain_at}
+use Rattle.psci_ctl.specs.Rows.{off_core, off_domain, path_on_below, path_on_once, values_in}
+use Rattle.psci_ctl.specs.Rows.{with_core, with_depth}
+use Rattle.psci_ctl.specs.Seen.{ControllerValue, IsController, done, seen, start_done}
+
+abbrev board : BoardValue
+board = record {
+  levels = (2 ∷ 2 ∷ []) ∷ (2 ∷ []) ∷ [];
+  ranges = record { start = 0; end = 64 } ∷ [];
+  boot = 0;
+  starts = 9;
+  lives = 3;
+  format = Original;
+}
+
+abbrev woken : CoreRow
+woken = record { starts = 2; cause = Wake }
+
+abbrev asked_on : CoreRow
+asked_on = record { starts = 4; cause = On }
+
+abbrev off : CoreRow
+off = record { starts = 0; cause = Boot }
+
+abbrev first : CoreRow
+first = record { starts = 1; cause = Boot }
+
+abbrev cores : List CoreRow
+cores = first ∷ off ∷ off ∷ woken ∷ []
+
+abbrev at : ℕ → ℕ → DomainRow
+at depth starts = record { depth = depth; starts = starts }
+
+abbrev domains : List (List DomainRow)
+domains =
+    (at 0 1 ∷ at 3 0 ∷ at 3 0 ∷ at 2 2 ∷ [])
+    ∷ (at 0 1 ∷ at 2 2 ∷ []) ∷ (at 0 3 ∷ []) ∷ []
+
+-- Rows --------------------------------------------------------------------------------------------
+
+core_not_started : off_core ≡ off
+core_not_started = refl
+
+domain_not_started : off_domain ≡ at 3 0
+domain_not_started = refl
+
+-- of each core, and of one beside the board
+rows_of_cores : map (core_row cores) (0 ∷ 1 ∷ 3 ∷ 4 ∷ []) ≡ first ∷ off ∷ woken ∷ off ∷ []
+rows_of_cores = refl
+
+-- of domains on three levels, and beside the board
+rows_of_domains : domain_at domains 0 3 ∷ domain_at domains 1 0 ∷ domain_at domains 1 1
+    ∷ domain_at domains 2 0 ∷ domain_at domains 1 2 ∷ domain_at domains 3 0 ∷ []
+    ≡ at 2 2 ∷ at 0 1 ∷ at 2 2 ∷ at 0 3 ∷ at 3 0 ∷ at 3 0 ∷ []
+rows_of_domains = refl
+
+depths : depth_in domains 0 3 ∷ depth_in domains 1 0 ∷ depth_in domains 2 0
+    ∷ depth_in domains 3 0 ∷ [] ≡ 2 ∷ 0 ∷ 0 ∷ 3 ∷ []
+depths = refl
+
+one_core_changed : map (with_core cores 2 asked_on) (1 ∷ 2 ∷ 3 ∷ [])
+    ≡ off ∷ asked_on ∷ woken ∷ []
+one_core_changed = refl
+
+-- Starts ------------------------------------------------------------------------------------------
+
+on_once_more : path_on_once (at 2 5) ≡ at 0 6
+on_once_more = refl
+
+-- core 3 is started: its domains below the system, and neither the system nor another cluster
+below_the_system : map (path_on_below board 3 domains 2 0) (2 ∷ 3 ∷ [])
+    ≡ at 3 0 ∷ at 0 3 ∷ []
+unfolding up
+below_the_system = refl
+
+clusters_below_the_system : map (path_on_below board 3 domains 2 1) (0 ∷ 1 ∷ [])
+    ≡ at 0 1 ∷ at 0 3 ∷ []
+unfolding up
+clusters_below_the_system = refl
+
+system_itself : path_on_below board 3 domains 2 2 0 ≡ at 0 3
+unfolding up
+system_itself = refl
+
+whole_path : path_on_below board 3 domains 3 2 0 ≡ at 0 4
+unfolding up
+whole_path = refl
+
+-- Depths ------------------------------------------------------------------------------------------
+
+abbrev before : ℕ → ℕ → ℕ
+before level place = 10 * level + place
+
+one_domain_deepened : deepened (record { level = 1; place = 1 }) 3 before 1 1
+    ∷ deepened (record { level = 1; place = 1 }) 3 before 1 0
+    ∷ deepened (record { level = 1; place = 1 }) 3 before 2 1 ∷ []
+    ≡ 3 ∷ 10 ∷ 21 ∷ []
+one_domain_deepened = refl
+
+-- a part of a core of the other cluster, for its cluster; and of the first core, for itself
+cluster_as_asked : map
+    (with_depth board 2 (record { level = 1; depth = 2; generation = 5 }) before 1) (0 ∷ 1 ∷ [])
+    ≡ 10 ∷ 2 ∷ []
+unfolding up
+cluster_as_asked = refl
+
+core_as_asked : map (with_depth board 1 (record { level = 0; depth = 3; generation = 5 }) before 0)
+    (0 ∷ 1 ∷ 2 ∷ []) ≡ 0 ∷ 3 ∷ 2 ∷ []
+unfolding up
+core_as_asked = refl
+
+-- Values ------------------------------------------------------------------------------------------
+
+abbrev values : Values
+values = values_in (Some 2) cores domains
+
+life_kept : values.life ≡ Some 2
+life_kept = refl
+
+starts_kept : map values.starts (0 ∷ 1 ∷ 3 ∷ 4 ∷ []) ≡ 1 ∷ 0 ∷ 2 ∷ 0 ∷ []
+starts_kept = refl
+
+causes_kept : map values.cause (0 ∷ 3 ∷ 4 ∷ []) ≡ Boot ∷ Wake ∷ Boot ∷ []
+causes_kept = refl
+
+depths_kept : values.depth 0 3 ∷ values.depth 1 0 ∷ values.depth 1 1 ∷ values.depth 1 2 ∷ []
+    ≡ 2 ∷ 0 ∷ 2 ∷ 3 ∷ []
+depths_kept = refl
+
+-- Done --------------------------------------------------------------------------------------------
+
+two_parts_done : done 2 true ≡ record { applied = 2; stale = true }
+two_parts_done = refl
+
+starts_done : start_done true ∷ start_done false ∷ []
+    ≡ record { applied = 1; stale = false } ∷ record { applied = 0; stale = true } ∷ []
+starts_done = refl
+
+-- Shapes ------------------------------------------------------------------------------------------
+
+level_is_missing : HasRows board ((at 0 1 ∷ at 3 0 ∷ at 3 0 ∷ at 2 2 ∷ []) ∷ (at 0 1 ∷ at 2 2 ∷ [])
+    ∷ []) → ⊥
+level_is_missing h = let e : ◌≡◌ {A = ℕ} 2 3 = h.levels in omega arith
+
+cluster_is_missing : HasRows board ((at 0 1 ∷ at 3 0 ∷ at 3 0 ∷ at 2 2 ∷ []) ∷ (at 0 1 ∷ [])
+    ∷ (at 0 3 ∷ []) ∷ []) → ⊥
+cluster_is_missing h = let e : ◌≡◌ {A = ℕ} 1 2 = h.places 1 (omega arith) in omega arith
+
+system_is_missing : HasRows board ((at 0 1 ∷ at 3 0 ∷ at 3 0 ∷ at 2 2 ∷ [])
+    ∷ (at 0 1 ∷ at 2 2 ∷ []) ∷ [] ∷ []) → ⊥
+system_is_missing h = let e : ◌≡◌ {A = ℕ} 0 1 = h.places 2 (omega arith) in omega arith
+
+-- the system counts another sum than 3; the second cluster another than 2
+system_counts_too_few : HasSums board cores ((at 0 1 ∷ at 3 0 ∷ at 3 0 ∷ at 2 2 ∷ [])
+    ∷ (at 0 1 ∷ at 2 2 ∷ []) ∷ (at 0 2 ∷ []) ∷ []) → ⊥
+unfolding starts_below
+system_counts_too_few h = let e : ◌≡◌ {A = ℕ} 2 3 = h.sums 2 0 (omega arith) in omega arith
+
+cluster_counts_itself : HasSums board cores ((at 0 1 ∷ at 3 0 ∷ at 3 0 ∷ at 2 2 ∷ [])
+    ∷ (at 0 1 ∷ at 2 3 ∷ []) ∷ (at 0 3 ∷ []) ∷ []) → ⊥
+unfolding starts_below
+cluster_counts_itself h = let e : ◌≡◌ {A = ℕ} 3 2 = h.sums 1 1 (omega arith) in omega arith
+
+-- a controller with a row too few, and one in life 2 that counts wrong
+abbrev controller : List CoreRow → ControllerValue
+controller rows = record { board = board; life = Some 2; cores = rows; domains = domains }
+
+core_is_missing : IsController (controller (first ∷ off ∷ off ∷ [])) → ⊥
+core_is_missing h = let e : ◌≡◌ {A = ℕ} 3 4 = h.cores in omega arith
+
+sums_in_life_2 : IsController (controller (first ∷ off ∷ off ∷ asked_on ∷ [])) → ⊥
+unfolding starts_below
+sums_in_life_2 h =
+    let sums = h.sums 2 refl in
+    let e : ◌≡◌ {A = ℕ} 2 4 = sums.sums 1 1 (omega arith) in omega arith

@@ -1,0 +1,182 @@
+-- Worked examples of what is read of a firmware, of the way on of a core that enters, and of what a
+-- suspended core leaves.
+use Rattle.std.proofs.Common.{◌≡◌, ℕ, ◌<◌, List, [], ◌∷◌, map, Bool, true, false, pos, None, Some}
+use Rattle.std.proofs.Common.{refl, ap, arith, Option, ◌==◌}
+use Rattle.std.specs.Prelude.{if◌then◌else◌}
+use Rattle.psci_board.specs.Board.{BoardValue, up}
+use Rattle.psci_board.specs.declared.node.Node.{Node}
+use Rattle.psci_coord.specs.declared.part.Part.{Part}
+use Rattle.psci_fw_spec.specs.psci_abi.declared.format.Format.TheVariants.{Original}
+use Rattle.psci_fw_spec.specs.psci_coord.psci_tree.declared.state.Activity.TheVariants as activities
+use Rattle.psci_fw_spec.specs.declared.hw.Hw.TheVariants as hardware
+use Rattle.psci_fw_spec.specs.declared.mode.SuspendMode.TheVariants.{OsInitiated}
+use Rattle.psci_fw_spec.specs.declared.opening.Opening.{Opening}
+use Rattle.psci_fw_spec.specs.declared.outcome.Act.TheVariants as acts
+use Rattle.psci_fw_spec.specs.declared.status.Status.TheVariants as statuses
+use Rattle.psci_fw_spec.specs.AffinityInfo.{node_status}
+use Rattle.psci_fw_spec.specs.Lives.{start_of_life}
+use Rattle.psci_fw_spec.specs.Phases as phases
+use Rattle.psci_fw_spec.specs.Values.{Values}
+use Rattle.psci_link.specs.declared.kind.Kind.TheVariants as kinds
+use Rattle.psci_link.specs.declared.start.Cause.TheVariants.{On, Reset, Wake}
+use Rattle.psci_link.specs.declared.start.Start.{Start}
+use Rattle.psci_link.specs.Message.{MessageValue}
+use Rattle.psci_link.specs.Slots.Slot.{OfCore}
+use Rattle.psci_fw_state.specs.Seen.{values_in}
+use Rattle.psci_fw.specs.Calls.{MayCall}
+use Rattle.psci_fw.specs.Halts.{IsOfSystem}
+use Rattle.psci_fw.specs.Seen.{FirmwareValue, hw_shown, life_shown, status_shown}
+use Rattle.psci_fw.specs.Suspending.{left_by_suspend}
+use Rattle.psci_fw.specs.Ways.{way_by, way_on}
+
+abbrev board : BoardValue
+board = record {
+  levels = (2 ∷ 2 ∷ []) ∷ (2 ∷ []) ∷ [];
+  ranges = record { start = 0; end = 64 } ∷ [];
+  boot = 32;
+  starts = 9;
+  lives = 3;
+  format = Original;
+}
+
+-- in this life core 0 runs, core 1 is asked on, and the second cluster is in standby
+abbrev firmware : ℕ → FirmwareValue
+firmware life = record {
+  board = board;
+  life = life;
+  halting = false;
+  mode = OsInitiated;
+  tree = record {
+    levels = (2 ∷ 2 ∷ []) ∷ (2 ∷ []) ∷ [];
+    cores =
+        record { activity = activities.Active; known = 1 }
+        ∷ record { activity = activities.Active; known = 0 }
+        ∷ record { activity = activities.Off; known = 2 }
+        ∷ record { activity = activities.Off; known = 5 } ∷ [];
+    granted = (0 ∷ 0 ∷ 3 ∷ 3 ∷ []) ∷ (0 ∷ 1 ∷ []) ∷ (0 ∷ []) ∷ [];
+    confirmed = (0 ∷ 0 ∷ 3 ∷ 0 ∷ []) ∷ (0 ∷ 1 ∷ []) ∷ (0 ∷ []) ∷ [];
+  };
+  rows =
+      record { status = statuses.On; opening = None }
+      ∷ record { status = statuses.Pending; opening = None }
+      ∷ record { status = statuses.Off; opening = None }
+      ∷ record { status = statuses.Off; opening = None } ∷ [];
+  slots = record { cores = None ∷ None ∷ None ∷ None ∷ []; system = None };
+}
+
+abbrev at : ℕ → ℕ → Node
+at level place = record { level = level; place = place }
+
+-- Read --------------------------------------------------------------------------------------------
+
+lives : map life_shown (0 ∷ 1 ∷ 2 ∷ []) ≡ None ∷ Some 1 ∷ Some 2 ∷ []
+lives = refl
+
+-- of cores, of both clusters and of the system
+status_in_life_2 : map (status_shown (firmware 2)) (at 0 0 ∷ at 0 1 ∷ at 0 3 ∷ at 1 0 ∷ at 1 1
+    ∷ at 2 0 ∷ [])
+    ≡ Some statuses.On ∷ Some statuses.Pending ∷ Some statuses.Off ∷ Some statuses.On
+    ∷ Some statuses.Off ∷ Some statuses.On ∷ []
+unfolding values_in node_status
+status_in_life_2 = refl
+
+no_status_before_a_life : status_shown (firmware 0) (at 0 0) ≡ None
+unfolding values_in
+no_status_before_a_life = refl
+
+-- a core that runs, two that are powered down, one not confirmed, and a cluster in standby
+hardware_in_life_3 : map (hw_shown (firmware 3)) (at 0 0 ∷ at 0 2 ∷ at 0 3 ∷ at 1 1 ∷ [])
+    ≡ Some hardware.On ∷ Some hardware.Off ∷ Some hardware.On ∷ Some hardware.Standby ∷ []
+unfolding values_in
+hardware_in_life_3 = refl
+
+no_hardware_before_a_life : hw_shown (firmware 0) (at 1 1) ≡ None
+unfolding values_in
+no_hardware_before_a_life = refl
+
+-- Ways on -----------------------------------------------------------------------------------------
+
+-- core 2 was suspended in standby, and its known start is 4; core 3 is off, its known start is 4
+abbrev values : Values
+values = record (start_of_life board 2) {
+  known = λ c. 4;
+  phase = λ c. if c == 2 then phases.Suspended (1 ∷ 1 ∷ []) else phases.Away;
+  opening = λ c. if c == 1 then Some (record { address = 48; context = 7 }) else None;
+}
+
+abbrev start : ℕ → Start
+start number = record { life = 2; number = number; cause = Wake }
+
+opening_of_core_1 : way_on values 1 (start 5) ≡ Some (acts.Enter 48 7)
+opening_of_core_1 = refl
+
+resume_of_core_2 : way_on values 2 (start 5) ≡ Some acts.Resume
+resume_of_core_2 = refl
+
+-- by a start that is not the next, by a reset, and by a core that is off
+parked : way_on values 2 (start 6) ∷ way_on values 2 (record (start 5) { cause = Reset })
+    ∷ way_on values 2 (record (start 5) { cause = On }) ∷ way_on values 3 (start 5) ∷ []
+    ≡ None ∷ None ∷ None ∷ None ∷ []
+parked = refl
+
+opening_before_a_resume : way_by values 2 (start 5) (Some (record { address = 1; context = 2 }))
+    ≡ Some (acts.Enter 1 2)
+opening_before_a_resume = refl
+
+-- Suspended ---------------------------------------------------------------------------------------
+
+-- core 3 asks for standby of itself
+abbrev down : MessageValue
+down = record {
+  kind = kinds.Down;
+  core = record { number = 3 };
+  life = 2;
+  number = 4;
+  parts = record { level = 0; depth = 1; generation = 4 } ∷ [];
+}
+
+-- what core 3 leaves that is suspended, by whether it sent the Down
+abbrev left : Option MessageValue → Values
+left = left_by_suspend board values 3 (record { phase = phases.Suspended (1 ∷ []); opening = None })
+
+-- a refused core leaves all as it was; one that sent the Down rests, and its claim is granted
+phases_left : (left None).phase 3 ∷ (left (Some down)).phase 3 ∷ (left (Some down)).phase 0 ∷ []
+    ≡ phases.Away ∷ phases.Suspended (1 ∷ []) ∷ phases.Away ∷ []
+phases_left = refl
+
+granted_left : (left None).granted 0 3 ∷ (left (Some down)).granted 0 3
+    ∷ (left (Some down)).granted 0 2 ∷ [] ≡ 3 ∷ 1 ∷ 3 ∷ []
+unfolding up
+granted_left = refl
+
+outstanding_left : (left None).outstanding (OfCore 3) ∷ (left (Some down)).outstanding (OfCore 3)
+    ∷ (left (Some down)).outstanding (OfCore 2) ∷ [] ≡ None ∷ Some down ∷ None ∷ []
+outstanding_left = refl
+
+-- Calls -------------------------------------------------------------------------------------------
+
+off_core_calls : MayCall (firmware 2) 3 → ⊥
+unfolding values_in
+off_core_calls h = let e : phases.Away ≡ phases.Running = h.running in absurd (cc)
+
+pending_core_calls : MayCall (firmware 2) 1 → ⊥
+unfolding values_in
+pending_core_calls h = let e : phases.Pending ≡ phases.Running = h.running in absurd (cc)
+
+core_beside_the_board_calls : MayCall (firmware 2) 4 → ⊥
+core_beside_the_board_calls h = let e : 4 < 4 = h.inside in omega arith
+
+halting_life_is_called : MayCall (record (firmware 2) { halting = true }) 0 → ⊥
+unfolding values_in
+halting_life_is_called h = let e : true ≡ false = h.awake in absurd (cc)
+
+-- Messages for the system -------------------------------------------------------------------------
+
+for_the_system : IsOfSystem kinds.Off × IsOfSystem kinds.Reset
+for_the_system = (tt, tt)
+
+down_is_of_a_core : IsOfSystem kinds.Down → ⊥
+down_is_of_a_core h = h
+
+start_is_of_a_core : IsOfSystem kinds.Start → ⊥
+start_is_of_a_core h = h

@@ -1,0 +1,197 @@
+-- Worked examples of books: the reply after entries, what passes have seen of them, and what the
+-- type of a book keeps. In life 2 the boot core has entered, and core 1 is OFF.
+use Rattle.std.proofs.Common.{◌≡◌, inl, inr, ℕ, zero, suc, ◌<◌, ◌≤◌, List, [], ◌∷◌, pos, negsuc}
+use Rattle.std.proofs.Common.{true, false, refl, ap, arith, None, Some}
+use Rattle.psci_fw.specs.psci_abi.declared.format.Format.TheVariants.{Original}
+use Rattle.psci_fw.specs.psci_board.Board.{BoardValue}
+use Rattle.psci_fw.specs.psci_fw_spec.Answer.{answer}
+use Rattle.psci_fw.specs.psci_fw_spec.After.{after}
+use Rattle.psci_fw.specs.psci_fw_spec.Calls.{outcome_of}
+use Rattle.psci_fw.specs.psci_fw_spec.CpuOn.{target_of}
+use Rattle.psci_fw.specs.psci_fw_spec.Entering.{enter_outcome}
+use Rattle.psci_fw.specs.psci_fw_spec.History.{values_of}
+use Rattle.psci_fw.specs.psci_fw_spec.Statuses.{statuses}
+use Rattle.psci_fw.specs.psci_fw_spec.Values.{Values}
+use Rattle.psci_fw.specs.psci_fw_spec.declared.call.FwCall.{FwCall}
+use Rattle.psci_fw.specs.psci_fw_spec.declared.call.FwCall.TheVariants.{Smc, Enter}
+use Rattle.psci_fw.specs.psci_fw_spec.declared.fault.FwFault.TheVariants.{NoLife, NotRunning}
+use Rattle.psci_fw.specs.psci_fw_spec.declared.outcome.Act.TheVariants as acts
+use Rattle.psci_fw.specs.psci_fw_spec.declared.reply.FwReply.{FwReply}
+use Rattle.psci_fw.specs.psci_fw_spec.declared.reply.FwReply.TheVariants.{Out, Taken, Fault}
+use Rattle.psci_fw.specs.psci_fw_spec.declared.status.Status.TheVariants.{On, Off, Pending}
+use Rattle.psci_fw.specs.psci_fw_spec.declared.status.Status.{Status}
+use Rattle.psci_fw.specs.Seen.{FirmwareValue, seen}
+use Rattle.psci_link.specs.declared.start.Cause.TheVariants.{Boot}
+use Rattle.psci_status.specs.Lists.{Item, Within, row}
+use Rattle.psci_shared.specs.declared.entry.FwEntry.{FwEntry}
+use Rattle.psci_shared.specs.Books.{answer_after, entry, history_of}
+use Rattle.psci_shared.specs.Gathers.{AllSeen, AllStand}
+use Rattle.psci_shared.specs.Inside.{IsTied}
+use Rattle.psci_shared.specs.Passes.{PassView}
+use Rattle.psci_shared.specs.Writing.{Stand}
+
+-- what an example unfolds to compute an answer
+unfoldable computing : Unit {0}
+unfolding answer values_of after outcome_of enter_outcome target_of
+computing = tt
+
+-- two cores
+abbrev board : BoardValue
+board = record {
+  levels = (2 ∷ []) ∷ [];
+  ranges = record { start = 0; end = 64 } ∷ [];
+  boot = 0;
+  starts = 9;
+  lives = 3;
+  format = Original;
+}
+
+abbrev enters : ℕ → FwEntry
+enters life = entry life (record { number = 0 })
+    (Enter (record { life = life; number = 1; cause = Boot }))
+    (Out (record { act = acts.Enter 0 0; message = None }))
+
+-- the boot core has entered in life 1, and again in life 2
+abbrev entries : List FwEntry
+entries = enters 1 ∷ enters 2 ∷ []
+
+abbrev version : FwCall
+version = Smc (record { x0 = 0x84000000; x1 = 0; x2 = 0; x3 = 0 })
+
+-- the reply that says which version it is
+abbrev told : FwReply
+told = Out (record { act = acts.Return (record { 0 = pos 0x10001 }); message = None })
+
+-- The reply after entries -------------------------------------------------------------------------
+
+before_a_life : answer_after board [] 0 version ≡ Fault NoLife
+unfolding computing history_of
+before_a_life = refl
+
+of_a_running_core : answer_after board entries 0 version ≡ told
+unfolding computing history_of
+of_a_running_core = refl
+
+of_a_core_that_is_off : answer_after board entries 1 version ≡ Fault NotRunning
+unfolding computing history_of
+of_a_core_that_is_off = refl
+
+-- What passes have seen ---------------------------------------------------------------------------
+
+abbrev pass : List (List Item) → PassView
+pass seen =
+    record { core = record { number = 0 }; room = 4; told_full = false; items = []; seen = seen }
+
+-- what was written of cores 0 and 1
+abbrev log : List (List Status)
+log = (On ∷ []) ∷ (Pending ∷ Off ∷ []) ∷ []
+
+-- one has seen an older status of core 1, the other its last
+older : (core : ℕ) → Within (row log core) (row ([] ∷ ((0, Off) ∷ []) ∷ []) core)
+older zero = tt
+older (suc zero) = (inr (inl (refl, refl)), tt, tt)
+older (suc (suc core)) = tt
+
+newer : (core : ℕ) → Within (row log core) (row ([] ∷ ((1, Pending) ∷ []) ∷ []) core)
+newer zero = tt
+newer (suc zero) = (inl (refl, refl), tt, tt)
+newer (suc (suc core)) = tt
+
+both_have_seen : AllSeen log
+    (pass ([] ∷ ((0, Off) ∷ []) ∷ []) ∷ pass ([] ∷ ((1, Pending) ∷ []) ∷ []) ∷ [])
+both_have_seen = (older, (newer, tt))
+
+-- an item was seen that was not written: by the first pass, by the second, of another core
+not_of_the_log : Within (Pending ∷ Off ∷ []) ((2, On) ∷ []) → ⊥
+not_of_the_log (inl e, above, more) = let s : ◌≡◌ {A = ℕ} 2 1 = e.0 in omega arith
+not_of_the_log (inr (inl e), above, more) = let s : ◌≡◌ {A = ℕ} 2 0 = e.0 in omega arith
+not_of_the_log (inr (inr e), above, more) = e
+
+first_has_not_seen : AllSeen log
+    (pass ([] ∷ ((2, On) ∷ []) ∷ []) ∷ pass ([] ∷ ((1, Pending) ∷ []) ∷ []) ∷ []) → ⊥
+first_has_not_seen h = not_of_the_log (h.0 1)
+
+second_has_not_seen : AllSeen log
+    (pass ([] ∷ ((0, Off) ∷ []) ∷ []) ∷ pass ([] ∷ ((2, On) ∷ []) ∷ []) ∷ []) → ⊥
+second_has_not_seen h = not_of_the_log (h.1.0 1)
+
+of_a_core_without_a_log : AllSeen log (pass ([] ∷ [] ∷ ((0, Off) ∷ []) ∷ []) ∷ []) → ⊥
+of_a_core_without_a_log h = (h.0 2).0
+
+-- the statuses after the entries: OFF, ON_PENDING and ON of the boot core in either life
+first_stands : Stand board entries ([] ∷ ((0, Off) ∷ []) ∷ [])
+unfolding statuses history_of
+first_stands zero h = tt
+first_stands (suc zero) h = (inl (refl, refl), tt, tt)
+first_stands (suc (suc core)) h = tt
+
+second_stands : Stand board entries []
+unfolding statuses history_of
+second_stands core h = tt
+
+all_stand : AllStand board entries (pass ([] ∷ ((0, Off) ∷ []) ∷ []) ∷ pass [] ∷ [])
+all_stand = (first_stands, (second_stands, tt))
+
+-- a status that core 1 never had: seen by the first pass, and by the second
+never_on : Within (Off ∷ []) ((1, On) ∷ []) → ⊥
+never_on (inl e, above, more) = let s : ◌≡◌ {A = ℕ} 1 0 = e.0 in omega arith
+never_on (inr e, above, more) = e
+
+first_does_not_stand : AllStand board entries (pass ([] ∷ ((1, On) ∷ []) ∷ []) ∷ pass [] ∷ []) → ⊥
+unfolding statuses history_of
+first_does_not_stand h = never_on (h.0 1 (omega arith))
+
+second_does_not_stand : AllStand board entries (pass [] ∷ pass ([] ∷ ((1, On) ∷ []) ∷ []) ∷ []) → ⊥
+unfolding statuses history_of
+second_does_not_stand h = never_on (h.1.0 1 (omega arith))
+
+-- What the type of a book keeps -------------------------------------------------------------------
+
+-- a book without entries, of a firmware before any life
+tied : (f : FirmwareValue) → f.board ≡ board → seen f ≡ values_of board (history_of [])
+    → IsTied board 1001 f [] 4 3
+unfolding history_of
+tied f of_board values = record {
+  board = of_board;
+  values = values;
+  legal = tt;
+  within = omega arith;
+  reserved = omega arith;
+  whole = refl;
+  small = omega arith;
+}
+
+parts_are_missing : (f : FirmwareValue) → IsTied board 1000 f [] 4 3 → ⊥
+parts_are_missing f h = let e : ◌≡◌ {A = ℕ} 1000 1001 = h.whole in omega arith
+
+more_room_than_reserved : (f : FirmwareValue) → IsTied board 1001 f [] 3 4 → ⊥
+more_room_than_reserved f h = let e : 4 ≤ 3 = h.reserved in omega arith
+
+more_entries_than_room : (f : FirmwareValue) → IsTied board 1001 f entries 4 1 → ⊥
+more_entries_than_room f h = let e : 2 ≤ 1 = h.within in omega arith
+
+room_is_too_large : (f : FirmwareValue) → IsTied board 1001 f [] 0x100000000 0x100000000 → ⊥
+room_is_too_large f h = let e : 0x100000000 < 0x100000000 = h.small in omega arith
+
+-- core 1 was answered while it was off
+abbrev is_out : FwReply → ℕ
+is_out (Out outcome) = 1
+is_out (Taken taken) = 2
+is_out (Fault fault) = 3
+
+illegal : (f : FirmwareValue)
+    → IsTied board 1001 f (entry 0 (record { number = 1 }) version told ∷ []) 4 3 → ⊥
+unfolding computing history_of
+illegal f h = let e : ◌≡◌ {A = ℕ} 1 3 = ap is_out h.legal.0 in omega arith
+
+-- the firmware is of another board; it has another life than the entries say
+other_board : (f : FirmwareValue) → f.board.starts ≡ 8 → IsTied board 1001 f [] 4 3 → ⊥
+other_board f eight h =
+    let e : f.board.starts ≡ 9 = ap (λ (b : BoardValue). b.starts) h.board in
+    omega (arith, eight, e)
+
+other_life : (f : FirmwareValue) → (seen f).life ≡ 1 → IsTied board 1001 f entries 4 3 → ⊥
+unfolding computing history_of
+other_life f one h =
+    let e : (seen f).life ≡ 2 = ap (λ (v : Values). v.life) h.values in
+    omega (arith, one, e)

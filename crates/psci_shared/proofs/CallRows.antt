@@ -1,0 +1,204 @@
+-- Worked examples of what a pass is after a call: which reply fits which call, a call that was
+-- entered, one that was refused, and what was seen last of a core.
+use Rattle.std.proofs.Common.{◌≡◌, ℕ, ◌+◌, List, [], ◌∷◌, length, Bool, true, false, refl, ap}
+use Rattle.std.proofs.Common.{arith}
+use Rattle.psci_fw.specs.psci_fw_spec.declared.call.FwCall.{FwCall}
+use Rattle.psci_fw.specs.psci_fw_spec.declared.call.FwCall.TheVariants.{Smc, Enter, Take}
+use Rattle.psci_fw.specs.psci_fw_spec.declared.fault.FwFault.TheVariants.{NoLife, NotRunning}
+use Rattle.psci_fw.specs.psci_fw_spec.declared.reply.FwReply.{FwReply}
+use Rattle.psci_fw.specs.psci_fw_spec.declared.reply.FwReply.TheVariants.{Out, Taken, Fault}
+use Rattle.psci_fw.specs.psci_fw_spec.declared.outcome.Act.TheVariants as acts
+use Rattle.psci_fw.specs.psci_fw_spec.declared.status.Status.TheVariants.{On, Off, Pending}
+use Rattle.psci_link.specs.declared.kind.Kind.TheVariants as kinds
+use Rattle.psci_link.specs.declared.start.Cause.TheVariants.{Wake}
+use Rattle.psci_link.specs.declared.taken.Taken.TheVariants as takens
+use Rattle.std.specs.Prelude.{None}
+use Rattle.psci_status.specs.Lists.{Item}
+use Rattle.psci_shared.specs.declared.entry.FwItem.{FwItem}
+use Rattle.psci_shared.specs.declared.fault.CallFault.TheVariants.{BookFull, Fw}
+use Rattle.psci_shared.specs.Gathers.{plain}
+use Rattle.psci_shared.specs.Passes.{Fits, IsCalled, IsRefused, PassView, item}
+use Rattle.psci_shared.specs.Writing.{HasSeen}
+
+-- a function that core 2 asks for, its entry in life 2, and an acknowledgement in life 3
+abbrev ask : ℕ → FwCall
+ask word = Smc (record { x0 = word; x1 = 0; x2 = 0; x3 = 0 })
+
+abbrev enter : FwCall
+enter = Enter (record { life = 2; number = 4; cause = Wake })
+
+abbrev take : FwCall
+take = Take (record {
+  kind = kinds.Down;
+  core = record { number = 2 };
+  life = 3;
+  number = 1;
+  applied = 1;
+  stale = false;
+})
+
+abbrev stops : FwReply
+stops = Out (record { act = acts.Stop; message = None })
+
+abbrev used : FwReply
+used = Taken takens.Used
+
+-- What fits ---------------------------------------------------------------------------------------
+
+function_fits : Fits (ask 1) stops × Fits (ask 1) (Fault NotRunning)
+function_fits = (tt, tt)
+
+function_is_not_taken : Fits (ask 1) used → ⊥
+function_is_not_taken h = h
+
+entry_fits : Fits enter stops × Fits enter (Fault NoLife)
+entry_fits = (tt, tt)
+
+entry_is_not_taken : Fits enter used → ⊥
+entry_is_not_taken h = h
+
+acknowledgement_fits : Fits take used
+acknowledgement_fits = tt
+
+no_outcome_of_an_acknowledgement : Fits take stops → ⊥
+no_outcome_of_an_acknowledgement h = h
+
+acknowledgement_is_not_refused : Fits take (Fault NoLife) → ⊥
+acknowledgement_is_not_refused h = h
+
+-- A call that was entered -------------------------------------------------------------------------
+
+abbrev pass : ℕ → Bool → List FwItem → List (List Item) → PassView
+pass n told items seen = record {
+  core = record { number = n };
+  room = 4;
+  told_full = told;
+  items = items;
+  seen = seen;
+}
+
+abbrev old : FwItem
+old = item 3 (ask 1) stops
+
+abbrev new : FwItem
+new = item 7 enter (Fault NoLife)
+
+-- of core 2, which has seen more of core 1 by then
+entered_behind : IsCalled (pass 2 false (old ∷ []) [])
+    (pass 2 false (old ∷ new ∷ []) ([] ∷ ((0, Off) ∷ []) ∷ [])) enter (Fault NoLife)
+entered_behind = (7, refl)
+
+first_of_a_told_pass : IsCalled (pass 0 true [] []) (pass 0 true (new ∷ []) []) enter (Fault NoLife)
+first_of_a_told_pass = (7, refl)
+
+-- the place of the first item
+abbrev first_place : List FwItem → ℕ
+first_place [] = 99
+first_place (i ∷ is) = i.place
+
+entered_in_front : IsCalled (pass 2 false (old ∷ []) []) (pass 2 false (new ∷ old ∷ []) []) enter
+    (Fault NoLife) → ⊥
+entered_in_front h =
+    let e : ◌≡◌ {A = ℕ} 7 3 = ap (λ (p : PassView). first_place p.items) h.1 in omega arith
+
+nothing_entered : IsCalled (pass 2 false (old ∷ []) []) (pass 2 false (old ∷ []) []) (ask 1) stops
+    → ⊥
+nothing_entered h =
+    let e : ◌≡◌ {A = ℕ} 1 2 = ap (λ (p : PassView). length p.items) h.1 in omega arith
+
+entered_by_another_core : IsCalled (pass 2 false [] []) (pass 1 false (new ∷ []) []) enter
+    (Fault NoLife) → ⊥
+entered_by_another_core h =
+    let e : ◌≡◌ {A = ℕ} 1 2 = ap (λ (p : PassView). p.core.number) h.1 in omega arith
+
+entered_and_told : IsCalled (pass 2 false [] []) (pass 2 true (new ∷ []) []) enter (Fault NoLife)
+    → ⊥
+entered_and_told h =
+    let e : true ≡ false = ap (λ (p : PassView). p.told_full) h.1 in absurd (cc)
+
+-- what tells calls and replies apart
+abbrev word : FwCall → ℕ
+word (Smc regs) = regs.x0
+word (Enter start) = 100 + start.number
+word (Take ack) = 200
+
+abbrev is_out : FwReply → ℕ
+is_out (Out outcome) = 1
+is_out (Taken taken) = 2
+is_out (Fault fault) = 3
+
+-- the last item
+abbrev last_word : List FwItem → ℕ
+last_word [] = 99
+last_word (i ∷ is) = word i.call
+
+abbrev last_reply : List FwItem → ℕ
+last_reply [] = 99
+last_reply (i ∷ is) = is_out i.reply
+
+another_call : IsCalled (pass 2 false [] []) (pass 2 false (new ∷ []) []) (ask 5) (Fault NoLife)
+    → ⊥
+another_call h =
+    let e : ◌≡◌ {A = ℕ} 104 5 = ap (λ (p : PassView). last_word p.items) h.1 in omega arith
+
+another_reply : IsCalled (pass 2 false [] []) (pass 2 false (new ∷ []) []) enter stops → ⊥
+another_reply h =
+    let e : ◌≡◌ {A = ℕ} 3 1 = ap (λ (p : PassView). last_reply p.items) h.1 in omega arith
+
+-- A call that was refused -------------------------------------------------------------------------
+
+full_is_told : IsRefused (pass 1 false (old ∷ []) []) (pass 1 true (old ∷ []) []) enter BookFull
+full_is_told = refl
+
+full_is_not_told : IsRefused (pass 1 false [] []) (pass 1 false [] []) enter BookFull → ⊥
+full_is_not_told h =
+    let e : false ≡ true = ap (λ (p : PassView). p.told_full) h in absurd (cc)
+
+full_and_entered : IsRefused (pass 1 false [] []) (pass 1 true (new ∷ []) []) enter BookFull → ⊥
+full_and_entered h =
+    let e : ◌≡◌ {A = ℕ} 1 0 = ap (λ (p : PassView). length p.items) h in omega arith
+
+fault_is_entered : IsRefused (pass 1 false (old ∷ []) []) (pass 1 false (old ∷ new ∷ []) []) enter
+    (Fw NoLife)
+fault_is_entered = (7, refl)
+
+fault_is_not_entered : IsRefused (pass 1 false [] []) (pass 1 false [] []) enter (Fw NoLife) → ⊥
+fault_is_not_entered h =
+    let e : ◌≡◌ {A = ℕ} 0 1 = ap (λ (p : PassView). length p.items) h.1 in omega arith
+
+fault_is_told : IsRefused (pass 1 false [] []) (pass 1 true [] []) enter (Fw NoLife) → ⊥
+fault_is_told h =
+    let e : ◌≡◌ {A = ℕ} 0 1 = ap (λ (p : PassView). length p.items) h.1 in omega arith
+
+-- What was seen last ------------------------------------------------------------------------------
+
+abbrev rows : List (List Item)
+rows = ((4, On) ∷ (1, Off) ∷ []) ∷ ((2, Pending) ∷ []) ∷ [] ∷ []
+
+on_is_seen : HasSeen rows 0 On
+on_is_seen = (4, ((1, Off) ∷ [], refl))
+
+pending_is_seen : HasSeen rows 1 Pending
+pending_is_seen = (2, ([], refl))
+
+-- the serial of the last item, by its status
+abbrev off_first : List Item → ℕ
+off_first [] = 0
+off_first ((serial, Off) ∷ is) = 1
+off_first ((serial, On) ∷ is) = 2
+off_first ((serial, Pending) ∷ is) = 3
+
+-- what was seen before the last; of another core; of a core of which nothing was seen
+older_is_not_last : HasSeen rows 0 Off → ⊥
+older_is_not_last h = let e : ◌≡◌ {A = ℕ} 2 1 = ap off_first h.1.1 in omega arith
+
+other_core_has_seen : HasSeen rows 1 On → ⊥
+other_core_has_seen h = let e : ◌≡◌ {A = ℕ} 3 2 = ap off_first h.1.1 in omega arith
+
+nothing_was_seen : HasSeen rows 2 Off → ⊥
+nothing_was_seen h = let e : ◌≡◌ {A = ℕ} 0 1 = ap off_first h.1.1 in omega arith
+
+-- a pass but for what it has seen: its core, its items and what it was told stay
+without_what_was_seen : plain (pass 2 true (old ∷ new ∷ []) rows)
+    ≡ pass 2 true (old ∷ new ∷ []) []
+without_what_was_seen = refl
