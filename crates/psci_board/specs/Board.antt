@@ -92,6 +92,10 @@ place_above (w ∷ ws) (suc l) i = place_above ws l (group_of w i)
 unfoldable pub up : BoardValue → ℕ → ℕ → ℕ
 up b level core = place_above b.levels level core
 
+-- a core's node of this level
+abbrev pub domain_of : BoardValue → ℕ → ℕ → Node
+domain_of b core level = record { level = level; place = up b level core }
+
 -- the cores below a node of these levels, from left to right: those whose node of its level it is
 abbrev pub below_in : List (List ℕ) → Node → List ℕ
 below_in levels n =

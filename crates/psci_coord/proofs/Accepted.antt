@@ -14,7 +14,7 @@ use Rattle.psci_board.specs.declared.node.Node.{Node}
 use Rattle.psci_board.specs.Board.{BoardValue, height, cores, up, children_at, first_child}
 use Rattle.psci_board.specs.Laws.{PathLaws, ChildLaws}
 use Rattle.psci_state.specs.Ask.{IsAsk}
-use Rattle.psci_coord.specs.declared.part.Part.{Part}
+use Rattle.psci_coord.specs.psci_parts.declared.part.Part.{Part}
 use Rattle.psci_coord.specs.declared.osi.Osi.{Osi}
 use Rattle.psci_coord.specs.View.{PowerView, is_idle}
 use Rattle.psci_coord.specs.Claim.{own_claims, own_wish}

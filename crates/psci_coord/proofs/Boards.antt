@@ -4,7 +4,7 @@ use Rattle.psci_state.specs.psci_abi.declared.format.Format.TheVariants.{Origina
 use Rattle.psci_board.specs.Board.{BoardValue}
 use Rattle.psci_tree.specs.declared.state.CoreState.{CoreState}
 use Rattle.psci_tree.specs.declared.state.Activity.TheVariants.{Active, Suspended, Off}
-use Rattle.psci_coord.specs.declared.part.Part.{Part}
+use Rattle.psci_coord.specs.psci_parts.declared.part.Part.{Part}
 use Rattle.psci_coord.specs.View.{PowerView}
 use Rattle.psci_coord.specs.Looked.{view_of}
 

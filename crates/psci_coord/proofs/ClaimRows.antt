@@ -2,7 +2,7 @@
 use Rattle.std.proofs.Common.{◌≡◌, ℕ, List, [], ◌∷◌, refl}
 use Rattle.psci_board.specs.Board.{BoardValue, up}
 use Rattle.psci_tree.specs.declared.state.CoreState.{CoreState}
-use Rattle.psci_coord.specs.declared.part.Part.{Part}
+use Rattle.psci_coord.specs.psci_parts.declared.part.Part.{Part}
 use Rattle.psci_coord.specs.View.{least_ask, generation}
 use Rattle.psci_coord.specs.Claim.{claims_of, platform_claims, own_claims}
 use Rattle.psci_coord.proofs.Boards.{two_clusters, uneven, high, active, asleep, off, seen, part}

@@ -8,7 +8,7 @@ use Rattle.std.specs.List.{range_with_len}
 use Rattle.std.proofs.Math.Nat.{eq-zero-or-pos}
 use Rattle.std.proofs.lemmas.Bool.{lt-ltb}
 use Rattle.psci_board.specs.Board.{BoardValue, height}
-use Rattle.psci_coord.specs.declared.part.Part.{Part}
+use Rattle.psci_coord.specs.psci_parts.declared.part.Part.{Part}
 use Rattle.psci_coord.specs.View.{PowerView, domain_of, generation}
 use Rattle.psci_coord.specs.Claim.{climb, claims_of}
 

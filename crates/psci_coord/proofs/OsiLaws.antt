@@ -9,7 +9,7 @@ use Rattle.std.proofs.lemmas.Option.{slice_get-get_or}
 use Rattle.std.proofs.Math.Nat.{eq-zero-or-pos}
 use Rattle.psci_board.specs.Board.{BoardValue, cores, up}
 use Rattle.psci_state.specs.Ask.{IsAsk}
-use Rattle.psci_coord.specs.declared.part.Part.{Part}
+use Rattle.psci_coord.specs.psci_parts.declared.part.Part.{Part}
 use Rattle.psci_coord.specs.View.{PowerView, domain_of, is_all_off}
 use Rattle.psci_coord.specs.Claim.{own_claims, own_wish, off_claims, off_wish}
 use Rattle.psci_coord.specs.Laws.{OwnLaws, OffLaws}

@@ -2,7 +2,7 @@
 use Rattle.std.specs.Prelude.{ℕ, zero, suc, ◌+◌, List, [], ◌∷◌, slice_index, nat_lt}
 use Rattle.std.specs.Prelude.{if◌then◌else◌}
 use Rattle.psci_board.specs.Board.{BoardValue, height}
-use Rattle.psci_coord.specs.declared.part.Part.{Part}
+use Rattle.psci_coord.specs.psci_parts.declared.part.Part.{Part}
 use Rattle.psci_coord.specs.View.{PowerView, domain_of, least_ask, generation, is_all_off}
 
 -- Up a path from this level on, over so many levels: a part for each level, as long as a depth of

@@ -4,7 +4,7 @@ use Rattle.std.specs.Prelude.{slice_get, slice_index}
 use Rattle.std.specs.List.{range_with_len}
 use Rattle.psci_board.specs.Board.{BoardValue, height, cores, up}
 use Rattle.psci_state.specs.Ask.{IsAsk}
-use Rattle.psci_coord.specs.declared.part.Part.{Part}
+use Rattle.psci_coord.specs.psci_parts.declared.part.Part.{Part}
 use Rattle.psci_coord.specs.View.{PowerView, domain_of, generation, least_ask, is_all_off}
 use Rattle.psci_coord.specs.Claim.{claims_of, platform_claims, own_claims, off_claims}
 use Rattle.psci_coord.specs.LastCore.{last_core_check}

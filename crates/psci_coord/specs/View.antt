@@ -2,7 +2,8 @@
 use Rattle.std.specs.Prelude.{ℕ, Bool, not, map}
 use Rattle.std.specs.List.{sum_by, list_all}
 use Rattle.psci_board.specs.declared.node.Node.{Node}
-use Rattle.psci_board.specs.Board.{BoardValue, up, below}
+use Rattle.psci_board.specs.Board.{BoardValue, below}
+pub use Rattle.psci_board.specs.Board.{domain_of}
 use Rattle.psci_tree.specs.Recount.{least}
 
 -- What a claim is made from. Cores go by their numbers, domains by their levels and places.
@@ -17,10 +18,6 @@ pub record PowerView : Type 0 where
   pub is_off : ℕ → Bool
   -- the depth that a domain was granted
   pub granted : ℕ → ℕ → ℕ
-
--- a core's domain of a level
-abbrev pub domain_of : BoardValue → ℕ → ℕ → Node
-domain_of b core level = record { level = level; place = up b level core }
 
 -- the least depth that the cores below a domain ask of it
 unfoldable pub least_ask : BoardValue → PowerView → Node → ℕ

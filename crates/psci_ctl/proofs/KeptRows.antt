@@ -3,7 +3,7 @@
 use Rattle.std.proofs.Common.{◌≡◌, ℕ, ◌+◌, ◌*◌, ◌≤◌, List, [], ◌∷◌, map, length, true, false}
 use Rattle.std.proofs.Common.{None, Some, refl, ap, arith}
 use Rattle.psci_board.specs.Board.{BoardValue, up}
-use Rattle.psci_coord.specs.declared.part.Part.{Part}
+use Rattle.psci_parts.specs.declared.part.Part.{Part}
 use Rattle.psci_ctl_spec.specs.psci_abi.declared.format.Format.TheVariants.{Original}
 use Rattle.psci_ctl_spec.specs.Values.{Values, starts_below}
 use Rattle.psci_link.specs.declared.start.Cause.TheVariants.{Boot, On, Wake}

@@ -6,8 +6,8 @@ use Rattle.std.proofs.lemmas.Option.{slice_get-get_or}
 use Rattle.std.proofs.lemmas.List.{get_or_default}
 use Rattle.psci_board.specs.declared.node.Node.{Node}
 use Rattle.psci_board.specs.Board.{height}
-use Rattle.psci_coord.specs.declared.part.Part.{Part}
-use Rattle.psci_coord.specs.View.{domain_of}
+use Rattle.psci_parts.specs.declared.part.Part.{Part}
+use Rattle.psci_board.specs.Board.{domain_of}
 use Rattle.psci_link.specs.Message.{PartByPart}
 use Rattle.psci_ctl_spec.specs.Parts.{is_applied, is_covered, is_live, laid}
 use Rattle.psci_ctl_spec.specs.Values.{Values, starts_below}

@@ -3,7 +3,7 @@
 ghost use Rattle.std.specs.Prelude.{◌≡◌, ◌≤◌, ◌+◌, ◌<◌, ◌==◌, ℕ, true, Some, take, length};
 ghost use Rattle.std.specs.Prelude.{if◌then◌else◌, nat_lt};
 ghost use Rattle.psci_board.specs.Board.{cores, height, nodes};
-ghost use Rattle.psci_coord.specs.View.{domain_of};
+ghost use Rattle.psci_board.specs.Board.{domain_of};
 ghost use Rattle.psci_link.specs.Message.{PartByPart, AreClaims, most_applied};
 ghost use Rattle.psci_ctl_spec.specs.Changes.{change, with_start};
 ghost use Rattle.psci_ctl_spec.specs.Effects.{Begins, Ends, message_effect};
@@ -23,7 +23,7 @@ use crate::level::DomainRow;
 use crate::row::forget_starts;
 use crate::starting::begin_life;
 use psci_board::{Core, Node, law_paths};
-use psci_coord::Part;
+use psci_parts::Part;
 use psci_ctl_spec::{Cause, law_limits};
 use psci_link::{Kind, Message, law_parts};
 

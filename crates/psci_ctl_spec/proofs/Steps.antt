@@ -2,7 +2,7 @@
 use Rattle.std.proofs.Common.{◌≡◌, ℕ, Bool, List, [], ◌∷◌, map, reverse, Option}
 use Rattle.psci_link.specs.psci_abi.declared.format.Format.TheVariants.{Original}
 use Rattle.psci_board.specs.Board.{BoardValue}
-use Rattle.psci_link.specs.psci_coord.declared.part.Part.{Part}
+use Rattle.psci_link.specs.psci_parts.declared.part.Part.{Part}
 use Rattle.psci_link.specs.declared.kind.Kind.{Kind}
 use Rattle.psci_link.specs.declared.kind.Kind.TheVariants as kinds
 use Rattle.psci_ctl_spec.specs.declared.call.CtlCall.{CtlCall}

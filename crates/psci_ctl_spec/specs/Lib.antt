@@ -10,6 +10,5 @@ pub mod Parts
 pub mod Replies
 pub mod Values
 pub use Rattle.psci_link.specs.psci_abi
-pub use Rattle.psci_link.specs.psci_tree
-pub use Rattle.psci_link.specs.psci_coord
+pub use Rattle.psci_link.specs.psci_parts
 pub use Rattle.psci_link.specs as psci_link

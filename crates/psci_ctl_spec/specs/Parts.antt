@@ -6,8 +6,8 @@ use Rattle.std.specs.Prelude.{Some}
 use Rattle.std.specs.List.{list_all, prefix_len, range_with_len}
 use Rattle.psci_board.specs.declared.node.Node.{Node}
 use Rattle.psci_board.specs.Board.{BoardValue, children, first_child}
-use Rattle.psci_link.specs.psci_coord.declared.part.Part.{Part}
-use Rattle.psci_link.specs.psci_coord.View.{domain_of}
+use Rattle.psci_link.specs.psci_parts.declared.part.Part.{Part}
+use Rattle.psci_board.specs.Board.{domain_of}
 use Rattle.psci_ctl_spec.specs.Values.{Values, starts_below}
 use Rattle.psci_board.specs.Paths.{is_on_path}
 

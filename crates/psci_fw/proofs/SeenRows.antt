@@ -5,7 +5,7 @@ use Rattle.std.proofs.Common.{refl, ap, arith, Option, ◌==◌}
 use Rattle.std.specs.Prelude.{if◌then◌else◌}
 use Rattle.psci_board.specs.Board.{BoardValue, up}
 use Rattle.psci_board.specs.declared.node.Node.{Node}
-use Rattle.psci_coord.specs.declared.part.Part.{Part}
+use Rattle.psci_coord.specs.psci_parts.declared.part.Part.{Part}
 use Rattle.psci_fw_spec.specs.psci_abi.declared.format.Format.TheVariants.{Original}
 use Rattle.psci_fw_spec.specs.psci_coord.psci_tree.declared.state.Activity.TheVariants as activities
 use Rattle.psci_fw_spec.specs.declared.hw.Hw.TheVariants as hardware

@@ -7,7 +7,7 @@ use Rattle.psci_abi.specs.declared.request.Request.{Request}
 use Rattle.psci_abi.specs.declared.request.Request.TheVariants as requests
 use Rattle.psci_board.specs.Board.{BoardValue, cores, height, may_enter, up}
 use Rattle.psci_board.specs.Laws.{PathLaws}
-use Rattle.psci_coord.specs.declared.part.Part.{Part}
+use Rattle.psci_coord.specs.psci_parts.declared.part.Part.{Part}
 use Rattle.psci_coord.specs.Claim.{off_wish, own_wish}
 use Rattle.psci_coord.specs.Claim.{least_wish, platform_claims}
 use Rattle.psci_coord.specs.Laws.{ClaimLaws, LastCoreLaws}

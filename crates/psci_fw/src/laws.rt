@@ -3,7 +3,7 @@
 
 ghost use Rattle.std.specs.Prelude.{◌≡◌, ◌<◌, ◌&&◌, ℕ, List, None, Ok, false, not, true};
 ghost use Rattle.psci_board.specs.Board.{BoardValue, IsBoard, cores, height, may_enter};
-ghost use Rattle.psci_coord.specs.declared.part.Part.{Part};
+ghost use Rattle.psci_coord.specs.psci_parts.declared.part.Part.{Part};
 ghost use Rattle.psci_state.specs.Ask.{deepest_of, is_deep};
 ghost use Rattle.psci_link.specs.declared.start.Start.{Start};
 ghost use Rattle.psci_fw_spec.specs.Changes.{with_arrival};

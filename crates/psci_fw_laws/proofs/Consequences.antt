@@ -6,7 +6,7 @@ use Rattle.std.proofs.lemmas.Bool.{cases_order}
 use Rattle.psci_board.specs.Board.{BoardValue, cores, height, up}
 use Rattle.psci_board.specs.Laws.{PathLaws, SpanLaws}
 use Rattle.psci_board.specs.declared.node.Node.{Node}
-use Rattle.psci_coord.specs.declared.part.Part.{Part}
+use Rattle.psci_coord.specs.psci_parts.declared.part.Part.{Part}
 use Rattle.psci_coord.specs.View.{generation}
 use Rattle.psci_link.specs.declared.kind.Kind.{Kind}
 use Rattle.psci_link.specs.declared.kind.Kind.TheVariants.{Down}

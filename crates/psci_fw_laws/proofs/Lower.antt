@@ -2,7 +2,7 @@
 use Rattle.std.proofs.Common.{◌≡◌, ℕ, ◌<◌, false, List, None, Ok}
 use Rattle.psci_board.specs.Board.{BoardValue, cores}
 use Rattle.psci_board.specs.Laws.{PathLaws, SpanLaws, WordLaws}
-use Rattle.psci_coord.specs.declared.part.Part.{Part}
+use Rattle.psci_coord.specs.psci_parts.declared.part.Part.{Part}
 use Rattle.psci_coord.specs.Laws.{BelowLaws, ClaimLaws, LastCoreLaws, PlatformLaws}
 use Rattle.psci_coord.specs.View.{PowerView}
 use Rattle.psci_link.specs.Message.{AreClaims, PartByPart}

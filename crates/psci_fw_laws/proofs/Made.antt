@@ -7,7 +7,7 @@ use Rattle.std.proofs.lemmas.Option.{slice_get_within}
 use Rattle.psci_board.specs.Board.{BoardValue, cores, height, up}
 use Rattle.psci_board.specs.Laws.{PathLaws}
 use Rattle.psci_coord.specs.Claim.{claims_of, least_wish, off_wish, own_wish, platform_claims}
-use Rattle.psci_coord.specs.declared.part.Part.{Part}
+use Rattle.psci_coord.specs.psci_parts.declared.part.Part.{Part}
 use Rattle.psci_coord.specs.Laws.{ClaimLaws}
 use Rattle.psci_coord.specs.View.{domain_of, generation}
 use Rattle.psci_link.specs.declared.kind.Kind.TheVariants.{Down}

@@ -5,7 +5,7 @@ use Rattle.std.specs.Prelude.{slice_get}
 use Rattle.psci_coord.specs.psci_abi.declared.request.Request.{Request}
 use Rattle.psci_coord.specs.psci_abi.declared.request.Request.TheVariants as requests
 use Rattle.psci_board.specs.Board.{BoardValue, height}
-use Rattle.psci_coord.specs.declared.part.Part.{Part}
+use Rattle.psci_coord.specs.psci_parts.declared.part.Part.{Part}
 use Rattle.psci_link.specs.declared.kind.Kind.TheVariants as kinds
 use Rattle.psci_coord.specs.psci_state.Ask.{IsAsk, deepest_of}
 use Rattle.psci_coord.specs.psci_tree.Recount.{asks}

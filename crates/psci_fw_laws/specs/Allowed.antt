@@ -3,7 +3,7 @@
 use Rattle.std.specs.Prelude.{◌≡◌, ◌<◌, ◌≤◌, ◌||◌, ℕ, true, false, [], slice_get, None, Some}
 use Rattle.std.specs.Prelude.{is_some}
 use Rattle.psci_board.specs.Board.{BoardValue, cores, up}
-use Rattle.psci_coord.specs.declared.part.Part.{Part}
+use Rattle.psci_coord.specs.psci_parts.declared.part.Part.{Part}
 use Rattle.psci_link.specs.declared.kind.Kind.TheVariants.{Down, Start}
 use Rattle.psci_link.specs.Message.{AckValue, MessageValue}
 use Rattle.psci_link.specs.Slots.{answers, is_kind, slot_of}

@@ -2,7 +2,7 @@
 use Rattle.std.specs.Prelude.{◌≡◌, ◌<◌, ◌≤◌, ℕ, ◌+◌, ◌*◌, Bool, true, false, List, length}
 use Rattle.std.specs.Prelude.{slice_get, Some}
 use Rattle.psci_board.specs.Board.{BoardValue, cores, height, up}
-use Rattle.psci_coord.specs.declared.part.Part.{Part}
+use Rattle.psci_coord.specs.psci_parts.declared.part.Part.{Part}
 use Rattle.psci_link.specs.declared.kind.Kind.{Kind}
 use Rattle.psci_link.specs.declared.kind.Kind.TheVariants.{Down, Start, Off, Reset}
 use Rattle.psci_link.specs.Message.{ArePartsOf, MessageValue}

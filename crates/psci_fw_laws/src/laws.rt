@@ -4,7 +4,7 @@ ghost use Rattle.std.specs.Prelude.{◌≡◌, ◌<◌, ◌≤◌, ◌+◌, ◌*
 ghost use Rattle.std.specs.Prelude.{slice_get};
 ghost use Rattle.psci_board.specs.Board.{BoardValue, IsBoard, cores, height, up};
 ghost use Rattle.psci_board.specs.declared.node.Node.{Node};
-ghost use Rattle.psci_coord.specs.declared.part.Part.{Part};
+ghost use Rattle.psci_coord.specs.psci_parts.declared.part.Part.{Part};
 ghost use Rattle.psci_coord.specs.View.{generation};
 ghost use Rattle.psci_link.specs.declared.kind.Kind.TheVariants.{Down};
 ghost use Rattle.psci_link.specs.Message.{MessageValue};

@@ -5,7 +5,7 @@ use Rattle.std.specs.Prelude.{if◌then◌else◌, slice_index}
 use Rattle.std.proofs.lemmas.Bool.{le-leb}
 use Rattle.psci_board.specs.Board.{BoardValue, IsBoard, cores, height, up}
 use Rattle.psci_board.specs.Laws.{PathLaws, WordLaws}
-use Rattle.psci_coord.specs.declared.part.Part.{Part}
+use Rattle.psci_coord.specs.psci_parts.declared.part.Part.{Part}
 use Rattle.psci_coord.specs.Laws.{BelowLaws, ClaimLaws, PlatformLaws, OwnLaws, OffLaws}
 use Rattle.psci_coord.specs.Laws.{LastCoreLaws}
 use Rattle.psci_coord.specs.View.{PowerView, domain_of, is_all_off, least_ask}

@@ -9,7 +9,7 @@ use Rattle.psci_board.specs.Board.{BoardValue, core_of, height, may_enter, node_
 use Rattle.psci_board.specs.declared.node.Core.{Core}
 use Rattle.psci_board.specs.declared.node.Node.{Node}
 use Rattle.psci_coord.specs.declared.osi.Osi.{Osi}
-use Rattle.psci_coord.specs.declared.part.Part.{Part}
+use Rattle.psci_coord.specs.psci_parts.declared.part.Part.{Part}
 use Rattle.psci_coord.specs.Claim.{claims_of}
 use Rattle.psci_coord.specs.View.{generation, is_all_off, least_ask}
 use Rattle.psci_link.specs.declared.kind.Kind.TheVariants as kinds

@@ -2,7 +2,7 @@
 use Rattle.std.proofs.Common.{◌++◌, ◌∷◌, ◌≡◌, Bool, List, None, Option, Some, [], false, map, refl}
 use Rattle.std.proofs.Common.{ℕ}
 use Rattle.psci_board.specs.Board.{BoardValue}
-use Rattle.psci_coord.specs.declared.part.Part.{Part}
+use Rattle.psci_coord.specs.psci_parts.declared.part.Part.{Part}
 use Rattle.psci_link.specs.Message.{MessageValue}
 use Rattle.psci_link.specs.Slots.Slot.{OfCore, OfSystem}
 use Rattle.psci_link.specs.declared.kind.Kind.TheVariants as kinds

@@ -7,7 +7,7 @@ use Rattle.std.proofs.lemmas.Option.{slice_get-get_or, slice_get_past}
 use Rattle.psci_board.specs.Board.{BoardValue, cores, height, up}
 use Rattle.psci_coord.specs.Claim.{claims_of, least_wish, off_wish, own_wish}
 use Rattle.psci_coord.specs.LastCore.{last_core_check}
-use Rattle.psci_coord.specs.declared.part.Part.{Part}
+use Rattle.psci_coord.specs.psci_parts.declared.part.Part.{Part}
 use Rattle.psci_coord.specs.View.{PowerView, domain_of, is_all_off}
 use Rattle.psci_state.specs.Ask.{IsAsk}
 use Rattle.psci_coord.specs.psci_tree.Recount.{is_off}

@@ -5,7 +5,7 @@ use Rattle.psci_abi.specs.declared.code.Code.{Code}
 use Rattle.psci_board.specs.Board.{BoardValue, height, may_enter}
 use Rattle.psci_coord.specs.declared.osi.Osi.{Osi}
 use Rattle.psci_coord.specs.declared.osi.Osi.TheVariants.{Invalid, Denied}
-use Rattle.psci_coord.specs.declared.part.Part.{Part}
+use Rattle.psci_coord.specs.psci_parts.declared.part.Part.{Part}
 use Rattle.psci_link.specs.declared.kind.Kind.TheVariants.{Down}
 use Rattle.psci_state.specs.Ask.{is_deep}
 use Rattle.psci_state.specs.declared.fault.BadState.{BadState}

@@ -6,7 +6,7 @@ ghost use Rattle.psci_abi.specs.declared.registers.Regs.{Regs};
 ghost use Rattle.psci_abi.specs.declared.request.Request.{Request};
 ghost use Rattle.psci_abi.specs.declared.request.Request.TheVariants.{CpuOn};
 ghost use Rattle.psci_board.specs.Board.{BoardValue, IsBoard, cores, core_of};
-ghost use Rattle.psci_coord.specs.declared.part.Part.{Part};
+ghost use Rattle.psci_coord.specs.psci_parts.declared.part.Part.{Part};
 ghost use Rattle.psci_link.specs.Message.{AckValue, AreClaims};
 ghost use Rattle.psci_state.specs.Ask.{IsAsk};
 ghost use Rattle.psci_fw_spec.specs.declared.call.FwCall.{FwCall};

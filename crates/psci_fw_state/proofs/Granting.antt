@@ -10,7 +10,7 @@ use Rattle.psci_board.specs.Board.{size_below}
 use Rattle.psci_board.specs.Board.{up}
 use Rattle.psci_board.specs.Laws.{PathLaws}
 use Rattle.psci_board.specs.declared.node.Node.{Node}
-use Rattle.psci_coord.specs.declared.part.Part.{Part}
+use Rattle.psci_coord.specs.psci_parts.declared.part.Part.{Part}
 use Rattle.psci_link.specs.Message.{PartByPart}
 use Rattle.psci_tree.specs.Changes.{MayGrant}
 use Rattle.psci_tree.specs.Recount.{TreeValue, granted_at, is_confirmed_at}

@@ -11,7 +11,7 @@ use Rattle.psci_world_laws.specs.psci_board.Board.{BoardValue, HasNode, cores, h
 use Rattle.psci_world_laws.specs.psci_board.Laws.{PathLaws}
 use Rattle.psci_world_laws.specs.psci_board.Paths.{is_path_place}
 use Rattle.psci_world_laws.specs.psci_board.declared.node.Node.{Node}
-use Rattle.psci_world_laws.specs.psci_coord.declared.part.Part.{Part}
+use Rattle.psci_world_laws.specs.psci_coord.psci_parts.declared.part.Part.{Part}
 use Rattle.psci_world_laws.specs.psci_ctl_spec.Changes.{change}
 use Rattle.psci_world_laws.specs.psci_ctl_spec.Effects.{Deepens, message_effect}
 use Rattle.psci_world_laws.specs.psci_ctl_spec.Parts.{applied, depth_or, is_applied, is_live, laid}

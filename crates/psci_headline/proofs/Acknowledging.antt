@@ -5,7 +5,7 @@ use Rattle.std.proofs.Common.{sym, ◌∙◌, arith}
 use Rattle.std.specs.Prelude.{nat_le, slice_get}
 use Rattle.std.proofs.lemmas.Bool.{and_from, eq-eqb, le-leb}
 use Rattle.psci_world_laws.specs.psci_board.Board.{BoardValue, cores, height, up}
-use Rattle.psci_world_laws.specs.psci_coord.declared.part.Part.{Part}
+use Rattle.psci_world_laws.specs.psci_coord.psci_parts.declared.part.Part.{Part}
 use Rattle.psci_world_laws.specs.psci_ctl_spec.Changes.{change}
 use Rattle.psci_world_laws.specs.psci_ctl_spec.Effects.{Deepens, message_effect}
 use Rattle.psci_world_laws.specs.psci_ctl_spec.Parts.{depth_or, laid}

@@ -3,7 +3,7 @@ use Rattle.std.proofs.Common.{◌≡◌, ℕ, suc, ◌⊎◌, inl, inr, List, []
 use Rattle.std.proofs.Common.{Some, refl, ap, sym, ◌∙◌, subst, arith}
 use Rattle.std.specs.Prelude.{slice_get}
 use Rattle.psci_world_laws.specs.psci_board.Board.{BoardValue}
-use Rattle.psci_world_laws.specs.psci_coord.declared.part.Part.{Part}
+use Rattle.psci_world_laws.specs.psci_coord.psci_parts.declared.part.Part.{Part}
 use Rattle.psci_world_laws.specs.psci_link.declared.start.Start.{Start}
 use Rattle.psci_world_laws.specs.psci_ctl_spec.Replies.{last_start}
 use Rattle.psci_world_laws.specs.psci_ctl_spec.Values as controlled

@@ -2,7 +2,7 @@
 -- kind of message of which nothing was applied, that are stale, or both.
 use Rattle.std.proofs.Common.{◌≡◌, ℕ, Bool, true, false, List, [], ◌∷◌, refl}
 use Rattle.std.specs.Prelude.{Some, None, Option, slice_set}
-use Rattle.psci_coord.specs.declared.part.Part.{Part}
+use Rattle.psci_parts.specs.declared.part.Part.{Part}
 use Rattle.psci_link.specs.declared.fault.FrameFault.TheVariants as faults
 use Rattle.psci_link.specs.declared.kind.Kind.{Kind}
 use Rattle.psci_link.specs.declared.kind.Kind.TheVariants.{Down, Start, Off, Reset}

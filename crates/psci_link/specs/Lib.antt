@@ -5,6 +5,5 @@ pub mod OnlyIf
 pub mod Outstanding
 pub mod Slots
 pub mod StaleText
-pub use Rattle.psci_coord.specs.psci_abi
-pub use Rattle.psci_coord.specs.psci_tree
-pub use Rattle.psci_coord.specs as psci_coord
+pub use Rattle.psci_board.specs.psci_abi
+pub use Rattle.psci_parts.specs as psci_parts

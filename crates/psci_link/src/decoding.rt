@@ -25,7 +25,7 @@ use crate::heading::Heading;
 use crate::kind::Kind;
 use crate::message::Message;
 use psci_board::{Board, Core};
-use psci_coord::{Part, Parts};
+use psci_parts::{Part, Parts};
 
 /// The frame that the bytes are on this board, or their first fault.
 pub fn decode(bytes: &[u8], board: &Board) -> Result<Frame, FrameFault>

@@ -10,7 +10,7 @@ ghost use Rattle.psci_link.specs.Message.{is_climbing};
 use crate::frame::{FRAME_LEN, Frame, HEADER_LEN, PART_LEN};
 use crate::kind::Kind;
 use psci_board::Core;
-use psci_coord::{MOST_PARTS, Part};
+use psci_parts::{MOST_PARTS, Part};
 
 /// The first two bytes of a frame.
 pub const MAGIC: [u8; 2] = [0x50, 0x44];

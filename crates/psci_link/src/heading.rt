@@ -1,7 +1,7 @@
 //! What the kind byte of a frame says.
 
 use crate::kind::Kind;
-use psci_coord::MOST_PARTS;
+use psci_parts::MOST_PARTS;
 
 /// How many parts a Down has at least: that of its core.
 const LEAST_PARTS: u8 = 1;

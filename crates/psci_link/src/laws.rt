@@ -7,7 +7,7 @@ ghost use Rattle.psci_link.specs.declared.fault.FrameFault.TheVariants.{Core};
 ghost use Rattle.psci_link.specs.declared.frame.Frame.{Frame};
 ghost use Rattle.psci_link.specs.Frame.{AreBytes, IsFrame, IsOf, frame_bytes, first_fault};
 ghost use Rattle.psci_link.specs.Message.{MessageValue, AreClaims, PartByPart};
-ghost use Rattle.psci_coord.specs.declared.part.Part.{Part};
+ghost use Rattle.psci_parts.specs.declared.part.Part.{Part};
 ghost use Rattle.psci_link.specs.Slots.{SlotsValue, Slot, slot_of, is_slot, message_in, Change};
 ghost use Rattle.psci_link.specs.Slots.{after_change, after_all, changed};
 ghost use Rattle.psci_link.specs.Outstanding.{outstanding, IsChange, AreChanges};

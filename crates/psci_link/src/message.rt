@@ -2,7 +2,7 @@
 
 use crate::kind::Kind;
 use psci_board::Core;
-use psci_coord::Parts;
+use psci_parts::Parts;
 use std::marker::Model;
 
 /// A message to the power controller. Two messages of the same kind, core, life and number are the

@@ -5,7 +5,7 @@ use Rattle.std.specs.Fmt.{decimal, signed_decimal, digits}
 use Rattle.psci_world_spec.specs.psci_fw_spec.declared.outcome.Act.{Act}
 use Rattle.psci_world_spec.specs.psci_fw_spec.declared.outcome.Act.TheVariants.{Return, Stop, Enter}
 use Rattle.psci_world_spec.specs.psci_fw_spec.declared.outcome.Act.TheVariants.{Resume}
-use Rattle.psci_world_spec.specs.psci_coord.declared.part.Part.{Part}
+use Rattle.psci_world_spec.specs.psci_coord.psci_parts.declared.part.Part.{Part}
 use Rattle.psci_world_spec.specs.psci_link.declared.kind.Kind.{Kind}
 use Rattle.psci_world_spec.specs.psci_link.declared.kind.Kind.TheVariants.{Down, Start, Off, Reset}
 use Rattle.psci_world_spec.specs.psci_link.declared.taken.Taken.{Taken}

@@ -5,8 +5,8 @@ use Rattle.std.specs.Prelude.{slice_get}
 use Rattle.std.proofs.lemmas.Option.{slice_get_within}
 use Rattle.psci_board.specs.Board.{BoardValue, cores, height, up}
 use Rattle.psci_board.specs.Laws.{ChildLaws, PathLaws}
-use Rattle.psci_ctl_spec.specs.psci_coord.declared.part.Part.{Part}
-use Rattle.psci_ctl_spec.specs.psci_coord.View.{domain_of}
+use Rattle.psci_ctl_spec.specs.psci_parts.declared.part.Part.{Part}
+use Rattle.psci_board.specs.Board.{domain_of}
 use Rattle.psci_ctl_spec.specs.Parts.{applied}
 use Rattle.psci_ctl_spec.specs.Values.{Values}
 use Rattle.psci_ctl_spec.specs.psci_link.declared.kind.Kind.TheVariants as kinds

@@ -5,7 +5,7 @@ use Rattle.std.specs.Prelude.{nat_lt, slice_get}
 use Rattle.std.proofs.lemmas.Bool.{cases_eq, cond_both, eqb-false}
 use Rattle.psci_board.specs.Board.{BoardValue, cores}
 use Rattle.psci_board.specs.Laws.{PathLaws}
-use Rattle.psci_ctl_spec.specs.psci_coord.declared.part.Part.{Part}
+use Rattle.psci_ctl_spec.specs.psci_parts.declared.part.Part.{Part}
 use Rattle.psci_ctl_spec.specs.psci_link.declared.start.Cause.{Cause}
 use Rattle.psci_ctl_spec.specs.psci_link.declared.start.Cause.TheVariants as causes
 use Rattle.psci_ctl_spec.specs.psci_link.declared.start.Start.{Start}

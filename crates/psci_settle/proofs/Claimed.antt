@@ -6,7 +6,7 @@ use Rattle.std.proofs.lemmas.Bool.{and_parts, and_right, cond-false, eqb-false, 
 use Rattle.std.proofs.lemmas.Bool.{ne_eqb}
 use Rattle.psci_board.specs.Board.{BoardValue, HasNode, height, up}
 use Rattle.psci_board.specs.declared.node.Node.{Node}
-use Rattle.psci_ctl_spec.specs.psci_coord.declared.part.Part.{Part}
+use Rattle.psci_ctl_spec.specs.psci_parts.declared.part.Part.{Part}
 use Rattle.psci_ctl_spec.specs.Values.{first_depth, starts_below}
 use Rattle.psci_board.specs.Paths.{is_on_path}
 use Rattle.psci_ctl_spec.specs.psci_link.declared.kind.Kind.TheVariants.{Down}

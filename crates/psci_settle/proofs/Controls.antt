@@ -6,8 +6,8 @@ use Rattle.std.proofs.lemmas.Bool.{and_cases, and_parts, cond-true}
 use Rattle.std.proofs.lemmas.Bool.{eq-eqb, eqb-false, eqb-true, ltb-false}
 use Rattle.std.proofs.lemmas.Option.{none-some, slice_get_within}
 use Rattle.psci_board.specs.Board.{BoardValue, cores, height, up}
-use Rattle.psci_ctl_spec.specs.psci_coord.declared.part.Part.{Part}
-use Rattle.psci_ctl_spec.specs.psci_coord.View.{domain_of}
+use Rattle.psci_ctl_spec.specs.psci_parts.declared.part.Part.{Part}
+use Rattle.psci_board.specs.Board.{domain_of}
 use Rattle.psci_ctl_spec.specs.psci_link.declared.start.Cause.{Cause}
 use Rattle.psci_ctl_spec.specs.psci_link.declared.start.Cause.TheVariants as causes
 use Rattle.psci_ctl_spec.specs.Changes.{change, one_more}

@@ -9,8 +9,8 @@ use Rattle.std.proofs.lemmas.Bool.{le-leb}
 use Rattle.psci_board.specs.Board.{BoardValue, children, cores, first_child, height, nodes, up}
 use Rattle.psci_board.specs.Laws.{ChildLaws, PathLaws}
 use Rattle.psci_board.specs.declared.node.Node.{Node}
-use Rattle.psci_ctl_spec.specs.psci_coord.declared.part.Part.{Part}
-use Rattle.psci_ctl_spec.specs.psci_coord.View.{domain_of}
+use Rattle.psci_ctl_spec.specs.psci_parts.declared.part.Part.{Part}
+use Rattle.psci_board.specs.Board.{domain_of}
 use Rattle.psci_ctl_spec.specs.Parts.{applied, depth_or, is_applied, is_covered, laid}
 use Rattle.psci_ctl_spec.specs.Values.{Values, starts_below}
 use Rattle.psci_board.specs.Paths.{is_on_path}

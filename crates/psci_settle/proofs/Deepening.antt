@@ -5,7 +5,7 @@ use Rattle.std.specs.Prelude.{nat_le, slice_get}
 use Rattle.std.proofs.lemmas.Bool.{and_parts, eqb-true}
 use Rattle.std.proofs.lemmas.Option.{same_Some}
 use Rattle.psci_board.specs.Board.{BoardValue, height, up}
-use Rattle.psci_ctl_spec.specs.psci_coord.declared.part.Part.{Part}
+use Rattle.psci_ctl_spec.specs.psci_parts.declared.part.Part.{Part}
 use Rattle.psci_ctl_spec.specs.Parts.{depth_or, laid}
 use Rattle.psci_board.specs.Paths.{is_on_path}
 use Rattle.psci_ctl_spec.specs.psci_link.declared.kind.Kind.TheVariants.{Down}

@@ -6,7 +6,7 @@ use Rattle.std.specs.Prelude.{slice_get}
 use Rattle.std.proofs.lemmas.Bool.{cond-true, cond-false, eq-eqb, ne_eqb}
 use Rattle.std.proofs.lemmas.Option.{none-some, same_Some}
 use Rattle.psci_board.specs.Board.{BoardValue, cores, up}
-use Rattle.psci_ctl_spec.specs.psci_coord.declared.part.Part.{Part}
+use Rattle.psci_ctl_spec.specs.psci_parts.declared.part.Part.{Part}
 use Rattle.psci_ctl_spec.specs.psci_link.declared.kind.Kind.TheVariants as kinds
 use Rattle.psci_ctl_spec.specs.psci_link.Message.{MessageValue}
 use Rattle.psci_ctl_spec.specs.psci_link.Slots.{OfCore}

@@ -4,7 +4,7 @@ use Rattle.std.proofs.Common.{arith, ap, sym, ◌∙◌}
 use Rattle.std.proofs.lemmas.Bool.{cases_eq}
 use Rattle.psci_board.specs.Board.{BoardValue, HasNode, cores, height, up}
 use Rattle.psci_board.specs.Laws.{ChildLaws}
-use Rattle.psci_ctl_spec.specs.psci_coord.declared.part.Part.{Part}
+use Rattle.psci_ctl_spec.specs.psci_parts.declared.part.Part.{Part}
 use Rattle.psci_ctl_spec.specs.Follows as controlling
 use Rattle.psci_ctl_spec.specs.psci_link.Message.{MessageValue}
 use Rattle.psci_world_laws.specs.psci_fw_spec.Lives.{in_life}

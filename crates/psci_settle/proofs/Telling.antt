@@ -5,8 +5,8 @@ use Rattle.std.specs.Prelude.{slice_get}
 use Rattle.std.proofs.lemmas.Bool.{and_from, cond-true, eq-eqb, le-leb}
 use Rattle.std.proofs.lemmas.Option.{same_Some, slice_get_within}
 use Rattle.psci_board.specs.Board.{BoardValue, height, up}
-use Rattle.psci_ctl_spec.specs.psci_coord.declared.part.Part.{Part}
-use Rattle.psci_ctl_spec.specs.psci_coord.View.{domain_of}
+use Rattle.psci_ctl_spec.specs.psci_parts.declared.part.Part.{Part}
+use Rattle.psci_board.specs.Board.{domain_of}
 use Rattle.psci_ctl_spec.specs.Laws.{AckLaws}
 use Rattle.psci_ctl_spec.specs.Parts.{applied, depth_or, is_stale, laid}
 use Rattle.psci_ctl_spec.specs.Replies.{ack_of}

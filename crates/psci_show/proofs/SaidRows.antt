@@ -2,7 +2,7 @@
 use Rattle.std.proofs.Common.{◌≡◌, ℕ, ℤ, pos, negsuc, Bool, true, false, [], ◌∷◌, List, refl}
 use Rattle.std.specs.Prelude.{codes, None, Some}
 use Rattle.std.specs.Fmt.{digits}
-use Rattle.psci_world_spec.specs.psci_coord.declared.part.Part.{Part}
+use Rattle.psci_world_spec.specs.psci_coord.psci_parts.declared.part.Part.{Part}
 use Rattle.psci_world_spec.specs.psci_fw_spec.declared.outcome.Act.TheVariants.{Resume, Return, Stop}
 use Rattle.psci_world_spec.specs.psci_fw_spec.declared.outcome.Act.TheVariants.{Enter as EntersAt}
 use Rattle.psci_world_spec.specs.psci_link.Message.{MessageValue}

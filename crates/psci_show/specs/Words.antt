@@ -13,7 +13,7 @@ use Rattle.psci_world_spec.specs.psci_abi.declared.request.Request.{Request}
 use Rattle.psci_world_spec.specs.psci_abi.declared.request.Request.TheVariants as requests
 use Rattle.psci_world_spec.specs.psci_board.Board.{BoardValue, height, node_of, nodes}
 use Rattle.psci_world_spec.specs.psci_board.declared.node.Node.{Node}
-use Rattle.psci_world_spec.specs.psci_coord.declared.part.Part.{Part}
+use Rattle.psci_world_spec.specs.psci_coord.psci_parts.declared.part.Part.{Part}
 use Rattle.psci_world_spec.specs.psci_fw_spec.declared.outcome.Act.{Act}
 use Rattle.psci_world_spec.specs.psci_fw_spec.declared.outcome.Act.TheVariants as acts
 use Rattle.psci_world_spec.specs.psci_link.Message.{MessageValue}

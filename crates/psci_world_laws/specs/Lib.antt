@@ -3,8 +3,8 @@ pub mod Agreement
 pub mod Refusals
 pub use Rattle.psci_ctl_spec.specs.psci_abi
 pub use Rattle.psci_board.specs as psci_board
-pub use Rattle.psci_ctl_spec.specs.psci_tree
-pub use Rattle.psci_ctl_spec.specs.psci_coord
+pub use Rattle.psci_fw_laws.specs.psci_coord.psci_tree
+pub use Rattle.psci_fw_laws.specs.psci_coord
 pub use Rattle.psci_ctl_spec.specs.psci_link
 pub use Rattle.psci_ctl_spec.specs as psci_ctl_spec
 pub use Rattle.psci_fw_laws.specs.psci_fw_spec

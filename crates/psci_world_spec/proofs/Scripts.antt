@@ -4,7 +4,7 @@ use Rattle.std.proofs.Common.{Some}
 use Rattle.std.specs.List.{range_with_len}
 use Rattle.psci_fw_spec.specs.psci_abi.declared.format.Format.TheVariants.{Original}
 use Rattle.psci_fw_spec.specs.psci_board.Board.{BoardValue, core_of, node_of, up}
-use Rattle.psci_fw_spec.specs.psci_coord.declared.part.Part.{Part}
+use Rattle.psci_fw_spec.specs.psci_coord.psci_parts.declared.part.Part.{Part}
 use Rattle.psci_fw_spec.specs.psci_coord.Claim.{claims_of}
 use Rattle.psci_fw_spec.specs.psci_coord.LastCore.{last_core_check, refusal, shallow, shallow_at}
 use Rattle.psci_fw_spec.specs.psci_coord.View.{generation, is_all_off, is_idle, least_ask}

@@ -1,5 +1,5 @@
 use Rattle.std.proofs.Common.{◌≡◌, ℕ, ◌+◌, get_or, true, false, ap, sym, ◌∙◌, arith}
-use Rattle.psci_coord.specs.declared.part.Part.{Part}
+use Rattle.psci_parts.specs.declared.part.Part.{Part}
 use Rattle.psci_ctl_spec.specs.Parts.{applied}
 use Rattle.psci_ctl.specs.Seen.{seen}
 use Rattle.psci_ctl.proofs.Applying.{goes_on, is_late, left_stale, none_left, stops}

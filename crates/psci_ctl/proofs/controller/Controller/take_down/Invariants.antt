@@ -1,5 +1,5 @@
 use Rattle.std.proofs.Common.{◌≡◌, ℕ, ◌<◌, true, take, get_or}
-use Rattle.psci_coord.specs.declared.part.Part.{Part}
+use Rattle.psci_parts.specs.declared.part.Part.{Part}
 use Rattle.psci_ctl_spec.specs.Parts.{is_applied, laid}
 use Rattle.psci_ctl.specs.Seen.{seen}
 use Rattle.psci_ctl.proofs.controller.Controller.take_down.Given as goal

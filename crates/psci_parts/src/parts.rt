@@ -26,8 +26,8 @@ pub struct Parts {
 
 impl Model for Parts {
     ghost use Rattle.std.specs.Prelude.{List, take, length};
-    ghost use Rattle.psci_coord.specs.declared.part.Part.{Part};
-    ghost use Rattle.psci_coord.specs.Places.{AreAtPlaces, places_of};
+    ghost use Rattle.psci_parts.specs.declared.part.Part.{Part};
+    ghost use Rattle.psci_parts.specs.Places.{AreAtPlaces, places_of};
 
     ghost Value = { List Part };
 

@@ -1,6 +1,6 @@
 -- How a list of parts lies in memory: at four places, of which it uses the first.
 use Rattle.std.specs.Prelude.{◌≡◌, ◌≤◌, ℕ, List, ◌++◌, length, take, replicate}
-use Rattle.psci_coord.specs.declared.part.Part.{Part}
+use Rattle.psci_parts.specs.declared.part.Part.{Part}
 
 -- what a place holds that is not used
 abbrev pub unused : Part
