@@ -8,9 +8,8 @@ ghost use Rattle.psci_coord.specs.Claim.{claims_of, platform_claims, own_claims}
 ghost use Rattle.psci_coord.specs.Wish.{depth_of, wanted};
 ghost use Rattle.psci_coord.specs.Looked.{view_of};
 
-use crate::part::Part;
-use crate::parts::Parts;
 use psci_board::{Board, Core};
+use psci_parts::{Part, Parts};
 use psci_state::Ask;
 use psci_tree::{Standing, Tree};
 
