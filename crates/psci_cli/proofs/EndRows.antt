@@ -1,5 +1,5 @@
 -- How commands end, and how they do not.
-use Rattle.std.proofs.Common.{ℕ, Ok, Err, refl, inl, inr}
+use Rattle.std.proofs.Common.{◌≡◌, ℕ, Ok, Err, refl, inl, inr}
 use Rattle.psci_command.specs.psci_board.Board.{BoardValue}
 use Rattle.psci_command.specs.psci_board_text.declared.fault.BoardFault.TheVariants as boards
 use Rattle.psci_command.specs.declared.exit.Failure.TheVariants.{CommandLine, Replay}
@@ -41,6 +41,11 @@ storm_made s is = (refl, is)
 
 storm_without_board : (s : StormedWorld) → IsStormed (Ok s) (Err boards.Grammar) 3 → ⊥
 storm_without_board s h = let made = h.0 in cc
+
+-- the text says a board, and the storm was on another one
+storm_on_another_board : (s : StormedWorld) (b : BoardValue) → ¬ (b ≡ s.world.board)
+    → ¬ (IsStormed (Ok s) (Ok b) 3)
+storm_on_another_board s b differs h = let made = h.0 in differs (cc)
 
 -- a past that is no storm of so many events
 other_storm : (s : StormedWorld) (count : ℕ) → ¬ (IsStorm s.world.board count s.world.past s.storm)

@@ -14,3 +14,8 @@ pub halted : storm_text (record { events = 10000; sent = 822; settled = Halting 
     ≡ codes "storm events 10000 sent 822 halting"
 unfolding digits
 halted = refl
+
+pub three_rounds : storm_text (record { events = 65; sent = 16; settled = Quiet 3 })
+    ≡ codes "storm events 65 sent 16 quiet 3"
+unfolding digits
+three_rounds = refl

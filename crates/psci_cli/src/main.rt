@@ -3,7 +3,12 @@
 
 mod storm_line;
 
-ghost use Rattle.std.specs.Prelude.{IfErr};
+ghost use Rattle.std.specs.Prelude.{◌≡◌, IfErr};
+ghost use Rattle.std.specs.IoError.{error_kind};
+ghost use Rattle.std.specs.declared.io.ErrorKind.TheVariants as kinds;
+ghost use Rattle.psci_command.specs.declared.exit.Failure.TheVariants.{Replay};
+ghost use Rattle.psci_command.specs.psci_script.declared.fault.ReplayFault.TheVariants.{Memory};
+ghost use Rattle.psci_command.specs.psci_script.declared.fault.ReplayFault.TheVariants.{Write};
 ghost use Rattle.psci_command.specs.psci_board_text.Verdict.{board_of};
 ghost use Rattle.psci_cli.specs.Ends.{IsOfReplay, IsUnkept, IsStormed, StormEnds};
 
@@ -51,9 +56,11 @@ fn keep(
     script.flush()
 }
 
-/// Why a storm could not be kept in a file.
+/// Why a storm could not be kept in a file: for want of memory, or it could not be written.
 fn unkept(error: &io::Error) -> Failure
-    ensures { IsUnkept result }
+    ensures either { IsUnkept result }
+    ensures memory { error_kind error.now ≡ kinds.OutOfMemory → result ≡ Replay Memory }
+    ensures write { ¬ (error_kind error.now ≡ kinds.OutOfMemory) → result ≡ Replay Write }
 {
     Failure::Replay(if error.kind() == io::ErrorKind::OutOfMemory {
         ReplayFault::Memory

@@ -25,6 +25,7 @@ impl Model for Firmware {
 }
 
 ghost use Rattle.std.specs.Prelude.{◌≡◌, ℕ, IfOk, OnErr, option_map};
+ghost use Rattle.psci_link.specs.declared.taken.Taken.TheVariants.{Old};
 ghost use Rattle.psci_fw_spec.specs.declared.call.FwCall.TheVariants as calls;
 ghost use Rattle.psci_fw_spec.specs.declared.reply.FwReply.TheVariants as replies;
 ghost use Rattle.psci_fw_spec.specs.After.{after};
@@ -102,6 +103,7 @@ impl Firmware {
         ensures after { (c : ℕ) → seen self.new
             ≡ after self.old.board c (calls.Take ack) (replies.Taken result) (seen self.old) }
         ensures board { self.new.board ≡ self.old.board }
+        ensures old { result ≡ Old → self.new ≡ self.old }
     {
         law_invariant();
         self.state.acknowledge(ack)

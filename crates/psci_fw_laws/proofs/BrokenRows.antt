@@ -1,12 +1,12 @@
 -- Worked examples: what is outstanding, who has entered, the limits and messages, each clause with
 -- a state that breaks it.
-use Rattle.std.proofs.Common.{◌≡◌, ◌+◌, ℕ, true, false, List, [], ◌∷◌, Option, None, Some, refl}
+use Rattle.std.proofs.Common.{◌≡◌, ◌+◌, ℕ, true, false, [], ◌∷◌, Option, None, Some, refl}
 use Rattle.std.proofs.Common.{arith}
 use Rattle.psci_link.specs.declared.kind.Kind.TheVariants.{Down, Start, Off}
 use Rattle.psci_link.specs.Message.{MessageValue}
 use Rattle.psci_link.specs.Slots.{Slot, OfCore, OfSystem}
 use Rattle.psci_fw_spec.specs.declared.status.Status.TheVariants.{On}
-use Rattle.psci_fw_spec.specs.Phases.{Phase, Away, Pending, Running, Suspended}
+use Rattle.psci_fw_spec.specs.Phases.{Away, Pending, Running, Suspended}
 use Rattle.psci_board.specs.Board.{up}
 use Rattle.psci_fw_laws.specs.Claims.{part_for}
 use Rattle.psci_fw_laws.specs.Entered.{AreEntered}

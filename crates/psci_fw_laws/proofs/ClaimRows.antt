@@ -1,5 +1,5 @@
 -- Worked examples: which claims there are, and which of them are current.
-use Rattle.std.proofs.Common.{◌≡◌, ℕ, ◌+◌, inl, inr, List, [], ◌∷◌, true, false, None, Some}
+use Rattle.std.proofs.Common.{◌≡◌, ◌<◌, ℕ, ◌+◌, inl, inr, List, [], ◌∷◌, true, false, None, Some}
 use Rattle.std.proofs.Common.{refl, ap, arith}
 use Rattle.psci_board.specs.Board.{core_of, up}
 use Rattle.psci_coord.specs.Claim.{claims_of}
@@ -17,7 +17,7 @@ use Rattle.psci_fw_spec.specs.Exchange.{FwExchange}
 use Rattle.psci_fw_spec.specs.History.{values_of}
 use Rattle.psci_fw_spec.specs.Sent.{sent_messages}
 use Rattle.psci_fw_spec.specs.Views.{view}
-use Rattle.psci_fw_laws.specs.Claims.{IsClaimOn, IsCurrent, IsFromStart, part_for}
+use Rattle.psci_fw_laws.specs.Claims.{AreRising, IsClaimOn, IsCurrent, IsFromStart, part_for}
 use Rattle.psci_fw_laws.specs.KnownBelow.{known_below}
 use Rattle.psci_fw_laws.proofs.Calls.{board, enter, history_of, message, off, on_3, part}
 use Rattle.psci_fw_laws.proofs.Calls.{take}
@@ -170,3 +170,34 @@ first_over e = let known = twice_known in omega (arith, e, known)
 
 start_over : IsCurrent board (values_of board twice).known 1 1 (part 1 3 0) → ⊥
 start_over e = let known = twice_known in omega (arith, e, known)
+
+-- Claims rise ---------------------------------------------------------------------------------
+
+-- core 3 goes off in this life, and claims itself and its cluster at these generations
+abbrev claimed_in : ℕ → ℕ → ℕ → MessageValue
+claimed_in life own cluster = message Down 3 life own (part 0 3 own ∷ part 1 3 cluster ∷ [])
+
+-- in life 2, and in the life before the last one
+one_generation_twice : AreRising board (claimed_in 2 2 1 ∷ claimed_in 2 1 1 ∷ []) → ⊥
+unfolding up
+one_generation_twice are =
+    let no : 1 < 1 = are.later 2 1 1 0 1 _ _ _ _ (omega arith) refl refl refl refl in
+    absurd (omega (arith, no))
+
+twice_in_the_life_before : AreRising board
+    (claimed_in 3 1 1 ∷ claimed_in 2 2 1 ∷ claimed_in 2 1 1 ∷ []) → ⊥
+unfolding up
+twice_in_the_life_before are =
+    let no : 1 < 1 = are.later 2 1 1 1 2 _ _ _ _ (omega arith) refl refl refl refl in
+    absurd (omega (arith, no))
+
+generation_falls : AreRising board (claimed_in 2 2 1 ∷ claimed_in 2 1 2 ∷ []) → ⊥
+unfolding up
+generation_falls are =
+    let no : 2 < 1 = are.later 2 1 1 0 1 _ _ _ _ (omega arith) refl refl refl refl in
+    absurd (omega (arith, no))
+
+generation_of_the_start : AreRising board (claimed_in 2 1 0 ∷ []) → ⊥
+unfolding up
+generation_of_the_start are =
+    let no : 0 < 0 = are.start 2 1 1 0 _ _ refl refl in absurd (omega (arith, no))

@@ -1,11 +1,11 @@
 -- Worked examples: a message that was never sent so, and depths that no claim granted.
-use Rattle.std.proofs.Common.{◌≡◌, ◌≤◌, ◌<◌, ℕ, inl, inr, true, false, List, [], ◌∷◌, None, Some}
+use Rattle.std.proofs.Common.{◌≡◌, ◌≤◌, inl, inr, true, false, [], ◌∷◌, None, Some}
 use Rattle.std.proofs.Common.{refl, ap, arith}
 use Rattle.psci_board.specs.Board.{up}
 use Rattle.psci_coord.specs.psci_parts.declared.part.Part.{Part}
 use Rattle.psci_link.specs.declared.kind.Kind.TheVariants.{Down}
 use Rattle.psci_link.specs.Message.{MessageValue}
-use Rattle.psci_fw_spec.specs.Phases.{Phase, Away}
+use Rattle.psci_fw_spec.specs.Phases.{Away}
 use Rattle.psci_fw_laws.specs.Claims.{IsClaimOn}
 use Rattle.psci_fw_laws.specs.Granted.{AreGranted, HasDeeper}
 use Rattle.psci_fw_laws.specs.KnownBelow.{known_below}

@@ -1,16 +1,15 @@
 -- An acknowledgement is taken: what the values in the state are then.
 use Rattle.std.proofs.Common.{◌≡◌, ℕ, ◌<◌, slice_get, Bool, true, false, cond, List, length}
-use Rattle.std.proofs.Common.{None, Some, Option, refl, sym, ◌∙◌, ap, inl, inr}
+use Rattle.std.proofs.Common.{None, refl, sym, ◌∙◌, ap, inl, inr}
 use Rattle.std.proofs.Common.{slice_index_or}
-use Rattle.std.proofs.lemmas.Bool.{and_parts, cases_lt, eqb-true}
+use Rattle.std.proofs.lemmas.Bool.{and_parts, cases_lt}
 use Rattle.std.proofs.lemmas.List.{get_or_past}
 use Rattle.psci_link.specs.declared.kind.Kind.{Kind}
 use Rattle.psci_link.specs.declared.kind.Kind.TheVariants.{Down, Start, Off, Reset}
-use Rattle.psci_link.specs.declared.taken.Taken.TheVariants.{Used, Old}
-use Rattle.psci_link.specs.Message.{AckValue, MessageValue}
-use Rattle.psci_link.specs.Slots.{Slot, SlotsValue, answers, changed, is_kind, is_slot}
-use Rattle.psci_link.specs.Slots.{left_by, message_in, slot_of, taken}
-use Rattle.psci_link.specs.Slots.Slot.{OfCore, OfSystem}
+use Rattle.psci_link.specs.declared.taken.Taken.TheVariants.{Used}
+use Rattle.psci_link.specs.Message.{AckValue}
+use Rattle.psci_link.specs.Slots.{Slot, SlotsValue, changed, is_kind}
+use Rattle.psci_link.specs.Slots.{message_in, slot_of, taken}
 use Rattle.psci_link.specs.Slots.Change.{Acknowledge}
 use Rattle.psci_fw_spec.specs.declared.status.Status.TheVariants as statuses
 use Rattle.psci_fw_spec.specs.Changes.{confirms_on, turns_off, with_acknowledgement}
@@ -51,33 +50,6 @@ pub down_has_slot : (a : AckValue) (s : SlotsValue) (v : Values) → turns_off v
     → taken a (message_in s (slot_of a.kind a.core)) ≡ Used → a.core.number < length s.cores
 down_has_slot a s v off used =
     down_at a s a.kind (and_parts _ _ (and_parts _ _ off).0).0 used
-
--- an old acknowledgement leaves what it finds
-left_old : (a : AckValue) (o : Option MessageValue) → taken a o ≡ Old → left_by a o ≡ o
-left_old a None e = refl
-left_old a (Some m) e = by (answers a m) refl
-  where
-    by : (t : Bool) → answers a m ≡ t → left_by a (Some m) ≡ Some m
-    by true f = let x : cond true Used Old ≡ Old = rw f at e in cc
-    by false f = rw f refl
-
-same_slot : (x y : Slot) → is_slot x y ≡ true → x ≡ y
-same_slot (OfCore c) (OfCore d) e = ap OfCore (eqb-true c d e)
-same_slot (OfCore c) OfSystem e = cc
-same_slot OfSystem (OfCore d) e = cc
-same_slot OfSystem OfSystem e = refl
-
-pub old_slot : (a : AckValue) (s : SlotsValue) (slot : Slot)
-    → taken a (message_in s (slot_of a.kind a.core)) ≡ Old
-    → changed slot (Acknowledge a) (message_in s slot) ≡ message_in s slot
-old_slot a s slot e = by (is_slot (slot_of a.kind a.core) slot) refl
-  where
-    by : (t : Bool) → is_slot (slot_of a.kind a.core) slot ≡ t
-        → cond t (left_by a (message_in s slot)) (message_in s slot) ≡ message_in s slot
-    by true f =
-        let here : slot_of a.kind a.core ≡ slot = same_slot _ slot f in
-        left_old a (message_in s slot) (rw (← here) e)
-    by false f = refl
 
 -- Values ----------------------------------------------------------------------------------------
 
@@ -221,26 +193,3 @@ pub used_changed : (s now : StateValue) (u : TreeValue) (slots : SlotsValue) (a 
     ≡ with_acknowledgement now.board a (values_in now)
 used_changed s now u slots a e off acked left =
     rw (← e) (used_of s u slots a (rw e off) acked left)
-
--- an old acknowledgement
-old_of : (s : StateValue) (slots : SlotsValue)
-    → ((slot : Slot) → message_in slots slot ≡ message_in s.slots slot)
-    → values_in (record s { slots = slots }) ≡ values_in s
-unfolding values_in
-old_of s slots left = same_values _ _ (record {
-  life = refl;
-  halting = refl;
-  mode = refl;
-  known = λ k. refl;
-  status = λ k. refl;
-  phase = λ k. refl;
-  opening = λ k. refl;
-  granted = λ l p. refl;
-  confirmed = λ l p. refl;
-  outstanding = left;
-})
-
-pub old_changed : (s now : StateValue) (slots : SlotsValue) → s ≡ now
-    → ((slot : Slot) → message_in slots slot ≡ message_in s.slots slot)
-    → values_in (record s { slots = slots }) ≡ values_in now
-old_changed s now slots e left = rw (← e) (old_of s slots left)

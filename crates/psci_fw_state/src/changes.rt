@@ -114,7 +114,7 @@ impl State {
         ensures used { result ≡ Used
             → values_in self.new
             ≡ with_acknowledgement self.old.board ack (values_in self.old) }
-        ensures old { result ≡ Old → values_in self.new ≡ values_in self.old }
+        ensures old { result ≡ Old → self.new ≡ self.old }
         ensures board { self.new.board ≡ self.old.board }
     {
         law_slots();

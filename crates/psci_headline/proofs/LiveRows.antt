@@ -207,3 +207,23 @@ unfolding computing claims live_claims
 starts_below_the_system none =
     none (at 3 0) 3 0 _ (record { level = omega arith; place = omega arith }) (omega arith)
     refl refl refl
+
+-- In an earlier life ----------------------------------------------------------------------------
+
+-- the system is reset by the message of this index, and the boot core enters in life 2
+abbrev reset_after : ℕ → List Record → List Record
+reset_after index past =
+    run_from board past (system_reset 0 ∷ Deliver index ∷ Enter 0 ∷ [])
+
+two_claims_in_the_life_before : AreApart board (reset_after 3 (two_claims 2 2)) → ⊥
+unfolding computing claims
+two_claims_in_the_life_before apart =
+    let no : 0 ≡ 1 = apart 1 (at 0 3) 0 1 _ _
+    (record { level = omega arith; place = omega arith }) refl refl refl in
+    absurd (omega (arith, no))
+
+not_asked_in_the_life_before : AreAsked board (reset_after 2 not_asked) → ⊥
+unfolding computing claims
+not_asked_in_the_life_before asked =
+    let no : false ≡ true = asked 1 (at 1 1) 0 _
+    (record { level = omega arith; place = omega arith }) refl in absurd (cc)

@@ -61,9 +61,11 @@ fn known_frames(rt: HostRuntime) -> Result<(), Fail> {
 fn faults_and_other_lengths(rt: HostRuntime) -> Result<(), Fail> {
     let board = Board::read(rt.alloc(), SMALL)?;
     for (place, byte, fault) in [
+        (0, 0x51, FrameFault::Magic),
         (1, 0x45, FrameFault::Magic),
         (2, 0x05, FrameFault::Kind),
         (12, 0, FrameFault::Count),
+        (12, 5, FrameFault::Count),
         (52, 1, FrameFault::Unused),
         (3, 4, FrameFault::Core),
         (14, 4, FrameFault::Depth),

@@ -27,6 +27,7 @@ ghost use Rattle.std.specs.Prelude.{◌≡◌, None, option_map, replicate, leng
 ghost use Rattle.std.specs.Prelude.{slice_index_or, slice_set};
 ghost use Rattle.psci_link.specs.Slots.{slot_of, message_in, message_at, with_message};
 ghost use Rattle.psci_link.specs.Slots.{no_messages, after_change, taken, IsOfCores};
+ghost use Rattle.psci_link.specs.declared.taken.Taken.TheVariants.{Old};
 ghost use Rattle.psci_link.specs.Slots.Change.{Put, Clear, ClearAll, Acknowledge};
 
 impl Slots {
@@ -67,10 +68,12 @@ impl Slots {
         self.system = None;
     }
 
-    /// Takes an acknowledgement. The message is forgotten where nothing of it is left to do.
+    /// Takes an acknowledgement. The message is forgotten where nothing of it is left to do. Of an
+    /// old one nothing changes.
     pub fn take_ack(&mut self, ack: Ack) -> Taken
         ensures taken { result ≡ taken ack (message_in self.old (slot_of ack.kind ack.core)) }
         ensures slots { self.new ≡ after_change self.old (Acknowledge ack) }
+        ensures old { result ≡ Old → self.new ≡ self.old }
         ensures cores { length self.new.cores ≡ length self.old.cores }
     {
         let Some(message) = self.message(ack.kind, ack.core) else {

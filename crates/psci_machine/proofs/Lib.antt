@@ -1,3 +1,5 @@
 mod Events
 mod Following
 mod Kicks
+mod NextRows
+mod SeenRows

@@ -174,7 +174,8 @@ fn runs_have_known_records(rt: HostRuntime) -> Result<(), Fail> {
     tell(&rt, alloc, "starts and goes down", &STARTS_AND_GOES_DOWN)?;
     tell(&rt, alloc, "wakes and is reset", &WAKES_AND_IS_RESET)?;
     tell(&rt, alloc, "reset and off", &RESET_AND_OFF)?;
-    tell(&rt, alloc, "nothing happens", &NOTHING_HAPPENS)
+    tell(&rt, alloc, "nothing happens", &NOTHING_HAPPENS)?;
+    tell(&rt, alloc, "no event", &[])
 }
 
 /// What a machine says of events before which nothing was sent: a core wakes, and one is asked on.

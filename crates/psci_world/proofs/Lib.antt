@@ -2,8 +2,10 @@ mod Beginning
 mod Booked
 pub mod Newest
 mod OnTheWay
+mod PresentRows
 pub mod Resting
 mod Settles
+mod SettlesRows
 mod Waiting
 mod WayRows
 mod Presents

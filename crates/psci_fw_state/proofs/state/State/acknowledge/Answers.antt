@@ -1,5 +1,5 @@
 use Rattle.std.proofs.Common.{◌≡◌, ◌<◌, true, false, length, sym, subst, ap, arith, ◌∙◌}
-use Rattle.psci_link.specs.declared.taken.Taken.TheVariants.{Used, Old}
+use Rattle.psci_link.specs.declared.taken.Taken.TheVariants.{Used}
 use Rattle.psci_link.specs.Message.{AckValue}
 use Rattle.psci_link.specs.Slots.{message_in, slot_of, taken}
 use Rattle.psci_link.specs.Slots.Change.{Acknowledge}
@@ -7,7 +7,7 @@ use Rattle.psci_fw_spec.specs.declared.status.Status.TheVariants as statuses
 use Rattle.psci_fw_spec.specs.Changes.{turns_off}
 use Rattle.psci_fw_state.specs.Rows.{row_at}
 use Rattle.psci_fw_state.specs.Seen.{StateValue, values_in}
-use Rattle.psci_fw_state.proofs.Acked.{down_has_slot, off_changed, old_changed, old_slot}
+use Rattle.psci_fw_state.proofs.Acked.{down_has_slot, off_changed}
 use Rattle.psci_fw_state.proofs.Acked.{IsAcked, acked_by, sent_parts, used_changed}
 use Rattle.psci_fw_state.proofs.Changed.{row_set}
 use Rattle.psci_fw_state.proofs.Moved.{rows_set}
@@ -57,33 +57,6 @@ returns-then-is_off-clause-used c = λ used.
     (rw (rows, row) (row_set s.rows a.core.number _ row_inside))
     (λ slot. rw (c.take_ack-taken.ensures.slots, ← c.ack.view_is)
     (c.law_slots.ensures.changed s.slots (Acknowledge a) tt slot)))
-
-pub returns-then-eq-clause-old : goal.returns-then-eq-clause-old
-returns-then-eq-clause-old c = λ old.
-    let s : StateValue = record {
-      board = c.self.inside.board;
-      life = c.self.inside.life;
-      halting = c.self.inside.halting;
-      mode = c.self.inside.mode;
-      tree = c.self.inside.tree;
-      rows = c.self.inside.rows.items;
-      slots = c.self.inside.slots;
-    } in
-    let a : AckValue = record {
-      kind = c.ack.inside.kind;
-      core = c.ack.inside.core;
-      life = c.ack.inside.life;
-      number = c.ack.inside.number;
-      applied = c.ack.inside.applied;
-      stale = c.ack.inside.stale;
-    } in
-    let found : taken a (message_in s.slots (slot_of a.kind a.core)) ≡ Old =
-    subst (λ (x : AckValue). taken x (message_in s.slots (slot_of x.kind x.core)) ≡ Old)
-    (sym c.ack.view_is) (sym c.take_ack-taken.ensures.taken ∙ old) in
-    old_changed s _ c.take_ack-taken.new.self c.self.view_is
-    (λ slot. rw (c.take_ack-taken.ensures.slots, ← c.ack.view_is)
-    (c.law_slots.ensures.changed s.slots (Acknowledge a) tt slot
-    ∙ old_slot a s.slots slot found))
 
 pub returns-else-is_off-clause-used : goal.returns-else-is_off-clause-used
 returns-else-is_off-clause-used c = λ used.
