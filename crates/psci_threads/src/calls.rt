@@ -1,18 +1,29 @@
 //! Which calls a core makes.
 
+ghost use Rattle.std.specs.Prelude.{◌≡◌, ◌≢◌, ◌<◌, ℕ};
+ghost use Rattle.psci_abi.specs.declared.request.Request.TheVariants.{CpuOn, Version};
+ghost use Rattle.psci_board.specs.Board.{cores};
+ghost use Rattle.psci_threads.specs.Calls.{EndsLife};
+
 use psci_abi::Request;
 use psci_draws::{Draws, affinity};
 use psci_shared::{Board, Core};
 
-/// The call of a core of this number: the first ones are the same whatever the seed, later ones are
-/// drawn. Until it is `late` the boot core does not go off, so that others are asked on.
+/// The call of this number of a core, which may go off or not. The first calls are the same whatever
+/// the seed, later ones are drawn.
 pub(crate) fn request_of(
     draws: &mut Draws,
     board: &Board,
     core: Core,
     call: u64,
-    late: bool,
-) -> Request {
+    may_go_off: bool,
+) -> Request
+    ensures first { core.number ≡ 0 → call ≡ 0 → 1 < cores board.now
+        → (target : ℕ) × (result ≡ CpuOn target board.now.boot 1) }
+    ensures second { core.number ≢ 0 → call ≡ 0 → result ≡ Version }
+    ensures third { call ≡ 1 → result ≡ Version }
+    ensures lives { EndsLife result → ⊥ }
+{
     if core.number == 0 && call == 0 && board.cores() > 1 {
         return Request::CpuOn {
             target: affinity(board, 1),
@@ -24,7 +35,7 @@ pub(crate) fn request_of(
         return Request::Version;
     }
     match drawn(draws, board) {
-        Request::CpuOff if core.number == 0 && !late => Request::Version,
+        Request::CpuOff if !may_go_off => Request::Version,
         Request::SystemOff | Request::SystemReset | Request::SystemReset2 { .. } => {
             Request::Version
         }

@@ -109,20 +109,20 @@ impl<N: Named, M: Named> Worker<N, M> {
         Ok(())
     }
 
-    /// Whether the boot core may go off: others had time to be asked on.
-    fn is_late<G: Gate>(&self, platform: &Platform<'_, N, M, G>, call: u64) -> bool {
-        call > platform.count - platform.count / 4
+    /// Whether the core may go off for good: the boot core only late, so that it asks others on.
+    fn may_go_off<G: Gate>(&self, platform: &Platform<'_, N, M, G>, call: u64) -> bool {
+        self.core.number > 0 || call > platform.count - platform.count / 4
     }
 
-    /// A running core is reset, once in so many calls.
+    /// A running core is reset, once in many calls.
     fn reset_now_and_then<R: Wait, G: Gate>(
         &mut self,
         rt: &R,
         platform: &Platform<'_, N, M, G>,
         call: u64,
     ) -> Result<(), Ending> {
-        let may_reset = self.core.number > 0 || self.is_late(platform, call);
-        if call < 2 || self.state != State::Running || !may_reset || !self.draws.one_in(64) {
+        let may_reset = call > 1 && self.may_go_off(platform, call);
+        if self.state != State::Running || !may_reset || !self.draws.one_in(64) {
             return Ok(());
         }
         match platform.controller.reset(rt, &mut self.asked, self.core) {
@@ -149,7 +149,7 @@ impl<N: Named, M: Named> Worker<N, M> {
             }
             let may_wake = call > 1 && (self.state == State::Asleep || turn == wakes_at);
             let still = platform.wire.is_still();
-            match self.start(rt, platform, may_wake)? {
+            match self.start(rt, platform, call, may_wake)? {
                 Some(start) => self.enter(rt, platform, start)?,
                 None if still => return Err(Ending::Early),
                 None => thread::yield_now(),
@@ -158,23 +158,36 @@ impl<N: Named, M: Named> Worker<N, M> {
         Err(Ending::Early)
     }
 
-    /// The core's start that it has not entered by: by another core, or else by a wake-up event of
+    /// The start that the core has not entered by: the last one, or else, where it may wake, one of
     /// its own.
     fn start<R: Wait, G: Gate>(
         &mut self,
         rt: &R,
         platform: &Platform<'_, N, M, G>,
+        call: u64,
         may_wake: bool,
     ) -> Result<Option<Start>, Ending> {
-        if let Some(start) = platform.controller.started(rt, self.core)
-            && start.number > self.entered
-        {
-            return Ok(Some(start));
+        match platform.controller.started(rt, self.core) {
+            Some(start) if start.number > self.entered => Ok(Some(start)),
+            _ if may_wake => self.wake(rt, platform, call),
+            _ => Ok(None),
         }
-        if !may_wake {
-            return Ok(None);
-        }
-        match platform.controller.wake(rt, &mut self.asked, self.core, self.entered) {
+    }
+
+    /// The start by a wake-up event, or now and then by a reset of a sleeping core.
+    fn wake<R: Wait, G: Gate>(
+        &mut self,
+        rt: &R,
+        platform: &Platform<'_, N, M, G>,
+        call: u64,
+    ) -> Result<Option<Start>, Ending> {
+        let may_reset = self.state == State::Asleep && self.may_go_off(platform, call);
+        let kicked = if may_reset && self.draws.one_in(16) {
+            platform.controller.reset(rt, &mut self.asked, self.core)
+        } else {
+            platform.controller.wake(rt, &mut self.asked, self.core, self.entered)
+        };
+        match kicked {
             Ok(Kick::Started(start)) => Ok(Some(start)),
             // An off core was asked on in between. A sleeping one was started as often as may be.
             Ok(Kick::Ignored) if self.state == State::Off => Ok(None),
@@ -204,8 +217,8 @@ impl<N: Named, M: Named> Worker<N, M> {
         if !platform.gate.may(self.core, call) {
             return Err(Ending::Gate);
         }
-        let late = self.is_late(platform, call);
-        let request = request_of(&mut self.draws, platform.board, self.core, call, late);
+        let off = self.may_go_off(platform, call);
+        let request = request_of(&mut self.draws, platform.board, self.core, call, off);
         let answered = platform.firmware.smc(rt, &mut self.pass, registers(request, true));
         platform.gate.done(self.core, call);
         let stopped = match request {
