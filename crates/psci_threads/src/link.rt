@@ -1,5 +1,8 @@
 //! What the link thread does: it takes frames, and loses, repeats and reorders them by the seed.
 
+ghost use Rattle.std.specs.Prelude.{◌≡◌, ◌<◌, length};
+ghost use Rattle.psci_ctl.specs.psci_ctl_spec.Legal.{IsSendable};
+
 use crate::gate::Gate;
 use crate::platform::{Ending, Platform, Returned, fault_of};
 use crate::wire::Bytes;
@@ -35,18 +38,13 @@ struct Carried {
     bytes: Bytes,
     /// How often in a row it was lost.
     losses: u32,
-    /// How often it is still to arrive.
-    arrivals: u32,
+    /// Whether it is to arrive twice yet.
+    twice: bool,
 }
 
 impl<N: Named, M: Named> Link<N, M> {
     /// A link that carries nothing.
-    pub(crate) fn new(
-        alloc: Global,
-        pass: Pass<N>,
-        asked: CtlPass<M>,
-        seed: u64,
-    ) -> Link<N, M> {
+    pub(crate) fn new(alloc: Global, pass: Pass<N>, asked: CtlPass<M>, seed: u64) -> Link<N, M> {
         Link {
             pass,
             asked,
@@ -91,7 +89,7 @@ impl<N: Named, M: Named> Link<N, M> {
             if !self.carried.is_empty() {
                 turns = 0;
                 self.carry(rt, platform)?;
-            } else if all_ended || turns == TURNS {
+            } else if all_ended || turns >= TURNS {
                 return Ok(());
             } else {
                 turns += 1;
@@ -111,11 +109,11 @@ impl<N: Named, M: Named> Link<N, M> {
             let Some(bytes) = platform.wire.next(rt) else {
                 return Ok(());
             };
-            let arrivals = if self.draws.one_in(8) { 2 } else { 1 };
+            let twice = self.draws.one_in(8);
             let carried = Carried {
                 bytes,
                 losses: 0,
-                arrivals,
+                twice,
             };
             if self.carried.push(carried).is_err() {
                 return Err(Ending::Memory);
@@ -129,7 +127,9 @@ impl<N: Named, M: Named> Link<N, M> {
         &mut self,
         rt: &R,
         platform: &Platform<'_, N, M, G>,
-    ) -> Result<(), Ending> {
+    ) -> Result<(), Ending>
+        requires { 0 < length self.old.carried.items }
+    {
         let drawn = self.draws.below(CHOICE) as usize;
         let place = drawn.min(self.carried.len() - 1);
         let is_lost = self.draws.one_in(3);
@@ -138,10 +138,10 @@ impl<N: Named, M: Named> Link<N, M> {
             frame.losses += 1;
             return Ok(());
         }
-        frame.losses = 0;
-        frame.arrivals -= 1;
         let bytes = frame.bytes;
-        if frame.arrivals > 0 {
+        if frame.twice {
+            frame.losses = 0;
+            frame.twice = false;
             return self.arrive(rt, platform, &bytes);
         }
         self.carried.remove(place);
@@ -151,6 +151,7 @@ impl<N: Named, M: Named> Link<N, M> {
     }
 
     /// A frame arrives, and is read.
+    #[tactic(auto, using(crate::proofs::Sendable::sendable))]
     fn arrive<R: Wait, G: Gate>(
         &mut self,
         rt: &R,
@@ -173,10 +174,11 @@ impl<N: Named, M: Named> Link<N, M> {
         rt: &R,
         platform: &Platform<'_, N, M, G>,
         message: &Message,
-    ) -> Result<(), Ending> {
+    ) -> Result<(), Ending>
+        requires { IsSendable M.board message.now }
+    {
         // Nothing is sent where the message is ignored or the book is full.
-        let Ok(Delivery::Applied(ack)) =
-            platform.controller.deliver(rt, &mut self.asked, message)
+        let Ok(Delivery::Applied(ack)) = platform.controller.deliver(rt, &mut self.asked, message)
         else {
             return Ok(());
         };

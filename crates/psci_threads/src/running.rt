@@ -141,8 +141,9 @@ where
     } = makings;
     let Plan { board, seed, count } = plan;
     let room = room_of(board, count);
-    let mut firmware =
-        SharedFirmware::<N>::new(alloc, board, words, writer, room, tickets, firmware)?;
+    let mut firmware = SharedFirmware::<N>::new(
+        alloc, board, words, writer, room, tickets, firmware,
+    )?;
     let mut controller = SharedController::<M>::new(alloc, board, room, tickets, controller)?;
     let jobs = jobs_of(alloc, board, seed, &mut firmware, &mut controller)?;
     let wire = Wire::new(alloc, board.cores())?;

@@ -1,7 +1,7 @@
 //! The queues of frames, and who is still at work.
 
-use psci_link::{FRAME_LEN, Frame, encode};
 use crossbeam_queue::SegQueue;
+use psci_link::{FRAME_LEN, Frame, encode};
 use std::alloc::{AllocError, Global};
 use std::sync::Wait;
 use std::sync::atomic::{AtomicBool, AtomicU32, Ordering};

@@ -48,12 +48,7 @@ enum State {
 
 impl<N: Named, M: Named> Worker<N, M> {
     /// A core that has not entered.
-    pub(crate) fn new(
-        pass: Pass<N>,
-        asked: CtlPass<M>,
-        core: Core,
-        seed: u64,
-    ) -> Worker<N, M>
+    pub(crate) fn new(pass: Pass<N>, asked: CtlPass<M>, core: Core, seed: u64) -> Worker<N, M>
         requires { core.number < cores M.board }
     {
         Worker {
@@ -185,7 +180,9 @@ impl<N: Named, M: Named> Worker<N, M> {
         let kicked = if may_reset && self.draws.one_in(16) {
             platform.controller.reset(rt, &mut self.asked, self.core)
         } else {
-            platform.controller.wake(rt, &mut self.asked, self.core, self.entered)
+            platform
+                .controller
+                .wake(rt, &mut self.asked, self.core, self.entered)
         };
         match kicked {
             Ok(Kick::Started(start)) => Ok(Some(start)),
@@ -219,7 +216,9 @@ impl<N: Named, M: Named> Worker<N, M> {
         }
         let off = self.may_go_off(platform, call);
         let request = request_of(&mut self.draws, platform.board, self.core, call, off);
-        let answered = platform.firmware.smc(rt, &mut self.pass, registers(request, true));
+        let answered = platform
+            .firmware
+            .smc(rt, &mut self.pass, registers(request, true));
         platform.gate.done(self.core, call);
         let stopped = match request {
             Request::CpuOff => State::Off,

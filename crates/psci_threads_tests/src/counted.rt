@@ -57,7 +57,10 @@ pub(crate) fn is_counted<R: Threads + Wait + Sync>(
     };
     let run = ran(rt, alloc, text, seed, count, &gate)?;
     let entries = run.trace.firmware.as_slice();
-    let calls = entries.iter().filter(|entry| regs_of(entry).is_some()).count() as u64;
+    let calls = entries
+        .iter()
+        .filter(|entry| regs_of(entry).is_some())
+        .count() as u64;
     let once = gate.asked.load(Ordering::SeqCst) == calls;
     let told = gate.done.load(Ordering::SeqCst) == calls;
     let first = has_first(entries, 0, CPU_ON) && has_first(entries, 1, VERSION);
@@ -84,7 +87,10 @@ fn has_first(entries: &[FwEntry], number: u16, call: Regs) -> bool {
 /// Whether it is SYSTEM_OFF, SYSTEM_RESET or SYSTEM_RESET2.
 fn ends_life(entry: &FwEntry) -> bool {
     match regs_of(entry) {
-        Some(regs) => matches!(regs.x0, 0x8400_0008 | 0x8400_0009 | 0x8400_0012 | 0xc400_0012),
+        Some(regs) => matches!(
+            regs.x0,
+            0x8400_0008 | 0x8400_0009 | 0x8400_0012 | 0xc400_0012
+        ),
         None => false,
     }
 }

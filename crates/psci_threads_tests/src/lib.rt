@@ -57,8 +57,14 @@ mod tests {
         assert_eq!(rt; is_ticket_twice(&rt, rt.alloc(), BOARD), Ok(true));
         assert_eq!(rt; is_illegal_at(&rt, rt.alloc(), BOARD), Ok(true));
         assert_eq!(rt; judged(rt.alloc(), BOARD, &[]), Ok(Ok(0)));
-        assert_eq!(rt; judged(rt.alloc(), BOARD, &[1]), Ok(Err(AuditFault::Illegal(0))));
-        assert_eq!(rt; judged(rt.alloc(), BOARD, &[2, 1]), Ok(Err(AuditFault::Ticket)));
+        assert_eq!(rt;
+            judged(rt.alloc(), BOARD, &[1]),
+            Ok(Err(AuditFault::Illegal(0)))
+        );
+        assert_eq!(rt;
+            judged(rt.alloc(), BOARD, &[2, 1]),
+            Ok(Err(AuditFault::Ticket))
+        );
         Ok(())
     }
 }
