@@ -159,7 +159,7 @@ impl<N: Named, M: Named> Link<N, M> {
         bytes: &Bytes,
     ) -> Result<(), Ending> {
         match decode(bytes, platform.board) {
-            Ok(Frame::Message(message)) => self.deliver(rt, platform, &message),
+            Ok(Frame::Message(message)) => self.deliver(rt, platform, message),
             Ok(Frame::Ack(ack)) => {
                 let _taken = platform.firmware.take(rt, &mut self.pass, ack);
                 Ok(())
@@ -173,13 +173,13 @@ impl<N: Named, M: Named> Link<N, M> {
         &mut self,
         rt: &R,
         platform: &Platform<'_, N, M, G>,
-        message: &Message,
+        message: Message,
     ) -> Result<(), Ending>
-        requires { IsSendable M.board message.now }
+        requires { IsSendable M.board message }
     {
         // Nothing is sent where the message is ignored or the book is full.
-        let Ok(Delivery::Applied(ack)) = platform.controller.deliver(rt, &mut self.asked, message)
-        else {
+        let delivered = platform.controller.deliver(rt, &mut self.asked, &message);
+        let Ok(Delivery::Applied(ack)) = delivered else {
             return Ok(());
         };
         if platform.wire.send(rt, &Frame::Ack(ack)) {

@@ -112,12 +112,12 @@ fn audited(alloc: Global, board: &Board, trace: Trace) -> Result<Threaded, Bench
 }
 
 /// The trace of a run over a firmware and a power controller of these makings.
-fn run<N, M, R, G>(
+fn run<'a, N, M, R, G>(
     rt: &R,
     alloc: Global,
-    plan: Plan<'_>,
-    gate: &G,
-    tickets: &Tickets,
+    plan: Plan<'a>,
+    gate: &'a G,
+    tickets: &'a Tickets,
     makings: Makings,
 ) -> Result<Trace, BenchFault>
 where

@@ -243,11 +243,12 @@ impl<N: Named, M: Named> Worker<N, M> {
         {
             return Err(Ending::Memory);
         }
-        self.state = match act {
+        let state = match act {
             Act::Stop => stopped,
             _ => State::Running,
         };
-        self.set_busy(platform, self.state != State::Off);
+        self.state = state;
+        self.set_busy(platform, state != State::Off);
         Ok(())
     }
 
