@@ -2,7 +2,7 @@
 
 ghost use Rattle.std.specs.Prelude.{◌≡◌, IfOk};
 
-use crate::fault::BenchFault;
+use crate::fault::Cut;
 use crate::platform::Returned;
 use psci_audit::Trace;
 use psci_shared::{FwEntry, Named, SharedFirmware};
@@ -15,7 +15,7 @@ pub(crate) fn gathered<N: Named, M: Named>(
     firmware: SharedFirmware<'_, N>,
     controller: SharedController<'_, M>,
     returned: Vec<Returned<N, M>>,
-) -> Result<Trace, BenchFault> {
+) -> Result<Trace, Cut> {
     let mut passes = Vec::new(alloc);
     let mut asked = Vec::new(alloc);
     for thread in returned {
@@ -26,10 +26,10 @@ pub(crate) fn gathered<N: Named, M: Named>(
         asked.push(thread.asked)?;
     }
     let Ok(books) = firmware.gather(passes) else {
-        return Err(BenchFault::Gather);
+        return Err(Cut::Gather);
     };
     let Ok(others) = controller.gather(asked) else {
-        return Err(BenchFault::Gather);
+        return Err(Cut::Gather);
     };
     Ok(Trace {
         firmware: copied(alloc, books.book.entries())?,

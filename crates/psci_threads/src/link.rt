@@ -1,7 +1,8 @@
 //! What the link thread does: it takes frames, and loses, repeats and reorders them by the seed.
 
 ghost use Rattle.std.specs.Prelude.{◌≡◌, ◌<◌, length};
-ghost use Rattle.psci_ctl.specs.psci_ctl_spec.Legal.{IsSendable};
+ghost use Rattle.psci_link.specs.Frame.{IsOf};
+ghost use Rattle.psci_link.specs.declared.frame.Frame.TheVariants as frames;
 
 use crate::gate::Gate;
 use crate::platform::{Ending, Platform, Returned, fault_of};
@@ -151,34 +152,50 @@ impl<N: Named, M: Named> Link<N, M> {
     }
 
     /// A frame arrives, and is read.
-    #[tactic(auto, using(crate::proofs::Sendable::sendable))]
     fn arrive<R: Wait, G: Gate>(
         &mut self,
         rt: &R,
         platform: &Platform<'_, N, M, G>,
         bytes: &Bytes,
     ) -> Result<(), Ending> {
-        match decode(bytes, platform.board) {
-            Ok(Frame::Message(message)) => self.deliver(rt, platform, message),
-            Ok(Frame::Ack(ack)) => {
-                let _taken = platform.firmware.take(rt, &mut self.pass, ack);
+        let Ok(frame) = decode(bytes, platform.board) else {
+            return Ok(());
+        };
+        self.receive(rt, platform, &frame)
+    }
+
+    /// The power controller has a message, or the firmware an acknowledgement.
+    fn receive<R: Wait, G: Gate>(
+        &mut self,
+        rt: &R,
+        platform: &Platform<'_, N, M, G>,
+        frame: &Frame,
+    ) -> Result<(), Ending>
+        requires { IsOf M.board frame.now }
+    {
+        match frame {
+            Frame::Message(message) => self.deliver(rt, platform, message),
+            Frame::Ack(ack) => {
+                let _taken = platform.firmware.take(rt, &mut self.pass, ack.copy());
                 Ok(())
             }
-            Err(_) => Ok(()),
         }
     }
 
-    /// The power controller has a message; its acknowledgement is sent.
+    /// A message is delivered; its acknowledgement is sent.
+    #[tactic(auto, using(crate::proofs::Sendable::sendable))]
     fn deliver<R: Wait, G: Gate>(
         &mut self,
         rt: &R,
         platform: &Platform<'_, N, M, G>,
-        message: Message,
+        message: &Message,
     ) -> Result<(), Ending>
-        requires { IsSendable M.board message }
+        requires { IsOf M.board (frames.Message message.now) }
     {
+        // A message that is looked at is as every message has to be.
+        let _kind = message.kind;
         // Nothing is sent where the message is ignored or the book is full.
-        let delivered = platform.controller.deliver(rt, &mut self.asked, &message);
+        let delivered = platform.controller.deliver(rt, &mut self.asked, message);
         let Ok(Delivery::Applied(ack)) = delivered else {
             return Ok(());
         };

@@ -2,7 +2,7 @@
 
 ghost use Rattle.std.specs.Prelude.{◌≡◌};
 
-use crate::fault::BenchFault;
+use crate::fault::Cut;
 use crate::gate::Gate;
 use crate::wire::Wire;
 use psci_shared::{Board, Named, Pass, SharedFirmware};
@@ -37,14 +37,14 @@ pub(crate) enum Ending {
 pub(crate) struct Returned<N: Named, M: Named> {
     pub(crate) pass: Pass<N>,
     pub(crate) asked: CtlPass<M>,
-    pub(crate) fault: Option<BenchFault>,
+    pub(crate) fault: Option<Cut>,
 }
 
 /// The fault of a thread that ended so, if it is one.
-pub(crate) fn fault_of(ended: Result<(), Ending>) -> Option<BenchFault> {
+pub(crate) fn fault_of(ended: Result<(), Ending>) -> Option<Cut> {
     match ended {
         Ok(()) | Err(Ending::Early) => None,
-        Err(Ending::Gate) => Some(BenchFault::Gate),
-        Err(Ending::Memory) => Some(BenchFault::Memory),
+        Err(Ending::Gate) => Some(Cut::Gate),
+        Err(Ending::Memory) => Some(Cut::Memory),
     }
 }

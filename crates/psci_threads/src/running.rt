@@ -8,7 +8,7 @@ ghost use Rattle.psci_audit.specs.Merged.{history_of};
 ghost use Rattle.psci_audit.specs.Told.{IsListOfSafe};
 ghost use Rattle.psci_threads.specs.Runs.{IsAudited, IsFound};
 
-use crate::fault::BenchFault;
+use crate::fault::{BenchFault, Cut};
 use crate::gate::Gate;
 use crate::gathering::gathered;
 use crate::link::Link;
@@ -80,7 +80,9 @@ pub fn threads<R: Threads + Wait + Sync, G: Gate + Sync>(
         (history_of t.trace.firmware.items t.trace.controller.items)) }
     ensures fault { IfErr result (λ f. IsFound board.now f) }
 {
-    let (words, writer) = StatusWords::new(alloc, board)?;
+    let Ok((words, writer)) = StatusWords::new(alloc, board) else {
+        return Err(BenchFault::Memory);
+    };
     let makings = Makings {
         words,
         writer,
@@ -89,8 +91,10 @@ pub fn threads<R: Threads + Wait + Sync, G: Gate + Sync>(
     };
     let plan = Plan { board, seed, count };
     let tickets = Tickets::new();
-    let trace = run::<Brand, Brand, R, G>(rt, alloc, plan, gate, &tickets, makings)?;
-    audited(alloc, board, trace)
+    match run::<Brand, Brand, R, G>(rt, alloc, plan, gate, &tickets, makings) {
+        Ok(trace) => audited(alloc, board, trace),
+        Err(cut) => Err(cut.fault()),
+    }
 }
 
 /// What the audit says of a trace.
@@ -119,7 +123,7 @@ fn run<'a, N, M, R, G>(
     gate: &'a G,
     tickets: &'a Tickets,
     makings: Makings,
-) -> Result<Trace, BenchFault>
+) -> Result<Trace, Cut>
 where
     N: Named + Send + Sync,
     M: Named + Send + Sync,
@@ -179,7 +183,7 @@ fn jobs_of<N: Named, M: Named>(
     seed: u64,
     firmware: &mut SharedFirmware<'_, N>,
     controller: &mut SharedController<'_, M>,
-) -> Result<Vec<Job<N, M>>, BenchFault>
+) -> Result<Vec<Job<N, M>>, Cut>
     requires { board.now ≡ M.board }
 {
     let mut jobs = Vec::new(alloc);
