@@ -15,7 +15,7 @@ pub record IsAudited (b : BoardValue) (t : Threaded) : Type 0 where
   pub sound : IsSound b t.trace.firmware.items t.trace.controller.items t.audited
 
 -- the audit found this fault in some trace
-abbrev pub IsFound : BoardValue → BenchFault → Type 0
+unfoldable pub IsFound : BoardValue → BenchFault → Type 0
 IsFound b (Audit fault) =
     (fs : List FwEntry) × (cs : List CtlEntry) × IsFault b fs cs fault
 IsFound b Gate = Unit {0}

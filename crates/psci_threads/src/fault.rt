@@ -38,6 +38,7 @@ pub(crate) enum Cut {
 
 impl Cut {
     /// The fault that callers see.
+    #[tactic(auto, unfolding(crate::specs::Runs::IsFound))]
     pub(crate) fn fault(self) -> BenchFault
         ensures { (b : BoardValue) → IsFound b result }
     {

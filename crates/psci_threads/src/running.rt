@@ -81,7 +81,7 @@ pub fn threads<R: Threads + Wait + Sync, G: Gate + Sync>(
     ensures fault { IfErr result (λ f. IsFound board.now f) }
 {
     let Ok((words, writer)) = StatusWords::new(alloc, board) else {
-        return Err(BenchFault::Memory);
+        return Err(Cut::Memory.fault());
     };
     let makings = Makings {
         words,
@@ -98,6 +98,7 @@ pub fn threads<R: Threads + Wait + Sync, G: Gate + Sync>(
 }
 
 /// What the audit says of a trace.
+#[tactic(auto, unfolding(crate::specs::Runs::IsFound))]
 fn audited(alloc: Global, board: &Board, trace: Trace) -> Result<Threaded, BenchFault>
     ensures ok { IfOk result (λ t. IsAudited board.now t) }
     ensures safe { IfOk result (λ t. IsListOfSafe board.now
