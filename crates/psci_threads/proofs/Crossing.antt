@@ -14,16 +14,15 @@ use Rattle.psci_shared.specs.declared.named.Named as Named
 use Rattle.psci_shared.proofs.Crossing.{shared}
 use Rattle.psci_shared_ctl.proofs.shared.SharedController.TheSendSync as controller
 use Rattle.psci_threads.proofs.wire.Wire.TheSendSync as wire
-use Rattle.psci_threads.specs.declared.gate.Gate as Gate
 use Rattle.psci_threads.specs.contracts.platform.Platform as Platform
 
 module _ (N M G : RattleType) (n : Named.Ghosts N.Denot) (m : Named.Ghosts M.Denot)
-    (l : Ledger.Ghosts N.Denot) (k : Ledger.Ghosts M.Denot) (gate : Gate.Ghosts G.Denot) where
-  platform : (a : NamedLft) → IsSync G → IsSync (Platform.the_row a N M G n m l k gate)
+    (l : Ledger.Ghosts N.Denot) (k : Ledger.Ghosts M.Denot) where
+  platform : (a : NamedLft) → IsSync G → IsSync (Platform.the_row a N M G n m l k)
   platform a y =
-      recorded_sync (Platform.the_field a N M G n m l k gate).row _ _
-      (Platform.the_type a N M G n m l k gate).to_one
-      (struct_sync (shape (Platform.the_type a N M G n m l k gate)) (
+      recorded_sync (Platform.the_field a N M G n m l k).row _ _
+      (Platform.the_type a N M G n m l k).to_one
+      (struct_sync (shape (Platform.the_type a N M G n m l k)) (
         search (board.the_sync, sendable),
         (
           shr_sync _ _ _ (shared N n l a),
@@ -42,11 +41,11 @@ module _ (N M G : RattleType) (n : Named.Ghosts N.Denot) (m : Named.Ghosts M.Den
       (name : List ℕ) (a b c : NamedLft) (R : RattleType) → IsSync R → IsSync G →
       IsSync (TupleAt name
       (ShrRef a.mir a.lft R ∷
-      ShrRef b.mir b.lft (Platform.the_row c N M G n m l k gate) ∷ []))
+      ShrRef b.mir b.lft (Platform.the_row c N M G n m l k) ∷ []))
   captured name a b c R x y =
       let rows : List RattleType =
       ShrRef a.mir a.lft R ∷
-      ShrRef b.mir b.lft (Platform.the_row c N M G n m l k gate) ∷ [] in
+      ShrRef b.mir b.lft (Platform.the_row c N M G n m l k) ∷ [] in
       recorded_sync (field_at name rows).row _ _ (type_at name rows).to_one
       (struct_sync (shape (type_at name rows))
       (shr_sync _ _ _ x, (shr_sync _ _ _ (platform c y), tt)))

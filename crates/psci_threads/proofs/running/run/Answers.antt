@@ -8,5 +8,5 @@ pub map_vec-requires-sync-F : goal.map_vec-requires-sync-F
 map_vec-requires-sync-F g c κs within =
     param_sync 4 _ (arg_sync _ Exit.no _
     (captured (param 0 g.row.N) (param 1 g.row.M) (param 3 g.row.G) g.N.Named g.M.Named
-    g.N.Ledger g.M.Ledger g.G.Gate _ _ _ _
+    g.N.Ledger g.M.Ledger _ _ _ _
     (param 2 g.row.R) c.type_bounds.sync-R c.type_bounds.sync-G))
