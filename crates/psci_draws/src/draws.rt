@@ -62,6 +62,17 @@ impl Draws {
         draws
     }
 
+    /// The draws of one of several threads: each has a stream of its own.
+    pub fn of_thread(seed: u64, thread: u64) -> Draws {
+        Draws {
+            words: Pcg32::new(seed, thread),
+            mood: Mood::Busy,
+            left: 0,
+            worn: None,
+            has_end: false,
+        }
+    }
+
     /// Whether the storm is soon over.
     pub fn is_late(&self) -> bool {
         self.left < LATE

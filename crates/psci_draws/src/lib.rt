@@ -19,4 +19,6 @@ mod sight;
 mod states;
 
 pub use draws::Draws;
+pub use plain::affinity;
+pub use requests::registers;
 pub use sight::Sight;

@@ -21,8 +21,8 @@ const WORDS: [u32; 8] = [
     0xc600_0003,
 ];
 
-/// The affinity word of a core.
-fn affinity(board: &Board, number: u16) -> u64 {
+/// The affinity word of the core of this number, or of none where the board has no such core.
+pub fn affinity(board: &Board, number: u16) -> u64 {
     let Some(core) = board.core(number) else {
         return 0xff;
     };
@@ -73,7 +73,7 @@ impl Draws {
     }
 
     /// Any request that does not end the life.
-    fn request(&mut self, board: &Board) -> Request {
+    pub fn request(&mut self, board: &Board) -> Request {
         match self.below(12) {
             0 => Request::Version,
             1 => Request::MigrateInfoType,

@@ -14,7 +14,7 @@ use Rattle.std.specs.contracts.sync.atomic.AtomicBool as Flag
 use Rattle.std.specs.declared.sync.ledger.Ledger as Ledger
 use Rattle.psci_shared.specs.declared.named.Named as Named
 use Rattle.psci_shared.specs.contracts.shared.SharedFirmware as Shared
-use Rattle.psci_shared_tests.proofs.Crossing.{shared}
+use Rattle.psci_shared.proofs.Crossing.{shared}
 use Rattle.psci_shared_tests.proofs.held.poll_while_held.Goals as goal
 
 flag : IsSync Flag.the_row

@@ -1,0 +1,109 @@
+-- Why a firmware that threads share may cross threads, layer by layer.
+use denote.Param.Send.{IsSend, IsSync, sendable, view_send, recorded_send, struct_send}
+use denote.Param.Send.{recorded_sync, struct_sync, plain_send, plain_sync}
+use denote.Ref.{NamedLft}
+use Rattle.psci_shared.specs.contracts.shared.SharedFirmware as Shared
+use denote.Struct.Declared.{shape}
+use Rattle.std.specs.contracts.vec.Vec as Vec
+use Rattle.std.specs.contracts.alloc.Global as Heap
+use Rattle.std.specs.contracts.impls.GlobalAllocator.TheImpl.{ghosts}
+use Rattle.psci_shared.specs.contracts.entry.FwEntry as Entry
+use Rattle.psci_shared.specs.contracts.book.FwBook.TheInside as Inside
+use Rattle.std.proofs.Crossing as heap
+use Rattle.psci_board.proofs.board.Board.TheSendSync as board
+use Rattle.psci_link.proofs.slots.Slots.TheSendSync as slots
+use Rattle.psci_fw_state.proofs.row.CoreRow.TheSendSync as row
+use Rattle.psci_tree.proofs.state.CoreState.TheSendSync as core
+use Rattle.psci_tree.proofs.kept.Kept.TheSendSync as kept
+use Rattle.psci_tree.proofs.domain.Domain.TheLaws.TheKnot as knot
+use Rattle.psci_tree.specs.contracts.tree.Tree as Tree
+use Rattle.psci_fw_state.specs.contracts.state.State as State
+use Rattle.psci_fw.specs.contracts.firmware.Firmware as Firmware
+use denote.RattleType.{RattleType}
+use Rattle.std.specs.declared.sync.ledger.Ledger as Ledger
+use Rattle.std.proofs.marker.PhantomData.TheSendSync as phantom
+use Rattle.std.proofs.sync.ledger.Book.TheSendSync as total
+use Rattle.std.proofs.sync.ledger.Share.TheSendSync as share
+use Rattle.psci_status.proofs.seats.Writer.TheSendSync as writer
+use Rattle.psci_status.proofs.seats.StatusWords.TheSendSync as words
+use Rattle.psci_shared.specs.declared.named.Named as Named
+use Rattle.psci_shared.specs.contracts.book.FwBook as Book
+use Rattle.psci_shared.specs.contracts.locked.FwLocked as Locked
+use Rattle.psci_shared.proofs.entry.FwEntry.TheSendSync as entry
+use Rattle.psci_shared.proofs.tickets.Tickets.TheSendSync as tickets
+
+tree : IsSend Tree.the_row
+tree =
+    search (
+      heap.crosses,
+      knot.crosses,
+      board.the_send,
+      core.the_send,
+      core.the_field_send,
+      kept.the_field_send,
+      sendable,
+    ) depth 60 fits 20000
+
+state : IsSend State.the_row
+state =
+    search (
+      heap.crosses,
+      tree,
+      board.the_send,
+      slots.the_send,
+      row.the_send,
+      sendable,
+    ) depth 60 fits 20000
+
+firmware : IsSend Firmware.the_row
+firmware = search (heap.crosses, state, sendable) depth 60 fits 20000
+
+module _ (N : RattleType) (named : Named.Ghosts N.Denot) (ledger : Ledger.Ghosts N.Denot) where
+  rows : IsSend (Vec.the_row Entry.the_row Heap.the_row ghosts)
+  rows = heap.Vec-send Entry.the_row entry.the_send
+
+  inside : IsSend (Inside.the_row N named ledger)
+  inside =
+      recorded_send (Inside.the_field N named ledger).row _ _
+      (Inside.the_type N named ledger).to_one
+      (struct_send (shape (Inside.the_type N named ledger))
+      (firmware, (rows, (plain_send _ _ _ _ _, (search (phantom.the_field_send, sendable), tt)))))
+
+  book : IsSend (Book.the_row N named ledger)
+  book = view_send _ _ _ _ _ inside
+
+  locked : IsSend (Locked.the_row N named ledger)
+  locked =
+      recorded_send (Locked.the_field N named ledger).row _ _
+      (Locked.the_type N named ledger).to_one
+      (struct_send (shape (Locked.the_type N named ledger)) (
+        book,
+        (
+          plain_send _ _ _ _ _,
+          (
+            writer.the_field_send,
+            (
+              plain_send _ _ _ _ _,
+              (total.the_send N ledger, (share.the_send N ledger, tt)),
+            ),
+          ),
+        ),
+      ))
+
+  pub shared : (a : NamedLft) → IsSync (Shared.the_row a N named ledger)
+  shared a =
+      recorded_sync (Shared.the_field a N named ledger).row _ _
+      (Shared.the_type a N named ledger).to_one
+      (struct_sync (shape (Shared.the_type a N named ledger)) (
+        search (heap.crosses, locked, sendable),
+        (
+          words.the_field_sync,
+          (
+            search (tickets.the_sync, sendable),
+            (
+              board.the_sync,
+              (search (heap.crosses, sendable), (plain_sync _ _ _ _ _, tt)),
+            ),
+          ),
+        ),
+      ))

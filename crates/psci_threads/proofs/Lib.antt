@@ -1,0 +1,3 @@
+pub mod CallRows
+pub mod Crossing
+pub mod Sendable

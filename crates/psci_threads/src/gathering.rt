@@ -1,0 +1,69 @@
+//! The trace of a run: both books, gathered with the passes of all threads.
+
+ghost use Rattle.std.specs.Prelude.{◌≡◌, IfOk};
+
+use crate::fault::Cut;
+use crate::platform::Returned;
+use psci_audit::Trace;
+use psci_shared::{FwEntry, Named, SharedFirmware};
+use psci_shared_ctl::{CtlEntry, SharedController};
+use std::alloc::{AllocError, Global};
+
+/// The trace of a run whose threads handed these back, or the first fault of a thread.
+pub(crate) fn gathered<N: Named, M: Named>(
+    alloc: Global,
+    firmware: SharedFirmware<'_, N>,
+    controller: SharedController<'_, M>,
+    returned: Vec<Returned<N, M>>,
+) -> Result<Trace, Cut> {
+    let mut passes = Vec::new(alloc);
+    let mut asked = Vec::new(alloc);
+    for thread in returned {
+        if let Some(fault) = thread.fault {
+            return Err(fault);
+        }
+        passes.push(thread.pass)?;
+        asked.push(thread.asked)?;
+    }
+    let Ok(books) = firmware.gather(passes) else {
+        return Err(Cut::Gather);
+    };
+    let Ok(others) = controller.gather(asked) else {
+        return Err(Cut::Gather);
+    };
+    Ok(Trace {
+        firmware: copied(alloc, books.book.entries())?,
+        controller: copied_controls(alloc, others.book.entries())?,
+    })
+}
+
+/// The entries of a firmware's book.
+fn copied(alloc: Global, entries: &[FwEntry]) -> Result<Vec<FwEntry>, AllocError>
+    ensures { IfOk result (λ copies. copies.items ≡ entries.now) }
+{
+    let mut copies = Vec::with_capacity(alloc, entries.len())?;
+    for entry in entries {
+        copies.push(FwEntry {
+            ticket: entry.ticket,
+            core: entry.core,
+            call: entry.call.copy(),
+            reply: entry.reply.copy(),
+        })?;
+    }
+    Ok(copies)
+}
+
+/// The entries of a power controller's book.
+fn copied_controls(alloc: Global, entries: &[CtlEntry]) -> Result<Vec<CtlEntry>, AllocError>
+    ensures { IfOk result (λ copies. copies.items ≡ entries.now) }
+{
+    let mut copies = Vec::with_capacity(alloc, entries.len())?;
+    for entry in entries {
+        copies.push(CtlEntry {
+            ticket: entry.ticket,
+            call: entry.call.copy(),
+            reply: entry.reply.copy(),
+        })?;
+    }
+    Ok(copies)
+}

@@ -1,0 +1,50 @@
+//! What all threads of a run share, and how each of them ends.
+
+ghost use Rattle.std.specs.Prelude.{◌≡◌};
+
+use crate::fault::Cut;
+use crate::gate::Gate;
+use crate::wire::Wire;
+use psci_shared::{Board, Named, Pass, SharedFirmware};
+use psci_shared_ctl::{CtlPass, SharedController};
+
+/// What all threads of a run share.
+#[derive(Drop)]
+pub(crate) struct Platform<'a, N: Named, M: Named, G: Gate> {
+    pub(crate) board: &'a Board,
+    pub(crate) firmware: &'a SharedFirmware<'a, N>,
+    pub(crate) controller: &'a SharedController<'a, M>,
+    pub(crate) wire: &'a Wire,
+    pub(crate) gate: &'a G,
+    /// How many calls each core makes at most.
+    pub(crate) count: u64,
+    ghost named: { board.now ≡ M.board },
+}
+
+/// Why a thread ends before its work is done.
+#[derive(Clone, Copy, Debug, PartialEq, Eq)]
+pub(crate) enum Ending {
+    /// A book is full, nothing more can come, or another thread has given up.
+    Early,
+    /// The gate said no.
+    Gate,
+    /// Memory ran out.
+    Memory,
+}
+
+/// What a thread hands back.
+#[derive(Drop)]
+pub(crate) struct Returned<N: Named, M: Named> {
+    pub(crate) pass: Pass<N>,
+    pub(crate) asked: CtlPass<M>,
+    pub(crate) fault: Option<Cut>,
+}
+
+/// The fault of a thread that ended so, if it is one.
+pub(crate) fn fault_of(ended: Result<(), Ending>) -> Option<Cut> {
+    match ended {
+        Ok(()) | Err(Ending::Early) => None,
+        Err(Ending::Gate) => Some(Cut::Gate),
+        Err(Ending::Memory) => Some(Cut::Memory),
+    }
+}

@@ -1,0 +1,70 @@
+//! Tests of core threads over a lossy link, and of what their audit refuses. They start threads, and
+//! end the same whatever the schedule.
+//!
+//! - A *meeting* is a gate that lets the second calls of cores 0 and 1 go on together alone.
+//! - A *server* is one core of a body that has no threads: it serves its cores one after another.
+#![tactic(auto)]
+
+#[cfg(test)]
+mod boards;
+#[cfg(test)]
+mod counted;
+#[cfg(test)]
+mod forged;
+#[cfg(test)]
+mod meeting;
+#[cfg(test)]
+mod serving;
+
+#[cfg(test)]
+mod tests {
+    use crate::boards::{BOARD, LARGE, ONE, TALL, is_audited, met, served};
+    use crate::counted::is_counted;
+    use crate::forged::{is_illegal_at, is_ticket_twice, judged};
+    use psci_threads::{AuditFault, BenchFault};
+    use std::test::*;
+
+    #[test]
+    fn seeds_are_audited(rt: HostRuntime) -> Result<(), Fail> {
+        for seed in 1..21u64 {
+            assert_eq!(rt; is_audited(&rt, rt.alloc(), BOARD, seed, 200), Ok(true));
+        }
+        Ok(())
+    }
+
+    #[test]
+    fn boards_are_audited(rt: HostRuntime) -> Result<(), Fail> {
+        assert_eq!(rt; is_audited(&rt, rt.alloc(), TALL, 1, 200), Ok(true));
+        assert_eq!(rt; is_audited(&rt, rt.alloc(), ONE, 1, 200), Ok(true));
+        assert_eq!(rt; is_audited(&rt, rt.alloc(), LARGE, 1, 50), Ok(true));
+        assert_eq!(rt; is_audited(&rt, rt.alloc(), BOARD, 1, 0), Ok(true));
+        assert_eq!(rt; is_counted(&rt, rt.alloc(), BOARD, 3, 200), Ok(true));
+        Ok(())
+    }
+
+    #[test]
+    fn cores_meet_in_threads_alone(rt: HostRuntime) -> Result<(), Fail> {
+        assert_eq!(rt; met(&rt, rt.alloc(), BOARD), Ok(true));
+        assert_eq!(rt; served(rt.alloc(), BOARD, [0, 1], 1), Err(BenchFault::Gate));
+        assert_eq!(rt; served(rt.alloc(), BOARD, [1, 0], 1), Err(BenchFault::Gate));
+        assert_eq!(rt; served(rt.alloc(), BOARD, [0, 1], 2), Err(BenchFault::Gate));
+        assert_eq!(rt; served(rt.alloc(), BOARD, [1, 0], 2), Err(BenchFault::Gate));
+        Ok(())
+    }
+
+    #[test]
+    fn forged_traces_are_refused(rt: HostRuntime) -> Result<(), Fail> {
+        assert_eq!(rt; is_ticket_twice(&rt, rt.alloc(), BOARD), Ok(true));
+        assert_eq!(rt; is_illegal_at(&rt, rt.alloc(), BOARD), Ok(true));
+        assert_eq!(rt; judged(rt.alloc(), BOARD, &[]), Ok(Ok(0)));
+        assert_eq!(rt;
+            judged(rt.alloc(), BOARD, &[1]),
+            Ok(Err(AuditFault::Illegal(0)))
+        );
+        assert_eq!(rt;
+            judged(rt.alloc(), BOARD, &[2, 1]),
+            Ok(Err(AuditFault::Ticket))
+        );
+        Ok(())
+    }
+}
