@@ -5,8 +5,8 @@ use Rattle.clap.specs.Words.{Row, Text, subcommand_name_of}
 use Rattle.clap.specs.Words.{subcommand_rows_of}
 use Rattle.clap.specs.declared.parser.matches.ArgMatches.{ArgMatches}
 use Rattle.psci_command.specs.Commands.{IsAsked, IsStormOf}
-use Rattle.psci_command.specs.declared.command_line.Request.TheVariants.{Storm}
-use Rattle.psci_command.specs.declared.command_line.StormRequest.{StormRequest}
+use Rattle.psci_command.specs.declared.requests.Request.TheVariants.{Storm}
+use Rattle.psci_command.specs.declared.requests.StormRequest.{StormRequest}
 
 -- one look at what was looked at
 fused : {A B C : Type 0} (f : B → C) (g : A → B) (o : Option A)

@@ -13,8 +13,8 @@ use Rattle.psci_command.proofs.CommandRows.{help_asked, nothing_asked, replay_as
 use Rattle.psci_command.proofs.Hearing.{no_help}
 use Rattle.psci_command.proofs.StormCommandRows.{board, count, count_first, other_board, seed}
 use Rattle.psci_command.proofs.StormCommandRows.{storm_with, with_counts, with_file}
-use Rattle.psci_command.specs.declared.command_line.Request.TheVariants.{Nothing, Storm}
-use Rattle.psci_command.specs.declared.command_line.Request.TheVariants.{Replay as ReplayScript}
+use Rattle.psci_command.specs.declared.requests.Request.TheVariants.{Nothing, Storm}
+use Rattle.psci_command.specs.declared.requests.Request.TheVariants.{Replay as ReplayScript}
 use Rattle.psci_command.specs.declared.exit.Failure.TheVariants.{CommandLine, Replay}
 use Rattle.psci_command.specs.declared.exit.Failure.TheVariants.{Board as GivenBoard}
 use Rattle.psci_command.specs.Heard.{HasFault, HasHelp, IsHeard}

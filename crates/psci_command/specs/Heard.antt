@@ -6,9 +6,9 @@ use Rattle.clap.specs.declared.error.kind.ErrorKind.{ErrorKind}
 use Rattle.psci_script.specs.declared.fault.ReplayFault.{ReplayFault}
 use Rattle.psci_script.specs.declared.fault.ReplayFault.TheVariants.{Script, Board, Read, Write}
 use Rattle.psci_script.specs.declared.fault.ReplayFault.TheVariants.{Memory}
-use Rattle.psci_command.specs.declared.command_line.Request.{Request}
-use Rattle.psci_command.specs.declared.command_line.Request.TheVariants.{Storm, Nothing}
-use Rattle.psci_command.specs.declared.command_line.Request.TheVariants.{Replay as ReplayScript}
+use Rattle.psci_command.specs.declared.requests.Request.{Request}
+use Rattle.psci_command.specs.declared.requests.Request.TheVariants.{Storm, Nothing}
+use Rattle.psci_command.specs.declared.requests.Request.TheVariants.{Replay as ReplayScript}
 use Rattle.psci_command.specs.declared.exit.Failure.{Failure}
 use Rattle.psci_command.specs.declared.exit.Failure.TheVariants.{CommandLine, Replay}
 use Rattle.psci_command.specs.declared.exit.Failure.TheVariants.{Board as GivenBoard}

@@ -25,6 +25,14 @@ abbrev pub number_rule : Text → ValueParser → Rule
 number_rule name parser =
     record (new_rule name) { long = Some name; required = true; parser = Some parser }
 
+-- `--seed N`: any number of 64 bits
+abbrev pub seed_rule : Rule
+seed_rule = number_rule (codes "seed") (Unsigned 0 18446744073709551615)
+
+-- `--count N`: at most 10,000
+abbrev pub count_rule : Rule
+count_rule = number_rule (codes "count") (Unsigned 0 10000)
+
 -- a flag of this name, without a value
 abbrev pub flag_rule : Text → Rule
 flag_rule name = record (new_rule name) { long = Some name; action = Some SetTrue }
@@ -33,12 +41,10 @@ flag_rule name = record (new_rule name) { long = Some name; action = Some SetTru
 abbrev pub text_rule : Text → Rule
 text_rule name = record (new_rule name) { long = Some name }
 
--- `storm [--board TEXT] --seed N --count N [--counts] [--keep FILE]`: any seed of 64 bits, and at
--- most 10,000 events
+-- `storm [--board TEXT] --seed N --count N [--counts] [--keep FILE]`
 abbrev pub storm_shape : Shape
 storm_shape = record (new_shape (codes "storm")) {
-  rules = board_rule ∷ number_rule (codes "seed") (Unsigned 0 18446744073709551615)
-      ∷ number_rule (codes "count") (Unsigned 0 10000) ∷ flag_rule (codes "counts")
+  rules = board_rule ∷ seed_rule ∷ count_rule ∷ flag_rule (codes "counts")
       ∷ text_rule (codes "keep") ∷ [];
 }
 

@@ -5,9 +5,12 @@
 #![tactic(auto)]
 
 mod command_line;
+mod commands;
 mod exit;
 mod plain;
+mod requests;
 
-pub use command_line::{Request, StormRequest, asked, words};
+pub use command_line::{asked, words};
 pub use exit::Failure;
+pub use requests::{Request, StormRequest};
 pub use psci_script::{Board, BoardFault, ReadBoard};

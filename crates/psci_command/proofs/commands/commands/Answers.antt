@@ -4,7 +4,7 @@ use Rattle.std.proofs.lemmas.Result.{IfOk-weaker}
 use Rattle.clap.specs.Words.{App, app_of, new_app, with_subcommand}
 use Rattle.clap.specs.Simple.{on_top}
 use Rattle.psci_command.proofs.Locals.{third_off}
-use Rattle.psci_command.proofs.command_line.commands.Goals as goal
+use Rattle.psci_command.proofs.commands.commands.Goals as goal
 
 pub returns : goal.returns
 returns c =
