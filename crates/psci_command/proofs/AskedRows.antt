@@ -6,10 +6,11 @@ use Rattle.clap.specs.Walk.{Row, Text}
 use Rattle.clap.specs.declared.error.kind.ErrorKind.TheVariants.{DisplayHelp, DisplayVersion}
 use Rattle.clap.specs.declared.error.kind.ErrorKind.TheVariants.{MissingSubcommand}
 use Rattle.psci_script.specs.declared.fault.ReplayFault.TheVariants.{Memory, Write}
-use Rattle.psci_command.specs.Commands.{IsAsked, IsStormOf, IsWordless}
+use Rattle.psci_command.specs.Commands.{IsAsked, IsStormOf, IsThreadsOf, IsWordless}
 use Rattle.psci_command.specs.Program.{AsksHelp, standard_board}
-use Rattle.psci_command.specs.declared.requests.Request.TheVariants.{Nothing, Replay, Storm}
+use Rattle.psci_command.specs.declared.requests.Request.TheVariants.{Nothing, Replay, Storm, Threads}
 use Rattle.psci_command.specs.declared.requests.StormRequest.{StormRequest}
+use Rattle.psci_command.specs.declared.requests.ThreadsRequest.{ThreadsRequest}
 use Rattle.psci_command.specs.declared.exit.Failure.TheVariants as failures
 use Rattle.psci_command.specs.declared.exit.Failure.TheVariants.{CommandLine}
 use Rattle.psci_command.proofs.StormCommandRows.{board_row, count_row, counts_row, no_counts}
@@ -115,6 +116,26 @@ without_seed h = let given = h.0.1 in cc
 none_without_count : IsStormOf (seed_row (codes "7") ∷ standard_row ∷ []) None
 none_without_count = inr (inr refl)
 
+-- The threads of some matches -------------------------------------------------------------------
+
+abbrev pub threads : ℕ → ℕ → ThreadsRequest
+threads seed count =
+    record { board = record { ref_ptr = (0, 0); now = standard_board }; seed = seed; count = count }
+
+pub threads_of_rows : IsThreadsOf rows (Some (threads 7 5))
+threads_of_rows = (refl, (spelled (codes "7") refl, refl), (spelled (codes "5") refl, refl))
+
+threads_of_other_count : IsThreadsOf rows (Some (threads 7 6)) → ⊥
+threads_of_other_count h = let same = h.2.1 in absurd (omega arith)
+
+threads_on_other_board : IsThreadsOf rows_of_board (Some (threads 7 5)) → ⊥
+threads_on_other_board h = let same = h.0 in cc
+
+no_threads_of_rows : IsThreadsOf rows None → ⊥
+no_threads_of_rows (inl no_board) = cc
+no_threads_of_rows (inr (inl no_seed)) = no_seed (spelled (codes "7") refl)
+no_threads_of_rows (inr (inr no_count)) = no_count (spelled (codes "5") refl)
+
 -- What a command line asks for --------------------------------------------------------------------
 
 -- the name of a command, and its rows
@@ -142,23 +163,40 @@ asked_for_storm_by_replay : IsAsked (Some (codes "replay", rows))
     (Some (Storm (request standard_board 7 5))) → ⊥
 asked_for_storm_by_replay h = let name = ap name_in h.1 in cc
 
+asked_for_threads : IsAsked (Some (codes "threads", rows)) (Some (Threads (threads 7 5)))
+asked_for_threads = (rows, refl, threads_of_rows)
+
+asked_for_storm_by_threads : IsAsked (Some (codes "threads", rows))
+    (Some (Storm (request standard_board 7 5))) → ⊥
+asked_for_storm_by_threads h = let name = ap name_in h.1 in cc
+
+asked_for_threads_by_storm : IsAsked (Some (codes "storm", rows)) (Some (Threads (threads 7 5))) → ⊥
+asked_for_threads_by_storm h = let name = ap name_in h.1 in cc
+
 asked_for_replay : IsAsked (Some (codes "replay", [])) (Some Replay)
-asked_for_replay e = cc
+asked_for_replay = (λ e. cc, λ e. cc)
 
 asked_for_replay_by_none : IsAsked None (Some Replay)
-asked_for_replay_by_none e = cc
+asked_for_replay_by_none = (λ e. cc, λ e. cc)
 
 asked_for_replay_by_storm : IsAsked (Some (codes "storm", rows)) (Some Replay) → ⊥
-asked_for_replay_by_storm h = h refl
+asked_for_replay_by_storm h = h.0 refl
+
+asked_for_replay_by_threads : IsAsked (Some (codes "threads", rows)) (Some Replay) → ⊥
+asked_for_replay_by_threads h = h.1 refl
 
 asked_for_nothing : IsAsked None (Some Nothing) → ⊥
 asked_for_nothing h = h
 
 asked_for_no_storm : IsAsked (Some (codes "storm", seed_row (codes "7") ∷ [])) None
-asked_for_no_storm = (seed_row (codes "7") ∷ [], refl, inl refl)
+asked_for_no_storm = inl (seed_row (codes "7") ∷ [], refl, inl refl)
+
+asked_for_no_threads : IsAsked (Some (codes "threads", seed_row (codes "7") ∷ [])) None
+asked_for_no_threads = inr (seed_row (codes "7") ∷ [], refl, inl refl)
 
 asked_for_no_storm_by_replay : IsAsked (Some (codes "replay", [])) None → ⊥
-asked_for_no_storm_by_replay h = let name = ap name_in h.1 in cc
+asked_for_no_storm_by_replay (inl h) = let name = ap name_in h.1 in cc
+asked_for_no_storm_by_replay (inr h) = let name = ap name_in h.1 in cc
 
 -- What is not obeyed ------------------------------------------------------------------------------
 

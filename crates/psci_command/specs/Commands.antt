@@ -3,10 +3,11 @@ use Rattle.std.specs.Prelude.{◌≡◌, ◌⊎◌, ℕ, codes, List, Option, So
 use Rattle.clap.specs.Walk.{Row, Text, first_of, one_of}
 use Rattle.psci_script.specs.declared.fault.ReplayFault.TheVariants as faults
 use Rattle.psci_command.specs.declared.requests.Request.{Request}
-use Rattle.psci_command.specs.declared.requests.Request.TheVariants.{Storm, Nothing}
+use Rattle.psci_command.specs.declared.requests.Request.TheVariants.{Storm, Threads, Nothing}
 use Rattle.psci_command.specs.declared.requests.Request.TheVariants.{Replay as ReplayScript}
 use Rattle.psci_command.specs.declared.requests.Draw.{Draw}
 use Rattle.psci_command.specs.declared.requests.StormRequest.{StormRequest}
+use Rattle.psci_command.specs.declared.requests.ThreadsRequest.{ThreadsRequest}
 use Rattle.psci_command.specs.declared.exit.Failure.{Failure}
 use Rattle.psci_command.specs.declared.exit.Failure.TheVariants.{CommandLine, Replay}
 use Rattle.psci_command.specs.Values.{IsFlagIn, IsNumberIn}
@@ -35,6 +36,11 @@ IsStormOf rows (Some storm) = HasDraw rows storm.board.now storm.seed storm.coun
     × (option_map (λ s. s.now) storm.keep ≡ first_of (codes "keep") rows)
 IsStormOf rows None = LacksDraw rows
 
+-- the same of the command `threads`
+abbrev pub IsThreadsOf : List Row → Option ThreadsRequest → Type 0
+IsThreadsOf rows (Some threads) = HasDraw rows threads.board.now threads.seed threads.count
+IsThreadsOf rows None = LacksDraw rows
+
 -- the command of this name was met, and its matches are such
 abbrev pub IsMet : Text → (List Row → Type 0) → Option (Text × List Row) → Type 0
 IsMet name AreSuch command = (rows : List Row) × (command ≡ Some (name, rows)) × AreSuch rows
@@ -43,13 +49,17 @@ IsMet name AreSuch command = (rows : List Row) × (command ≡ Some (name, rows)
 abbrev pub IsUnmet : Text → Option (Text × List Row) → Type 0
 IsUnmet name command = ¬ (option_map (λ p. p.0) command ≡ Some name)
 
--- the request of a command and its matches: a storm, and of any other command a replay
+-- the request of a command and its matches: a storm, threads, and of any other command a replay
 abbrev pub IsAsked : Option (Text × List Row) → Option Request → Type 0
 IsAsked command (Some (Storm storm)) =
     IsMet (codes "storm") (λ rows. IsStormOf rows (Some storm)) command
-IsAsked command (Some ReplayScript) = IsUnmet (codes "storm") command
+IsAsked command (Some (Threads threads)) =
+    IsMet (codes "threads") (λ rows. IsThreadsOf rows (Some threads)) command
+IsAsked command (Some ReplayScript) =
+    IsUnmet (codes "storm") command × IsUnmet (codes "threads") command
 IsAsked command (Some Nothing) = ⊥
 IsAsked command None = IsMet (codes "storm") (λ rows. IsStormOf rows None) command
+    ⊎ IsMet (codes "threads") (λ rows. IsThreadsOf rows None) command
 
 -- the words could not be read: memory ran out, or they are no text
 abbrev pub IsWordless : Failure → Type 0

@@ -1,4 +1,4 @@
--- The command line: the program has two commands, of which one must be given.
+-- The command line: the program has commands, of which one must be given.
 use Rattle.std.specs.Prelude.{◌≡◌, ◌⊎◌, true, codes, List, ℕ, [], ◌∷◌, Some}
 use Rattle.clap.specs.Simple.{App, Shape, new_app, new_rule, new_shape, on_top, with_subcommand}
 use Rattle.clap.specs.Walk.{Rule, Text}
@@ -8,7 +8,7 @@ use Rattle.clap.specs.declared.builder.value_parser.ValueParser.TheVariants.{Uns
 use Rattle.clap.specs.declared.error.kind.ErrorKind.{ErrorKind}
 use Rattle.clap.specs.declared.error.kind.ErrorKind.TheVariants.{DisplayHelp, DisplayVersion}
 
--- the board of a storm, where none is given
+-- the board of a storm or of threads, where none is given
 abbrev pub standard_board : List ℕ
 standard_board =
     codes "(2 2) exec 0x40000000-0x40100000 boot 0x40000000 starts 1000 lives 3"
@@ -48,12 +48,23 @@ storm_shape = record (new_shape (codes "storm")) {
       ∷ text_rule (codes "keep") ∷ [];
 }
 
--- `psci_cli replay` and `psci_cli storm`; the program itself, and no command of it, has a version
+-- `threads [--board TEXT] --seed N --count N`
+abbrev pub threads_shape : Shape
+threads_shape = record (new_shape (codes "threads")) {
+  rules = board_rule ∷ seed_rule ∷ count_rule ∷ [];
+}
+
+-- the program without a command; it has a version, and no command of it has one
+abbrev pub bare_program : App
+bare_program = on_top (λ s. record s { subcommand_required = true; has_version = true })
+    (new_app (codes "psci_cli"))
+
+-- the program with its commands
 abbrev pub program : App
-program = with_subcommand (with_subcommand
-    (on_top (λ s. record s { subcommand_required = true; has_version = true })
-    (new_app (codes "psci_cli")))
-    (new_shape (codes "replay"))) storm_shape
+program = with_subcommand (with_subcommand (with_subcommand bare_program
+    (new_shape (codes "replay")))
+    storm_shape)
+    threads_shape
 
 -- what the parser's error asks for, and is no fault: help, or the version
 abbrev pub AsksHelp : ErrorKind → Type 0

@@ -7,10 +7,13 @@
 mod command_line;
 mod commands;
 mod exit;
+mod options;
 mod plain;
 mod requests;
+mod storm_command;
+mod threads_command;
 
 pub use command_line::{asked, words};
-pub use exit::Failure;
-pub use requests::{Request, StormRequest};
+pub use exit::{AuditFailure, Failure};
+pub use requests::{Request, StormRequest, ThreadsRequest};
 pub use psci_script::{Board, BoardFault, ReadBoard};

@@ -1,7 +1,7 @@
 //! What a command asks for, by the matches that the parser has found for it.
 
 ghost use Rattle.clap.specs.Words.{found_of, rows_of, subcommand_rows_of};
-ghost use Rattle.psci_command.specs.Commands.{IsAsked, IsDrawOf, IsStormOf};
+ghost use Rattle.psci_command.specs.Commands.{IsAsked, IsDrawOf, IsStormOf, IsThreadsOf};
 
 use clap::ArgMatches;
 
@@ -20,6 +20,17 @@ pub struct StormRequest<'a> {
     pub keep: Option<&'a str>,
 }
 
+/// Threads, as the command line asks for them.
+#[derive(Clone, Copy, Debug, PartialEq, Eq)]
+pub struct ThreadsRequest<'a> {
+    /// The text of the board.
+    pub board: &'a str,
+    /// The seed.
+    pub seed: u64,
+    /// How many calls each core makes, at most 10,000.
+    pub count: u64,
+}
+
 /// What the command line asks for.
 #[derive(Clone, Copy, Debug, PartialEq, Eq)]
 pub enum Request<'a> {
@@ -27,6 +38,8 @@ pub enum Request<'a> {
     Replay,
     /// Make a storm.
     Storm(StormRequest<'a>),
+    /// Start threads, and audit what they did.
+    Threads(ThreadsRequest<'a>),
     /// Nothing more: help, or the version, was shown.
     Nothing,
 }
@@ -49,6 +62,7 @@ pub fn request_of<'a>(matches: &ArgMatches<'a>) -> Option<Request<'a>>
     };
     match name {
         "storm" => storm_in(matches).map(Request::Storm),
+        "threads" => threads_in(matches).map(Request::Threads),
         _ => Some(Request::Replay),
     }
 }
@@ -76,4 +90,12 @@ fn storm_in<'a>(matches: &ArgMatches<'a>) -> Option<StormRequest<'a>>
         counts: matches.get_one("counts").unwrap_or(false),
         keep: matches.get_str("keep"),
     })
+}
+
+/// The threads that these matches of their command ask for, or none where a number is missing.
+fn threads_in<'a>(matches: &ArgMatches<'a>) -> Option<ThreadsRequest<'a>>
+    ensures { IsThreadsOf (rows_of (found_of matches.now)) result }
+{
+    let Draw { board, seed, count } = draw_in(matches)?;
+    Some(ThreadsRequest { board, seed, count })
 }

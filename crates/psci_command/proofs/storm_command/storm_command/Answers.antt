@@ -3,7 +3,7 @@ use Rattle.std.proofs.Common.{◌≡◌, ◌∙◌, ap, ap₂, rules, codes}
 use Rattle.std.proofs.lemmas.Result.{IfOk-weaker}
 use Rattle.clap.specs.Words.{App, app_of, new_app, with_rule}
 use Rattle.psci_command.specs.Program.{board_rule, count_rule, seed_rule}
-use Rattle.psci_command.proofs.commands.storm_command.Goals as goal
+use Rattle.psci_command.proofs.storm_command.storm_command.Goals as goal
 
 pub returns : goal.returns
 returns c =

@@ -4,7 +4,7 @@ use Rattle.std.proofs.lemmas.Result.{IfOk-weaker}
 use Rattle.clap.specs.Words.{with_rule}
 use Rattle.clap.specs.declared.builder.value_parser.ValueParser.TheVariants.{Unsigned}
 use Rattle.psci_command.specs.Program.{number_rule}
-use Rattle.psci_command.proofs.commands.drawn.Goals as goal
+use Rattle.psci_command.proofs.options.drawn.Goals as goal
 
 pub returns : goal.returns
 returns c =
