@@ -174,16 +174,19 @@ asked_for_threads_by_storm : IsAsked (Some (codes "storm", rows)) (Some (Threads
 asked_for_threads_by_storm h = let name = ap name_in h.1 in cc
 
 asked_for_replay : IsAsked (Some (codes "replay", [])) (Some Replay)
-asked_for_replay = (λ e. cc, λ e. cc)
+asked_for_replay = (λ e. cc, λ e. cc, λ e. cc)
 
 asked_for_replay_by_none : IsAsked None (Some Replay)
-asked_for_replay_by_none = (λ e. cc, λ e. cc)
+asked_for_replay_by_none = (λ e. cc, λ e. cc, λ e. cc)
 
 asked_for_replay_by_storm : IsAsked (Some (codes "storm", rows)) (Some Replay) → ⊥
 asked_for_replay_by_storm h = h.0 refl
 
 asked_for_replay_by_threads : IsAsked (Some (codes "threads", rows)) (Some Replay) → ⊥
 asked_for_replay_by_threads h = h.1 refl
+
+asked_for_replay_by_show : IsAsked (Some (codes "show", rows)) (Some Replay) → ⊥
+asked_for_replay_by_show h = h.2 refl
 
 asked_for_nothing : IsAsked None (Some Nothing) → ⊥
 asked_for_nothing h = h
@@ -192,11 +195,15 @@ asked_for_no_storm : IsAsked (Some (codes "storm", seed_row (codes "7") ∷ []))
 asked_for_no_storm = inl (seed_row (codes "7") ∷ [], refl, inl refl)
 
 asked_for_no_threads : IsAsked (Some (codes "threads", seed_row (codes "7") ∷ [])) None
-asked_for_no_threads = inr (seed_row (codes "7") ∷ [], refl, inl refl)
+asked_for_no_threads = inr (inl (seed_row (codes "7") ∷ [], refl, inl refl))
+
+asked_for_no_show : IsAsked (Some (codes "show", [])) None
+asked_for_no_show = inr (inr ([], refl, λ color e. cc))
 
 asked_for_no_storm_by_replay : IsAsked (Some (codes "replay", [])) None → ⊥
 asked_for_no_storm_by_replay (inl h) = let name = ap name_in h.1 in cc
-asked_for_no_storm_by_replay (inr h) = let name = ap name_in h.1 in cc
+asked_for_no_storm_by_replay (inr (inl h)) = let name = ap name_in h.1 in cc
+asked_for_no_storm_by_replay (inr (inr h)) = let name = ap name_in h.1 in cc
 
 -- What is not obeyed ------------------------------------------------------------------------------
 

@@ -4,6 +4,7 @@ ghost use Rattle.std.specs.Prelude.{◌≡◌, codes, IfOk};
 ghost use Rattle.clap.specs.Words.{app_of, new_app};
 ghost use Rattle.psci_command.specs.Program.{program};
 
+use crate::show_command::show_command;
 use crate::storm_command::storm_command;
 use crate::threads_command::threads_command;
 use clap::Command;
@@ -13,7 +14,7 @@ use std::alloc::{AllocError, Global};
 const VERSION: &str = "0.1.0";
 
 const ABOUT: &str =
-    "Replays scripts of PSCI calls against the power firmware, makes storms of them, or threads.";
+    "Replays or shows scripts of PSCI calls to the power firmware, makes storms of them, or threads.";
 
 const ABOUT_REPLAY: &str =
     "Takes a script from standard input. Each event of it is answered by a line on standard output.
@@ -43,9 +44,9 @@ fn replay_command<'a>(alloc: Global) -> Command<'a>
         .after_help(EXAMPLE)
 }
 
-/// The commands of the program.
-pub fn commands<'a>(alloc: Global) -> Result<Command<'a>, AllocError>
-    ensures { IfOk result (λ command. app_of command ≡ program) }
+/// The commands of the program, with these words for colors.
+pub fn commands<'a>(alloc: Global, colors: &'a [&'a str]) -> Result<Command<'a>, AllocError>
+    ensures { IfOk result (λ command. app_of command ≡ program colors.entry) }
 {
     Command::new(alloc, "psci_cli")
         .version(VERSION)
@@ -54,5 +55,6 @@ pub fn commands<'a>(alloc: Global) -> Result<Command<'a>, AllocError>
         .subcommand_required(true)
         .subcommand(replay_command(alloc))?
         .subcommand(storm_command(alloc)?)?
-        .subcommand(threads_command(alloc)?)
+        .subcommand(threads_command(alloc)?)?
+        .subcommand(show_command(alloc, colors)?)
 }

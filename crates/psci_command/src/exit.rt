@@ -22,7 +22,7 @@ pub enum Failure {
     Replay(ReplayFault),
     /// The gate was shut at a call of a core's thread.
     Gate,
-    /// What a thread did is in neither book, or not as the thread saw it.
+    /// What the threads took down of their calls does not agree with the books.
     Gather,
     /// The audit of what threads did has found this.
     Audit(AuditFailure),

@@ -1,5 +1,5 @@
 -- A storm has what its matches have.
-use Rattle.std.proofs.Common.{◌∙◌, List, ℕ, Option, None, Some, sym, subst}
+use Rattle.std.proofs.Common.{◌∙◌, List, ℕ, Option, sym, subst}
 use Rattle.std.specs.Prelude.{codes}
 use Rattle.std.specs.Str.Parse.{ParsesBool}
 use Rattle.clap.proofs.WalkLemmas.{first_value-rows, one_text-rows}
