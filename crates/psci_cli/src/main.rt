@@ -1,7 +1,9 @@
-//! The program: scripts of PSCI calls, replayed from standard input to standard output, and storms.
+//! The program: scripts of PSCI calls, replayed from standard input to standard output, storms, and
+//! threads.
 #![tactic(auto)]
 
 mod storm_line;
+mod threads_line;
 
 ghost use Rattle.std.specs.Prelude.{IfErr};
 ghost use Rattle.psci_command.specs.psci_board_text.Verdict.{board_of};
@@ -16,6 +18,7 @@ use std::fs::File;
 use std::io::{self, BufWriter, Write};
 use std::process::ExitCode;
 use storm_line::write_storm;
+use threads_line::run_threads;
 
 /// Replays the script on standard input in a world of its own.
 fn replay_standard(rt: &HostRuntime) -> Result<(), Failure>
@@ -82,6 +85,7 @@ fn run(rt: &HostRuntime) -> Result<(), Failure> {
     let words = words(rt)?;
     match asked(rt, words.as_slice())? {
         Request::Storm(request) => storm_standard(rt, request),
+        Request::Threads(request) => run_threads(rt, rt.alloc(), &mut rt.stdout(), request),
         Request::Replay => replay_standard(rt),
         Request::Nothing => Ok(()),
     }
