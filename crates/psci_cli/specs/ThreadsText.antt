@@ -1,10 +1,9 @@
 -- The line of threads.
 use Rattle.std.specs.Prelude.{ℕ, List, ◌++◌, codes}
 use Rattle.std.specs.Fmt.{decimal}
-use Rattle.psci_threads.specs.declared.running.Threaded.{Threaded}
 
 -- how many entries each book has, and how many were audited, before the line feed
-abbrev pub threads_text : Threaded → List ℕ
-threads_text threaded =
-    codes "threads firmware " ++ (decimal threaded.firmware ++ (codes " controller "
-    ++ (decimal threaded.controller ++ (codes " audited " ++ decimal threaded.audited))))
+abbrev pub threads_text : ℕ → ℕ → ℕ → List ℕ
+threads_text firmware controller audited =
+    codes "threads firmware " ++ (decimal firmware ++ (codes " controller "
+    ++ (decimal controller ++ (codes " audited " ++ decimal audited))))

@@ -1,7 +1,8 @@
-//! The program: scripts of PSCI calls, replayed from standard input to standard output, storms, and
-//! threads.
+//! The program: scripts of PSCI calls, replayed or shown from standard input to standard output,
+//! storms, and threads.
 #![tactic(auto)]
 
+mod shown;
 mod storm_line;
 mod threads_line;
 
@@ -13,10 +14,13 @@ use psci_bench::{ReplayFault, Std, replay};
 use psci_command::{Board, Failure, ReadBoard, Request, StormRequest, asked, words};
 use psci_keep::write_script;
 use psci_storm::{StormedWorld, storm_world};
+use shown::show_standard;
 use std::alloc::Global;
 use std::fs::File;
 use std::io::{self, BufWriter, Write};
 use std::process::ExitCode;
+use std::sync::Wait;
+use std::thread::Threads;
 use storm_line::write_storm;
 use threads_line::run_threads;
 
@@ -80,19 +84,20 @@ fn storm_standard(rt: &HostRuntime, request: StormRequest) -> Result<(), Failure
     }
 }
 
-/// Does what the command line asks for.
-fn run(rt: &HostRuntime) -> Result<(), Failure> {
+/// Does what the command line asks for. The runtime has threads in `main` alone, which hands them on.
+fn run<R: Threads + Wait + Sync>(rt: &HostRuntime, threads: &R) -> Result<(), Failure> {
     let words = words(rt)?;
     match asked(rt, words.as_slice())? {
         Request::Storm(request) => storm_standard(rt, request),
-        Request::Threads(request) => run_threads(rt, rt.alloc(), &mut rt.stdout(), request),
+        Request::Threads(request) => run_threads(threads, rt.alloc(), &mut rt.stdout(), request),
+        Request::Show(request) => show_standard(rt, request),
         Request::Replay => replay_standard(rt),
         Request::Nothing => Ok(()),
     }
 }
 
 fn main(rt: HostRuntime) -> ExitCode {
-    match run(&rt) {
+    match run(&rt, &rt) {
         Ok(()) => ExitCode::SUCCESS,
         Err(failure) => {
             failure.tell(&rt);

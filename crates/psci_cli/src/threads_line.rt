@@ -10,6 +10,7 @@ use psci_bench::ReplayFault;
 use psci_command::{AuditFailure, Board, Failure, ReadBoard, ThreadsRequest};
 use psci_threads::{AuditFault, BenchFault, OpenGate, Threaded, threads};
 use std::alloc::Global;
+use std::fmt;
 use std::io::{self, Write};
 use std::sync::Wait;
 use std::thread::Threads;
@@ -70,10 +71,40 @@ fn failure_at(fault: BenchFault) -> Failure
 /// Writes the line of threads.
 fn write_threads<W: Write>(to: &mut W, threaded: &Threaded) -> io::Result<()>
     ensures { OnOk result (Appends (W.contents to.old) (W.contents to.new)
-        (threads_text threaded.now ++ 10 ∷ [])) }
+        (threads_text threaded.now.firmware threaded.now.controller threaded.now.audited
+        ++ 10 ∷ [])) }
 {
-    let firmware = threaded.firmware;
-    let controller = threaded.controller;
-    let audited = threaded.audited;
-    writeln!(to, "threads firmware {firmware} controller {controller} audited {audited}")
+    let line = ThreadsLine {
+        firmware: threaded.firmware,
+        controller: threaded.controller,
+        audited: threaded.audited,
+    };
+    writeln!(to, "{line}")
+}
+
+/// The numbers of the line of threads.
+#[derive(Clone, Copy)]
+struct ThreadsLine {
+    firmware: u64,
+    controller: u64,
+    audited: u64,
+}
+
+impl fmt::Display for ThreadsLine {
+    ghost use Rattle.std.specs.Prelude.{Some};
+    ghost use Rattle.psci_cli.specs.ThreadsText.{threads_text};
+
+    ghost output = { λ line. Some (threads_text line.firmware line.controller line.audited) };
+
+    fn fmt<W: fmt::Write>(&self, f: &mut fmt::Formatter<W>) -> fmt::Result {
+        let ThreadsLine {
+            firmware,
+            controller,
+            audited,
+        } = *self;
+        write!(
+            f,
+            "threads firmware {firmware} controller {controller} audited {audited}"
+        )
+    }
 }

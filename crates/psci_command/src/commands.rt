@@ -14,7 +14,8 @@ use std::alloc::{AllocError, Global};
 const VERSION: &str = "0.1.0";
 
 const ABOUT: &str =
-    "Replays or shows scripts of PSCI calls to the power firmware, makes storms of them, or threads.";
+    "Replays or shows scripts of PSCI calls to the power firmware, makes storms of random events, or
+starts threads and audits what they did.";
 
 const ABOUT_REPLAY: &str =
     "Takes a script from standard input. Each event of it is answered by a line on standard output.

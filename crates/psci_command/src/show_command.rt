@@ -21,12 +21,10 @@ const JSON_HELP: &str = "Write an object for the board, and then one for each ev
 const LEGEND_HELP: &str = "Say first what letters and marks mean";
 
 const WIDTH_HELP: &str =
-    "How wide lines are, 0 to 65535, of which less than 40 counts as 40; without it 80, or with
-          ./psci on a terminal as wide as that";
+    "How wide lines are, 0 to 65535 (under 40 as 40); else 80, or by ./psci as the terminal is";
 
 const COLOR_HELP: &str =
-    "When letters are colored; auto is never, or with ./psci on a terminal, where NO_COLOR is not set,
-          always";
+    "When letters are colored; auto is never, or by ./psci on a terminal without NO_COLOR always";
 
 /// The words that `--color` takes.
 pub fn colors<'a>() -> &'a [&'a str]
