@@ -57,11 +57,11 @@ faulty_is_not_run (inl h) = let write = h.1 in cc
 faulty_is_not_run (inr h) = let said = h.started.is_said in cc
 
 -- 64 cores are not too many, and 65 are
-board_in : Result BoardValue BoardFault → BoardValue → BoardValue
+abbrev board_in : Result BoardValue BoardFault → BoardValue → BoardValue
 board_in (Ok b) other = b
 board_in (Err fault) other = other
 
-says : BoardValue → Result BoardValue BoardFault
+abbrev says : BoardValue → Result BoardValue BoardFault
 says b = Ok b
 
 said_once : (b c : BoardValue) → says b ≡ says c → cores b ≡ cores c
