@@ -84,7 +84,8 @@ fn storm_standard(rt: &HostRuntime, request: StormRequest) -> Result<(), Failure
     }
 }
 
-/// Does what the command line asks for. The runtime has threads in `main` alone, which hands them on.
+/// Does what the command line asks for. The runtime has threads in `main` alone, which hands them
+/// on.
 fn run<R: Threads + Wait + Sync>(rt: &HostRuntime, threads: &R) -> Result<(), Failure> {
     let words = words(rt)?;
     match asked(rt, words.as_slice())? {

@@ -23,8 +23,8 @@ pub fn show_standard(rt: &HostRuntime, request: ShowRequest) -> Result<(), Failu
     }
 }
 
-/// The form that is asked for. Whether standard output is a terminal is not known here, so colors are
-/// asked for by name.
+/// The form that is asked for. Whether standard output is a terminal is not known here, so colors
+/// are asked for by name.
 fn form(request: ShowRequest) -> Form
     ensures { result ≡ form_of request }
 {

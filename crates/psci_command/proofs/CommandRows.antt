@@ -15,7 +15,8 @@ unfolding flags_fault walk_fault walked defaults_fault
 replay_asked colors = refl
 
 pub replay_met : (colors : Words) → option_map (λ p. p.0)
-    (subcommand_of (program colors) (codes "psci_cli" ∷ codes "replay" ∷ [])) ≡ Some (codes "replay")
+    (subcommand_of (program colors) (codes "psci_cli" ∷ codes "replay" ∷ []))
+    ≡ Some (codes "replay")
 unfolding flags_fault walk_fault walked defaults_fault
 replay_met colors = refl
 

@@ -49,13 +49,15 @@ said : (k : ErrorKind) (all : Kinds) → (k ≡ kinds.OutOfMemory) ⊎ IsAmong k
 said k all (inl e) differs = absurd (differs e)
 said k all (inr among) differs = among
 
-helps : (app : App) (words : List Text) (result : Result Request Failure) → HasHelp (fault_of app words)
+helps : (app : App) (words : List Text) (result : Result Request Failure)
+    → HasHelp (fault_of app words)
     → (result ≡ Ok Nothing) ⊎ (result ≡ Err (Replay Write)) → IsHeardBy app words result
 helps app words result has (inl e) = subst (IsHeardBy app words) (sym e) has
 helps app words result has (inr e) = subst (IsHeardBy app words) (sym e) has
 
 -- what the parser says
-shown_by : (app : App) (words : List Text) (k : ErrorKind) (result : Result Request Failure) → Sort k
+shown_by : (app : App) (words : List Text) (k : ErrorKind) (result : Result Request Failure)
+    → Sort k
     → (k ≡ kinds.OutOfMemory) ⊎ IsAmong k (fault_of app words)
     → (k ≡ kinds.OutOfMemory → result ≡ Err (Replay Memory))
     → (AsksHelp k → (result ≡ Ok Nothing) ⊎ (result ≡ Err (Replay Write)))

@@ -107,8 +107,8 @@ colored_asked = (λ e. cc, λ e. cc, (short_spelled (codes "120") refl, refl), r
 
 -- the widest, and no color
 widest : IsTaken (codes "--color=never" ∷ codes "--width=65535" ∷ [])
-    (row (codes "color") CommandLine (codes "never") ∷ row (codes "width") CommandLine (codes "65535")
-    ∷ no_json ∷ no_legend ∷ [])
+    (row (codes "color") CommandLine (codes "never")
+    ∷ row (codes "width") CommandLine (codes "65535") ∷ no_json ∷ no_legend ∷ [])
 unfolding clap_on_literals
 widest = record { fault = λ a b c d. refl; met = λ a b c d. refl }
 

@@ -65,7 +65,8 @@ keep_row = row (codes "keep") CommandLine
 -- a storm with these words is taken, and this is found in them
 pub record IsTaken (words : List Text) (rows : List Row) : Type 0 where
   pub fault : (colors : Words) → fault_of (program colors) (storm_with words) ≡ []
-  pub met : (colors : Words) → subcommand_of (program colors) (storm_with words) ≡ Some (codes "storm", rows)
+  pub met : (colors : Words)
+      → subcommand_of (program colors) (storm_with words) ≡ Some (codes "storm", rows)
 
 -- a storm with these words is refused
 abbrev IsRefused : List Text → ErrorKind → Type 0

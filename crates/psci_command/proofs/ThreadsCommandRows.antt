@@ -1,4 +1,4 @@
--- What known command lines of `threads` are answered: its options are those of a storm that both have.
+-- What known command lines of `threads` are answered: its options are some of those of a storm.
 use Rattle.std.proofs.Common.{◌≡◌, List, [], ◌∷◌, Some, refl}
 use Rattle.std.specs.Prelude.{codes}
 use Rattle.clap.proofs.OnLiterals.{clap_on_literals}
@@ -21,7 +21,8 @@ threads_with words = codes "psci_cli" ∷ codes "threads" ∷ words
 -- threads with these words are taken, and this is found in them
 pub record IsTaken (words : List Text) (rows : List Row) : Type 0 where
   pub fault : (colors : Words) → fault_of (program colors) (threads_with words) ≡ []
-  pub met : (colors : Words) → subcommand_of (program colors) (threads_with words) ≡ Some (codes "threads", rows)
+  pub met : (colors : Words)
+      → subcommand_of (program colors) (threads_with words) ≡ Some (codes "threads", rows)
 
 -- threads with these words are refused
 abbrev IsRefused : List Text → ErrorKind → Type 0
@@ -38,8 +39,10 @@ pub plain_asked : IsThreadsOf plain_rows (Some (threads 7 5))
 plain_asked = (refl, (spelled (codes "7") refl, refl), (spelled (codes "5") refl, refl))
 
 -- the largest numbers, on another board
-largest : IsTaken (board (codes "4") (seed (codes "18446744073709551615") (count (codes "10000") [])))
-    (board_row (codes "4") ∷ seed_row (codes "18446744073709551615") ∷ count_row (codes "10000") ∷ [])
+largest : IsTaken
+    (board (codes "4") (seed (codes "18446744073709551615") (count (codes "10000") [])))
+    (board_row (codes "4") ∷ seed_row (codes "18446744073709551615") ∷ count_row (codes "10000")
+    ∷ [])
 unfolding clap_on_literals
 largest = record { fault = λ colors. refl; met = λ colors. refl }
 
@@ -62,7 +65,8 @@ no_count : IsRefused (seed (codes "0") []) MissingRequiredArgument
 unfolding clap_on_literals
 no_count colors = refl
 
-two_counts : IsRefused (seed (codes "0") (count (codes "0") (count (codes "0") []))) ArgumentConflict
+two_counts : IsRefused (seed (codes "0") (count (codes "0") (count (codes "0") [])))
+    ArgumentConflict
 unfolding clap_on_literals
 two_counts colors = refl
 

@@ -10,7 +10,8 @@ use Rattle.psci_command.specs.Values.{IsFlagIn, IsNumberIn, SpellsNumber}
 -- Texts that spell a number -----------------------------------------------------------------------
 
 -- a text spells a number where the parser's own test of 64 bits takes it
-pub spelled : (t : Text) → accepts true (Unsigned 0 18446744073709551615) t ≡ true → SpellsNumber 64 t
+pub spelled : (t : Text)
+    → accepts true (Unsigned 0 18446744073709551615) t ≡ true → SpellsNumber 64 t
 spelled t e =
     let taken = accepts-Accepts true (Unsigned 0 18446744073709551615) t e in (taken.0, taken.1)
 

@@ -41,8 +41,9 @@ IsMute app words Read = ⊥
 IsMute app words Write = HasHelp (fault_of app words)
 IsMute app words Memory = ⊤
 
--- What these words come to in a program: what they ask for; nothing more where they ask for help; a fault of the
--- command line where the parser finds one, or a part is missing that it has made sure of.
+-- What these words come to in a program: what they ask for; nothing more where they ask for help; a
+-- fault of the command line where the parser finds one, or a part is missing that it has made sure
+-- of.
 abbrev pub IsHeardBy : App → List Text → Result Request Failure → Type 0
 IsHeardBy app words (Ok (Storm storm)) = Asks app words (Storm storm)
 IsHeardBy app words (Ok (Threads threads)) = Asks app words (Threads threads)

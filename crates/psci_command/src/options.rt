@@ -21,8 +21,8 @@ pub fn drawn<'a>(
     seed_help: &'a str,
     count_help: &'a str,
 ) -> Result<Command<'a>, AllocError>
-    ensures { IfOk result (λ drawn. app_of drawn
-        ≡ with_rule (with_rule (with_rule (app_of command.entry) board_rule) seed_rule) count_rule) }
+    ensures { IfOk result (λ drawn. app_of drawn ≡ with_rule (with_rule
+        (with_rule (app_of command.entry) board_rule) seed_rule) count_rule) }
 {
     command
         .arg(board(alloc))?

@@ -9,11 +9,11 @@ use clap::Command;
 use std::alloc::{AllocError, Global};
 
 const ABOUT_THREADS: &str =
-    "Starts a thread for each core of a board of at most 64 cores, and one for the link between firmware
-and power controller, which loses, repeats and reorders messages. Then an audit holds what the books
-of firmware and power controller say against the rules: it has to be one legal run. Standard output
-has one line: `threads firmware F controller C audited A` (F entries in the firmware's book, C in the
-power controller's, A in the audited run). The numbers depend on how the threads come to run.";
+    "Starts a thread for each core of a board of at most 64 cores, and one for the link, which loses,
+repeats and reorders messages. Then an audit holds what the books of firmware and power controller
+say against the rules: it has to be one legal run. Standard output has one line: `threads firmware F
+controller C audited A` (F entries in the firmware's book, C in the power controller's, A in the
+audited run). The numbers depend on how the threads come to run.";
 
 const SEED_HELP: &str = "What calls and losses are drawn from, 0 to 18446744073709551615; two runs \
                          of one seed may differ";

@@ -8,6 +8,7 @@ use Rattle.psci_command.proofs.command_line.asked_with.Goals as goal
 pub returns-in-Err : goal.returns-in-Err
 returns-in-Err g c =
     record {
-      heard = heard_shown (program c.args.colors) (map string_bytes c.args.words.now) c.in-Err.error.kind c.shown.result
+      heard = heard_shown (program c.args.colors) (map string_bytes c.args.words.now)
+          c.in-Err.error.kind c.shown.result
           c.in-Err.ensures.fault c.shown.ensures.memory c.shown.ensures.help c.shown.ensures.fault;
     }
