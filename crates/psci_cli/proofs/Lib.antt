@@ -1,5 +1,4 @@
 mod EndRows
 mod OutputRows
-mod ShownRows
 mod StormRows
 mod ThreadsRows

@@ -1,5 +1,4 @@
 pub mod Ends
-pub mod Shown
 pub mod StormText
 pub mod Threading
 pub mod ThreadsText

@@ -7,56 +7,49 @@ use Rattle.clap.specs.Words.{subcommand_of}
 use Rattle.clap.specs.declared.error.kind.ErrorKind.TheVariants.{DisplayHelp, DisplayVersion}
 use Rattle.clap.specs.declared.error.kind.ErrorKind.TheVariants.{InvalidSubcommand}
 use Rattle.clap.specs.declared.error.kind.ErrorKind.TheVariants.{MissingSubcommand, UnknownArgument}
-use Rattle.psci_command.specs.Program.{Words, program}
+use Rattle.psci_command.specs.Program.{program}
 
-pub replay_asked : (colors : Words) → fault_of (program colors)
-    (codes "psci_cli" ∷ codes "replay" ∷ []) ≡ []
+pub replay_asked : fault_of program (codes "psci_cli" ∷ codes "replay" ∷ []) ≡ []
 unfolding flags_fault walk_fault walked defaults_fault
-replay_asked colors = refl
+replay_asked = refl
 
-pub replay_met : (colors : Words) → option_map (λ p. p.0)
-    (subcommand_of (program colors) (codes "psci_cli" ∷ codes "replay" ∷ []))
-    ≡ Some (codes "replay")
+pub replay_met : option_map (λ p. p.0)
+    (subcommand_of program (codes "psci_cli" ∷ codes "replay" ∷ [])) ≡ Some (codes "replay")
 unfolding flags_fault walk_fault walked defaults_fault
-replay_met colors = refl
+replay_met = refl
 
 -- no command, and one that there is not
-pub nothing_asked : (colors : Words) → fault_of (program colors)
-    (codes "psci_cli" ∷ []) ≡ MissingSubcommand ∷ []
+pub nothing_asked : fault_of program (codes "psci_cli" ∷ []) ≡ MissingSubcommand ∷ []
 unfolding flags_fault walk_fault walked defaults_fault
-nothing_asked colors = refl
+nothing_asked = refl
 
-pub rewind_asked : (colors : Words) → fault_of (program colors)
-    (codes "psci_cli" ∷ codes "rewind" ∷ [])
+pub rewind_asked : fault_of program (codes "psci_cli" ∷ codes "rewind" ∷ [])
     ≡ UnknownArgument ∷ InvalidSubcommand ∷ []
 unfolding flags_fault walk_fault walked defaults_fault
-rewind_asked colors = refl
+rewind_asked = refl
 
 -- a word too many
-pub replay_twice_asked : (colors : Words) → fault_of (program colors)
-    (codes "psci_cli" ∷ codes "replay" ∷ codes "replay" ∷ [])
+pub replay_twice_asked : fault_of program (codes "psci_cli" ∷ codes "replay" ∷ codes "replay" ∷ [])
     ≡ UnknownArgument ∷ []
 unfolding flags_fault walk_fault walked defaults_fault
-replay_twice_asked colors = refl
+replay_twice_asked = refl
 
-pub help_asked : (colors : Words) → fault_of (program colors)
-    (codes "psci_cli" ∷ codes "--help" ∷ []) ≡ DisplayHelp ∷ []
+pub help_asked : fault_of program (codes "psci_cli" ∷ codes "--help" ∷ []) ≡ DisplayHelp ∷ []
 unfolding flags_fault walk_fault walked defaults_fault
-help_asked colors = refl
+help_asked = refl
 
-pub help_of_replay_asked : (colors : Words) → fault_of (program colors)
+pub help_of_replay_asked : fault_of program
     (codes "psci_cli" ∷ codes "replay" ∷ codes "--help" ∷ []) ≡ DisplayHelp ∷ []
 unfolding flags_fault walk_fault walked defaults_fault
-help_of_replay_asked colors = refl
+help_of_replay_asked = refl
 
 -- the version is the program's: its command has none of its own
-pub version_asked : (colors : Words) → fault_of (program colors)
-    (codes "psci_cli" ∷ codes "--version" ∷ [])
+pub version_asked : fault_of program (codes "psci_cli" ∷ codes "--version" ∷ [])
     ≡ DisplayVersion ∷ []
 unfolding flags_fault walk_fault walked defaults_fault
-version_asked colors = refl
+version_asked = refl
 
-pub version_of_replay_asked : (colors : Words) → fault_of (program colors)
+pub version_of_replay_asked : fault_of program
     (codes "psci_cli" ∷ codes "replay" ∷ codes "--version" ∷ []) ≡ UnknownArgument ∷ []
 unfolding flags_fault walk_fault walked defaults_fault
-version_of_replay_asked colors = refl
+version_of_replay_asked = refl

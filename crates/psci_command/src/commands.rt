@@ -4,7 +4,6 @@ ghost use Rattle.std.specs.Prelude.{◌≡◌, codes, IfOk};
 ghost use Rattle.clap.specs.Words.{app_of, new_app};
 ghost use Rattle.psci_command.specs.Program.{program};
 
-use crate::show_command::show_command;
 use crate::storm_command::storm_command;
 use crate::threads_command::threads_command;
 use clap::Command;
@@ -14,8 +13,8 @@ use std::alloc::{AllocError, Global};
 const VERSION: &str = "0.1.0";
 
 const ABOUT: &str =
-    "Replays or shows scripts of PSCI calls to the power firmware, makes storms of random events, or
-starts threads and audits what they did.";
+    "Replays scripts of PSCI calls to the power firmware, makes storms of random events, or starts
+threads and audits what they did.";
 
 const ABOUT_REPLAY: &str =
     "Takes a script from standard input. Each event of it is answered by a line on standard output.
@@ -45,9 +44,9 @@ fn replay_command<'a>(alloc: Global) -> Command<'a>
         .after_help(EXAMPLE)
 }
 
-/// The commands of the program, with these words for colors.
-pub fn commands<'a>(alloc: Global, colors: &'a [&'a str]) -> Result<Command<'a>, AllocError>
-    ensures { IfOk result (λ command. app_of command ≡ program colors.entry) }
+/// The commands of the program.
+pub fn commands<'a>(alloc: Global) -> Result<Command<'a>, AllocError>
+    ensures { IfOk result (λ command. app_of command ≡ program) }
 {
     Command::new(alloc, "psci_cli")
         .version(VERSION)
@@ -56,6 +55,5 @@ pub fn commands<'a>(alloc: Global, colors: &'a [&'a str]) -> Result<Command<'a>,
         .subcommand_required(true)
         .subcommand(replay_command(alloc))?
         .subcommand(storm_command(alloc)?)?
-        .subcommand(threads_command(alloc)?)?
-        .subcommand(show_command(alloc, colors)?)
+        .subcommand(threads_command(alloc)?)
 }
