@@ -6,7 +6,7 @@ _psci() {
     local at
     for ((at = 1; at < COMP_CWORD; at++)); do
         case ${COMP_WORDS[at]} in
-            replay | storm | show | draw | prove | help) command=${COMP_WORDS[at]}; break ;;
+            replay | storm | threads | show | draw | prove | help) command=${COMP_WORDS[at]}; break ;;
         esac
     done
     COMPREPLY=()
@@ -18,12 +18,13 @@ _psci() {
     esac
     case $command in
         "") mapfile -t COMPREPLY < <(compgen -W \
-            "replay storm show draw prove help --unproved --help --version" -- "$word") ;;
+            "replay storm threads show draw prove help --unproved --help --version" -- "$word") ;;
         storm) mapfile -t COMPREPLY < <(compgen -W \
             "--board --seed --seeds --count --counts --keep --help" -- "$word") ;;
+        threads) mapfile -t COMPREPLY < <(compgen -W "--board --seed --count --help" -- "$word") ;;
         show) mapfile -t COMPREPLY < <(compgen -W \
             "--json --legend --width --color --help" -- "$word") ;;
-        help) mapfile -t COMPREPLY < <(compgen -W "replay storm" -- "$word") ;;
+        help) mapfile -t COMPREPLY < <(compgen -W "replay storm threads" -- "$word") ;;
         replay | draw) mapfile -t COMPREPLY < <(compgen -W "--help" -- "$word") ;;
     esac
 }

@@ -313,6 +313,54 @@ kept_storms() {
     fi
 }
 
+# adds_up NAME: one line of threads, whose last number is the sum of the others
+adds_up() {
+    if [ "$(wc -l < "$work/out")" = 1 ] &&
+        grep -qxE 'threads firmware [0-9]+ controller [0-9]+ audited [0-9]+' "$work/out" &&
+        awk '{ exit $3 + $5 != $7 }' "$work/out"; then pass; else
+        fail "$1: $(head -n 1 "$work/out")"
+    fi
+}
+
+# threads: their line, whose numbers the schedule decides, and which adds up; their faults, in order
+core_threads() {
+    local seed words limits="exec 0x0-0x1000 boot 0x0 starts 1000 lives 3"
+    for seed in 1 2 3 18446744073709551615; do
+        run threads --seed "$seed" --count 50
+        expect "threads of seed $seed" 0
+        adds_up "threads of seed $seed"
+    done
+    for words in "1" "((1 2) (2 1))" "(16 16 16 16)"; do
+        run threads --board "$words $limits" --seed 1 --count 5
+        expect "threads on the board $words" 0
+        adds_up "threads on the board $words"
+    done
+    run threads --seed 1 --count 0
+    expect "threads without a call" 0
+    adds_up "threads without a call"
+    run threads --board "(2 2)" --seed 1 --count 1
+    expect "threads on a board outside the grammar" 2 "board fault 1"
+    run threads --board "(16 16 16 16 1) exec 0x0-0x1000 boot 0x2 starts 1 lives 1" --seed 1 --count 1
+    expect "threads for 65 cores that cannot start" 2 "board fault 6"
+    run threads --board "(16 16 16 16 1) $limits" --seed 1 --count 1
+    expect "threads for 65 cores" 2 "too many cores"
+    if has_full "threads into a full device"; then
+        "$program" threads --board "(16 16 16 16 1) $limits" --seed 1 --count 1 2> "$work/err" > /dev/full
+        echo $? > "$work/got"
+        expect "threads for 65 cores into a full device" 2 "too many cores"
+        "$program" threads --seed 1 --count 5 2> "$work/err" > /dev/full
+        echo $? > "$work/got"
+        expect "threads into a full device" 4 "write fault"
+    fi
+    for words in "" "--seed 1" "--count 1" "--seed 1 --count 10001" "--board 65 --seed x --count 1"; do
+        # shellcheck disable=SC2086
+        run threads $words
+        if [ "$(cat "$work/got")" = 2 ] && [ ! -s "$work/out" ] && grep -q '^error: ' "$work/err"; then pass; else
+            fail "threads $words (status $(cat "$work/got"))"
+        fi
+    done
+}
+
 has_parallel() { command -v parallel > /dev/null || { skip "$1" parallel; false; }; }
 
 # storms of several seeds: each has its line, in order, also where two jobs make them side by side;

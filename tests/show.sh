@@ -71,7 +71,7 @@ drawn() {
 
 # the long options that the help of each command names
 options() {
-    { "$program" --help; "$program" storm --help; tools/show --help; } |
+    { "$program" --help; "$program" storm --help; "$program" threads --help; tools/show --help; } |
         grep -oE -- '--[a-z]+' | sort -u
 }
 
@@ -86,6 +86,8 @@ completed() {
         answers "completion of $line"
     done << 'EOF'
 ./psci s|storm show
+./psci t|threads
+./psci threads --|--board --seed --count --help
 ./psci storm --se|--seed --seeds
 ./psci storm --seed 1 --co|--count --counts
 ./psci show --color a|auto always

@@ -1,3 +1,4 @@
 mod EndRows
 mod OutputRows
 mod StormRows
+mod ThreadsRows

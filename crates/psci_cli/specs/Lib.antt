@@ -1,2 +1,4 @@
 pub mod Ends
 pub mod StormText
+pub mod Threading
+pub mod ThreadsText

@@ -1,7 +1,9 @@
-//! The program: scripts of PSCI calls, replayed from standard input to standard output, and storms.
+//! The program: scripts of PSCI calls, replayed from standard input to standard output, storms, and
+//! threads.
 #![tactic(auto)]
 
 mod storm_line;
+mod threads_line;
 
 ghost use Rattle.std.specs.Prelude.{◌≡◌, IfErr};
 ghost use Rattle.std.specs.IoError.{error_kind};
@@ -20,7 +22,10 @@ use std::alloc::Global;
 use std::fs::File;
 use std::io::{self, BufWriter, Write};
 use std::process::ExitCode;
+use std::sync::Wait;
+use std::thread::Threads;
 use storm_line::write_storm;
+use threads_line::run_threads;
 
 /// Replays the script on standard input in a world of its own.
 fn replay_standard(rt: &HostRuntime) -> Result<(), Failure>
@@ -84,18 +89,20 @@ fn storm_standard(rt: &HostRuntime, request: StormRequest) -> Result<(), Failure
     }
 }
 
-/// Does what the command line asks for.
-fn run(rt: &HostRuntime) -> Result<(), Failure> {
+/// Does what the command line asks for. The runtime has threads in `main` alone, which hands them
+/// on.
+fn run<R: Threads + Wait + Sync>(rt: &HostRuntime, threads: &R) -> Result<(), Failure> {
     let words = words(rt)?;
     match asked(rt, words.as_slice())? {
         Request::Storm(request) => storm_standard(rt, request),
+        Request::Threads(request) => run_threads(threads, rt.alloc(), &mut rt.stdout(), request),
         Request::Replay => replay_standard(rt),
         Request::Nothing => Ok(()),
     }
 }
 
 fn main(rt: HostRuntime) -> ExitCode {
-    match run(&rt) {
+    match run(&rt, &rt) {
         Ok(()) => ExitCode::SUCCESS,
         Err(failure) => {
             failure.tell(&rt);

@@ -6,10 +6,11 @@ use Rattle.clap.specs.Walk.{Row, Text}
 use Rattle.clap.specs.declared.error.kind.ErrorKind.TheVariants.{DisplayHelp, DisplayVersion}
 use Rattle.clap.specs.declared.error.kind.ErrorKind.TheVariants.{MissingSubcommand}
 use Rattle.psci_script.specs.declared.fault.ReplayFault.TheVariants.{Memory, Write}
-use Rattle.psci_command.specs.Commands.{IsAsked, IsStormOf, IsWordless}
+use Rattle.psci_command.specs.Commands.{IsAsked, IsStormOf, IsThreadsOf, IsWordless}
 use Rattle.psci_command.specs.Program.{AsksHelp, standard_board}
-use Rattle.psci_command.specs.declared.command_line.Request.TheVariants.{Nothing, Replay, Storm}
-use Rattle.psci_command.specs.declared.command_line.StormRequest.{StormRequest}
+use Rattle.psci_command.specs.declared.requests.Request.TheVariants.{Nothing, Replay, Storm, Threads}
+use Rattle.psci_command.specs.declared.requests.StormRequest.{StormRequest}
+use Rattle.psci_command.specs.declared.requests.ThreadsRequest.{ThreadsRequest}
 use Rattle.psci_command.specs.declared.exit.Failure.TheVariants as failures
 use Rattle.psci_command.specs.declared.exit.Failure.TheVariants.{CommandLine}
 use Rattle.psci_command.proofs.StormCommandRows.{board_row, count_row, counts_row, no_counts}
@@ -43,29 +44,29 @@ rows_of_board =
     board_row (codes "4") ∷ seed_row (codes "7") ∷ count_row (codes "5") ∷ no_counts ∷ []
 
 pub of_rows : IsStormOf rows (Some (request standard_board 7 5))
-of_rows = (refl, (spelled (codes "7") refl, refl), (spelled (codes "5") refl, refl), λ e. cc, refl)
+of_rows = ((refl, (spelled (codes "7") refl, refl), (spelled (codes "5") refl, refl)), λ e. cc, refl)
 
 of_other_board : IsStormOf rows (Some (request (codes "4") 7 5)) → ⊥
-of_other_board h = let same = h.0 in cc
+of_other_board h = let same = h.0.0 in cc
 
 of_other_seed : IsStormOf rows (Some (request standard_board 8 5)) → ⊥
-of_other_seed h = let same = h.1.1 in absurd (omega arith)
+of_other_seed h = let same = h.0.1.1 in absurd (omega arith)
 
 of_other_count : IsStormOf rows (Some (request standard_board 7 6)) → ⊥
-of_other_count h = let same = h.2.1 in absurd (omega arith)
+of_other_count h = let same = h.0.2.1 in absurd (omega arith)
 
 of_seed_for_count : IsStormOf rows (Some (request standard_board 5 7)) → ⊥
-of_seed_for_count h = let same = h.1.1 in absurd (omega arith)
+of_seed_for_count h = let same = h.0.1.1 in absurd (omega arith)
 
 without_counts : IsStormOf rows (Some (record (request standard_board 7 5) { counts = true })) → ⊥
-without_counts h = let text = h.3 in cc
+without_counts h = let text = h.1 in cc
 
 pub of_counts : IsStormOf rows_with_counts
     (Some (record (request standard_board 7 5) { counts = true }))
-of_counts = (refl, (spelled (codes "7") refl, refl), (spelled (codes "5") refl, refl), refl, refl)
+of_counts = ((refl, (spelled (codes "7") refl, refl), (spelled (codes "5") refl, refl)), refl, refl)
 
 counts_left_out : IsStormOf rows_with_counts (Some (request standard_board 7 5)) → ⊥
-counts_left_out h = h.3 refl
+counts_left_out h = h.1 refl
 
 none_of_rows : IsStormOf rows None → ⊥
 none_of_rows (inl no_board) = cc
@@ -74,7 +75,7 @@ none_of_rows (inr (inr no_count)) = no_count (spelled (codes "5") refl)
 
 -- the board that is given stands before the standard one
 pub of_given_board : IsStormOf rows_of_board (Some (request (codes "4") 7 5))
-of_given_board = (refl, (spelled (codes "7") refl, refl), (spelled (codes "5") refl, refl), λ e. cc, refl)
+of_given_board = ((refl, (spelled (codes "7") refl, refl), (spelled (codes "5") refl, refl)), λ e. cc, refl)
 
 -- a file to keep the storm in, which is kept in that one and in no other
 abbrev pub kept : Text → StormRequest
@@ -86,16 +87,16 @@ rows_with_file =
     ∷ no_counts ∷ []
 
 pub of_file : IsStormOf rows_with_file (Some (kept (codes "a b")))
-of_file = (refl, (spelled (codes "7") refl, refl), (spelled (codes "5") refl, refl), λ e. cc, refl)
+of_file = ((refl, (spelled (codes "7") refl, refl), (spelled (codes "5") refl, refl)), λ e. cc, refl)
 
 of_other_file : IsStormOf rows_with_file (Some (kept (codes "a"))) → ⊥
-of_other_file h = let same = h.4 in cc
+of_other_file h = let same = h.2 in cc
 
 file_left_out : IsStormOf rows_with_file (Some (request standard_board 7 5)) → ⊥
-file_left_out h = let same = h.4 in cc
+file_left_out h = let same = h.2 in cc
 
 file_of_nothing : IsStormOf rows (Some (kept [])) → ⊥
-file_of_nothing h = let same = h.4 in cc
+file_of_nothing h = let same = h.2 in cc
 
 -- a part that is missing or spells no number
 none_without_board : IsStormOf (seed_row (codes "7") ∷ count_row (codes "5") ∷ []) None
@@ -103,17 +104,37 @@ none_without_board = inl refl
 
 without_board : IsStormOf (seed_row (codes "7") ∷ count_row (codes "5") ∷ [])
     (Some (request standard_board 7 5)) → ⊥
-without_board h = let given = h.0 in cc
+without_board h = let given = h.0.0 in cc
 
 none_with_letter : IsStormOf (seed_row (codes "x") ∷ count_row (codes "5") ∷ standard_row ∷ []) None
 none_with_letter = inr (inl (λ h. let digit = h.0.1.0 in absurd (omega arith)))
 
 without_seed : IsStormOf (count_row (codes "5") ∷ standard_row ∷ [])
     (Some (request standard_board 0 5)) → ⊥
-without_seed h = let given = h.1 in cc
+without_seed h = let given = h.0.1 in cc
 
 none_without_count : IsStormOf (seed_row (codes "7") ∷ standard_row ∷ []) None
 none_without_count = inr (inr refl)
+
+-- The threads of some matches -------------------------------------------------------------------
+
+abbrev pub threads : ℕ → ℕ → ThreadsRequest
+threads seed count =
+    record { board = record { ref_ptr = (0, 0); now = standard_board }; seed = seed; count = count }
+
+pub threads_of_rows : IsThreadsOf rows (Some (threads 7 5))
+threads_of_rows = (refl, (spelled (codes "7") refl, refl), (spelled (codes "5") refl, refl))
+
+threads_of_other_count : IsThreadsOf rows (Some (threads 7 6)) → ⊥
+threads_of_other_count h = let same = h.2.1 in absurd (omega arith)
+
+threads_on_other_board : IsThreadsOf rows_of_board (Some (threads 7 5)) → ⊥
+threads_on_other_board h = let same = h.0 in cc
+
+no_threads_of_rows : IsThreadsOf rows None → ⊥
+no_threads_of_rows (inl no_board) = cc
+no_threads_of_rows (inr (inl no_seed)) = no_seed (spelled (codes "7") refl)
+no_threads_of_rows (inr (inr no_count)) = no_count (spelled (codes "5") refl)
 
 -- What a command line asks for --------------------------------------------------------------------
 
@@ -142,23 +163,40 @@ asked_for_storm_by_replay : IsAsked (Some (codes "replay", rows))
     (Some (Storm (request standard_board 7 5))) → ⊥
 asked_for_storm_by_replay h = let name = ap name_in h.1 in cc
 
+asked_for_threads : IsAsked (Some (codes "threads", rows)) (Some (Threads (threads 7 5)))
+asked_for_threads = (rows, refl, threads_of_rows)
+
+asked_for_storm_by_threads : IsAsked (Some (codes "threads", rows))
+    (Some (Storm (request standard_board 7 5))) → ⊥
+asked_for_storm_by_threads h = let name = ap name_in h.1 in cc
+
+asked_for_threads_by_storm : IsAsked (Some (codes "storm", rows)) (Some (Threads (threads 7 5))) → ⊥
+asked_for_threads_by_storm h = let name = ap name_in h.1 in cc
+
 asked_for_replay : IsAsked (Some (codes "replay", [])) (Some Replay)
-asked_for_replay e = cc
+asked_for_replay = (λ e. cc, λ e. cc)
 
 asked_for_replay_by_none : IsAsked None (Some Replay)
-asked_for_replay_by_none e = cc
+asked_for_replay_by_none = (λ e. cc, λ e. cc)
 
 asked_for_replay_by_storm : IsAsked (Some (codes "storm", rows)) (Some Replay) → ⊥
-asked_for_replay_by_storm h = h refl
+asked_for_replay_by_storm h = h.0 refl
+
+asked_for_replay_by_threads : IsAsked (Some (codes "threads", rows)) (Some Replay) → ⊥
+asked_for_replay_by_threads h = h.1 refl
 
 asked_for_nothing : IsAsked None (Some Nothing) → ⊥
 asked_for_nothing h = h
 
 asked_for_no_storm : IsAsked (Some (codes "storm", seed_row (codes "7") ∷ [])) None
-asked_for_no_storm = (seed_row (codes "7") ∷ [], refl, inl refl)
+asked_for_no_storm = inl (seed_row (codes "7") ∷ [], refl, inl refl)
+
+asked_for_no_threads : IsAsked (Some (codes "threads", seed_row (codes "7") ∷ [])) None
+asked_for_no_threads = inr (seed_row (codes "7") ∷ [], refl, inl refl)
 
 asked_for_no_storm_by_replay : IsAsked (Some (codes "replay", [])) None → ⊥
-asked_for_no_storm_by_replay h = let name = ap name_in h.1 in cc
+asked_for_no_storm_by_replay (inl h) = let name = ap name_in h.1 in cc
+asked_for_no_storm_by_replay (inr h) = let name = ap name_in h.1 in cc
 
 -- What is not obeyed ------------------------------------------------------------------------------
 

@@ -1,14 +1,16 @@
 -- The exit status and the text of each row of the exit table.
-use Rattle.std.proofs.Common.{◌≡◌, refl}
+use Rattle.std.proofs.Common.{◌≡◌, [], refl}
 use Rattle.std.specs.Prelude.{codes}
 use Rattle.std.specs.Fmt.{digits}
 use Rattle.psci_script.specs.psci_board_text.declared.fault.BoardFault.TheVariants as boards
 use Rattle.psci_script.specs.declared.fault.ReplayFault.TheVariants.{Script, Board, Read, Write}
 use Rattle.psci_script.specs.declared.fault.ReplayFault.TheVariants.{Memory}
 use Rattle.psci_script.specs.declared.fault.ScriptFault.TheVariants as scripts
-use Rattle.psci_command.specs.declared.exit.Failure.TheVariants.{CommandLine, Replay}
+use Rattle.psci_command.specs.declared.exit.AuditFailure.TheVariants.{Ticket, Illegal}
+use Rattle.psci_command.specs.declared.exit.Failure.TheVariants.{CommandLine, Replay, TooManyCores}
+use Rattle.psci_command.specs.declared.exit.Failure.TheVariants.{Audit, Gate, Gather}
 use Rattle.psci_command.specs.declared.exit.Failure.TheVariants.{Board as GivenBoard}
-use Rattle.psci_command.specs.Exit.{given_board_report, report, status_of}
+use Rattle.psci_command.specs.Exit.{failure_report, given_board_report, report, status_of}
 
 -- the command line: 2, and the parser has said why
 pub command_line_status : status_of CommandLine ≡ 2
@@ -174,3 +176,53 @@ given_memory_status = refl
 
 pub given_memory_text : given_board_report boards.Memory ≡ codes "out of memory"
 given_memory_text = refl
+
+-- a board with too many cores for threads: 2
+too_many_cores_for_threads_status : status_of TooManyCores ≡ 2
+too_many_cores_for_threads_status = refl
+
+too_many_cores_for_threads_text : failure_report TooManyCores ≡ codes "too many cores"
+too_many_cores_for_threads_text = refl
+
+-- what threads did: 6, and where the audit has found an entry illegal, its place
+gate_status : status_of Gate ≡ 6
+gate_status = refl
+
+gate_text : failure_report Gate ≡ codes "gate limit"
+gate_text = refl
+
+gather_status : status_of Gather ≡ 6
+gather_status = refl
+
+gather_text : failure_report Gather ≡ codes "gather fault"
+gather_text = refl
+
+ticket_status : status_of (Audit Ticket) ≡ 6
+ticket_status = refl
+
+ticket_text : failure_report (Audit Ticket) ≡ codes "audit fault 1"
+ticket_text = refl
+
+illegal_status : status_of (Audit (Illegal 0)) ≡ 6
+illegal_status = refl
+
+illegal_text : failure_report (Audit (Illegal 0)) ≡ codes "audit fault 2 at 0"
+unfolding digits
+illegal_text = refl
+
+illegal_text_far : failure_report (Audit (Illegal 1307)) ≡ codes "audit fault 2 at 1307"
+unfolding digits
+illegal_text_far = refl
+
+-- each other failure is told as above
+given_board_told : failure_report (GivenBoard boards.BadLimit) ≡ codes "board fault 7"
+unfolding digits
+given_board_told = refl
+
+replay_told : failure_report (Replay (Script 2 scripts.Line)) ≡ codes "line 2: script fault 2"
+unfolding digits
+replay_told = refl
+
+-- the parser has told this one
+command_line_told : failure_report CommandLine ≡ []
+command_line_told = refl

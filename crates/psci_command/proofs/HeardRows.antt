@@ -1,24 +1,27 @@
 -- What known command lines come to, and what they do not.
-use Rattle.std.proofs.Common.{[], ◌∷◌, List, true, Ok, Err, refl, inl, subst, sym, ◌∙◌}
+use Rattle.std.proofs.Common.{◌≡◌, [], ◌∷◌, List, Some, true, Ok, Err, refl, inl, subst, sym, ◌∙◌}
 use Rattle.std.specs.Prelude.{codes}
 use Rattle.clap.specs.Walk.{Text}
+use Rattle.clap.specs.Words.{subcommand_of}
 use Rattle.clap.specs.declared.error.kind.ErrorKind.TheVariants.{DisplayHelp, MissingSubcommand}
 use Rattle.psci_script.specs.psci_board_text.declared.fault.BoardFault.TheVariants as boards
 use Rattle.psci_script.specs.declared.fault.ReplayFault.TheVariants.{Memory, Read, Script, Write}
 use Rattle.psci_script.specs.declared.fault.ScriptFault.TheVariants.{NoBoard}
 use Rattle.psci_command.proofs.AskedRows.{kept, of_counts, of_file, of_given_board, of_rows}
-use Rattle.psci_command.proofs.AskedRows.{request, rows, rows_of_board, rows_with_counts}
+use Rattle.psci_command.proofs.AskedRows.{request, rows, rows_of_board, rows_with_counts, threads}
 use Rattle.psci_command.proofs.AskedRows.{rows_with_file}
 use Rattle.psci_command.proofs.CommandRows.{help_asked, nothing_asked, replay_asked, replay_met}
 use Rattle.psci_command.proofs.Hearing.{no_help}
 use Rattle.psci_command.proofs.StormCommandRows.{board, count, count_first, other_board, seed}
 use Rattle.psci_command.proofs.StormCommandRows.{storm_with, with_counts, with_file}
-use Rattle.psci_command.specs.declared.command_line.Request.TheVariants.{Nothing, Storm}
-use Rattle.psci_command.specs.declared.command_line.Request.TheVariants.{Replay as ReplayScript}
+use Rattle.psci_command.proofs.ThreadsCommandRows.{plain_asked, plain_rows, plain_threads, threads_with}
+use Rattle.psci_command.specs.declared.requests.Request.TheVariants.{Nothing, Storm, Threads}
+use Rattle.psci_command.specs.declared.requests.Request.TheVariants.{Replay as ReplayScript}
 use Rattle.psci_command.specs.declared.exit.Failure.TheVariants.{CommandLine, Replay}
 use Rattle.psci_command.specs.declared.exit.Failure.TheVariants.{Board as GivenBoard}
+use Rattle.psci_command.specs.Commands.{IsUnmet}
 use Rattle.psci_command.specs.Heard.{HasFault, HasHelp, IsHeard}
-use Rattle.psci_command.specs.Program.{standard_board}
+use Rattle.psci_command.specs.Program.{program, standard_board}
 
 -- Kinds ---------------------------------------------------------------------------------------
 
@@ -43,9 +46,15 @@ fault_in_nothing h = h.among
 replay_words : List Text
 replay_words = codes "psci_cli" ∷ codes "replay" ∷ []
 
+-- the command that was met is no other
+other : (name : Text) → ¬ (Some (codes "replay") ≡ Some name)
+    → IsUnmet name (subcommand_of program (codes "psci_cli" ∷ codes "replay" ∷ []))
+other name differs e = differs (sym replay_met ∙ e)
+
 heard_replay : IsHeard replay_words (Ok ReplayScript)
 unfolding replay_words
-heard_replay = (replay_asked, λ e. let storm = sym replay_met ∙ e in cc)
+heard_replay =
+    (replay_asked, (other (codes "storm") (λ e. cc), other (codes "threads") (λ e. cc)))
 
 -- storms: in either order, on another board, with the counts
 heard_storm : IsHeard (storm_with (count (codes "5") (seed (codes "7") [])))
@@ -66,6 +75,10 @@ heard_storm_with_file : IsHeard
     (storm_with (seed (codes "7") (codes "--keep" ∷ codes "a b" ∷ count (codes "5") [])))
     (Ok (Storm (kept (codes "a b"))))
 heard_storm_with_file = (with_file.fault, (rows_with_file, with_file.met, of_file))
+
+heard_threads : IsHeard (threads_with (seed (codes "7") (count (codes "5") [])))
+    (Ok (Threads (threads 7 5)))
+heard_threads = (plain_threads.fault, (plain_rows, plain_threads.met, plain_asked))
 
 -- a replay is no help, and no fault but for what memory or writing makes one
 replay_is_no_help : IsHeard replay_words (Ok Nothing) → ⊥

@@ -5,8 +5,8 @@ use Rattle.clap.specs.Words.{IsAmong, Kinds, fault_of}
 use Rattle.clap.specs.declared.error.kind.ErrorKind.{ErrorKind}
 use Rattle.clap.specs.declared.error.kind.ErrorKind.TheVariants as kinds
 use Rattle.psci_script.specs.declared.fault.ReplayFault.TheVariants.{Memory, Write}
-use Rattle.psci_command.specs.declared.command_line.Request.{Request}
-use Rattle.psci_command.specs.declared.command_line.Request.TheVariants.{Nothing}
+use Rattle.psci_command.specs.declared.requests.Request.{Request}
+use Rattle.psci_command.specs.declared.requests.Request.TheVariants.{Nothing}
 use Rattle.psci_command.specs.declared.exit.Failure.{Failure}
 use Rattle.psci_command.specs.declared.exit.Failure.TheVariants.{CommandLine, Replay}
 use Rattle.psci_command.specs.Program.{AsksHelp, program}

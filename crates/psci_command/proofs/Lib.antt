@@ -1,5 +1,4 @@
 mod AskedRows
-pub mod Asking
 mod CommandRows
 mod ExitRows
 pub mod Flags
@@ -10,4 +9,5 @@ pub mod Numbers
 mod PlainRows
 pub mod Simple
 mod StormCommandRows
+mod ThreadsCommandRows
 mod ValueRows

@@ -1,10 +1,12 @@
 -- Exit statuses, and what standard error says of a fault.
-use Rattle.std.specs.Prelude.{ℕ, List, ◌++◌, codes}
+use Rattle.std.specs.Prelude.{ℕ, List, [], ◌++◌, codes}
 use Rattle.std.specs.Fmt.{decimal}
 use Rattle.psci_script.specs.psci_board_text.declared.fault.BoardFault.{BoardFault}
 use Rattle.psci_script.specs.psci_board_text.declared.fault.BoardFault.TheVariants as boards
 use Rattle.psci_command.specs.declared.exit.Failure.{Failure}
-use Rattle.psci_command.specs.declared.exit.Failure.TheVariants.{CommandLine, Replay}
+use Rattle.psci_command.specs.declared.exit.AuditFailure.TheVariants.{Ticket, Illegal}
+use Rattle.psci_command.specs.declared.exit.Failure.TheVariants.{CommandLine, Replay, TooManyCores}
+use Rattle.psci_command.specs.declared.exit.Failure.TheVariants.{Audit, Gate, Gather}
 use Rattle.psci_command.specs.declared.exit.Failure.TheVariants.{Board as GivenBoard}
 use Rattle.psci_script.specs.declared.fault.ScriptFault.{ScriptFault}
 use Rattle.psci_script.specs.declared.fault.ScriptFault.TheVariants as scripts
@@ -52,7 +54,11 @@ replay_status Memory = 5
 abbrev pub status_of : Failure → ℕ
 status_of CommandLine = 2
 status_of (GivenBoard fault) = given_board_status fault
+status_of TooManyCores = 2
 status_of (Replay fault) = replay_status fault
+status_of Gate = 6
+status_of Gather = 6
+status_of (Audit found) = 6
 
 -- what standard error says of a board fault
 abbrev pub board_report : BoardFault → List ℕ
@@ -72,3 +78,14 @@ report (Board fault) = board_report fault
 report Read = codes "read fault"
 report Write = codes "write fault"
 report Memory = codes "out of memory"
+
+-- the same of any failure; of the command line the parser has said it
+abbrev pub failure_report : Failure → List ℕ
+failure_report CommandLine = []
+failure_report (GivenBoard fault) = given_board_report fault
+failure_report TooManyCores = codes "too many cores"
+failure_report (Replay fault) = report fault
+failure_report Gate = codes "gate limit"
+failure_report Gather = codes "gather fault"
+failure_report (Audit Ticket) = codes "audit fault 1"
+failure_report (Audit (Illegal place)) = codes "audit fault 2 at " ++ decimal place

@@ -6,11 +6,12 @@ use Rattle.clap.specs.declared.error.kind.ErrorKind.{ErrorKind}
 use Rattle.psci_script.specs.declared.fault.ReplayFault.{ReplayFault}
 use Rattle.psci_script.specs.declared.fault.ReplayFault.TheVariants.{Script, Board, Read, Write}
 use Rattle.psci_script.specs.declared.fault.ReplayFault.TheVariants.{Memory}
-use Rattle.psci_command.specs.declared.command_line.Request.{Request}
-use Rattle.psci_command.specs.declared.command_line.Request.TheVariants.{Storm, Nothing}
-use Rattle.psci_command.specs.declared.command_line.Request.TheVariants.{Replay as ReplayScript}
+use Rattle.psci_command.specs.declared.requests.Request.{Request}
+use Rattle.psci_command.specs.declared.requests.Request.TheVariants.{Storm, Threads, Nothing}
+use Rattle.psci_command.specs.declared.requests.Request.TheVariants.{Replay as ReplayScript}
 use Rattle.psci_command.specs.declared.exit.Failure.{Failure}
-use Rattle.psci_command.specs.declared.exit.Failure.TheVariants.{CommandLine, Replay}
+use Rattle.psci_command.specs.declared.exit.Failure.TheVariants.{CommandLine, Replay, TooManyCores}
+use Rattle.psci_command.specs.declared.exit.Failure.TheVariants.{Audit, Gate, Gather}
 use Rattle.psci_command.specs.declared.exit.Failure.TheVariants.{Board as GivenBoard}
 use Rattle.psci_command.specs.Commands.{IsAsked}
 use Rattle.psci_command.specs.Program.{AsksHelp, program}
@@ -44,9 +45,14 @@ IsMute words Memory = ⊤
 -- command line where the parser finds one, or a part is missing that it has made sure of.
 abbrev pub IsHeard : List Text → Result Request Failure → Type 0
 IsHeard words (Ok (Storm storm)) = Asks words (Storm storm)
+IsHeard words (Ok (Threads threads)) = Asks words (Threads threads)
 IsHeard words (Ok ReplayScript) = Asks words ReplayScript
 IsHeard words (Ok Nothing) = HasHelp (fault_of program words)
 IsHeard words (Err CommandLine) = HasFault (fault_of program words)
     ⊎ IsAsked (subcommand_of program words) None
 IsHeard words (Err (GivenBoard fault)) = ⊥
+IsHeard words (Err TooManyCores) = ⊥
 IsHeard words (Err (Replay fault)) = IsMute words fault
+IsHeard words (Err Gate) = ⊥
+IsHeard words (Err Gather) = ⊥
+IsHeard words (Err (Audit found)) = ⊥

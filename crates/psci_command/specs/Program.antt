@@ -1,4 +1,4 @@
--- The command line: the program has two commands, of which one must be given.
+-- The command line: the program has commands, of which one must be given.
 use Rattle.std.specs.Prelude.{◌≡◌, ◌⊎◌, true, codes, List, ℕ, [], ◌∷◌, Some}
 use Rattle.clap.specs.Simple.{App, Shape, new_app, new_rule, new_shape, on_top, with_subcommand}
 use Rattle.clap.specs.Walk.{Rule, Text}
@@ -8,7 +8,7 @@ use Rattle.clap.specs.declared.builder.value_parser.ValueParser.TheVariants.{Uns
 use Rattle.clap.specs.declared.error.kind.ErrorKind.{ErrorKind}
 use Rattle.clap.specs.declared.error.kind.ErrorKind.TheVariants.{DisplayHelp, DisplayVersion}
 
--- the board of a storm, where none is given
+-- the board of a storm or of threads, where none is given
 abbrev pub standard_board : List ℕ
 standard_board =
     codes "(2 2) exec 0x40000000-0x40100000 boot 0x40000000 starts 1000 lives 3"
@@ -25,6 +25,14 @@ abbrev pub number_rule : Text → ValueParser → Rule
 number_rule name parser =
     record (new_rule name) { long = Some name; required = true; parser = Some parser }
 
+-- `--seed N`: any number of 64 bits
+abbrev pub seed_rule : Rule
+seed_rule = number_rule (codes "seed") (Unsigned 0 18446744073709551615)
+
+-- `--count N`: at most 10,000
+abbrev pub count_rule : Rule
+count_rule = number_rule (codes "count") (Unsigned 0 10000)
+
 -- a flag of this name, without a value
 abbrev pub flag_rule : Text → Rule
 flag_rule name = record (new_rule name) { long = Some name; action = Some SetTrue }
@@ -33,21 +41,30 @@ flag_rule name = record (new_rule name) { long = Some name; action = Some SetTru
 abbrev pub text_rule : Text → Rule
 text_rule name = record (new_rule name) { long = Some name }
 
--- `storm [--board TEXT] --seed N --count N [--counts] [--keep FILE]`: any seed of 64 bits, and at
--- most 10,000 events
+-- `storm [--board TEXT] --seed N --count N [--counts] [--keep FILE]`
 abbrev pub storm_shape : Shape
 storm_shape = record (new_shape (codes "storm")) {
-  rules = board_rule ∷ number_rule (codes "seed") (Unsigned 0 18446744073709551615)
-      ∷ number_rule (codes "count") (Unsigned 0 10000) ∷ flag_rule (codes "counts")
+  rules = board_rule ∷ seed_rule ∷ count_rule ∷ flag_rule (codes "counts")
       ∷ text_rule (codes "keep") ∷ [];
 }
 
--- `psci_cli replay` and `psci_cli storm`; the program itself, and no command of it, has a version
+-- `threads [--board TEXT] --seed N --count N`
+abbrev pub threads_shape : Shape
+threads_shape = record (new_shape (codes "threads")) {
+  rules = board_rule ∷ seed_rule ∷ count_rule ∷ [];
+}
+
+-- the program without a command; it has a version, and no command of it has one
+abbrev pub bare_program : App
+bare_program = on_top (λ s. record s { subcommand_required = true; has_version = true })
+    (new_app (codes "psci_cli"))
+
+-- the program with its commands
 abbrev pub program : App
-program = with_subcommand (with_subcommand
-    (on_top (λ s. record s { subcommand_required = true; has_version = true })
-    (new_app (codes "psci_cli")))
-    (new_shape (codes "replay"))) storm_shape
+program = with_subcommand (with_subcommand (with_subcommand bare_program
+    (new_shape (codes "replay")))
+    storm_shape)
+    threads_shape
 
 -- what the parser's error asks for, and is no fault: help, or the version
 abbrev pub AsksHelp : ErrorKind → Type 0

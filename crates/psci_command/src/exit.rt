@@ -2,7 +2,7 @@
 
 ghost use Rattle.std.specs.Prelude.{◌≡◌, ◌++◌, ◌∷◌, [], OnOk};
 ghost use Rattle.std.specs.Io.KnownBytes.{Appends};
-ghost use Rattle.psci_command.specs.Exit.{given_board_report, report, status_of};
+ghost use Rattle.psci_command.specs.Exit.{failure_report, status_of};
 
 use psci_script::{BoardFault, ReplayFault, ScriptFault};
 use std::fmt;
@@ -15,53 +15,66 @@ pub enum Failure {
     CommandLine,
     /// The board that the command line gives has this fault.
     Board(BoardFault),
-    /// The replay ended with this fault, or help or the line of a storm could not be written for
-    /// want of it.
+    /// The board that the command line gives has more cores than threads are started for.
+    TooManyCores,
+    /// The replay ended with this fault, or help or the line of a storm or of threads could not be
+    /// written for want of it.
     Replay(ReplayFault),
+    /// The gate was shut at a call of a core's thread.
+    Gate,
+    /// What the threads took down of their calls does not agree with the books.
+    Gather,
+    /// The audit of what threads did has found this.
+    Audit(AuditFailure),
+}
+
+/// What an audit of two books has found.
+#[derive(Clone, Copy, Debug, PartialEq, Eq)]
+pub enum AuditFailure {
+    /// The tickets of a book do not rise, or one is in both books.
+    Ticket,
+    /// The entry at this place of the merged list, counted from 0, cannot follow those before it.
+    Illegal(u64),
 }
 
 impl Failure {
     /// The exit status: 2 for the command line and the board in it, 3 for the script, 4 for reading
-    /// or writing, 5 for memory.
+    /// or writing, 5 for memory, 6 for what threads did.
     pub fn status(self) -> u8
         ensures { result ≡ status_of self }
     {
         match self {
             Failure::Board(BoardFault::Memory) => 5,
-            Failure::CommandLine | Failure::Board(_) => 2,
+            Failure::CommandLine | Failure::Board(_) | Failure::TooManyCores => 2,
             Failure::Replay(fault) => match fault {
                 ReplayFault::Read | ReplayFault::Write => 4,
                 ReplayFault::Memory | ReplayFault::Board(BoardFault::Memory) => 5,
                 ReplayFault::Script { .. } | ReplayFault::Board(_) => 3,
             },
+            Failure::Gate | Failure::Gather | Failure::Audit(_) => 6,
         }
     }
 
-    /// Says on standard error what happened. Where that cannot be written the status must do.
+    /// Says on standard error what happened; of the command line the parser has said it. Where that
+    /// cannot be written the status must do.
     pub fn tell(self, rt: &HostRuntime) {
-        let _ = match self {
-            Failure::CommandLine => Ok(()),
-            Failure::Board(fault) => write_board_report(&mut rt.stderr(), fault),
-            Failure::Replay(fault) => write_report(&mut rt.stderr(), fault),
-        };
+        if self != Failure::CommandLine {
+            let _ = write_report(&mut rt.stderr(), self);
+        }
     }
 }
 
-/// Writes the line that standard error has of a fault.
-fn write_report<W: Write>(to: &mut W, fault: ReplayFault) -> io::Result<()>
+/// Writes the line that standard error has of a failure.
+fn write_report<W: Write>(to: &mut W, failure: Failure) -> io::Result<()>
     ensures { OnOk result (Appends (W.contents to.old) (W.contents to.new)
-        (report fault ++ 10 ∷ [])) }
+        (failure_report failure ++ 10 ∷ [])) }
 {
-    writeln!(to, "{}", Report(fault))
+    writeln!(to, "{}", FailureReport(failure))
 }
 
-/// Writes the line that standard error has of a faulty board of the command line.
-fn write_board_report<W: Write>(to: &mut W, fault: BoardFault) -> io::Result<()>
-    ensures { OnOk result (Appends (W.contents to.old) (W.contents to.new)
-        (given_board_report fault ++ 10 ∷ [])) }
-{
-    writeln!(to, "{}", BoardReport(fault))
-}
+/// A failure as standard error names it.
+#[derive(Clone, Copy)]
+struct FailureReport(Failure);
 
 /// A fault as standard error names it, by its line and its number.
 #[derive(Clone, Copy)]
@@ -96,6 +109,26 @@ fn board_code(fault: BoardFault) -> u8
         BoardFault::BadBoot => 6,
         BoardFault::BadLimit => 7,
         BoardFault::Memory => 8,
+    }
+}
+
+impl fmt::Display for FailureReport {
+    ghost use Rattle.std.specs.Prelude.{Some};
+    ghost use Rattle.psci_command.specs.Exit.{failure_report};
+
+    ghost output = { λ r. Some (failure_report r.0) };
+
+    fn fmt<W: fmt::Write>(&self, f: &mut fmt::Formatter<W>) -> fmt::Result {
+        match self.0 {
+            Failure::CommandLine => Ok(()),
+            Failure::Board(fault) => write!(f, "{}", BoardReport(fault)),
+            Failure::TooManyCores => write!(f, "too many cores"),
+            Failure::Replay(fault) => write!(f, "{}", Report(fault)),
+            Failure::Gate => write!(f, "gate limit"),
+            Failure::Gather => write!(f, "gather fault"),
+            Failure::Audit(AuditFailure::Ticket) => write!(f, "audit fault 1"),
+            Failure::Audit(AuditFailure::Illegal(place)) => write!(f, "audit fault 2 at {place}"),
+        }
     }
 }
 

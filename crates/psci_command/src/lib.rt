@@ -5,9 +5,15 @@
 #![tactic(auto)]
 
 mod command_line;
+mod commands;
 mod exit;
+mod options;
 mod plain;
+mod requests;
+mod storm_command;
+mod threads_command;
 
-pub use command_line::{Request, StormRequest, asked, words};
-pub use exit::Failure;
+pub use command_line::{asked, words};
+pub use exit::{AuditFailure, Failure};
 pub use psci_script::{Board, BoardFault, ReadBoard};
+pub use requests::{Request, StormRequest, ThreadsRequest};

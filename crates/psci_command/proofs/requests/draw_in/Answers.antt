@@ -1,20 +1,18 @@
--- A storm has the board and the numbers that its matches have.
+-- The board and the numbers are those that the matches have.
 use Rattle.std.proofs.Common.{◌∙◌, ℕ, List, Option, None, Some, ap, sym, subst, inl, inr}
 use Rattle.std.specs.Prelude.{codes, option_map}
-use Rattle.std.specs.Str.Parse.{ExplainsUnsignedError, HasUnsignedDigitsIfOk, ParsesBool}
-use Rattle.std.specs.Str.Parse.{ParsesUnsigned}
+use Rattle.std.specs.Str.Parse.{ExplainsUnsignedError, HasUnsignedDigitsIfOk, ParsesUnsigned}
 use Rattle.clap.proofs.WalkLemmas.{first_value-rows, one_text-rows}
 use Rattle.clap.specs.Words.{found_of, one_text, rows_of}
-use Rattle.psci_command.specs.Commands.{IsStormOf}
-use Rattle.psci_command.specs.Values.{IsFlagIn, IsNumberIn}
-use Rattle.psci_command.proofs.Flags.{flag_is}
+use Rattle.psci_command.specs.Commands.{IsDrawOf}
+use Rattle.psci_command.specs.Values.{IsNumberIn}
 use Rattle.psci_command.proofs.Numbers.{number_is}
-use Rattle.psci_command.proofs.command_line.storm_in.Goals as goal
+use Rattle.psci_command.proofs.requests.draw_in.Goals as goal
 
 pub returns-in_err-get_str : goal.returns-in_err-get_str
 returns-in_err-get_str c =
     let f = found_of c.args.matches.now in
-    subst (IsStormOf (rows_of f)) (sym c.from_residual.ensures)
+    subst (IsDrawOf (rows_of f)) (sym c.from_residual.ensures)
     (inl (sym (first_value-rows f (codes "board")) ∙ sym c.get_str.ensures
     ∙ ap (option_map (λ s. s.now)) c.in_err-get_str.was))
 
@@ -27,7 +25,7 @@ returns-in_err-get_one c =
     c.get_one.ensures.none c.get_one.ensures.value in
     let none : IsNumberIn (one_text f (codes "seed")) None =
     subst (IsNumberIn (one_text f (codes "seed"))) c.in_err-get_one.was read in
-    subst (IsStormOf (rows_of f)) (sym c.from_residual-in_err-get_one.ensures)
+    subst (IsDrawOf (rows_of f)) (sym c.from_residual-in_err-get_one.ensures)
     (inr (inl (subst (λ (t : Option (List ℕ)). IsNumberIn t None)
     (one_text-rows f (codes "seed")) none)))
 
@@ -40,7 +38,7 @@ returns-in_err-get_one-2 c =
     c.get_one-2.ensures.none c.get_one-2.ensures.value in
     let none : IsNumberIn (one_text f (codes "count")) None =
     subst (IsNumberIn (one_text f (codes "count"))) c.in_err-get_one-2.was read in
-    subst (IsStormOf (rows_of f)) (sym c.from_residual-in_err-get_one-2.ensures)
+    subst (IsDrawOf (rows_of f)) (sym c.from_residual-in_err-get_one-2.ensures)
     (inr (inr (subst (λ (t : Option (List ℕ)). IsNumberIn t None)
     (one_text-rows f (codes "count")) none)))
 
@@ -54,9 +52,7 @@ returns c =
     let count = number_is
     (λ t r. ParsesUnsigned 64 10 t r × ExplainsUnsignedError 10 t r × HasUnsignedDigitsIfOk t r)
     (λ t x g. g.0) (one_text f (codes "count")) c.get_one-2.result
-    c.get_one-2.ensures.none c.get_one-2.ensures.value in
-    let counts = flag_is ParsesBool (λ t x g. g) (one_text f (codes "counts")) c.get_one-3.result
-    c.get_one-3.ensures.none c.get_one-3.ensures.value in (
+    c.get_one-2.ensures.none c.get_one-2.ensures.value in (
       sym (first_value-rows f (codes "board")) ∙ sym c.get_str.ensures
           ∙ ap (option_map (λ s. s.now)) c.in_ok-get_str.was,
       subst (λ (t : Option (List ℕ)). IsNumberIn t (Some c.in_ok-get_one.field-0))
@@ -65,8 +61,4 @@ returns c =
       subst (λ (t : Option (List ℕ)). IsNumberIn t (Some c.in_ok-get_one-2.field-0))
           (one_text-rows f (codes "count"))
           (subst (IsNumberIn (one_text f (codes "count"))) c.in_ok-get_one-2.was count),
-      subst (λ (t : Option (List ℕ)). IsFlagIn t c.unwrap_or.result)
-          (one_text-rows f (codes "counts"))
-          (subst (IsFlagIn (one_text f (codes "counts"))) (sym c.unwrap_or.ensures) counts),
-      c.get_str-2.ensures ∙ first_value-rows f (codes "keep"),
     )

@@ -1,10 +1,10 @@
--- The command `storm` has the board, two numbers, a flag and a text.
-use Rattle.std.proofs.Common.{◌≡◌, ◌∙◌, ap, ap₂, rules, codes}
+-- A board and two numbers are added, one after the other.
+use Rattle.std.proofs.Common.{◌≡◌, ◌∙◌, ap, ap₂, refl, rules, codes}
 use Rattle.std.proofs.lemmas.Result.{IfOk-weaker}
-use Rattle.clap.specs.Words.{app_of, new_app, with_rule}
+use Rattle.clap.specs.Words.{with_rule}
 use Rattle.clap.specs.declared.builder.value_parser.ValueParser.TheVariants.{Unsigned}
 use Rattle.psci_command.specs.Program.{number_rule}
-use Rattle.psci_command.proofs.command_line.storm_command.Goals as goal
+use Rattle.psci_command.proofs.options.drawn.Goals as goal
 
 pub returns : goal.returns
 returns c =
@@ -13,12 +13,8 @@ returns c =
     rw c.value_parser-2.ensures at c.range.ensures in
     let seed_is = c.number.ensures.rule ∙ ap (number_rule (codes "seed")) any_seed in
     let count_is = c.number-2.ensures.rule ∙ ap (number_rule (codes "count")) any_count in
-    let bare_is : app_of c.long_about.result ≡ new_app (codes "storm") = search rules in
-    IfOk-weaker c.arg-5.result _ _ (λ r h. h.shape c.text.ensures.local
-    ∙ ap₂ with_rule (c.in_ok-arg-4.ensures.shape c.flag.ensures.local
-    ∙ ap₂ with_rule (c.in_ok-arg-3.ensures.shape c.number-2.ensures.local
+    IfOk-weaker c.arg-3.result _ _ (λ r h. h.shape c.number-2.ensures.local
     ∙ ap₂ with_rule (c.in_ok-arg-2.ensures.shape c.number.ensures.local
     ∙ ap₂ with_rule (c.in_ok-arg.ensures.shape c.board.ensures.local
-    ∙ ap₂ with_rule bare_is c.board.ensures.rule) seed_is) count_is) c.flag.ensures.rule)
-    c.text.ensures.rule)
-    c.arg-5.ensures
+    ∙ ap₂ with_rule refl c.board.ensures.rule) seed_is) count_is)
+    c.arg-3.ensures

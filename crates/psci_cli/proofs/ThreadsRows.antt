@@ -1,0 +1,95 @@
+-- The lines of threads, and how threads end.
+use Rattle.std.proofs.Common.{◌≡◌, Result, Ok, Err, refl, inl, inr, ap, arith}
+use Rattle.std.specs.Fmt.{digits}
+use Rattle.std.specs.Prelude.{codes}
+use Rattle.psci_command.specs.psci_board.Board.{BoardValue, cores}
+use Rattle.psci_command.specs.psci_board_text.declared.fault.BoardFault.{BoardFault}
+use Rattle.psci_command.specs.psci_board_text.declared.fault.BoardFault.TheVariants as boards
+use Rattle.psci_command.specs.declared.exit.AuditFailure.TheVariants as failures
+use Rattle.psci_command.specs.declared.exit.Failure.TheVariants.{Audit, Gate, Gather}
+use Rattle.psci_command.specs.declared.exit.Failure.TheVariants.{Replay, TooManyCores}
+use Rattle.psci_command.specs.declared.exit.Failure.TheVariants.{Board as GivenBoard}
+use Rattle.psci_command.specs.psci_script.declared.fault.ReplayFault.TheVariants.{Memory, Read}
+use Rattle.psci_command.specs.psci_script.declared.fault.ReplayFault.TheVariants.{Write}
+use Rattle.psci_threads.specs.declared.fault.BenchFault.{BenchFault}
+use Rattle.psci_threads.specs.declared.fault.BenchFault.TheVariants as faults
+use Rattle.psci_audit.specs.declared.fault.AuditFault.TheVariants as found
+use Rattle.psci_cli.specs.Threading.{IsTooLarge, ThreadsEnds, failure_at}
+use Rattle.psci_cli.specs.ThreadsText.{threads_text}
+
+no_call : threads_text 0 0 0 ≡ codes "threads firmware 0 controller 0 audited 0"
+unfolding digits
+no_call = refl
+
+line : threads_text 1207 93 1300 ≡ codes "threads firmware 1207 controller 93 audited 1300"
+unfolding digits
+line = refl
+
+-- each fault of a run has a failure of its own, but for the two wants of memory
+gate : failure_at faults.Gate ≡ Gate
+gate = refl
+
+gather : failure_at faults.Gather ≡ Gather
+gather = refl
+
+memory : failure_at faults.Memory ≡ Replay Memory
+memory = refl
+
+memory_of_the_audit : failure_at (faults.Audit found.Memory) ≡ Replay Memory
+memory_of_the_audit = refl
+
+ticket : failure_at (faults.Audit found.Ticket) ≡ Audit failures.Ticket
+ticket = refl
+
+-- the place stays
+illegal : failure_at (faults.Audit (found.Illegal 41)) ≡ Audit (failures.Illegal 41)
+illegal = refl
+
+-- the board is looked at first: a faulty one is neither too large nor run
+faulty : ThreadsEnds (Err (GivenBoard boards.BadBoot)) (Err boards.BadBoot)
+faulty = refl
+
+faulty_is_not_large : ThreadsEnds (Err TooManyCores) (Err boards.BadBoot) → ⊥
+faulty_is_not_large h = let said = h.is_said in cc
+
+faulty_is_not_run : ThreadsEnds (Err Gate) (Err boards.BadBoot) → ⊥
+faulty_is_not_run (inl h) = let write = h.1 in cc
+faulty_is_not_run (inr h) = let said = h.started.is_said in cc
+
+-- 64 cores are not too many, and 65 are
+abbrev board_in : Result BoardValue BoardFault → BoardValue → BoardValue
+board_in (Ok b) other = b
+board_in (Err fault) other = other
+
+abbrev says : BoardValue → Result BoardValue BoardFault
+says b = Ok b
+
+said_once : (b c : BoardValue) → says b ≡ says c → cores b ≡ cores c
+said_once b c same = ap (λ (r : Result BoardValue BoardFault). cores (board_in r b)) same
+
+most : (b : BoardValue) → cores b ≡ 64 → IsTooLarge (Ok b) → ⊥
+most b is h = let same = said_once b h.board h.is_said in absurd (omega (arith, is, same, h.many))
+
+too_many : (b : BoardValue) → cores b ≡ 65 → ThreadsEnds (Err TooManyCores) (Ok b)
+too_many b is = record { board = b; is_said = refl; many = omega (arith, is) }
+
+too_many_not_run : (b : BoardValue) → cores b ≡ 65 → ThreadsEnds (Ok tt) (Ok b) → ⊥
+too_many_not_run b is h =
+    let same = said_once b h.board h.is_said in absurd (omega (arith, is, same, h.few))
+
+-- the line that can't be written
+not_written : (b : BoardValue) → cores b ≡ 4 → ThreadsEnds (Err (Replay Write)) (Ok b)
+not_written b is = inl (record { board = b; is_said = refl; few = omega (arith, is) }, refl)
+
+-- nothing is read
+no_read_at : (fault : BenchFault) → Replay Read ≡ failure_at fault → ⊥
+no_read_at faults.Gate e = cc
+no_read_at faults.Gather e = cc
+no_read_at faults.Memory e = cc
+no_read_at (faults.Audit found.Ticket) e = cc
+no_read_at (faults.Audit (found.Illegal place)) e = cc
+no_read_at (faults.Audit found.Memory) e = cc
+
+not_read : (b : BoardValue) → ThreadsEnds (Err (Replay Read)) (Ok b) → ⊥
+not_read b (inl h) = let write = h.1 in cc
+not_read b (inr h) = no_read_at h.fault h.is_told

@@ -1,0 +1,78 @@
+//! The options of commands.
+
+ghost use Rattle.std.specs.Prelude.{◌≡◌, false, codes, IfOk};
+ghost use Rattle.clap.specs.Words.{app_of, rule_of, with_rule};
+ghost use Rattle.psci_command.specs.Program.{board_rule, count_rule, flag_rule, number_rule};
+ghost use Rattle.psci_command.specs.Program.{seed_rule, text_rule};
+
+use clap::builder::ValueParser;
+use clap::{Arg, ArgAction, Command, value_parser};
+use std::alloc::{AllocError, Global};
+
+/// The board, where none is given: two clusters of two cores.
+const BOARD: &str = "(2 2) exec 0x40000000-0x40100000 boot 0x40000000 starts 1000 lives 3";
+
+const BOARD_HELP: &str = "The board, as the first line of a script has it behind its first word";
+
+/// The command, with a board, a seed and a count as well.
+pub fn drawn<'a>(
+    command: Command<'a>,
+    alloc: Global,
+    seed_help: &'a str,
+    count_help: &'a str,
+) -> Result<Command<'a>, AllocError>
+    ensures { IfOk result (λ drawn. app_of drawn ≡ with_rule (with_rule
+        (with_rule (app_of command.entry) board_rule) seed_rule) count_rule) }
+{
+    command
+        .arg(board(alloc))?
+        .arg(number(alloc, "seed", seed_help, value_parser!(u64)))?
+        .arg(number(
+            alloc,
+            "count",
+            count_help,
+            value_parser!(u64).range(..=10_000),
+        ))
+}
+
+/// The board, which may be left out.
+fn board<'a>(alloc: Global) -> Arg<'a>
+    ensures rule { rule_of result ≡ board_rule }
+    ensures local { result.global ≡ false }
+{
+    Arg::new(alloc, "board")
+        .long("board")
+        .help(BOARD_HELP)
+        .default_value(BOARD)
+}
+
+/// A number that must be given, under this name.
+fn number<'a>(alloc: Global, name: &'a str, help: &'a str, parser: ValueParser<'a>) -> Arg<'a>
+    ensures rule { rule_of result ≡ number_rule name.entry.now parser.entry }
+    ensures local { result.global ≡ false }
+{
+    Arg::new(alloc, name)
+        .long(name)
+        .help(help)
+        .required(true)
+        .value_parser(parser)
+}
+
+/// A flag of this name, which may be left out.
+pub fn flag<'a>(alloc: Global, name: &'a str, help: &'a str) -> Arg<'a>
+    ensures rule { rule_of result ≡ flag_rule name.entry.now }
+    ensures local { result.global ≡ false }
+{
+    Arg::new(alloc, name)
+        .long(name)
+        .help(help)
+        .action(ArgAction::SetTrue)
+}
+
+/// A text, which may be left out, under this name.
+pub fn text<'a>(alloc: Global, name: &'a str, help: &'a str) -> Arg<'a>
+    ensures rule { rule_of result ≡ text_rule name.entry.now }
+    ensures local { result.global ≡ false }
+{
+    Arg::new(alloc, name).long(name).help(help)
+}
