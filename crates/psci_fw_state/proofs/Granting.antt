@@ -13,6 +13,7 @@ use Rattle.psci_board.specs.declared.node.Node.{Node}
 use Rattle.psci_coord.specs.declared.part.Part.{Part}
 use Rattle.psci_link.specs.Message.{PartByPart}
 use Rattle.psci_tree.specs.Changes.{MayGrant}
+use Rattle.psci_tree.specs.Standing.{on_path as on_path_of}
 use Rattle.psci_tree.specs.Recount.{TreeValue, granted_at, is_confirmed_at}
 use Rattle.psci_fw_spec.specs.Confirmed.{claimed_anew, unless_claimed}
 use Rattle.psci_fw_spec.specs.Paths.{claimed_or, granted_with}
@@ -27,14 +28,11 @@ pub record IsLaid (b : BoardValue) (c : ℕ) (parts : List Part) (before : ℕ �
 eqb_swap : (x y : ℕ) → (x == y) ≡ (y == x)
 eqb_swap x y = grind arith
 
--- the node of a level on a core's path
-pub path_at : (b : BoardValue) (core level : ℕ) (nodes : List Node) (other : Node) → PathLaws b
-    → nodes ≡ path b core → level ≤ height b
-    → get_or nodes level other ≡ record { level = level; place = up b level core }
-path_at b core level nodes other laws e h =
-    ap (λ (ns : List Node). get_or ns level other) e
-    ∙ get_or_from_slice_get (path b core) level (record { level = level; place = up b level core })
-    other (laws.node core level h)
+-- the node of a level on a core's path, as the tree says it
+pub on_board : (b : BoardValue) (ws : List (List ℕ)) (core level : ℕ) (node : Node)
+    → node ≡ on_path_of ws core level → ws ≡ b.levels
+    → node ≡ record { level = level; place = up b level core }
+on_board b ws core level node e same = e ∙ ap (λ vs. on_path_of vs core level) same
 
 pub on_path : (b : BoardValue) (ws : List (List ℕ)) (core level : ℕ) → PathLaws b → ws ≡ b.levels
     → core < cores b → level ≤ height b

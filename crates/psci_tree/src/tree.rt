@@ -310,7 +310,13 @@ impl Tree {
     {
         let number = core.number as usize;
         let state = self.cores[number].changed(&Change { activity, started });
-        change_core(&mut self.root, &self.board, core, &self.ways[number], &state);
+        change_core(
+            &mut self.root,
+            &self.board,
+            core,
+            &self.ways[number],
+            &state,
+        );
         self.cores[number] = state;
     }
 
@@ -322,7 +328,14 @@ impl Tree {
         ensures tree { IsDomainTree self.new }
     {
         let way = &self.ways[core.number as usize];
-        clear_up(&mut self.granted, &mut self.confirmed, &self.board, core, way, 0);
+        clear_up(
+            &mut self.granted,
+            &mut self.confirmed,
+            &self.board,
+            core,
+            way,
+            0,
+        );
     }
 
     /// Turns off every core, and grants depth 3 to every domain, which is confirmed.

@@ -1,12 +1,9 @@
-use Rattle.std.proofs.Common.{◌≡◌, ◌<◌, ◌+◌, ◌∙◌, ℕ, List, [], map, length, get_or, ap, sym, arith, suc}
-use Rattle.std.proofs.Math.ListN.{set}
+use Rattle.std.proofs.Common.{◌≡◌, ◌<◌, ◌+◌, ◌∙◌, ℕ, List, map, length, get_or, ap, sym, arith, suc}
 use Rattle.std.proofs.lemmas.List.{length-map}
-use Rattle.psci_board.specs.Board.{place_above}
-use Rattle.psci_board.specs.declared.node.Node.{Node}
 use Rattle.psci_tree.specs.Recount.{level_sizes}
 use Rattle.psci_tree.specs.Way.{cleared_from}
 use Rattle.psci_tree.proofs.Cleared.{path_node, cleared_step, cleared_top}
-use Rattle.psci_tree.proofs.Granted.{RowOf, row_of, row_lengths, length_level_sizes}
+use Rattle.psci_tree.proofs.Granted.{row_of, row_lengths, length_level_sizes}
 use Rattle.psci_tree.proofs.grants.+clear_up.Goals as goal
 
 -- how many rows there are

@@ -1,7 +1,8 @@
 use Rattle.std.proofs.Common.{◌≡◌, ◌<◌, ◌+◌, ◌++◌, ◌∷◌, ◌∙◌, [], ℕ, List, length, get_or, ap, sym, subst}
-use Rattle.std.proofs.Common.{arith, rules, inl, inr}
+use Rattle.std.proofs.Common.{arith, inl, inr}
 use Rattle.std.proofs.lemmas.Bool.{cases_eq}
 use Rattle.std.proofs.lemmas.List.{get_or_push, get_or_append_left, length_push}
+use Rattle.psci_board.specs.Board.{size_below}
 use Rattle.psci_tree.specs.declared.way.Way.{Way}
 use Rattle.psci_tree.specs.Way.{IsWayOf}
 use Rattle.psci_tree.proofs.way.ways_of.Goals as goal
@@ -33,3 +34,17 @@ loop-number-preserved c = record {
       c.loop-number.number c.loop-number.invariant.count c.in_ok-push.ensures.items
       c.way_to.ensures c.loop-number.invariant.each;
 }
+
+pub returns : goal.returns
+returns c =
+    let levels : List (List ℕ) = c.args.board.now.levels in
+    let all : c.loop-number.number ≡ size_below levels = omega (
+      arith,
+      c.loop-number-test.false,
+      c.loop-number.auto.number-end,
+      c.cores-number-end.ensures.cores,
+    ) in
+    record {
+      count = c.loop-number.invariant.count ∙ all;
+      each = λ core w h. c.loop-number.invariant.each core w (omega (arith, h, all));
+    }
