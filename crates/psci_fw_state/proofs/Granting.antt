@@ -1,11 +1,11 @@
 -- Parts are granted one after another, from the core up.
 use Rattle.std.proofs.Common.{◌≡◌, ℕ, ◌+◌, ◌-◌, ◌<◌, ◌≤◌, ◌==◌, ◌&&◌, Bool, true, false, cond}
-use Rattle.std.proofs.Common.{List, length, drop, get_or, slice_get, Some, Option, refl, sym}
+use Rattle.std.proofs.Common.{List, length, drop, slice_get, Some, Option, refl, sym}
 use Rattle.std.proofs.Common.{subst, ◌∙◌}
 use Rattle.std.proofs.Common.{ap, arith, inl, inr, add-one}
 use Rattle.std.proofs.lemmas.Bool.{cases_lt, eqb-true}
-use Rattle.std.proofs.lemmas.Option.{get_or_from_slice_get, slice_get_past}
-use Rattle.psci_board.specs.Board.{BoardValue, HasNodeIn, cores, height, path, place_above}
+use Rattle.std.proofs.lemmas.Option.{slice_get_past}
+use Rattle.psci_board.specs.Board.{BoardValue, HasNodeIn, cores, height, place_above}
 use Rattle.psci_board.specs.Board.{size_below}
 use Rattle.psci_board.specs.Board.{up}
 use Rattle.psci_board.specs.Laws.{PathLaws}
@@ -32,6 +32,7 @@ eqb_swap x y = grind arith
 pub on_board : (b : BoardValue) (ws : List (List ℕ)) (core level : ℕ) (node : Node)
     → node ≡ on_path_of ws core level → ws ≡ b.levels
     → node ≡ record { level = level; place = up b level core }
+unfolding up
 on_board b ws core level node e same = e ∙ ap (λ vs. on_path_of vs core level) same
 
 pub on_path : (b : BoardValue) (ws : List (List ℕ)) (core level : ℕ) → PathLaws b → ws ≡ b.levels

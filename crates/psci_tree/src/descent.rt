@@ -17,7 +17,7 @@ use crate::kept::Kept;
 use crate::standing::Standing;
 use crate::state::CoreState;
 use crate::way::Way;
-use psci_board::{Board, Core, Node};
+use psci_board::{Board, Core, MOST_ON_PATH, Node};
 
 /// The domain of a node of the board, one step down for each level.
 pub fn domain_at<'a>(root: &'a Domain, board: &Board, node: Node) -> &'a Domain
@@ -34,39 +34,28 @@ pub fn domain_at<'a>(root: &'a Domain, board: &Board, node: Node) -> &'a Domain
     &parent.children[number as usize]
 }
 
-/// The domain of this level on the path of a core to which this way leads, by one way down, on
-/// which is written by level how each domain stands.
-pub fn domain_of_path<'a>(
-    root: &'a Domain,
-    board: &Board,
-    core: Core,
-    way: &Way,
-    level: u32,
-    standings: &mut [Standing],
-) -> &'a Domain
+/// How the domains on the path of a core to which this way leads stand, by level, on one way down.
+pub fn standings_on(root: &Domain, board: &Board, core: Core, way: &Way) -> [Standing; MOST_ON_PATH]
     requires tree { IsTree board.now.levels }
     requires shape { HasShape root.now board.now.levels }
     requires core { core.number < size_below board.now.levels }
     requires way { IsWayOf board.now.levels core.number way.now }
-    requires level { level ≤ height board.now }
     requires high { height board.now ≤ 3 }
-    requires room { height board.now < length standings.old }
-    ensures domain { (d : Domain) → result.now
-        ≡ get_or (domains_down (height board.now - level) root.now)
-        (place_above board.now.levels level core.number) d }
-    ensures standings { (l : ℕ) (d : Domain) (s : Standing) → level ≤ l → l ≤ height board.now
-        → slice_index_or standings.new l s
-        ≡ kept_standing (get_or (domains_down (height board.now - l) root.now)
-        (place_above board.now.levels l core.number) d) l }
+    ensures { (level : ℕ) (d : Domain) (s : Standing) → level ≤ height board.now
+        → slice_index_or result level s
+        ≡ kept_standing (get_or (domains_down (height board.now - level) root.now)
+        (place_above board.now.levels level core.number) d) level }
 {
-    if level == board.height() {
-        standings[level as usize] = root.standing(level);
-        return root;
+    let height = board.height();
+    let mut standings = [Standing::UNKNOWN; MOST_ON_PATH];
+    let mut own = root;
+    standings[height as usize] = own.standing(height);
+    for step in 0..height {
+        let level = height - 1 - step;
+        own = &own.children[way.numbers[level as usize] as usize];
+        standings[level as usize] = own.standing(level);
     }
-    let parent = domain_of_path(root, board, core, way, level + 1, standings);
-    let own = &parent.children[way.numbers[level as usize] as usize];
-    standings[level as usize] = own.standing(level);
-    own
+    standings
 }
 
 /// Puts a core to which this way leads into another state, and what each domain on its path keeps.

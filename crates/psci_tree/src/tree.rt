@@ -1,7 +1,7 @@
 //! The tree of power domains.
 
 use crate::build::build;
-use crate::descent::{change_core, domain_at, domain_of_path, turn_off};
+use crate::descent::{change_core, domain_at, standings_on, turn_off};
 use crate::domain::Domain;
 use crate::grants::{clear_up, deepest_rows, fill_rows, write};
 use crate::standing::Standing;
@@ -149,10 +149,8 @@ impl Tree {
             ≡ standing self.now (on_path self.now.levels core.number level) }
     {
         law_spans();
-        let mut standings = [Standing::UNKNOWN; MOST_ON_PATH];
         let way = &self.ways[core.number as usize];
-        let _core = domain_of_path(&self.root, &self.board, core, way, 0, &mut standings);
-        standings
+        standings_on(&self.root, &self.board, core, way)
     }
 
     /// The domain of this level on the path of a core.

@@ -11,8 +11,8 @@ use Rattle.psci_tree.proofs.Granted.{place_lt}
 use Rattle.psci_tree.proofs.Standings.{standing_is}
 use Rattle.psci_tree.proofs.tree.Tree.standings.Goals as goal
 
-pub domain_of_path-core-requires-clause-way : goal.domain_of_path-core-requires-clause-way
-domain_of_path-core-requires-clause-way c =
+pub standings_on-requires-clause-way : goal.standings_on-requires-clause-way
+standings_on-requires-clause-way c =
     subst (IsWayOf c.self.inside.board.levels c.args.core.number) (sym c.index-way.ensures)
     (c.self.invariant.lead.each c.args.core.number c.index-way.result.now
     (subst (λ (t : TreeValue). c.args.core.number < size_below t.levels) (sym c.self.view_is)
@@ -32,8 +32,7 @@ returns c = λ level s high.
       level = high;
       place = place_lt t.levels level core tied.valid.tree high c.requires;
     } in
-    c.domain_of_path-core.ensures.standings level root s (omega arith)
-    (omega (arith, high, ap length same))
+    c.standings_on.ensures level root s (omega (arith, high, ap length same))
     ∙ ap (λ ls. kept_standing (get_or (domains_down (length ls - level) root)
     (place_above ls level core) root) level) same
     ∙ standing_is root t node (length t.levels - level) root
