@@ -87,8 +87,8 @@ loop-level-preserved c =
     (sym (slice_get-get_or c.args.parts.now c.loop-level.level unused inside)) c.requires.levels
     c.loop-level.invariant
     (λ l p. let made : ℕ → Node → Bool = λ k n.
-        ((n.level == l) && (n.place == p)) && (nat_lt 0 (granted_at c.loop-level.tree n.level n.place)
-        && is_made_at k (Some part)) in
+    ((n.level == l) && (n.place == p)) && (nat_lt 0 (granted_at c.loop-level.tree n.level n.place)
+    && is_made_at k (Some part)) in
     c.confirm_last.ensures.confirmed l p
     ∙ ap (λ k. cond (made k c.on_path-node.result) true (is_confirmed_at c.loop-level.tree l p)) known_is
     ∙ ap (λ (n : Node). cond (made (known c.loop-level.tree n) n) true
