@@ -79,7 +79,7 @@ named_none ws word i e h a =
     none_passes (has_word ws word) (size_below ws) 0 i e (omega arith) (omega arith) (eq-eqb _ _ a)
 
 -- none, where each place has another word
-none_named : (ws : List (List ℕ)) (word : ℕ)
+pub none_named : (ws : List (List ℕ)) (word : ℕ)
     → ((i : ℕ) → i < size_below ws → address_up ws i ≡ word → ⊥) → index_named ws word ≡ None
 none_named ws word other =
     found_none (has_word ws word) (size_below ws) 0

@@ -7,6 +7,7 @@ pub mod Groups
 pub mod Levels
 mod LimitRows
 pub mod Named
+pub mod NamedDown
 pub mod Parents
 pub mod Parts
 pub mod Paths

@@ -80,7 +80,7 @@ unfolding core_of
 core_named b t c h = rw (named_at b.levels (address b 0 c) c t h refl) refl
 
 -- one field further
-shifted : (a x l : ℕ) → a ≡ x / 256 → a / 2 ^ (8 * l) ≡ x / 2 ^ (8 * suc l)
+pub shifted : (a x l : ℕ) → a ≡ x / 256 → a / 2 ^ (8 * l) ≡ x / 2 ^ (8 * suc l)
 shifted a x l e =
     let step : 8 * suc l ≡ 8 + 8 * l = omega arith in
     rw (e, step, pow-add 2 8 (8 * l)) (div-div-eq-div-mul x 256 (2 ^ (8 * l)))

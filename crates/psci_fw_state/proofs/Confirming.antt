@@ -1,9 +1,11 @@
 -- Claims are confirmed one after another, from the core up.
 use Rattle.std.proofs.Common.{◌≡◌, ℕ, ◌+◌, ◌<◌, ◌≤◌, ◌==◌, ◌&&◌, Bool, true, false, cond, nat_lt}
 use Rattle.std.proofs.Common.{List, length, slice_get, None, Option, refl, sym, ◌∙◌}
-use Rattle.std.proofs.Common.{ap, arith, inl, inr}
+use Rattle.std.proofs.Common.{ap, arith, inl, inr, min}
 use Rattle.std.specs.List.{sum_by}
+use Rattle.std.proofs.Math.Nat.{min-eq_left, min-eq_right}
 use Rattle.std.proofs.lemmas.Bool.{cases_lt, eqb-true}
+use Rattle.std.proofs.lemmas.Option.{slice_get_past}
 use Rattle.psci_board.specs.Board.{BoardValue, below, below_in, cores, height, up}
 use Rattle.psci_board.specs.declared.node.Node.{Node}
 use Rattle.psci_coord.specs.psci_parts.declared.part.Part.{Part}
@@ -11,6 +13,7 @@ use Rattle.psci_link.specs.Message.{AckValue}
 use Rattle.psci_link.specs.Slots.{message_in, slot_of}
 use Rattle.psci_tree.specs.Recount.{TreeValue, IsDomainTree, state_at, granted_at, known_at, known}
 use Rattle.psci_tree.specs.Recount.{is_confirmed_at}
+use Rattle.psci_tree.specs.Standing.{on_path as on_path_of}
 use Rattle.psci_fw_spec.specs.Changes.{confirms_on}
 use Rattle.psci_fw_spec.specs.Confirmed.{applied_part, is_made_at}
 use Rattle.psci_fw_state.specs.Confirming.{is_last_claim}
@@ -48,6 +51,20 @@ known_below b t u n cores levels =
     let same : (λ k. known_at u k) ≡ (λ k. known_at t k) = λ i k. (cores k i).known in
     ap (λ (f : ℕ → ℕ). sum_by f (below_in u.levels n)) same
     ∙ ap (λ (ws : List (List ℕ)). sum_by (known_at t) (below_in ws n)) levels
+
+-- the sum that was read before the parts is still that of the domain
+pub known_still : (b : BoardValue) (t u : TreeValue) (core level k : ℕ) (n : Node)
+    → ((c : ℕ) → state_at u c ≡ state_at t c) → t.levels ≡ b.levels → u.levels ≡ b.levels
+    → k ≡ known t (on_path_of t.levels core level)
+    → n ≡ record { level = level; place = up b level core } → k ≡ known u n
+unfolding up
+known_still b t u core level k n cores board now e f =
+    let own : Node = record { level = level; place = up b level core } in
+    e
+    ∙ ap (λ (ws : List (List ℕ)). known t (on_path_of ws core level)) board
+    ∙ known_below b t t own (λ c. refl) board
+    ∙ sym (known_below b t u own cores now)
+    ∙ ap (known u) (sym f)
 
 -- one level more
 module _ (b : BoardValue) (c : ℕ) (parts : List Part) (t u w : TreeValue) (n : ℕ)
@@ -105,23 +122,6 @@ module _ (b : BoardValue) (c : ℕ) (parts : List Part) (t u w : TreeValue) (n :
     tree = tree;
   }
 
--- all levels: above them nothing is granted
-pub confirmed_all : (b : BoardValue) (c : ℕ) (parts : List Part) (t u : TreeValue) (n : ℕ)
-    → IsDomainTree t → t.levels ≡ b.levels → height b < n → IsConfirmed b c parts t u n
-    → (l p : ℕ) → is_confirmed_at u l p
-    ≡ cond (is_last_claim b t c parts l p) true (is_confirmed_at t l p)
-confirmed_all b c parts t u n is board above done l p = elim (cases_lt l n) [
-  | inl h ↦ done.low l p h
-  | inr h ↦
-      let none : granted_at t l p ≡ 0 =
-      granted_beyond t l p is (λ low in'. absurd (omega (arith, ap length board))) in
-      done.high l p h ∙ sym (rw none (off (p == up b l c)))
-]
-  where
-    off : (on : Bool) → cond (on && false) true (is_confirmed_at t l p) ≡ is_confirmed_at t l p
-    off true = refl
-    off false = refl
-
 -- no parts, nothing is confirmed
 pub confirmed_none : (b : BoardValue) (c : ℕ) (parts : List Part) (t : TreeValue) (l p : ℕ)
     → slice_get parts l ≡ None
@@ -134,6 +134,36 @@ confirmed_none b c parts t l p none =
     off true true = refl
     off true false = refl
     off false some = refl
+
+-- all parts: what is beyond them is not confirmed, and above all levels nothing is granted
+pub confirmed_all : (b : BoardValue) (c : ℕ) (parts : List Part) (t u : TreeValue) (n : ℕ)
+    → IsDomainTree t → t.levels ≡ b.levels → min (length parts) (height b + 1) ≤ n
+    → IsConfirmed b c parts t u n → (l p : ℕ) → is_confirmed_at u l p
+    ≡ cond (is_last_claim b t c parts l p) true (is_confirmed_at t l p)
+confirmed_all b c parts t u n is board end done l p = elim (cases_lt l n) [
+  | inl h ↦ done.low l p h
+  | inr h ↦ done.high l p h ∙ (elim (cases_lt (height b) l) [
+    | inl above ↦
+        let none : granted_at t l p ≡ 0 =
+        granted_beyond t l p is (λ low in'. absurd (omega (arith, ap length board))) in
+        sym (rw none (off (p == up b l c)))
+    | inr low ↦ confirmed_none b c parts t l p (slice_get_past parts l (short h low))
+  ])
+]
+  where
+    off : (on : Bool) → cond (on && false) true (is_confirmed_at t l p) ≡ is_confirmed_at t l p
+    off true = refl
+    off false = refl
+
+    short : n ≤ l → l ≤ height b → length parts ≤ l
+    short h low = elim (cases_lt (length parts) (height b + 1)) [
+      | inl few ↦
+          let least : min (length parts) (height b + 1) ≡ length parts =
+          min-eq_left (omega arith) in omega (arith, least, end, h)
+      | inr many ↦
+          let least : min (length parts) (height b + 1) ≡ height b + 1 = min-eq_right many in
+          absurd (omega (arith, least, end, h, low))
+    ]
 
 -- the values say the same
 pub claims_confirmed : (s : StateValue) (a : AckValue) (parts : List Part)

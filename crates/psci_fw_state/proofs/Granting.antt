@@ -1,11 +1,11 @@
 -- Parts are granted one after another, from the core up.
 use Rattle.std.proofs.Common.{◌≡◌, ℕ, ◌+◌, ◌-◌, ◌<◌, ◌≤◌, ◌==◌, ◌&&◌, Bool, true, false, cond}
-use Rattle.std.proofs.Common.{List, length, drop, get_or, slice_get, Some, Option, refl, sym}
+use Rattle.std.proofs.Common.{List, length, drop, slice_get, Some, Option, refl, sym}
 use Rattle.std.proofs.Common.{subst, ◌∙◌}
 use Rattle.std.proofs.Common.{ap, arith, inl, inr, add-one}
 use Rattle.std.proofs.lemmas.Bool.{cases_lt, eqb-true}
-use Rattle.std.proofs.lemmas.Option.{get_or_from_slice_get, slice_get_past}
-use Rattle.psci_board.specs.Board.{BoardValue, HasNodeIn, cores, height, path, place_above}
+use Rattle.std.proofs.lemmas.Option.{slice_get_past}
+use Rattle.psci_board.specs.Board.{BoardValue, HasNodeIn, cores, height, place_above}
 use Rattle.psci_board.specs.Board.{size_below}
 use Rattle.psci_board.specs.Board.{up}
 use Rattle.psci_board.specs.Laws.{PathLaws}
@@ -13,6 +13,7 @@ use Rattle.psci_board.specs.declared.node.Node.{Node}
 use Rattle.psci_coord.specs.psci_parts.declared.part.Part.{Part}
 use Rattle.psci_link.specs.Message.{PartByPart}
 use Rattle.psci_tree.specs.Changes.{MayGrant}
+use Rattle.psci_tree.specs.Standing.{on_path as on_path_of}
 use Rattle.psci_tree.specs.Recount.{TreeValue, granted_at, is_confirmed_at}
 use Rattle.psci_fw_spec.specs.Confirmed.{claimed_anew, unless_claimed}
 use Rattle.psci_fw_spec.specs.Paths.{claimed_or, granted_with}
@@ -27,14 +28,12 @@ pub record IsLaid (b : BoardValue) (c : ℕ) (parts : List Part) (before : ℕ �
 eqb_swap : (x y : ℕ) → (x == y) ≡ (y == x)
 eqb_swap x y = grind arith
 
--- the node of a level on a core's path
-pub path_at : (b : BoardValue) (core level : ℕ) (nodes : List Node) (other : Node) → PathLaws b
-    → nodes ≡ path b core → level ≤ height b
-    → get_or nodes level other ≡ record { level = level; place = up b level core }
-path_at b core level nodes other laws e h =
-    ap (λ (ns : List Node). get_or ns level other) e
-    ∙ get_or_from_slice_get (path b core) level (record { level = level; place = up b level core })
-    other (laws.node core level h)
+-- the node of a level on a core's path, as the tree says it
+pub on_board : (b : BoardValue) (ws : List (List ℕ)) (core level : ℕ) (node : Node)
+    → node ≡ on_path_of ws core level → ws ≡ b.levels
+    → node ≡ record { level = level; place = up b level core }
+unfolding up
+on_board b ws core level node e same = e ∙ ap (λ vs. on_path_of vs core level) same
 
 pub on_path : (b : BoardValue) (ws : List (List ℕ)) (core level : ℕ) → PathLaws b → ws ≡ b.levels
     → core < cores b → level ≤ height b

@@ -4,6 +4,8 @@ use Rattle.std.proofs.Common.{List, [], ◌∷◌, length, take, drop, leb, ltb,
 use Rattle.std.proofs.Common.{sym, ◌∙◌, ap, arith, add-one}
 use Rattle.std.specs.List.{list_any, range_with_len}
 use Rattle.std.proofs.lemmas.Bool.{and_parts, eqb-true, leb-true, ltb-true}
+use Rattle.std.proofs.lemmas.Bool.{eq-eqb, le-leb, ltb-false}
+use Rattle.std.proofs.lemmas.List.{get_or_past}
 use Rattle.std.proofs.Math.Seq.{drop-cons}
 use Rattle.psci_board.specs.Board.{BoardValue, HasNodeIn, below, cores, cores_below, has_node}
 use Rattle.psci_board.specs.Board.{height, nodes, span}
@@ -111,3 +113,30 @@ status_none b status n e = by_test (has_node b n) refl
     by_test false f = rw f refl
     by_test true f =
         let x : ◌≡◌ {A = Option CoreSpan} (Some (span b.levels n)) None = rw f at e in cc
+
+-- a core's status is in its row; one that the board does not have is off
+pub status_leaf : (s now : StateValue) (n : Node) → s ≡ now → IsState s → n.level ≡ 0
+    → (row_at s.rows n.place).status ≡ node_status now.board (values_in now).status n
+unfolding values_in node_status
+status_leaf s now n same is leaf =
+    by_test (has_node s.board n) refl
+    ∙ ap (λ (x : StateValue). node_status x.board (λ c. (row_at x.rows c).status) n) same
+  where
+    here : (n.level == 0) ≡ true
+    here = eq-eqb n.level 0 leaf
+
+    by_test : (t : Bool) → has_node s.board n ≡ t → (row_at s.rows n.place).status
+        ≡ node_status s.board (λ c. (row_at s.rows c).status) n
+    by_test true f = rw (f, here) refl
+    by_test false f =
+        let past : length s.rows ≤ n.place = omega (arith, is.rows, outside f) in
+        rw (f, get_or_past s.rows n.place off_row past) refl
+      where
+        low : leb n.level (height s.board) ≡ true
+        low = le-leb n.level (height s.board) (omega (arith, leaf))
+
+        outside : has_node s.board n ≡ false → cores s.board ≤ n.place
+        outside g =
+            let no : ltb n.place (nodes s.board n.level) ≡ false = rw low at g in
+            let past : nodes s.board n.level ≤ n.place = ltb-false n.place _ no in
+            rw leaf at past

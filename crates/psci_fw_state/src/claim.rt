@@ -161,8 +161,8 @@ fn grant_parts(tree: &mut Tree, board: &Board, core: Core, parts: &[Part])
     law_cores();
     law_granted();
     law_confirmed();
-    let path = board.path(core);
     for (level, part) in parts.iter().enumerate() {
-        tree.grant(path[level], part.depth);
+        let node = tree.on_path(core, level as u32);
+        tree.grant(node, part.depth);
     }
 }

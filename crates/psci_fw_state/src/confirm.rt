@@ -1,11 +1,11 @@
 //! What an acknowledgement confirms.
 
-ghost use Rattle.std.specs.Prelude.{◌≡◌, ◌≤◌, ◌<◌, ◌==◌, ◌&&◌, ℕ, true, nat_lt, None, Option};
+ghost use Rattle.std.specs.Prelude.{◌≡◌, ◌≤◌, ◌<◌, ◌==◌, ◌&&◌, ℕ, true, nat_lt, None, Some};
 ghost use Rattle.std.specs.Prelude.{slice_get, if◌then◌else◌};
 ghost use Rattle.psci_board.specs.Board.{HasNodeIn, IsBoard, cores};
 ghost use Rattle.psci_link.specs.Slots.{slot_of};
 ghost use Rattle.psci_tree.specs.Recount.{IsDomainTree, state_at, granted_at, is_confirmed_at};
-ghost use Rattle.psci_tree.specs.Recount.{known};
+ghost use Rattle.psci_tree.specs.Recount.{known as known_of};
 ghost use Rattle.psci_fw_spec.specs.Confirmed.{applied_part, is_made_at};
 ghost use Rattle.psci_fw_state.specs.Confirming.{is_last_claim};
 ghost use Rattle.psci_fw_state.specs.Seen.{values_in};
@@ -51,27 +51,24 @@ pub fn confirm_parts(tree: &mut Tree, board: &Board, core: Core, parts: &[Part])
     if core.number >= board.cores() {
         return;
     }
-    let path = board.path(core);
-    for level in 0..board.height() + 1 {
-        confirm_last(tree, path[level as usize], part_at(parts, level));
+    let standings = tree.standings(core);
+    let most = parts.len().min(board.height() as usize + 1);
+    for level in 0..most {
+        let node = tree.on_path(core, level as u32);
+        confirm_last(tree, node, standings[level].known, parts[level]);
     }
 }
 
-/// The part of a level.
-fn part_at(parts: &[Part], level: u32) -> Option<Part>
-    ensures { result ≡ slice_get parts.now level }
-{
-    parts.get(level as usize).copied()
-}
-
-/// Confirms what was granted to a domain if this part is of the last claim on it.
-fn confirm_last(tree: &mut Tree, node: Node, part: Option<Part>)
+/// Confirms what was granted to a domain, of which the cores below were started so often, if this
+/// part is of the last claim on it.
+fn confirm_last(tree: &mut Tree, node: Node, known: u64, part: Part)
     requires domain { HasNodeIn tree.old.levels node }
+    requires known { known ≡ known_of tree.old node }
     requires tree { IsDomainTree tree.old }
     ensures confirmed { (level place : ℕ) → is_confirmed_at tree.new level place
         ≡ (if (node.level == level && node.place == place)
         && (nat_lt 0 (granted_at tree.old node.level node.place)
-        && is_made_at (known tree.old node) part)
+        && is_made_at known (Some part))
         then true else is_confirmed_at tree.old level place) }
     ensures granted { (level place : ℕ)
         → granted_at tree.new level place ≡ granted_at tree.old level place }
@@ -80,10 +77,7 @@ fn confirm_last(tree: &mut Tree, node: Node, part: Option<Part>)
     ensures tree { IsDomainTree tree.new }
 {
     law_confirmed();
-    let Some(part) = part else {
-        return;
-    };
-    if tree.granted(node) > 0 && part.generation == tree.known(node) {
+    if tree.granted(node) > 0 && part.generation == known {
         tree.confirm(node);
     }
 }

@@ -6,9 +6,9 @@ ghost use Rattle.psci_fw_spec.specs.AffinityInfo.{is_on, is_pending_status, node
 ghost use Rattle.psci_fw_state.specs.Rows.{status_of_all};
 ghost use Rattle.psci_fw_state.specs.Seen.{values_in};
 
-use crate::row::CoreRow;
+use crate::row::{CoreRow, row_of};
 use crate::state::State;
-use psci_board::{Node, law_spans};
+use psci_board::{Core, Node, law_spans};
 use psci_fw_spec::Status;
 
 impl State {
@@ -19,6 +19,9 @@ impl State {
         ensures { result ≡ node_status self.now.board (values_in self.now).status node }
     {
         law_spans();
+        if node.level == 0 {
+            return row_of(&self.rows, Core { number: node.place }).status;
+        }
         match self.board.cores_below(node) {
             Some(span) => {
                 let first = span.first as usize;

@@ -88,6 +88,9 @@ impl Parts {
     pub fn first(&self, count: usize) -> Parts
         ensures { result ≡ take count self.now }
     {
+        if count >= self.count {
+            return *self;
+        }
         let parts = self.as_slice();
         let mut first = Parts::new();
         for place in 0..count.min(parts.len()) {

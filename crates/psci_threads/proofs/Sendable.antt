@@ -5,7 +5,7 @@ use Rattle.std.specs.Prelude.{nat_le}
 use Rattle.std.specs.List.{list_all}
 use Rattle.std.proofs.lemmas.Bool.{and_parts, eqb-true, leb-true}
 use Rattle.psci_board.specs.Board.{BoardValue, cores, height}
-use Rattle.psci_link.specs.psci_coord.declared.part.Part.{Part}
+use Rattle.psci_link.specs.psci_parts.declared.part.Part.{Part}
 use Rattle.psci_link.specs.declared.frame.Frame.TheVariants.{Message}
 use Rattle.psci_link.specs.declared.kind.Kind.{Kind}
 use Rattle.psci_link.specs.declared.kind.Kind.TheVariants as kinds

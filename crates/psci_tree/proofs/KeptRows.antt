@@ -7,7 +7,8 @@ use Rattle.psci_tree.specs.declared.state.CoreState.{CoreState}
 use Rattle.psci_tree.specs.declared.state.Activity.TheVariants.{Active, Suspended, Off}
 use Rattle.psci_tree.specs.Recount.{never_started}
 use Rattle.psci_tree.specs.Kept.{recount, kept_together}
-use Rattle.psci_tree.specs.Changes.{core_changed, with_change}
+use Rattle.psci_tree.specs.Changes.{core_changed}
+use Rattle.psci_tree.specs.Way.{cleared_from}
 
 -- a core in power-down, and one in retention of its cluster
 abbrev down : CoreState
@@ -68,11 +69,6 @@ change_keeps : core_changed (record { activity = Off; started = None }) retained
     ≡ record { activity = Off; known = 4 }
 change_keeps = refl
 
--- and no other core changes
-change_one : with_change (down ∷ retained ∷ gone ∷ []) 1 (record { activity = Off; started = None })
-    ≡ down ∷ record { activity = Off; known = 4 } ∷ gone ∷ []
-change_one = refl
-
 -- the numbers of the children on the ways to the cores, from the core's own up
 abbrev levels : List (List ℕ)
 levels = (1 ∷ 2 ∷ 1 ∷ []) ∷ (2 ∷ 1 ∷ []) ∷ (2 ∷ []) ∷ []
@@ -89,3 +85,15 @@ way_in_pair = refl
 
 way_last : way 3 ≡ 0 ∷ 0 ∷ 1 ∷ []
 way_last = refl
+
+-- the places on a way, from the core's own up
+places_last : map (λ l. place_above levels l 3) (0 ∷ 1 ∷ 2 ∷ 3 ∷ []) ≡ 3 ∷ 2 ∷ 1 ∷ 0 ∷ []
+places_last = refl
+
+-- rows with 0 on the path of the last core, but not its own
+abbrev rows : List (List ℕ)
+rows = (3 ∷ 3 ∷ 3 ∷ 3 ∷ []) ∷ (3 ∷ 3 ∷ 3 ∷ []) ∷ (3 ∷ 3 ∷ []) ∷ (3 ∷ []) ∷ []
+
+cleared_above : cleared_from levels 3 1 rows
+    ≡ (3 ∷ 3 ∷ 3 ∷ 3 ∷ []) ∷ (3 ∷ 3 ∷ 0 ∷ []) ∷ (3 ∷ 0 ∷ []) ∷ (0 ∷ []) ∷ []
+cleared_above = refl

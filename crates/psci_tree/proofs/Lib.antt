@@ -2,6 +2,7 @@ pub mod Asks
 pub mod Below
 pub mod Bounds
 pub mod Built
+pub mod Cleared
 pub mod GrantRows
 pub mod Granted
 pub mod Keeping

@@ -1,12 +1,13 @@
 -- How the domains on a core's path stand.
 use Rattle.std.proofs.Common.{◌≡◌, ℕ, suc, ◌+◌, ◌<◌, List, [], length, get_or, ap, sym, ◌∙◌}
-use Rattle.std.proofs.Common.{arith}
-use Rattle.std.proofs.lemmas.List.{get_or_default}
+use Rattle.std.proofs.Common.{arith, ◌-◌, drop, subst}
+use Rattle.std.proofs.lemmas.List.{get_or_default, drop_all}
 use Rattle.psci_board.specs.declared.node.Node.{Node}
-use Rattle.psci_board.specs.Board.{HasNodeIn, group_of, place_above}
+use Rattle.psci_board.specs.Board.{BoardValue, HasNodeIn, IsTree, size_below, group_of}
+use Rattle.psci_board.specs.Board.{index_in, place_above}
 use Rattle.psci_board.specs.Laws.{SpanLaws}
 use Rattle.psci_tree.specs.declared.domain.Domain.{Domain, out-Domain}
-use Rattle.psci_tree.specs.Domains.{domains_down, leaves}
+use Rattle.psci_tree.specs.Domains.{HasShape, branches, domains_down, leaves}
 use Rattle.psci_tree.specs.Inside.{IsTied}
 use Rattle.psci_tree.specs.Kept.{Keeps}
 use Rattle.psci_tree.specs.Recount.{TreeValue, low, known}
@@ -14,20 +15,55 @@ use Rattle.psci_tree.specs.Standing.{standing, kept_standing}
 use Rattle.psci_tree.proofs.Keeping.{keeps_low}
 use Rattle.psci_tree.proofs.Recounted.{states, low_is, known_is}
 use Rattle.psci_tree.proofs.Slices.{states_at, size_at}
-use Rattle.psci_tree.proofs.Upward.{IsParent}
-use Rattle.psci_tree.proofs.Granted.{parent_is}
+use Rattle.psci_tree.proofs.Upward.{StepsDown, steps_down, parent_some, number_some}
+use Rattle.psci_tree.proofs.Granted.{place_lt}
 use Rattle.psci_tree.proofs.Ways.{above_next}
 
--- the parent of a node on a core's path is on it too
-pub path_up : (levels : List (List ℕ)) (n m : Node) (core : ℕ) → IsParent levels n m
-    → place_above levels n.level core ≡ n.place → place_above levels m.level core ≡ m.place
-path_up levels n m core up e =
-    let next : m.level ≡ suc n.level = omega (arith, up.level) in
-    ap (λ k. place_above levels k core) next
-    ∙ above_next levels n.level core up.fits
-    ∙ ap (group_of (get_or levels n.level [])) e
-    ∙ sym (parent_is levels n.level n.place up.fits)
-    ∙ sym up.place
+-- the domain of a level on a core's path is the child of the one above, of the number on its way
+pub record PathStep (root : Domain) (levels : List (List ℕ)) (core l k : ℕ) : Type 0 where
+  pub inside : (e : Domain) → k < length (branches (get_or
+      (domains_down (length levels - (l + 1)) root) (place_above levels (l + 1) core) e))
+  pub is : (d e : Domain) → get_or (branches (get_or
+      (domains_down (length levels - (l + 1)) root) (place_above levels (l + 1) core) e)) k d
+      ≡ get_or (domains_down (length levels - l) root) (place_above levels l core) d
+
+pub path_step : (root : Domain) (b : BoardValue) (core l k : ℕ) → IsTree b.levels
+    → HasShape root b.levels → core < size_below b.levels → l < length b.levels
+    → k ≡ index_in (get_or b.levels l []) (place_above b.levels l core)
+    → PathStep root b.levels core l k
+path_step root b core l k t h i lt e =
+    let levels : List (List ℕ) = b.levels in
+    let w : List ℕ = get_or levels l [] in
+    let n : Node = record { level = l; place = place_above levels l core } in
+    let m : Node = record { level = l + 1; place = group_of w n.place } in
+    let j : ℕ = index_in w n.place in
+    let in' : n.place < size_below (drop l levels) =
+    place_lt levels l core t (omega (arith, lt)) i in
+    let down : StepsDown root levels n m j =
+    steps_down root b n m j t h (parent_some b n lt in') (number_some b n lt in') in
+    let next : l + 1 ≡ suc l = omega arith in
+    let up : m.place ≡ place_above levels (l + 1) core =
+    sym (ap (λ x. place_above levels x core) next ∙ above_next levels l core lt) in
+    subst (λ x. PathStep root levels core l x) (sym e) (record {
+      inside = λ d. subst (λ p. j < length (branches (get_or
+          (domains_down (length levels - (l + 1)) root) p d))) up (down.inside d);
+      is = λ d d'. subst (λ p. get_or (branches (get_or
+          (domains_down (length levels - (l + 1)) root) p d')) j d
+          ≡ get_or (domains_down (length levels - l) root) (place_above levels l core) d) up
+          (down.is d d');
+    })
+
+-- the only domain of the highest level is the root
+pub at_top : (root : Domain) (levels : List (List ℕ)) (core l : ℕ) (d : Domain) → IsTree levels
+    → core < size_below levels → l ≡ length levels
+    → get_or (domains_down (length levels - l) root) (place_above levels l core) d ≡ root
+at_top root levels core l d t i e =
+    let none : length levels - l ≡ 0 = omega (arith, e) in
+    let one : size_below (drop l levels) ≡ 1 = ap size_below (drop_all l levels (omega (arith, e))) in
+    let first : place_above levels l core ≡ 0 =
+    omega (arith, place_lt levels l core t (omega (arith, e)) i, one) in
+    ap (λ k. get_or (domains_down k root) (place_above levels l core) d) none
+    ∙ ap (λ p. get_or (domains_down 0 root) p d) first
 
 -- what a domain keeps is how it stands
 pub standing_is : (root : Domain) (t : TreeValue) (n : Node) (k : ℕ) (d : Domain)

@@ -2,7 +2,6 @@
 use Rattle.std.proofs.Common.{◌≡◌, ℕ, zero, suc, ◌+◌, ◌<◌, ◌≤◌, true, List, [], ◌∷◌, ◌++◌, length}
 use Rattle.std.proofs.Common.{take, drop, map, sum, get_or, arith, refl, ap, sym, ◌∙◌, subst}
 use Rattle.std.proofs.Common.{append_assoc, length-append}
-use Rattle.std.proofs.Math.ListN.{set}
 use Rattle.std.specs.List.{flat_map, AllPass}
 use Rattle.std.proofs.lemmas.List.{take-append-le, take-map, get_or-map, length-map, drop_all}
 use Rattle.std.proofs.lemmas.List.Concat.{flat_map-append, length-flat_map, get_or-flat_map}
@@ -12,11 +11,8 @@ use Rattle.psci_board.specs.Board.{IsTree, size_below, is_width, group_of, index
 use Rattle.psci_board.specs.Board.{first_core}
 use Rattle.psci_tree.specs.Domains.{leaves, cores_in, branches, child_count, child_counts, IsWay}
 use Rattle.psci_tree.specs.Domains.{index_by, domains_down, IsWayTo, IsWhole}
-use Rattle.psci_tree.specs.Recount.{never_started}
-use Rattle.psci_tree.specs.Changes.{core_changed, with_change}
-use Rattle.psci_tree.specs.declared.state.Change.{Change}
 use Rattle.psci_tree.specs.declared.domain.Domain.{Domain}
-use Rattle.psci_tree.proofs.Below.{cores_of_core, cores_of_domain, length_of_domain, length_drop}
+use Rattle.psci_tree.proofs.Below.{cores_of_core, length_of_domain, length_drop}
 use Rattle.psci_tree.proofs.Below.{length_parts}
 use Rattle.psci_tree.proofs.Granted.{place_lt}
 use Rattle.psci_tree.proofs.Places.{Counted, counted, sum-cons}
@@ -51,32 +47,6 @@ place_inside (suc l) way n h =
       length_drop (branches n) i n h.0,
       place_inside l way (get_or (branches n) i n) h.1,
     )
-
--- the core at a place below a domain, as one below its child
-pub same_core : (n : Domain) (i rest place : ℕ) → i < length (branches n)
-    → length (cores_in (take i (branches n))) + rest ≡ place
-    → rest < length (leaves (get_or (branches n) i n))
-    → get_or (leaves n) place never_started
-    ≡ get_or (leaves (get_or (branches n) i n)) rest never_started
-same_core n i rest place h e r =
-    ap (λ cs. get_or cs place never_started) (cores_of_domain n (omega arith))
-    ∙ ap (λ p. get_or (cores_in (branches n)) p never_started) (sym e)
-    ∙ get_or-flat_map leaves (branches n) i rest n never_started h r
-
--- a change of a child's core, as one of the domain's
-pub child_changed : (n m : Domain) (l k : ℕ) (way : List ℕ) (change : Change) → Step n l k way
-    → leaves m ≡ with_change (leaves (get_or (branches n) (get_or way k 0) n))
-    (index_by k way (get_or (branches n) (get_or way k 0) n)) change
-    → leaves m ≡ set (leaves (get_or (branches n) (get_or way k 0) n))
-    (index_by k way (get_or (branches n) (get_or way k 0) n))
-    (core_changed change (get_or (leaves n) (index_by l way n) never_started))
-child_changed n m l k way change h e =
-    let i : ℕ = get_or way k 0 in
-    let d : Domain = get_or (branches n) i n in
-    let rest : ℕ = index_by k way d in
-    e ∙ ap (λ core. set (leaves d) rest (core_changed change core))
-    (sym (same_core n i rest (index_by l way n) h.inside (sym h.place)
-    (place_inside k way d h.rest)))
 
 -- The way to a core of the board -------------------------------------------------------------
 

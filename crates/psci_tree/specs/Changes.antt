@@ -17,11 +17,6 @@ core_changed change core = record {
   known = unwrap_or change.started core.known;
 }
 
--- the same of one core among these
-abbrev pub with_change : List CoreState → ℕ → Change → List CoreState
-with_change cs core change =
-    slice_set cs core (core_changed change (slice_index_or cs core never_started))
-
 -- another state of one core
 abbrev pub with_core_state : TreeValue → ℕ → Activity → ℕ → TreeValue
 with_core_state t core activity known = record t {

@@ -4,3 +4,4 @@ pub mod Inside
 pub mod Kept
 pub mod Recount
 pub mod Standing
+pub mod Way

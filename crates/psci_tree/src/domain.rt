@@ -1,8 +1,7 @@
 //! Power domains that hold those below them.
 
-ghost use Rattle.std.specs.Prelude.{◌≡◌, ℕ, ◌^◌, ◌<◌, ◌≤◌, length, replicate};
+ghost use Rattle.std.specs.Prelude.{◌≡◌, ℕ, ◌^◌, ◌<◌, ◌≤◌, ◌∷◌, [], length, replicate, slice_set};
 ghost use Rattle.psci_tree.specs.declared.domain.Domain.{Domain};
-ghost use Rattle.psci_tree.specs.Changes.{with_change};
 ghost use Rattle.psci_tree.specs.Recount.{never_started};
 ghost use Rattle.psci_tree.specs.Domains.{branches, leaves, cores_in, child_counts, IsWay};
 ghost use Rattle.psci_tree.specs.Domains.{index_by};
@@ -11,7 +10,7 @@ ghost use Rattle.psci_tree.specs.Standing.{kept_standing};
 
 use crate::kept::Kept;
 use crate::standing::Standing;
-use crate::state::{Change, CoreState, NEVER_STARTED};
+use crate::state::{CoreState, NEVER_STARTED};
 
 /// A power domain. One without children is a core.
 #[derive(Drop)]
@@ -25,25 +24,26 @@ pub struct Domain {
 }
 
 impl Domain {
-    /// Changes the core that a way leads to, so many levels down, and what is kept of it.
-    pub fn change(&mut self, level: u32, way: &[u32], change: &Change)
+    /// Puts the core that a way leads to, so many levels down, into another state, of which this is
+    /// kept, and computes anew what the domains above it keep.
+    pub fn change(&mut self, level: u32, way: &[u32], state: &CoreState, kept: &Kept)
         requires long { level ≤ length way.now }
         requires way { IsWay level way.now self.old }
         requires few { length (leaves self.old) < 2 ^ 16 }
         requires kept { IsKept self.old }
-        ensures cores { leaves self.new ≡ with_change (leaves self.old)
-            (index_by level way.now self.old) change.now }
+        requires state { Keeps kept.now (state.now ∷ []) }
+        ensures cores { leaves self.new ≡ slice_set (leaves self.old)
+            (index_by level way.now self.old) state.now }
         ensures shape { (k : ℕ) → child_counts k self.new ≡ child_counts k self.old }
         ensures kept { IsKept self.new }
     {
         if level == 0 {
-            let core = self.core.changed(change);
-            self.kept = Kept::of_core(&core);
-            self.core = core;
+            self.core = *state;
+            self.kept = *kept;
             return;
         }
         let number = way[level as usize - 1] as usize;
-        self.children[number].change(level - 1, way, change);
+        self.children[number].change(level - 1, way, state, kept);
         self.kept = self.anew();
     }
 

@@ -1,12 +1,14 @@
 //! Granted depths: a row of them for each level of a board.
 
-ghost use Rattle.std.specs.Prelude.{◌≡◌, ◌<◌, ◌≤◌, [], ◌++◌, map, length, take, drop};
+ghost use Rattle.std.specs.Prelude.{◌≡◌, ◌<◌, ◌≤◌, [], map, length};
 ghost use Rattle.std.specs.Prelude.{slice_index_or, slice_set, IfOk};
-ghost use Rattle.psci_board.specs.Board.{HasNode, IsTree};
+ghost use Rattle.psci_board.specs.Board.{IsTree, height, size_below};
 ghost use Rattle.psci_tree.specs.Recount.{level_sizes};
-ghost use Rattle.psci_tree.specs.Changes.{rows_with_depth, path_cleared};
+ghost use Rattle.psci_tree.specs.Changes.{rows_with_depth};
+ghost use Rattle.psci_tree.specs.Way.{IsWayOf, cleared_from};
 
-use psci_board::{Board, Memory, Node};
+use crate::way::Way;
+use psci_board::{Board, Core, Memory, Node};
 use std::alloc::Global;
 
 /// Depth 3 for each domain of a board, level by level.
@@ -44,17 +46,34 @@ pub fn write(rows: &mut [Vec<u8>], node: Node, depth: u8)
     row[node.place as usize] = depth;
 }
 
-/// Writes 0 to the domain of a node and to each one above it.
-pub fn clear_up(rows: &mut [Vec<u8>], board: &Board, node: Node)
+/// Writes 0 to the domain of this level on the path of a core to which this way leads, and to each
+/// one above it, in both lists of rows.
+pub fn clear_up(
+    granted: &mut [Vec<u8>],
+    confirmed: &mut [Vec<u8>],
+    board: &Board,
+    core: Core,
+    way: &Way,
+    level: u32,
+)
     requires tree { IsTree board.now.levels }
-    requires rows { map length (map (λ v. v.items) rows.old) ≡ level_sizes board.now.levels }
-    requires node { HasNode board.now node }
-    ensures { map (λ v. v.items) rows.new ≡ take node.level (map (λ v. v.items) rows.old)
-        ++ path_cleared (drop node.level board.now.levels) node.place
-        (drop node.level (map (λ v. v.items) rows.old)) }
+    requires granted { map length (map (λ v. v.items) granted.old) ≡ level_sizes board.now.levels }
+    requires confirmed { map length (map (λ v. v.items) confirmed.old)
+        ≡ level_sizes board.now.levels }
+    requires core { core.number < size_below board.now.levels }
+    requires way { IsWayOf board.now.levels core.number way.now }
+    requires level { level ≤ height board.now }
+    requires high { height board.now ≤ 3 }
+    ensures granted { map (λ v. v.items) granted.new
+        ≡ cleared_from board.now.levels core.number level (map (λ v. v.items) granted.old) }
+    ensures confirmed { map (λ v. v.items) confirmed.new
+        ≡ cleared_from board.now.levels core.number level (map (λ v. v.items) confirmed.old) }
 {
-    write(rows, node, 0);
-    if let Some(parent) = board.parent(node) {
-        clear_up(rows, board, parent);
+    let place = way.places[level as usize];
+    let node = Node { level, place };
+    write(granted, node, 0);
+    write(confirmed, node, 0);
+    if level < board.height() {
+        clear_up(granted, confirmed, board, core, way, level + 1);
     }
 }

@@ -24,6 +24,7 @@ mod laws;
 mod standing;
 mod state;
 mod tree;
+mod way;
 
 pub use laws::{
     law_asks, law_confirmed, law_cores, law_counts, law_granted, law_known, law_low,

@@ -1,11 +1,12 @@
 //! The tree of power domains.
 
 use crate::build::build;
-use crate::descent::{change_core, domain_at, domain_of_path, turn_off};
+use crate::descent::{change_core, domain_at, standings_on, turn_off};
 use crate::domain::Domain;
 use crate::grants::{clear_up, deepest_rows, fill_rows, write};
 use crate::standing::Standing;
 use crate::state::{Activity, Change, CoreState, NEVER_STARTED};
+use crate::way::{Way, ways_of};
 use psci_board::{Board, Core, MOST_ON_PATH, Memory, Node, law_sizes, law_spans};
 use psci_state::Ask;
 use std::alloc::Global;
@@ -22,6 +23,8 @@ pub struct Tree {
     /// What is kept of each core, in the order of their numbers. Its leaf holds the same: here it is
     /// read without a way down.
     cores: Vec<CoreState>,
+    /// The way to each core, in the order of their numbers.
+    ways: Vec<Way>,
     /// From level 0 up, the granted depth of each domain.
     granted: Vec<Vec<u8>>,
     /// From level 0 up, the depth of each domain that is confirmed, 0 of one that has none.
@@ -45,7 +48,7 @@ impl Model for Tree {
       confirmed = map (λ v. v.items) t.confirmed.items;
     } };
 
-    ghost invariant = { λ t. IsHeld t.root t.cores.items (record {
+    ghost invariant = { λ t. IsHeld t.root t.cores.items t.ways.items (record {
       levels = t.board.levels;
       cores = leaves t.root;
       granted = map (λ v. v.items) t.granted.items;
@@ -81,6 +84,7 @@ impl Tree {
         let mut tree = Tree {
             board: board.copy(alloc)?,
             cores: vec![in alloc; NEVER_STARTED; board.cores() as usize]?,
+            ways: ways_of(alloc, board)?,
             granted: deepest_rows(alloc, board)?,
             confirmed: deepest_rows(alloc, board)?,
             root: build(alloc, board)?,
@@ -145,9 +149,21 @@ impl Tree {
             ≡ standing self.now (on_path self.now.levels core.number level) }
     {
         law_spans();
-        let mut standings = [Standing::UNKNOWN; MOST_ON_PATH];
-        let _core = domain_of_path(&self.root, &self.board, core.node(), &mut standings);
-        standings
+        let way = &self.ways[core.number as usize];
+        standings_on(&self.root, &self.board, core, way)
+    }
+
+    /// The domain of this level on the path of a core.
+    pub fn on_path(&self, core: Core, level: u32) -> Node
+        requires core { core.number < size_below self.now.levels }
+        requires level { level ≤ length self.now.levels }
+        ensures { result ≡ on_path self.now.levels core.number level }
+    {
+        let way = &self.ways[core.number as usize];
+        Node {
+            level,
+            place: way.places[level as usize],
+        }
     }
 
     /// The granted depth of a domain.
@@ -290,10 +306,16 @@ impl Tree {
         ensures levels { self.new.levels ≡ self.old.levels }
         ensures tree { IsDomainTree self.new }
     {
-        let change = Change { activity, started };
-        change_core(&mut self.root, &self.board, core, &change);
-        let own = &mut self.cores[core.number as usize];
-        *own = own.changed(&change);
+        let number = core.number as usize;
+        let state = self.cores[number].changed(&Change { activity, started });
+        change_core(
+            &mut self.root,
+            &self.board,
+            core,
+            &self.ways[number],
+            &state,
+        );
+        self.cores[number] = state;
     }
 
     /// Takes away what is granted and confirmed on the path of a core.
@@ -303,8 +325,15 @@ impl Tree {
         ensures levels { self.new.levels ≡ self.old.levels }
         ensures tree { IsDomainTree self.new }
     {
-        clear_up(&mut self.granted, &self.board, core.node());
-        clear_up(&mut self.confirmed, &self.board, core.node());
+        let way = &self.ways[core.number as usize];
+        clear_up(
+            &mut self.granted,
+            &mut self.confirmed,
+            &self.board,
+            core,
+            way,
+            0,
+        );
     }
 
     /// Turns off every core, and grants depth 3 to every domain, which is confirmed.

@@ -1,27 +1,98 @@
-use Rattle.std.proofs.Common.{◌≤◌, ◌==◌, ◌&&◌, true, cond, nat_lt, arith, ap, ◌∙◌}
-use Rattle.psci_board.specs.Board.{height}
+use Rattle.std.proofs.Common.{◌≡◌, ◌≤◌, ◌<◌, ◌+◌, ◌==◌, ◌&&◌, ℕ, true, cond, nat_lt, arith, ap, sym}
+use Rattle.std.proofs.Common.{◌∙◌, Some, Bool, subst, length, get_or, min}
+use Rattle.std.proofs.Math.Nat.{min-le_left, min-le_right}
+use Rattle.std.proofs.lemmas.Option.{slice_get-get_or}
+use Rattle.psci_board.specs.Board.{HasNodeIn, height}
 use Rattle.psci_board.specs.declared.node.Node.{Node}
+use Rattle.psci_coord.specs.psci_parts.declared.part.Part.{Part}
+use Rattle.psci_tree.specs.declared.standing.Standing.{Standing}
 use Rattle.psci_tree.specs.Recount.{granted_at, is_confirmed_at, known}
 use Rattle.psci_fw_spec.specs.Confirmed.{is_made_at}
-use Rattle.psci_fw_state.proofs.Confirming.{confirmed_all, confirmed_more}
-use Rattle.psci_fw_state.proofs.Granting.{path_at}
+use Rattle.psci_fw_state.proofs.Confirming.{confirmed_all, confirmed_more, known_still}
+use Rattle.psci_fw_state.proofs.Granting.{on_board, on_path}
 use Rattle.psci_fw_state.proofs.confirm.confirm_parts.Goals as goal
+
+pub confirm_last-requires-clause-domain : goal.confirm_last-requires-clause-domain
+confirm_last-requires-clause-domain c =
+    let b = c.args.board.now in
+    let laws = c.law_paths.ensures b c.requires.board in
+    let levels = c.loop-level.invariant.levels ∙ c.requires.levels in
+    let node = on_board b c.loop-level.tree.levels c.args.core.number c.loop-level.level
+    c.on_path-node.result c.on_path-node.ensures levels in
+    let low : c.loop-level.level ≤ height b = omega (
+      arith,
+      c.loop-level-test.true,
+      c.min-most.ensures,
+      min-le_right (length c.args.parts.now) (c.height.result + 1),
+      c.height.ensures.height,
+    ) in
+    subst (HasNodeIn c.loop-level.tree.levels) (sym node) (on_path b c.loop-level.tree.levels
+    c.args.core.number c.loop-level.level laws levels
+    (omega (arith, c.if-core-cores.false, c.cores.ensures.cores)) low)
+
+pub confirm_last-requires-clause-known : goal.confirm_last-requires-clause-known
+confirm_last-requires-clause-known c =
+    let b = c.args.board.now in
+    let laws = c.law_paths.ensures b c.requires.board in
+    let levels = c.loop-level.invariant.levels ∙ c.requires.levels in
+    let node = on_board b c.loop-level.tree.levels c.args.core.number c.loop-level.level
+    c.on_path-node.result c.on_path-node.ensures levels in
+    let low : c.loop-level.level ≤ height b = omega (
+      arith,
+      c.loop-level-test.true,
+      c.min-most.ensures,
+      min-le_right (length c.args.parts.now) (c.height.result + 1),
+      c.height.ensures.height,
+    ) in
+    let none : Standing = record { low = 0; known = 0 } in
+    let read : ℕ = (get_or c.standings-standings.result c.loop-level.level none).known in
+    let known_is : read ≡ known c.loop-level.tree c.on_path-node.result =
+    known_still b c.args.tree.now c.loop-level.tree c.args.core.number c.loop-level.level read
+    c.on_path-node.result c.loop-level.invariant.cores c.requires.levels levels
+    (ap (λ (s : Standing). s.known) (c.standings-standings.ensures c.loop-level.level none
+    (omega (arith, low, ap length c.requires.levels)))) node in
+    known_is
 
 pub loop-level-preserved : goal.loop-level-preserved
 loop-level-preserved c =
     let b = c.args.board.now in
     let laws = c.law_paths.ensures b c.requires.board in
-    let low : c.loop-level.level ≤ height b =
-    omega (arith, c.loop-level-test.true, c.height-level-end.ensures.height) in
-    let node = path_at b c.args.core.number c.loop-level.level c.deref.result.now
-    (record { level = 0; place = 0 }) laws (c.deref.ensures.0 ∙ c.path-path.ensures) low in
+    let levels = c.loop-level.invariant.levels ∙ c.requires.levels in
+    let node = on_board b c.loop-level.tree.levels c.args.core.number c.loop-level.level
+    c.on_path-node.result c.on_path-node.ensures levels in
+    let low : c.loop-level.level ≤ height b = omega (
+      arith,
+      c.loop-level-test.true,
+      c.min-most.ensures,
+      min-le_right (length c.args.parts.now) (c.height.result + 1),
+      c.height.ensures.height,
+    ) in
+    let none : Standing = record { low = 0; known = 0 } in
+    let read : ℕ = (get_or c.standings-standings.result c.loop-level.level none).known in
+    let known_is : read ≡ known c.loop-level.tree c.on_path-node.result =
+    known_still b c.args.tree.now c.loop-level.tree c.args.core.number c.loop-level.level read
+    c.on_path-node.result c.loop-level.invariant.cores c.requires.levels levels
+    (ap (λ (s : Standing). s.known) (c.standings-standings.ensures c.loop-level.level none
+    (omega (arith, low, ap length c.requires.levels)))) node in
+    let unused : Part = record { level = 0; depth = 0; generation = 0 } in
+    let part : Part = get_or c.args.parts.now c.loop-level.level unused in
+    let inside : c.loop-level.level < length c.args.parts.now = omega (
+      arith,
+      c.loop-level-test.true,
+      c.min-most.ensures,
+      min-le_left (length c.args.parts.now) (c.height.result + 1),
+    ) in
     confirmed_more b c.args.core.number c.args.parts.now c.args.tree.now c.loop-level.tree
-    c.confirm_last.new.tree c.loop-level.level c.part_at.result c.part_at.ensures c.requires.levels
+    c.confirm_last.new.tree c.loop-level.level (Some part)
+    (sym (slice_get-get_or c.args.parts.now c.loop-level.level unused inside)) c.requires.levels
     c.loop-level.invariant
-    (λ l p. c.confirm_last.ensures.confirmed l p ∙ ap (λ (n : Node). cond
-    (((n.level == l) && (n.place == p)) && (nat_lt 0 (granted_at c.loop-level.tree n.level n.place)
-    && is_made_at (known c.loop-level.tree n) c.part_at.result))
-    true (is_confirmed_at c.loop-level.tree l p)) node)
+    (λ l p. let made : ℕ → Node → Bool = λ k n.
+    ((n.level == l) && (n.place == p)) && (nat_lt 0 (granted_at c.loop-level.tree n.level n.place)
+    && is_made_at k (Some part)) in
+    c.confirm_last.ensures.confirmed l p
+    ∙ ap (λ k. cond (made k c.on_path-node.result) true (is_confirmed_at c.loop-level.tree l p)) known_is
+    ∙ ap (λ (n : Node). cond (made (known c.loop-level.tree n) n) true
+    (is_confirmed_at c.loop-level.tree l p)) node)
     c.confirm_last.ensures.granted c.confirm_last.ensures.cores c.confirm_last.ensures.levels
     c.confirm_last.ensures.tree
 
@@ -29,5 +100,10 @@ pub returns-clause-confirmed : goal.returns-clause-confirmed
 returns-clause-confirmed c = λ l p.
     confirmed_all c.args.board.now c.args.core.number c.args.parts.now c.args.tree.now
     c.loop-level.tree c.loop-level.level c.requires.tree c.requires.levels
-    (omega (arith, c.loop-level-test.false, c.height-level-end.ensures.height))
+    (omega (
+      arith,
+      c.loop-level-test.false,
+      c.min-most.ensures,
+      ap (λ h. min (length c.args.parts.now) (h + 1)) c.height.ensures.height,
+    ))
     c.loop-level.invariant l p

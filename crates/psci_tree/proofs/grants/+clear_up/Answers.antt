@@ -1,80 +1,121 @@
-use Rattle.std.proofs.Common.{◌≡◌, ◌≤◌, ◌++◌, ◌∙◌, suc, [], take, drop, append-nil}
-use Rattle.std.proofs.Common.{List, ℕ, map, get_or, length, ap, sym, arith}
-use Rattle.std.proofs.Math.ListN.{set, length-set}
-use Rattle.std.proofs.lemmas.List.{length-map, take_all, drop_all}
-use Rattle.psci_board.specs.Board.{place_above}
-use Rattle.psci_tree.specs.Changes.{path_cleared}
-use Rattle.psci_tree.proofs.Granted.{RowOf, row_of, zero_more, row_lengths, length_level_sizes}
-use Rattle.psci_tree.proofs.Upward.{IsParent, is_parent, top_node}
+use Rattle.std.proofs.Common.{◌≡◌, ◌<◌, ◌+◌, ◌∙◌, ℕ, List, map, length, get_or, ap, sym, arith, suc}
+use Rattle.std.proofs.lemmas.List.{length-map}
+use Rattle.psci_tree.specs.Recount.{level_sizes}
+use Rattle.psci_tree.specs.Way.{cleared_from}
+use Rattle.psci_tree.proofs.Cleared.{path_node, cleared_step, cleared_top}
+use Rattle.psci_tree.proofs.Granted.{row_of, row_lengths, length_level_sizes}
 use Rattle.psci_tree.proofs.grants.+clear_up.Goals as goal
 
-pub write-requires : goal.write-requires
-write-requires t c =
-    let at : RowOf (map (λ v. v.items) c.args.rows.now) c.args.node =
-    row_of _ _ c.args.node c.requires.rows c.requires.node in
-    record {
-      level = omega (arith, at.level, length-map c.args.rows.now (λ v. v.items));
-      place = at.place;
-    }
+-- how many rows there are
+rows_long : (levels rows : List (List ℕ)) → map length rows ≡ level_sizes levels
+    → length rows ≡ suc (length levels)
+rows_long levels rows e =
+    sym (length-map rows length) ∙ ap length e ∙ length_level_sizes levels
+
+pub bounds-way-level : goal.bounds-way-level
+bounds-way-level t c = omega (arith, c.requires.level, c.requires.high)
+
+pub write-requires-clause-level : goal.write-requires-clause-level
+write-requires-clause-level t c = omega (
+  arith,
+  c.requires.level,
+  rows_long c.args.board.now.levels _ c.requires.granted,
+  length-map c.args.granted.now (λ v. v.items),
+)
+
+pub write-requires-clause-place : goal.write-requires-clause-place
+write-requires-clause-place t c =
+    let levels : List (List ℕ) = c.args.board.now.levels in
+    (row_of levels _ (record {
+      level = c.args.level;
+      place = get_or c.args.way.now.places c.args.level 0;
+    }) c.requires.granted (path_node levels c.args.core.number c.args.level c.args.way.now
+    c.requires.tree c.requires.core c.requires.way c.requires.level)).place
+
+pub write-requires-2-clause-level : goal.write-requires-2-clause-level
+write-requires-2-clause-level t c = omega (
+  arith,
+  c.requires.level,
+  rows_long c.args.board.now.levels _ c.requires.confirmed,
+  length-map c.args.confirmed.now (λ v. v.items),
+)
+
+pub write-requires-2-clause-place : goal.write-requires-2-clause-place
+write-requires-2-clause-place t c =
+    let levels : List (List ℕ) = c.args.board.now.levels in
+    (row_of levels _ (record {
+      level = c.args.level;
+      place = get_or c.args.way.now.places c.args.level 0;
+    }) c.requires.confirmed (path_node levels c.args.core.number c.args.level c.args.way.now
+    c.requires.tree c.requires.core c.requires.way c.requires.level)).place
 
 pub clear_up-requires : goal.clear_up-requires
 clear_up-requires t c =
-    let up : IsParent c.args.board.now.levels c.args.node c.in-Some.parent =
-    is_parent c.args.board.now _ _ c.requires.tree (sym c.in-Some.ensures) in
-    let rows : List (List ℕ) = map (λ v. v.items) c.args.rows.now in (
-      omega (arith, up.level, up.fits, c.decreases),
+    let l : ℕ = c.args.level in
+    let p : ℕ = get_or c.args.way.now.places l 0 in
+    let fits : l < length c.args.board.now.levels =
+    omega (arith, c.if-level-height.true, c.height.ensures.height) in (
+      omega (arith, fits, c.decreases),
       (
         c.requires.tree,
         (
-          ap (map length) c.write.ensures ∙ row_lengths rows c.args.node.level c.args.node.place 0
-              ∙ c.requires.rows,
-          up.node,
+          ap (map length) c.write.ensures
+              ∙ row_lengths (map (λ v. v.items) c.args.granted.now) l p 0
+              ∙ c.requires.granted,
+          (
+            ap (map length) c.write-2.ensures
+                ∙ row_lengths (map (λ v. v.items) c.args.confirmed.now) l p 0
+                ∙ c.requires.confirmed,
+            (c.requires.core, (c.requires.way, (omega (arith, fits), c.requires.high))),
+          ),
         ),
       ),
     )
 
-pub returns-in-Some : goal.returns-in-Some
-returns-in-Some t c =
+pub returns-then-level-height-clause-granted : goal.returns-then-level-height-clause-granted
+returns-then-level-height-clause-granted t c =
     let levels : List (List ℕ) = c.args.board.now.levels in
-    let up : IsParent levels c.args.node c.in-Some.parent =
-    is_parent c.args.board.now _ _ c.requires.tree (sym c.in-Some.ensures) in
-    let rows : List (List ℕ) = map (λ v. v.items) c.args.rows.now in
-    let at : RowOf rows c.args.node = row_of levels _ c.args.node c.requires.rows c.requires.node in
-    let l : ℕ = c.args.node.level in
-    let p : ℕ = c.args.node.place in
-    let next : c.in-Some.parent.level ≡ suc l = omega (arith, up.level) in
-    c.clear_up.ensures
-    ∙ ap (λ xs. take c.in-Some.parent.level xs
-    ++ path_cleared (drop c.in-Some.parent.level levels) c.in-Some.parent.place
-    (drop c.in-Some.parent.level xs)) c.write.ensures
-    ∙ ap (λ k. take k (set rows l (set (get_or rows l []) p 0))
-    ++ path_cleared (drop k levels) c.in-Some.parent.place
-    (drop k (set rows l (set (get_or rows l []) p 0)))) next
-    ∙ ap (λ q. take (suc l) (set rows l (set (get_or rows l []) p 0))
-    ++ path_cleared (drop (suc l) levels) q
-    (drop (suc l) (set rows l (set (get_or rows l []) p 0)))) up.place
-    ∙ zero_more levels rows l p at.level
+    let core : ℕ = c.args.core.number in
+    let l : ℕ = c.args.level in
+    let rows : List (List ℕ) = map (λ v. v.items) c.args.granted.now in
+    let fits : l < length levels =
+    omega (arith, c.if-level-height.true, c.height.ensures.height) in
+    c.clear_up.ensures.granted
+    ∙ ap (cleared_from levels core (l + 1)) c.write.ensures
+    ∙ cleared_step levels rows core l (get_or c.args.way.now.places l 0) fits
+    (omega (arith, fits, rows_long levels rows c.requires.granted))
+    (c.requires.way.places l c.requires.level)
 
-pub returns-in_default : goal.returns-in_default
-returns-in_default t c =
+pub returns-then-level-height-clause-confirmed : goal.returns-then-level-height-clause-confirmed
+returns-then-level-height-clause-confirmed t c =
     let levels : List (List ℕ) = c.args.board.now.levels in
-    let rows : List (List ℕ) = map (λ v. v.items) c.args.rows.now in
-    let at : RowOf rows c.args.node = row_of levels _ c.args.node c.requires.rows c.requires.node in
-    let l : ℕ = c.args.node.level in
-    let p : ℕ = c.args.node.place in
-    let top = top_node c.args.board.now c.args.node c.requires.node (sym c.in_default.ensures) in
-    let xs : List (List ℕ) = set rows l (set (get_or rows l []) p 0) in
-    let past : length xs ≤ suc l = omega (
-      arith,
-      length-set rows l (set (get_or rows l []) p 0),
-      length-map rows length,
-      ap length c.requires.rows,
-      length_level_sizes levels,
-      top.0,
-    ) in
+    let core : ℕ = c.args.core.number in
+    let l : ℕ = c.args.level in
+    let rows : List (List ℕ) = map (λ v. v.items) c.args.confirmed.now in
+    let fits : l < length levels =
+    omega (arith, c.if-level-height.true, c.height.ensures.height) in
+    c.clear_up.ensures.confirmed
+    ∙ ap (cleared_from levels core (l + 1)) c.write-2.ensures
+    ∙ cleared_step levels rows core l (get_or c.args.way.now.places l 0) fits
+    (omega (arith, fits, rows_long levels rows c.requires.confirmed))
+    (c.requires.way.places l c.requires.level)
+
+pub returns-else-level-height-clause-granted : goal.returns-else-level-height-clause-granted
+returns-else-level-height-clause-granted t c =
+    let levels : List (List ℕ) = c.args.board.now.levels in
+    let l : ℕ = c.args.level in
+    let rows : List (List ℕ) = map (λ v. v.items) c.args.granted.now in
     c.write.ensures
-    ∙ sym (append-nil xs)
-    ∙ ap (λ ys. ys ++ []) (sym (take_all (suc l) xs past))
-    ∙ ap (λ ys. take (suc l) xs ++ path_cleared (drop (suc l) levels)
-    (place_above (drop l levels) 1 p) ys) (sym (drop_all (suc l) xs past))
-    ∙ zero_more levels rows l p at.level
+    ∙ cleared_top levels rows c.args.core.number l (get_or c.args.way.now.places l 0)
+    (omega (arith, c.if-level-height.false, c.height.ensures.height, c.requires.level))
+    (rows_long levels rows c.requires.granted) (c.requires.way.places l c.requires.level)
+
+pub returns-else-level-height-clause-confirmed : goal.returns-else-level-height-clause-confirmed
+returns-else-level-height-clause-confirmed t c =
+    let levels : List (List ℕ) = c.args.board.now.levels in
+    let l : ℕ = c.args.level in
+    let rows : List (List ℕ) = map (λ v. v.items) c.args.confirmed.now in
+    c.write-2.ensures
+    ∙ cleared_top levels rows c.args.core.number l (get_or c.args.way.now.places l 0)
+    (omega (arith, c.if-level-height.false, c.height.ensures.height, c.requires.level))
+    (rows_long levels rows c.requires.confirmed) (c.requires.way.places l c.requires.level)

@@ -2,4 +2,4 @@ use Rattle.std.proofs.Common.{◌-◌, length}
 use Rattle.psci_tree.proofs.grants.+clear_up.Given as goal
 
 abbrev pub decreases-clear_up : goal.decreases-clear_up
-decreases-clear_up l = length l.board.now.levels - l.node.level
+decreases-clear_up l = length l.board.now.levels - l.level

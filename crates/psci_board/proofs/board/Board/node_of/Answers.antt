@@ -1,4 +1,5 @@
 use Rattle.std.proofs.Common.{sym, refl, arith, ◌<◌, ◌≤◌}
+use Rattle.std.proofs.lemmas.List.{length-drop}
 use Rattle.psci_board.specs.Board.{height}
 use Rattle.psci_board.proofs.Levels.{IsTree-drop}
 use Rattle.psci_board.proofs.Readers.{node_of-above, node_of-within}
@@ -28,4 +29,11 @@ returns c =
 pub place_of-requires : goal.place_of-requires
 place_of-requires c =
     let above = rw c.deref.ensures.value at c.split_at.ensures.back in
-    record { tree = rw above (IsTree-drop c.args.level _ c.self.invariant.tree) }
+    record {
+      tree = rw above (IsTree-drop c.args.level _ c.self.invariant.tree);
+      high = rw above (omega (
+        arith,
+        length-drop c.args.level c.self.inside.levels.items,
+        c.self.invariant.high,
+      ));
+    }

@@ -4,10 +4,7 @@ use Rattle.std.proofs.lemmas.List.{get_or_default}
 use Rattle.std.proofs.Math.ListN.{set, length-set}
 use Rattle.std.specs.Vec.{with_item}
 use Rattle.psci_tree.specs.Domains.{leaves, cores_in, branches, child_counts, IsWay, index_by}
-use Rattle.psci_tree.specs.Recount.{never_started}
-use Rattle.psci_tree.specs.Changes.{core_changed, with_change}
 use Rattle.psci_tree.specs.declared.state.CoreState.{CoreState}
-use Rattle.psci_tree.specs.declared.state.Change.{Change}
 use Rattle.psci_tree.specs.Kept.{Keeps, AreKept, IsKept}
 use Rattle.psci_tree.specs.declared.domain.Domain.{Domain}
 use Rattle.psci_tree.specs.declared.domain.Domain.TheOpen.{Domain-F}
@@ -17,7 +14,7 @@ use Rattle.psci_tree.proofs.Below.{children_roll, length_of_domain, cores_le, co
 use Rattle.psci_tree.proofs.Below.{cores_roll_core}
 use Rattle.psci_tree.proofs.Keeping.{kept_children, kept_at, kept_set}
 use Rattle.psci_tree.proofs.Keeping.{kept_roll, kept_roll_core}
-use Rattle.psci_tree.proofs.Ways.{Step, step, place_inside, child_changed}
+use Rattle.psci_tree.proofs.Ways.{Step, step, place_inside}
 use Rattle.psci_tree.proofs.domain.Domain.+change.Goals as goal
 
 pub index_mut-requires : goal.index_mut-requires
@@ -50,8 +47,11 @@ change-requires t c =
               cores_le items i own down.inside,
               length_of_domain own (omega (arith, down.inside)),
             ),
-            subst IsKept is (kept_at items i own down.inside
-                (kept_children own c.requires.kept)),
+            (
+              subst IsKept is (kept_at items i own down.inside
+                  (kept_children own c.requires.kept)),
+              c.requires.state,
+            ),
           ),
         ),
       ),
@@ -62,16 +62,15 @@ returns-then-level-eq0-clause-cores t c =
     let own : Domain = c.args.self.now in
     let none : length (branches own) ≡ 0 =
     subst (λ j. IsWay j c.args.way.now own) c.if-level-eq0.true c.requires.way in
-    let change : Change = c.args.change.now in
-    let there : with_change (leaves own) (index_by c.args.level c.args.way.now own) change
-    ≡ core_changed change (out-Domain own).core ∷ [] =
-    ap (λ j. with_change (leaves own) (index_by j c.args.way.now own) change) c.if-level-eq0.true
-    ∙ ap (λ cs. with_change cs 0 change) (cores_of_core own none) in
+    let state : CoreState = c.args.state.now in
+    let there : set (leaves own) (index_by c.args.level c.args.way.now own) state ≡ state ∷ [] =
+    ap (λ j. set (leaves own) (index_by j c.args.way.now own) state) c.if-level-eq0.true
+    ∙ ap (λ cs. set cs 0 state) (cores_of_core own none) in
     let here = cores_roll_core (record {
       children = (out-Domain own).children;
-      core = c.changed-core.result;
-      kept = c.of_core-self.result;
-    }) none ∙ ap (λ core. core ∷ []) c.changed-core.ensures ∙ sym there in
+      core = state;
+      kept = c.args.kept.now;
+    }) none ∙ sym there in
     simp the_lemmas (simp the_lemmas at here)
 
 pub returns-then-level-eq0-clause-kept : goal.returns-then-level-eq0-clause-kept
@@ -80,16 +79,14 @@ returns-then-level-eq0-clause-kept t c =
     subst (λ j. IsWay j c.args.way.now c.args.self.now) c.if-level-eq0.true c.requires.way in
     let here = kept_roll_core (record {
       children = (out-Domain c.args.self.now).children;
-      core = c.changed-core.result;
-      kept = c.of_core-self.result;
-    }) none c.of_core-self.ensures in
+      core = c.args.state.now;
+      kept = c.args.kept.now;
+    }) none c.requires.state in
     simp the_lemmas (simp the_lemmas at here)
 
 pub returns-clause-cores : goal.returns-clause-cores
 returns-clause-cores t c =
-    let s : CoreState = core_changed c.args.change.now
-    (get_or (leaves c.args.self.now) (index_by c.args.level c.args.way.now c.args.self.now)
-    never_started) in
+    let s : CoreState = c.args.state.now in
     let own : Domain = c.args.self.now in
     let l : ℕ = c.args.level in
     let i : ℕ = get_or c.args.way.now (l - 1) 0 in
@@ -103,9 +100,8 @@ returns-clause-cores t c =
     (index_by l c.args.way.now own) c.change.new.self s c.anew-self.result
     down.inside (sym down.place)
     (place_inside (l - 1) c.args.way.now (get_or items i own) down.rest)
-    (child_changed own c.change.new.self l (l - 1) c.args.way.now c.args.change.now down
-    (c.change.ensures.cores ∙ ap (λ (x : Domain). with_change (leaves x)
-    (index_by (l - 1) c.args.way.now x) c.args.change.now) is)) in
+    (c.change.ensures.cores
+    ∙ ap (λ (x : Domain). set (leaves x) (index_by (l - 1) c.args.way.now x) s) is) in
     simp the_lemmas (simp the_lemmas at here)
 
 pub returns-clause-shape : goal.returns-clause-shape
@@ -137,9 +133,7 @@ anew-self-requires-clause-kept t c =
 
 pub anew-self-requires-clause-few : goal.anew-self-requires-clause-few
 anew-self-requires-clause-few t c =
-    let s : CoreState = core_changed c.args.change.now
-    (get_or (leaves c.args.self.now) (index_by c.args.level c.args.way.now c.args.self.now)
-    never_started) in
+    let s : CoreState = c.args.state.now in
     let own : Domain = c.args.self.now in
     let l : ℕ = c.args.level in
     let i : ℕ = get_or c.args.way.now (l - 1) 0 in
@@ -153,10 +147,8 @@ anew-self-requires-clause-few t c =
     ≡ set (cores_in items) (index_by l c.args.way.now own) s =
     cores_set items i (index_by (l - 1) c.args.way.now (get_or items i own))
     (index_by l c.args.way.now own) own c.change.new.self s down.inside (sym down.place)
-    (place_inside (l - 1) c.args.way.now (get_or items i own) down.rest) (child_changed own
-    c.change.new.self l (l - 1) c.args.way.now c.args.change.now down (c.change.ensures.cores
-    ∙ ap (λ (x : Domain). with_change (leaves x) (index_by (l - 1) c.args.way.now x)
-    c.args.change.now) is)) in
+    (place_inside (l - 1) c.args.way.now (get_or items i own) down.rest) (c.change.ensures.cores
+    ∙ ap (λ (x : Domain). set (leaves x) (index_by (l - 1) c.args.way.now x) s) is) in
     let half : Domain-F Domain = record {
       children = with_item (out-Domain own).children i c.change.new.self;
       core = (out-Domain own).core;

@@ -86,10 +86,10 @@ pub invariant_of-self : goal.invariant_of-self
 unfolding with_grant
 invariant_of-self c =
     let row : List CoreState = c.self.inside.cores.items in
-    let held : IsHeld c.self.inside.root row c.args.self.now =
-    subst (IsHeld c.self.inside.root row) c.self.view_is c.self.invariant in
+    let held : IsHeld c.self.inside.root row c.self.inside.ways.items c.args.self.now =
+    subst (IsHeld c.self.inside.root row c.self.inside.ways.items) c.self.view_is c.self.invariant in
     let tied : IsTied c.self.inside.root c.args.self.now = held.tied in
-    subst (IsHeld c.self.inside.root row) (sym (returns-clause-value c)) (record {
+    subst (IsHeld c.self.inside.root row c.self.inside.ways.items) (sym (returns-clause-value c)) (record {
       tied = record {
         whole = tied.whole;
         kept = tied.kept;
@@ -97,4 +97,5 @@ invariant_of-self c =
             c.requires.depth;
       };
       row = held.row;
+      lead = held.lead;
     })

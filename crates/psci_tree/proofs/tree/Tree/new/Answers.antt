@@ -5,6 +5,7 @@ use Rattle.psci_tree.specs.declared.domain.Domain.{Domain}
 use Rattle.psci_tree.specs.Recount.{TreeValue, IsActivity, IsDomainTree, level_sizes, never_started}
 use Rattle.psci_tree.specs.Changes.{rows_with_depth, made_pending, start_of_life, all_off}
 use Rattle.psci_tree.specs.Domains.{leaves, IsWhole}
+use Rattle.psci_tree.specs.Way.{AreWays}
 use Rattle.psci_tree.proofs.Valid.{full_valid, all_idle}
 use Rattle.psci_tree.proofs.Slices.{length_cores}
 use Rattle.psci_tree.proofs.tree.Tree.new.Goals as goal
@@ -42,6 +43,7 @@ invariant_of-tree c =
       row = c.in_ok-vec.ensures.items_if_clones_equal (λ y h. h)
           ∙ ap (λ n. replicate n never_started) c.cores.ensures.cores
           ∙ sym (c.in_ok-build.ensures.off);
+      lead = subst (λ ls. AreWays ls c.in_ok-ways_of.field-0.items) same c.in_ok-ways_of.ensures;
     }
 
 pub set_pending-requires : goal.set_pending-requires

@@ -1,14 +1,22 @@
-use Rattle.std.proofs.Common.{◌≡◌, ◌-◌, ◌∙◌, arith, ap, sym, subst, length, get_or, ℕ, List}
-use Rattle.psci_board.specs.Board.{HasNodeIn, place_above}
+use Rattle.std.proofs.Common.{◌≡◌, ◌<◌, ◌-◌, ◌∙◌, arith, ap, sym, subst, length, get_or, ℕ, List}
+use Rattle.psci_board.specs.Board.{HasNodeIn, place_above, size_below}
 use Rattle.psci_board.specs.declared.node.Node.{Node}
 use Rattle.psci_tree.specs.Recount.{TreeValue}
 use Rattle.psci_tree.specs.Inside.{IsTied}
+use Rattle.psci_tree.specs.Way.{IsWayOf}
 use Rattle.psci_tree.specs.Standing.{on_path, kept_standing}
 use Rattle.psci_tree.specs.Domains.{domains_down}
 use Rattle.psci_tree.specs.declared.domain.Domain.{Domain}
 use Rattle.psci_tree.proofs.Granted.{place_lt}
 use Rattle.psci_tree.proofs.Standings.{standing_is}
 use Rattle.psci_tree.proofs.tree.Tree.standings.Goals as goal
+
+pub standings_on-requires-clause-way : goal.standings_on-requires-clause-way
+standings_on-requires-clause-way c =
+    subst (IsWayOf c.self.inside.board.levels c.args.core.number) (sym c.index-way.ensures)
+    (c.self.invariant.lead.each c.args.core.number c.index-way.result.now
+    (subst (λ (t : TreeValue). c.args.core.number < size_below t.levels) (sym c.self.view_is)
+    c.requires))
 
 pub returns : goal.returns
 returns c = λ level s high.
@@ -24,11 +32,7 @@ returns c = λ level s high.
       level = high;
       place = place_lt t.levels level core tied.valid.tree high c.requires;
     } in
-    c.domain_of_path-core.ensures.standings core level root s
-    (ap (λ (n : Node). place_above levels n.level core) c.node.ensures
-    ∙ sym (ap (λ (n : Node). n.place) c.node.ensures))
-    (omega (arith, ap (λ (n : Node). n.level) c.node.ensures))
-    (omega (arith, high, ap length same))
+    c.standings_on.ensures level root s (omega (arith, high, ap length same))
     ∙ ap (λ ls. kept_standing (get_or (domains_down (length ls - level) root)
     (place_above ls level core) root) level) same
     ∙ standing_is root t node (length t.levels - level) root

@@ -8,6 +8,7 @@ use Rattle.psci_tree.specs.Recount.{TreeValue, IsDomainTree, never_started, leve
 use Rattle.psci_tree.specs.Changes.{all_off, rows_with_depth}
 use Rattle.psci_tree.specs.Domains.{leaves}
 use Rattle.psci_tree.specs.Inside.{IsTied, IsHeld}
+use Rattle.psci_tree.specs.declared.way.Way.{Way}
 use Rattle.psci_tree.proofs.Valid.{all_off_valid}
 use Rattle.psci_tree.proofs.Slices.{whole_kept}
 use Rattle.psci_tree.proofs.tree.Tree.turn_off.Goals as goal
@@ -50,11 +51,12 @@ returns-clause-tree c =
 pub invariant_of-self : goal.invariant_of-self
 invariant_of-self c =
     let cores : List CoreState = c.self.inside.cores.items in
-    let held : IsHeld c.self.inside.root cores c.args.self.now =
-    subst (IsHeld c.self.inside.root cores) c.self.view_is c.self.invariant in
+    let ways : List Way = c.self.inside.ways.items in
+    let held : IsHeld c.self.inside.root cores ways c.args.self.now =
+    subst (IsHeld c.self.inside.root cores ways) c.self.view_is c.self.invariant in
     let root : Domain = c.turn_off.new.root in
     let levels : List (List ℕ) = c.args.self.now.levels in
-    subst (IsHeld root c.fill.new.self.items) (sym (returns-clause-value c)) (record {
+    subst (IsHeld root c.fill.new.self.items ways) (sym (returns-clause-value c)) (record {
       tied = record {
         whole = whole_kept c.self.inside.root root levels c.turn_off.ensures.shape held.tied.whole;
         kept = c.turn_off.ensures.kept;
@@ -63,4 +65,5 @@ invariant_of-self c =
       row = c.fill.ensures.items (λ y h. h)
           ∙ ap (λ n. replicate n never_started) (c.self.inside.cores.ok.0
           ∙ ap length held.row ∙ held.tied.valid.cores);
+      lead = held.lead;
     })

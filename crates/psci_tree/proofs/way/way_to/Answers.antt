@@ -7,7 +7,7 @@ use Rattle.psci_board.specs.Board.{BoardValue, size_below, index_in, place_above
 use Rattle.psci_tree.proofs.Granted.{place_lt}
 use Rattle.psci_tree.proofs.Upward.{parent_some, number_some}
 use Rattle.psci_tree.proofs.Ways.{above_next}
-use Rattle.psci_tree.proofs.descent.way_to.Goals as goal
+use Rattle.psci_tree.proofs.way.way_to.Goals as goal
 
 pub loop-level-preserved : goal.loop-level-preserved
 loop-level-preserved c =
@@ -16,7 +16,8 @@ loop-level-preserved c =
     let core : ℕ = c.args.core.number in
     let l : ℕ = c.loop-level.level in
     let n : Node = record { level = l; place = c.loop-level.place } in
-    let way : List ℕ = c.loop-level.way in
+    let way : List ℕ = c.loop-level.numbers in
+    let places : List ℕ = c.loop-level.places in
     let q : ℕ = place_above levels l core in
     let fits : l < length levels =
     omega (arith, c.loop-level-test.true, c.height-level-end.ensures.height) in
@@ -38,6 +39,15 @@ loop-level-preserved c =
       long = length-set way l c.unwrap_or.result ∙ c.loop-level.invariant.long;
       place = ap (λ (m : Node). m.place) up ∙ ap (group_of (get_or levels l [])) place
           ∙ sym (above_next levels l core fits) ∙ ap (λ j. place_above levels j core) next;
+      wide = length-set places l c.loop-level.place ∙ c.loop-level.invariant.wide;
+      path = below_more _ _ (λ k h. let ne : k ≢ l = omega arith in
+          rw get_or-set_other (c.loop-level.invariant.path k h))
+          (let lt : l < length places = omega (
+            arith,
+            c.loop-level.invariant.wide,
+            c.height-level-end.ensures.board.high,
+          ) in
+          rw get_or-set_same place);
       done = below_more _ _ (λ k h. let ne : k ≢ l = omega arith in
           rw get_or-set_other (c.loop-level.invariant.done k h))
           (let lt : l < length way = omega (

@@ -1,14 +1,16 @@
 use Rattle.std.proofs.Common.{◌≡◌, ◌<◌, ℕ, [], length, get_or}
 use Rattle.psci_board.specs.Board.{index_in, place_above}
-use Rattle.psci_tree.proofs.descent.way_to.Given as goal
+use Rattle.psci_tree.proofs.way.way_to.Given as goal
 
 abbrev pub invariant-loop-level : goal.invariant-loop-level
 invariant-loop-level l =
     let levels = l.board.levels in
     let core = l.fn.core.number in
     record {
-      long : length l.way ≡ 3;
+      long : length l.numbers ≡ 3;
+      wide : length l.places ≡ 4;
       place : l.place ≡ place_above levels l.level core;
       done : (k : ℕ) → k < l.level
-          → get_or l.way k 0 ≡ index_in (get_or levels k []) (place_above levels k core);
+          → get_or l.numbers k 0 ≡ index_in (get_or levels k []) (place_above levels k core);
+      path : (k : ℕ) → k < l.level → get_or l.places k 0 ≡ place_above levels k core;
     }

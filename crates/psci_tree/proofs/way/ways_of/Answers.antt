@@ -1,0 +1,50 @@
+use Rattle.std.proofs.Common.{◌≡◌, ◌<◌, ◌+◌, ◌++◌, ◌∷◌, ◌∙◌, [], ℕ, List, length, get_or, ap, sym, subst}
+use Rattle.std.proofs.Common.{arith, inl, inr}
+use Rattle.std.proofs.lemmas.Bool.{cases_eq}
+use Rattle.std.proofs.lemmas.List.{get_or_push, get_or_append_left, length_push}
+use Rattle.psci_board.specs.Board.{size_below}
+use Rattle.psci_tree.specs.declared.way.Way.{Way}
+use Rattle.psci_tree.specs.Way.{IsWayOf}
+use Rattle.psci_tree.proofs.way.ways_of.Goals as goal
+
+-- one more way
+ways_push : (levels : List (List ℕ)) (ways now : List Way) (way : Way) (count : ℕ)
+    → length ways ≡ count → now ≡ ways ++ way ∷ [] → IsWayOf levels count way
+    → ((core : ℕ) (w : Way) → core < count → IsWayOf levels core (get_or ways core w))
+    → (core : ℕ) (w : Way) → core < count + 1 → IsWayOf levels core (get_or now core w)
+ways_push levels ways now way count long e own each core w h = elim (cases_eq core count) [
+  | inl same ↦
+      let read : get_or now core w ≡ way =
+      ap (λ xs. get_or xs core w) e ∙ get_or_push ways way w core (omega (arith, long, same)) in
+      subst (IsWayOf levels core) (sym read) (subst (λ k. IsWayOf levels k way) (sym same) own)
+  | inr other ↦
+      let before : core < count = omega (arith, h, other) in
+      let read : get_or now core w ≡ get_or ways core w =
+      ap (λ xs. get_or xs core w) e
+      ∙ get_or_append_left ways (way ∷ []) w core (omega (arith, before, long)) in
+      subst (IsWayOf levels core) (sym read) (each core w before)
+]
+
+pub loop-number-preserved : goal.loop-number-preserved
+loop-number-preserved c = record {
+  count = ap length c.in_ok-push.ensures.items
+      ∙ length_push c.loop-number.ways.items c.way_to.result
+      ∙ ap (λ n. n + 1) c.loop-number.invariant.count;
+  each = ways_push c.args.board.now.levels c.loop-number.ways.items _ c.way_to.result
+      c.loop-number.number c.loop-number.invariant.count c.in_ok-push.ensures.items
+      c.way_to.ensures c.loop-number.invariant.each;
+}
+
+pub returns : goal.returns
+returns c =
+    let levels : List (List ℕ) = c.args.board.now.levels in
+    let all : c.loop-number.number ≡ size_below levels = omega (
+      arith,
+      c.loop-number-test.false,
+      c.loop-number.auto.number-end,
+      c.cores-number-end.ensures.cores,
+    ) in
+    record {
+      count = c.loop-number.invariant.count ∙ all;
+      each = λ core w h. c.loop-number.invariant.each core w (omega (arith, h, all));
+    }
