@@ -23,9 +23,9 @@ use crate::level::DomainRow;
 use crate::row::forget_starts;
 use crate::starting::begin_life;
 use psci_board::{Core, Node, law_paths};
-use psci_parts::Part;
 use psci_ctl_spec::{Cause, law_limits};
 use psci_link::{Kind, Message, law_parts};
+use psci_parts::Part;
 
 impl Controller {
     /// Whether a core may be started once more.
