@@ -1,0 +1,5 @@
+mod ShownRows
+pub mod Finish
+pub mod Shows
+pub mod Steps
+pub mod Texts
