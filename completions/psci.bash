@@ -24,7 +24,7 @@ _psci() {
         threads) mapfile -t COMPREPLY < <(compgen -W "--board --seed --count --help" -- "$word") ;;
         show) mapfile -t COMPREPLY < <(compgen -W \
             "--json --legend --width --color --help" -- "$word") ;;
-        help) mapfile -t COMPREPLY < <(compgen -W "replay storm threads" -- "$word") ;;
+        help) mapfile -t COMPREPLY < <(compgen -W "replay storm threads show" -- "$word") ;;
         replay | draw) mapfile -t COMPREPLY < <(compgen -W "--help" -- "$word") ;;
     esac
 }

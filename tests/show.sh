@@ -1,16 +1,12 @@
 # Tests of `psci show`, `psci draw`, the completion and the manual page, sourced by ../test: runs in
 # words and pictures, text for text, and as JSON.
 
-# show WORD..: tools/show over the built program, whose script is on standard input
-show() {
-    timeout 60 tools/show --program "$program" "$@" > "$work/out" 2> "$work/err"
-    echo $? > "$work/got"
-}
+# show WORD..: shows the script on standard input
+show() { run show "$@"; }
 
 # the stored examples in words, as wide as asked, and the legend
 shown() {
     local file name
-    has_python shown || return
     for file in examples/{late-acknowledgement,wake-overtakes-down,os-initiated-refusals}.psci \
         tests/scripts/calls/hw-standby.psci; do
         name=$(basename "$file" .psci)
@@ -27,7 +23,17 @@ shown() {
     cp tests/shown/three-levels-narrow.txt "$work/lines"
     expect "show --width 60" 0
     answers "show --width 60"
-    shown_answers
+    show --color always < examples/late-acknowledgement.psci
+    sed 's/\x1b\[[0-9]*m//g' "$work/out" > "$work/plain"
+    if ! cmp -s "$work/plain" "$work/out"; then pass; else fail "show --color always without a color"; fi
+    cp "$work/plain" "$work/out"
+    cp tests/shown/late-acknowledgement.txt "$work/lines"
+    answers "show --color always"
+    show --width 40 < examples/three-levels.psci
+    cp "$work/out" "$work/lines"
+    show --width 7 < examples/three-levels.psci
+    answers "show --width 7"
+    if has_python shown_answers; then shown_answers; fi
     printf '%s\nenter 0' "$board" > "$work/script"
     show < "$work/script"
     expect "show without a last line feed" 0
@@ -36,6 +42,31 @@ shown() {
     expect "show at a faulty line" 3 "line 3: script fault 2"
     show < /dev/null
     expect "show of an empty script" 3 "line 1: script fault 1"
+}
+
+# ./psci show says how wide the terminal is, and asks for colors there; the words come first, and
+# elsewhere auto is never
+terminal_words() {
+    local words wanted
+    {
+        sed -n '/^terminal_words()/,/^}/p' psci
+        echo 'stty cols 97 <&1 2> /dev/null; terminal_words "${@:2}"; echo "${words[*]}" > "$1"'
+    } > "$work/asks"
+    bash "$work/asks" "$work/out" --color auto --json > "$work/none"
+    echo "--color never --json" > "$work/lines"
+    answers "./psci show beside a terminal"
+    command -v script > /dev/null || { skip "./psci show on a terminal" script; return; }
+    while IFS='|' read -r words wanted; do
+        script -qec "bash $work/asks $work/out $words" /dev/null < /dev/null > "$work/none"
+        echo "$wanted" > "$work/lines"
+        answers "./psci show $words on a terminal"
+    done << 'EOF'
+|--width 97 --color always
+--json|--json --width 97 --color always
+--width 50|--width 50 --color always
+--color auto|--color always --width 97
+--color=never|--color=never --width 97
+EOF
 }
 
 # as JSON each example has its answers, and its lines are objects
@@ -71,7 +102,7 @@ drawn() {
 
 # the long options that the help of each command names
 options() {
-    { "$program" --help; "$program" storm --help; "$program" threads --help; tools/show --help; } |
+    { "$program" --help; "$program" storm --help; "$program" threads --help; "$program" show --help; } |
         grep -oE -- '--[a-z]+' | sort -u
 }
 

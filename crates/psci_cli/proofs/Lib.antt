@@ -1,4 +1,5 @@
 mod EndRows
 mod OutputRows
+mod ShownRows
 mod StormRows
 mod ThreadsRows

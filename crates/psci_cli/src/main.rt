@@ -1,7 +1,8 @@
-//! The program: scripts of PSCI calls, replayed from standard input to standard output, storms, and
-//! threads.
+//! The program: scripts of PSCI calls, replayed or shown from standard input to standard output,
+//! storms, and threads.
 #![tactic(auto)]
 
+mod shown;
 mod storm_line;
 mod threads_line;
 
@@ -18,6 +19,7 @@ use psci_bench::{ReplayFault, Std, replay};
 use psci_command::{Board, Failure, ReadBoard, Request, StormRequest, asked, words};
 use psci_keep::write_script;
 use psci_storm::{StormedWorld, storm_world};
+use shown::show_standard;
 use std::alloc::Global;
 use std::fs::File;
 use std::io::{self, BufWriter, Write};
@@ -96,6 +98,7 @@ fn run<R: Threads + Wait + Sync>(rt: &HostRuntime, threads: &R) -> Result<(), Fa
     match asked(rt, words.as_slice())? {
         Request::Storm(request) => storm_standard(rt, request),
         Request::Threads(request) => run_threads(threads, rt.alloc(), &mut rt.stdout(), request),
+        Request::Show(request) => show_standard(rt, request),
         Request::Replay => replay_standard(rt),
         Request::Nothing => Ok(()),
     }

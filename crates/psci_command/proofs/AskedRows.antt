@@ -8,7 +8,8 @@ use Rattle.clap.specs.declared.error.kind.ErrorKind.TheVariants.{MissingSubcomma
 use Rattle.psci_script.specs.declared.fault.ReplayFault.TheVariants.{Memory, Write}
 use Rattle.psci_command.specs.Commands.{IsAsked, IsStormOf, IsThreadsOf, IsWordless}
 use Rattle.psci_command.specs.Program.{AsksHelp, standard_board}
-use Rattle.psci_command.specs.declared.requests.Request.TheVariants.{Nothing, Replay, Storm, Threads}
+use Rattle.psci_command.specs.declared.requests.Request.TheVariants.{Nothing, Replay}
+use Rattle.psci_command.specs.declared.requests.Request.TheVariants.{Storm, Threads}
 use Rattle.psci_command.specs.declared.requests.StormRequest.{StormRequest}
 use Rattle.psci_command.specs.declared.requests.ThreadsRequest.{ThreadsRequest}
 use Rattle.psci_command.specs.declared.exit.Failure.TheVariants as failures
@@ -44,7 +45,8 @@ rows_of_board =
     board_row (codes "4") ∷ seed_row (codes "7") ∷ count_row (codes "5") ∷ no_counts ∷ []
 
 pub of_rows : IsStormOf rows (Some (request standard_board 7 5))
-of_rows = ((refl, (spelled (codes "7") refl, refl), (spelled (codes "5") refl, refl)), λ e. cc, refl)
+of_rows =
+    ((refl, (spelled (codes "7") refl, refl), (spelled (codes "5") refl, refl)), λ e. cc, refl)
 
 of_other_board : IsStormOf rows (Some (request (codes "4") 7 5)) → ⊥
 of_other_board h = let same = h.0.0 in cc
@@ -75,11 +77,14 @@ none_of_rows (inr (inr no_count)) = no_count (spelled (codes "5") refl)
 
 -- the board that is given stands before the standard one
 pub of_given_board : IsStormOf rows_of_board (Some (request (codes "4") 7 5))
-of_given_board = ((refl, (spelled (codes "7") refl, refl), (spelled (codes "5") refl, refl)), λ e. cc, refl)
+of_given_board =
+    ((refl, (spelled (codes "7") refl, refl), (spelled (codes "5") refl, refl)), λ e. cc, refl)
 
 -- a file to keep the storm in, which is kept in that one and in no other
 abbrev pub kept : Text → StormRequest
-kept path = record (request standard_board 7 5) { keep = Some (record { ref_ptr = (0, 0); now = path }) }
+kept path = record (request standard_board 7 5) {
+  keep = Some (record { ref_ptr = (0, 0); now = path });
+}
 
 abbrev pub rows_with_file : List Row
 rows_with_file =
@@ -87,7 +92,8 @@ rows_with_file =
     ∷ no_counts ∷ []
 
 pub of_file : IsStormOf rows_with_file (Some (kept (codes "a b")))
-of_file = ((refl, (spelled (codes "7") refl, refl), (spelled (codes "5") refl, refl)), λ e. cc, refl)
+of_file =
+    ((refl, (spelled (codes "7") refl, refl), (spelled (codes "5") refl, refl)), λ e. cc, refl)
 
 of_other_file : IsStormOf rows_with_file (Some (kept (codes "a"))) → ⊥
 of_other_file h = let same = h.2 in cc
@@ -174,16 +180,19 @@ asked_for_threads_by_storm : IsAsked (Some (codes "storm", rows)) (Some (Threads
 asked_for_threads_by_storm h = let name = ap name_in h.1 in cc
 
 asked_for_replay : IsAsked (Some (codes "replay", [])) (Some Replay)
-asked_for_replay = (λ e. cc, λ e. cc)
+asked_for_replay = (λ e. cc, λ e. cc, λ e. cc)
 
 asked_for_replay_by_none : IsAsked None (Some Replay)
-asked_for_replay_by_none = (λ e. cc, λ e. cc)
+asked_for_replay_by_none = (λ e. cc, λ e. cc, λ e. cc)
 
 asked_for_replay_by_storm : IsAsked (Some (codes "storm", rows)) (Some Replay) → ⊥
 asked_for_replay_by_storm h = h.0 refl
 
 asked_for_replay_by_threads : IsAsked (Some (codes "threads", rows)) (Some Replay) → ⊥
 asked_for_replay_by_threads h = h.1 refl
+
+asked_for_replay_by_show : IsAsked (Some (codes "show", rows)) (Some Replay) → ⊥
+asked_for_replay_by_show h = h.2 refl
 
 asked_for_nothing : IsAsked None (Some Nothing) → ⊥
 asked_for_nothing h = h
@@ -192,11 +201,15 @@ asked_for_no_storm : IsAsked (Some (codes "storm", seed_row (codes "7") ∷ []))
 asked_for_no_storm = inl (seed_row (codes "7") ∷ [], refl, inl refl)
 
 asked_for_no_threads : IsAsked (Some (codes "threads", seed_row (codes "7") ∷ [])) None
-asked_for_no_threads = inr (seed_row (codes "7") ∷ [], refl, inl refl)
+asked_for_no_threads = inr (inl (seed_row (codes "7") ∷ [], refl, inl refl))
+
+asked_for_no_show : IsAsked (Some (codes "show", [])) None
+asked_for_no_show = inr (inr ([], refl, λ color e. cc))
 
 asked_for_no_storm_by_replay : IsAsked (Some (codes "replay", [])) None → ⊥
 asked_for_no_storm_by_replay (inl h) = let name = ap name_in h.1 in cc
-asked_for_no_storm_by_replay (inr h) = let name = ap name_in h.1 in cc
+asked_for_no_storm_by_replay (inr (inl h)) = let name = ap name_in h.1 in cc
+asked_for_no_storm_by_replay (inr (inr h)) = let name = ap name_in h.1 in cc
 
 -- What is not obeyed ------------------------------------------------------------------------------
 

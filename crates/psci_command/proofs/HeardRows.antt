@@ -1,5 +1,6 @@
 -- What known command lines come to, and what they do not.
-use Rattle.std.proofs.Common.{◌≡◌, [], ◌∷◌, List, Some, true, Ok, Err, refl, inl, subst, sym, ◌∙◌}
+use Rattle.std.proofs.Common.{◌≡◌, ◌∙◌, ℕ, [], ◌∷◌, List, Some, true, Ok, Err, refl, inl, subst}
+use Rattle.std.proofs.Common.{sym}
 use Rattle.std.specs.Prelude.{codes}
 use Rattle.clap.specs.Walk.{Text}
 use Rattle.clap.specs.Words.{subcommand_of}
@@ -12,16 +13,19 @@ use Rattle.psci_command.proofs.AskedRows.{request, rows, rows_of_board, rows_wit
 use Rattle.psci_command.proofs.AskedRows.{rows_with_file}
 use Rattle.psci_command.proofs.CommandRows.{help_asked, nothing_asked, replay_asked, replay_met}
 use Rattle.psci_command.proofs.Hearing.{no_help}
+use Rattle.psci_command.proofs.ShowCommandRows.{colored, colored_asked, colored_rows, colored_show}
+use Rattle.psci_command.proofs.ShowCommandRows.{show_with, somewhere}
 use Rattle.psci_command.proofs.StormCommandRows.{board, count, count_first, other_board, seed}
 use Rattle.psci_command.proofs.StormCommandRows.{storm_with, with_counts, with_file}
-use Rattle.psci_command.proofs.ThreadsCommandRows.{plain_asked, plain_rows, plain_threads, threads_with}
-use Rattle.psci_command.specs.declared.requests.Request.TheVariants.{Nothing, Storm, Threads}
+use Rattle.psci_command.proofs.ThreadsCommandRows.{plain_asked, plain_rows, plain_threads}
+use Rattle.psci_command.proofs.ThreadsCommandRows.{threads_with}
+use Rattle.psci_command.specs.declared.requests.Request.TheVariants.{Nothing, Show, Storm, Threads}
 use Rattle.psci_command.specs.declared.requests.Request.TheVariants.{Replay as ReplayScript}
 use Rattle.psci_command.specs.declared.exit.Failure.TheVariants.{CommandLine, Replay}
 use Rattle.psci_command.specs.declared.exit.Failure.TheVariants.{Board as GivenBoard}
 use Rattle.psci_command.specs.Commands.{IsUnmet}
-use Rattle.psci_command.specs.Heard.{HasFault, HasHelp, IsHeard}
-use Rattle.psci_command.specs.Program.{program, standard_board}
+use Rattle.psci_command.specs.Heard.{HasFault, HasHelp, IsHeard, IsHeardBy}
+use Rattle.psci_command.specs.Program.{Words, program, standard_board}
 
 -- Kinds ---------------------------------------------------------------------------------------
 
@@ -47,65 +51,93 @@ replay_words : List Text
 replay_words = codes "psci_cli" ∷ codes "replay" ∷ []
 
 -- the command that was met is no other
-other : (name : Text) → ¬ (Some (codes "replay") ≡ Some name)
-    → IsUnmet name (subcommand_of program (codes "psci_cli" ∷ codes "replay" ∷ []))
-other name differs e = differs (sym replay_met ∙ e)
+other : (colors : Words) (name : Text) → ¬ (Some (codes "replay") ≡ Some name)
+    → IsUnmet name (subcommand_of (program colors) (codes "psci_cli" ∷ codes "replay" ∷ []))
+other colors name differs e = differs (sym (replay_met colors) ∙ e)
 
-heard_replay : IsHeard replay_words (Ok ReplayScript)
+heard_replay : (colors : Words) → IsHeardBy (program colors) replay_words (Ok ReplayScript)
 unfolding replay_words
-heard_replay =
-    (replay_asked, (other (codes "storm") (λ e. cc), other (codes "threads") (λ e. cc)))
+heard_replay colors = (
+  replay_asked colors,
+  (
+    other colors (codes "storm") (λ e. cc),
+    other colors (codes "threads") (λ e. cc),
+    other colors (codes "show") (λ e. cc),
+  ),
+)
 
 -- storms: in either order, on another board, with the counts
-heard_storm : IsHeard (storm_with (count (codes "5") (seed (codes "7") [])))
+heard_storm : (colors : Words)
+    → IsHeardBy (program colors) (storm_with (count (codes "5") (seed (codes "7") [])))
     (Ok (Storm (request standard_board 7 5)))
-heard_storm = (count_first.fault, (rows, count_first.met, of_rows))
+heard_storm colors = (count_first.fault colors, (rows, count_first.met colors, of_rows))
 
-heard_storm_on_other_board : IsHeard
+heard_storm_on_other_board : (colors : Words) → IsHeardBy (program colors)
     (storm_with (board (codes "4") (seed (codes "7") (count (codes "5") []))))
     (Ok (Storm (request (codes "4") 7 5)))
-heard_storm_on_other_board = (other_board.fault, (rows_of_board, other_board.met, of_given_board))
+heard_storm_on_other_board colors =
+    (other_board.fault colors, (rows_of_board, other_board.met colors, of_given_board))
 
-heard_storm_with_counts : IsHeard
+heard_storm_with_counts : (colors : Words) → IsHeardBy (program colors)
     (storm_with (seed (codes "7") (codes "--counts" ∷ count (codes "5") [])))
     (Ok (Storm (record (request standard_board 7 5) { counts = true })))
-heard_storm_with_counts = (with_counts.fault, (rows_with_counts, with_counts.met, of_counts))
+heard_storm_with_counts colors =
+    (with_counts.fault colors, (rows_with_counts, with_counts.met colors, of_counts))
 
-heard_storm_with_file : IsHeard
+heard_storm_with_file : (colors : Words) → IsHeardBy (program colors)
     (storm_with (seed (codes "7") (codes "--keep" ∷ codes "a b" ∷ count (codes "5") [])))
     (Ok (Storm (kept (codes "a b"))))
-heard_storm_with_file = (with_file.fault, (rows_with_file, with_file.met, of_file))
+heard_storm_with_file colors =
+    (with_file.fault colors, (rows_with_file, with_file.met colors, of_file))
 
-heard_threads : IsHeard (threads_with (seed (codes "7") (count (codes "5") [])))
+heard_threads : (colors : Words)
+    → IsHeardBy (program colors) (threads_with (seed (codes "7") (count (codes "5") [])))
     (Ok (Threads (threads 7 5)))
-heard_threads = (plain_threads.fault, (plain_rows, plain_threads.met, plain_asked))
+heard_threads colors =
+    (plain_threads.fault colors, (plain_rows, plain_threads.met colors, plain_asked))
+
+heard_show : (a b c d : ℕ × ℕ) → IsHeard
+    (show_with (codes "--width" ∷ codes "120" ∷ codes "--color" ∷ codes "always" ∷ []))
+    (Ok (Show colored_show))
+heard_show a b c d = record {
+  colors = somewhere a b c d;
+  are_colors = refl;
+  heard = (colored.fault a b c d, (colored_rows, colored.met a b c d, colored_asked));
+}
 
 -- a replay is no help, and no fault but for what memory or writing makes one
-replay_is_no_help : IsHeard replay_words (Ok Nothing) → ⊥
+replay_is_no_help : (colors : Words) → IsHeardBy (program colors) replay_words (Ok Nothing) → ⊥
 unfolding replay_words
-replay_is_no_help h = help_in_nothing (subst HasHelp replay_asked h)
+replay_is_no_help colors h = help_in_nothing (subst HasHelp (replay_asked colors) h)
 
-replay_not_written : IsHeard replay_words (Err (Replay Write)) → ⊥
+replay_not_written : (colors : Words)
+    → IsHeardBy (program colors) replay_words (Err (Replay Write)) → ⊥
 unfolding replay_words
-replay_not_written h = help_in_nothing (subst HasHelp replay_asked h)
+replay_not_written colors h = help_in_nothing (subst HasHelp (replay_asked colors) h)
 
-replay_not_read : IsHeard replay_words (Err (Replay Read)) → ⊥
-replay_not_read h = h
+replay_not_read : (colors : Words) → IsHeardBy (program colors) replay_words (Err (Replay Read)) → ⊥
+replay_not_read colors h = h
 
-replay_of_no_script : IsHeard replay_words (Err (Replay (Script 1 NoBoard))) → ⊥
-replay_of_no_script h = h
+replay_of_no_script : (colors : Words)
+    → IsHeardBy (program colors) replay_words (Err (Replay (Script 1 NoBoard))) → ⊥
+replay_of_no_script colors h = h
 
-replay_of_given_board : IsHeard replay_words (Err (GivenBoard boards.Grammar)) → ⊥
-replay_of_given_board h = h
+replay_of_given_board : (colors : Words)
+    → IsHeardBy (program colors) replay_words (Err (GivenBoard boards.Grammar)) → ⊥
+replay_of_given_board colors h = h
 
-replay_without_memory : IsHeard replay_words (Err (Replay Memory))
-replay_without_memory = tt
+replay_without_memory : (colors : Words)
+    → IsHeardBy (program colors) replay_words (Err (Replay Memory))
+replay_without_memory colors = tt
 
-heard_help : IsHeard (codes "psci_cli" ∷ codes "--help" ∷ []) (Ok Nothing)
-heard_help = subst HasHelp (sym help_asked) help
+heard_help : (colors : Words)
+    → IsHeardBy (program colors) (codes "psci_cli" ∷ codes "--help" ∷ []) (Ok Nothing)
+heard_help colors = subst HasHelp (sym (help_asked colors)) help
 
-help_not_written : IsHeard (codes "psci_cli" ∷ codes "--help" ∷ []) (Err (Replay Write))
-help_not_written = subst HasHelp (sym help_asked) help
+help_not_written : (colors : Words)
+    → IsHeardBy (program colors) (codes "psci_cli" ∷ codes "--help" ∷ []) (Err (Replay Write))
+help_not_written colors = subst HasHelp (sym (help_asked colors)) help
 
-heard_no_command : IsHeard (codes "psci_cli" ∷ []) (Err CommandLine)
-heard_no_command = inl (subst HasFault (sym nothing_asked) fault)
+heard_no_command : (colors : Words)
+    → IsHeardBy (program colors) (codes "psci_cli" ∷ []) (Err CommandLine)
+heard_no_command colors = inl (subst HasFault (sym (nothing_asked colors)) fault)

@@ -1,7 +1,7 @@
 -- What words come to, by what the parser says.
 use Rattle.std.proofs.Common.{◌≡◌, ◌⊎◌, List, Result, Ok, Err, refl, sym, subst, inl, inr}
 use Rattle.clap.specs.Walk.{Text}
-use Rattle.clap.specs.Words.{IsAmong, Kinds, fault_of}
+use Rattle.clap.specs.Words.{App, IsAmong, Kinds, fault_of}
 use Rattle.clap.specs.declared.error.kind.ErrorKind.{ErrorKind}
 use Rattle.clap.specs.declared.error.kind.ErrorKind.TheVariants as kinds
 use Rattle.psci_script.specs.declared.fault.ReplayFault.TheVariants.{Memory, Write}
@@ -9,8 +9,8 @@ use Rattle.psci_command.specs.declared.requests.Request.{Request}
 use Rattle.psci_command.specs.declared.requests.Request.TheVariants.{Nothing}
 use Rattle.psci_command.specs.declared.exit.Failure.{Failure}
 use Rattle.psci_command.specs.declared.exit.Failure.TheVariants.{CommandLine, Replay}
-use Rattle.psci_command.specs.Program.{AsksHelp, program}
-use Rattle.psci_command.specs.Heard.{HasHelp, IsHeard}
+use Rattle.psci_command.specs.Program.{AsksHelp}
+use Rattle.psci_command.specs.Heard.{HasHelp, IsHeardBy}
 
 -- what a kind comes to: want of memory, help, or a fault
 data Sort (k : ErrorKind) : Type 0 where
@@ -49,33 +49,35 @@ said : (k : ErrorKind) (all : Kinds) → (k ≡ kinds.OutOfMemory) ⊎ IsAmong k
 said k all (inl e) differs = absurd (differs e)
 said k all (inr among) differs = among
 
-helps : (words : List Text) (result : Result Request Failure) → HasHelp (fault_of program words)
-    → (result ≡ Ok Nothing) ⊎ (result ≡ Err (Replay Write)) → IsHeard words result
-helps words result has (inl e) = subst (IsHeard words) (sym e) has
-helps words result has (inr e) = subst (IsHeard words) (sym e) has
+helps : (app : App) (words : List Text) (result : Result Request Failure)
+    → HasHelp (fault_of app words)
+    → (result ≡ Ok Nothing) ⊎ (result ≡ Err (Replay Write)) → IsHeardBy app words result
+helps app words result has (inl e) = subst (IsHeardBy app words) (sym e) has
+helps app words result has (inr e) = subst (IsHeardBy app words) (sym e) has
 
 -- what the parser says
-shown_by : (words : List Text) (k : ErrorKind) (result : Result Request Failure) → Sort k
-    → (k ≡ kinds.OutOfMemory) ⊎ IsAmong k (fault_of program words)
+shown_by : (app : App) (words : List Text) (k : ErrorKind) (result : Result Request Failure)
+    → Sort k
+    → (k ≡ kinds.OutOfMemory) ⊎ IsAmong k (fault_of app words)
     → (k ≡ kinds.OutOfMemory → result ≡ Err (Replay Memory))
     → (AsksHelp k → (result ≡ Ok Nothing) ⊎ (result ≡ Err (Replay Write)))
     → (¬ (k ≡ kinds.OutOfMemory) → ¬ (AsksHelp k) → result ≡ Err CommandLine)
-    → IsHeard words result
-shown_by words k result (OfMemory is) has memory help fault =
-    subst (IsHeard words) (sym (memory is)) tt
-shown_by words k result (OfHelp differs is) has memory help fault =
-    helps words result
-    (record { kind = k; among = said k (fault_of program words) has differs; help = is })
+    → IsHeardBy app words result
+shown_by app words k result (OfMemory is) has memory help fault =
+    subst (IsHeardBy app words) (sym (memory is)) tt
+shown_by app words k result (OfHelp differs is) has memory help fault =
+    helps app words result
+    (record { kind = k; among = said k (fault_of app words) has differs; help = is })
     (help is)
-shown_by words k result (OfFault differs is) has memory help fault =
-    subst (IsHeard words) (sym (fault differs is))
-    (inl (record { kind = k; among = said k (fault_of program words) has differs; fault = is }))
+shown_by app words k result (OfFault differs is) has memory help fault =
+    subst (IsHeardBy app words) (sym (fault differs is))
+    (inl (record { kind = k; among = said k (fault_of app words) has differs; fault = is }))
 
-pub heard_shown : (words : List Text) (k : ErrorKind) (result : Result Request Failure)
-    → (k ≡ kinds.OutOfMemory) ⊎ IsAmong k (fault_of program words)
+pub heard_shown : (app : App) (words : List Text) (k : ErrorKind) (result : Result Request Failure)
+    → (k ≡ kinds.OutOfMemory) ⊎ IsAmong k (fault_of app words)
     → (k ≡ kinds.OutOfMemory → result ≡ Err (Replay Memory))
     → (AsksHelp k → (result ≡ Ok Nothing) ⊎ (result ≡ Err (Replay Write)))
     → (¬ (k ≡ kinds.OutOfMemory) → ¬ (AsksHelp k) → result ≡ Err CommandLine)
-    → IsHeard words result
-heard_shown words k result has memory help fault =
-    shown_by words k result (sort_of k) has memory help fault
+    → IsHeardBy app words result
+heard_shown app words k result has memory help fault =
+    shown_by app words k result (sort_of k) has memory help fault

@@ -8,6 +8,7 @@ pub mod Locals
 pub mod Numbers
 mod PlainRows
 pub mod Simple
+mod ShowCommandRows
 mod StormCommandRows
 mod ThreadsCommandRows
 mod ValueRows

@@ -2,12 +2,12 @@
 use Rattle.std.proofs.Common.{◌≡◌, refl, true}
 use Rattle.clap.proofs.OnLiterals.{clap_on_literals}
 use Rattle.clap.specs.Words.{is_simple, is_simple_and_free}
-use Rattle.psci_command.specs.Program.{program}
+use Rattle.psci_command.specs.Program.{Words, program}
 
-pub program_simple : is_simple program ≡ true
+pub program_simple : (colors : Words) → is_simple (program colors) ≡ true
 unfolding clap_on_literals
-program_simple = refl
+program_simple colors = refl
 
-pub program_free : is_simple_and_free program ≡ true
+pub program_free : (colors : Words) → is_simple_and_free (program colors) ≡ true
 unfolding clap_on_literals
-program_free = refl
+program_free colors = refl

@@ -1,4 +1,4 @@
--- What known command lines of `threads` are answered: its options are those of a storm that both have.
+-- What known command lines of `threads` are answered: its options are some of those of a storm.
 use Rattle.std.proofs.Common.{◌≡◌, List, [], ◌∷◌, Some, refl}
 use Rattle.std.specs.Prelude.{codes}
 use Rattle.clap.proofs.OnLiterals.{clap_on_literals}
@@ -8,7 +8,7 @@ use Rattle.clap.specs.declared.error.kind.ErrorKind.TheVariants.{ArgumentConflic
 use Rattle.clap.specs.declared.error.kind.ErrorKind.TheVariants.{MissingRequiredArgument}
 use Rattle.clap.specs.declared.error.kind.ErrorKind.TheVariants.{UnknownArgument, ValueValidation}
 use Rattle.psci_command.specs.Commands.{IsThreadsOf}
-use Rattle.psci_command.specs.Program.{program}
+use Rattle.psci_command.specs.Program.{Words, program}
 use Rattle.psci_command.proofs.AskedRows.{threads}
 use Rattle.psci_command.proofs.StormCommandRows.{board, board_row, count, count_row, seed, seed_row}
 use Rattle.psci_command.proofs.StormCommandRows.{standard_row}
@@ -20,58 +20,62 @@ threads_with words = codes "psci_cli" ∷ codes "threads" ∷ words
 
 -- threads with these words are taken, and this is found in them
 pub record IsTaken (words : List Text) (rows : List Row) : Type 0 where
-  pub fault : fault_of program (threads_with words) ≡ []
-  pub met : subcommand_of program (threads_with words) ≡ Some (codes "threads", rows)
+  pub fault : (colors : Words) → fault_of (program colors) (threads_with words) ≡ []
+  pub met : (colors : Words)
+      → subcommand_of (program colors) (threads_with words) ≡ Some (codes "threads", rows)
 
 -- threads with these words are refused
 abbrev IsRefused : List Text → ErrorKind → Type 0
-IsRefused words kind = fault_of program (threads_with words) ≡ kind ∷ []
+IsRefused words kind = (colors : Words) → fault_of (program colors) (threads_with words) ≡ kind ∷ []
 
 abbrev pub plain_rows : List Row
 plain_rows = seed_row (codes "7") ∷ count_row (codes "5") ∷ standard_row ∷ []
 
 pub plain_threads : IsTaken (seed (codes "7") (count (codes "5") [])) plain_rows
 unfolding clap_on_literals
-plain_threads = record { fault = refl; met = refl }
+plain_threads = record { fault = λ colors. refl; met = λ colors. refl }
 
 pub plain_asked : IsThreadsOf plain_rows (Some (threads 7 5))
 plain_asked = (refl, (spelled (codes "7") refl, refl), (spelled (codes "5") refl, refl))
 
 -- the largest numbers, on another board
-largest : IsTaken (board (codes "4") (seed (codes "18446744073709551615") (count (codes "10000") [])))
-    (board_row (codes "4") ∷ seed_row (codes "18446744073709551615") ∷ count_row (codes "10000") ∷ [])
+largest : IsTaken
+    (board (codes "4") (seed (codes "18446744073709551615") (count (codes "10000") [])))
+    (board_row (codes "4") ∷ seed_row (codes "18446744073709551615") ∷ count_row (codes "10000")
+    ∷ [])
 unfolding clap_on_literals
-largest = record { fault = refl; met = refl }
+largest = record { fault = λ colors. refl; met = λ colors. refl }
 
 -- one more than these
 seed_too_large : IsRefused (seed (codes "18446744073709551616") (count (codes "0") []))
     ValueValidation
 unfolding clap_on_literals
-seed_too_large = refl
+seed_too_large colors = refl
 
 count_too_large : IsRefused (seed (codes "0") (count (codes "10001") [])) ValueValidation
 unfolding clap_on_literals
-count_too_large = refl
+count_too_large colors = refl
 
 -- a number that is missing, and one that comes twice
 no_seed : IsRefused (count (codes "0") []) MissingRequiredArgument
 unfolding clap_on_literals
-no_seed = refl
+no_seed colors = refl
 
 no_count : IsRefused (seed (codes "0") []) MissingRequiredArgument
 unfolding clap_on_literals
-no_count = refl
+no_count colors = refl
 
-two_counts : IsRefused (seed (codes "0") (count (codes "0") (count (codes "0") []))) ArgumentConflict
+two_counts : IsRefused (seed (codes "0") (count (codes "0") (count (codes "0") [])))
+    ArgumentConflict
 unfolding clap_on_literals
-two_counts = refl
+two_counts colors = refl
 
 -- an option that a storm alone has
 counts_of_a_storm : IsRefused (seed (codes "0") (count (codes "0") (codes "--counts" ∷ [])))
     UnknownArgument
 unfolding clap_on_literals
-counts_of_a_storm = refl
+counts_of_a_storm colors = refl
 
 help : IsRefused (codes "--help" ∷ []) DisplayHelp
 unfolding clap_on_literals
-help = refl
+help colors = refl

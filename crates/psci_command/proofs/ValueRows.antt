@@ -10,80 +10,89 @@ use Rattle.psci_command.specs.Values.{IsFlagIn, IsNumberIn, SpellsNumber}
 -- Texts that spell a number -----------------------------------------------------------------------
 
 -- a text spells a number where the parser's own test of 64 bits takes it
-pub spelled : (t : Text) → accepts true (Unsigned 0 18446744073709551615) t ≡ true → SpellsNumber t
+pub spelled : (t : Text)
+    → accepts true (Unsigned 0 18446744073709551615) t ≡ true → SpellsNumber 64 t
 spelled t e =
     let taken = accepts-Accepts true (Unsigned 0 18446744073709551615) t e in (taken.0, taken.1)
 
-spells_0 : SpellsNumber (codes "0")
+-- the same of 16 bits
+pub short_spelled : (t : Text) → accepts true (Unsigned 0 65535) t ≡ true → SpellsNumber 16 t
+short_spelled t e =
+    let taken = accepts-Accepts true (Unsigned 0 65535) t e in (taken.0, omega (arith, taken.3))
+
+spells_too_large_for_16_bits : SpellsNumber 16 (codes "65536") → ⊥
+spells_too_large_for_16_bits h = let small = h.1 in absurd (omega arith)
+
+spells_0 : SpellsNumber 64 (codes "0")
 spells_0 = spelled (codes "0") refl
 
-spells_after_zeros : SpellsNumber (codes "007")
+spells_after_zeros : SpellsNumber 64 (codes "007")
 spells_after_zeros = spelled (codes "007") refl
 
-spells_after_a_plus : SpellsNumber (codes "+7")
+spells_after_a_plus : SpellsNumber 64 (codes "+7")
 spells_after_a_plus = spelled (codes "+7") refl
 
-spells_largest : SpellsNumber (codes "18446744073709551615")
+spells_largest : SpellsNumber 64 (codes "18446744073709551615")
 spells_largest = spelled (codes "18446744073709551615") refl
 
-spells_too_large : SpellsNumber (codes "18446744073709551616") → ⊥
+spells_too_large : SpellsNumber 64 (codes "18446744073709551616") → ⊥
 spells_too_large h = let small = h.1 in absurd (omega arith)
 
-spells_no_digit : SpellsNumber [] → ⊥
+spells_no_digit : SpellsNumber 64 [] → ⊥
 spells_no_digit h = let some = h.0.0 in absurd (omega arith)
 
-spells_plus_alone : SpellsNumber (codes "+") → ⊥
+spells_plus_alone : SpellsNumber 64 (codes "+") → ⊥
 spells_plus_alone h = let some = h.0.0 in absurd (omega arith)
 
-spells_two_plus : SpellsNumber (codes "++7") → ⊥
+spells_two_plus : SpellsNumber 64 (codes "++7") → ⊥
 spells_two_plus h = let digit = h.0.1.0 in absurd (omega arith)
 
-spells_minus : SpellsNumber (codes "-7") → ⊥
+spells_minus : SpellsNumber 64 (codes "-7") → ⊥
 spells_minus h = let digit = h.0.1.0 in absurd (omega arith)
 
-spells_letter : SpellsNumber (codes "7a") → ⊥
+spells_letter : SpellsNumber 64 (codes "7a") → ⊥
 spells_letter h = let digit = h.0.1.1.0 in absurd (omega arith)
 
-spells_space : SpellsNumber (codes "7 ") → ⊥
+spells_space : SpellsNumber 64 (codes "7 ") → ⊥
 spells_space h = let digit = h.0.1.1.0 in absurd (omega arith)
 
 -- The number in a text ----------------------------------------------------------------------------
 
-number_of_none : IsNumberIn None None
+number_of_none : IsNumberIn 64 None None
 number_of_none = refl
 
-some_number_of_none : IsNumberIn None (Some 0) → ⊥
+some_number_of_none : IsNumberIn 64 None (Some 0) → ⊥
 some_number_of_none h = cc
 
-number : IsNumberIn (Some (codes "207")) (Some 207)
+number : IsNumberIn 64 (Some (codes "207")) (Some 207)
 number = (spelled (codes "207") refl, refl)
 
-number_after_a_plus : IsNumberIn (Some (codes "+207")) (Some 207)
+number_after_a_plus : IsNumberIn 64 (Some (codes "+207")) (Some 207)
 number_after_a_plus = (spelled (codes "+207") refl, refl)
 
-number_largest : IsNumberIn (Some (codes "18446744073709551615")) (Some 18446744073709551615)
+number_largest : IsNumberIn 64 (Some (codes "18446744073709551615")) (Some 18446744073709551615)
 number_largest = (spelled (codes "18446744073709551615") refl, refl)
 
-other_number : IsNumberIn (Some (codes "207")) (Some 702) → ⊥
+other_number : IsNumberIn 64 (Some (codes "207")) (Some 702) → ⊥
 other_number h = let same = h.1 in absurd (omega arith)
 
-none_of_a_number : IsNumberIn (Some (codes "207")) None → ⊥
+none_of_a_number : IsNumberIn 64 (Some (codes "207")) None → ⊥
 none_of_a_number h = h (spelled (codes "207") refl)
 
-none_of_a_letter : IsNumberIn (Some (codes "x")) None
+none_of_a_letter : IsNumberIn 64 (Some (codes "x")) None
 none_of_a_letter h = let digit = h.0.1.0 in absurd (omega arith)
 
-number_of_a_letter : IsNumberIn (Some (codes "x")) (Some 33) → ⊥
+number_of_a_letter : IsNumberIn 64 (Some (codes "x")) (Some 33) → ⊥
 number_of_a_letter h = none_of_a_letter h.0
 
 -- 2^64 is no number of 64 bits, and none that 64 bits make of it
-none_too_large : IsNumberIn (Some (codes "18446744073709551616")) None
+none_too_large : IsNumberIn 64 (Some (codes "18446744073709551616")) None
 none_too_large = spells_too_large
 
-too_large : IsNumberIn (Some (codes "18446744073709551616")) (Some 18446744073709551616) → ⊥
+too_large : IsNumberIn 64 (Some (codes "18446744073709551616")) (Some 18446744073709551616) → ⊥
 too_large h = spells_too_large h.0
 
-too_large_is_0 : IsNumberIn (Some (codes "18446744073709551616")) (Some 0) → ⊥
+too_large_is_0 : IsNumberIn 64 (Some (codes "18446744073709551616")) (Some 0) → ⊥
 too_large_is_0 h = spells_too_large h.0
 
 -- Whether a flag is set --------------------------------------------------------------------------

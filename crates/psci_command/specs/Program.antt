@@ -1,10 +1,11 @@
 -- The command line: the program has commands, of which one must be given.
 use Rattle.std.specs.Prelude.{◌≡◌, ◌⊎◌, true, codes, List, ℕ, [], ◌∷◌, Some}
+use Rattle.std.specs.Borrow.{Bor}
 use Rattle.clap.specs.Simple.{App, Shape, new_app, new_rule, new_shape, on_top, with_subcommand}
-use Rattle.clap.specs.Walk.{Rule, Text}
+use Rattle.clap.specs.Walk.{Rule, Text, texts}
 use Rattle.clap.specs.declared.builder.action.ArgAction.TheVariants.{SetTrue}
 use Rattle.clap.specs.declared.builder.value_parser.ValueParser.{ValueParser}
-use Rattle.clap.specs.declared.builder.value_parser.ValueParser.TheVariants.{Unsigned}
+use Rattle.clap.specs.declared.builder.value_parser.ValueParser.TheVariants.{Names, Unsigned}
 use Rattle.clap.specs.declared.error.kind.ErrorKind.{ErrorKind}
 use Rattle.clap.specs.declared.error.kind.ErrorKind.TheVariants.{DisplayHelp, DisplayVersion}
 
@@ -54,17 +55,45 @@ threads_shape = record (new_shape (codes "threads")) {
   rules = board_rule ∷ seed_rule ∷ count_rule ∷ [];
 }
 
+-- `--width COLUMNS`: any number of 16 bits, which may be left out
+abbrev pub width_rule : Rule
+width_rule = record (text_rule (codes "width")) { parser = Some (Unsigned 0 65535) }
+
+-- the words that `--color` takes, as the parser holds them: it has a reference to them
+abbrev pub Words : Type 0
+Words = Bor (List (Bor Text))
+
+-- they are such
+abbrev pub AreColors : Words → Type 0
+AreColors colors = texts colors.now ≡ codes "auto" ∷ codes "always" ∷ codes "never" ∷ []
+
+-- `--color WHEN`, one of these words
+abbrev pub color_rule : Words → Rule
+color_rule colors = record (new_rule (codes "color")) {
+  long = Some (codes "color");
+  defaults = codes "auto" ∷ [];
+  parser = Some (Names colors);
+}
+
+-- `show [--json] [--legend] [--width COLUMNS] [--color WHEN]`
+abbrev pub show_shape : Words → Shape
+show_shape colors = record (new_shape (codes "show")) {
+  rules = flag_rule (codes "json") ∷ flag_rule (codes "legend") ∷ width_rule ∷ color_rule colors
+      ∷ [];
+}
+
 -- the program without a command; it has a version, and no command of it has one
 abbrev pub bare_program : App
 bare_program = on_top (λ s. record s { subcommand_required = true; has_version = true })
     (new_app (codes "psci_cli"))
 
--- the program with its commands
-abbrev pub program : App
-program = with_subcommand (with_subcommand (with_subcommand bare_program
+-- the program with its commands, wherever the words of `--color` are
+abbrev pub program : Words → App
+program colors = with_subcommand (with_subcommand (with_subcommand (with_subcommand bare_program
     (new_shape (codes "replay")))
     storm_shape)
-    threads_shape
+    threads_shape)
+    (show_shape colors)
 
 -- what the parser's error asks for, and is no fault: help, or the version
 abbrev pub AsksHelp : ErrorKind → Type 0

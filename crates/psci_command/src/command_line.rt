@@ -8,25 +8,31 @@ ghost use Rattle.psci_command.specs.declared.requests.Request.TheVariants.{Nothi
 ghost use Rattle.psci_command.specs.declared.exit.Failure.TheVariants.{CommandLine};
 ghost use Rattle.psci_command.specs.Commands.{IsAsked, IsWordless};
 ghost use Rattle.psci_command.specs.Program.{AsksHelp, program};
-ghost use Rattle.psci_command.specs.Heard.{IsHeard};
+ghost use Rattle.psci_command.specs.Heard.{IsHeard, IsHeardBy};
 
 use crate::commands::commands;
 use crate::exit::Failure;
 use crate::plain::plain;
 use crate::requests::{Request, request_of};
+use crate::show_command::colors;
 use clap::error::{Error, ErrorKind};
 use psci_script::ReplayFault;
 use std::alloc::Global;
 use std::rt::Env;
 use std::{env, io, str};
 
-/// What these words ask for, the program's name first, or the parser's error.
-fn request_in<'a>(alloc: Global, words: &'a [String]) -> Result<Option<Request<'a>>, Error>
+/// What these words ask for, the program's name first, or the parser's error; with these words for
+/// colors.
+fn request_in<'a>(
+    alloc: Global,
+    colors: &'a [&'a str],
+    words: &'a [String],
+) -> Result<Option<Request<'a>>, Error>
     ensures request { IfOk result (λ request.
-        IsAsked (subcommand_of program (map string_bytes words.now)) request) }
-    ensures fault { FailsBy (fault_of program (map string_bytes words.now)) result }
+        IsAsked (subcommand_of (program colors.entry) (map string_bytes words.now)) request) }
+    ensures fault { FailsBy (fault_of (program colors.entry) (map string_bytes words.now)) result }
 {
-    let matches = commands(alloc)?.try_get_matches_from(words)?;
+    let matches = commands(alloc, colors)?.try_get_matches_from(words)?;
     Ok(request_of(&matches))
 }
 
@@ -90,7 +96,18 @@ pub fn asked<'a, R: AllocGlobal + Print + Eprint>(
 ) -> Result<Request<'a>, Failure>
     ensures heard { IsHeard (map string_bytes words.now) result }
 {
-    match request_in(rt.alloc(), words) {
+    asked_with(rt, colors(), words)
+}
+
+/// The same, with these words for colors.
+fn asked_with<'a, R: AllocGlobal + Print + Eprint>(
+    rt: &R,
+    colors: &'a [&'a str],
+    words: &'a [String],
+) -> Result<Request<'a>, Failure>
+    ensures heard { IsHeardBy (program colors.entry) (map string_bytes words.now) result }
+{
+    match request_in(rt.alloc(), colors, words) {
         Ok(request) => request.ok_or(Failure::CommandLine),
         Err(error) => shown(rt, &error),
     }

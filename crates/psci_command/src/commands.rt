@@ -4,6 +4,7 @@ ghost use Rattle.std.specs.Prelude.{◌≡◌, codes, IfOk};
 ghost use Rattle.clap.specs.Words.{app_of, new_app};
 ghost use Rattle.psci_command.specs.Program.{program};
 
+use crate::show_command::show_command;
 use crate::storm_command::storm_command;
 use crate::threads_command::threads_command;
 use clap::Command;
@@ -13,8 +14,8 @@ use std::alloc::{AllocError, Global};
 const VERSION: &str = "0.1.0";
 
 const ABOUT: &str =
-    "Replays scripts of PSCI calls to the power firmware, makes storms of random events, or starts
-threads and audits what they did.";
+    "Replays or shows scripts of PSCI calls to the power firmware, makes storms of random events, or
+starts threads and audits what they did.";
 
 const ABOUT_REPLAY: &str =
     "Takes a script from standard input. Each event of it is answered by a line on standard output.
@@ -44,9 +45,9 @@ fn replay_command<'a>(alloc: Global) -> Command<'a>
         .after_help(EXAMPLE)
 }
 
-/// The commands of the program.
-pub fn commands<'a>(alloc: Global) -> Result<Command<'a>, AllocError>
-    ensures { IfOk result (λ command. app_of command ≡ program) }
+/// The commands of the program, with these words for colors.
+pub fn commands<'a>(alloc: Global, colors: &'a [&'a str]) -> Result<Command<'a>, AllocError>
+    ensures { IfOk result (λ command. app_of command ≡ program colors.entry) }
 {
     Command::new(alloc, "psci_cli")
         .version(VERSION)
@@ -55,5 +56,6 @@ pub fn commands<'a>(alloc: Global) -> Result<Command<'a>, AllocError>
         .subcommand_required(true)
         .subcommand(replay_command(alloc))?
         .subcommand(storm_command(alloc)?)?
-        .subcommand(threads_command(alloc)?)
+        .subcommand(threads_command(alloc)?)?
+        .subcommand(show_command(alloc, colors)?)
 }

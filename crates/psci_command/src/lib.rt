@@ -10,10 +10,11 @@ mod exit;
 mod options;
 mod plain;
 mod requests;
+mod show_command;
 mod storm_command;
 mod threads_command;
 
 pub use command_line::{asked, words};
 pub use exit::{AuditFailure, Failure};
 pub use psci_script::{Board, BoardFault, ReadBoard};
-pub use requests::{Request, StormRequest, ThreadsRequest};
+pub use requests::{Color, Request, ShowRequest, StormRequest, ThreadsRequest};

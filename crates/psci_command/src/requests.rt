@@ -1,7 +1,10 @@
 //! What a command asks for, by the matches that the parser has found for it.
 
+ghost use Rattle.std.specs.Prelude.{Some};
 ghost use Rattle.clap.specs.Words.{found_of, rows_of, subcommand_rows_of};
-ghost use Rattle.psci_command.specs.Commands.{IsAsked, IsDrawOf, IsStormOf, IsThreadsOf};
+ghost use Rattle.psci_command.specs.Commands.{IsAsked, IsDrawOf, IsShowOf, IsStormOf};
+ghost use Rattle.psci_command.specs.Commands.{IsThreadsOf};
+ghost use Rattle.psci_command.specs.Values.{IsColorIn};
 
 use clap::ArgMatches;
 
@@ -31,6 +34,30 @@ pub struct ThreadsRequest<'a> {
     pub count: u64,
 }
 
+/// A script that is to be shown, as the command line asks for it.
+#[derive(Clone, Copy, Debug, PartialEq, Eq)]
+pub struct ShowRequest {
+    /// Whether it is to be shown as JSON.
+    pub json: bool,
+    /// Whether the legend is to come first.
+    pub legend: bool,
+    /// The columns of a line, if they are given.
+    pub width: Option<u16>,
+    /// When there are colors.
+    pub color: Color,
+}
+
+/// When there are colors.
+#[derive(Clone, Copy, Debug, PartialEq, Eq)]
+pub enum Color {
+    /// On a terminal where `NO_COLOR` is not set.
+    Auto,
+    /// Always.
+    Always,
+    /// Never.
+    Never,
+}
+
 /// What the command line asks for.
 #[derive(Clone, Copy, Debug, PartialEq, Eq)]
 pub enum Request<'a> {
@@ -40,6 +67,8 @@ pub enum Request<'a> {
     Storm(StormRequest<'a>),
     /// Start threads, and audit what they did.
     Threads(ThreadsRequest<'a>),
+    /// Show a script.
+    Show(ShowRequest),
     /// Nothing more: help, or the version, was shown.
     Nothing,
 }
@@ -63,6 +92,7 @@ pub fn request_of<'a>(matches: &ArgMatches<'a>) -> Option<Request<'a>>
     match name {
         "storm" => storm_in(matches).map(Request::Storm),
         "threads" => threads_in(matches).map(Request::Threads),
+        "show" => Some(Request::Show(show_in(matches)?)),
         _ => Some(Request::Replay),
     }
 }
@@ -98,4 +128,31 @@ fn threads_in<'a>(matches: &ArgMatches<'a>) -> Option<ThreadsRequest<'a>>
 {
     let Draw { board, seed, count } = draw_in(matches)?;
     Some(ThreadsRequest { board, seed, count })
+}
+
+/// What these matches of the command `show` ask for, or none where they have no word for colors.
+fn show_in(matches: &ArgMatches<'_>) -> Option<ShowRequest>
+    ensures { IsShowOf (rows_of (found_of matches.now)) result }
+{
+    let color = Color::named(matches.get_str("color")?)?;
+    Some(ShowRequest {
+        json: matches.get_one("json").unwrap_or(false),
+        legend: matches.get_one("legend").unwrap_or(false),
+        width: matches.get_one("width"),
+        color,
+    })
+}
+
+impl Color {
+    /// What this word says of colors, if it is one of those for them.
+    fn named(word: &str) -> Option<Color>
+        ensures { IsColorIn (Some word.now) result }
+    {
+        match word {
+            "auto" => Some(Color::Auto),
+            "always" => Some(Color::Always),
+            "never" => Some(Color::Never),
+            _ => None,
+        }
+    }
 }

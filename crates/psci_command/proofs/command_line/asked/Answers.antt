@@ -1,12 +1,11 @@
--- What the parser says is told apart.
-use Rattle.std.proofs.Common.{map}
-use Rattle.std.specs.Prelude.{string_bytes}
-use Rattle.psci_command.proofs.Hearing.{heard_shown}
+-- The words for colors are where the program has them.
 use Rattle.psci_command.proofs.command_line.asked.Goals as goal
 
-pub returns-in-Err : goal.returns-in-Err
-returns-in-Err g c =
-    record {
-      heard = heard_shown (map string_bytes c.args.words.now) c.in-Err.error.kind c.shown.result
-          c.in-Err.ensures.fault c.shown.ensures.memory c.shown.ensures.help c.shown.ensures.fault;
-    }
+pub returns : goal.returns
+returns g c = record {
+  heard = record {
+    colors = c.colors.result;
+    are_colors = c.colors.ensures;
+    heard = c.asked_with.ensures.heard;
+  };
+}

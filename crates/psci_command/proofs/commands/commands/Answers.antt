@@ -12,12 +12,16 @@ returns c =
     let replay_is = c.replay_command.ensures in
     let storm_is = c.in_ok-storm_command.ensures in
     let threads_is = c.in_ok-threads_command.ensures in
+    let show_is = c.in_ok-show_command.ensures in
     let with_replay_is = c.in_ok-subcommand.ensures.shape
     (third_off _ _ _ _ (ap (λ (a : App). a.top.is_plain) replay_is))
     ∙ ap₂ with_subcommand top_is (ap (λ (a : App). a.top) replay_is) in
     let with_storm_is = c.in_ok-subcommand-2.ensures.shape
     (third_off _ _ _ _ (ap (λ (a : App). a.top.is_plain) storm_is))
     ∙ ap₂ with_subcommand with_replay_is (ap (λ (a : App). a.top) storm_is) in
-    IfOk-weaker c.subcommand-3.result _ _ (λ r h. h.shape
+    let with_threads_is = c.in_ok-subcommand-3.ensures.shape
     (third_off _ _ _ _ (ap (λ (a : App). a.top.is_plain) threads_is))
-    ∙ ap₂ with_subcommand with_storm_is (ap (λ (a : App). a.top) threads_is)) c.subcommand-3.ensures
+    ∙ ap₂ with_subcommand with_storm_is (ap (λ (a : App). a.top) threads_is) in
+    IfOk-weaker c.subcommand-4.result _ _ (λ r h. h.shape
+    (third_off _ _ _ _ (ap (λ (a : App). a.top.is_plain) show_is))
+    ∙ ap₂ with_subcommand with_threads_is (ap (λ (a : App). a.top) show_is)) c.subcommand-4.ensures

@@ -19,46 +19,46 @@ returns-in_err-get_str c =
 pub returns-in_err-get_one : goal.returns-in_err-get_one
 returns-in_err-get_one c =
     let f = found_of c.args.matches.now in
-    let read = number_is
+    let read = number_is 64
     (λ t r. ParsesUnsigned 64 10 t r × ExplainsUnsignedError 10 t r × HasUnsignedDigitsIfOk t r)
     (λ t x g. g.0) (one_text f (codes "seed")) c.get_one.result
     c.get_one.ensures.none c.get_one.ensures.value in
-    let none : IsNumberIn (one_text f (codes "seed")) None =
-    subst (IsNumberIn (one_text f (codes "seed"))) c.in_err-get_one.was read in
+    let none : IsNumberIn 64 (one_text f (codes "seed")) None =
+    subst (IsNumberIn 64 (one_text f (codes "seed"))) c.in_err-get_one.was read in
     subst (IsDrawOf (rows_of f)) (sym c.from_residual-in_err-get_one.ensures)
-    (inr (inl (subst (λ (t : Option (List ℕ)). IsNumberIn t None)
+    (inr (inl (subst (λ (t : Option (List ℕ)). IsNumberIn 64 t None)
     (one_text-rows f (codes "seed")) none)))
 
 pub returns-in_err-get_one-2 : goal.returns-in_err-get_one-2
 returns-in_err-get_one-2 c =
     let f = found_of c.args.matches.now in
-    let read = number_is
+    let read = number_is 64
     (λ t r. ParsesUnsigned 64 10 t r × ExplainsUnsignedError 10 t r × HasUnsignedDigitsIfOk t r)
     (λ t x g. g.0) (one_text f (codes "count")) c.get_one-2.result
     c.get_one-2.ensures.none c.get_one-2.ensures.value in
-    let none : IsNumberIn (one_text f (codes "count")) None =
-    subst (IsNumberIn (one_text f (codes "count"))) c.in_err-get_one-2.was read in
+    let none : IsNumberIn 64 (one_text f (codes "count")) None =
+    subst (IsNumberIn 64 (one_text f (codes "count"))) c.in_err-get_one-2.was read in
     subst (IsDrawOf (rows_of f)) (sym c.from_residual-in_err-get_one-2.ensures)
-    (inr (inr (subst (λ (t : Option (List ℕ)). IsNumberIn t None)
+    (inr (inr (subst (λ (t : Option (List ℕ)). IsNumberIn 64 t None)
     (one_text-rows f (codes "count")) none)))
 
 pub returns : goal.returns
 returns c =
     let f = found_of c.args.matches.now in
-    let seed = number_is
+    let seed = number_is 64
     (λ t r. ParsesUnsigned 64 10 t r × ExplainsUnsignedError 10 t r × HasUnsignedDigitsIfOk t r)
     (λ t x g. g.0) (one_text f (codes "seed")) c.get_one.result
     c.get_one.ensures.none c.get_one.ensures.value in
-    let count = number_is
+    let count = number_is 64
     (λ t r. ParsesUnsigned 64 10 t r × ExplainsUnsignedError 10 t r × HasUnsignedDigitsIfOk t r)
     (λ t x g. g.0) (one_text f (codes "count")) c.get_one-2.result
     c.get_one-2.ensures.none c.get_one-2.ensures.value in (
       sym (first_value-rows f (codes "board")) ∙ sym c.get_str.ensures
           ∙ ap (option_map (λ s. s.now)) c.in_ok-get_str.was,
-      subst (λ (t : Option (List ℕ)). IsNumberIn t (Some c.in_ok-get_one.field-0))
+      subst (λ (t : Option (List ℕ)). IsNumberIn 64 t (Some c.in_ok-get_one.field-0))
           (one_text-rows f (codes "seed"))
-          (subst (IsNumberIn (one_text f (codes "seed"))) c.in_ok-get_one.was seed),
-      subst (λ (t : Option (List ℕ)). IsNumberIn t (Some c.in_ok-get_one-2.field-0))
+          (subst (IsNumberIn 64 (one_text f (codes "seed"))) c.in_ok-get_one.was seed),
+      subst (λ (t : Option (List ℕ)). IsNumberIn 64 t (Some c.in_ok-get_one-2.field-0))
           (one_text-rows f (codes "count"))
-          (subst (IsNumberIn (one_text f (codes "count"))) c.in_ok-get_one-2.was count),
+          (subst (IsNumberIn 64 (one_text f (codes "count"))) c.in_ok-get_one-2.was count),
     )
