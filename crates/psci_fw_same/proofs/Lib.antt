@@ -1,0 +1,4 @@
+pub mod Folds
+pub mod Counts
+pub mod Renumbering
+pub mod Claims
