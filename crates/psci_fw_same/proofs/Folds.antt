@@ -58,10 +58,10 @@ pull g z a (suc n) x c h i = elim (cases_eq a x) [
 
 -- Swapping --------------------------------------------------------------------------------------
 
-swap-first : (x y : ℕ) → swap x y x ≡ y
+pub swap-first : (x y : ℕ) → swap x y x ≡ y
 swap-first x y = rw (eq-eqb x x refl) refl
 
-swap-second : (x y : ℕ) → swap x y y ≡ x
+pub swap-second : (x y : ℕ) → swap x y y ≡ x
 swap-second x y = elim (cases_eq y x) [
   | inl same ↦ rw (eq-eqb y x same) same
   | inr other ↦ rw (ne_eqb y x other, eq-eqb y y refl) refl

@@ -2,3 +2,8 @@ pub mod Folds
 pub mod Counts
 pub mod Renumbering
 pub mod Claims
+pub mod LastCore
+pub mod Stopping
+pub mod Returning
+pub mod Functions
+pub mod Siblings

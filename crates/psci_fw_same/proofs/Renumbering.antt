@@ -49,6 +49,16 @@ unfolding up
 place_test b s zero place c n = other_test s c place n.back
 place_test b s (suc level) place c n = ap (λ (p : ℕ). p == place) (sym (n.above level c))
 
+-- the other place twice
+pub place_back : (b : BoardValue) (s : ℕ → ℕ) (level place : ℕ) → Renumbers b s
+    → place_by s level (place_by s level place) ≡ place
+place_back b s zero place n = n.back place
+place_back b s (suc level) place n = refl
+
+pub node_back : (b : BoardValue) (s : ℕ → ℕ) (n : Node) → Renumbers b s
+    → node_by s (node_by s n) ≡ n
+node_back b s n is = λ i. record { level = n.level; place = place_back b s n.level n.place is i }
+
 -- the place of the other core's domain
 pub place_up : (b : BoardValue) (s : ℕ → ℕ) (level c : ℕ) → Renumbers b s
     → up b level (s c) ≡ place_by s level (up b level c)
