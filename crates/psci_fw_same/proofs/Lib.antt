@@ -7,3 +7,4 @@ pub mod Stopping
 pub mod Returning
 pub mod Functions
 pub mod Siblings
+pub mod Told
