@@ -8,3 +8,5 @@ pub mod Returning
 pub mod Functions
 pub mod Siblings
 pub mod Told
+pub mod Slots
+pub mod Changing

@@ -32,7 +32,7 @@ pub record Renumbers (b : BoardValue) (s : ℕ → ℕ) : Type 1 where
 
 -- Tests -----------------------------------------------------------------------------------------
 
-same_test : (a b c d : ℕ) → (a ≡ b → c ≡ d) → (c ≡ d → a ≡ b) → (a == b) ≡ (c == d)
+pub same_test : (a b c d : ℕ) → (a ≡ b → c ≡ d) → (c ≡ d → a ≡ b) → (a == b) ≡ (c == d)
 same_test a b c d f g = elim (cases_eq a b) [
   | inl e ↦ eq-eqb a b e ∙ sym (eq-eqb c d (f e))
   | inr n ↦ ne_eqb a b n ∙ sym (ne_eqb c d (λ e. n (g e)))

@@ -1,6 +1,6 @@
 -- The cores of a board told by other numbers: messages, replies, requests and values that say the
 -- same of the renumbered cores. A renumbering is a function from numbers to numbers.
-use Rattle.std.specs.Prelude.{◌≡◌, ℕ, zero, suc, ◌+◌, ◌==◌, ◌<◌, if◌then◌else◌, Option, option_map}
+use Rattle.std.specs.Prelude.{◌≡◌, ℕ, zero, suc, ◌+◌, ◌==◌, ◌<◌, if◌then◌else◌, Option, option_map, ◌⊎◌}
 use Rattle.psci_board.specs.Board.{BoardValue, core_of, cores, node_of, up}
 use Rattle.psci_board.specs.declared.node.Core.{Core}
 use Rattle.psci_board.specs.declared.node.Node.{Node}
@@ -88,6 +88,12 @@ CallsBy b s (Smc regs) (Smc r) = AsksBy b s (request_of regs) (request_of r)
 CallsBy b s (Enter start) call = call ≡ Enter start
 CallsBy b s (Take a) call = call ≡ Take (acknowledgement_by s a)
 CallsBy b s call other = ⊥
+
+-- A call begins no life after this one, or the boot core, core 0, has its own number: a life begins
+-- with its boot core pending, and with power-down of all domains but those above it.
+abbrev pub SparesBoot : (ℕ → ℕ) → ℕ → FwCall → Type 0
+SparesBoot s life (Enter start) = (start.life ≡ life) ⊎ (s 0 ≡ 0)
+SparesBoot s life call = Unit {0}
 
 -- Values ----------------------------------------------------------------------------------------
 
