@@ -10,3 +10,5 @@ pub mod Siblings
 pub mod Told
 pub mod Slots
 pub mod Changing
+pub mod Entries
+pub mod Calling

@@ -33,7 +33,7 @@ use Rattle.psci_fw_same.proofs.Stopping.{all_others-by, chosen, message_for-by}
 
 -- AFFINITY_INFO ---------------------------------------------------------------------------------
 
-has_node-by : (b : BoardValue) (s : ℕ → ℕ) (level place : ℕ) → Renumbers b s
+pub has_node-by : (b : BoardValue) (s : ℕ → ℕ) (level place : ℕ) → Renumbers b s
     → has_node b (record { level = level; place = place_by s level place })
     ≡ has_node b (record { level = level; place = place })
 has_node-by b s zero place is = ap (λ (t : Bool). nat_le 0 (height b) && t) (is.inside place)
