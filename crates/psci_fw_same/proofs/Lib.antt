@@ -12,3 +12,4 @@ pub mod Slots
 pub mod Changing
 pub mod Entries
 pub mod Calling
+mod SwapRows

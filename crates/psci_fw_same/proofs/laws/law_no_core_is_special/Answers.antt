@@ -1,5 +1,6 @@
 -- The laws of two cores of one cluster, from those of every renumbering.
 use Rattle.psci_fw_same.specs.Renumbered.{swap}
+use Rattle.psci_fw_same.proofs.Calling.{after-by, answer-by}
 use Rattle.psci_fw_same.proofs.Functions.{outcome_of-by}
 use Rattle.psci_fw_same.proofs.Siblings.{siblings}
 use Rattle.psci_fw_same.proofs.Told.{told}
@@ -14,3 +15,13 @@ pub returns-clause-functions : goal.returns-clause-functions
 returns-clause-functions c = λ b v x y k r q board two asks.
     outcome_of-by b (swap x y) v k r q (siblings b x y board.low (c.law_paths.ensures b board)
     (c.law_children.ensures b board) two) asks
+
+pub returns-clause-answers : goal.returns-clause-answers
+returns-clause-answers c = λ b v x y k call other board two calls spares.
+    answer-by b (swap x y) v k call other (siblings b x y board.low (c.law_paths.ensures b board)
+    (c.law_children.ensures b board) two) calls spares
+
+pub returns-clause-after : goal.returns-clause-after
+returns-clause-after c = λ b v x y k call other reply board two calls spares.
+    after-by b (swap x y) v k call other reply (siblings b x y board.low
+    (c.law_paths.ensures b board) (c.law_children.ensures b board) two) calls spares
