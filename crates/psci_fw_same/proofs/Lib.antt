@@ -1,0 +1,15 @@
+pub mod Folds
+pub mod Counts
+pub mod Renumbering
+pub mod Claims
+pub mod LastCore
+pub mod Stopping
+pub mod Returning
+pub mod Functions
+pub mod Siblings
+pub mod Told
+pub mod Slots
+pub mod Changing
+pub mod Entries
+pub mod Calling
+mod SwapRows
