@@ -56,11 +56,11 @@ pub with_rest-by : (b : BoardValue) (s : ℕ → ℕ) (c : ℕ) (rest : Rest) (v
     → Renumbers b s → with_rest (s c) rest (values_by s v) ≡ values_by s (with_rest c rest v)
 with_rest-by b s c rest v is =
     let opened : updated (λ k. v.opening (s k)) (s c)
-        (option_or rest.opening (v.opening (s (s c))))
-        ≡ (λ k. updated v.opening c (option_or rest.opening (v.opening c)) (s k)) =
-        ap (λ (k : ℕ). updated (λ j. v.opening (s j)) (s c)
-        (option_or rest.opening (v.opening k))) (is.back c)
-        ∙ updated-by s v.opening c (option_or rest.opening (v.opening c)) is.back in
+    (option_or rest.opening (v.opening (s (s c))))
+    ≡ (λ k. updated v.opening c (option_or rest.opening (v.opening c)) (s k)) =
+    ap (λ (k : ℕ). updated (λ j. v.opening (s j)) (s c)
+    (option_or rest.opening (v.opening k))) (is.back c)
+    ∙ updated-by s v.opening c (option_or rest.opening (v.opening c)) is.back in
     λ i. record (with_phase-by b s c rest.phase v is i) { opening = opened i }
 
 pub with_claims-by : (b : BoardValue) (s : ℕ → ℕ) (m : MessageValue) (v : Values)

@@ -59,11 +59,11 @@ unfolding claims_of
 claims_of-by b s w c f g is same =
     let wanted : f ≡ g = λ i. λ level. same level i in
     let sums : (λ level. generation b (view_by s w) (domain_of b (s c) level))
-        ≡ (λ level. generation b w (domain_of b c level)) = λ i. λ level.
-        (ap (generation b (view_by s w)) (domain-by b s c level is)
-        ∙ generation-by b s w (domain_of b c level) is) i in
+    ≡ (λ level. generation b w (domain_of b c level)) = λ i. λ level.
+    (ap (generation b (view_by s w)) (domain-by b s c level is)
+    ∙ generation-by b s w (domain_of b c level) is) i in
     ap (λ (h : ℕ → ℕ). climb h
-        (λ level. generation b (view_by s w) (domain_of b (s c) level)) 0 (height b + 1)) wanted
+    (λ level. generation b (view_by s w) (domain_of b (s c) level)) 0 (height b + 1)) wanted
     ∙ ap (λ (h : ℕ → ℕ). climb g h 0 (height b + 1)) sums
 
 least_wish-by : (b : BoardValue) (s : ℕ → ℕ) (w : PowerView) (c level : ℕ) → Renumbers b s

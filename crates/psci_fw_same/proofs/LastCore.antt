@@ -59,7 +59,7 @@ shallow_at-any : (b : BoardValue) (w : PowerView) (f : Node → Bool) (c : ℕ) 
 unfolding shallow_at
 shallow_at-any b w f c ask level under e =
     let ks : List ℕ =
-        range_with_len (first_child b level (up b level c)) (children_at b level (up b level c)) in
+    range_with_len (first_child b level (up b level c)) (children_at b level (up b level c)) in
     rw (← e)
     (any-filter f (λ n. nat_lt (w.granted n.level n.place) (own_wish ask level)) _
     ∙ (any-filter _ (λ n. not (n.place == up b (level - 1) c)) _
@@ -105,7 +105,7 @@ any-at b s w f g c ask (suc zero) is agree =
     let ks : List ℕ = range_with_len (first_child b 1 p) (children_at b 1 p) in
     let test : ℕ → Bool = is_beside w g 0 (up b 0 c) d in
     let same : is_beside (view_by s w) f 0 (up b 0 (s c)) d ≡ (λ k. test (s k)) = λ i. λ k.
-        core_beside b s w f g c d k is agree i in
+    core_beside b s w f g c d k is agree i in
     shallow_at-any b (view_by s w) f (s c) ask 1 0 refl
     ∙ (ap (λ (q : ℕ). list_any (is_beside (view_by s w) f 0 (up b 0 (s c)) d)
     (range_with_len (first_child b 1 q) (children_at b 1 q))) (is.above 0 c)
@@ -119,8 +119,8 @@ any-at b s w f g c ask (suc (suc level)) is agree =
     let d : ℕ = own_wish ask l in
     let under : l - 1 ≡ suc level = omega arith in
     let same : is_beside (view_by s w) f (suc level) (up b (suc level) (s c)) d
-        ≡ is_beside w g (suc level) (up b (suc level) c) d = λ i. λ k.
-        domain_beside b s w f g c level d k is agree i in
+    ≡ is_beside w g (suc level) (up b (suc level) c) d = λ i. λ k.
+    domain_beside b s w f g c level d k is agree i in
     shallow_at-any b (view_by s w) f (s c) ask l (suc level) under
     ∙ (ap (λ (q : ℕ). list_any (is_beside (view_by s w) f (suc level) (up b (suc level) (s c)) d)
     (range_with_len (first_child b l q) (children_at b l q))) (is.above (suc level) c)
@@ -135,8 +135,8 @@ any-shallow : (b : BoardValue) (s : ℕ → ℕ) (w : PowerView) (f g : Node →
 unfolding shallow
 any-shallow b s w f g c ask is agree =
     let same : (λ level. list_any f (shallow_at b (view_by s w) (s c) ask level))
-        ≡ (λ level. list_any g (shallow_at b w c ask level)) = λ i. λ level.
-        any-at b s w f g c ask level is agree i in
+    ≡ (λ level. list_any g (shallow_at b w c ask level)) = λ i. λ level.
+    any-at b s w f g c ask level is agree i in
     any-flat_map f (shallow_at b (view_by s w) (s c) ask) (range_with_len 1 (height b))
     ∙ (ap (λ (t : ℕ → Bool). list_any t (range_with_len 1 (height b))) same
     ∙ sym (any-flat_map g (shallow_at b w c ask) (range_with_len 1 (height b))))
@@ -154,10 +154,12 @@ refusal-by : (b : BoardValue) (s : ℕ → ℕ) (w : PowerView) (c : ℕ) (ask :
 unfolding refusal
 refusal-by b s w c ask is =
     let some = some-any (shallow b (view_by s w) (s c) ask)
-        ∙ (any-shallow b s w (λ n. true) (λ n. true) c ask is (λ n. refl)
-        ∙ sym (some-any (shallow b w c ask))) in
-    rw (any-shallow b s w (is_idle b (view_by s w)) (is_idle b w) c ask is (idle-agrees b s w is),
-    some) refl
+    ∙ (any-shallow b s w (λ n. true) (λ n. true) c ask is (λ n. refl)
+    ∙ sym (some-any (shallow b w c ask))) in
+    rw (
+      any-shallow b s w (is_idle b (view_by s w)) (is_idle b w) c ask is (idle-agrees b s w is),
+      some,
+    ) refl
 
 pub last_core_check-by : (b : BoardValue) (s : ℕ → ℕ) (w : PowerView) (c : ℕ) (ask : List ℕ)
     → Renumbers b s

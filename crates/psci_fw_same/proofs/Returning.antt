@@ -42,8 +42,10 @@ has_node-by b s (suc level) place is = refl
 status_over-by : (b : BoardValue) (s : ℕ → ℕ) (status : ℕ → Status) (n : Node) → Renumbers b s
     → status_over (λ k. status (s k)) (below b (node_by s n)) ≡ status_over status (below b n)
 status_over-by b s status n is =
-    rw (any-below b s n (λ k. is_on (status k)) is,
-    any-below b s n (λ k. is_pending_status (status k)) is) refl
+    rw (
+      any-below b s n (λ k. is_on (status k)) is,
+      any-below b s n (λ k. is_pending_status (status k)) is,
+    ) refl
 
 status_at-by : (b : BoardValue) (s : ℕ → ℕ) (status : ℕ → Status) (level place : ℕ)
     → Renumbers b s

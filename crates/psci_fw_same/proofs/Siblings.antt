@@ -39,9 +39,9 @@ beside b x y place some paths child i j e h k =
     let of_x : up b 1 x ≡ place = child.parent x 0 place i some (omega arith) (omega arith) in
     let of_y : up b 1 y ≡ place = sym e ∙ of_x in
     let least : first_child b 1 place ≤ up b 0 y =
-        rw (← of_y) (child.first y 0 j some) in
+    rw (← of_y) (child.first y 0 j some) in
     let most : up b 0 y < first_child b 1 place + children_at b 1 place =
-        rw (← of_y) (child.last y 0 j some) in
+    rw (← of_y) (child.last y 0 j some) in
     (omega arith, omega arith)
 
 pub siblings : (b : BoardValue) (x y : ℕ) → 0 < height b → PathLaws b → ChildLaws b

@@ -79,11 +79,11 @@ suspend_claims-by : (b : BoardValue) (s : ℕ → ℕ) (v : Values) (c : ℕ) (a
 suspend_claims-by b s v c ask Platform is =
     let left : Values = with_phase c (Suspended ask) v in
     ap (λ (u : Values). let r : Result (List Part) Osi = Ok (leaving_claims b (view b u) (s c)
-        Platform) in r) (with_phase-by b s c (Suspended ask) v is)
+    Platform) in r) (with_phase-by b s c (Suspended ask) v is)
     ∙ (ap (λ (w : PowerView). let r : Result (List Part) Osi = Ok (leaving_claims b w (s c)
-        Platform) in r) (view-by b s left)
+    Platform) in r) (view-by b s left)
     ∙ ap (λ (ps : List Part). let r : Result (List Part) Osi = Ok ps in r)
-        (platform_claims-by b s (view b left) c is))
+    (platform_claims-by b s (view b left) c is))
 suspend_claims-by b s v c ask OsInitiated is =
     ap (λ (w : PowerView). last_core_check b w (s c) ask) (view-by b s v)
     ∙ last_core_check-by b s (view b v) c ask is
@@ -171,7 +171,7 @@ pub all_others-by : (b : BoardValue) (s : ℕ → ℕ) (c : ℕ) (test : ℕ →
     → all_others b (s c) (λ k. test (s k)) ≡ all_others b c test
 all_others-by b s c test is =
     let same : (λ k. k == s c || test (s k)) ≡ (λ k. s k == c || test (s k)) = λ i. λ k.
-        ap (λ (t : Bool). t || test (s k)) (other_test s k c is.back) i in
+    ap (λ (t : Bool). t || test (s k)) (other_test s k c is.back) i in
     ap (λ (t : ℕ → Bool). list_all t (range_with_len 0 (cores b))) same
     ∙ all-cores b s (λ k. k == c || test k) is
 
