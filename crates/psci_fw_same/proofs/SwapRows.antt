@@ -10,8 +10,8 @@ use Rattle.psci_link.specs.declared.kind.Kind.TheVariants.{Start}
 use Rattle.psci_link.specs.Slots.{OfCore, OfSystem}
 use Rattle.psci_fw_spec.specs.declared.status.Status.TheVariants.{Off, Pending}
 use Rattle.psci_fw_spec.specs.Lives.{start_of_life}
-use Rattle.psci_fw_same.specs.Renumbered.{AreSiblings, AsksBy, message_by, place_by, slot_by, swap}
-use Rattle.psci_fw_same.specs.Renumbered.{values_by}
+use Rattle.psci_fw_same.specs.Renumbered.{AreSiblings, AsksBy, message_by, slot_by, swap}
+use Rattle.psci_fw_same.specs.Renumbered.{swap_cores, values_by}
 
 -- cores 0 to 2 below the system
 abbrev one_level : BoardValue
@@ -46,63 +46,63 @@ numbers : swap 1 3 0 ∷ swap 1 3 1 ∷ swap 1 3 2 ∷ swap 1 3 3 ∷ [] ≡ 0 �
 numbers = refl
 
 -- cores move, and clusters stay
-places : place_by (swap 1 3) 0 1 ∷ place_by (swap 1 3) 1 1 ∷ place_by (swap 1 3) 2 1 ∷ []
+places : swap_cores 1 3 0 1 ∷ swap_cores 1 3 1 1 ∷ swap_cores 1 3 2 1 ∷ []
     ≡ 3 ∷ 1 ∷ 1 ∷ []
 places = refl
 
 -- a word of a core is told as a word of the other one
-on_at_one : AsksBy one_level (swap 1 2) (CpuOn 1 0x40001000 7) (CpuOn 2 0x40001000 7)
+on_at_one : AsksBy one_level (swap_cores 1 2) (CpuOn 1 0x40001000 7) (CpuOn 2 0x40001000 7)
 unfolding core_of
 on_at_one = (2, refl, refl)
 
-on_at_two : AsksBy two_levels (swap 1 3) (CpuOn 0x100 0x40001000 7) (CpuOn 0x102 0x40001000 7)
+on_at_two : AsksBy two_levels (swap_cores 1 3) (CpuOn 0x100 0x40001000 7) (CpuOn 0x102 0x40001000 7)
 unfolding core_of
 on_at_two = (0x102, refl, refl)
 
 -- a word that names no core is told as itself
-on_nothing : AsksBy two_levels (swap 1 3) (CpuOn 0x103 0x40001000 7) (CpuOn 0x103 0x40001000 7)
+on_nothing : AsksBy two_levels (swap_cores 1 3) (CpuOn 0x103 0x40001000 7) (CpuOn 0x103 0x40001000 7)
 unfolding core_of
 on_nothing = (0x103, refl, refl)
 
 -- the status of a core is asked of the other one, that of a cluster of the same one
-status_of_core : AsksBy two_levels (swap 1 3) (AffinityInfo 0x102 0) (AffinityInfo 0x100 0)
+status_of_core : AsksBy two_levels (swap_cores 1 3) (AffinityInfo 0x102 0) (AffinityInfo 0x100 0)
 unfolding node_of
 status_of_core = (0x100, refl, refl)
 
-status_of_cluster : AsksBy two_levels (swap 1 3) (AffinityInfo 0x102 1) (AffinityInfo 0x102 1)
+status_of_cluster : AsksBy two_levels (swap_cores 1 3) (AffinityInfo 0x102 1) (AffinityInfo 0x102 1)
 unfolding node_of
 status_of_cluster = (0x102, refl, refl)
 
-state_of_core : AsksBy two_levels (swap 1 3) (NodeHwState 0x101 0) (NodeHwState 0x101 0)
+state_of_core : AsksBy two_levels (swap_cores 1 3) (NodeHwState 0x101 0) (NodeHwState 0x101 0)
 unfolding node_of
 state_of_core = (0x101, refl, refl)
 
 -- a request without a word is told as itself
-off_is_off : AsksBy two_levels (swap 1 3) CpuOff CpuOff
+off_is_off : AsksBy two_levels (swap_cores 1 3) CpuOff CpuOff
 off_is_off = refl
 
 -- a message is of the other core, and its number, life and parts stay
-message_moved : message_by (swap 1 3)
+message_moved : message_by (swap_cores 1 3)
     (record { kind = Start; core = record { number = 3 }; life = 2; number = 5; parts = [] })
     ≡ record { kind = Start; core = record { number = 1 }; life = 2; number = 5; parts = [] }
 message_moved = refl
 
-slots_moved : slot_by (swap 1 3) (OfCore 1) ∷ slot_by (swap 1 3) OfSystem ∷ []
+slots_moved : slot_by (swap_cores 1 3) (OfCore 1) ∷ slot_by (swap_cores 1 3) OfSystem ∷ []
     ≡ OfCore 3 ∷ OfSystem ∷ []
 slots_moved = refl
 
 -- with the boot core swapped, a life begins with the other core pending
-boot_moved : (values_by (swap 0 1) (start_of_life one_level 1)).status 1 ≡ Pending
+boot_moved : (values_by (swap_cores 0 1) (start_of_life one_level 1)).status 1 ≡ Pending
 boot_moved = refl
 
-boot_left : (values_by (swap 0 1) (start_of_life one_level 1)).status 0 ≡ Off
+boot_left : (values_by (swap_cores 0 1) (start_of_life one_level 1)).status 0 ≡ Off
 boot_left = refl
 
 -- and that core's domain granted nothing
-granted_moved : (values_by (swap 0 1) (start_of_life one_level 1)).granted 0 1 ≡ 0
+granted_moved : (values_by (swap_cores 0 1) (start_of_life one_level 1)).granted 0 1 ≡ 0
 unfolding up
 granted_moved = refl
 
-granted_left : (values_by (swap 0 1) (start_of_life one_level 1)).granted 0 0 ≡ 3
+granted_left : (values_by (swap_cores 0 1) (start_of_life one_level 1)).granted 0 0 ≡ 3
 unfolding up
 granted_left = refl
