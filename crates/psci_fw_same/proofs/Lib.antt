@@ -15,3 +15,4 @@ pub mod Changing
 pub mod Entries
 pub mod Calling
 mod SwapRows
+pub mod Twins

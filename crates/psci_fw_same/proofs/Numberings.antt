@@ -64,7 +64,7 @@ child_moved b s level p k is paths child h i =
     ∙ ap (is_child b level p) other)))
 
 -- children are nodes of the board
-child_inside : (b : BoardValue) (level p k : ℕ) → ChildLaws b → level < height b
+pub child_inside : (b : BoardValue) (level p k : ℕ) → ChildLaws b → level < height b
     → first_child b (suc level) p ≤ k
     → k < first_child b (suc level) p + children_at b (suc level) p → k < nodes b level
 child_inside b level p k child h low high =

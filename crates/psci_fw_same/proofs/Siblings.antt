@@ -9,7 +9,7 @@ use Rattle.psci_fw_same.specs.Renumbered.{AreSiblings, IsRenumbering, swap, swap
 use Rattle.psci_fw_same.proofs.Folds.{swap-back, swap-first, swap-other, swap-second}
 
 -- a function that says the same of both says the same of each core and its other number
-alike_both : {A : Type 0} (f : ℕ → A) (x y c : ℕ) → f x ≡ f y → f (swap x y c) ≡ f c
+pub alike_both : {A : Type 0} (f : ℕ → A) (x y c : ℕ) → f x ≡ f y → f (swap x y c) ≡ f c
 alike_both f x y c e = elim (cases_eq c x) [
   | inl first ↦ ap (λ (k : ℕ). f (swap x y k)) first
       ∙ (ap f (swap-first x y) ∙ (sym e ∙ sym (ap f first)))

@@ -2,8 +2,9 @@
 -- same of the renumbered cores. A renumbering gives each place of a level another place of the level,
 -- and so each core, at level 0, another number.
 use Rattle.std.specs.Prelude.{◌≡◌, ℕ, zero, suc, ◌+◌, ◌==◌, ◌<◌, if◌then◌else◌, Option, nat_lt}
-use Rattle.std.specs.Prelude.{option_map, ◌⊎◌}
-use Rattle.psci_board.specs.Board.{BoardValue, core_of, cores, node_of, nodes, up}
+use Rattle.std.specs.Prelude.{◌-◌, ◌&&◌, Bool, nat_le, option_map, ◌⊎◌}
+use Rattle.psci_board.specs.Board.{BoardValue, children_at, core_of, cores, first_child, node_of}
+use Rattle.psci_board.specs.Board.{nodes, parent, up}
 use Rattle.psci_board.specs.declared.node.Core.{Core}
 use Rattle.psci_board.specs.declared.node.Node.{Node}
 use Rattle.psci_abi.specs.Calls.{request_of}
@@ -44,6 +45,32 @@ pub record AreSiblings (b : BoardValue) (x y : ℕ) : Type 0 where
   pub first : x < cores b
   pub second : y < cores b
   pub cluster : up b 1 x ≡ up b 1 y
+
+-- the core has a place in this cluster, from its first core on
+abbrev pub is_in_cluster : BoardValue → ℕ → ℕ → Bool
+is_in_cluster b p c =
+    nat_le (first_child b 1 p) c && nat_lt c (first_child b 1 p + children_at b 1 p)
+
+-- the core that has the same place in another cluster
+abbrev pub core_beside : BoardValue → ℕ → ℕ → ℕ → ℕ
+core_beside b p q c = first_child b 1 q + (c - first_child b 1 p)
+
+-- two clusters and their cores, from left to right, have each other's places and numbers, and all
+-- domains above stay where they are
+abbrev pub swap_clusters : BoardValue → ℕ → ℕ → ℕ → ℕ → ℕ
+swap_clusters b p q zero c =
+    if is_in_cluster b p c then core_beside b p q c
+    else (if is_in_cluster b q c then core_beside b q p c else c)
+swap_clusters b p q (suc zero) place = swap p q place
+swap_clusters b p q (suc (suc level)) place = place
+
+-- two clusters of the board have the same parent, or none, and as many cores
+pub record AreTwins (b : BoardValue) (p q : ℕ) : Type 0 where
+  pub first : p < nodes b 1
+  pub second : q < nodes b 1
+  pub cores : children_at b 1 p ≡ children_at b 1 q
+  pub parent : parent b (record { level = 1; place = p })
+      ≡ parent b (record { level = 1; place = q })
 
 -- Messages and replies ------------------------------------------------------------------------
 
