@@ -1,6 +1,6 @@
 -- Worked examples: two cores of a cluster of three are swapped, below the system and below a cluster
 -- of a board with two.
-use Rattle.std.proofs.Common.{◌≡◌, ℕ, List, [], ◌∷◌, Option, None, Some, refl, arith, ap}
+use Rattle.std.proofs.Common.{◌≡◌, ℕ, List, [], ◌∷◌, Option, None, Some, refl, arith, map}
 use Rattle.psci_abi.specs.declared.format.Format.TheVariants.{Original}
 use Rattle.psci_abi.specs.declared.request.Request.TheVariants.{AffinityInfo, CpuOff, CpuOn}
 use Rattle.psci_abi.specs.declared.request.Request.TheVariants.{NodeHwState}
@@ -10,8 +10,8 @@ use Rattle.psci_link.specs.declared.kind.Kind.TheVariants.{Start}
 use Rattle.psci_link.specs.Slots.{OfCore, OfSystem}
 use Rattle.psci_fw_spec.specs.declared.status.Status.TheVariants.{Off, Pending}
 use Rattle.psci_fw_spec.specs.Lives.{start_of_life}
-use Rattle.psci_fw_same.specs.Renumbered.{AreSiblings, AsksBy, message_by, slot_by, swap}
-use Rattle.psci_fw_same.specs.Renumbered.{swap_cores, values_by}
+use Rattle.psci_fw_same.specs.Renumbered.{AreSiblings, AreTwins, AsksBy, message_by, slot_by, swap}
+use Rattle.psci_fw_same.specs.Renumbered.{swap_clusters, swap_cores, values_by}
 
 -- cores 0 to 2 below the system
 abbrev one_level : BoardValue
@@ -49,6 +49,30 @@ numbers = refl
 places : swap_cores 1 3 0 1 ∷ swap_cores 1 3 1 1 ∷ swap_cores 1 3 2 1 ∷ []
     ≡ 3 ∷ 1 ∷ 1 ∷ []
 places = refl
+
+-- Three clusters: cores 0 and 1, cores 2 and 3, and core 4 by itself.
+abbrev clusters : BoardValue
+clusters = record one_level { levels = (2 ∷ 2 ∷ 1 ∷ []) ∷ (3 ∷ []) ∷ [] }
+
+twins_at_two : AreTwins clusters 0 1
+twins_at_two = record { first = omega arith; second = omega arith; cores = refl; parent = refl }
+
+-- a cluster with fewer cores is none
+no_twins : AreTwins clusters 1 2 → ⊥
+no_twins two = absurd (omega (arith, two.cores))
+
+-- each core has the number of the core at the same place in the other cluster
+numbers_of_clusters : map (swap_clusters clusters 0 1 0) (0 ∷ 1 ∷ 2 ∷ 3 ∷ 4 ∷ [])
+    ≡ 2 ∷ 3 ∷ 0 ∷ 1 ∷ 4 ∷ []
+numbers_of_clusters = refl
+
+places_of_clusters : map (swap_clusters clusters 0 1 1) (0 ∷ 1 ∷ 2 ∷ []) ≡ 1 ∷ 0 ∷ 2 ∷ []
+places_of_clusters = refl
+
+status_of_other_cluster :
+    AsksBy clusters (swap_clusters clusters 0 1) (AffinityInfo 0x101 1) (AffinityInfo 0x001 1)
+unfolding node_of
+status_of_other_cluster = (0x001, refl, refl)
 
 -- a word of a core is told as a word of the other one
 on_at_one : AsksBy one_level (swap_cores 1 2) (CpuOn 1 0x40001000 7) (CpuOn 2 0x40001000 7)

@@ -9,11 +9,11 @@ ghost use Rattle.psci_fw_spec.specs.After.{after};
 ghost use Rattle.psci_fw_spec.specs.Answer.{answer};
 ghost use Rattle.psci_fw_spec.specs.Calls.{outcome_of};
 ghost use Rattle.psci_fw_spec.specs.Values.{Values};
-ghost use Rattle.psci_fw_same.specs.Renumbered.{AreSiblings, AsksBy, CallsBy, IsRenumbering};
-ghost use Rattle.psci_fw_same.specs.Renumbered.{SparesBoot, outcome_by, reply_by, swap_cores};
-ghost use Rattle.psci_fw_same.specs.Renumbered.{values_by};
+ghost use Rattle.psci_fw_same.specs.Renumbered.{AreSiblings, AreTwins, AsksBy, CallsBy};
+ghost use Rattle.psci_fw_same.specs.Renumbered.{IsRenumbering, SparesBoot, outcome_by};
+ghost use Rattle.psci_fw_same.specs.Renumbered.{reply_by, swap_clusters, swap_cores, values_by};
 
-use psci_board::{law_children, law_paths, law_words};
+use psci_board::{law_children, law_parents, law_paths, law_words};
 
 /// No core is special: with the cores renumbered, in the values and in the call, each call is
 /// answered the same, and leaves the same values, of the other numbers. Only a life's start knows
@@ -39,8 +39,12 @@ pub fn law_no_core_is_special()
     // Two cores of one cluster may be swapped.
     ensures siblings { (b : BoardValue) (x y : ℕ) → IsBoard b → AreSiblings b x y
         → IsRenumbering b (swap_cores x y) }
+    // And two clusters with as many cores and one parent, with their cores.
+    ensures twins { (b : BoardValue) (p q : ℕ) → IsBoard b → AreTwins b p q
+        → IsRenumbering b (swap_clusters b p q) }
 {
     law_paths();
     law_children();
+    law_parents();
     law_words();
 }

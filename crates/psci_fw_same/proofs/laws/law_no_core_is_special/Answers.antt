@@ -4,6 +4,7 @@ use Rattle.psci_fw_same.proofs.Functions.{outcome_of-by}
 use Rattle.psci_fw_same.proofs.Numberings.{renumbers}
 use Rattle.psci_fw_same.proofs.Siblings.{siblings}
 use Rattle.psci_fw_same.proofs.Told.{told}
+use Rattle.psci_fw_same.proofs.Twins.{twins}
 use Rattle.psci_fw_same.proofs.laws.law_no_core_is_special.Goals as goal
 
 pub returns-clause-functions : goal.returns-clause-functions
@@ -28,3 +29,8 @@ returns-clause-told c = λ b s r board is.
 
 pub returns-clause-siblings : goal.returns-clause-siblings
 returns-clause-siblings c = λ b x y board two. siblings b x y (c.law_paths.ensures b board) two
+
+pub returns-clause-twins : goal.returns-clause-twins
+returns-clause-twins c = λ b p q board two.
+    twins b p q board (c.law_paths.ensures b board) (c.law_children.ensures b board)
+    (c.law_parents.ensures b board) two
