@@ -1,7 +1,7 @@
 -- What happens to the values of renumbered cores.
-use Rattle.std.proofs.Common.{◌≡◌, ℕ, zero, suc, ◌==◌, Bool, true, false, ◌&&◌, ◌||◌, not, nat_lt, refl}
-use Rattle.std.proofs.Common.{sym, ap, ◌∙◌, if◌then◌else◌, List, Option, None, Some, slice_get}
-use Rattle.std.specs.Prelude.{option_map, option_and_then}
+use Rattle.std.proofs.Common.{◌≡◌, ℕ, Bool, true, false, ◌&&◌, nat_lt, refl}
+use Rattle.std.proofs.Common.{sym, ap, ◌∙◌, if◌then◌else◌, Option, None, Some, slice_get}
+use Rattle.std.specs.Prelude.{option_map}
 use Rattle.std.specs.Option.{option_or}
 use Rattle.std.specs.List.{sum_by}
 use Rattle.psci_board.specs.Board.{BoardValue, below, up}
@@ -10,15 +10,12 @@ use Rattle.psci_board.specs.declared.node.Node.{Node}
 use Rattle.psci_coord.specs.psci_parts.declared.part.Part.{Part}
 use Rattle.psci_link.specs.declared.kind.Kind.TheVariants.{Down}
 use Rattle.psci_link.specs.Message.{AckValue, MessageValue}
-use Rattle.psci_link.specs.OnlyIf.{only_if}
 use Rattle.psci_link.specs.Slots.{Acknowledge, Clear, Put, is_kind, slot_of}
 use Rattle.psci_link.specs.declared.start.Start.{Start}
-use Rattle.psci_fw_spec.specs.declared.opening.Opening.{Opening}
-use Rattle.psci_fw_spec.specs.declared.status.Status.{Status}
 use Rattle.psci_fw_spec.specs.declared.status.Status.TheVariants as statuses
 use Rattle.psci_fw_spec.specs.Changes.{PowerOn, Rest, confirms_on, target, turns_off}
 use Rattle.psci_fw_spec.specs.Changes.{with_acknowledgement, with_arrival, with_claims, with_halt}
-use Rattle.psci_fw_spec.specs.Changes.{with_pending, with_phase, with_rest, with_running, with_sent}
+use Rattle.psci_fw_spec.specs.Changes.{with_pending, with_rest, with_running, with_sent}
 use Rattle.psci_fw_spec.specs.Changes.{with_slots}
 use Rattle.psci_fw_spec.specs.Confirmed.{applied_part, claimed_anew, confirms, is_made_at}
 use Rattle.psci_fw_spec.specs.Confirmed.{unconfirmed, unless_claimed}
@@ -27,7 +24,7 @@ use Rattle.psci_fw_spec.specs.Paths.{claimed_or, cleared, granted_with}
 use Rattle.psci_fw_spec.specs.Phases.{Phase, is_away}
 use Rattle.psci_fw_spec.specs.Phases as phases
 use Rattle.psci_fw_spec.specs.Values.{Values, updated}
-use Rattle.psci_fw_same.specs.Renumbered.{acknowledgement_by, core_by, message_by, node_by}
+use Rattle.psci_fw_same.specs.Renumbered.{acknowledgement_by, message_by, node_by}
 use Rattle.psci_fw_same.specs.Renumbered.{values_by}
 use Rattle.psci_fw_same.proofs.Renumbering.{Renumbers, node_back, same_test, sum-below}
 use Rattle.psci_fw_same.proofs.Slots.{at_slot-by, with_slots-by}
@@ -57,11 +54,11 @@ pub with_rest-by : (b : BoardValue) (s : ℕ → ℕ → ℕ) (c : ℕ) (rest : 
     → Renumbers b s → with_rest (s 0 c) rest (values_by s v) ≡ values_by s (with_rest c rest v)
 with_rest-by b s c rest v is =
     let opened : updated (λ k. v.opening (s 0 k)) (s 0 c)
-        (option_or rest.opening (v.opening (s 0 (s 0 c))))
-        ≡ (λ k. updated v.opening c (option_or rest.opening (v.opening c)) (s 0 k)) =
-        ap (λ (k : ℕ). updated (λ j. v.opening (s 0 j)) (s 0 c)
-        (option_or rest.opening (v.opening k))) (is.back 0 c)
-        ∙ updated-by s v.opening c (option_or rest.opening (v.opening c)) (is.back 0) in
+    (option_or rest.opening (v.opening (s 0 (s 0 c))))
+    ≡ (λ k. updated v.opening c (option_or rest.opening (v.opening c)) (s 0 k)) =
+    ap (λ (k : ℕ). updated (λ j. v.opening (s 0 j)) (s 0 c)
+    (option_or rest.opening (v.opening k))) (is.back 0 c)
+    ∙ updated-by s v.opening c (option_or rest.opening (v.opening c)) (is.back 0) in
     λ i. record (with_phase-by b s c rest.phase v is i) { opening = opened i }
 
 pub with_claims-by : (b : BoardValue) (s : ℕ → ℕ → ℕ) (m : MessageValue) (v : Values)

@@ -1,9 +1,8 @@
 -- Claims of renumbered cores.
-use Rattle.std.proofs.Common.{◌≡◌, ℕ, zero, suc, ◌+◌, ◌-◌, ◌==◌, Bool, true, false, not, nat_lt, List, []}
-use Rattle.std.proofs.Common.{◌∷◌, refl, sym, ap, ◌∙◌, arith, if◌then◌else◌, Result, Ok}
-use Rattle.psci_board.specs.Board.{BoardValue, height, up}
+use Rattle.std.proofs.Common.{◌≡◌, ℕ, zero, suc, ◌+◌, Bool, not, List}
+use Rattle.std.proofs.Common.{refl, ap, ◌∙◌, if◌then◌else◌}
+use Rattle.psci_board.specs.Board.{BoardValue, height}
 use Rattle.psci_board.specs.declared.node.Node.{Node}
-use Rattle.psci_coord.specs.psci_parts.declared.part.Part.{Part}
 use Rattle.psci_coord.specs.Claim.{climb, claims_of, least_wish, off_claims, off_wish}
 use Rattle.psci_coord.specs.Claim.{own_claims, own_wish, platform_claims}
 use Rattle.psci_coord.specs.View.{PowerView, domain_of, generation, is_all_off, is_idle, least_ask}
@@ -59,11 +58,11 @@ unfolding claims_of
 claims_of-by b s w c f g is same =
     let wanted : f ≡ g = λ i. λ level. same level i in
     let sums : (λ level. generation b (view_by s w) (domain_of b (s 0 c) level))
-        ≡ (λ level. generation b w (domain_of b c level)) = λ i. λ level.
-        (ap (generation b (view_by s w)) (domain-by b s c level is)
-        ∙ generation-by b s w (domain_of b c level) is) i in
+    ≡ (λ level. generation b w (domain_of b c level)) = λ i. λ level.
+    (ap (generation b (view_by s w)) (domain-by b s c level is)
+    ∙ generation-by b s w (domain_of b c level) is) i in
     ap (λ (h : ℕ → ℕ). climb h
-        (λ level. generation b (view_by s w) (domain_of b (s 0 c) level)) 0 (height b + 1)) wanted
+    (λ level. generation b (view_by s w) (domain_of b (s 0 c) level)) 0 (height b + 1)) wanted
     ∙ ap (λ (h : ℕ → ℕ). climb g h 0 (height b + 1)) sums
 
 least_wish-by : (b : BoardValue) (s : ℕ → ℕ → ℕ) (w : PowerView) (c level : ℕ) → Renumbers b s

@@ -1,14 +1,11 @@
 -- Renumbered cores that enter.
-use Rattle.std.proofs.Common.{◌≡◌, ℕ, zero, suc, ◌+◌, ◌==◌, Bool, true, false, ◌&&◌, ◌||◌, not, nat_lt}
-use Rattle.std.proofs.Common.{nat_le, refl, sym, ap, ◌∙◌, arith, if◌then◌else◌, Option, None, Some}
+use Rattle.std.proofs.Common.{◌≡◌, ℕ, ◌==◌, Bool, true, false, ◌&&◌, ◌||◌, not, nat_lt}
+use Rattle.std.proofs.Common.{nat_le, refl, sym, ap, ◌∙◌, if◌then◌else◌, Option, None, Some}
 use Rattle.std.proofs.Common.{inl, inr, ◌⊎◌}
-use Rattle.std.specs.Prelude.{option_map}
 use Rattle.std.proofs.lemmas.Bool.{eq-eqb}
 use Rattle.psci_board.specs.Board.{BoardValue, cores, has_node, up}
 use Rattle.psci_board.specs.Paths.{is_path_place}
-use Rattle.psci_link.specs.declared.kind.Kind.TheVariants as kinds
 use Rattle.psci_link.specs.declared.start.Start.{Start}
-use Rattle.psci_fw_spec.specs.declared.fault.FwFault.{FwFault}
 use Rattle.psci_fw_spec.specs.declared.fault.FwFault.TheVariants.{NoCore, NoLife, OldStart}
 use Rattle.psci_fw_spec.specs.declared.opening.Opening.{Opening}
 use Rattle.psci_fw_spec.specs.declared.outcome.Act.TheVariants as acts
@@ -16,7 +13,7 @@ use Rattle.psci_fw_spec.specs.declared.outcome.Outcome.{Outcome}
 use Rattle.psci_fw_spec.specs.declared.status.Status.TheVariants as statuses
 use Rattle.psci_fw_spec.specs.Changes.{with_arrival}
 use Rattle.psci_fw_spec.specs.CpuOff.{off_message}
-use Rattle.psci_fw_spec.specs.Entering.{enter_fault, enter_outcome, is_old, is_wake, outcome_at}
+use Rattle.psci_fw_spec.specs.Entering.{enter_fault, enter_outcome, is_old, outcome_at}
 use Rattle.psci_fw_spec.specs.Entering.{resumes, without_opening}
 use Rattle.psci_fw_spec.specs.Lives.{in_life, start_of_life}
 use Rattle.psci_fw_spec.specs.Outcomes.{stops, stops_with}
@@ -40,7 +37,7 @@ boot_path-by : (b : BoardValue) (s : ℕ → ℕ → ℕ) (level place : ℕ) �
     → is_path_place b 0 level (s level place) ≡ is_path_place b 0 level place
 boot_path-by b s level place is boot =
     let own : up b level 0 ≡ s level (up b level 0) =
-        ap (up b level) (sym boot) ∙ is.above level 0 in
+    ap (up b level) (sym boot) ∙ is.above level 0 in
     same_test (s level place) (up b level 0) place (up b level 0)
     (λ e. sym (is.back level place) ∙ (ap (s level) e ∙ sym own)) (λ e. ap (s level) e ∙ sym own)
 

@@ -39,7 +39,7 @@ pull-first : {R : Type 0} (g : ℕ → R → R) (z : R) (a n : ℕ)
     → fold g z (range_with_len a (suc n)) ≡ g a (fold (without a g) z (range_with_len a (suc n)))
 pull-first g z a n =
     let rest = alike g (without a g) z (a + 1) n (λ k r l m.
-        sym (without-other g a k r (λ e. omega arith))) in
+    sym (without-other g a k r (λ e. omega arith))) in
     let it = without-it g a (fold (without a g) z (range_with_len (a + 1) n)) in
     ap (g a) (rest ∙ sym it)
 
@@ -133,7 +133,7 @@ swapped-inside g z a n x y c h i j k = elim (cases_eq y x) [
       ap (λ (l : ℕ). g l r) (swap-same x y m (sym same)))
   | inr d ↦
       let rest = alike (without y (without x (swapped x y g))) (without y (without x g)) z a n
-          (λ m r u w. without-both g x y m r (m == x) (m == y) refl refl) in
+      (λ m r u w. without-both g x y m r (m == x) (m == y) refl refl) in
       let tail = fold (without y (without x g)) z (range_with_len a n) in
       pull-two (swapped x y g) z a n x y (swapped-commutes g x y c) d h i j k
       ∙ (ap (λ (t : _). swapped x y g x (swapped x y g y t)) rest

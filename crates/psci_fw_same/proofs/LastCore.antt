@@ -1,16 +1,16 @@
 -- The last-core check of renumbered cores.
-use Rattle.std.proofs.Common.{◌≡◌, ℕ, zero, suc, ◌+◌, ◌-◌, ◌==◌, Bool, true, false, not, nat_lt}
-use Rattle.std.proofs.Common.{◌&&◌, ◌||◌, ◌++◌, List, [], ◌∷◌, length, map, filter, flat_map, refl, sym}
-use Rattle.std.proofs.Common.{ap, ◌∙◌, arith, if◌then◌else◌, Option, None, Some, inl, inr}
+use Rattle.std.proofs.Common.{◌≡◌, ℕ, zero, suc, ◌-◌, ◌==◌, Bool, true, false, not, nat_lt}
+use Rattle.std.proofs.Common.{◌&&◌, ◌||◌, List, [], ◌∷◌, length, map, filter, flat_map, refl, sym}
+use Rattle.std.proofs.Common.{ap, ◌∙◌, arith, inl, inr}
 use Rattle.std.specs.List.{list_any, range_with_len}
 use Rattle.std.proofs.lemmas.Bool.{cases_Bool, lt-ltb}
 use Rattle.std.proofs.lemmas.List.Concat.{flat_map-cons}
 use Rattle.std.proofs.lemmas.List.Folds.{list_any-append}
 use Rattle.psci_board.specs.Board.{BoardValue, height, up, first_child, children_at}
 use Rattle.psci_board.specs.declared.node.Node.{Node}
-use Rattle.psci_coord.specs.Claim.{own_claims, own_wish}
-use Rattle.psci_coord.specs.LastCore.{answer_by, last_core_check, refusal, shallow, shallow_at}
-use Rattle.psci_coord.specs.View.{PowerView, domain_of, is_idle}
+use Rattle.psci_coord.specs.Claim.{own_wish}
+use Rattle.psci_coord.specs.LastCore.{last_core_check, refusal, shallow, shallow_at}
+use Rattle.psci_coord.specs.View.{PowerView, is_idle}
 use Rattle.psci_fw_same.specs.Renumbered.{node_by}
 use Rattle.psci_fw_same.proofs.Counts.{list_any-fold, ors, ors-commutes}
 use Rattle.psci_fw_same.proofs.Claims.{is_idle-by, own_claims-by, view_by}
@@ -59,7 +59,7 @@ shallow_at-any : (b : BoardValue) (w : PowerView) (f : Node → Bool) (c : ℕ) 
 unfolding shallow_at
 shallow_at-any b w f c ask level under e =
     let ks : List ℕ =
-        range_with_len (first_child b level (up b level c)) (children_at b level (up b level c)) in
+    range_with_len (first_child b level (up b level c)) (children_at b level (up b level c)) in
     rw (← e)
     (any-filter f (λ n. nat_lt (w.granted n.level n.place) (own_wish ask level)) _
     ∙ (any-filter _ (λ n. not (n.place == up b (level - 1) c)) _
@@ -78,9 +78,9 @@ beside-by b s w f g c level depth k is agree =
     let n : Node = record { level = level; place = k } in
     let rest : Bool = nat_lt (w.granted level (s level k)) depth in
     let own : (k == up b level (s 0 c)) ≡ (s level k == up b level c) =
-        same_test k (up b level (s 0 c)) (s level k) (up b level c)
-        (λ e. ap (s level) (e ∙ is.above level c) ∙ is.back level (up b level c))
-        (λ e. sym (is.back level k) ∙ (ap (s level) e ∙ sym (is.above level c))) in
+    same_test k (up b level (s 0 c)) (s level k) (up b level c)
+    (λ e. ap (s level) (e ∙ is.above level c) ∙ is.back level (up b level c))
+    (λ e. sym (is.back level k) ∙ (ap (s level) e ∙ sym (is.above level c))) in
     ap (λ (t : Bool). not t && (rest && f n)) own
     ∙ ap (λ (t : Bool). not (s level k == up b level c) && (rest && t)) (agree n)
 
@@ -97,12 +97,12 @@ any-at b s w f g c ask (suc level) is agree =
     let under : suc level - 1 ≡ level = omega arith in
     let test : ℕ → Bool = is_beside w g level (up b level c) d in
     let others : List ℕ = range_with_len (first_child b (suc level) (s (suc level) p))
-        (children_at b (suc level) (s (suc level) p)) in
+    (children_at b (suc level) (s (suc level) p)) in
     let own : List ℕ =
-        range_with_len (first_child b (suc level) p) (children_at b (suc level) p) in
+    range_with_len (first_child b (suc level) p) (children_at b (suc level) p) in
     let same : is_beside (view_by s w) f level (up b level (s 0 c)) d
-        ≡ (λ k. test (s level k)) = λ i. λ k.
-        beside-by b s w f g c level d k is agree i in
+    ≡ (λ k. test (s level k)) = λ i. λ k.
+    beside-by b s w f g c level d k is agree i in
     shallow_at-any b (view_by s w) f (s 0 c) ask (suc level) level under
     ∙ (ap (λ (q : ℕ). list_any (is_beside (view_by s w) f level (up b level (s 0 c)) d)
     (range_with_len (first_child b (suc level) q) (children_at b (suc level) q)))
@@ -120,8 +120,8 @@ any-shallow : (b : BoardValue) (s : ℕ → ℕ → ℕ) (w : PowerView) (f g : 
 unfolding shallow
 any-shallow b s w f g c ask is agree =
     let same : (λ level. list_any f (shallow_at b (view_by s w) (s 0 c) ask level))
-        ≡ (λ level. list_any g (shallow_at b w c ask level)) = λ i. λ level.
-        any-at b s w f g c ask level is agree i in
+    ≡ (λ level. list_any g (shallow_at b w c ask level)) = λ i. λ level.
+    any-at b s w f g c ask level is agree i in
     any-flat_map f (shallow_at b (view_by s w) (s 0 c) ask) (range_with_len 1 (height b))
     ∙ (ap (λ (t : ℕ → Bool). list_any t (range_with_len 1 (height b))) same
     ∙ sym (any-flat_map g (shallow_at b w c ask) (range_with_len 1 (height b))))
@@ -139,10 +139,12 @@ refusal-by : (b : BoardValue) (s : ℕ → ℕ → ℕ) (w : PowerView) (c : ℕ
 unfolding refusal
 refusal-by b s w c ask is =
     let some = some-any (shallow b (view_by s w) (s 0 c) ask)
-        ∙ (any-shallow b s w (λ n. true) (λ n. true) c ask is (λ n. refl)
-        ∙ sym (some-any (shallow b w c ask))) in
-    rw (any-shallow b s w (is_idle b (view_by s w)) (is_idle b w) c ask is (idle-agrees b s w is),
-    some) refl
+    ∙ (any-shallow b s w (λ n. true) (λ n. true) c ask is (λ n. refl)
+    ∙ sym (some-any (shallow b w c ask))) in
+    rw (
+      any-shallow b s w (is_idle b (view_by s w)) (is_idle b w) c ask is (idle-agrees b s w is),
+      some,
+    ) refl
 
 pub last_core_check-by : (b : BoardValue) (s : ℕ → ℕ → ℕ) (w : PowerView) (c : ℕ) (ask : List ℕ)
     → Renumbers b s

@@ -14,5 +14,6 @@ pub mod Slots
 pub mod Changing
 pub mod Entries
 pub mod Calling
+pub mod Following
 mod SwapRows
 pub mod Twins

@@ -1,6 +1,6 @@
 -- What is folded over all cores, and over the children of a node, is the same of renumbered ones.
-use Rattle.std.proofs.Common.{◌≡◌, ℕ, zero, suc, ◌+◌, ◌-◌, ◌==◌, ◌<◌, ◌≤◌, nat_lt, nat_le, Bool, true}
-use Rattle.std.proofs.Common.{false, ◌&&◌, if◌then◌else◌, List, [], ◌∷◌, get_or, length, refl, sym, ap}
+use Rattle.std.proofs.Common.{◌≡◌, ℕ, suc, ◌+◌, ◌-◌, ◌==◌, ◌<◌, ◌≤◌, Bool}
+use Rattle.std.proofs.Common.{if◌then◌else◌, List, [], get_or, refl, sym, ap}
 use Rattle.std.proofs.Common.{◌∙◌, arith, inl, inr}
 use Rattle.std.specs.List.{range_with_len}
 use Rattle.std.proofs.lemmas.Bool.{cases_eq, cases_lt, eq-eqb, lt-ltb, ltb-true, ne_eqb}
@@ -32,7 +32,7 @@ child_of_core b level p c child h i = elim (cases_eq (up b (suc level) c) p) [
   | inl e ↦
       let low : first_child b (suc level) p ≤ up b level c = rw (← e) (child.first c level h i) in
       let high : up b level c < first_child b (suc level) p + children_at b (suc level) p =
-          rw (← e) (child.last c level h i) in
+      rw (← e) (child.last c level h i) in
       is_within-true _ _ (up b level c) low high ∙ sym (eq-eqb (up b (suc level) c) p e)
   | inr d ↦
       is_within-false (first_child b (suc level) p) (children_at b (suc level) p) (up b level c)
@@ -53,10 +53,10 @@ child_moved b s level p k is paths child h i =
     let at : up b level c ≡ k = some.2 in
     let other : up b level (s 0 c) ≡ s level k = is.above level c ∙ ap (s level) at in
     let parents : (up b (suc level) c == s (suc level) p) ≡ (up b (suc level) (s 0 c) == p) =
-        same_test (up b (suc level) c) (s (suc level) p) (up b (suc level) (s 0 c)) p
-        (λ e. is.above (suc level) c ∙ (ap (s (suc level)) e ∙ is.back (suc level) p))
-        (λ e. sym (is.back (suc level) (up b (suc level) c))
-        ∙ ap (s (suc level)) (sym (is.above (suc level) c) ∙ e)) in
+    same_test (up b (suc level) c) (s (suc level) p) (up b (suc level) (s 0 c)) p
+    (λ e. is.above (suc level) c ∙ (ap (s (suc level)) e ∙ is.back (suc level) p))
+    (λ e. sym (is.back (suc level) (up b (suc level) c))
+    ∙ ap (s (suc level)) (sym (is.above (suc level) c) ∙ e)) in
     ap (is_child b level (s (suc level) p)) (sym at)
     ∙ (child_of_core b level (s (suc level) p) c child some.1 h
     ∙ (parents

@@ -1,14 +1,12 @@
 -- Functions that return to their caller, of renumbered cores.
-use Rattle.std.proofs.Common.{◌≡◌, ℕ, zero, suc, ◌==◌, Bool, true, false, not, ◌&&◌, ◌||◌, nat_le}
-use Rattle.std.proofs.Common.{nat_lt, pos, List, [], ◌∷◌, refl, sym, ap, ◌∙◌, arith, if◌then◌else◌}
-use Rattle.std.proofs.Common.{Option, None, Some, Result, Ok, Err}
+use Rattle.std.proofs.Common.{◌≡◌, ℕ, zero, suc, ◌==◌, Bool, true, false, not, ◌&&◌, nat_le}
+use Rattle.std.proofs.Common.{pos, [], refl, ap, ◌∙◌, arith, if◌then◌else◌}
+use Rattle.std.proofs.Common.{Option, None, Some, Ok, Err}
 use Rattle.std.specs.Prelude.{option_map}
-use Rattle.std.specs.List.{list_any, range_with_len}
 use Rattle.std.proofs.lemmas.Bool.{ne_eqb}
 use Rattle.psci_abi.specs.declared.code.Code.{Code}
-use Rattle.psci_abi.specs.Codes.{already_on, internal_failure, invalid_address, on_pending, success}
-use Rattle.psci_board.specs.Board.{BoardValue, below, core_of, cores, has_node, height, may_enter}
-use Rattle.psci_board.specs.Board.{node_of, nodes}
+use Rattle.psci_abi.specs.Codes.{internal_failure, invalid_address, success}
+use Rattle.psci_board.specs.Board.{BoardValue, below, core_of, has_node, height, may_enter}
 use Rattle.psci_board.specs.declared.node.Core.{Core}
 use Rattle.psci_board.specs.declared.node.Node.{Node}
 use Rattle.psci_link.specs.declared.kind.Kind.TheVariants as kinds
@@ -22,14 +20,14 @@ use Rattle.psci_fw_spec.specs.declared.status.Status.TheVariants as statuses
 use Rattle.psci_fw_spec.specs.AffinityInfo.{affinity_of, is_on, is_pending_status, node_status}
 use Rattle.psci_fw_spec.specs.AffinityInfo.{status_code, status_over}
 use Rattle.psci_fw_spec.specs.CpuOn.{cpu_on, off_target, start_outcome, target_among, target_of}
-use Rattle.psci_fw_spec.specs.NodeHwState.{hw_at, hw_code, hw_state_of, node_hw}
-use Rattle.psci_fw_spec.specs.Outcomes.{message_for, returns}
+use Rattle.psci_fw_spec.specs.NodeHwState.{hw_state_of}
+use Rattle.psci_fw_spec.specs.Outcomes.{returns}
 use Rattle.psci_fw_spec.specs.Phases.{is_away, is_suspended_or_pending}
-use Rattle.psci_fw_spec.specs.SuspendMode.{is_mode, may_set, mode_asked}
+use Rattle.psci_fw_spec.specs.SuspendMode.{may_set, mode_asked}
 use Rattle.psci_fw_spec.specs.Values.{Values}
 use Rattle.psci_fw_same.specs.Renumbered.{core_by, node_by, outcome_by, values_by}
 use Rattle.psci_fw_same.proofs.Renumbering.{any-below, any-cores, Renumbers}
-use Rattle.psci_fw_same.proofs.Stopping.{all_others-by, chosen, message_for-by}
+use Rattle.psci_fw_same.proofs.Stopping.{all_others-by, message_for-by}
 
 -- AFFINITY_INFO ---------------------------------------------------------------------------------
 
@@ -42,8 +40,10 @@ has_node-by b s level place is =
 status_over-by : (b : BoardValue) (s : ℕ → ℕ → ℕ) (status : ℕ → Status) (n : Node) → Renumbers b s
     → status_over (λ k. status (s 0 k)) (below b (node_by s n)) ≡ status_over status (below b n)
 status_over-by b s status n is =
-    rw (any-below b s n (λ k. is_on (status k)) is,
-    any-below b s n (λ k. is_pending_status (status k)) is) refl
+    rw (
+      any-below b s n (λ k. is_on (status k)) is,
+      any-below b s n (λ k. is_pending_status (status k)) is,
+    ) refl
 
 status_at-by : (b : BoardValue) (s : ℕ → ℕ → ℕ) (status : ℕ → Status) (level place : ℕ)
     → Renumbers b s

@@ -1,7 +1,6 @@
 -- Functions that may stop their caller, of renumbered cores.
-use Rattle.std.proofs.Common.{◌≡◌, ℕ, ◌==◌, Bool, true, false, not, ◌&&◌, ◌||◌, List, [], ◌∷◌, refl, sym}
-use Rattle.std.proofs.Common.{ap, ◌∙◌, if◌then◌else◌, Option, None, Some, Result, Ok, Err}
-use Rattle.std.specs.Prelude.{option_map}
+use Rattle.std.proofs.Common.{◌≡◌, ℕ, ◌==◌, Bool, true, false, not, ◌&&◌, ◌||◌, List, [], refl}
+use Rattle.std.proofs.Common.{ap, ◌∙◌, if◌then◌else◌, Result, Ok, Err}
 use Rattle.std.specs.List.{list_all, range_with_len}
 use Rattle.psci_abi.specs.declared.code.Code.{Code}
 use Rattle.psci_abi.specs.Codes.{denied, invalid_address, invalid_parameters, success}
@@ -19,8 +18,8 @@ use Rattle.psci_fw_spec.specs.declared.mode.SuspendMode.TheVariants.{Platform, O
 use Rattle.psci_fw_spec.specs.declared.outcome.Outcome.{Outcome}
 use Rattle.psci_fw_spec.specs.Changes.{with_phase}
 use Rattle.psci_fw_spec.specs.Claims.{leaving_claims, off_parts, suspend_claims, suspend_parts}
-use Rattle.psci_fw_spec.specs.CpuOff.{cpu_off, off_message}
-use Rattle.psci_fw_spec.specs.CpuSuspend.{ask_named, cpu_suspend, osi_code, suspend_answer}
+use Rattle.psci_fw_spec.specs.CpuOff.{cpu_off}
+use Rattle.psci_fw_spec.specs.CpuSuspend.{ask_named, cpu_suspend, suspend_answer}
 use Rattle.psci_fw_spec.specs.CpuSuspend.{suspend_asked}
 use Rattle.psci_fw_spec.specs.Outcomes.{message_for, returns, stops_with}
 use Rattle.psci_fw_spec.specs.Phases.{Away, Phase, Suspended, unless_pending}
@@ -79,11 +78,11 @@ suspend_claims-by : (b : BoardValue) (s : ℕ → ℕ → ℕ) (v : Values) (c :
 suspend_claims-by b s v c ask Platform is =
     let left : Values = with_phase c (Suspended ask) v in
     ap (λ (u : Values). let r : Result (List Part) Osi = Ok (leaving_claims b (view b u) (s 0 c)
-        Platform) in r) (with_phase-by b s c (Suspended ask) v is)
+    Platform) in r) (with_phase-by b s c (Suspended ask) v is)
     ∙ (ap (λ (w : PowerView). let r : Result (List Part) Osi = Ok (leaving_claims b w (s 0 c)
-        Platform) in r) (view-by b s left)
+    Platform) in r) (view-by b s left)
     ∙ ap (λ (ps : List Part). let r : Result (List Part) Osi = Ok ps in r)
-        (platform_claims-by b s (view b left) c is))
+    (platform_claims-by b s (view b left) c is))
 suspend_claims-by b s v c ask OsInitiated is =
     ap (λ (w : PowerView). last_core_check b w (s 0 c) ask) (view-by b s v)
     ∙ last_core_check-by b s (view b v) c ask is
@@ -171,7 +170,7 @@ pub all_others-by : (b : BoardValue) (s : ℕ → ℕ → ℕ) (c : ℕ) (test :
     → all_others b (s 0 c) (λ k. test (s 0 k)) ≡ all_others b c test
 all_others-by b s c test is =
     let same : (λ k. k == s 0 c || test (s 0 k)) ≡ (λ k. s 0 k == c || test (s 0 k)) = λ i. λ k.
-        ap (λ (t : Bool). t || test (s 0 k)) (other_test s k c (is.back 0)) i in
+    ap (λ (t : Bool). t || test (s 0 k)) (other_test s k c (is.back 0)) i in
     ap (λ (t : ℕ → Bool). list_all t (range_with_len 0 (cores b))) same
     ∙ all-cores b s (λ k. k == c || test k) is
 

@@ -1,12 +1,12 @@
 -- Each request asks of the renumbered cores what some other request asks.
-use Rattle.std.proofs.Common.{◌≡◌, ℕ, zero, suc, ◌<◌, ◌≤◌, Bool, true, false, nat_lt, refl, sym, ap, ◌∙◌}
+use Rattle.std.proofs.Common.{◌≡◌, ℕ, ◌<◌, refl, sym, ap, ◌∙◌}
 use Rattle.std.proofs.Common.{arith, Option, None, Some}
 use Rattle.std.specs.Prelude.{option_map}
 use Rattle.std.proofs.lemmas.Bool.{lt-ltb, ltb-true}
 use Rattle.std.proofs.lemmas.Option.{none-some, same_Some}
 use Rattle.psci_abi.specs.declared.request.Request.{Request}
 use Rattle.psci_abi.specs.declared.request.Request.TheVariants as requests
-use Rattle.psci_board.specs.Board.{BoardValue, HasNode, core_of, cores, node_of, nodes}
+use Rattle.psci_board.specs.Board.{BoardValue, HasNode, core_of, node_of, nodes}
 use Rattle.psci_board.specs.declared.node.Core.{Core}
 use Rattle.psci_board.specs.declared.node.Node.{Node}
 use Rattle.psci_board.specs.Laws.{WordLaws}
@@ -38,9 +38,11 @@ node_named b s target level None is laws e =
     (target, e ∙ sym (ap (option_map (node_by s)) e))
 node_named b s target level (Some n) is laws e =
     let found = laws.some_word (node_by s n) (node_inside b s n is (laws.node target level n e)) in
-    let at : n.level ≡ level = laws.level target level n e in
-    (found.0, ap (node_of b found.0) (sym at)
-    ∙ (found.2 ∙ sym (ap (option_map (node_by s)) e)))
+    let at : n.level ≡ level = laws.level target level n e in (
+      found.0,
+      ap (node_of b found.0) (sym at)
+          ∙ (found.2 ∙ sym (ap (option_map (node_by s)) e)),
+    )
 
 -- some word names the core of the other number
 core_from_node : (o : Option Core) (place : ℕ)
@@ -62,10 +64,12 @@ core_named b s target (Some c) is laws e =
       level = omega arith;
       place = place_inside b s 0 c.number is (laws.core target c e);
     } in
-    let found = laws.some_word n inside in
-    (found.0, core_from_node (core_of b found.0) (s 0 c.number)
-    (sym (laws.core_node found.0) ∙ found.2)
-    ∙ sym (ap (option_map (core_by s)) e))
+    let found = laws.some_word n inside in (
+      found.0,
+      core_from_node (core_of b found.0) (s 0 c.number)
+          (sym (laws.core_node found.0) ∙ found.2)
+          ∙ sym (ap (option_map (core_by s)) e),
+    )
 
 pub told : (b : BoardValue) (s : ℕ → ℕ → ℕ) (r : Request) → Renumbers b s → WordLaws b
     → (q : Request) × AsksBy b s r q

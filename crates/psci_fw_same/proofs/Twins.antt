@@ -1,8 +1,8 @@
 -- To swap two clusters with as many cores is a renumbering of the board.
-use Rattle.std.proofs.Common.{◌≡◌, ℕ, zero, suc, ◌+◌, ◌-◌, ◌==◌, ◌<◌, ◌≤◌, nat_lt, Bool, true, false}
+use Rattle.std.proofs.Common.{◌≡◌, ℕ, zero, suc, ◌+◌, ◌-◌, ◌<◌, ◌≤◌, nat_lt, true, false}
 use Rattle.std.proofs.Common.{List, [], ◌∷◌, length, sum, drop, refl, sym, ap, subst, ◌∙◌, arith, inl, inr}
-use Rattle.std.proofs.Common.{Option, None, Some, ◌⊎◌}
-use Rattle.std.proofs.lemmas.Bool.{cases_eq, cases_lt, le-ltb, lt-ltb, ltb-true}
+use Rattle.std.proofs.Common.{Option, ◌⊎◌}
+use Rattle.std.proofs.lemmas.Bool.{cases_lt, le-ltb, lt-ltb}
 use Rattle.std.proofs.lemmas.Option.{same_Some}
 use Rattle.psci_board.specs.Board.{BoardValue, IsBoard, IsTree, children_at, cores, first_child}
 use Rattle.psci_board.specs.Board.{group_of, height, nodes, parent, place_above, size_below, up}
@@ -82,7 +82,7 @@ up_out b p c laws some out e = elim (cases_lt c (cores b)) [
       let here : up b 0 c ≡ c = laws.paths.core c in
       let low : first_child b 1 p ≤ up b 0 c = rw (← e) (laws.child.first c 0 h laws.low) in
       let high : up b 0 c < first_child b 1 p + children_at b 1 p =
-          rw (← e) (laws.child.last c 0 h laws.low) in
+      rw (← e) (laws.child.last c 0 h laws.low) in
       out (record { low = omega arith; high = omega arith })
   | inr h ↦
       let past : nodes b 1 ≤ up b 1 c = up_past b c laws h in
@@ -206,7 +206,7 @@ parents_meet b x y laws h i e = elim (cases_lt 1 (height b)) [
       let low : 0 < height b = laws.low in
       let one : height b ≡ 1 = omega arith in
       let top : (k : ℕ) → k < cores b → up b 1 k ≡ 0 = λ k j.
-          ap (λ (l : ℕ). up b l k) (sym one) ∙ laws.paths.system k j in
+      ap (λ (l : ℕ). up b l k) (sym one) ∙ laws.paths.system k j in
       laws.paths.joined x y 1 (top x h ∙ sym (top y i))
 ]
 

@@ -1,7 +1,7 @@
 -- The cores of a board told by other numbers: messages, replies, requests and values that say the
 -- same of the renumbered cores. A renumbering gives each place of a level another place of the level,
 -- and so each core, at level 0, another number.
-use Rattle.std.specs.Prelude.{◌≡◌, ℕ, zero, suc, ◌+◌, ◌==◌, ◌<◌, if◌then◌else◌, Option, nat_lt}
+use Rattle.std.specs.Prelude.{◌≡◌, ℕ, zero, suc, ◌+◌, ◌==◌, ◌<◌, if◌then◌else◌, nat_lt}
 use Rattle.std.specs.Prelude.{◌-◌, ◌&&◌, Bool, nat_le, option_map, ◌⊎◌}
 use Rattle.psci_board.specs.Board.{BoardValue, children_at, core_of, cores, first_child, node_of}
 use Rattle.psci_board.specs.Board.{nodes, parent, up}
@@ -12,7 +12,6 @@ use Rattle.psci_abi.specs.declared.request.Request.{Request}
 use Rattle.psci_abi.specs.declared.request.Request.TheVariants as requests
 use Rattle.psci_link.specs.Message.{AckValue, MessageValue}
 use Rattle.psci_link.specs.Slots.{Slot, OfCore, OfSystem}
-use Rattle.psci_link.specs.declared.start.Start.{Start}
 use Rattle.psci_fw_spec.specs.declared.call.FwCall.{FwCall}
 use Rattle.psci_fw_spec.specs.declared.call.FwCall.TheVariants.{Smc, Enter, Take}
 use Rattle.psci_fw_spec.specs.declared.outcome.Outcome.{Outcome}

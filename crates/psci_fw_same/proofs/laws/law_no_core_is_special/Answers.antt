@@ -1,5 +1,6 @@
 -- The laws of renumbered cores.
-use Rattle.psci_fw_same.proofs.Calling.{after-by, answer-by}
+use Rattle.psci_fw_same.proofs.Calling.{answer-by}
+use Rattle.psci_fw_same.proofs.Following.{after-by}
 use Rattle.psci_fw_same.proofs.Functions.{outcome_of-by}
 use Rattle.psci_fw_same.proofs.Numberings.{renumbers}
 use Rattle.psci_fw_same.proofs.Siblings.{siblings}
