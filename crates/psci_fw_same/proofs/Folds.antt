@@ -151,7 +151,7 @@ swapped-outside g z a n x y d e =
     alike (swapped x y g) g z a n (λ k r i j.
     ap (λ (l : ℕ). g l r) (swap-other x y k (d k i j) (e k i j)))
 
-cases_within : (a n x : ℕ) → ((a ≤ x) × (x < a + n)) ⊎ (a ≤ x → x < a + n → ⊥)
+pub cases_within : (a n x : ℕ) → ((a ≤ x) × (x < a + n)) ⊎ (a ≤ x → x < a + n → ⊥)
 cases_within a n x = elim (cases_lt x a) [
   | inl under ↦ inr (λ h i. omega arith)
   | inr h ↦ elim (cases_lt x (a + n)) [

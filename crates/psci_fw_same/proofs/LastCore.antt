@@ -1,20 +1,20 @@
 -- The last-core check of renumbered cores.
-use Rattle.std.proofs.Common.{◌≡◌, ℕ, zero, suc, ◌+◌, ◌-◌, ◌==◌, Bool, true, false, not, nat_lt}
-use Rattle.std.proofs.Common.{◌&&◌, ◌||◌, ◌++◌, List, [], ◌∷◌, length, map, filter, flat_map, refl, sym}
-use Rattle.std.proofs.Common.{ap, ◌∙◌, arith, if◌then◌else◌, Option, None, Some, inl, inr}
+use Rattle.std.proofs.Common.{◌≡◌, ℕ, zero, suc, ◌-◌, ◌==◌, Bool, true, false, not, nat_lt}
+use Rattle.std.proofs.Common.{◌&&◌, ◌||◌, List, [], ◌∷◌, length, map, filter, flat_map, refl, sym}
+use Rattle.std.proofs.Common.{ap, ◌∙◌, arith, inl, inr}
 use Rattle.std.specs.List.{list_any, range_with_len}
 use Rattle.std.proofs.lemmas.Bool.{cases_Bool, lt-ltb}
 use Rattle.std.proofs.lemmas.List.Concat.{flat_map-cons}
 use Rattle.std.proofs.lemmas.List.Folds.{list_any-append}
 use Rattle.psci_board.specs.Board.{BoardValue, height, up, first_child, children_at}
 use Rattle.psci_board.specs.declared.node.Node.{Node}
-use Rattle.psci_coord.specs.Claim.{own_claims, own_wish}
-use Rattle.psci_coord.specs.LastCore.{answer_by, last_core_check, refusal, shallow, shallow_at}
-use Rattle.psci_coord.specs.View.{PowerView, domain_of, is_idle}
-use Rattle.psci_fw_same.specs.Renumbered.{node_by, place_by}
+use Rattle.psci_coord.specs.Claim.{own_wish}
+use Rattle.psci_coord.specs.LastCore.{last_core_check, refusal, shallow, shallow_at}
+use Rattle.psci_coord.specs.View.{PowerView, is_idle}
+use Rattle.psci_fw_same.specs.Renumbered.{node_by}
 use Rattle.psci_fw_same.proofs.Counts.{list_any-fold, ors, ors-commutes}
 use Rattle.psci_fw_same.proofs.Claims.{is_idle-by, own_claims-by, view_by}
-use Rattle.psci_fw_same.proofs.Renumbering.{Renumbers, node_back, other_test}
+use Rattle.psci_fw_same.proofs.Renumbering.{Renumbers, node_back, same_test}
 
 -- Tests over lists ------------------------------------------------------------------------------
 
@@ -66,94 +66,79 @@ shallow_at-any b w f c ask level under e =
     ∙ any-map _ (λ place. record { level = level - 1; place = place }) ks))
 
 -- two tests that say the same of a node and of its other place
-abbrev pub AgreeBy : (ℕ → ℕ) → (Node → Bool) → (Node → Bool) → Type 0
+abbrev pub AgreeBy : (ℕ → ℕ → ℕ) → (Node → Bool) → (Node → Bool) → Type 0
 AgreeBy s f g = (n : Node) → f n ≡ g (node_by s n)
 
--- of a core's own level each test says of a core what the other one says of the other core
-core_beside : (b : BoardValue) (s : ℕ → ℕ) (w : PowerView) (f g : Node → Bool) (c depth k : ℕ)
-    → Renumbers b s → AgreeBy s f g
-    → is_beside (view_by s w) f 0 (up b 0 (s c)) depth k
-    ≡ is_beside w g 0 (up b 0 c) depth (s k)
-unfolding up
-core_beside b s w f g c depth k is agree =
-    let rest : Bool = nat_lt (w.granted 0 (s k)) depth in
-    ap (λ (t : Bool). not t && (rest && f (record { level = 0; place = k })))
-    (other_test s k c is.back)
-    ∙ ap (λ (t : Bool). not (s k == c) && (rest && t)) (agree (record { level = 0; place = k }))
-
--- and above the cores the same
-domain_beside : (b : BoardValue) (s : ℕ → ℕ) (w : PowerView) (f g : Node → Bool)
+-- each test says of a domain what the other one says of its other place
+beside-by : (b : BoardValue) (s : ℕ → ℕ → ℕ) (w : PowerView) (f g : Node → Bool)
     (c level depth k : ℕ) → Renumbers b s → AgreeBy s f g
-    → is_beside (view_by s w) f (suc level) (up b (suc level) (s c)) depth k
-    ≡ is_beside w g (suc level) (up b (suc level) c) depth k
-domain_beside b s w f g c level depth k is agree =
-    let n : Node = record { level = suc level; place = k } in
-    let rest : Bool = nat_lt (w.granted (suc level) k) depth in
-    ap (λ (q : ℕ). not (k == q) && (rest && f n)) (is.above level c)
-    ∙ ap (λ (t : Bool). not (k == up b (suc level) c) && (rest && t)) (agree n)
+    → is_beside (view_by s w) f level (up b level (s 0 c)) depth k
+    ≡ is_beside w g level (up b level c) depth (s level k)
+beside-by b s w f g c level depth k is agree =
+    let n : Node = record { level = level; place = k } in
+    let rest : Bool = nat_lt (w.granted level (s level k)) depth in
+    let own : (k == up b level (s 0 c)) ≡ (s level k == up b level c) =
+    same_test k (up b level (s 0 c)) (s level k) (up b level c)
+    (λ e. ap (s level) (e ∙ is.above level c) ∙ is.back level (up b level c))
+    (λ e. sym (is.back level k) ∙ (ap (s level) e ∙ sym (is.above level c))) in
+    ap (λ (t : Bool). not t && (rest && f n)) own
+    ∙ ap (λ (t : Bool). not (s level k == up b level c) && (rest && t)) (agree n)
 
-any-at : (b : BoardValue) (s : ℕ → ℕ) (w : PowerView) (f g : Node → Bool) (c : ℕ) (ask : List ℕ)
-    (level : ℕ) → Renumbers b s → AgreeBy s f g
-    → list_any f (shallow_at b (view_by s w) (s c) ask level)
+any-at : (b : BoardValue) (s : ℕ → ℕ → ℕ) (w : PowerView) (f g : Node → Bool) (c : ℕ)
+    (ask : List ℕ) (level : ℕ) → Renumbers b s → AgreeBy s f g
+    → list_any f (shallow_at b (view_by s w) (s 0 c) ask level)
     ≡ list_any g (shallow_at b w c ask level)
 any-at b s w f g c ask zero is agree =
-    shallow_at-any b (view_by s w) f (s c) ask 0 0 refl
+    shallow_at-any b (view_by s w) f (s 0 c) ask 0 0 refl
     ∙ sym (shallow_at-any b w g c ask 0 0 refl)
-any-at b s w f g c ask (suc zero) is agree =
-    let d : ℕ = own_wish ask 1 in
-    let p : ℕ = up b 1 c in
-    let ks : List ℕ = range_with_len (first_child b 1 p) (children_at b 1 p) in
-    let test : ℕ → Bool = is_beside w g 0 (up b 0 c) d in
-    let same : is_beside (view_by s w) f 0 (up b 0 (s c)) d ≡ (λ k. test (s k)) = λ i. λ k.
-    core_beside b s w f g c d k is agree i in
-    shallow_at-any b (view_by s w) f (s c) ask 1 0 refl
-    ∙ (ap (λ (q : ℕ). list_any (is_beside (view_by s w) f 0 (up b 0 (s c)) d)
-    (range_with_len (first_child b 1 q) (children_at b 1 q))) (is.above 0 c)
-    ∙ (ap (λ (t : ℕ → Bool). list_any t ks) same
-    ∙ (list_any-fold (λ k. test (s k)) ks
-    ∙ (is.cluster (ors test) false p (ors-commutes test)
-    ∙ (sym (list_any-fold test ks)
-    ∙ sym (shallow_at-any b w g c ask 1 0 refl))))))
-any-at b s w f g c ask (suc (suc level)) is agree =
-    let l : ℕ = suc (suc level) in
-    let d : ℕ = own_wish ask l in
-    let under : l - 1 ≡ suc level = omega arith in
-    let same : is_beside (view_by s w) f (suc level) (up b (suc level) (s c)) d
-    ≡ is_beside w g (suc level) (up b (suc level) c) d = λ i. λ k.
-    domain_beside b s w f g c level d k is agree i in
-    shallow_at-any b (view_by s w) f (s c) ask l (suc level) under
-    ∙ (ap (λ (q : ℕ). list_any (is_beside (view_by s w) f (suc level) (up b (suc level) (s c)) d)
-    (range_with_len (first_child b l q) (children_at b l q))) (is.above (suc level) c)
-    ∙ (ap (λ (t : ℕ → Bool). list_any t
-    (range_with_len (first_child b l (up b l c)) (children_at b l (up b l c)))) same
-    ∙ sym (shallow_at-any b w g c ask l (suc level) under)))
+any-at b s w f g c ask (suc level) is agree =
+    let d : ℕ = own_wish ask (suc level) in
+    let p : ℕ = up b (suc level) c in
+    let under : suc level - 1 ≡ level = omega arith in
+    let test : ℕ → Bool = is_beside w g level (up b level c) d in
+    let others : List ℕ = range_with_len (first_child b (suc level) (s (suc level) p))
+    (children_at b (suc level) (s (suc level) p)) in
+    let own : List ℕ =
+    range_with_len (first_child b (suc level) p) (children_at b (suc level) p) in
+    let same : is_beside (view_by s w) f level (up b level (s 0 c)) d
+    ≡ (λ k. test (s level k)) = λ i. λ k.
+    beside-by b s w f g c level d k is agree i in
+    shallow_at-any b (view_by s w) f (s 0 c) ask (suc level) level under
+    ∙ (ap (λ (q : ℕ). list_any (is_beside (view_by s w) f level (up b level (s 0 c)) d)
+    (range_with_len (first_child b (suc level) q) (children_at b (suc level) q)))
+    (is.above (suc level) c)
+    ∙ (ap (λ (t : ℕ → Bool). list_any t others) same
+    ∙ (list_any-fold (λ k. test (s level k)) others
+    ∙ (is.children (ors test) false level p (ors-commutes test)
+    ∙ (sym (list_any-fold test own)
+    ∙ sym (shallow_at-any b w g c ask (suc level) level under))))))
 
 -- a test over all shallow domains
-any-shallow : (b : BoardValue) (s : ℕ → ℕ) (w : PowerView) (f g : Node → Bool) (c : ℕ)
+any-shallow : (b : BoardValue) (s : ℕ → ℕ → ℕ) (w : PowerView) (f g : Node → Bool) (c : ℕ)
     (ask : List ℕ) → Renumbers b s → AgreeBy s f g
-    → list_any f (shallow b (view_by s w) (s c) ask) ≡ list_any g (shallow b w c ask)
+    → list_any f (shallow b (view_by s w) (s 0 c) ask) ≡ list_any g (shallow b w c ask)
 unfolding shallow
 any-shallow b s w f g c ask is agree =
-    let same : (λ level. list_any f (shallow_at b (view_by s w) (s c) ask level))
+    let same : (λ level. list_any f (shallow_at b (view_by s w) (s 0 c) ask level))
     ≡ (λ level. list_any g (shallow_at b w c ask level)) = λ i. λ level.
     any-at b s w f g c ask level is agree i in
-    any-flat_map f (shallow_at b (view_by s w) (s c) ask) (range_with_len 1 (height b))
+    any-flat_map f (shallow_at b (view_by s w) (s 0 c) ask) (range_with_len 1 (height b))
     ∙ (ap (λ (t : ℕ → Bool). list_any t (range_with_len 1 (height b))) same
     ∙ sym (any-flat_map g (shallow_at b w c ask) (range_with_len 1 (height b))))
 
 -- The check -------------------------------------------------------------------------------------
 
-idle-agrees : (b : BoardValue) (s : ℕ → ℕ) (w : PowerView) → Renumbers b s
+idle-agrees : (b : BoardValue) (s : ℕ → ℕ → ℕ) (w : PowerView) → Renumbers b s
     → AgreeBy s (is_idle b (view_by s w)) (is_idle b w)
 idle-agrees b s w is = λ n.
     ap (is_idle b (view_by s w)) (sym (node_back b s n is)) ∙ is_idle-by b s w (node_by s n) is
 
-refusal-by : (b : BoardValue) (s : ℕ → ℕ) (w : PowerView) (c : ℕ) (ask : List ℕ) → Renumbers b s
-    → refusal b (view_by s w) (shallow b (view_by s w) (s c) ask)
+refusal-by : (b : BoardValue) (s : ℕ → ℕ → ℕ) (w : PowerView) (c : ℕ) (ask : List ℕ) → Renumbers b s
+    → refusal b (view_by s w) (shallow b (view_by s w) (s 0 c) ask)
     ≡ refusal b w (shallow b w c ask)
 unfolding refusal
 refusal-by b s w c ask is =
-    let some = some-any (shallow b (view_by s w) (s c) ask)
+    let some = some-any (shallow b (view_by s w) (s 0 c) ask)
     ∙ (any-shallow b s w (λ n. true) (λ n. true) c ask is (λ n. refl)
     ∙ sym (some-any (shallow b w c ask))) in
     rw (
@@ -161,9 +146,9 @@ refusal-by b s w c ask is =
       some,
     ) refl
 
-pub last_core_check-by : (b : BoardValue) (s : ℕ → ℕ) (w : PowerView) (c : ℕ) (ask : List ℕ)
+pub last_core_check-by : (b : BoardValue) (s : ℕ → ℕ → ℕ) (w : PowerView) (c : ℕ) (ask : List ℕ)
     → Renumbers b s
-    → last_core_check b (view_by s w) (s c) ask ≡ last_core_check b w c ask
+    → last_core_check b (view_by s w) (s 0 c) ask ≡ last_core_check b w c ask
 unfolding last_core_check
 last_core_check-by b s w c ask is =
     rw (refusal-by b s w c ask is, own_claims-by b s w c ask is) refl

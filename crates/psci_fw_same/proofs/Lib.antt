@@ -1,4 +1,5 @@
 pub mod Folds
+pub mod Involutions
 pub mod Counts
 pub mod Renumbering
 pub mod Claims
@@ -6,10 +7,13 @@ pub mod LastCore
 pub mod Stopping
 pub mod Returning
 pub mod Functions
+pub mod Numberings
 pub mod Siblings
 pub mod Told
 pub mod Slots
 pub mod Changing
 pub mod Entries
 pub mod Calling
+pub mod Following
 mod SwapRows
+pub mod Twins

@@ -1,26 +1,26 @@
 -- Each request asks of the renumbered cores what some other request asks.
-use Rattle.std.proofs.Common.{◌≡◌, ℕ, zero, suc, ◌<◌, ◌≤◌, Bool, true, false, nat_lt, refl, sym, ap, ◌∙◌}
+use Rattle.std.proofs.Common.{◌≡◌, ℕ, ◌<◌, refl, sym, ap, ◌∙◌}
 use Rattle.std.proofs.Common.{arith, Option, None, Some}
 use Rattle.std.specs.Prelude.{option_map}
 use Rattle.std.proofs.lemmas.Bool.{lt-ltb, ltb-true}
 use Rattle.std.proofs.lemmas.Option.{none-some, same_Some}
 use Rattle.psci_abi.specs.declared.request.Request.{Request}
 use Rattle.psci_abi.specs.declared.request.Request.TheVariants as requests
-use Rattle.psci_board.specs.Board.{BoardValue, HasNode, core_of, cores, node_of, nodes}
+use Rattle.psci_board.specs.Board.{BoardValue, HasNode, core_of, node_of, nodes}
 use Rattle.psci_board.specs.declared.node.Core.{Core}
 use Rattle.psci_board.specs.declared.node.Node.{Node}
 use Rattle.psci_board.specs.Laws.{WordLaws}
-use Rattle.psci_fw_same.specs.Renumbered.{AsksBy, core_by, node_by, place_by}
+use Rattle.psci_fw_same.specs.Renumbered.{AsksBy, core_by, node_by}
 use Rattle.psci_fw_same.proofs.Renumbering.{Renumbers}
 
--- the other place of a node's is one too
-place_inside : (b : BoardValue) (s : ℕ → ℕ) (level place : ℕ) → Renumbers b s
-    → place < nodes b level → place_by s level place < nodes b level
-place_inside b s zero place is h =
-    ltb-true (s place) (cores b) (is.inside place ∙ lt-ltb place (cores b) h)
-place_inside b s (suc level) place is h = h
+-- the other place of a node is one too
+place_inside : (b : BoardValue) (s : ℕ → ℕ → ℕ) (level place : ℕ) → Renumbers b s
+    → place < nodes b level → s level place < nodes b level
+place_inside b s level place is h =
+    ltb-true (s level place) (nodes b level)
+    (is.inside level place ∙ lt-ltb place (nodes b level) h)
 
-node_inside : (b : BoardValue) (s : ℕ → ℕ) (n : Node) → Renumbers b s → HasNode b n
+node_inside : (b : BoardValue) (s : ℕ → ℕ → ℕ) (n : Node) → Renumbers b s → HasNode b n
     → HasNode b (node_by s n)
 node_inside b s n is h = record {
   level = h.level;
@@ -28,11 +28,11 @@ node_inside b s n is h = record {
 }
 
 -- some word names the other place of a node
-abbrev Names : BoardValue → (ℕ → ℕ) → ℕ → ℕ → Type 0
+abbrev Names : BoardValue → (ℕ → ℕ → ℕ) → ℕ → ℕ → Type 0
 Names b s target level =
     (word : ℕ) × (node_of b word level ≡ option_map (node_by s) (node_of b target level))
 
-node_named : (b : BoardValue) (s : ℕ → ℕ) (target level : ℕ) (o : Option Node) → Renumbers b s
+node_named : (b : BoardValue) (s : ℕ → ℕ → ℕ) (target level : ℕ) (o : Option Node) → Renumbers b s
     → WordLaws b → node_of b target level ≡ o → Names b s target level
 node_named b s target level None is laws e =
     (target, e ∙ sym (ap (option_map (node_by s)) e))
@@ -54,24 +54,24 @@ core_from_node (Some c) place e =
     ap (λ (n : Node). let core : Option Core = Some (record { number = n.place }) in core)
     (same_Some _ _ e)
 
-core_named : (b : BoardValue) (s : ℕ → ℕ) (target : ℕ) (o : Option Core) → Renumbers b s
+core_named : (b : BoardValue) (s : ℕ → ℕ → ℕ) (target : ℕ) (o : Option Core) → Renumbers b s
     → WordLaws b → core_of b target ≡ o
     → (word : ℕ) × (core_of b word ≡ option_map (core_by s) (core_of b target))
 core_named b s target None is laws e = (target, e ∙ sym (ap (option_map (core_by s)) e))
 core_named b s target (Some c) is laws e =
-    let n : Node = record { level = 0; place = s c.number } in
+    let n : Node = record { level = 0; place = s 0 c.number } in
     let inside : HasNode b n = record {
       level = omega arith;
       place = place_inside b s 0 c.number is (laws.core target c e);
     } in
     let found = laws.some_word n inside in (
       found.0,
-      core_from_node (core_of b found.0) (s c.number)
+      core_from_node (core_of b found.0) (s 0 c.number)
           (sym (laws.core_node found.0) ∙ found.2)
           ∙ sym (ap (option_map (core_by s)) e),
     )
 
-pub told : (b : BoardValue) (s : ℕ → ℕ) (r : Request) → Renumbers b s → WordLaws b
+pub told : (b : BoardValue) (s : ℕ → ℕ → ℕ) (r : Request) → Renumbers b s → WordLaws b
     → (q : Request) × AsksBy b s r q
 told b s (requests.CpuOn target entry_point context) is laws =
     let w = core_named b s target (core_of b target) is laws refl in
