@@ -6,7 +6,7 @@ use Rattle.std.specs.Fmt.{decimal, digits}
 use Rattle.psci_world.specs.psci_board.Board.{BoardValue, cores, cores_below, height, nodes}
 use Rattle.psci_world.specs.psci_board.declared.node.Node.{Node}
 use Rattle.psci_world.specs.psci_board.declared.span.CoreSpan.{CoreSpan}
-use Rattle.psci_world.specs.psci_world_spec.psci_coord.declared.part.Part.{Part}
+use Rattle.psci_world.specs.psci_world_spec.psci_coord.psci_parts.declared.part.Part.{Part}
 use Rattle.psci_world.specs.psci_world_spec.psci_link.Message.{AckValue, MessageValue}
 use Rattle.psci_world.specs.psci_world_spec.psci_link.declared.kind.Kind.{Kind}
 use Rattle.psci_world.specs.psci_world_spec.psci_link.declared.kind.Kind.TheVariants as kinds
