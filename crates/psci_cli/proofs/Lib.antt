@@ -1,4 +1,5 @@
 mod EndRows
+pub mod Failing
 mod OutputRows
 mod ShownRows
 mod StormRows

@@ -1,0 +1,25 @@
+-- How the program ends at each fault of a run of threads.
+use Rattle.std.proofs.Common.{refl, Result, Ok, Err}
+use Rattle.psci_command.specs.psci_board.Board.{BoardValue}
+use Rattle.psci_command.specs.psci_board_text.declared.fault.BoardFault.{BoardFault}
+use Rattle.psci_threads.specs.Runs.{IsFound}
+use Rattle.psci_threads.specs.declared.fault.BenchFault.{BenchFault}
+use Rattle.psci_threads.specs.declared.fault.BenchFault.TheVariants as faults
+use Rattle.psci_audit.specs.declared.fault.AuditFault.TheVariants as found
+use Rattle.psci_cli.specs.Threading.{IsFailed, IsStarted, IsThreaded, failure_at}
+
+-- a run that was started and failed ends as its fault says
+pub failed : {said : Result BoardValue BoardFault} (started : IsStarted said) (fault : BenchFault)
+    → IsFound started.board fault → IsThreaded (Err (failure_at fault)) said
+failed s faults.Gate f =
+    record { started = s; fault = faults.Gate; is_told = refl; is_found = f }
+failed s faults.Gather f =
+    record { started = s; fault = faults.Gather; is_told = refl; is_found = f }
+failed s faults.Memory f =
+    record { started = s; fault = faults.Memory; is_told = refl; is_found = f }
+failed s (faults.Audit found.Ticket) f =
+    record { started = s; fault = faults.Audit found.Ticket; is_told = refl; is_found = f }
+failed s (faults.Audit found.Memory) f =
+    record { started = s; fault = faults.Audit found.Memory; is_told = refl; is_found = f }
+failed s (faults.Audit (found.Illegal place)) f =
+    record { started = s; fault = faults.Audit (found.Illegal place); is_told = refl; is_found = f }
