@@ -55,9 +55,9 @@ terminal_words() {
     bash "$work/asks" "$work/out" --color auto --json > "$work/none"
     echo "--color never --json" > "$work/lines"
     answers "./psci show beside a terminal"
-    command -v script > /dev/null || { skip "./psci show on a terminal" script; return; }
+    [ -n "$(type -P script)" ] || { skip "./psci show on a terminal" script; return; }
     while IFS='|' read -r words wanted; do
-        script -qec "bash $work/asks $work/out $words" /dev/null < /dev/null > "$work/none"
+        command script -qec "bash $work/asks $work/out $words" /dev/null < /dev/null > "$work/none"
         echo "$wanted" > "$work/lines"
         answers "./psci show $words on a terminal"
     done << 'EOF'
