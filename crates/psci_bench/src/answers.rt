@@ -79,6 +79,16 @@ impl Answers {
         Ok(())
     }
 
+    /// Adds a text that is no answer line, or changes nothing.
+    pub fn put(&mut self, text: &[u8]) -> Result<(), AllocError>
+        ensures ok { OnOk result (self.new ≡ record self.old {
+          waiting = self.old.waiting ++ text.now;
+        }) }
+        ensures err { OnErr result (self.new ≡ self.old) }
+    {
+        self.waiting.extend_from_slice(text)
+    }
+
     /// Writes the lines that wait, all of them or a front part.
     pub fn write_to<K: Sink>(&mut self, sink: &mut K) -> Result<(), ReplayFault>
         ensures written { OnOk result (Appends (K.taken sink.old)

@@ -15,8 +15,11 @@ mod run;
 mod standard;
 mod transfer;
 
+pub use answers::Answers;
+pub use block::Block;
 pub use device::{Io, Sink, Source};
 pub use laws::law_safe_scripts;
+pub use progress::Progress;
 pub use psci_script::{ReplayFault, Replayed, ScriptFault, law_event_lines};
-pub use run::replay;
+pub use run::{read_board, replay};
 pub use standard::Std;

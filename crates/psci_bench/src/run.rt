@@ -25,7 +25,7 @@ use psci_world::{Board, Present};
 use std::alloc::Global;
 
 /// The board of a first line.
-fn read_board(alloc: Global, line: &[u8]) -> Result<Board, ReplayFault>
+pub fn read_board(alloc: Global, line: &[u8]) -> Result<Board, ReplayFault>
     requires { length line.now ≤ longest_line }
     ensures { BoardRead result line.now }
 {

@@ -40,7 +40,7 @@ struct AckText<'a>(&'a Ack);
 
 /// What was said of an event.
 #[derive(Clone, Copy)]
-struct SaidText<'a>(&'a Said);
+pub struct SaidText<'a>(pub &'a Said);
 
 impl fmt::Display for ActText<'_> {
     ghost use Rattle.std.specs.Prelude.{Some};

@@ -13,7 +13,7 @@ mod limits;
 mod lines;
 mod return_line;
 
-pub use answer_text::Answer;
+pub use answer_text::{Answer, SaidText};
 pub use fault::{ReplayFault, Replayed, ScriptFault};
 pub use grammar::{Line, read_line};
 pub use laws::law_event_lines;

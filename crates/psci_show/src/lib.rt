@@ -17,9 +17,10 @@ mod state;
 mod words;
 
 pub use depth::Depths;
+pub use domain::NodeText;
 pub use names::{
     code_name, depth_name, function_name, kind_name, level_name, mode_name, returned_name,
 };
 pub use sleep::{Sleep, note};
-pub use state::CoreState;
-pub use words::Words;
+pub use state::{CoreState, is_told};
+pub use words::{AskedText, SaidText, Words};

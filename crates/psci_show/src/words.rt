@@ -25,11 +25,15 @@ pub struct Words<'a> {
 
 /// What is asked.
 #[derive(Clone, Copy)]
-struct AskedText<'a> {
-    board: &'a Board,
-    messages: &'a [Message],
-    answered: &'a [u64],
-    event: Event,
+pub struct AskedText<'a> {
+    /// The board.
+    pub board: &'a Board,
+    /// The messages that were sent so far, the oldest first.
+    pub messages: &'a [Message],
+    /// For each acknowledgement so far, the oldest first, the number of its message.
+    pub answered: &'a [u64],
+    /// The event.
+    pub event: Event,
 }
 
 /// The message of an acknowledgement, if there is one.
@@ -69,10 +73,13 @@ struct AppliedText {
 
 /// What is answered.
 #[derive(Clone, Copy)]
-struct SaidText<'a> {
-    board: &'a Board,
-    messages: &'a [Message],
-    item: &'a Record,
+pub struct SaidText<'a> {
+    /// The board.
+    pub board: &'a Board,
+    /// The messages that were sent so far, the oldest first.
+    pub messages: &'a [Message],
+    /// The record.
+    pub item: &'a Record,
 }
 
 /// The item of this number, if there is one.

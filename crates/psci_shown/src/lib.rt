@@ -1,0 +1,24 @@
+//! A script, shown event by event: to people in lines, to programs as JSON objects. What is said of
+//! an event, and what its columns mean, are those of `psci_show`.
+//!
+//! - A *form* is how a run is shown: in lines of a *layout*, or as JSON.
+//! - A *run* is a world with what its words need: the sleep of each core, and of each
+//!   acknowledgement the number of its message.
+//! - The *columns* are the state of each core and the depths of each power domain after an event.
+#![tactic(auto)]
+
+mod columns;
+mod event_json;
+mod form;
+mod json;
+mod legend;
+mod lines;
+mod run;
+mod show;
+mod wrap;
+
+pub use columns::Columns;
+pub use form::{Form, Layout};
+pub use psci_bench::{Io, ReplayFault, Replayed, ScriptFault, Sink, Source, Std};
+pub use run::Run;
+pub use show::show;

@@ -1,0 +1,107 @@
+//! A world, and what is known beside it to say its records in words.
+
+use psci_show::{CoreState, Depths, Sleep, note};
+use psci_world::{Board, Core, Event, Memory, Node, Record, Said, World};
+use std::alloc::Global;
+use std::marker::Model;
+
+/// The world of one board after some events, with the sleep of each core and the message of each
+/// acknowledgement. Contracts see the world alone, whose records give the others.
+#[derive(Drop)]
+pub struct Run {
+    world: World,
+    /// For each acknowledgement, the oldest first, the number of its message.
+    answered: Vec<u64>,
+    /// The sleep of each core, by its number.
+    sleeps: Vec<Option<Sleep>>,
+}
+
+impl Model for Run {
+    ghost use Rattle.psci_world.specs.Seen.{WorldValue};
+    ghost use Rattle.psci_shown.specs.Run.{IsRun};
+
+    ghost Value = { WorldValue };
+
+    ghost view = { λ r. r.world };
+
+    ghost invariant = { λ r. IsRun r.world r.answered.items r.sleeps.items };
+}
+
+ghost use Rattle.std.specs.Prelude.{◌≡◌, ◌<◌, [], ◌∷◌, IfOk, OnOk, OnErr, length, option_map};
+ghost use Rattle.std.specs.Prelude.{reverse, slice_get};
+ghost use Rattle.psci_world.specs.psci_board.Board.{HasNode, cores};
+ghost use Rattle.psci_world.specs.psci_world_spec.Legal.{legal_record};
+ghost use Rattle.psci_show.specs.Columns.{core_state, depths_of, sleep_of};
+ghost use Rattle.psci_shown.specs.Run.{answered, answered_in};
+
+impl Run {
+    /// The run on this board, before any event.
+    pub fn new(alloc: Global, board: &Board) -> Result<Run, Memory>
+        ensures board { IfOk result (λ run. run.board ≡ board.now) }
+        ensures past { IfOk result (λ run. run.past ≡ []) }
+    {
+        let cores = usize::from(board.cores());
+        Ok(Run {
+            world: World::new(alloc, board)?,
+            answered: Vec::new(alloc),
+            sleeps: vec![in alloc; None; cores]?,
+        })
+    }
+
+    /// Makes the event happen in the world; or is out of memory, and nothing happens.
+    pub fn happen(&mut self, event: Event) -> Result<(), Memory>
+        ensures ok { OnOk result (self.new.past
+            ≡ legal_record self.old.board self.old.past event ∷ self.old.past) }
+        ensures board { self.new.board ≡ self.old.board }
+        ensures memory { OnErr result (self.new ≡ self.old) }
+    {
+        let newest = self.world.records().len();
+        self.answered.reserve(1)?;
+        self.world.happen(event)?;
+        let record = &self.world.records()[newest];
+        note(&mut self.sleeps[..], record);
+        if let Some(number) = answered_in(record) {
+            self.answered.push_reserved(number);
+        }
+        Ok(())
+    }
+
+    /// The world.
+    pub fn world(&self) -> &World
+        ensures { result.now ≡ self.now }
+    {
+        &self.world
+    }
+
+    /// For each acknowledgement so far, the oldest first, the number of its message.
+    pub fn answered(&self) -> &[u64]
+        ensures { result.now ≡ reverse (answered self.now.past) }
+    {
+        &self.answered
+    }
+
+    /// The number of the message of the acknowledgement of this number, if there is one.
+    pub fn message_of(&self, number: u64) -> Option<u64>
+        ensures { result ≡ slice_get (reverse (answered self.now.past)) number }
+    {
+        self.answered.get(usize::try_from(number).ok()?).copied()
+    }
+
+    /// The state of a core.
+    pub fn state(&self, core: Core) -> CoreState
+        requires { core.number < cores self.now.board }
+        ensures { result ≡ core_state self.now.board self.now.past core.number }
+    {
+        CoreState::of(&self.world, core, self.sleeps[usize::from(core.number)])
+    }
+}
+
+/// The number of the message of which a record has the acknowledgement, if it has one.
+fn answered_in(record: &Record) -> Option<u64>
+    ensures { result ≡ answered_in record.now.event record.now.said }
+{
+    match (&record.event, &record.said) {
+        (Event::Deliver(number), Said::Acked { .. }) => Some(*number),
+        _ => None,
+    }
+}
