@@ -1,25 +1,29 @@
 //! An event as a JSON object.
 
-use crate::columns::Columns;
-use crate::json::{before, kind_word, place_word, state_word, write_bytes};
+ghost use Rattle.std.specs.Prelude.{◌≡◌, ◌≤◌, ◌++◌, [], OnOk, reverse, string_bytes};
+ghost use Rattle.psci_world.specs.psci_board.Board.{height};
+ghost use Rattle.psci_shown.specs.Json as json;
+ghost use Rattle.psci_shown.specs.Json.{all_depths, cores_members, depths_members, event_object};
+ghost use Rattle.psci_shown.specs.Json.{level_depths, life_members, message_members};
+ghost use Rattle.psci_shown.specs.Json.{parts_text, words_members};
+ghost use Rattle.psci_shown.specs.Run.{answered};
+
+use crate::json::{before, kind_word, place_word, state_word, truth};
+use crate::lines::put;
 use crate::run::Run;
 use psci_script::SaidText as AnswerText;
 use psci_show::{AskedText, Depths, SaidText, is_told};
-use psci_world::{Ack, Core, Event, Part, Record, Regs, Said, Sent};
+use psci_world::{Ack, Core, Event, Node, Part, Record, Regs, Said, Sent};
 use std::alloc::AllocError;
 use std::fmt;
 
-/// An event.
+/// The members of an event.
 #[derive(Clone, Copy)]
 struct EventText<'a>(&'a Event);
 
 /// A part of a message: level, depth and generation.
 #[derive(Clone, Copy)]
 struct PartText<'a>(&'a Part);
-
-/// A message that was sent, but for its parts.
-#[derive(Clone, Copy)]
-struct SentText<'a>(&'a Sent);
 
 /// An acknowledgement that was made, of the message of a number.
 #[derive(Clone, Copy)]
@@ -29,13 +33,23 @@ struct AckText<'a> {
     ack: &'a Ack,
 }
 
+/// The life, if there is one.
+#[derive(Clone, Copy)]
+struct LifeText(Option<u32>);
+
 impl fmt::Display for EventText<'_> {
+    ghost use Rattle.std.specs.Prelude.{Some};
+    ghost use Rattle.psci_shown.specs.Json.{event_text};
+
+    ghost output = { λ text. Some (event_text text.0.now) };
+
     fn fmt<W: fmt::Write>(&self, f: &mut fmt::Formatter<W>) -> fmt::Result {
         match self.0 {
-            Event::Call(core, Regs { x0, x1, x2, x3 }) => {
-                write!(f, "\"kind\": \"call\", \"number\": {core}, \"registers\": ")?;
-                write!(f, "[\"0x{x0:x}\", \"0x{x1:x}\", \"0x{x2:x}\", \"0x{x3:x}\"]")
-            }
+            Event::Call(core, Regs { x0, x1, x2, x3 }) => write!(
+                f,
+                "\"kind\": \"call\", \"number\": {core}, \"registers\": \
+                 [\"0x{x0:x}\", \"0x{x1:x}\", \"0x{x2:x}\", \"0x{x3:x}\"]"
+            ),
             Event::Enter(core) => write!(f, "\"kind\": \"enter\", \"number\": {core}"),
             Event::Wake(core) => write!(f, "\"kind\": \"wake\", \"number\": {core}"),
             Event::Reset(core) => write!(f, "\"kind\": \"reset\", \"number\": {core}"),
@@ -46,6 +60,11 @@ impl fmt::Display for EventText<'_> {
 }
 
 impl fmt::Display for PartText<'_> {
+    ghost use Rattle.std.specs.Prelude.{Some};
+    ghost use Rattle.psci_shown.specs.Json.{part_text};
+
+    ghost output = { λ text. Some (part_text text.0.now) };
+
     fn fmt<W: fmt::Write>(&self, f: &mut fmt::Formatter<W>) -> fmt::Result {
         let Part {
             level,
@@ -56,20 +75,12 @@ impl fmt::Display for PartText<'_> {
     }
 }
 
-impl fmt::Display for SentText<'_> {
-    fn fmt<W: fmt::Write>(&self, f: &mut fmt::Formatter<W>) -> fmt::Result {
-        let message = &self.0.message;
-        let index = self.0.index;
-        let kind = kind_word(message.kind);
-        let core = message.core.number;
-        let life = message.life;
-        let number = message.number;
-        write!(f, "\"index\": {index}, \"kind\": \"{kind}\", \"core\": {core}, ")?;
-        write!(f, "\"life\": {life}, \"number\": {number}")
-    }
-}
-
 impl fmt::Display for AckText<'_> {
+    ghost use Rattle.std.specs.Prelude.{Some};
+    ghost use Rattle.psci_shown.specs.Json.{ack_text};
+
+    ghost output = { λ text. Some (ack_text text.index text.message text.ack.now) };
+
     fn fmt<W: fmt::Write>(&self, f: &mut fmt::Formatter<W>) -> fmt::Result {
         let AckText {
             index,
@@ -81,15 +92,34 @@ impl fmt::Display for AckText<'_> {
         let life = ack.life;
         let number = ack.number;
         let applied = ack.applied;
-        let stale = ack.stale;
-        write!(f, "\"index\": {index}, \"message\": {message}, \"kind\": \"{kind}\", ")?;
-        write!(f, "\"core\": {core}, \"life\": {life}, \"number\": {number}, ")?;
-        write!(f, "\"applied\": {applied}, \"stale\": {stale}")
+        let stale = truth(ack.stale);
+        write!(
+            f,
+            "{{\"index\": {index}, \"message\": {message}, \"kind\": \"{kind}\", \"core\": {core}, \
+             \"life\": {life}, \"number\": {number}, \"applied\": {applied}, \"stale\": {stale}}}"
+        )
+    }
+}
+
+impl fmt::Display for LifeText {
+    ghost use Rattle.std.specs.Prelude.{Some};
+    ghost use Rattle.psci_shown.specs.Json.{life_text};
+
+    ghost output = { λ text. Some (life_text text.0) };
+
+    fn fmt<W: fmt::Write>(&self, f: &mut fmt::Formatter<W>) -> fmt::Result {
+        match self.0 {
+            Some(life) => write!(f, "{life}"),
+            None => write!(f, "null"),
+        }
     }
 }
 
 /// Writes the words of an event and of its answer.
-fn write_words(out: &mut String, run: &Run, item: &Record) -> Result<(), AllocError> {
+fn write_words(out: &mut String, run: &Run, item: &Record) -> Result<(), AllocError>
+    ensures { OnOk result (string_bytes out.new
+        ≡ string_bytes out.old ++ words_members run.now.board run.now.past item.now) }
+{
     let board = run.world().board();
     let messages = run.world().messages();
     let asked = AskedText {
@@ -104,64 +134,131 @@ fn write_words(out: &mut String, run: &Run, item: &Record) -> Result<(), AllocEr
         item,
     };
     let answer = AnswerText(&item.said);
-    write!(out, "\"asked\": \"{asked}\", \"answer\": \"{answer}\", \"said\": \"{said}\"")
+    write!(out, ", \"asked\": \"{asked}\", \"answer\": \"{answer}\", \"said\": \"{said}\"")
 }
 
 /// Writes the state and the place of each core.
-fn write_cores(out: &mut String, run: &Run, columns: &Columns) -> Result<(), AllocError> {
-    out.push_str(", \"cores\": [")?;
-    let mut between = "";
-    for state in &columns.cores {
-        write!(out, "{between}\"{}\"", state_word(*state))?;
-        between = ", ";
-    }
-    out.push_str("], \"places\": [")?;
+fn write_cores(out: &mut String, run: &Run) -> Result<(), AllocError>
+    ensures { OnOk result (string_bytes out.new
+        ≡ string_bytes out.old ++ cores_members run.now.board run.now.past) }
+{
+    write!(out, ", \"cores\": [")?;
     for number in 0..run.world().board().cores() {
-        let place = place_word(run.world().place(Core { number }));
-        write!(out, "{}\"{place}\"", before(usize::from(number)))?;
+        let between = before(usize::from(number));
+        let state = state_word(run.state(Core { number }));
+        write!(out, "{between}\"{state}\"")?;
     }
-    out.push_str("], ")?;
+    write!(out, "], \"places\": [")?;
+    'places: for number in 0..run.world().board().cores() {
+        let between = before(usize::from(number));
+        let place = place_word(run.world().place(Core { number }));
+        write!(out, "{between}\"{place}\"")?;
+    }
+    write!(out, "]")
+}
+
+/// A depth, or the granted one.
+fn depth_in(granted: bool, depths: Depths) -> u8
+    ensures { result ≡ json.depth_in granted depths }
+{
+    if granted { depths.granted } else { depths.depth }
+}
+
+/// Writes the depths of a level, or the granted ones.
+fn write_level(out: &mut String, run: &Run, level: u32, granted: bool) -> Result<(), AllocError>
+    requires { level ≤ height run.now.board }
+    ensures { OnOk result (string_bytes out.new
+        ≡ string_bytes out.old ++ level_depths granted run.now.board run.now.past level) }
+{
+    write!(out, "[")?;
+    for place in 0..run.world().board().nodes(level) {
+        let between = before(usize::from(place));
+        let depth = depth_in(granted, run.depths(Node { level, place }));
+        write!(out, "{between}{depth}")?;
+    }
+    write!(out, "]")
+}
+
+/// Writes the depths of all levels, or the granted ones.
+fn write_all(out: &mut String, run: &Run, granted: bool) -> Result<(), AllocError>
+    ensures { OnOk result (string_bytes out.new
+        ≡ string_bytes out.old ++ all_depths granted run.now.board run.now.past) }
+{
+    write!(out, "[")?;
+    for level in 0..run.world().board().height() + 1 {
+        write!(out, "{}", before(level as usize))?;
+        write_level(out, run, level, granted)?;
+    }
+    write!(out, "]")
+}
+
+/// Writes all depths, and the granted ones where the firmware has learned of the life.
+fn write_depths(out: &mut String, run: &Run) -> Result<(), AllocError>
+    ensures { OnOk result (string_bytes out.new
+        ≡ string_bytes out.old ++ depths_members run.now.board run.now.past) }
+{
+    write!(out, ", \"depths\": ")?;
+    write_all(out, run, false)?;
+    write!(out, ", \"granted\": ")?;
+    if is_told(run.world()) {
+        write_all(out, run, true)
+    } else {
+        write!(out, "null")
+    }
+}
+
+/// Writes the parts of a message.
+fn write_parts(out: &mut String, parts: &[Part]) -> Result<(), AllocError>
+    ensures { OnOk result (string_bytes out.new ≡ string_bytes out.old ++ parts_text parts.now) }
+{
+    let Some((first, rest)) = parts.split_first() else {
+        return Ok(());
+    };
+    write!(out, "{}", PartText(first))?;
+    for part in rest {
+        write!(out, ", {}", PartText(part))?;
+    }
     Ok(())
 }
 
-/// Writes the depths of all levels, or where that is asked the granted ones.
-fn write_depths(out: &mut String, levels: &[Vec<Depths>], granted: bool) -> Result<(), AllocError> {
-    let mut before_level = "[[";
-    for level in levels {
-        out.push_str(before_level)?;
-        let mut between = "";
-        for depths in level {
-            let depth = if granted { depths.granted } else { depths.depth };
-            write!(out, "{between}{depth}")?;
-            between = ", ";
-        }
-        before_level = "], [";
-    }
-    out.push_str("]]")?;
-    Ok(())
+/// Writes a message that was sent.
+fn write_sent(out: &mut String, sent: &Sent) -> Result<(), AllocError>
+    ensures { OnOk result (string_bytes out.new
+        ≡ string_bytes out.old ++ json.sent_text sent.now) }
+{
+    let message = &sent.message;
+    let index = sent.index;
+    let kind = kind_word(message.kind);
+    let core = message.core.number;
+    let life = message.life;
+    let number = message.number;
+    write!(
+        out,
+        "{{\"index\": {index}, \"kind\": \"{kind}\", \"core\": {core}, \"life\": {life}, \
+         \"number\": {number}, \"parts\": ["
+    )?;
+    write_parts(out, message.parts.as_slice())?;
+    write!(out, "]}}")
 }
 
 /// Writes the message that was sent, if one was.
-fn write_sent(out: &mut String, said: &Said) -> Result<(), AllocError> {
-    let Said::Fw {
-        sent: Some(sent),
-        ..
-    } = said
-    else {
-        return write!(out, "\"sent\": null");
-    };
-    write!(out, "\"sent\": {{{}, \"parts\": [", SentText(sent))?;
-    let mut between = "";
-    for part in sent.message.parts.as_slice() {
-        write!(out, "{between}{}", PartText(part))?;
-        between = ", ";
+fn write_sent_in(out: &mut String, said: &Said) -> Result<(), AllocError>
+    ensures { OnOk result (string_bytes out.new ≡ string_bytes out.old ++ json.sent_in said.now) }
+{
+    match said {
+        Said::Fw {
+            sent: Some(sent),
+            ..
+        } => write_sent(out, sent),
+        _ => write!(out, "null"),
     }
-    out.push_str("]}")?;
-    Ok(())
 }
 
-/// Writes the acknowledgement that was made, and that which was taken.
-fn write_acks(out: &mut String, run: &Run, item: &Record) -> Result<(), AllocError> {
+/// Writes the acknowledgement that was made, if one was.
+fn write_made_in(out: &mut String, item: &Record) -> Result<(), AllocError>
+    ensures { OnOk result (string_bytes out.new
+        ≡ string_bytes out.old ++ json.made_in item.now.event item.now.said) }
+{
     match (&item.event, &item.said) {
         (Event::Deliver(message), Said::Acked { index, ack }) => {
             let made = AckText {
@@ -169,49 +266,71 @@ fn write_acks(out: &mut String, run: &Run, item: &Record) -> Result<(), AllocErr
                 message: *message,
                 ack,
             };
-            write!(out, ", \"acknowledged\": {{{made}}}, \"taken\": null")
+            write!(out, "{made}")
         }
-        (Event::Take(index), Said::Taken(_)) => {
-            let message = run.message_of(*index).unwrap_or(0);
-            write!(out, ", \"acknowledged\": null, \"taken\": ")?;
-            write!(out, "{{\"index\": {index}, \"message\": {message}}}")
-        }
-        _ => write!(out, ", \"acknowledged\": null, \"taken\": null"),
+        _ => write!(out, "null"),
     }
 }
 
-/// Writes the life, and whether the firmware is in it and not halting.
-fn write_life(out: &mut String, run: &Run) -> Result<(), AllocError> {
-    let live = is_told(run.world()) && !run.world().firmware().halting();
-    match run.world().controller().life() {
-        Some(life) => writeln!(out, ", \"life\": {life}, \"live\": {live}}}"),
-        None => writeln!(out, ", \"life\": null, \"live\": {live}}}"),
+/// Writes the acknowledgement that was taken, if one was.
+fn write_taken_in(out: &mut String, run: &Run, item: &Record) -> Result<(), AllocError>
+    ensures { OnOk result (string_bytes out.new ≡ string_bytes out.old
+        ++ json.taken_in (reverse (answered run.now.past)) item.now.event item.now.said) }
+{
+    match (&item.event, &item.said) {
+        (Event::Take(index), Said::Taken(_)) => {
+            let message = run.message_of(*index).unwrap_or(0);
+            write!(out, "{{\"index\": {index}, \"message\": {message}}}")
+        }
+        _ => write!(out, "null"),
     }
+}
+
+/// Writes what happened to messages and acknowledgements.
+fn write_messages(out: &mut String, run: &Run, item: &Record) -> Result<(), AllocError>
+    ensures { OnOk result (string_bytes out.new ≡ string_bytes out.old
+        ++ message_members (reverse (answered run.now.past)) item.now) }
+{
+    write!(out, ", \"sent\": ")?;
+    write_sent_in(out, &item.said)?;
+    write!(out, ", \"acknowledged\": ")?;
+    write_made_in(out, item)?;
+    write!(out, ", \"taken\": ")?;
+    write_taken_in(out, run, item)
+}
+
+/// Writes the life, and whether the firmware is in it and not halting.
+fn write_life(out: &mut String, run: &Run) -> Result<(), AllocError>
+    ensures { OnOk result (string_bytes out.new
+        ≡ string_bytes out.old ++ life_members run.now.board run.now.past) }
+{
+    let live = truth(is_told(run.world()) && !run.world().firmware().halting());
+    let life = LifeText(run.world().controller().life());
+    writeln!(out, ", \"life\": {life}, \"live\": {live}}}")
 }
 
 /// Writes the object of the newest event, which this line says.
 pub fn write_event(
-    out: &mut String,
+    out: &mut Vec<u8>,
+    text: &mut String,
     run: &Run,
-    item: &Record,
-    columns: &Columns,
     line: &[u8],
-) -> Result<(), AllocError> {
-    write!(out, "{{\"number\": {}, \"line\": \"", run.world().records().len())?;
-    write_bytes(out, line)?;
-    write!(out, "\", \"event\": {{{}}}, ", EventText(&item.event))?;
-    write_words(out, run, item)?;
-    write_cores(out, run, columns)?;
-    out.push_str("\"depths\": ")?;
-    write_depths(out, &columns.depths, false)?;
-    out.push_str(", \"granted\": ")?;
-    if is_told(run.world()) {
-        write_depths(out, &columns.depths, true)?;
-    } else {
-        out.push_str("null")?;
-    }
-    out.push_str(", ")?;
-    write_sent(out, &item.said)?;
-    write_acks(out, run, item)?;
-    write_life(out, run)
+) -> Result<(), AllocError>
+    requires { string_bytes text.old ≡ [] }
+    ensures { OnOk result (out.new.items
+        ≡ out.old.items ++ event_object run.now.board run.now.past line.now) }
+{
+    let Some(item) = run.newest() else {
+        return Ok(());
+    };
+    write!(text, "{{\"number\": {}, \"line\": \"", run.world().records().len())?;
+    put(out, text)?;
+    out.extend_from_slice(line)?;
+    write!(text, "\", \"event\": {{{}}}", EventText(&item.event))?;
+    write_words(text, run, item)?;
+    write_cores(text, run)?;
+    write_depths(text, run)?;
+    write_messages(text, run, item)?;
+    write_life(text, run)?;
+    put(out, text)
 }

@@ -1,11 +1,21 @@
 //! A board as a JSON object, and the words that JSON has for states and kinds.
 
+ghost use Rattle.std.specs.Prelude.{◌≡◌, ◌==◌, ◌≤◌, ◌++◌, [], OnOk, string_bytes};
+ghost use Rattle.std.specs.Prelude.{if◌then◌else◌};
+ghost use Rattle.psci_world.specs.psci_board.Board.{cores_below, height};
+ghost use Rattle.psci_shown.specs.Joined.{comma};
+ghost use Rattle.psci_shown.specs.Json as json;
+ghost use Rattle.psci_shown.specs.Json.{board_object, domain_text, domains_text, span_text};
+
+use crate::lines::put;
 use psci_show::{CoreState, NodeText};
 use psci_world::{Board, Kind, Node, Place};
 use std::alloc::AllocError;
 
 /// The word of a state.
-pub fn state_word(state: CoreState) -> &'static str {
+pub fn state_word(state: CoreState) -> &'static str
+    ensures { result.now ≡ json.state_word state }
+{
     match state {
         CoreState::Running => "running",
         CoreState::Started => "started",
@@ -19,7 +29,9 @@ pub fn state_word(state: CoreState) -> &'static str {
 }
 
 /// The word of a place.
-pub fn place_word(place: Place) -> &'static str {
+pub fn place_word(place: Place) -> &'static str
+    ensures { result.now ≡ json.place_word place }
+{
     match place {
         Place::Started => "started",
         Place::Running => "running",
@@ -28,7 +40,9 @@ pub fn place_word(place: Place) -> &'static str {
 }
 
 /// The word of a kind of message.
-pub fn kind_word(kind: Kind) -> &'static str {
+pub fn kind_word(kind: Kind) -> &'static str
+    ensures { result.now ≡ json.kind_word kind }
+{
     match kind {
         Kind::Down => "down",
         Kind::Start => "start",
@@ -37,54 +51,79 @@ pub fn kind_word(kind: Kind) -> &'static str {
     }
 }
 
+/// The word of a truth.
+pub fn truth(holds: bool) -> &'static str
+    ensures { result.now ≡ json.truth holds }
+{
+    if holds { "true" } else { "false" }
+}
+
 /// What stands before the item of this number in a list.
-pub fn before(number: usize) -> &'static str {
+pub fn before(number: usize) -> &'static str
+    ensures { result.now ≡ (if number == 0 then [] else comma) }
+{
     if number == 0 { "" } else { ", " }
 }
 
-/// Writes bytes, each as the character of its number.
-pub fn write_bytes(out: &mut String, bytes: &[u8]) -> Result<(), AllocError> {
-    for byte in bytes {
-        out.push(char::from(*byte))?;
+/// Writes the numbers of the cores below a power domain.
+fn write_span(out: &mut String, board: &Board, node: Node) -> Result<(), AllocError>
+    ensures { OnOk result (string_bytes out.new
+        ≡ string_bytes out.old ++ span_text (cores_below board.now node)) }
+{
+    let Some(span) = board.cores_below(node) else {
+        return Ok(());
+    };
+    for number in 0..span.count {
+        let between = before(usize::from(number));
+        let core = u32::from(span.first) + u32::from(number);
+        write!(out, "{between}{core}")?;
     }
     Ok(())
 }
 
-/// Writes the numbers of the cores below a power domain.
-fn write_cores(out: &mut String, board: &Board, node: Node) -> Result<(), AllocError> {
-    if let Some(span) = board.cores_below(node) {
-        for number in 0..span.count {
-            let between = before(usize::from(number));
-            write!(out, "{between}{}", span.first + number)?;
-        }
-    }
-    Ok(())
+/// Writes a power domain.
+fn write_domain(out: &mut String, board: &Board, node: Node) -> Result<(), AllocError>
+    ensures { OnOk result (string_bytes out.new
+        ≡ string_bytes out.old ++ domain_text board.now node) }
+{
+    let name = NodeText { board, node };
+    write!(out, "{{\"name\": \"{name}\", \"cores\": [")?;
+    write_span(out, board, node)?;
+    write!(out, "]}}")
 }
 
 /// Writes the power domains of a level.
-fn write_level(out: &mut String, board: &Board, level: u32) -> Result<(), AllocError> {
+fn write_domains(out: &mut String, board: &Board, level: u32) -> Result<(), AllocError>
+    requires { level ≤ height board.now }
+    ensures { OnOk result (string_bytes out.new
+        ≡ string_bytes out.old ++ domains_text board.now level) }
+{
+    write!(out, "[")?;
     for place in 0..board.nodes(level) {
-        let node = Node { level, place };
-        let between = before(usize::from(place));
-        write!(out, "{between}{{\"name\": \"{}\", \"cores\": [", NodeText { board, node })?;
-        write_cores(out, board, node)?;
-        out.push_str("]}")?;
+        write!(out, "{}", before(usize::from(place)))?;
+        write_domain(out, board, Node { level, place })?;
     }
-    Ok(())
+    write!(out, "]")
 }
 
 /// Writes the object of a board of this text.
-pub fn write_board(out: &mut String, text: &[u8], board: &Board) -> Result<(), AllocError> {
-    write!(out, "{{\"board\": \"")?;
-    write_bytes(out, text)?;
-    let cores = board.cores();
-    write!(out, "\", \"cores\": {cores}, \"domains\": [")?;
+pub fn write_board(
+    out: &mut Vec<u8>,
+    text: &mut String,
+    line: &[u8],
+    board: &Board,
+) -> Result<(), AllocError>
+    requires { string_bytes text.old ≡ [] }
+    ensures { OnOk result (out.new.items ≡ out.old.items ++ board_object line.now board.now) }
+{
+    write!(text, "{{\"board\": \"")?;
+    put(out, text)?;
+    out.extend_from_slice(line)?;
+    write!(text, "\", \"cores\": {}, \"domains\": [", board.cores())?;
     for level in 0..board.height() + 1 {
-        let between = before(level as usize);
-        write!(out, "{between}[")?;
-        write_level(out, board, level)?;
-        out.push(']')?;
+        write!(text, "{}", before(level as usize))?;
+        write_domains(text, board, level)?;
     }
-    out.push_str("]}\n")?;
-    Ok(())
+    writeln!(text, "]}}")?;
+    put(out, text)
 }

@@ -4,20 +4,21 @@
 //! - A *form* is how a run is shown: in lines of a *layout*, or as JSON.
 //! - A *run* is a world with what its words need: the sleep of each core, and of each
 //!   acknowledgement the number of its message.
-//! - The *columns* are the state of each core and the depths of each power domain after an event.
+//! - The *row* of an event has the state of each core and the depths of each power domain after it,
+//!   its *entries* say the same by names.
 #![tactic(auto)]
 
-mod columns;
+mod entries;
 mod event_json;
 mod form;
 mod json;
 mod legend;
 mod lines;
+mod row;
 mod run;
 mod show;
 mod wrap;
 
-pub use columns::Columns;
 pub use form::{Form, Layout};
 pub use psci_bench::{Io, ReplayFault, Replayed, ScriptFault, Sink, Source, Std};
 pub use run::Run;

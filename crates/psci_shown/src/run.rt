@@ -1,6 +1,6 @@
 //! A world, and what is known beside it to say its records in words.
 
-use psci_show::{CoreState, Depths, Sleep, note};
+use psci_show::{CoreState, Depths, Sleep, Words, note};
 use psci_world::{Board, Core, Event, Memory, Node, Record, Said, World};
 use std::alloc::Global;
 use std::marker::Model;
@@ -27,12 +27,14 @@ impl Model for Run {
     ghost invariant = { λ r. IsRun r.world r.answered.items r.sleeps.items };
 }
 
-ghost use Rattle.std.specs.Prelude.{◌≡◌, ◌<◌, [], ◌∷◌, IfOk, OnOk, OnErr, length, option_map};
-ghost use Rattle.std.specs.Prelude.{reverse, slice_get};
+ghost use Rattle.std.specs.Prelude.{◌≡◌, ◌<◌, [], ◌∷◌, IfOk, OnOk, OnErr, option_map, reverse};
+ghost use Rattle.std.specs.Prelude.{slice_get};
 ghost use Rattle.psci_world.specs.psci_board.Board.{HasNode, cores};
 ghost use Rattle.psci_world.specs.psci_world_spec.Legal.{legal_record};
-ghost use Rattle.psci_show.specs.Columns.{core_state, depths_of, sleep_of};
-ghost use Rattle.psci_shown.specs.Run.{answered, answered_in};
+ghost use Rattle.psci_show.specs.Columns.{core_state};
+ghost use Rattle.psci_shown.specs.Run as run;
+ghost use Rattle.psci_shown.specs.Run.{answered, shown_depths, words_of};
+ghost use Rattle.psci_show.specs.Words.{words_text};
 
 impl Run {
     /// The run on this board, before any event.
@@ -87,6 +89,26 @@ impl Run {
         self.answered.get(usize::try_from(number).ok()?).copied()
     }
 
+    /// The newest record, if there is one.
+    pub fn newest(&self) -> Option<&Record>
+        ensures { option_map (λ r. r.now) result ≡ slice_get self.now.past 0 }
+    {
+        self.world.records().last()
+    }
+
+    /// What a record says, after all records.
+    pub fn words<'a>(&'a self, item: &'a Record) -> Words<'a>
+        ensures { (λ words. words_text words.board.now words.messages.now words.answered.now
+            words.item.now) result ≡ words_of self.now.board self.now.past item.now }
+    {
+        Words {
+            board: self.world.board(),
+            messages: self.world.messages(),
+            answered: &self.answered,
+            item,
+        }
+    }
+
     /// The state of a core.
     pub fn state(&self, core: Core) -> CoreState
         requires { core.number < cores self.now.board }
@@ -94,11 +116,22 @@ impl Run {
     {
         CoreState::of(&self.world, core, self.sleeps[usize::from(core.number)])
     }
+
+    /// The depths of a power domain: without a life it is powered down, as granted.
+    pub fn depths(&self, node: Node) -> Depths
+        requires { HasNode self.now.board node }
+        ensures { result ≡ shown_depths self.now.board self.now.past node }
+    {
+        Depths::of(&self.world, node).unwrap_or(Depths {
+            depth: 3,
+            granted: 3,
+        })
+    }
 }
 
 /// The number of the message of which a record has the acknowledgement, if it has one.
 fn answered_in(record: &Record) -> Option<u64>
-    ensures { result ≡ answered_in record.now.event record.now.said }
+    ensures { result ≡ run.answered_in record.now.event record.now.said }
 {
     match (&record.event, &record.said) {
         (Event::Deliver(number), Said::Acked { .. }) => Some(*number),

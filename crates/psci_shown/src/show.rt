@@ -1,15 +1,14 @@
 //! Scripts, shown event by event.
 
-use crate::columns::Columns;
 use crate::event_json::write_event;
 use crate::form::Form;
 use crate::json::write_board;
-use crate::legend::write_legend;
-use crate::lines::write_lines;
+use crate::legend::Legend;
+use crate::lines::{put, write_lines};
 use crate::run::Run;
 use psci_bench::{Answers, Block, Progress, Sink, Source, read_board};
 use psci_script::{Extent, Line, ReplayFault, Replayed, ScriptFault, read_line};
-use psci_show::Words;
+use psci_world::Board;
 use std::alloc::{AllocError, Global};
 
 /// How a script is shown, and the room for its texts.
@@ -18,8 +17,8 @@ struct Shower {
     alloc: Global,
     form: Form,
     /// What is written next.
-    out: String,
-    /// The words of an event.
+    out: Vec<u8>,
+    /// A text that becomes part of it.
     text: String,
 }
 
@@ -29,55 +28,45 @@ impl Shower {
         Shower {
             alloc,
             form,
-            out: String::new(alloc),
+            out: Vec::new(alloc),
             text: String::new(alloc),
         }
     }
 
-    /// What stands before all events, of a board line that was read.
-    fn head(&mut self, run: &Run, line: &[u8]) -> Result<(), AllocError> {
-        self.out.clear();
+    /// What stands before the script is read.
+    fn open(&mut self) -> Result<(), AllocError> {
+        self.clear();
         match self.form {
-            Form::Lines(_) => Ok(()),
-            Form::Json => write_board(&mut self.out, line, run.world().board()),
+            Form::Lines(layout) if layout.legend => {
+                write!(self.text, "{}", Legend)?;
+                put(&mut self.out, &mut self.text)
+            }
+            _ => Ok(()),
         }
     }
 
-    /// What stands before the script is read.
-    fn legend(&mut self) -> Result<(), AllocError> {
-        self.out.clear();
+    /// What stands before all events, of a board of this text.
+    fn board(&mut self, line: &[u8], board: &Board) -> Result<(), AllocError> {
+        self.clear();
         match self.form {
-            Form::Lines(layout) if layout.legend => write_legend(&mut self.out),
-            _ => Ok(()),
+            Form::Lines(_) => Ok(()),
+            Form::Json => write_board(&mut self.out, &mut self.text, line, board),
         }
     }
 
     /// The newest event, which this line says.
     fn event(&mut self, run: &Run, line: &[u8]) -> Result<(), AllocError> {
+        self.clear();
+        match self.form {
+            Form::Lines(layout) => write_lines(&mut self.out, &mut self.text, run, layout),
+            Form::Json => write_event(&mut self.out, &mut self.text, run, line),
+        }
+    }
+
+    /// Forgets all texts.
+    fn clear(&mut self) {
         self.out.clear();
-        let Some(item) = run.world().records().last() else {
-            return Ok(());
-        };
-        let columns = Columns::of(self.alloc, run)?;
-        let Form::Lines(layout) = self.form else {
-            return write_event(&mut self.out, run, item, &columns, line);
-        };
-        let words = Words {
-            board: run.world().board(),
-            messages: run.world().messages(),
-            answered: run.answered(),
-            item,
-        };
         self.text.clear();
-        write!(self.text, "{words}")?;
-        write_lines(
-            &mut self.out,
-            &mut self.text,
-            run.world().records().len(),
-            run.world().board(),
-            &columns,
-            layout,
-        )
     }
 }
 
@@ -92,8 +81,8 @@ fn begin<S: Source, K: Sink>(
     let line = &progress.block.unread()[..extent.line];
     let board = read_board(shower.alloc, line)?;
     let run = Run::new(shower.alloc, &board)?;
-    shower.head(&run, line.get(6..).unwrap_or(&[]))?;
-    progress.answers.put(shower.out.as_bytes())?;
+    shower.board(line.get(6..).unwrap_or(&[]), &board)?;
+    progress.answers.put(&shower.out)?;
     progress.block.skip(extent.taken);
     Ok(run)
 }
@@ -113,7 +102,7 @@ fn take_line<S: Source, K: Sink>(
         Some(Line::Event(event)) => {
             run.happen(event)?;
             shower.event(run, line)?;
-            progress.answers.put(shower.out.as_bytes())?;
+            progress.answers.put(&shower.out)?;
         }
     }
     progress.block.skip(extent.taken);
@@ -125,8 +114,8 @@ fn run_lines<S: Source, K: Sink>(
     progress: &mut Progress<'_, '_, S, K>,
     shower: &mut Shower,
 ) -> Result<Replayed, ReplayFault> {
-    shower.legend()?;
-    progress.answers.put(shower.out.as_bytes())?;
+    shower.open()?;
+    progress.answers.put(&shower.out)?;
     let mut run = begin(progress, shower)?;
     let mut lines: u64 = 1;
     'lines: while let Some(extent) = progress.next_line(lines + 1)? {

@@ -1,40 +1,55 @@
 //! Text in lines of a width.
 
+ghost use Rattle.std.specs.Prelude.{◌≡◌, ◌++◌, OnOk};
+ghost use Rattle.psci_shown.specs.Wrap as wrap;
+ghost use Rattle.psci_shown.specs.Wrap.{spaces, wrapped};
+
 use std::alloc::AllocError;
 
-/// Writes spaces.
-pub fn indent(out: &mut String, spaces: usize) -> Result<(), AllocError> {
-    for _ in 0..spaces {
-        out.push(' ')?;
+/// Writes this many spaces.
+pub fn write_spaces(out: &mut Vec<u8>, count: usize) -> Result<(), AllocError>
+    ensures { OnOk result (out.new.items ≡ out.old.items ++ spaces count) }
+{
+    for _done in 0..count {
+        out.push(b' ')?;
     }
     Ok(())
 }
 
-/// Writes a text that stands behind an indent, in lines with room for so many bytes. It is broken
-/// at this character alone, and in no word; each break begins a line with the indent, and elsewhere
-/// a space stands in place of the character. A line feed ends it.
+/// How long the word at the front is, which ends before this byte.
+fn word_length(at: u8, text: &[u8]) -> usize
+    ensures { result ≡ wrap.word_length at text.now }
+{
+    text.iter().position(|byte| *byte == at).unwrap_or(text.len())
+}
+
+/// Writes a text that stands behind an indent, in lines with room for so many bytes, and a line
+/// feed. It is broken at this byte alone, where the next word has no room; a space stands in the
+/// place of each other such byte.
 pub fn wrap(
-    out: &mut String,
-    text: &str,
-    at: char,
-    spaces: usize,
+    out: &mut Vec<u8>,
+    text: &[u8],
+    at: u8,
+    indent: usize,
     room: usize,
-) -> Result<(), AllocError> {
+) -> Result<(), AllocError>
+    ensures { OnOk result (out.new.items
+        ≡ out.old.items ++ wrapped at indent room 0 text.now) }
+{
     let mut column: usize = 0;
-    for word in text.split(at) {
-        let end = column.saturating_add(1).saturating_add(word.len());
-        if column == 0 {
-            column = word.len();
-        } else if end <= room {
-            out.push(' ')?;
-            column = end;
+    for (index, byte) in text.iter().enumerate() {
+        if *byte != at {
+            out.push(*byte)?;
+            column += 1;
+        } else if column + 1 + word_length(at, &text[index + 1..]) <= room {
+            out.push(b' ')?;
+            column += 1;
         } else {
-            out.push('\n')?;
-            indent(out, spaces)?;
-            column = word.len();
+            out.push(b'\n')?;
+            write_spaces(out, indent)?;
+            column = 0;
         }
-        out.push_str(word)?;
     }
-    out.push('\n')?;
+    out.push(b'\n')?;
     Ok(())
 }
