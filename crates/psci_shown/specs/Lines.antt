@@ -1,9 +1,10 @@
 -- An event in lines: its number and its columns, and behind or below them what was asked and what
 -- was answered.
 use Rattle.std.specs.Prelude.{ℕ, ◌==◌, ◌+◌, ◌*◌, ◌-◌, ◌/◌, ◌&&◌, Bool, true, false, List, [], ◌∷◌}
-use Rattle.std.specs.Prelude.{◌++◌, codes, drop, length, max, nat_lt, suc, if◌then◌else◌}
+use Rattle.std.specs.Prelude.{◌++◌, codes, drop, length, max, nat_lt, suc, zero, if◌then◌else◌}
 use Rattle.std.specs.Fmt.{decimal}
 use Rattle.psci_world.specs.psci_board.Board.{BoardValue, cores, height, nodes}
+use Rattle.psci_world.specs.psci_board.declared.node.Node.{Node}
 use Rattle.psci_world.specs.psci_world_spec.declared.said.Record.{Record}
 use Rattle.psci_show.specs.Columns.{core_state, depths_text, letter_of}
 use Rattle.psci_show.specs.Words.{node_text}
@@ -56,7 +57,7 @@ row_text color b past =
 
 -- how wide the lowest levels are
 abbrev pub levels_width : BoardValue → ℕ → ℕ
-levels_width b 0 = 0
+levels_width b zero = 0
 levels_width b (suc level) = levels_width b level + (3 * nodes b level + 1)
 
 -- how wide a row is: a letter for each core; for each level a space, and three columns a domain
@@ -89,14 +90,21 @@ domain_entry name depths =
     (if depths.depth == 3 && depths.granted == 3 then []
     else entry_start ++ (name ++ (codes ": " ++ marked_text depths)))
 
--- what is said of each power domain of a level, each on a line
+-- the entry of a power domain after these records
+abbrev pub entry_of : BoardValue → List Record → Node → List ℕ
+entry_of b past n =
+    (if n.level == 0
+    then core_entry (node_text b n) (core_state b past n.place) (shown_depths b past n)
+    else domain_entry (node_text b n) (shown_depths b past n))
+
+-- those of the first power domains of a level
+abbrev pub first_entries : BoardValue → List Record → ℕ → ℕ → List ℕ
+first_entries b past level count =
+    joined [] (λ place. entry_of b past (record { level = level; place = place })) count
+
+-- those of a level
 abbrev pub entries_of : BoardValue → List Record → ℕ → List ℕ
-entries_of b past 0 =
-    joined [] (λ c. let n = record { level = 0; place = c } in
-    core_entry (node_text b n) (core_state b past c) (shown_depths b past n)) (cores b)
-entries_of b past (suc below) =
-    joined [] (λ place. let n = record { level = suc below; place = place } in
-    domain_entry (node_text b n) (shown_depths b past n)) (nodes b (suc below))
+entries_of b past level = first_entries b past level (nodes b level)
 
 -- that of all levels
 abbrev pub entries_text : BoardValue → List Record → List ℕ

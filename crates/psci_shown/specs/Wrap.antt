@@ -1,15 +1,16 @@
 -- Text in lines of a width.
-use Rattle.std.specs.Prelude.{ℕ, ◌==◌, ◌+◌, List, [], ◌∷◌, ◌++◌, nat_lt, if◌then◌else◌, suc}
+use Rattle.std.specs.Prelude.{ℕ, ◌==◌, ◌+◌, List, [], ◌∷◌, ◌++◌, nat_lt, if◌then◌else◌, suc, zero}
+use Rattle.std.specs.Prelude.{length, unwrap_or}
+use Rattle.std.specs.List.{position}
 
 -- these many spaces
 abbrev pub spaces : ℕ → List ℕ
-spaces 0 = []
-spaces (suc n) = 32 ∷ spaces n
+spaces zero = []
+spaces (suc n) = spaces n ++ 32 ∷ []
 
 -- how long the word at the front is, which ends before this byte
 abbrev pub word_length : ℕ → List ℕ → ℕ
-word_length at [] = 0
-word_length at (b ∷ bs) = if b == at then 0 else suc (word_length at bs)
+word_length at bytes = unwrap_or (position (λ b. b == at) bytes) (length bytes)
 
 -- A text, in lines with room for so many bytes, of which the first has some already. At this byte a
 -- space stands where the line has room for it and for the word that follows; else the line ends

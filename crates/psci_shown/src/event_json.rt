@@ -143,7 +143,7 @@ fn write_cores(out: &mut String, run: &Run) -> Result<(), AllocError>
         ≡ string_bytes out.old ++ cores_members run.now.board run.now.past) }
 {
     write!(out, ", \"cores\": [")?;
-    for number in 0..run.world().board().cores() {
+    'states: for number in 0..run.world().board().cores() {
         let between = before(usize::from(number));
         let state = state_word(run.state(Core { number }));
         write!(out, "{between}\"{state}\"")?;

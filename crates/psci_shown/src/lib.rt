@@ -16,10 +16,10 @@ mod legend;
 mod lines;
 mod row;
 mod run;
-mod show;
+mod showing;
 mod wrap;
 
 pub use form::{Form, Layout};
 pub use psci_bench::{Io, ReplayFault, Replayed, ScriptFault, Sink, Source, Std};
 pub use run::Run;
-pub use show::show;
+pub use showing::show;

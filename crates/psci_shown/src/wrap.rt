@@ -1,6 +1,6 @@
 //! Text in lines of a width.
 
-ghost use Rattle.std.specs.Prelude.{◌≡◌, ◌++◌, OnOk};
+ghost use Rattle.std.specs.Prelude.{◌≡◌, ◌==◌, ◌++◌, OnOk, position};
 ghost use Rattle.psci_shown.specs.Wrap as wrap;
 ghost use Rattle.psci_shown.specs.Wrap.{spaces, wrapped};
 
@@ -16,11 +16,18 @@ pub fn write_spaces(out: &mut Vec<u8>, count: usize) -> Result<(), AllocError>
     Ok(())
 }
 
+/// Where this byte is first, if it is there.
+fn word_end(at: u8, text: &[u8]) -> Option<usize>
+    ensures { result ≡ position (λ b. b == at) text.now }
+{
+    text.iter().position(|byte| *byte == at)
+}
+
 /// How long the word at the front is, which ends before this byte.
 fn word_length(at: u8, text: &[u8]) -> usize
     ensures { result ≡ wrap.word_length at text.now }
 {
-    text.iter().position(|byte| *byte == at).unwrap_or(text.len())
+    word_end(at, text).unwrap_or(text.len())
 }
 
 /// Writes a text that stands behind an indent, in lines with room for so many bytes, and a line

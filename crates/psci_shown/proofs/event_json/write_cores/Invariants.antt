@@ -1,0 +1,20 @@
+-- The states or the places of the first cores are written.
+use Rattle.std.proofs.Common.{◌≡◌, ◌++◌, string_bytes}
+use Rattle.std.specs.Prelude.{codes}
+use Rattle.psci_show.specs.Columns.{core_state}
+use Rattle.psci_world.specs.psci_world_spec.Places.{place}
+use Rattle.psci_shown.specs.Joined.{comma, joined}
+use Rattle.psci_shown.specs.Json.{place_word, state_word}
+use Rattle.psci_shown.proofs.event_json.write_cores.Given as goal
+
+abbrev pub invariant-states : goal.invariant-states
+invariant-states l =
+    string_bytes l.out ≡ string_bytes l.initial.out
+    ++ joined comma (λ c. codes "\"" ++ (state_word (core_state l.run.board l.run.past c)
+    ++ codes "\"")) l.number
+
+abbrev pub invariant-places : goal.invariant-places
+invariant-places l =
+    string_bytes l.out ≡ string_bytes l.initial.out
+    ++ joined comma (λ c. codes "\"" ++ (place_word (place l.run.board l.run.past c)
+    ++ codes "\"")) l.number
