@@ -3,7 +3,6 @@ use Rattle.std.proofs.Common.{◌≡◌, ℕ, ◌+◌, ◌==◌, Bool, true, fal
 use Rattle.std.proofs.Common.{◌∙◌, add-one, append_assoc, if◌then◌else◌}
 use Rattle.psci_shown.specs.Joined.{joined}
 
-
 pub joined_more : (between : List ℕ) (text : ℕ → List ℕ) (n : ℕ) (first before after : List ℕ)
     → before ≡ first ++ joined between text n
     → after ≡ before ++ ((if n == 0 then [] else between) ++ text n)

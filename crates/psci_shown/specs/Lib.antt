@@ -3,4 +3,5 @@ pub mod Joined
 pub mod Legend
 pub mod Lines
 pub mod Run
+pub mod Shown
 pub mod Wrap

@@ -134,7 +134,10 @@ fn write_words(out: &mut String, run: &Run, item: &Record) -> Result<(), AllocEr
         item,
     };
     let answer = AnswerText(&item.said);
-    write!(out, ", \"asked\": \"{asked}\", \"answer\": \"{answer}\", \"said\": \"{said}\"")
+    write!(
+        out,
+        ", \"asked\": \"{asked}\", \"answer\": \"{answer}\", \"said\": \"{said}\""
+    )
 }
 
 /// Writes the state and the place of each core.
@@ -161,7 +164,11 @@ fn write_cores(out: &mut String, run: &Run) -> Result<(), AllocError>
 fn depth_in(granted: bool, depths: Depths) -> u8
     ensures { result ≡ json.depth_in granted depths }
 {
-    if granted { depths.granted } else { depths.depth }
+    if granted {
+        depths.granted
+    } else {
+        depths.depth
+    }
 }
 
 /// Writes the depths of a level, or the granted ones.
@@ -323,7 +330,11 @@ pub fn write_event(
     let Some(item) = run.newest() else {
         return Ok(());
     };
-    write!(text, "{{\"number\": {}, \"line\": \"", run.world().records().len())?;
+    write!(
+        text,
+        "{{\"number\": {}, \"line\": \"",
+        run.world().records().len()
+    )?;
     put(out, text)?;
     out.extend_from_slice(line)?;
     write!(text, "\", \"event\": {{{}}}", EventText(&item.event))?;

@@ -84,6 +84,9 @@ impl fmt::Display for Legend {
         )?;
         writeln!(f, "  0  the power domain is fully on")?;
         write!(f, "{}{}{}", DepthLine(1), DepthLine(2), DepthLine(3))?;
-        writeln!(f, "  !  after a depth: the firmware has granted another one")
+        writeln!(
+            f,
+            "  !  after a depth: the firmware has granted another one"
+        )
     }
 }

@@ -90,7 +90,13 @@ pub fn write_lines(
         write!(text, "  ")?;
         put(out, text)?;
         write!(text, "{}", run.words(item))?;
-        wrap(out, text.as_bytes(), b' ', indent, FEWEST.max(width - indent))
+        wrap(
+            out,
+            text.as_bytes(),
+            b' ',
+            indent,
+            FEWEST.max(width - indent),
+        )
     } else {
         put(out, text)?;
         write!(text, "{}", run.words(item))?;

@@ -28,8 +28,9 @@ impl Model for Run {
 }
 
 ghost use Rattle.std.specs.Prelude.{◌≡◌, ◌<◌, [], ◌∷◌, IfOk, OnOk, OnErr, option_map, reverse};
-ghost use Rattle.std.specs.Prelude.{slice_get};
+ghost use Rattle.std.specs.Prelude.{◌++◌, IsOk, slice_get, vec_capacity, vec_len};
 ghost use Rattle.psci_world.specs.psci_board.Board.{HasNode, cores};
+ghost use Rattle.psci_world.specs.psci_world_spec.psci_fw_spec.Said.{listed};
 ghost use Rattle.psci_world.specs.psci_world_spec.Legal.{legal_record};
 ghost use Rattle.psci_show.specs.Columns.{core_state};
 ghost use Rattle.psci_shown.specs.Run as run;
@@ -62,9 +63,7 @@ impl Run {
         self.world.happen(event)?;
         let record = &self.world.records()[newest];
         note(&mut self.sleeps[..], record);
-        if let Some(number) = answered_in(record) {
-            self.answered.push_reserved(number);
-        }
+        keep_answered(&mut self.answered, record)?;
         Ok(())
     }
 
@@ -127,6 +126,18 @@ impl Run {
             granted: 3,
         })
     }
+}
+
+/// Keeps the number of the message of which a record has the acknowledgement, if it has one.
+fn keep_answered(answered: &mut Vec<u64>, record: &Record) -> Result<(), Memory>
+    ensures room { vec_len answered.old < vec_capacity answered.old → IsOk result }
+    ensures items { OnOk result (answered.new.items ≡ answered.old.items
+        ++ listed (run.answered_in record.now.event record.now.said)) }
+{
+    if let Some(number) = answered_in(record) {
+        answered.push(number)?;
+    }
+    Ok(())
 }
 
 /// The number of the message of which a record has the acknowledgement, if it has one.

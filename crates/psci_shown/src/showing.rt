@@ -1,5 +1,11 @@
 //! Scripts, shown event by event.
 
+ghost use Rattle.std.specs.Prelude.{◌≡◌, ◌<◌, [], false, IfErr, OnOk, string_bytes};
+ghost use Rattle.psci_bench.specs.Progress.{IsLine, OnlyGivenUp, SameDevices, StaySound};
+ghost use Rattle.psci_script.specs.Limits.{most_lines};
+ghost use Rattle.psci_world.specs.psci_world_spec.Legal.{legal_record};
+ghost use Rattle.psci_shown.specs.Shown as shown;
+
 use crate::event_json::write_event;
 use crate::form::Form;
 use crate::json::write_board;
@@ -24,7 +30,9 @@ struct Shower {
 
 impl Shower {
     /// With no texts.
-    fn new(alloc: Global, form: Form) -> Shower {
+    fn new(alloc: Global, form: Form) -> Shower
+        ensures { result.form ≡ form }
+    {
         Shower {
             alloc,
             form,
@@ -34,7 +42,10 @@ impl Shower {
     }
 
     /// What stands before the script is read.
-    fn open(&mut self) -> Result<(), AllocError> {
+    fn open(&mut self) -> Result<(), AllocError>
+        ensures form { self.new.form ≡ self.old.form }
+        ensures out { OnOk result (self.new.out.items ≡ shown.opening self.old.form) }
+    {
         self.clear();
         match self.form {
             Form::Lines(layout) if layout.legend => {
@@ -45,17 +56,25 @@ impl Shower {
         }
     }
 
-    /// What stands before all events, of a board of this text.
-    fn board(&mut self, line: &[u8], board: &Board) -> Result<(), AllocError> {
+    /// What stands before all events, of a board and its text.
+    fn board(&mut self, text: &[u8], board: &Board) -> Result<(), AllocError>
+        ensures form { self.new.form ≡ self.old.form }
+        ensures out { OnOk result (self.new.out.items
+            ≡ shown.heading self.old.form text.now board.now) }
+    {
         self.clear();
         match self.form {
             Form::Lines(_) => Ok(()),
-            Form::Json => write_board(&mut self.out, &mut self.text, line, board),
+            Form::Json => write_board(&mut self.out, &mut self.text, text, board),
         }
     }
 
     /// The newest event, which this line says.
-    fn event(&mut self, run: &Run, line: &[u8]) -> Result<(), AllocError> {
+    fn event(&mut self, run: &Run, line: &[u8]) -> Result<(), AllocError>
+        ensures form { self.new.form ≡ self.old.form }
+        ensures out { OnOk result (self.new.out.items
+            ≡ shown.event_text self.old.form run.now.board run.now.past line.now) }
+    {
         self.clear();
         match self.form {
             Form::Lines(layout) => write_lines(&mut self.out, &mut self.text, run, layout),
@@ -64,7 +83,11 @@ impl Shower {
     }
 
     /// Forgets all texts.
-    fn clear(&mut self) {
+    fn clear(&mut self)
+        ensures form { self.new.form ≡ self.old.form }
+        ensures out { self.new.out.items ≡ [] }
+        ensures text { string_bytes self.new.text ≡ [] }
+    {
         self.out.clear();
         self.text.clear();
     }
@@ -74,7 +97,12 @@ impl Shower {
 fn begin<S: Source, K: Sink>(
     progress: &mut Progress<'_, '_, S, K>,
     shower: &mut Shower,
-) -> Result<Run, ReplayFault> {
+) -> Result<Run, ReplayFault>
+    ensures devices { SameDevices progress.old progress.new }
+    ensures sound { OnOk result (StaySound S.failed K.failed progress.old progress.new) }
+    ensures given_up { IfErr result (OnlyGivenUp S.failed S.interruptions K.failed
+        K.interruptions progress.new.source.now progress.new.sink.now) }
+{
     let Some(extent) = progress.next_line(1)? else {
         return Err(ScriptFault::NoBoard.at(1));
     };
@@ -87,6 +115,26 @@ fn begin<S: Source, K: Sink>(
     Ok(run)
 }
 
+/// Makes the event happen that a line says, if it says one, and adds what it is shown as.
+fn show_line(
+    run: &mut Run,
+    shower: &mut Shower,
+    answers: &mut Answers,
+    line: &[u8],
+    number: u64,
+) -> Result<(), ReplayFault> {
+    match read_line(line) {
+        None => return Err(ScriptFault::Line.at(number)),
+        Some(Line::Blank) => {}
+        Some(Line::Event(event)) => {
+            run.happen(event)?;
+            shower.event(run, line)?;
+            answers.put(&shower.out)?;
+        }
+    }
+    Ok(())
+}
+
 /// Takes and shows a line, after so many others.
 fn take_line<S: Source, K: Sink>(
     progress: &mut Progress<'_, '_, S, K>,
@@ -94,17 +142,14 @@ fn take_line<S: Source, K: Sink>(
     run: &mut Run,
     extent: Extent,
     count: u64,
-) -> Result<(), ReplayFault> {
+) -> Result<(), ReplayFault>
+    requires line { IsLine extent progress.old.block.now }
+    requires count { count < most_lines }
+    ensures devices { SameDevices progress.old progress.new }
+    ensures sound { StaySound S.failed K.failed progress.old progress.new }
+{
     let line = &progress.block.unread()[..extent.line];
-    match read_line(line) {
-        None => return Err(ScriptFault::Line.at(count + 1)),
-        Some(Line::Blank) => {}
-        Some(Line::Event(event)) => {
-            run.happen(event)?;
-            shower.event(run, line)?;
-            progress.answers.put(&shower.out)?;
-        }
-    }
+    show_line(run, shower, progress.answers, line, count + 1)?;
     progress.block.skip(extent.taken);
     Ok(())
 }
@@ -113,7 +158,12 @@ fn take_line<S: Source, K: Sink>(
 fn run_lines<S: Source, K: Sink>(
     progress: &mut Progress<'_, '_, S, K>,
     shower: &mut Shower,
-) -> Result<Replayed, ReplayFault> {
+) -> Result<Replayed, ReplayFault>
+    ensures devices { SameDevices progress.old progress.new }
+    ensures sound { OnOk result (StaySound S.failed K.failed progress.old progress.new) }
+    ensures given_up { IfErr result (OnlyGivenUp S.failed S.interruptions K.failed
+        K.interruptions progress.new.source.now progress.new.sink.now) }
+{
     shower.open()?;
     progress.answers.put(&shower.out)?;
     let mut run = begin(progress, shower)?;
@@ -128,21 +178,45 @@ fn run_lines<S: Source, K: Sink>(
     })
 }
 
-/// Shows the script that comes from the source in this form, into the sink.
+/// Shows the script, and writes the last texts.
+fn complete<S: Source, K: Sink>(
+    progress: &mut Progress<'_, '_, S, K>,
+    shower: &mut Shower,
+) -> Result<Replayed, ReplayFault>
+    ensures devices { SameDevices progress.old progress.new }
+    ensures sound { OnOk result (StaySound S.failed K.failed progress.old progress.new) }
+    ensures given_up { IfErr result (OnlyGivenUp S.failed S.interruptions K.failed
+        K.interruptions progress.new.source.now progress.new.sink.now) }
+{
+    let ended = run_lines(progress, shower);
+    if matches!(ended, Err(ReplayFault::Write)) {
+        return ended;
+    }
+    progress.answers.write_to(progress.sink)?;
+    ended
+}
+
+/// Shows the script that comes from the source in this form, into the sink: its events happen one
+/// after another in the world of its board, and each is shown by the world after it.
+///
+/// A script ends at its first fault, as in a replay, and what stands before it is shown. A read or
+/// write fault is answered only where that device failed, took none of some bytes, or was
+/// interrupted 1,000 times in a row; where it ends well neither device has failed.
 pub fn show<S: Source, K: Sink>(
     alloc: Global,
     source: &mut S,
     sink: &mut K,
     form: Form,
-) -> Result<Replayed, ReplayFault> {
+) -> Result<Replayed, ReplayFault>
+    requires source { S.failed source.old ≡ false }
+    requires sink { K.failed sink.old ≡ false }
+    ensures sound { OnOk result ((S.failed source.new ≡ false) × (K.failed sink.new ≡ false)) }
+    ensures given_up { IfErr result (OnlyGivenUp S.failed S.interruptions K.failed K.interruptions
+        source.new sink.new) }
+{
     let mut block = Block::new(alloc)?;
     let mut answers = Answers::new(alloc)?;
-    let mut progress = Progress::new(source, sink, &mut block, &mut answers);
     let mut shower = Shower::new(alloc, form);
-    let ended = run_lines(&mut progress, &mut shower);
-    if let Err(ReplayFault::Write) = ended {
-        return ended;
-    }
-    progress.answers.write_to(progress.sink)?;
-    ended
+    let mut progress = Progress::new(source, sink, &mut block, &mut answers);
+    complete(&mut progress, &mut shower)
 }
