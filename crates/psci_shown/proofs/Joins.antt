@@ -24,13 +24,12 @@ row_more text n first before after was is =
     joined_more [] text n first before after was
     (is ∙ ap (λ t. before ++ t) (sym (nothing (n == 0) (text n))))
 
--- the same where what stands between them was written first
-pub joined_more_after : (between : List ℕ) (text : ℕ → List ℕ) (n : ℕ)
-    (first before middle after : List ℕ)
+-- the same where what stands between them is this piece
+pub joined_after : (between : List ℕ) (text : ℕ → List ℕ) (n : ℕ)
+    (first before after piece : List ℕ)
     → before ≡ first ++ joined between text n
-    → middle ≡ before ++ (if n == 0 then [] else between) → after ≡ middle ++ text n
+    → piece ≡ (if n == 0 then [] else between) → after ≡ before ++ (piece ++ text n)
     → after ≡ first ++ joined between text (n + 1)
-joined_more_after between text n first before middle after was stands is =
+joined_after between text n first before after piece was stands is =
     joined_more between text n first before after was
-    (is ∙ ap (λ s. s ++ text n) stands
-    ∙ append_assoc before (if n == 0 then [] else between) (text n))
+    (is ∙ ap (λ s. before ++ (s ++ text n)) stands)

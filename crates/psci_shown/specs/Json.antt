@@ -161,14 +161,18 @@ abbrev pub parts_text : List Part → List ℕ
 parts_text [] = []
 parts_text (p ∷ ps) = part_text p ++ flat_map (λ q. comma ++ part_text q) ps
 
+-- what a message and its acknowledgement have in common
+abbrev pub name_text : Kind → ℕ → ℕ → ℕ → List ℕ
+name_text kind core life number =
+    codes "\"kind\": \"" ++ (kind_word kind ++ (codes "\", \"core\": " ++ (decimal core
+    ++ (codes ", \"life\": " ++ (decimal life ++ (codes ", \"number\": " ++ decimal number))))))
+
 -- the message that was sent
 abbrev pub sent_text : Sent → List ℕ
 sent_text s =
-    codes "{\"index\": " ++ (decimal s.index ++ (codes ", \"kind\": \""
-    ++ (kind_word s.message.kind ++ (codes "\", \"core\": " ++ (decimal s.message.core.number
-    ++ (codes ", \"life\": " ++ (decimal s.message.life ++ (codes ", \"number\": "
-    ++ (decimal s.message.number ++ (codes ", \"parts\": [" ++ (parts_text s.message.parts
-    ++ codes "]}")))))))))))
+    codes "{\"index\": " ++ (decimal s.index ++ (codes ", "
+    ++ (name_text s.message.kind s.message.core.number s.message.life s.message.number
+    ++ (codes ", \"parts\": [" ++ (parts_text s.message.parts ++ codes "]}")))))
 
 -- the same, where one was sent
 abbrev pub sent_in : Said → List ℕ
@@ -179,10 +183,9 @@ sent_in said = codes "null"
 abbrev pub ack_text : ℕ → ℕ → AckValue → List ℕ
 ack_text index message ack =
     codes "{\"index\": " ++ (decimal index ++ (codes ", \"message\": " ++ (decimal message
-    ++ (codes ", \"kind\": \"" ++ (kind_word ack.kind ++ (codes "\", \"core\": "
-    ++ (decimal ack.core.number ++ (codes ", \"life\": " ++ (decimal ack.life
-    ++ (codes ", \"number\": " ++ (decimal ack.number ++ (codes ", \"applied\": "
-    ++ (decimal ack.applied ++ (codes ", \"stale\": " ++ (truth ack.stale ++ codes "}")))))))))))))))
+    ++ (codes ", " ++ (name_text ack.kind ack.core.number ack.life ack.number
+    ++ (codes ", \"applied\": " ++ (decimal ack.applied ++ (codes ", \"stale\": "
+    ++ (truth ack.stale ++ codes "}")))))))))
 
 -- the acknowledgement that was made
 abbrev pub made_in : Event → Said → List ℕ

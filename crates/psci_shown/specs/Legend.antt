@@ -1,5 +1,5 @@
 -- What the letters, depths and the mark mean.
-use Rattle.std.specs.Prelude.{ℕ, List, [], ◌∷◌, ◌++◌, codes, flat_map}
+use Rattle.std.specs.Prelude.{ℕ, List, [], ◌∷◌, ◌++◌, codes}
 use Rattle.std.specs.Fmt.{decimal}
 use Rattle.psci_show.specs.Columns.{letter_of}
 use Rattle.psci_show.specs.Names.{depth_name}
@@ -30,10 +30,20 @@ depth_line depth =
     codes "  " ++ (decimal depth
     ++ (codes "  the power domain is in " ++ (depth_name depth ++ 10 ∷ [])))
 
+-- those of the states, four and four
+abbrev pub first_states : List ℕ
+first_states =
+    state_line Running ++ (state_line Started ++ (state_line Standby ++ state_line Retention))
+
+abbrev pub last_states : List ℕ
+last_states = state_line PowerDown ++ (state_line GoingOff ++ (state_line Off ++ state_line Pending))
+
+-- those of the depths that are not 0
+abbrev pub depth_lines : List ℕ
+depth_lines = depth_line 1 ++ (depth_line 2 ++ depth_line 3)
+
 -- all lines
 abbrev pub legend_text : List ℕ
 legend_text =
-    flat_map state_line (Running ∷ Started ∷ Standby ∷ Retention ∷ PowerDown ∷ GoingOff ∷ Off
-    ∷ Pending ∷ [])
-    ++ (codes "  0  the power domain is fully on" ++ (10 ∷ flat_map depth_line (1 ∷ 2 ∷ 3 ∷ [])
-    ++ (codes "  !  after a depth: the firmware has granted another one" ++ 10 ∷ [])))
+    first_states ++ (last_states ++ (codes "  0  the power domain is fully on\n"
+    ++ (depth_lines ++ codes "  !  after a depth: the firmware has granted another one\n")))

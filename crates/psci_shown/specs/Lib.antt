@@ -3,5 +3,4 @@ pub mod Joined
 pub mod Legend
 pub mod Lines
 pub mod Run
-pub mod Shown
 pub mod Wrap

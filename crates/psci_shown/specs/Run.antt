@@ -29,9 +29,9 @@ answered (r ∷ past) = listed (answered_in r.event r.said) ++ answered past
 
 -- what holds of every run
 pub record IsRun (w : WorldValue) (messages : List ℕ) (sleeps : List (Option Sleep)) : Type 0 where
-  pub messages : messages ≡ reverse (answered w.past)
+  pub kept : messages ≡ reverse (answered w.past)
   pub count : length sleeps ≡ cores w.board
-  pub sleeps : (c : ℕ) → c < length sleeps → sleep_in sleeps c ≡ sleep_of w.past c
+  pub each : (c : ℕ) → c < length sleeps → sleep_in sleeps c ≡ sleep_of w.past c
 
 -- the depths of a power domain after these records: without a life it is powered down, as granted
 abbrev pub shown_depths : BoardValue → List Record → Node → Depths

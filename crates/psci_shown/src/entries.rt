@@ -2,6 +2,7 @@
 
 ghost use Rattle.std.specs.Prelude.{◌≡◌, ◌≤◌, ◌<◌, ◌++◌, OnOk, string_bytes};
 ghost use Rattle.psci_world.specs.psci_board.Board.{HasNode, cores, height};
+ghost use Rattle.psci_world.specs.psci_board.declared.node.Node.{Node};
 ghost use Rattle.psci_show.specs.Columns.{core_state};
 ghost use Rattle.psci_show.specs.Words.{node_text};
 ghost use Rattle.psci_shown.specs.Run.{shown_depths};
@@ -37,7 +38,7 @@ impl fmt::Display for MarkedText {
 /// granted.
 fn write_core(out: &mut String, run: &Run, core: Core) -> Result<(), AllocError>
     requires { core.number < cores run.now.board }
-    ensures { let n = record { level = 0; place = core.number } in
+    ensures { let n : Node = record { level = 0; place = core.number } in
         OnOk result (string_bytes out.new ≡ string_bytes out.old
         ++ core_entry (node_text run.now.board n)
         (core_state run.now.board run.now.past core.number)

@@ -13,7 +13,7 @@ use crate::lines::put;
 use crate::run::Run;
 use psci_script::SaidText as AnswerText;
 use psci_show::{AskedText, Depths, SaidText, is_told};
-use psci_world::{Ack, Core, Event, Node, Part, Record, Regs, Said, Sent};
+use psci_world::{Ack, Core, Event, Kind, Node, Part, Record, Regs, Said, Sent};
 use std::alloc::AllocError;
 use std::fmt;
 
@@ -24,6 +24,15 @@ struct EventText<'a>(&'a Event);
 /// A part of a message: level, depth and generation.
 #[derive(Clone, Copy)]
 struct PartText<'a>(&'a Part);
+
+/// What a message and its acknowledgement have in common.
+#[derive(Clone, Copy)]
+struct NameText {
+    kind: Kind,
+    core: Core,
+    life: u32,
+    number: u32,
+}
 
 /// An acknowledgement that was made, of the message of a number.
 #[derive(Clone, Copy)]
@@ -75,6 +84,21 @@ impl fmt::Display for PartText<'_> {
     }
 }
 
+impl fmt::Display for NameText {
+    ghost use Rattle.std.specs.Prelude.{Some};
+    ghost use Rattle.psci_shown.specs.Json.{name_text};
+
+    ghost output = { λ name. Some (name_text name.kind name.core.number name.life name.number) };
+
+    fn fmt<W: fmt::Write>(&self, f: &mut fmt::Formatter<W>) -> fmt::Result {
+        let kind = kind_word(self.kind);
+        let core = self.core.number;
+        let life = self.life;
+        let number = self.number;
+        write!(f, "\"kind\": \"{kind}\", \"core\": {core}, \"life\": {life}, \"number\": {number}")
+    }
+}
+
 impl fmt::Display for AckText<'_> {
     ghost use Rattle.std.specs.Prelude.{Some};
     ghost use Rattle.psci_shown.specs.Json.{ack_text};
@@ -87,16 +111,18 @@ impl fmt::Display for AckText<'_> {
             message,
             ack,
         } = *self;
-        let kind = kind_word(ack.kind);
-        let core = ack.core.number;
-        let life = ack.life;
-        let number = ack.number;
+        let name = NameText {
+            kind: ack.kind,
+            core: ack.core,
+            life: ack.life,
+            number: ack.number,
+        };
         let applied = ack.applied;
         let stale = truth(ack.stale);
         write!(
             f,
-            "{{\"index\": {index}, \"message\": {message}, \"kind\": \"{kind}\", \"core\": {core}, \
-             \"life\": {life}, \"number\": {number}, \"applied\": {applied}, \"stale\": {stale}}}"
+            "{{\"index\": {index}, \"message\": {message}, {name}, \"applied\": {applied}, \
+             \"stale\": {stale}}}"
         )
     }
 }
@@ -147,13 +173,13 @@ fn write_cores(out: &mut String, run: &Run) -> Result<(), AllocError>
 {
     write!(out, ", \"cores\": [")?;
     'states: for number in 0..run.world().board().cores() {
-        let between = before(usize::from(number));
+        let between = before(number as usize);
         let state = state_word(run.state(Core { number }));
         write!(out, "{between}\"{state}\"")?;
     }
     write!(out, "], \"places\": [")?;
     'places: for number in 0..run.world().board().cores() {
-        let between = before(usize::from(number));
+        let between = before(number as usize);
         let place = place_word(run.world().place(Core { number }));
         write!(out, "{between}\"{place}\"")?;
     }
@@ -171,15 +197,21 @@ fn depth_in(granted: bool, depths: Depths) -> u8
     }
 }
 
-/// Writes the depths of a level, or the granted ones.
-fn write_level(out: &mut String, run: &Run, level: u32, granted: bool) -> Result<(), AllocError>
+/// Writes the depths of a level, or the granted ones, behind this text.
+fn write_level(
+    out: &mut String,
+    before_level: &str,
+    run: &Run,
+    level: u32,
+    granted: bool,
+) -> Result<(), AllocError>
     requires { level ≤ height run.now.board }
-    ensures { OnOk result (string_bytes out.new
-        ≡ string_bytes out.old ++ level_depths granted run.now.board run.now.past level) }
+    ensures { OnOk result (string_bytes out.new ≡ string_bytes out.old
+        ++ (before_level.now ++ level_depths granted run.now.board run.now.past level)) }
 {
-    write!(out, "[")?;
+    write!(out, "{before_level}[")?;
     for place in 0..run.world().board().nodes(level) {
-        let between = before(usize::from(place));
+        let between = before(place as usize);
         let depth = depth_in(granted, run.depths(Node { level, place }));
         write!(out, "{between}{depth}")?;
     }
@@ -193,8 +225,7 @@ fn write_all(out: &mut String, run: &Run, granted: bool) -> Result<(), AllocErro
 {
     write!(out, "[")?;
     for level in 0..run.world().board().height() + 1 {
-        write!(out, "{}", before(level as usize))?;
-        write_level(out, run, level, granted)?;
+        write_level(out, before(level as usize), run, level, granted)?;
     }
     write!(out, "]")
 }
@@ -235,15 +266,13 @@ fn write_sent(out: &mut String, sent: &Sent) -> Result<(), AllocError>
 {
     let message = &sent.message;
     let index = sent.index;
-    let kind = kind_word(message.kind);
-    let core = message.core.number;
-    let life = message.life;
-    let number = message.number;
-    write!(
-        out,
-        "{{\"index\": {index}, \"kind\": \"{kind}\", \"core\": {core}, \"life\": {life}, \
-         \"number\": {number}, \"parts\": ["
-    )?;
+    let name = NameText {
+        kind: message.kind,
+        core: message.core,
+        life: message.life,
+        number: message.number,
+    };
+    write!(out, "{{\"index\": {index}, {name}, \"parts\": [")?;
     write_parts(out, message.parts.as_slice())?;
     write!(out, "]}}")
 }

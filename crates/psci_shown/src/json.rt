@@ -74,34 +74,44 @@ fn write_span(out: &mut String, board: &Board, node: Node) -> Result<(), AllocEr
         return Ok(());
     };
     for number in 0..span.count {
-        let between = before(usize::from(number));
+        let between = before(number as usize);
         let core = u32::from(span.first) + u32::from(number);
         write!(out, "{between}{core}")?;
     }
     Ok(())
 }
 
-/// Writes a power domain.
-fn write_domain(out: &mut String, board: &Board, node: Node) -> Result<(), AllocError>
+/// Writes a power domain, behind this text.
+fn write_domain(
+    out: &mut String,
+    between: &str,
+    board: &Board,
+    node: Node,
+) -> Result<(), AllocError>
     ensures { OnOk result (string_bytes out.new
-        ≡ string_bytes out.old ++ domain_text board.now node) }
+        ≡ string_bytes out.old ++ (between.now ++ domain_text board.now node)) }
 {
     let name = NodeText { board, node };
-    write!(out, "{{\"name\": \"{name}\", \"cores\": [")?;
+    write!(out, "{between}{{\"name\": \"{name}\", \"cores\": [")?;
     write_span(out, board, node)?;
     write!(out, "]}}")
 }
 
-/// Writes the power domains of a level.
-fn write_domains(out: &mut String, board: &Board, level: u32) -> Result<(), AllocError>
+/// Writes the power domains of a level, behind this text.
+fn write_domains(
+    out: &mut String,
+    between: &str,
+    board: &Board,
+    level: u32,
+) -> Result<(), AllocError>
     requires { level ≤ height board.now }
     ensures { OnOk result (string_bytes out.new
-        ≡ string_bytes out.old ++ domains_text board.now level) }
+        ≡ string_bytes out.old ++ (between.now ++ domains_text board.now level)) }
 {
-    write!(out, "[")?;
+    write!(out, "{between}[")?;
     for place in 0..board.nodes(level) {
-        write!(out, "{}", before(usize::from(place)))?;
-        write_domain(out, board, Node { level, place })?;
+        let node = Node { level, place };
+        write_domain(out, before(place as usize), board, node)?;
     }
     write!(out, "]")
 }
@@ -121,8 +131,7 @@ pub fn write_board(
     out.extend_from_slice(line)?;
     write!(text, "\", \"cores\": {}, \"domains\": [", board.cores())?;
     for level in 0..board.height() + 1 {
-        write!(text, "{}", before(level as usize))?;
-        write_domains(text, board, level)?;
+        write_domains(text, before(level as usize), board, level)?;
     }
     writeln!(text, "]}}")?;
     put(out, text)

@@ -14,6 +14,16 @@ struct StateLine(CoreState);
 #[derive(Clone, Copy)]
 struct DepthLine(u8);
 
+/// The lines of the first four states, and of the last four.
+#[derive(Clone, Copy)]
+struct FirstStates;
+#[derive(Clone, Copy)]
+struct LastStates;
+
+/// The lines of the depths that are not 0.
+#[derive(Clone, Copy)]
+struct DepthLines;
+
 /// A line for each letter, each depth and the mark.
 #[derive(Clone, Copy)]
 pub struct Legend;
@@ -54,8 +64,50 @@ impl fmt::Display for DepthLine {
     ghost output = { λ line. Some (depth_line line.0) };
 
     fn fmt<W: fmt::Write>(&self, f: &mut fmt::Formatter<W>) -> fmt::Result {
-        let name = depth_name(self.0);
-        writeln!(f, "  {}  the power domain is in {name}", self.0)
+        let depth = self.0;
+        let name = depth_name(depth);
+        writeln!(f, "  {depth}  the power domain is in {name}")
+    }
+}
+
+impl fmt::Display for FirstStates {
+    ghost use Rattle.std.specs.Prelude.{Some};
+    ghost use Rattle.psci_shown.specs.Legend.{first_states};
+
+    ghost output = { λ _. Some first_states };
+
+    fn fmt<W: fmt::Write>(&self, f: &mut fmt::Formatter<W>) -> fmt::Result {
+        let running = StateLine(CoreState::Running);
+        let started = StateLine(CoreState::Started);
+        let standby = StateLine(CoreState::Standby);
+        let retention = StateLine(CoreState::Retention);
+        write!(f, "{running}{started}{standby}{retention}")
+    }
+}
+
+impl fmt::Display for LastStates {
+    ghost use Rattle.std.specs.Prelude.{Some};
+    ghost use Rattle.psci_shown.specs.Legend.{last_states};
+
+    ghost output = { λ _. Some last_states };
+
+    fn fmt<W: fmt::Write>(&self, f: &mut fmt::Formatter<W>) -> fmt::Result {
+        let down = StateLine(CoreState::PowerDown);
+        let going = StateLine(CoreState::GoingOff);
+        let off = StateLine(CoreState::Off);
+        let pending = StateLine(CoreState::Pending);
+        write!(f, "{down}{going}{off}{pending}")
+    }
+}
+
+impl fmt::Display for DepthLines {
+    ghost use Rattle.std.specs.Prelude.{Some};
+    ghost use Rattle.psci_shown.specs.Legend.{depth_lines};
+
+    ghost output = { λ _. Some depth_lines };
+
+    fn fmt<W: fmt::Write>(&self, f: &mut fmt::Formatter<W>) -> fmt::Result {
+        write!(f, "{}{}{}", DepthLine(1), DepthLine(2), DepthLine(3))
     }
 }
 
@@ -66,27 +118,12 @@ impl fmt::Display for Legend {
     ghost output = { λ _. Some legend_text };
 
     fn fmt<W: fmt::Write>(&self, f: &mut fmt::Formatter<W>) -> fmt::Result {
-        write!(
-            f,
-            "{}{}{}{}",
-            StateLine(CoreState::Running),
-            StateLine(CoreState::Started),
-            StateLine(CoreState::Standby),
-            StateLine(CoreState::Retention)
-        )?;
-        write!(
-            f,
-            "{}{}{}{}",
-            StateLine(CoreState::PowerDown),
-            StateLine(CoreState::GoingOff),
-            StateLine(CoreState::Off),
-            StateLine(CoreState::Pending)
-        )?;
-        writeln!(f, "  0  the power domain is fully on")?;
-        write!(f, "{}{}{}", DepthLine(1), DepthLine(2), DepthLine(3))?;
+        let depths = DepthLines;
         writeln!(
             f,
-            "  !  after a depth: the firmware has granted another one"
+            "{}{}  0  the power domain is fully on\n{depths}  \
+             !  after a depth: the firmware has granted another one",
+            FirstStates, LastStates
         )
     }
 }

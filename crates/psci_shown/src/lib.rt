@@ -16,10 +16,7 @@ mod legend;
 mod lines;
 mod row;
 mod run;
-mod showing;
 mod wrap;
 
 pub use form::{Form, Layout};
-pub use psci_bench::{Io, ReplayFault, Replayed, ScriptFault, Sink, Source, Std};
 pub use run::Run;
-pub use showing::show;

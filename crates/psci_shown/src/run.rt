@@ -2,7 +2,7 @@
 
 use psci_show::{CoreState, Depths, Sleep, Words, note};
 use psci_world::{Board, Core, Event, Memory, Node, Record, Said, World};
-use std::alloc::Global;
+use std::alloc::{AllocError, Global};
 use std::marker::Model;
 
 /// The world of one board after some events, with the sleep of each core and the message of each
@@ -28,11 +28,11 @@ impl Model for Run {
 }
 
 ghost use Rattle.std.specs.Prelude.{◌≡◌, ◌<◌, [], ◌∷◌, IfOk, OnOk, OnErr, option_map, reverse};
-ghost use Rattle.std.specs.Prelude.{◌++◌, IsOk, slice_get, vec_capacity, vec_len};
+ghost use Rattle.std.specs.Prelude.{◌++◌, ℕ, IsOk, None, length, slice_get, vec_capacity, vec_len};
 ghost use Rattle.psci_world.specs.psci_board.Board.{HasNode, cores};
 ghost use Rattle.psci_world.specs.psci_world_spec.psci_fw_spec.Said.{listed};
 ghost use Rattle.psci_world.specs.psci_world_spec.Legal.{legal_record};
-ghost use Rattle.psci_show.specs.Columns.{core_state};
+ghost use Rattle.psci_show.specs.Columns.{core_state, sleep_after, sleep_in};
 ghost use Rattle.psci_shown.specs.Run as run;
 ghost use Rattle.psci_shown.specs.Run.{answered, shown_depths, words_of};
 ghost use Rattle.psci_show.specs.Words.{words_text};
@@ -43,11 +43,10 @@ impl Run {
         ensures board { IfOk result (λ run. run.board ≡ board.now) }
         ensures past { IfOk result (λ run. run.past ≡ []) }
     {
-        let cores = usize::from(board.cores());
         Ok(Run {
             world: World::new(alloc, board)?,
             answered: Vec::new(alloc),
-            sleeps: vec![in alloc; None; cores]?,
+            sleeps: no_sleeps(alloc, board.cores())?,
         })
     }
 
@@ -62,7 +61,7 @@ impl Run {
         self.answered.reserve(1)?;
         self.world.happen(event)?;
         let record = &self.world.records()[newest];
-        note(&mut self.sleeps[..], record);
+        keep_sleeps(&mut self.sleeps, record);
         keep_answered(&mut self.answered, record)?;
         Ok(())
     }
@@ -97,8 +96,8 @@ impl Run {
 
     /// What a record says, after all records.
     pub fn words<'a>(&'a self, item: &'a Record) -> Words<'a>
-        ensures { (λ words. words_text words.board.now words.messages.now words.answered.now
-            words.item.now) result ≡ words_of self.now.board self.now.past item.now }
+        ensures { words_text result.board.now result.messages.now result.answered.now
+            result.item.now ≡ words_of self.now.board self.now.past item.now }
     {
         Words {
             board: self.world.board(),
@@ -128,23 +127,44 @@ impl Run {
     }
 }
 
+/// No sleep of any of so many cores.
+fn no_sleeps(alloc: Global, cores: u16) -> Result<Vec<Option<Sleep>>, AllocError>
+    ensures count { IfOk result (λ sleeps. length sleeps.items ≡ cores) }
+    ensures each { IfOk result (λ sleeps. (c : ℕ) → sleep_in sleeps.items c ≡ None) }
+{
+    let mut sleeps = Vec::with_capacity(alloc, cores as usize)?;
+    for _core in 0..cores {
+        sleeps.push(None)?;
+    }
+    Ok(sleeps)
+}
+
+/// Keeps the sleep of each core after a record.
+fn keep_sleeps(sleeps: &mut Vec<Option<Sleep>>, item: &Record)
+    ensures length { length sleeps.new.items ≡ length sleeps.old.items }
+    ensures each { (c : ℕ) → c < length sleeps.old.items
+        → sleep_in sleeps.new.items c ≡ sleep_after c item.now (sleep_in sleeps.old.items c) }
+{
+    note(sleeps, item);
+}
+
 /// Keeps the number of the message of which a record has the acknowledgement, if it has one.
-fn keep_answered(answered: &mut Vec<u64>, record: &Record) -> Result<(), Memory>
+fn keep_answered(answered: &mut Vec<u64>, item: &Record) -> Result<(), Memory>
     ensures room { vec_len answered.old < vec_capacity answered.old → IsOk result }
     ensures items { OnOk result (answered.new.items ≡ answered.old.items
-        ++ listed (run.answered_in record.now.event record.now.said)) }
+        ++ listed (run.answered_in item.now.event item.now.said)) }
 {
-    if let Some(number) = answered_in(record) {
+    if let Some(number) = answered_in(item) {
         answered.push(number)?;
     }
     Ok(())
 }
 
 /// The number of the message of which a record has the acknowledgement, if it has one.
-fn answered_in(record: &Record) -> Option<u64>
-    ensures { result ≡ run.answered_in record.now.event record.now.said }
+fn answered_in(item: &Record) -> Option<u64>
+    ensures { result ≡ run.answered_in item.now.event item.now.said }
 {
-    match (&record.event, &record.said) {
+    match (&item.event, &item.said) {
         (Event::Deliver(number), Said::Acked { .. }) => Some(*number),
         _ => None,
     }

@@ -1,13 +1,12 @@
 -- The first power domains are written.
 use Rattle.std.proofs.Common.{◌≡◌, ◌++◌, string_bytes}
-use Rattle.std.specs.Prelude.{codes}
 use Rattle.psci_shown.specs.Joined.{comma, joined}
 use Rattle.psci_shown.specs.Json.{domain_text}
 use Rattle.psci_shown.proofs.json.write_domains.Given as goal
 
 abbrev pub invariant-loop-place : goal.invariant-loop-place
 invariant-loop-place l =
-    string_bytes l.out ≡ (string_bytes l.fn.out ++ codes "[")
+    string_bytes l.out ≡ string_bytes l.initial.out
     ++ joined comma (λ place. domain_text l.board (record {
       level = l.level;
       place = place;
