@@ -1,0 +1,4 @@
+pub mod Columns
+pub mod Joined
+pub mod Run
+pub mod Wrap

@@ -1,0 +1,87 @@
+//! The columns after an event, in a row.
+
+ghost use Rattle.std.specs.Prelude.{◌≡◌, ◌≤◌, ◌<◌, ◌^◌, ◌++◌, OnOk, string_bytes};
+ghost use Rattle.psci_world.specs.psci_board.Board.{height};
+ghost use Rattle.psci_run.specs.Columns as columns;
+ghost use Rattle.psci_run.specs.Columns.{letter_text, letters_text, level_text, row_text};
+
+use crate::run::Run;
+use psci_show::CoreState;
+use psci_world::{Board, Core, Node};
+use std::alloc::AllocError;
+
+/// The color of a state, as a terminal counts them.
+fn color_of(state: CoreState) -> u8
+    ensures { result ≡ columns.color_of state }
+{
+    match state {
+        CoreState::Running => 32,
+        CoreState::GoingOff => 33,
+        CoreState::Standby | CoreState::Retention | CoreState::PowerDown => 34,
+        CoreState::Started | CoreState::Pending => 36,
+        CoreState::Off => 90,
+    }
+}
+
+/// Writes the letter of a state.
+fn write_letter(out: &mut String, state: CoreState, color: bool) -> Result<(), AllocError>
+    ensures { OnOk result (string_bytes out.new
+        ≡ string_bytes out.old ++ letter_text color state) }
+{
+    let letter = state.letter();
+    if color {
+        let number = color_of(state);
+        write!(out, "\x1b[{number}m{letter}\x1b[0m")
+    } else {
+        write!(out, "{letter}")
+    }
+}
+
+/// Writes the letter of each core.
+fn write_letters(out: &mut String, run: &Run, color: bool) -> Result<(), AllocError>
+    ensures { OnOk result (string_bytes out.new
+        ≡ string_bytes out.old ++ letters_text color run.now.board run.now.past) }
+{
+    for number in 0..run.world().board().cores() {
+        write_letter(out, run.state(Core { number }), color)?;
+    }
+    Ok(())
+}
+
+/// Writes the depths of each power domain of a level.
+fn write_level(out: &mut String, run: &Run, level: u32) -> Result<(), AllocError>
+    requires { level ≤ height run.now.board }
+    ensures { OnOk result (string_bytes out.new
+        ≡ string_bytes out.old ++ level_text run.now.board run.now.past level) }
+{
+    write!(out, " ")?;
+    for place in 0..run.world().board().nodes(level) {
+        let depths = run.depths(Node { level, place });
+        write!(out, " {depths}")?;
+    }
+    Ok(())
+}
+
+/// Writes a letter for each core, and the depths level by level from the cores up.
+pub fn write_row(out: &mut String, run: &Run, color: bool) -> Result<(), AllocError>
+    ensures { OnOk result (string_bytes out.new
+        ≡ string_bytes out.old ++ row_text color run.now.board run.now.past) }
+{
+    write_letters(out, run, color)?;
+    for level in 0..run.world().board().height() + 1 {
+        write_level(out, run, level)?;
+    }
+    Ok(())
+}
+
+/// How wide a row is.
+pub fn row_width(board: &Board) -> usize
+    ensures width { result ≡ columns.row_width board.now }
+    ensures bound { result < 2 ^ 60 }
+{
+    let mut width = usize::from(board.cores());
+    for level in 0..board.height() + 1 {
+        width += 3 * usize::from(board.nodes(level)) + 1;
+    }
+    width
+}
