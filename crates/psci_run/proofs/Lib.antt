@@ -1,2 +1,3 @@
+mod RowRows
 pub mod Joins
 pub mod Runs

@@ -28,8 +28,8 @@ use Rattle.psci_show.specs.declared.state.CoreState.{CoreState}
 use Rattle.psci_show.specs.declared.state.CoreState.TheVariants.{Running, Started, Standby}
 use Rattle.psci_show.specs.declared.state.CoreState.TheVariants.{Retention, PowerDown, GoingOff}
 use Rattle.psci_show.specs.declared.state.CoreState.TheVariants.{Off, Pending}
-use Rattle.psci_shown.specs.Joined.{comma, joined}
-use Rattle.psci_shown.specs.Run.{answered, shown_depths}
+use Rattle.psci_run.specs.Joined.{comma, joined}
+use Rattle.psci_run.specs.Run.{answered, shown_depths}
 
 -- Words ---------------------------------------------------------------------------------------
 

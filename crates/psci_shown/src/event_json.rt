@@ -6,11 +6,11 @@ ghost use Rattle.psci_shown.specs.Json as json;
 ghost use Rattle.psci_shown.specs.Json.{all_depths, cores_members, depths_members, event_object};
 ghost use Rattle.psci_shown.specs.Json.{level_depths, life_members, message_members};
 ghost use Rattle.psci_shown.specs.Json.{parts_text, words_members};
-ghost use Rattle.psci_shown.specs.Run.{answered};
+ghost use Rattle.psci_run.specs.Run.{answered};
 
 use crate::json::{before, kind_word, place_word, state_word, truth};
 use crate::lines::put;
-use crate::run::Run;
+use psci_run::Run;
 use psci_script::SaidText as AnswerText;
 use psci_show::{AskedText, Depths, SaidText, is_told};
 use psci_world::{Ack, Core, Event, Kind, Node, Part, Record, Regs, Said, Sent};

@@ -3,7 +3,7 @@
 ghost use Rattle.std.specs.Prelude.{◌≡◌, ◌==◌, ◌≤◌, ◌++◌, [], OnOk, string_bytes};
 ghost use Rattle.std.specs.Prelude.{if◌then◌else◌};
 ghost use Rattle.psci_world.specs.psci_board.Board.{cores_below, height};
-ghost use Rattle.psci_shown.specs.Joined.{comma};
+ghost use Rattle.psci_run.specs.Joined.{comma};
 ghost use Rattle.psci_shown.specs.Json as json;
 ghost use Rattle.psci_shown.specs.Json.{board_object, domain_text, domains_text, span_text};
 

@@ -1,15 +1,14 @@
 //! An event in lines: its number and its columns, and behind or below them what was asked and what
 //! was answered.
 
-ghost use Rattle.std.specs.Prelude.{◌≡◌, ◌++◌, ◌<◌, ◌^◌, [], OnOk, string_bytes};
-ghost use Rattle.psci_shown.specs.Lines as lines;
-ghost use Rattle.psci_shown.specs.Lines.{event_lines};
+ghost use Rattle.std.specs.Prelude.{◌≡◌, ◌+◌, ◌++◌, [], OnOk, string_bytes};
+ghost use Rattle.psci_run.specs.Columns as columns;
+ghost use Rattle.psci_run.specs.Run.{words_of};
+ghost use Rattle.psci_shown.specs.Lines.{above_text, beside_text, event_lines};
 
-use crate::entries::write_entries;
 use crate::form::Layout;
-use crate::row::{row_width, write_row};
-use crate::run::Run;
-use crate::wrap::{wrap, write_spaces};
+use psci_run::{Run, row_width, write_entries, write_row, write_spaces, write_wrapped};
+use psci_world::Record;
 use std::alloc::AllocError;
 use std::fmt;
 
@@ -59,7 +58,7 @@ pub fn put(out: &mut Vec<u8>, text: &mut String) -> Result<(), AllocError>
 
 /// What is said of the power domains, or that all are off.
 fn entries_or_none(entries: &[u8]) -> &[u8]
-    ensures { result.now ≡ lines.entries_or_none entries.now }
+    ensures { result.now ≡ columns.entries_or_none entries.now }
 {
     if entries.is_empty() {
         b"all off"
@@ -68,7 +67,56 @@ fn entries_or_none(entries: &[u8]) -> &[u8]
     }
 }
 
-/// Writes the newest event.
+/// Writes an event with its columns in a row, and its words behind this indent.
+fn write_beside(
+    out: &mut Vec<u8>,
+    text: &mut String,
+    run: &Run,
+    item: &Record,
+    layout: Layout,
+    indent: usize,
+) -> Result<(), AllocError>
+    requires text { string_bytes text.old ≡ [] }
+    requires indent { indent ≡ 8 + columns.row_width run.now.board }
+    ensures { OnOk result (out.new.items ≡ out.old.items ++ beside_text layout run.now.board
+        run.now.past (words_of run.now.board run.now.past item.now)) }
+{
+    let width = layout.width.max(NARROWEST) as usize;
+    write!(text, "{}  ", NumberText(run.world().records().len()))?;
+    write_row(text, run, layout.color)?;
+    write!(text, "  ")?;
+    put(out, text)?;
+    write!(text, "{}", run.words(item))?;
+    let room = FEWEST.max(width.saturating_sub(indent));
+    write_wrapped(out, text.as_bytes(), b' ', indent, room)
+}
+
+/// Writes an event with its words, and its columns by names below them.
+fn write_above(
+    out: &mut Vec<u8>,
+    text: &mut String,
+    run: &Run,
+    item: &Record,
+    layout: Layout,
+) -> Result<(), AllocError>
+    requires { string_bytes text.old ≡ [] }
+    ensures { OnOk result (out.new.items ≡ out.old.items ++ above_text layout run.now.board
+        run.now.past (words_of run.now.board run.now.past item.now)) }
+{
+    let room = layout.width.max(NARROWEST) as usize - MARGIN;
+    write!(text, "{}  ", NumberText(run.world().records().len()))?;
+    put(out, text)?;
+    write!(text, "{}", run.words(item))?;
+    write_wrapped(out, text.as_bytes(), b' ', MARGIN, room)?;
+    text.clear();
+    write_entries(text, run)?;
+    write_spaces(out, MARGIN)?;
+    let entries = entries_or_none(text.as_bytes());
+    write_wrapped(out, entries, b'\n', MARGIN, room)
+}
+
+/// Writes the newest event: its words stand beside its columns where these take half of the line at
+/// most.
 pub fn write_lines(
     out: &mut Vec<u8>,
     text: &mut String,
@@ -82,29 +130,11 @@ pub fn write_lines(
     let Some(item) = run.newest() else {
         return Ok(());
     };
-    let width = usize::from(layout.width.max(NARROWEST));
+    let width = layout.width.max(NARROWEST) as usize;
     let indent = MARGIN + row_width(run.world().board()) + 2;
-    write!(text, "{}  ", NumberText(run.world().records().len()))?;
     if indent <= width / 2 {
-        write_row(text, run, layout.color)?;
-        write!(text, "  ")?;
-        put(out, text)?;
-        write!(text, "{}", run.words(item))?;
-        wrap(
-            out,
-            text.as_bytes(),
-            b' ',
-            indent,
-            FEWEST.max(width - indent),
-        )
+        write_beside(out, text, run, item, layout, indent)
     } else {
-        put(out, text)?;
-        write!(text, "{}", run.words(item))?;
-        wrap(out, text.as_bytes(), b' ', MARGIN, width - MARGIN)?;
-        text.clear();
-        write_entries(text, run)?;
-        write_spaces(out, MARGIN)?;
-        let entries = entries_or_none(text.as_bytes());
-        wrap(out, entries, b'\n', MARGIN, width - MARGIN)
+        write_above(out, text, run, item, layout)
     }
 }

@@ -1,6 +1,6 @@
 -- The lowest levels are written.
 use Rattle.std.proofs.Common.{◌≡◌, ◌++◌, string_bytes}
-use Rattle.psci_shown.specs.Joined.{comma, joined}
+use Rattle.psci_run.specs.Joined.{comma, joined}
 use Rattle.psci_shown.specs.Json.{level_depths}
 use Rattle.psci_shown.proofs.event_json.write_all.Given as goal
 

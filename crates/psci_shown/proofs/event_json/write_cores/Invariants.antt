@@ -3,7 +3,7 @@ use Rattle.std.proofs.Common.{◌≡◌, ◌++◌, string_bytes}
 use Rattle.std.specs.Prelude.{codes}
 use Rattle.psci_show.specs.Columns.{core_state}
 use Rattle.psci_world.specs.psci_world_spec.Places.{place}
-use Rattle.psci_shown.specs.Joined.{comma, joined}
+use Rattle.psci_run.specs.Joined.{comma, joined}
 use Rattle.psci_shown.specs.Json.{place_word, state_word}
 use Rattle.psci_shown.proofs.event_json.write_cores.Given as goal
 

@@ -1,7 +1,7 @@
 -- The first parts are written.
 use Rattle.std.proofs.Common.{◌≡◌, ◌++◌, string_bytes, take}
 use Rattle.std.specs.Prelude.{flat_map}
-use Rattle.psci_shown.specs.Joined.{comma}
+use Rattle.psci_run.specs.Joined.{comma}
 use Rattle.psci_shown.specs.Json.{part_text}
 use Rattle.psci_shown.proofs.event_json.write_parts.Given as goal
 

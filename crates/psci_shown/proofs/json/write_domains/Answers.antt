@@ -1,7 +1,7 @@
 -- One domain more is written.
-use Rattle.psci_shown.specs.Joined.{comma}
+use Rattle.psci_run.specs.Joined.{comma}
 use Rattle.psci_shown.specs.Json.{domain_text}
-use Rattle.psci_shown.proofs.Joins.{joined_after}
+use Rattle.psci_run.proofs.Joins.{joined_after}
 use Rattle.psci_shown.proofs.json.write_domains.Goals as goal
 
 pub loop-place-preserved : goal.loop-place-preserved

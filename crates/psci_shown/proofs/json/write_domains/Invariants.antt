@@ -1,6 +1,6 @@
 -- The first power domains are written.
 use Rattle.std.proofs.Common.{◌≡◌, ◌++◌, string_bytes}
-use Rattle.psci_shown.specs.Joined.{comma, joined}
+use Rattle.psci_run.specs.Joined.{comma, joined}
 use Rattle.psci_shown.specs.Json.{domain_text}
 use Rattle.psci_shown.proofs.json.write_domains.Given as goal
 
