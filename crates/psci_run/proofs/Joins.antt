@@ -1,5 +1,5 @@
 -- One text more behind the texts of the first numbers.
-use Rattle.std.proofs.Common.{◌≡◌, ℕ, ◌+◌, ◌==◌, Bool, true, false, List, [], ◌++◌, suc, refl, sym, ap}
+use Rattle.std.proofs.Common.{◌≡◌, ℕ, ◌+◌, ◌==◌, Bool, true, false, List, [], ◌++◌, refl, sym, ap}
 use Rattle.std.proofs.Common.{◌∙◌, add-one, append_assoc, if◌then◌else◌}
 use Rattle.psci_run.specs.Joined.{joined}
 

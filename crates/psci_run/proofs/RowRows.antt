@@ -1,5 +1,5 @@
 -- What is known of a run, and its columns, after known events; and text in lines.
-use Rattle.std.proofs.Common.{◌≡◌, ℕ, List, [], ◌∷◌, ◌++◌, refl, false, true}
+use Rattle.std.proofs.Common.{◌≡◌, List, [], ◌∷◌, refl, false, true}
 use Rattle.std.specs.Prelude.{codes}
 use Rattle.std.specs.Fmt.{digits}
 use Rattle.psci_world_spec.specs.declared.event.Event.{Event}
@@ -36,11 +36,11 @@ row_with_marks = refl
 width : row_width board ≡ 28
 width = refl
 
-colored : letter_text true Running ≡ codes "\x1b[32mR\x1b[0m"
+colored : letter_text true Running ≡ codes "\u{1b}[32mR\u{1b}[0m"
 unfolding digits
 colored = refl
 
-going_off : letter_text true GoingOff ≡ codes "\x1b[33mg\x1b[0m"
+going_off : letter_text true GoingOff ≡ codes "\u{1b}[33mg\u{1b}[0m"
 unfolding digits
 going_off = refl
 

@@ -3,7 +3,7 @@ use Rattle.std.proofs.Common.{◌≡◌, ◌<◌, ℕ, List, [], ◌∷◌, ◌+
 use Rattle.std.proofs.Common.{refl, ap, sym, ◌∙◌, subst, suc, zero}
 use Rattle.std.proofs.lemmas.List.{reverse-append}
 use Rattle.psci_world.specs.Seen.{WorldValue}
-use Rattle.psci_world.specs.psci_board.Board.{BoardValue, cores}
+use Rattle.psci_world.specs.psci_board.Board.{cores}
 use Rattle.psci_world.specs.psci_world_spec.psci_fw_spec.Said.{listed}
 use Rattle.psci_world.specs.psci_world_spec.declared.said.Record.{Record}
 use Rattle.psci_show.specs.declared.sleep.Sleep.{Sleep}

@@ -95,7 +95,10 @@ impl fmt::Display for NameText {
         let core = self.core.number;
         let life = self.life;
         let number = self.number;
-        write!(f, "\"kind\": \"{kind}\", \"core\": {core}, \"life\": {life}, \"number\": {number}")
+        write!(
+            f,
+            "\"kind\": \"{kind}\", \"core\": {core}, \"life\": {life}, \"number\": {number}"
+        )
     }
 }
 

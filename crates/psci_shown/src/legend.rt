@@ -17,6 +17,7 @@ struct DepthLine(u8);
 /// The lines of the first four states, and of the last four.
 #[derive(Clone, Copy)]
 struct FirstStates;
+
 #[derive(Clone, Copy)]
 struct LastStates;
 

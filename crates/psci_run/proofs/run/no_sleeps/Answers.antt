@@ -1,5 +1,5 @@
 -- One core more has none.
-use Rattle.std.proofs.Common.{◌≡◌, ◌++◌, ◌∷◌, [], ◌∙◌, ap, arith, None, length}
+use Rattle.std.proofs.Common.{◌∙◌, ap, arith}
 use Rattle.std.proofs.lemmas.Grind.{common_steps}
 use Rattle.psci_show.specs.Columns.{sleep_in}
 use Rattle.psci_run.proofs.Runs.{none_more}
