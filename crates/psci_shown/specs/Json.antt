@@ -7,7 +7,7 @@ use Rattle.psci_world.specs.psci_board.Board.{BoardValue, cores, cores_below, he
 use Rattle.psci_world.specs.psci_board.declared.node.Node.{Node}
 use Rattle.psci_world.specs.psci_board.declared.span.CoreSpan.{CoreSpan}
 use Rattle.psci_world.specs.psci_world_spec.psci_coord.declared.part.Part.{Part}
-use Rattle.psci_world.specs.psci_world_spec.psci_link.Message.{AckValue}
+use Rattle.psci_world.specs.psci_world_spec.psci_link.Message.{AckValue, MessageValue}
 use Rattle.psci_world.specs.psci_world_spec.psci_link.declared.kind.Kind.{Kind}
 use Rattle.psci_world.specs.psci_world_spec.psci_link.declared.kind.Kind.TheVariants as kinds
 use Rattle.psci_world.specs.psci_world_spec.declared.event.Event.{Event}
@@ -83,12 +83,15 @@ domains_text b level =
       place = place;
     })) (nodes b level) ++ codes "]")
 
+-- what stands behind the text of a board: how many cores it has
+abbrev pub cores_text : BoardValue → List ℕ
+cores_text b = codes "\", \"cores\": " ++ (decimal (cores b) ++ codes ", \"domains\": [")
+
 -- the object of a board of this text
 abbrev pub board_object : List ℕ → BoardValue → List ℕ
 board_object text b =
-    codes "{\"board\": \"" ++ (text ++ (codes "\", \"cores\": " ++ (decimal (cores b)
-    ++ (codes ", \"domains\": [" ++ (joined comma (domains_text b) (height b + 1)
-    ++ codes "]}\n")))))
+    codes "{\"board\": \"" ++ (text ++ (cores_text b
+    ++ (joined comma (domains_text b) (height b + 1) ++ codes "]}\n")))
 
 -- An event ------------------------------------------------------------------------------------
 
@@ -105,13 +108,17 @@ event_text (events.Deliver number) =
     codes "\"kind\": \"deliver\", \"number\": " ++ decimal number
 event_text (events.Take number) = codes "\"kind\": \"take\", \"number\": " ++ decimal number
 
--- what was asked and answered: in words, and as an answer line has it
+-- what was asked and answered, where these messages were sent and these acknowledged: in words, and
+-- as an answer line has it
+abbrev pub words_by : BoardValue → List MessageValue → List ℕ → Record → List ℕ
+words_by b messages acknowledged r =
+    codes ", \"asked\": \"" ++ (asked_text b messages acknowledged r.event
+    ++ (codes "\", \"answer\": \"" ++ (script.said_text r.said
+    ++ (codes "\", \"said\": \"" ++ (said_text b messages r.event r.said ++ codes "\"")))))
+
+-- the same after these records
 abbrev pub words_members : BoardValue → List Record → Record → List ℕ
-words_members b past r =
-    codes ", \"asked\": \"" ++ (asked_text b (reverse (sent past)) (reverse (answered past))
-    r.event ++ (codes "\", \"answer\": \"" ++ (script.said_text r.said
-    ++ (codes "\", \"said\": \"" ++ (said_text b (reverse (sent past)) r.event r.said
-    ++ codes "\"")))))
+words_members b past r = words_by b (reverse (sent past)) (reverse (answered past)) r
 
 -- the state and the place of each core
 abbrev pub cores_members : BoardValue → List Record → List ℕ
@@ -167,12 +174,16 @@ name_text kind core life number =
     codes "\"kind\": \"" ++ (kind_word kind ++ (codes "\", \"core\": " ++ (decimal core
     ++ (codes ", \"life\": " ++ (decimal life ++ (codes ", \"number\": " ++ decimal number))))))
 
--- the message that was sent
-abbrev pub sent_text : Sent → List ℕ
-sent_text s =
+-- what stands before the parts of the message that was sent
+abbrev pub sent_start : Sent → List ℕ
+sent_start s =
     codes "{\"index\": " ++ (decimal s.index ++ (codes ", "
     ++ (name_text s.message.kind s.message.core.number s.message.life s.message.number
-    ++ (codes ", \"parts\": [" ++ (parts_text s.message.parts ++ codes "]}")))))
+    ++ codes ", \"parts\": [")))
+
+-- the message that was sent
+abbrev pub sent_text : Sent → List ℕ
+sent_text s = sent_start s ++ (parts_text s.message.parts ++ codes "]}")
 
 -- the same, where one was sent
 abbrev pub sent_in : Said → List ℕ
@@ -216,12 +227,22 @@ message_members messages r =
     codes ", \"sent\": " ++ (sent_in r.said ++ (codes ", \"acknowledged\": "
     ++ (made_in r.event r.said ++ (codes ", \"taken\": " ++ taken_in messages r.event r.said))))
 
+-- what stands before the line of the event of this number, and behind it
+abbrev pub object_start : ℕ → List ℕ
+object_start number = codes "{\"number\": " ++ (decimal number ++ codes ", \"line\": \"")
+
+abbrev pub event_member : Event → List ℕ
+event_member event = codes "\", \"event\": {" ++ (event_text event ++ codes "}")
+
+-- all members behind the line, of the record that is the newest of these
+abbrev pub event_members : BoardValue → List Record → Record → List ℕ
+event_members b past r =
+    event_member r.event ++ (words_members b past r ++ (cores_members b past
+    ++ (depths_members b past ++ (message_members (reverse (answered past)) r
+    ++ life_members b past))))
+
 -- the object of the newest event, which this line says
 abbrev pub event_object : BoardValue → List Record → List ℕ → List ℕ
 event_object b [] line = []
 event_object b (r ∷ past) line =
-    codes "{\"number\": " ++ (decimal (length (r ∷ past)) ++ (codes ", \"line\": \"" ++ (line
-    ++ (codes "\", \"event\": {" ++ (event_text r.event ++ (codes "}"
-    ++ (words_members b (r ∷ past) r ++ (cores_members b (r ∷ past)
-    ++ (depths_members b (r ∷ past) ++ (message_members (reverse (answered (r ∷ past))) r
-    ++ life_members b (r ∷ past)))))))))))
+    object_start (length (r ∷ past)) ++ (line ++ event_members b (r ∷ past) r)

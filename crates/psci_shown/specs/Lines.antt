@@ -17,6 +17,10 @@ number_text n =
     else (if nat_lt n 100 then codes "  "
     else (if nat_lt n 1000 then codes " " else []))) ++ decimal n
 
+-- the number of an event, and what stands behind it
+abbrev pub margin_text : ℕ → List ℕ
+margin_text n = number_text n ++ codes "  "
+
 -- how wide a line is: 40 columns at least
 abbrev pub width_of : Layout → ℕ
 width_of layout = max 40 layout.width
@@ -25,15 +29,15 @@ width_of layout = max 40 layout.width
 abbrev pub beside_text : Layout → BoardValue → List Record → List ℕ → List ℕ
 beside_text layout b past words =
     let indent = 8 + row_width b in
-    number_text (length past) ++ (codes "  " ++ (row_text layout.color b past ++ (codes "  "
-    ++ wrapped 32 indent (max 20 (width_of layout - indent)) 0 words)))
+    margin_text (length past) ++ (row_text layout.color b past ++ (codes "  "
+    ++ wrapped 32 indent (max 20 (width_of layout - indent)) 0 words))
 
 -- the newest event with its words, and its columns by names below them
 abbrev pub above_text : Layout → BoardValue → List Record → List ℕ → List ℕ
 above_text layout b past words =
-    number_text (length past) ++ (codes "  " ++ (wrapped 32 6 (width_of layout - 6) 0 words
+    margin_text (length past) ++ (wrapped 32 6 (width_of layout - 6) 0 words
     ++ (spaces 6 ++ wrapped 10 6 (width_of layout - 6) 0
-    (entries_or_none (entries_text b past)))))
+    (entries_or_none (entries_text b past))))
 
 -- The newest event of these records: its words stand beside its columns where these take half of
 -- the line at most.

@@ -1,10 +1,10 @@
 //! An event as a JSON object.
 
-ghost use Rattle.std.specs.Prelude.{◌≡◌, ◌≤◌, ◌++◌, [], OnOk, reverse, string_bytes};
+ghost use Rattle.std.specs.Prelude.{◌≡◌, ◌≤◌, ◌++◌, [], OnOk, length, reverse, string_bytes};
 ghost use Rattle.psci_world.specs.psci_board.Board.{height};
 ghost use Rattle.psci_shown.specs.Json as json;
 ghost use Rattle.psci_shown.specs.Json.{all_depths, cores_members, depths_members, event_object};
-ghost use Rattle.psci_shown.specs.Json.{level_depths, life_members, message_members};
+ghost use Rattle.psci_shown.specs.Json.{event_members, level_depths, life_members, message_members};
 ghost use Rattle.psci_shown.specs.Json.{parts_text, words_members};
 ghost use Rattle.psci_run.specs.Run.{answered};
 
@@ -348,6 +348,28 @@ fn write_life(out: &mut String, run: &Run) -> Result<(), AllocError>
     writeln!(out, ", \"life\": {life}, \"live\": {live}}}")
 }
 
+/// Writes what stands before the line of the newest event.
+fn write_start(text: &mut String, run: &Run) -> Result<(), AllocError>
+    ensures { OnOk result (string_bytes text.new
+        ≡ string_bytes text.old ++ json.object_start (length run.now.past)) }
+{
+    let number = run.world().records().len();
+    write!(text, "{{\"number\": {number}, \"line\": \"")
+}
+
+/// Writes the members of the newest event behind its line.
+fn write_members(text: &mut String, run: &Run, item: &Record) -> Result<(), AllocError>
+    ensures { OnOk result (string_bytes text.new
+        ≡ string_bytes text.old ++ event_members run.now.board run.now.past item.now) }
+{
+    write!(text, "\", \"event\": {{{}}}", EventText(&item.event))?;
+    write_words(text, run, item)?;
+    write_cores(text, run)?;
+    write_depths(text, run)?;
+    write_messages(text, run, item)?;
+    write_life(text, run)
+}
+
 /// Writes the object of the newest event, which this line says.
 pub fn write_event(
     out: &mut Vec<u8>,
@@ -362,18 +384,9 @@ pub fn write_event(
     let Some(item) = run.newest() else {
         return Ok(());
     };
-    write!(
-        text,
-        "{{\"number\": {}, \"line\": \"",
-        run.world().records().len()
-    )?;
+    write_start(text, run)?;
     put(out, text)?;
     out.extend_from_slice(line)?;
-    write!(text, "\", \"event\": {{{}}}", EventText(&item.event))?;
-    write_words(text, run, item)?;
-    write_cores(text, run)?;
-    write_depths(text, run)?;
-    write_messages(text, run, item)?;
-    write_life(text, run)?;
+    write_members(text, run, item)?;
     put(out, text)
 }

@@ -1,10 +1,11 @@
 //! An event in lines: its number and its columns, and behind or below them what was asked and what
 //! was answered.
 
-ghost use Rattle.std.specs.Prelude.{◌≡◌, ◌+◌, ◌++◌, [], OnOk, string_bytes};
+ghost use Rattle.std.specs.Prelude.{◌≡◌, ◌+◌, ◌++◌, [], OnOk, length, string_bytes};
 ghost use Rattle.psci_run.specs.Columns as columns;
 ghost use Rattle.psci_run.specs.Run.{words_of};
-ghost use Rattle.psci_shown.specs.Lines.{above_text, beside_text, event_lines};
+ghost use Rattle.psci_shown.specs.Lines as lines;
+ghost use Rattle.psci_shown.specs.Lines.{above_text, beside_text, event_lines, margin_text};
 
 use crate::form::Layout;
 use psci_run::{Run, row_width, write_entries, write_row, write_spaces, write_wrapped};
@@ -67,6 +68,32 @@ fn entries_or_none(entries: &[u8]) -> &[u8]
     }
 }
 
+/// How wide a line is.
+fn width_of(layout: Layout) -> usize
+    ensures { result ≡ lines.width_of layout }
+{
+    NARROWEST.max(layout.width) as usize
+}
+
+/// Writes the number of the newest event, and what stands behind it.
+fn write_number(text: &mut String, run: &Run) -> Result<(), AllocError>
+    ensures { OnOk result (string_bytes text.new
+        ≡ string_bytes text.old ++ margin_text (length run.now.past)) }
+{
+    let number = NumberText(run.world().records().len());
+    write!(text, "{number}  ")
+}
+
+/// Writes the words of a record, and nothing else.
+fn write_said(text: &mut String, run: &Run, item: &Record) -> Result<(), AllocError>
+    ensures { OnOk result (string_bytes text.new
+        ≡ words_of run.now.board run.now.past item.now) }
+{
+    let words = run.words(item);
+    text.clear();
+    write!(text, "{words}")
+}
+
 /// Writes an event with its columns in a row, and its words behind this indent.
 fn write_beside(
     out: &mut Vec<u8>,
@@ -81,13 +108,12 @@ fn write_beside(
     ensures { OnOk result (out.new.items ≡ out.old.items ++ beside_text layout run.now.board
         run.now.past (words_of run.now.board run.now.past item.now)) }
 {
-    let width = layout.width.max(NARROWEST) as usize;
-    write!(text, "{}  ", NumberText(run.world().records().len()))?;
+    let room = FEWEST.max(width_of(layout).saturating_sub(indent));
+    write_number(text, run)?;
     write_row(text, run, layout.color)?;
     write!(text, "  ")?;
     put(out, text)?;
-    write!(text, "{}", run.words(item))?;
-    let room = FEWEST.max(width.saturating_sub(indent));
+    write_said(text, run, item)?;
     write_wrapped(out, text.as_bytes(), b' ', indent, room)
 }
 
@@ -103,10 +129,10 @@ fn write_above(
     ensures { OnOk result (out.new.items ≡ out.old.items ++ above_text layout run.now.board
         run.now.past (words_of run.now.board run.now.past item.now)) }
 {
-    let room = layout.width.max(NARROWEST) as usize - MARGIN;
-    write!(text, "{}  ", NumberText(run.world().records().len()))?;
+    let room = width_of(layout) - MARGIN;
+    write_number(text, run)?;
     put(out, text)?;
-    write!(text, "{}", run.words(item))?;
+    write_said(text, run, item)?;
     write_wrapped(out, text.as_bytes(), b' ', MARGIN, room)?;
     text.clear();
     write_entries(text, run)?;
@@ -130,9 +156,8 @@ pub fn write_lines(
     let Some(item) = run.newest() else {
         return Ok(());
     };
-    let width = layout.width.max(NARROWEST) as usize;
     let indent = MARGIN + row_width(run.world().board()) + 2;
-    if indent <= width / 2 {
+    if indent <= width_of(layout) / 2 {
         write_beside(out, text, run, item, layout, indent)
     } else {
         write_above(out, text, run, item, layout)

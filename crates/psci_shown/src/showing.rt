@@ -1,10 +1,13 @@
 //! Scripts, shown event by event.
 
-ghost use Rattle.std.specs.Prelude.{◌≡◌, ◌<◌, [], false, IfErr, OnOk, string_bytes};
+ghost use Rattle.std.specs.Prelude.{◌≡◌, ◌<◌, ◌≤◌, [], false, length, IfErr, IfOk, OnOk, Ok, Err};
+ghost use Rattle.std.specs.Prelude.{string_bytes};
 ghost use Rattle.psci_bench.specs.Progress.{IsLine, OnlyGivenUp, SameDevices, StaySound};
-ghost use Rattle.psci_script.specs.Limits.{most_lines};
-ghost use Rattle.psci_world.specs.psci_world_spec.Legal.{legal_record};
+ghost use Rattle.psci_bench.specs.Run.{BoardRead, IsNoDevice, LineRefused};
+ghost use Rattle.psci_script.specs.Limits.{longest_line, most_lines};
+ghost use Rattle.psci_script.specs.Line.{line_of};
 ghost use Rattle.psci_shown.specs.Shown as shown;
+ghost use Rattle.psci_shown.specs.Shown.{LineShown};
 
 use crate::event_json::write_event;
 use crate::form::Form;
@@ -13,7 +16,7 @@ use crate::legend::Legend;
 use crate::lines::{put, write_lines};
 use psci_bench::{Answers, Block, Progress, Sink, Source, read_board};
 use psci_run::Run;
-use psci_script::{Extent, Line, ReplayFault, Replayed, ScriptFault, read_line};
+use psci_script::{Extent, Line, ReplayFault, Replayed, ScriptFault, literal, read_line};
 use psci_world::Board;
 use std::alloc::{AllocError, Global};
 
@@ -93,6 +96,13 @@ impl Shower {
     }
 }
 
+/// The text of a board in its line.
+fn board_text(line: &[u8]) -> &[u8]
+    ensures { result.now ≡ shown.board_text line.now }
+{
+    literal(line, b"board ").unwrap_or(&[])
+}
+
 /// The run of the board that the first line has, before any event.
 fn begin<S: Source, K: Sink>(
     progress: &mut Progress<'_, '_, S, K>,
@@ -107,32 +117,54 @@ fn begin<S: Source, K: Sink>(
         return Err(ScriptFault::NoBoard.at(1));
     };
     let line = &progress.block.unread()[..extent.line];
-    let board = read_board(shower.alloc, line)?;
-    let run = Run::new(shower.alloc, &board)?;
-    shower.board(line.get(6..).unwrap_or(&[]), &board)?;
+    let run = show_board(shower, line)?;
     progress.answers.put(&shower.out)?;
     progress.block.skip(extent.taken);
     Ok(run)
 }
 
-/// Makes the event happen that a line says, if it says one, and adds what it is shown as.
+/// The run of the board of a first line, which is shown.
+fn show_board(shower: &mut Shower, line: &[u8]) -> Result<Run, ReplayFault>
+    requires { length line.now ≤ longest_line }
+    ensures form { shower.new.form ≡ shower.old.form }
+    ensures past { IfOk result (λ run. run.past ≡ []) }
+    ensures board { IfOk result (λ run. BoardRead (Ok run.board) line.now) }
+    ensures out { IfOk result (λ run. shower.new.out.items
+        ≡ shown.heading shower.old.form (shown.board_text line.now) run.board) }
+    ensures err { IfErr result (λ fault. BoardRead (Err fault) line.now) }
+{
+    let board = read_board(shower.alloc, line)?;
+    let run = Run::new(shower.alloc, &board)?;
+    shower.board(board_text(line), &board)?;
+    Ok(run)
+}
+
+/// Makes the event happen that a line says, if it says one, and shows it.
 fn show_line(
     run: &mut Run,
     shower: &mut Shower,
-    answers: &mut Answers,
     line: &[u8],
     number: u64,
-) -> Result<(), ReplayFault> {
+) -> Result<(), ReplayFault>
+    requires { length line.now ≤ longest_line }
+    ensures form { shower.new.form ≡ shower.old.form }
+    ensures board { run.new.board ≡ run.old.board }
+    ensures ok { OnOk result (LineShown (line_of line.now) shower.old.form line.now run.old run.new
+        shower.new.out.items) }
+    ensures err { IfErr result (λ fault. LineRefused fault number (line_of line.now)) }
+{
     match read_line(line) {
-        None => return Err(ScriptFault::Line.at(number)),
-        Some(Line::Blank) => {}
+        None => Err(ScriptFault::Line.at(number)),
+        Some(Line::Blank) => {
+            shower.clear();
+            Ok(())
+        }
         Some(Line::Event(event)) => {
             run.happen(event)?;
             shower.event(run, line)?;
-            answers.put(&shower.out)?;
+            Ok(())
         }
     }
-    Ok(())
 }
 
 /// Takes and shows a line, after so many others.
@@ -147,9 +179,11 @@ fn take_line<S: Source, K: Sink>(
     requires count { count < most_lines }
     ensures devices { SameDevices progress.old progress.new }
     ensures sound { StaySound S.failed K.failed progress.old progress.new }
+    ensures fault { IfErr result (λ fault. IsNoDevice fault) }
 {
     let line = &progress.block.unread()[..extent.line];
-    show_line(run, shower, progress.answers, line, count + 1)?;
+    show_line(run, shower, line, count + 1)?;
+    progress.answers.put(&shower.out)?;
     progress.block.skip(extent.taken);
     Ok(())
 }

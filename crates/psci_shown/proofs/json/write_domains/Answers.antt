@@ -9,5 +9,5 @@ loop-place-preserved c =
     joined_after comma (λ place. domain_text c.args.board.now (record {
       level = c.args.level;
       place = place;
-    })) c.loop-place.place _ _ _ _ c.loop-place.invariant c.before.ensures
+    })) c.loop-place.place _ _ _ _ c.loop-place.invariant c.before-in-loop-place.ensures
     c.in_ok-write_domain.ensures
