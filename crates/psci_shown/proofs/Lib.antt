@@ -1,1 +1,4 @@
+pub mod Finish
+pub mod Shows
+pub mod Steps
 pub mod Texts

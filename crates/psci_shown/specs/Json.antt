@@ -83,15 +83,17 @@ domains_text b level =
       place = place;
     })) (nodes b level) ++ codes "]")
 
--- what stands behind the text of a board: how many cores it has
-abbrev pub cores_text : BoardValue → List ℕ
-cores_text b = codes "\", \"cores\": " ++ (decimal (cores b) ++ codes ", \"domains\": [")
+-- what stands behind the text of a board: how many cores it has, and its power domains
+abbrev pub cores_text : ℕ → List ℕ
+cores_text count = codes "\", \"cores\": " ++ (decimal count ++ codes ", \"domains\": [")
+
+abbrev pub levels_text : BoardValue → List ℕ
+levels_text b =
+    cores_text (cores b) ++ (joined comma (domains_text b) (height b + 1) ++ codes "]}\n")
 
 -- the object of a board of this text
 abbrev pub board_object : List ℕ → BoardValue → List ℕ
-board_object text b =
-    codes "{\"board\": \"" ++ (text ++ (cores_text b
-    ++ (joined comma (domains_text b) (height b + 1) ++ codes "]}\n")))
+board_object text b = codes "{\"board\": \"" ++ (text ++ levels_text b)
 
 -- An event ------------------------------------------------------------------------------------
 
@@ -174,16 +176,15 @@ name_text kind core life number =
     codes "\"kind\": \"" ++ (kind_word kind ++ (codes "\", \"core\": " ++ (decimal core
     ++ (codes ", \"life\": " ++ (decimal life ++ (codes ", \"number\": " ++ decimal number))))))
 
--- what stands before the parts of the message that was sent
-abbrev pub sent_start : Sent → List ℕ
-sent_start s =
-    codes "{\"index\": " ++ (decimal s.index ++ (codes ", "
-    ++ (name_text s.message.kind s.message.core.number s.message.life s.message.number
-    ++ codes ", \"parts\": [")))
+-- what stands before the parts of the message of this number that was sent
+abbrev pub start_by : ℕ → MessageValue → List ℕ
+start_by index m =
+    codes "{\"index\": " ++ (decimal index ++ (codes ", "
+    ++ (name_text m.kind m.core.number m.life m.number ++ codes ", \"parts\": [")))
 
 -- the message that was sent
 abbrev pub sent_text : Sent → List ℕ
-sent_text s = sent_start s ++ (parts_text s.message.parts ++ codes "]}")
+sent_text s = start_by s.index s.message ++ (parts_text s.message.parts ++ codes "]}")
 
 -- the same, where one was sent
 abbrev pub sent_in : Said → List ℕ

@@ -2,3 +2,4 @@ pub mod Json
 pub mod Legend
 pub mod Lines
 pub mod Shown
+pub mod Transcript

@@ -5,7 +5,8 @@ ghost use Rattle.std.specs.Prelude.{if◌then◌else◌};
 ghost use Rattle.psci_world.specs.psci_board.Board.{cores_below, height};
 ghost use Rattle.psci_run.specs.Joined.{comma};
 ghost use Rattle.psci_shown.specs.Json as json;
-ghost use Rattle.psci_shown.specs.Json.{board_object, domain_text, domains_text, span_text};
+ghost use Rattle.psci_shown.specs.Json.{board_object, domain_text, domains_text, levels_text};
+ghost use Rattle.psci_shown.specs.Json.{span_text};
 
 use crate::lines::put;
 use psci_show::{CoreState, NodeText};
@@ -116,6 +117,19 @@ fn write_domains(
     write!(out, "]")
 }
 
+/// Writes what stands behind the text of a board.
+fn write_levels(text: &mut String, board: &Board) -> Result<(), AllocError>
+    ensures { OnOk result (string_bytes text.new
+        ≡ string_bytes text.old ++ levels_text board.now) }
+{
+    let cores = board.cores();
+    write!(text, "\", \"cores\": {cores}, \"domains\": [")?;
+    for level in 0..board.height() + 1 {
+        write_domains(text, before(level as usize), board, level)?;
+    }
+    writeln!(text, "]}}")
+}
+
 /// Writes the object of a board of this text.
 pub fn write_board(
     out: &mut Vec<u8>,
@@ -129,10 +143,6 @@ pub fn write_board(
     write!(text, "{{\"board\": \"")?;
     put(out, text)?;
     out.extend_from_slice(line)?;
-    write!(text, "\", \"cores\": {}, \"domains\": [", board.cores())?;
-    for level in 0..board.height() + 1 {
-        write_domains(text, before(level as usize), board, level)?;
-    }
-    writeln!(text, "]}}")?;
+    write_levels(text, board)?;
     put(out, text)
 }

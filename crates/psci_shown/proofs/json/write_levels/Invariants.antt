@@ -2,7 +2,7 @@
 use Rattle.std.proofs.Common.{◌≡◌, ◌++◌, string_bytes}
 use Rattle.psci_run.specs.Joined.{comma, joined}
 use Rattle.psci_shown.specs.Json.{domains_text}
-use Rattle.psci_shown.proofs.json.write_board.Given as goal
+use Rattle.psci_shown.proofs.json.write_levels.Given as goal
 
 abbrev pub invariant-loop-level : goal.invariant-loop-level
 invariant-loop-level l =
