@@ -11,7 +11,7 @@ pub returns-in-Deliver-Acked : goal.returns-in-Deliver-Acked
 returns-in-Deliver-Acked c =
     let i = c.in-Deliver-Acked in
     let h : OnOk c.write.result (string_bytes c.write.new.self
-        ≡ string_bytes c.args.out.now ++ ack_text i.index i.message i.ack) =
+    ≡ string_bytes c.args.out.now ++ ack_text i.index i.message i.ack) =
     c.write.ensures.bytes in
     then_wrote c.write.result _ (string_bytes c.args.out.now) (ack_text i.index i.message i.ack) _ h
     (ap (λ (x : List ℕ). string_bytes c.args.out.now ++ x)

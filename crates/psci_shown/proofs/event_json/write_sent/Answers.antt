@@ -10,7 +10,7 @@ pub returns : goal.returns
 returns c =
     let sent = c.args.sent.now in
     let start : string_bytes c.write.new.self
-        ≡ string_bytes c.args.out.now ++ start_by sent.index sent.message =
+    ≡ string_bytes c.args.out.now ++ start_by sent.index sent.message =
     subst (λ (m : MessageValue). string_bytes c.write.new.self
     ≡ string_bytes c.args.out.now ++ start_by sent.index m) c.message.view_is
     c.in_ok-write.ensures.bytes in

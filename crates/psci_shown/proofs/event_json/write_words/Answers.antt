@@ -19,8 +19,8 @@ same_words a b m n x y r e f h =
 pub returns : goal.returns
 returns c =
     let h : OnOk c.write.result (string_bytes c.write.new.self
-        ≡ string_bytes c.args.out.now ++ words_by c.board-board.result.now
-        c.messages-messages.result.now c.answered.result.now c.args.item.now) =
+    ≡ string_bytes c.args.out.now ++ words_by c.board-board.result.now
+    c.messages-messages.result.now c.answered.result.now c.args.item.now) =
     c.write.ensures.bytes in
     then_wrote c.write.result _ (string_bytes c.args.out.now) (words_by c.board-board.result.now
     c.messages-messages.result.now c.answered.result.now c.args.item.now) _ h
