@@ -1,3 +1,4 @@
+mod ShownRows
 pub mod Finish
 pub mod Shows
 pub mod Steps
