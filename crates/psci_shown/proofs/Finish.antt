@@ -1,7 +1,7 @@
 -- What a shown script leaves, from its beginning to the last text that is written.
 use Rattle.std.proofs.Common.{◌≡◌, ℕ, ◌+◌, ◌<◌, ◌≤◌, Bool, true, false, cond, List, [], ◌∷◌, ◌++◌}
 use Rattle.std.proofs.Common.{length, take, refl, ap, sym, ◌∙◌, arith, append-nil, subst, Option, Some}
-use Rattle.std.proofs.Common.{None, Result, Ok, Err, IsErr, IsErrAnd, IfErr}
+use Rattle.std.proofs.Common.{None, Result, Ok, Err, IsErr, IsErrAnd, IfErr, inl, inr}
 use Rattle.std.specs.Prelude.{codes}
 use Rattle.std.proofs.Math.Seq.{take-append_seam, take-length}
 use Rattle.std.specs.Io.KnownBytes.{Appends, Consumes, IsAtEnd}
@@ -24,64 +24,25 @@ use Rattle.psci_script.specs.declared.grammar.Line.{Line as LineSays}
 use Rattle.psci_script.specs.declared.grammar.Line.TheVariants.{Blank, Event as Says}
 use Rattle.psci_bench.specs.Answered.{Answered}
 use Rattle.psci_bench.specs.Block.{ReadAhead}
-use Rattle.psci_bench.specs.Progress.{Progress, progress, FailsLine, FaultyLine}
-use Rattle.psci_bench.specs.Run.{is_write_fault}
+use Rattle.psci_bench.specs.Progress.{Progress, progress, FailsLine, FaultyLine, IsLineFront}
+use Rattle.psci_bench.specs.Run.{IsWithinBlock, is_write_fault}
 use Rattle.psci_bench.proofs.Known.{appends_more}
 use Rattle.psci_bench.proofs.Transcripts.{is_lt, line_long, line_many}
 use Rattle.psci_shown.specs.declared.form.Form.{Form}
 use Rattle.psci_shown.specs.Shown.{opening}
-use Rattle.psci_shown.specs.Transcript.{Ends, EndsBy, Goes, Runs, Shows, Stops, WritesAll, WritesPart}
+use Rattle.psci_shown.specs.Transcript.{CutShort, Ends, EndsBy, Goes, NothingDone, Runs, Shows}
+use Rattle.psci_shown.specs.Transcript.{Stops, WritesAll, WritesLines, WritesPart}
 use Rattle.psci_shown.specs.Transcript.{shown, shown_of_board, shown_of_first, shown_of_line}
 use Rattle.psci_shown.specs.Transcript.{shown_of_lines, shown_of_rest}
-use Rattle.psci_shown.proofs.Shows.{ends_many, ends_wide, fault_rest, goes_ahead, stops_failed}
-use Rattle.psci_shown.proofs.Shows.{stops_here, stops_part}
+use Rattle.psci_shown.proofs.Shows.{cut_here, ends_many, ends_wide, fault_rest, goes_ahead}
+use Rattle.psci_shown.proofs.Shows.{no_rest, same_end, stops_failed, stops_part}
 
--- It ends as a replay ---------------------------------------------------------------------------
-
-same_line : (form : Form) (b : BoardValue) (past : List Record) (n : ℕ) (l : List ℕ)
-    (r : Result LineSays ScriptFault) (F G : List Record → Transcript)
-    → ((p : List Record) → (F p).end ≡ (G p).end)
-    → (transcript_of_line b past n r F).end ≡ (shown_of_line form b past n l r G).end
-same_line form b past n l (Err fault) F G h = refl
-same_line form b past n l (Ok Blank) F G h = h past
-same_line form b past n l (Ok (Says event)) F G h = h _
-
-same_rest : (form : Form) (b : BoardValue) (past : List Record) (n : ℕ) (ls : List (List ℕ))
-    → (transcript_of_rest b past n ls).end ≡ (shown_of_rest form b past n ls).end
-unfolding transcript_of_rest shown_of_rest
-same_rest form b past n [] = refl
-same_rest form b past n (l ∷ ls) =
-    same_line form b past (n + 1) l (line_said (n + 1) l)
-    (λ records. transcript_of_rest b records (n + 1) ls)
-    (λ records. shown_of_rest form b records (n + 1) ls)
-    (λ records. same_rest form b records (n + 1) ls)
-
-same_board : (form : Form) (text : List ℕ) (r : Result BoardValue BoardFault)
-    (ls : List (List ℕ))
-    → (transcript_of_board r ls).end ≡ (shown_of_board form text r ls).end
-same_board form text (Err fault) ls = refl
-same_board form text (Ok b) ls = same_rest form b [] 1 ls
-
-same_first : (form : Form) (r : Result (List ℕ) ScriptFault) (ls : List (List ℕ))
-    → (transcript_of_first r ls).end ≡ (shown_of_first form r ls).end
-same_first form (Err fault) ls = refl
-same_first form (Ok text) ls = same_board form text (board_of text) ls
-
-same_lines : (form : Form) (ls : List (List ℕ))
-    → (transcript_of_lines ls).end ≡ (shown_of_lines form ls).end
-same_lines form [] = refl
-same_lines form (l ∷ ls) = same_first form (board_line l) ls
-
-pub same_end : (form : Form) (bytes : List ℕ) → (transcript bytes).end ≡ (shown form bytes).end
-unfolding transcript shown
-same_end form bytes = same_lines form (lines bytes)
+-- The beginning ---------------------------------------------------------------------------------
 
 shown_is : (form : Form) (bytes : List ℕ)
     → shown form bytes ≡ after_line (opening form) (shown_of_lines form (lines bytes))
 unfolding shown
 shown_is form bytes = refl
-
--- The beginning ---------------------------------------------------------------------------------
 
 consumes_none : (a : Option (List ℕ)) → (let none : List ℕ = [] in Consumes a a none)
 consumes_none None = tt
@@ -106,10 +67,12 @@ nothing_shown form first before = record {
 
 -- what stands before the script waits
 pub goes_first : (form : Form) (first before : Option (List ℕ)) (answered : Answered)
-    → answered.waiting ≡ opening form → Goes form (shown_of_lines form) first before
+    → answered.waiting ≡ opening form → Goes form (shown_of_lines form) 0 first before
     (progress (record { unread = []; ended = false }) first answered before)
 goes_first form first before answered w = record {
   whole = [];
+  sound = inl (refl, refl);
+  ends = λ f. inl refl;
   from = consumes_none first;
   at_end = λ e. absurd (cc);
   written = [];
@@ -120,8 +83,10 @@ goes_first form first before answered w = record {
 
 -- A call for a line that found none -------------------------------------------------------------
 
--- what the remaining lines are shown as where the next one, of number n, is at fault
+-- what the remaining lines are shown as where there is none, or the next one, of number n, is at
+-- fault
 pub record Faulty (F : List (List ℕ) → Transcript) (n : ℕ) : Type 0 where
+  pub none : (F []).text ≡ []
   pub many : (l : List ℕ) (ls : List (List ℕ)) → 1000000 < n
       → F (l ∷ ls) ≡ ends_unanswered (Err (Script n TooMany))
   pub wide : (l : List ℕ) (ls : List (List ℕ)) → n ≤ 1000000 → 256 < length l
@@ -129,6 +94,7 @@ pub record Faulty (F : List (List ℕ) → Transcript) (n : ℕ) : Type 0 where
 
 pub faulty_first : (form : Form) → Faulty (shown_of_lines form) 1
 faulty_first form = record {
+  none = refl;
   many = λ l ls h. absurd (omega arith);
   wide = λ l ls h k.
       ap (λ (t : Bool). shown_of_first form (cond t (Err Long)
@@ -138,33 +104,36 @@ faulty_first form = record {
 pub faulty_rest : (form : Form) (b : BoardValue) (past : List Record) (n : ℕ)
     → Faulty (shown_of_rest form b past n) (n + 1)
 faulty_rest form b past n = record {
+  none = ap (λ (r : Transcript). r.text) (no_rest form b past n);
   many = λ l ls h. fault_rest form b past n l ls TooMany (line_many (n + 1) l h);
   wide = λ l ls h k. fault_rest form b past n l ls Long (line_long (n + 1) l h k);
 }
 
 faulty_ends : (form : Form) (F : List (List ℕ) → Transcript) (n : ℕ)
-    (first before : Option (List ℕ)) (t : Progress) (fault : ScriptFault) → Faulty F n
-    → Goes form F first before t → FaultyLine n fault t
-    → Ends form (Err (Script n fault)) first before t
+    (first before : Option (List ℕ)) (t : Progress) (fault : ScriptFault) → Faulty F (n + 1)
+    → Goes form F n first before t → FaultyLine (n + 1) fault t
+    → Ends form (Err (Script (n + 1) fault)) first before t
 faulty_ends form F n first before t TooMany q k h =
-    ends_many form F first before t (Err (Script n TooMany)) k h.1
+    ends_many form F n first before t (Err (Script (n + 1) TooMany)) k h.1
     (λ l ls. q.many l ls h.0)
 faulty_ends form F n first before t Long q k h =
-    ends_wide form F first before t (Err (Script n Long)) k h.1 h.2
+    ends_wide form F n first before t (Err (Script (n + 1) Long)) k h.1 h.2
     (λ l ls m. q.wide l ls h.0 m)
 faulty_ends form F n first before t Line q k h = absurd h
 faulty_ends form F n first before t NoBoard q k h = absurd h
 
 pub fails_so : (form : Form) (F : List (List ℕ) → Transcript) (n : ℕ)
-    (first before : Option (List ℕ)) (f : ReplayFault) (s t : Progress) → Faulty F n
-    → Goes form F first before s → FailsLine n f s t → EndsBy form f first before t
+    (first before : Option (List ℕ)) (f : ReplayFault) (s t : Progress) → Faulty F (n + 1)
+    → Goes form F n first before s → FailsLine (n + 1) f s t → EndsBy form f first before t
 fails_so form F n first before (Script l fault) s t q k h =
     subst (λ (m : ℕ). Ends form (Err (Script m fault)) first before t) (sym h.1)
-    (faulty_ends form F n first before t fault q (goes_ahead form F first before s t h.0 k) h.2)
+    (faulty_ends form F n first before t fault q (goes_ahead form F n first before s t h.0 k) h.2)
 fails_so form F n first before (Board fault) s t q k h = absurd h
 fails_so form F n first before Read s t q k h =
-    stops_here form F first before t (goes_ahead form F first before s t h.0.ahead k)
-fails_so form F n first before Write s t q k h = stops_failed form F first before s t k h
+    cut_here form IsLineFront F n first before t
+    (goes_ahead form F n first before s t h.0.ahead k) q.none
+    (λ e. absurd (let g = h.0.going in cc)) h.1
+fails_so form F n first before Write s t q k h = stops_failed form F n first before s t k h
 fails_so form F n first before Memory s t q k h = absurd h
 
 pub ends_so : {X : Type 0} (form : Form) (r : Result X ReplayFault) (e : ReplayFault)
@@ -243,18 +212,25 @@ writes_part form first left before after k =
     part_by form first left before after k.read k.written k.ended k.from k.at_end k.shows k.to
 
 -- all that waited was written
-part_done : (form : Form) (waiting : List ℕ) (first left before taken after : Option (List ℕ))
-    → Stops form waiting first left before taken → Appends taken after waiting
-    → WritesPart form first before after
-part_done form waiting first left before taken after k a =
-    writes_part form first left before after
-    (stops_part form waiting first left before taken after (length waiting) k
-    (subst (λ (x : List ℕ). Appends taken after x) (sym (take-length waiting)) a))
+writes_lines : (form : Form) (Rest : ℕ → List ℕ → Type 0) (first before after : Option (List ℕ))
+    (s : Progress) → CutShort form Rest first before s → Appends s.taken after s.answered.waiting
+    → WritesLines form Rest first s.left before after
+writes_lines form Rest first before after s k a = record {
+  whole = k.whole;
+  lines = k.lines;
+  count = k.count;
+  sound = k.sound;
+  part = k.part;
+  fits = k.fits;
+  from = k.from;
+  to = subst (λ (x : List ℕ). Appends before after x) (sym k.shows)
+      (appends_more before s.taken after k.written s.answered.waiting k.to a);
+}
 
 pub shows_done : (form : Form) (r : Result Replayed ReplayFault)
     (first before after : Option (List ℕ)) (s : Progress) → is_write_fault r ≡ false
     → Runs form r first before s → Appends s.taken after s.answered.waiting
-    → Shows form r first before after
+    → Shows form r first s.left before after
 shows_done form (Ok x) first before after s e k a =
     writes_all form (Ok x) first before after s k a
 shows_done form (Err (Script l f)) first before after s e k a =
@@ -262,14 +238,19 @@ shows_done form (Err (Script l f)) first before after s e k a =
 shows_done form (Err (Board f)) first before after s e k a =
     writes_all form (Err (Board f)) first before after s k a
 shows_done form (Err Read) first before after s e k a =
-    part_done form s.answered.waiting first s.left before s.taken after k a
-shows_done form (Err Memory) first before after s e k a =
-    part_done form s.answered.waiting first s.left before s.taken after k a
+    writes_lines form IsLineFront first before after s k a
+shows_done form (Err Memory) first before after s e (inl k) a = inl (
+  k.left,
+  subst (λ (b : Option (List ℕ)). Appends b after []) k.taken
+      (subst (λ (x : List ℕ). Appends s.taken after x) k.waiting a),
+)
+shows_done form (Err Memory) first before after s e (inr k) a =
+    inr (writes_lines form IsWithinBlock first before after s k a)
 shows_done form (Err Write) first before after s e k a = absurd (cc)
 
 pub shows_failed : (form : Form) (r : Result Replayed ReplayFault)
     (first before : Option (List ℕ)) (s : Progress) → is_write_fault r ≡ true
-    → Runs form r first before s → Shows form r first before s.taken
+    → Runs form r first before s → Shows form r first s.left before s.taken
 shows_failed form (Ok x) first before s e k = absurd (cc)
 shows_failed form (Err (Script l f)) first before s e k = absurd (cc)
 shows_failed form (Err (Board f)) first before s e k = absurd (cc)
@@ -295,6 +276,27 @@ of_ended form end first before s k = record {
   );
 }
 
+of_cut : (form : Form) (Rest : ℕ → List ℕ → Type 0) (first before : Option (List ℕ))
+    (s : Progress) → CutShort form Rest first before s
+    → Stops form s.answered.waiting first s.left before s.taken
+of_cut form Rest first before s k = record {
+  read = k.whole ++ k.part;
+  from = k.from;
+  ended = s.block.ended;
+  at_end = k.at_end;
+  written = k.written;
+  to = k.to;
+  shows = k.more;
+}
+
+of_nothing : (form : Form) (first before : Option (List ℕ)) (s : Progress)
+    → NothingDone first before s → Stops form s.answered.waiting first s.left before s.taken
+of_nothing form first before s k =
+    subst (λ (w : List ℕ). Stops form w first s.left before s.taken) (sym k.waiting)
+    (subst (λ (l : Option (List ℕ)). Stops form [] first l before s.taken) (sym k.left)
+    (subst (λ (t : Option (List ℕ)). Stops form [] first first before t) (sym k.taken)
+    (nothing_shown form first before)))
+
 cut_part : (form : Form) (waiting : List ℕ) (first left before taken after : Option (List ℕ))
     (n : ℕ) → Stops form waiting first left before taken → Appends taken after (take n waiting)
     → WritesPart form first before after
@@ -316,15 +318,25 @@ shows_part form (Err (Board f)) first before after s n e k a =
     cut_part form s.answered.waiting first s.left before s.taken after n
     (of_ended form (Err (Board f)) first before s k) a
 shows_part form (Err Read) first before after s n e k a =
-    cut_part form s.answered.waiting first s.left before s.taken after n k a
-shows_part form (Err Memory) first before after s n e k a =
-    cut_part form s.answered.waiting first s.left before s.taken after n k a
+    cut_part form s.answered.waiting first s.left before s.taken after n
+    (of_cut form IsLineFront first before s k) a
+shows_part form (Err Memory) first before after s n e (inl k) a =
+    cut_part form s.answered.waiting first s.left before s.taken after n
+    (of_nothing form first before s k) a
+shows_part form (Err Memory) first before after s n e (inr k) a =
+    cut_part form s.answered.waiting first s.left before s.taken after n
+    (of_cut form IsWithinBlock first before s k) a
 shows_part form (Err Write) first before after s n e k a = absurd (cc)
 
 -- an answer that stands in another error's place
 pub shows_so : (form : Form) (r : Result Replayed ReplayFault) (e : ReplayFault)
-    (first before after : Option (List ℕ)) → IsErr r × IsErrAnd r (λ f. f ≡ e)
-    → Shows form (Err e) first before after → Shows form r first before after
-shows_so form (Ok x) e first before after h k = absurd (h.1)
-shows_so form (Err f) e first before after h k =
-    subst (λ (x : ReplayFault). Shows form (Err x) first before after) (sym h.1) k
+    (first left before after : Option (List ℕ)) → IsErr r × IsErrAnd r (λ f. f ≡ e)
+    → Shows form (Err e) first left before after → Shows form r first left before after
+shows_so form (Ok x) e first left before after h k = absurd (h.1)
+shows_so form (Err f) e first left before after h k =
+    subst (λ (x : ReplayFault). Shows form (Err x) first left before after) (sym h.1) k
+
+-- no room was had
+pub no_room : (form : Form) (first before : Option (List ℕ))
+    → Shows form (Err Memory) first first before before
+no_room form first before = inl (refl, appends_none before)

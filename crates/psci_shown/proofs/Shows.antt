@@ -1,7 +1,7 @@
 -- Lines that are taken one after another are shown one after another.
 use Rattle.std.proofs.Common.{◌≡◌, ℕ, ◌+◌, ◌<◌, ◌≤◌, Bool, true, false, List, [], ◌∷◌, ◌++◌, length}
 use Rattle.std.proofs.Common.{take, drop, refl, ap, sym, ◌∙◌, arith, append_assoc, append-nil, subst}
-use Rattle.std.proofs.Common.{Option, Some, None, Result, Ok, Err, IsErr, IsErrAnd, IfErr}
+use Rattle.std.proofs.Common.{Option, Some, None, Result, Ok, Err, IsErr, IsErrAnd, IfErr, inr}
 use Rattle.std.proofs.Math.Seq.{take-append_seam}
 use Rattle.std.proofs.lemmas.List.{take-append-drop, length-take-le}
 use Rattle.std.specs.Io.KnownBytes.{Appends, Consumes, IsAtEnd}
@@ -11,7 +11,11 @@ use Rattle.psci_world.specs.psci_world_spec.declared.event.Event.{Event}
 use Rattle.psci_world.specs.psci_world_spec.declared.said.Record.{Record}
 use Rattle.psci_script.specs.Line.{line_of}
 use Rattle.psci_script.specs.Lines.{lines, has_line_feed}
-use Rattle.psci_script.specs.Script.{Transcript, after_line, ends_unanswered, line_said, ok_or}
+use Rattle.psci_script.specs.Script.{Transcript, after_line, board_line, ends_unanswered, line_said}
+use Rattle.psci_script.specs.Script.{ok_or, transcript, transcript_of_board, transcript_of_first}
+use Rattle.psci_script.specs.Script.{transcript_of_line, transcript_of_lines, transcript_of_rest}
+use Rattle.psci_script.specs.psci_board_text.Verdict.{board_of}
+use Rattle.psci_script.specs.psci_board_text.declared.fault.BoardFault.{BoardFault}
 use Rattle.psci_script.specs.declared.fault.Replayed.{Replayed}
 use Rattle.psci_script.specs.declared.fault.ReplayFault.{ReplayFault}
 use Rattle.psci_script.specs.declared.fault.ReplayFault.TheVariants.{Script}
@@ -28,10 +32,11 @@ use Rattle.psci_bench.proofs.Known.{appends_more, consumes_more}
 use Rattle.psci_bench.proofs.Split.{lines_none, lines_some, Longer}
 use Rattle.psci_bench.proofs.Ends.{cut_front, follows_whole}
 use Rattle.psci_bench.proofs.Transcripts.{follows_ahead, line_first, line_follows, line_read}
-use Rattle.psci_bench.proofs.Transcripts.{skipped, taken_within}
+use Rattle.psci_bench.proofs.Transcripts.{skipped, taken_within, whole_line}
 use Rattle.psci_shown.specs.declared.form.Form.{Form}
 use Rattle.psci_shown.specs.Shown.{event_text, opening}
-use Rattle.psci_shown.specs.Transcript.{Ends, Goes, Stops, shown, shown_of_line, shown_of_lines}
+use Rattle.psci_shown.specs.Transcript.{CutShort, Ends, Goes, Stops, shown, shown_of_board}
+use Rattle.psci_shown.specs.Transcript.{shown_of_first, shown_of_line, shown_of_lines}
 use Rattle.psci_shown.specs.Transcript.{shown_of_rest}
 
 -- One line --------------------------------------------------------------------------------------
@@ -82,12 +87,63 @@ fault_rest form b past n l ls fault e =
     ∙ ap (λ (r : Result LineSays ScriptFault). shown_of_line form b past (n + 1) l r
     (λ records. shown_of_rest form b records (n + 1) ls)) e
 
+-- It ends as a replay ---------------------------------------------------------------------------
+
+same_line : (form : Form) (b : BoardValue) (past : List Record) (n : ℕ) (l : List ℕ)
+    (r : Result LineSays ScriptFault) (F G : List Record → Transcript)
+    → ((p : List Record) → (F p).end ≡ (G p).end)
+    → (transcript_of_line b past n r F).end ≡ (shown_of_line form b past n l r G).end
+same_line form b past n l (Err fault) F G h = refl
+same_line form b past n l (Ok Blank) F G h = h past
+same_line form b past n l (Ok (Says event)) F G h = h _
+
+same_rest : (form : Form) (b : BoardValue) (past : List Record) (n : ℕ) (ls : List (List ℕ))
+    → (transcript_of_rest b past n ls).end ≡ (shown_of_rest form b past n ls).end
+unfolding transcript_of_rest shown_of_rest
+same_rest form b past n [] = refl
+same_rest form b past n (l ∷ ls) =
+    same_line form b past (n + 1) l (line_said (n + 1) l)
+    (λ records. transcript_of_rest b records (n + 1) ls)
+    (λ records. shown_of_rest form b records (n + 1) ls)
+    (λ records. same_rest form b records (n + 1) ls)
+
+same_board : (form : Form) (text : List ℕ) (r : Result BoardValue BoardFault)
+    (ls : List (List ℕ))
+    → (transcript_of_board r ls).end ≡ (shown_of_board form text r ls).end
+same_board form text (Err fault) ls = refl
+same_board form text (Ok b) ls = same_rest form b [] 1 ls
+
+same_first : (form : Form) (r : Result (List ℕ) ScriptFault) (ls : List (List ℕ))
+    → (transcript_of_first r ls).end ≡ (shown_of_first form r ls).end
+same_first form (Err fault) ls = refl
+same_first form (Ok text) ls = same_board form text (board_of text) ls
+
+same_lines : (form : Form) (ls : List (List ℕ))
+    → (transcript_of_lines ls).end ≡ (shown_of_lines form ls).end
+same_lines form [] = refl
+same_lines form (l ∷ ls) = same_first form (board_line l) ls
+
+pub same_end : (form : Form) (bytes : List ℕ) → (transcript bytes).end ≡ (shown form bytes).end
+unfolding transcript shown
+same_end form bytes = same_lines form (lines bytes)
+
 -- Steps -----------------------------------------------------------------------------------------
 
-pub goes_ahead : (form : Form) (F : List (List ℕ) → Transcript) (first before : Option (List ℕ))
-    (s t : Progress) → Ahead s t → Goes form F first before s → Goes form F first before t
-goes_ahead form F first before s t a k = record {
+same_front : (s t : Progress) → Ahead s t → s.block.ended ≡ true → t.block.unread ≡ s.block.unread
+same_front s t a e =
+    a.appended ∙ ap (λ (x : List ℕ). s.block.unread ++ x) (a.ended e).1 ∙ append-nil s.block.unread
+
+still_some : (s t : Progress) → Ahead s t → s.block.ended ≡ true → 0 < length t.block.unread
+    → 0 < length s.block.unread
+still_some s t a e h = omega (arith, h, ap length (same_front s t a e))
+
+pub goes_ahead : (form : Form) (F : List (List ℕ) → Transcript) (n : ℕ)
+    (first before : Option (List ℕ)) (s t : Progress) → Ahead s t → Goes form F n first before s
+    → Goes form F n first before t
+goes_ahead form F n first before s t a k = record {
   whole = k.whole;
+  sound = k.sound;
+  ends = λ f. k.ends (λ e. still_some s t a e (f (a.ended e).0));
   from = subst (λ (x : List ℕ). Consumes first t.left x)
       (append_assoc k.whole s.block.unread a.bytes
       ∙ ap (λ (x : List ℕ). k.whole ++ x) (sym a.appended))
@@ -106,42 +162,66 @@ after_both : (x y : List ℕ) (z : Transcript)
 after_both x y z = ap (λ (v : List ℕ). let r : Transcript = record { text = v; end = z.end } in r)
     (sym (append_assoc x y z.text))
 
+-- what is shown of these lines where none follows
+alone : (form : Form) (G : List (List ℕ) → Transcript) (text whole : List ℕ) (block : ReadAhead)
+    → ((rest : List ℕ) → Follows block rest
+    → shown form (whole ++ rest) ≡ after_line text (G (lines rest)))
+    → shown form whole ≡ after_line text (G [])
+alone form G text whole block shows =
+    ap (shown form) (sym (append-nil whole)) ∙ shows [] (λ t. (0, refl))
+    ∙ ap (λ (x : List (List ℕ)). after_line text (G x)) lines_none
+
 -- text that is put behind what waits
-pub goes_put : (form : Form) (F G : List (List ℕ) → Transcript) (first before : Option (List ℕ))
-    (block : ReadAhead) (left taken : Option (List ℕ)) (old new : Answered) (e : Extent)
-    (t : List ℕ) → IsLine e block → Goes form F first before (progress block left old taken)
+pub goes_put : (form : Form) (F G : List (List ℕ) → Transcript) (n events : ℕ)
+    (first before : Option (List ℕ)) (block : ReadAhead) (left taken : Option (List ℕ))
+    (old new : Answered) (e : Extent) (t : List ℕ) → IsLine e block
+    → Goes form F n first before (progress block left old taken)
     → ((ls : List (List ℕ)) → F (take e.line block.unread ∷ ls) ≡ after_line t (G ls))
+    → G [] ≡ ends_unanswered (Ok (record { lines = n + 1; events = events }))
     → new.waiting ≡ old.waiting ++ t
-    → Goes form G first before (progress (skipped block e) left new taken)
-goes_put form F G first before block left taken old new e t i k line w = record {
-  whole = k.whole ++ take e.taken block.unread;
-  from = subst (λ (x : List ℕ). Consumes first left x)
-      (ap (λ (x : List ℕ). k.whole ++ x) (sym (take-append-drop e.taken block.unread))
-      ∙ sym (append_assoc k.whole (take e.taken block.unread) (drop e.taken block.unread)))
-      k.from;
-  at_end = k.at_end;
-  written = k.written;
-  to = k.to;
-  shows = λ rest f.
-      ap (shown form) (append_assoc k.whole (take e.taken block.unread) rest)
-      ∙ k.shows (take e.taken block.unread ++ rest)
-      (line_follows e block rest (taken_within e block i) f)
-      ∙ ap (λ (x : List (List ℕ)). after_line (k.written ++ old.waiting) (F x))
-      (line_first e block rest i f)
-      ∙ ap (after_line (k.written ++ old.waiting)) (line (lines rest))
-      ∙ after_both (k.written ++ old.waiting) t (G (lines rest))
-      ∙ ap (λ (x : List ℕ). after_line x (G (lines rest)))
-      (append_assoc k.written old.waiting t ∙ ap (λ (x : List ℕ). k.written ++ x) (sym w));
-}
+    → Goes form G (n + 1) first before (progress (skipped block e) left new taken)
+goes_put form F G n events first before block left taken old new e t i k line none w =
+    let whole = k.whole ++ take e.taken block.unread in
+    let shows : (rest : List ℕ) → Follows (skipped block e) rest
+    → shown form (whole ++ rest) ≡ after_line (k.written ++ new.waiting) (G (lines rest)) =
+    λ rest f.
+    ap (shown form) (append_assoc k.whole (take e.taken block.unread) rest)
+    ∙ k.shows (take e.taken block.unread ++ rest)
+    (line_follows e block rest (taken_within e block i) f)
+    ∙ ap (λ (x : List (List ℕ)). after_line (k.written ++ old.waiting) (F x))
+    (line_first e block rest i f)
+    ∙ ap (after_line (k.written ++ old.waiting)) (line (lines rest))
+    ∙ after_both (k.written ++ old.waiting) t (G (lines rest))
+    ∙ ap (λ (x : List ℕ). after_line x (G (lines rest)))
+    (append_assoc k.written old.waiting t ∙ ap (λ (x : List ℕ). k.written ++ x) (sym w)) in
+    record {
+      whole = whole;
+      sound = inr (
+        events,
+        same_end form whole ∙ ap (λ (r : Transcript). r.end)
+            (alone form G (k.written ++ new.waiting) whole (skipped block e) shows)
+            ∙ ap (λ (r : Transcript). r.end) none,
+      );
+      ends = λ f. whole_line k.whole e block i f;
+      from = subst (λ (x : List ℕ). Consumes first left x)
+          (ap (λ (x : List ℕ). k.whole ++ x) (sym (take-append-drop e.taken block.unread))
+          ∙ sym (append_assoc k.whole (take e.taken block.unread) (drop e.taken block.unread)))
+          k.from;
+      at_end = k.at_end;
+      written = k.written;
+      to = k.to;
+      shows = shows;
+    }
 
 -- Ends ------------------------------------------------------------------------------------------
 
-ended_by : (form : Form) (F : List (List ℕ) → Transcript) (first before : Option (List ℕ))
-    (s : Progress) (end : Result Replayed ReplayFault) → Goes form F first before s
+ended_by : (form : Form) (F : List (List ℕ) → Transcript) (n : ℕ)
+    (first before : Option (List ℕ))
+    (s : Progress) (end : Result Replayed ReplayFault) → Goes form F n first before s
     → ((rest : List ℕ) → (s.block.ended ≡ true → rest ≡ [])
     → F (lines (s.block.unread ++ rest)) ≡ ends_unanswered end)
     → Ends form end first before s
-ended_by form F first before s end k h = record {
+ended_by form F n first before s end k h = record {
   read = k.whole ++ s.block.unread;
   from = k.from;
   at_end = k.at_end;
@@ -156,24 +236,26 @@ ended_by form F first before s end k h = record {
 }
 
 -- no line is left
-pub ends_none : (form : Form) (F : List (List ℕ) → Transcript) (first before : Option (List ℕ))
-    (s : Progress) (end : Result Replayed ReplayFault) → Goes form F first before s
+pub ends_none : (form : Form) (F : List (List ℕ) → Transcript) (n : ℕ)
+    (first before : Option (List ℕ))
+    (s : Progress) (end : Result Replayed ReplayFault) → Goes form F n first before s
     → s.block.unread ≡ [] → s.block.ended ≡ true → F [] ≡ ends_unanswered end
     → Ends form end first before s
-ends_none form F first before s end k u e h =
-    ended_by form F first before s end k
+ends_none form F n first before s end k u e h =
+    ended_by form F n first before s end k
     (λ rest f. ap F (ap lines (ap (λ (x : List ℕ). x ++ rest) u ∙ f e) ∙ lines_none) ∙ h)
 
 -- the line is at fault whatever follows this front of it
-ends_long : (form : Form) (F : List (List ℕ) → Transcript) (first before : Option (List ℕ))
+ends_long : (form : Form) (F : List (List ℕ) → Transcript) (n : ℕ)
+    (first before : Option (List ℕ))
     (s : Progress) (end : Result Replayed ReplayFault) (front : List ℕ)
-    → Goes form F first before s
+    → Goes form F n first before s
     → ((rest : List ℕ) → Longer front (lines (s.block.unread ++ rest)))
     → ((l : List ℕ) (ls : List (List ℕ)) → length front ≤ length l
     → F (l ∷ ls) ≡ ends_unanswered end)
     → Ends form end first before s
-ends_long form F first before s end front k longer h =
-    ended_by form F first before s end k
+ends_long form F n first before s end front k longer h =
+    ended_by form F n first before s end k
     (λ rest f. let m = longer rest in ap F m.is ∙ h m.first m.others m.long)
 
 any_front : (u rest : List ℕ) → 0 < length u → Longer [] (lines (u ++ rest))
@@ -181,36 +263,39 @@ any_front [] rest h = absurd (omega arith)
 any_front (b ∷ bs) rest h = lines_some b (bs ++ rest)
 
 -- there are too many lines
-pub ends_many : (form : Form) (F : List (List ℕ) → Transcript) (first before : Option (List ℕ))
-    (s : Progress) (end : Result Replayed ReplayFault) → Goes form F first before s
+pub ends_many : (form : Form) (F : List (List ℕ) → Transcript) (n : ℕ)
+    (first before : Option (List ℕ))
+    (s : Progress) (end : Result Replayed ReplayFault) → Goes form F n first before s
     → 0 < length s.block.unread
     → ((l : List ℕ) (ls : List (List ℕ)) → F (l ∷ ls) ≡ ends_unanswered end)
     → Ends form end first before s
-ends_many form F first before s end k some h =
-    ends_long form F first before s end [] k (λ rest. any_front s.block.unread rest some)
+ends_many form F n first before s end k some h =
+    ends_long form F n first before s end [] k (λ rest. any_front s.block.unread rest some)
     (λ l ls _. h l ls)
 
 -- the line is too long
-pub ends_wide : (form : Form) (F : List (List ℕ) → Transcript) (first before : Option (List ℕ))
-    (s : Progress) (end : Result Replayed ReplayFault) → Goes form F first before s
+pub ends_wide : (form : Form) (F : List (List ℕ) → Transcript) (n : ℕ)
+    (first before : Option (List ℕ))
+    (s : Progress) (end : Result Replayed ReplayFault) → Goes form F n first before s
     → 256 < length s.block.unread → has_line_feed (take 257 s.block.unread) ≡ false
     → ((l : List ℕ) (ls : List (List ℕ)) → 256 < length l → F (l ∷ ls) ≡ ends_unanswered end)
     → Ends form end first before s
-ends_wide form F first before s end k wide feeds h =
+ends_wide form F n first before s end k wide feeds h =
     let l : length (take 257 s.block.unread) ≡ 257 =
     length-take-le 257 s.block.unread (omega arith) in
-    ends_long form F first before s end (take 257 s.block.unread) k
+    ends_long form F n first before s end (take 257 s.block.unread) k
     (λ rest. cut_front 256 s.block.unread rest wide feeds)
     (λ x ls m. h x ls (let r : 256 < length x = omega arith in r))
 
 -- a whole line is at fault
-pub ends_line : (form : Form) (F : List (List ℕ) → Transcript) (first before : Option (List ℕ))
-    (s : Progress) (end : Result Replayed ReplayFault) (e : Extent) → Goes form F first before s
+pub ends_line : (form : Form) (F : List (List ℕ) → Transcript) (n : ℕ)
+    (first before : Option (List ℕ))
+    (s : Progress) (end : Result Replayed ReplayFault) (e : Extent) → Goes form F n first before s
     → IsLine e s.block
     → ((ls : List (List ℕ)) → F (take e.line s.block.unread ∷ ls) ≡ ends_unanswered end)
     → Ends form end first before s
-ends_line form F first before s end e k i h =
-    ended_by form F first before s end k
+ends_line form F n first before s end e k i h =
+    ended_by form F n first before s end k
     (λ rest f. ap F
     (ap lines (ap (λ (x : List ℕ). x ++ rest) (sym (take-append-drop e.taken s.block.unread))
     ∙ append_assoc (take e.taken s.block.unread) (drop e.taken s.block.unread) rest)
@@ -220,10 +305,11 @@ ends_line form F first before s end e k i h =
 
 -- Front parts -----------------------------------------------------------------------------------
 
-pub stops_here : (form : Form) (F : List (List ℕ) → Transcript) (first before : Option (List ℕ))
-    (s : Progress) → Goes form F first before s
+pub stops_here : (form : Form) (F : List (List ℕ) → Transcript) (n : ℕ)
+    (first before : Option (List ℕ))
+    (s : Progress) → Goes form F n first before s
     → Stops form s.answered.waiting first s.left before s.taken
-stops_here form F first before s k = record {
+stops_here form F n first before s k = record {
   read = k.whole ++ s.block.unread;
   from = k.from;
   ended = s.block.ended;
@@ -236,6 +322,35 @@ stops_here form F first before s k = record {
         ∙ ap (λ (r : Transcript). r.text)
         (k.shows (s.block.unread ++ rest) (follows_whole s.block rest f)),
   );
+}
+
+-- after whole lines
+pub cut_here : (form : Form) (Rest : ℕ → List ℕ → Type 0) (F : List (List ℕ) → Transcript) (n : ℕ)
+    (first before : Option (List ℕ)) (s : Progress) → Goes form F n first before s
+    → (F []).text ≡ [] → (s.block.ended ≡ true → 0 < length s.block.unread)
+    → Rest (n + 1) s.block.unread → CutShort form Rest first before s
+cut_here form Rest F n first before s k none some fits = record {
+  whole = k.whole;
+  lines = k.ends some;
+  count = n;
+  sound = k.sound;
+  part = s.block.unread;
+  fits = fits;
+  from = k.from;
+  at_end = k.at_end;
+  written = k.written;
+  to = k.to;
+  more = λ rest f. (
+    (F (lines (s.block.unread ++ rest))).text,
+    ap (λ (x : List ℕ). (shown form x).text) (append_assoc k.whole s.block.unread rest)
+        ∙ ap (λ (r : Transcript). r.text)
+        (k.shows (s.block.unread ++ rest) (follows_whole s.block rest f)),
+  );
+  shows =
+      ap (λ (r : Transcript). r.text)
+      (alone form F (k.written ++ s.answered.waiting) k.whole s.block k.shows)
+      ∙ ap (λ (x : List ℕ). (k.written ++ s.answered.waiting) ++ x) none
+      ∙ append-nil (k.written ++ s.answered.waiting);
 }
 
 -- of what waits, so much is written, and the rest is lost
@@ -260,11 +375,12 @@ stops_part form waiting first left before taken after n k a = record {
   );
 }
 
-pub stops_failed : (form : Form) (F : List (List ℕ) → Transcript) (first before : Option (List ℕ))
-    (s t : Progress) → Goes form F first before s → WriteFailed s t
+pub stops_failed : (form : Form) (F : List (List ℕ) → Transcript) (n : ℕ)
+    (first before : Option (List ℕ))
+    (s t : Progress) → Goes form F n first before s → WriteFailed s t
     → Stops form [] first t.left before t.taken
-stops_failed form F first before s t k d =
+stops_failed form F n first before s t k d =
     subst (λ (x : Option (List ℕ)). Stops form [] first x before t.taken) (sym d.left)
     (stops_part form d.before.answered.waiting first d.before.left before d.before.taken t.taken
-    d.count (stops_here form F first before d.before
-    (goes_ahead form F first before s d.before d.ahead k)) d.to)
+    d.count (stops_here form F n first before d.before
+    (goes_ahead form F n first before s d.before d.ahead k)) d.to)

@@ -1,11 +1,11 @@
 -- What the bytes of a script are shown as, line by line, up to the first fault.
 use Rattle.std.specs.Prelude.{◌≡◌, ℕ, ◌+◌, List, [], ◌∷◌, ◌++◌, Bool, true, Option, Result, Ok, Err}
-use Rattle.std.specs.Prelude.{IfSome, length, take}
+use Rattle.std.specs.Prelude.{◌<◌, ◌⊎◌, IfSome, length, take}
 use Rattle.std.specs.Io.KnownBytes.{Appends, Consumes, IsAtEnd}
 use Rattle.psci_world.specs.psci_board.Board.{BoardValue}
 use Rattle.psci_world.specs.psci_world_spec.Legal.{legal_record}
 use Rattle.psci_world.specs.psci_world_spec.declared.said.Record.{Record}
-use Rattle.psci_script.specs.Lines.{lines}
+use Rattle.psci_script.specs.Lines.{AreWhole, lines}
 use Rattle.psci_script.specs.Script.{Transcript, after_line, board_line, ends_unanswered, line_said}
 use Rattle.psci_script.specs.Script.{transcript}
 use Rattle.psci_script.specs.psci_board_text.Verdict.{board_of}
@@ -18,8 +18,8 @@ use Rattle.psci_script.specs.declared.fault.ScriptFault.{ScriptFault}
 use Rattle.psci_script.specs.declared.fault.ScriptFault.TheVariants.{NoBoard}
 use Rattle.psci_script.specs.declared.grammar.Line.{Line as LineSays}
 use Rattle.psci_script.specs.declared.grammar.Line.TheVariants.{Blank, Event as Says}
-use Rattle.psci_bench.specs.Progress.{Progress}
-use Rattle.psci_bench.specs.Run.{Follows}
+use Rattle.psci_bench.specs.Progress.{IsLineFront, Progress}
+use Rattle.psci_bench.specs.Run.{AreSound, Follows, IsWithinBlock}
 use Rattle.psci_shown.specs.declared.form.Form.{Form}
 use Rattle.psci_shown.specs.Shown.{event_text, heading, opening}
 
@@ -66,11 +66,15 @@ shown form bytes = after_line (opening form) (shown_of_lines form (lines bytes))
 
 -- On the way ----------------------------------------------------------------------------------
 
--- Some lines were taken and shown: what follows is shown after them as these remaining lines are.
-pub record Goes (form : Form) (remaining : List (List ℕ) → Transcript)
+-- So many lines were taken and shown, none of them at fault: what follows is shown after them as
+-- these remaining lines are.
+pub record Goes (form : Form) (remaining : List (List ℕ) → Transcript) (count : ℕ)
     (first before : Option (List ℕ)) (s : Progress) : Type 0 where
   -- the bytes of the lines that were taken
   pub whole : List ℕ
+  pub sound : AreSound count whole
+  -- only the last line of a script may have no line feed
+  pub ends : (s.block.ended ≡ true → 0 < length s.block.unread) → AreWhole whole
   pub from : Consumes first s.left (whole ++ s.block.unread)
   pub at_end : s.block.ended ≡ true → IsAtEnd s.left
   -- what was written
@@ -92,6 +96,31 @@ pub record Ends (form : Form) (end : Result Replayed ReplayFault) (first before 
   pub shows : (rest : List ℕ) → (s.block.ended ≡ true → rest ≡ [])
       → shown form (read ++ rest) ≡ record { text = written ++ s.answered.waiting; end = end }
 
+-- A read failed or memory ran out after whole lines, none of them at fault, which are shown.
+pub record CutShort (form : Form) (Rest : ℕ → List ℕ → Type 0) (first before : Option (List ℕ))
+    (s : Progress) : Type 0 where
+  pub whole : List ℕ
+  pub lines : AreWhole whole
+  pub count : ℕ
+  pub sound : AreSound count whole
+  -- what was read after them
+  pub part : List ℕ
+  pub fits : Rest (count + 1) part
+  pub from : Consumes first s.left (whole ++ part)
+  pub at_end : s.block.ended ≡ true → IsAtEnd s.left
+  pub written : List ℕ
+  pub to : Appends before s.taken written
+  -- whatever follows is shown after them
+  pub more : (rest : List ℕ) → (s.block.ended ≡ true → rest ≡ []) → (text : List ℕ)
+      × ((shown form ((whole ++ part) ++ rest)).text ≡ (written ++ s.answered.waiting) ++ text)
+  pub shows : (shown form whole).text ≡ written ++ s.answered.waiting
+
+-- Memory ran out before anything was read, and nothing is shown.
+pub record NothingDone (first before : Option (List ℕ)) (s : Progress) : Type 0 where
+  pub left : s.left ≡ first
+  pub taken : s.taken ≡ before
+  pub waiting : s.answered.waiting ≡ []
+
 -- A front part was shown: this was written, and that waits.
 pub record Stops (form : Form) (waiting : List ℕ) (first left before taken : Option (List ℕ))
     : Type 0 where
@@ -108,8 +137,9 @@ pub record Stops (form : Form) (waiting : List ℕ) (first left before taken : O
 abbrev pub EndsBy : Form → ReplayFault → Option (List ℕ) → Option (List ℕ) → Progress → Type 0
 EndsBy form (Script line fault) first before s = Ends form (Err (Script line fault)) first before s
 EndsBy form (Board fault) first before s = Ends form (Err (Board fault)) first before s
-EndsBy form Read first before s = Stops form s.answered.waiting first s.left before s.taken
-EndsBy form Memory first before s = Stops form s.answered.waiting first s.left before s.taken
+EndsBy form Read first before s = CutShort form IsLineFront first before s
+EndsBy form Memory first before s =
+    NothingDone first before s ⊎ CutShort form IsWithinBlock first before s
 EndsBy form Write first before s = Stops form [] first s.left before s.taken
 
 -- what a run leaves, by how it ended
@@ -126,6 +156,19 @@ abbrev pub WritesAll : Form → Result Replayed ReplayFault → Option (List ℕ
 WritesAll form end first before after = IfSome first (λ bytes.
     ((transcript bytes).end ≡ end) × Appends before after (shown form bytes).text)
 
+-- Whole lines were read, none of them at fault, and exactly what these are shown as was written.
+pub record WritesLines (form : Form) (Rest : ℕ → List ℕ → Type 0)
+    (first left before after : Option (List ℕ)) : Type 0 where
+  pub whole : List ℕ
+  pub lines : AreWhole whole
+  pub count : ℕ
+  pub sound : AreSound count whole
+  -- what was read after them
+  pub part : List ℕ
+  pub fits : Rest (count + 1) part
+  pub from : Consumes first left (whole ++ part)
+  pub to : Appends before after (shown form whole).text
+
 -- a front part of what the script is shown as was written
 abbrev pub WritesPart : Form → Option (List ℕ) → Option (List ℕ) → Option (List ℕ) → Type 0
 WritesPart form first before after = IfSome first (λ bytes.
@@ -133,12 +176,15 @@ WritesPart form first before after = IfSome first (λ bytes.
 
 -- what a shown script leaves, by its answer
 abbrev pub Shows : Form → Result Replayed ReplayFault → Option (List ℕ) → Option (List ℕ)
-    → Option (List ℕ) → Type 0
-Shows form (Ok replayed) first before after = WritesAll form (Ok replayed) first before after
-Shows form (Err (Script line fault)) first before after =
+    → Option (List ℕ) → Option (List ℕ) → Type 0
+Shows form (Ok replayed) first left before after =
+    WritesAll form (Ok replayed) first before after
+Shows form (Err (Script line fault)) first left before after =
     WritesAll form (Err (Script line fault)) first before after
-Shows form (Err (Board fault)) first before after =
+Shows form (Err (Board fault)) first left before after =
     WritesAll form (Err (Board fault)) first before after
-Shows form (Err Read) first before after = WritesPart form first before after
-Shows form (Err Memory) first before after = WritesPart form first before after
-Shows form (Err Write) first before after = WritesPart form first before after
+Shows form (Err Read) first left before after =
+    WritesLines form IsLineFront first left before after
+Shows form (Err Memory) first left before after =
+    ((left ≡ first) × Appends before after []) ⊎ WritesLines form IsWithinBlock first left before after
+Shows form (Err Write) first left before after = WritesPart form first before after

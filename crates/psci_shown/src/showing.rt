@@ -154,7 +154,7 @@ fn start<S: Source, K: Sink>(
     requires { IsFresh S.left K.taken progress.old }
     ensures devices { SameDevices progress.old progress.new }
     ensures sound { StaySound S.failed K.failed progress.old progress.new }
-    ensures ok { OnOk result (Goes form (shown_of_lines form) (S.left progress.old.source.now)
+    ensures ok { OnOk result (Goes form (shown_of_lines form) 0 (S.left progress.old.source.now)
         (K.taken progress.old.sink.now) (progress_of S.left K.taken progress.new)) }
     ensures err { IfErr result (λ fault. EndsBy form fault (S.left progress.old.source.now)
         (K.taken progress.old.sink.now) (progress_of S.left K.taken progress.new)) }
@@ -174,11 +174,11 @@ fn begin<S: Source, K: Sink>(
     ensures devices { SameDevices progress.old progress.new }
     ensures sound { OnOk result (StaySound S.failed K.failed progress.old progress.new) }
     ensures ok { IfOk result (λ run. (first before : Option (List ℕ))
-        → Goes form (shown_of_lines form) first before (progress_of S.left K.taken progress.old)
-        → Goes form (shown_of_rest form run.board run.past 1) first before
+        → Goes form (shown_of_lines form) 0 first before (progress_of S.left K.taken progress.old)
+        → Goes form (shown_of_rest form run.board run.past 1) 1 first before
         (progress_of S.left K.taken progress.new)) }
     ensures err { IfErr result (λ fault. (first before : Option (List ℕ))
-        → Goes form (shown_of_lines form) first before (progress_of S.left K.taken progress.old)
+        → Goes form (shown_of_lines form) 0 first before (progress_of S.left K.taken progress.old)
         → EndsBy form fault first before (progress_of S.left K.taken progress.new)) }
     ensures given_up { IfErr result (OnlyGivenUp S.failed S.interruptions K.failed
         K.interruptions progress.new.source.now progress.new.sink.now) }
@@ -207,12 +207,15 @@ fn take_line<S: Source, K: Sink>(
     ensures devices { SameDevices progress.old progress.new }
     ensures sound { StaySound S.failed K.failed progress.old progress.new }
     ensures ok { OnOk result ((first before : Option (List ℕ))
-        → Goes form (shown_of_rest form run.old.board run.old.past count) first before
+        → Goes form (shown_of_rest form run.old.board run.old.past count) count first
+        before
         (progress_of S.left K.taken progress.old)
-        → Goes form (shown_of_rest form run.new.board run.new.past (count + 1)) first before
+        → Goes form (shown_of_rest form run.new.board run.new.past (count + 1)) (count + 1)
+        first before
         (progress_of S.left K.taken progress.new)) }
     ensures err { IfErr result (λ fault. (first before : Option (List ℕ))
-        → Goes form (shown_of_rest form run.old.board run.old.past count) first before
+        → Goes form (shown_of_rest form run.old.board run.old.past count) count first
+        before
         (progress_of S.left K.taken progress.old)
         → EndsBy form fault first before (progress_of S.left K.taken progress.new)) }
     ensures fault { IfErr result (λ fault. IsNoDevice fault) }
@@ -267,7 +270,8 @@ fn complete<S: Source, K: Sink>(
     requires { IsFresh S.left K.taken progress.old }
     ensures devices { SameDevices progress.old progress.new }
     ensures sound { OnOk result (StaySound S.failed K.failed progress.old progress.new) }
-    ensures shows { Shows form result (S.left progress.old.source.now)
+    ensures shows { Shows form result
+        (S.left progress.old.source.now) (S.left progress.new.source.now)
         (K.taken progress.old.sink.now) (K.taken progress.new.sink.now) }
     ensures given_up { IfErr result (OnlyGivenUp S.failed S.interruptions K.failed
         K.interruptions progress.new.source.now progress.new.sink.now) }
@@ -284,9 +288,12 @@ fn complete<S: Source, K: Sink>(
 /// after another in the world of its board, and each is shown by the world after it.
 ///
 /// Where it ends well, or at a script or board fault, it ends as a replay of the script does, and
-/// exactly what the script is shown as was written. At a read, write or memory fault it is a front
-/// part of that. A read or write fault is answered only where that device failed, took none of some
-/// bytes, or was interrupted 1,000 times in a row; where it ends well neither device has failed.
+/// exactly what the script is shown as was written. At a read fault this is what all whole lines
+/// are shown as that were read; at a memory fault what some whole lines at the front are, after
+/// which no more was read than one block has room for, or nothing was read or written. None of
+/// these lines is at fault. At a write fault it is a front part. A read or write fault is answered
+/// only where that device failed, took none of some bytes, or was interrupted 1,000 times in a row;
+/// where it ends well neither device has failed.
 pub fn show<S: Source, K: Sink>(
     alloc: Global,
     source: &mut S,
@@ -296,8 +303,8 @@ pub fn show<S: Source, K: Sink>(
     requires source { S.failed source.old ≡ false }
     requires sink { K.failed sink.old ≡ false }
     ensures sound { OnOk result ((S.failed source.new ≡ false) × (K.failed sink.new ≡ false)) }
-    ensures shows { Shows form result (S.left source.old) (K.taken sink.old)
-        (K.taken sink.new) }
+    ensures shows { Shows form result (S.left source.old) (S.left source.new)
+        (K.taken sink.old) (K.taken sink.new) }
     ensures given_up { IfErr result (OnlyGivenUp S.failed S.interruptions K.failed K.interruptions
         source.new sink.new) }
 {

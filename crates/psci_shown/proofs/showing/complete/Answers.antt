@@ -21,8 +21,8 @@ returns-in_err-write_to-clause-shows g c =
     let after = g.K.Sink.taken c.write_to.new.sink in
     let w = c.in_err-write_to.ensures {u = tt} in
     shows_so c.args.form c.from_residual.result c.in_err-write_to.field-0.0
-    first before after c.from_residual.ensures
-    (subst (λ (e : ReplayFault). Shows c.args.form (Err e) first before after)
+    first s.left before after c.from_residual.ensures
+    (subst (λ (e : ReplayFault). Shows c.args.form (Err e) first s.left before after)
     (sym w.fault)
     (shows_part c.args.form c.run_lines-ended.result first before after s w.front.0
     (sym c.if-is_write_fault.ensures) c.run_lines-ended.ensures.runs w.front.1))

@@ -15,7 +15,7 @@ returns-in_err-extent-clause-runs g c =
     let form = c.args.form in
     runs_so form c.from_residual-in_err-extent.result c.in_err-extent.field-0.0 _ _ _
     c.from_residual-in_err-extent.ensures
-    (fails_so form (shown_of_rest form l.run.board l.run.past l.lines) (l.lines + 1) _ _
+    (fails_so form (shown_of_rest form l.run.board l.run.past l.lines) l.lines _ _
     c.in_err-extent.field-0.0 _ _ (faulty_rest form l.run.board l.run.past l.lines)
     l.invariant.goes (c.in_err-extent.ensures {u = tt}).found)
 
@@ -28,7 +28,7 @@ returns-in_err-take_line-clause-runs g c =
     runs_so form c.from_residual-in_err-take_line.result c.in_err-take_line.field-0.0 _ _ _
     c.from_residual-in_err-take_line.ensures
     ((c.in_err-take_line.ensures {u = tt}).err _ _
-    (goes_ahead form (shown_of_rest form l.run.board l.run.past l.lines) _ _ _ _ f.0
+    (goes_ahead form (shown_of_rest form l.run.board l.run.past l.lines) l.lines _ _ _ _ f.0
     l.invariant.goes))
 
 pub lines-preserved : goal.lines-preserved
@@ -44,7 +44,7 @@ lines-preserved g c =
       sound = sound_more _ _ l.invariant.sound (sound_more _ _
           (c.in_ok-extent.ensures {u = tt}).sound c.take_line.ensures.sound);
       goes = (c.in_ok-take_line.ensures {u = tt}).ok _ _
-          (goes_ahead form (shown_of_rest form l.run.board l.run.past l.lines) _ _ _ _ f.0
+          (goes_ahead form (shown_of_rest form l.run.board l.run.past l.lines) l.lines _ _ _ _ f.0
           l.invariant.goes);
     }
 
@@ -59,7 +59,7 @@ returns-clause-runs g c =
     (c.in_ok-extent.ensures {u = tt}).found in
     subst (λ (m : ℕ). Ends form (Ok (record { lines = l.lines; events = m })) first before t)
     (sym c.events.ensures)
-    (ends_none form (shown_of_rest form l.run.board l.run.past l.lines) first before t
+    (ends_none form (shown_of_rest form l.run.board l.run.past l.lines) l.lines first before t
     (Ok (record { lines = l.lines; events = length l.run.past }))
-    (goes_ahead form (shown_of_rest form l.run.board l.run.past l.lines) first before _ t f.0
+    (goes_ahead form (shown_of_rest form l.run.board l.run.past l.lines) l.lines first before _ t f.0
     l.invariant.goes) f.1 f.2 (no_rest form l.run.board l.run.past l.lines))

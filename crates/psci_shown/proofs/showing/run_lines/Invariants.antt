@@ -9,7 +9,7 @@ invariant-lines g l = record {
   few : l.lines ≤ 1000000;
   devices : SameDevices l.fn.progress l.progress;
   sound : StaySound g.S.Source.failed g.K.Sink.failed l.fn.progress l.progress;
-  goes : Goes l.form (shown_of_rest l.form l.run.board l.run.past l.lines)
+  goes : Goes l.form (shown_of_rest l.form l.run.board l.run.past l.lines) l.lines
       (g.S.Source.left l.fn.progress.source.now) (g.K.Sink.taken l.fn.progress.sink.now)
       (progress_of g.S.Source.left g.K.Sink.taken l.progress);
 }

@@ -1,5 +1,5 @@
 -- What stands before the script waits.
-use Rattle.std.proofs.Common.{◌≡◌, ℕ, List, [], ◌++◌, ◌∙◌, ap, subst, sym}
+use Rattle.std.proofs.Common.{◌≡◌, ℕ, List, [], ◌++◌, ◌∙◌, ap, subst, sym, refl, inl}
 use Rattle.psci_script.specs.declared.fault.ReplayFault.{ReplayFault}
 use Rattle.psci_script.specs.declared.fault.ReplayFault.TheVariants.{Memory}
 use Rattle.psci_bench.specs.Answered.{Answered}
@@ -7,7 +7,7 @@ use Rattle.psci_bench.specs.Block.{ReadAhead}
 use Rattle.psci_bench.specs.Progress.{Progress, progress, progress_of}
 use Rattle.psci_bench.proofs.Steps.{if_err_so}
 use Rattle.psci_shown.specs.Transcript.{EndsBy, Goes, shown_of_lines}
-use Rattle.psci_shown.proofs.Finish.{goes_first, nothing_shown}
+use Rattle.psci_shown.proofs.Finish.{goes_first}
 use Rattle.psci_shown.proofs.showing.start.Goals as goal
 
 pub returns-in_err-opening-clause-err : goal.returns-in_err-opening-clause-err
@@ -16,7 +16,7 @@ returns-in_err-opening-clause-err g c =
     let before = g.K.Sink.taken c.args.progress.now.sink.now in
     if_err_so c.from_residual.result Memory _ c.from_residual.ensures
     (subst (λ (s : Progress). EndsBy c.args.form Memory first before s) (sym c.requires)
-    (nothing_shown c.args.form first before))
+    (inl (record { left = refl; taken = refl; waiting = refl })))
 
 pub returns-in_err-put-clause-err : goal.returns-in_err-put-clause-err
 returns-in_err-put-clause-err g c =
@@ -27,14 +27,14 @@ returns-in_err-put-clause-err g c =
     (subst (λ (a : Answered). EndsBy c.args.form Memory first before
     (progress p.block.now first a before)) (sym (c.in_err-put.ensures {u = tt}).err)
     (subst (λ (s : Progress). EndsBy c.args.form Memory first before s) (sym c.requires)
-    (nothing_shown c.args.form first before)))
+    (inl (record { left = refl; taken = refl; waiting = refl }))))
 
 pub returns-clause-ok : goal.returns-clause-ok
 returns-clause-ok g c =
     let first = g.S.Source.left c.args.progress.now.source.now in
     let before = g.K.Sink.taken c.args.progress.now.sink.now in
     let is = (c.in_ok-put.ensures {u = tt}).ok in
-    subst (λ (y : ReadAhead). Goes c.args.form (shown_of_lines c.args.form) first before
+    subst (λ (y : ReadAhead). Goes c.args.form (shown_of_lines c.args.form) 0 first before
     (progress y first c.put.new.self before)) (sym (ap (λ (s : Progress). s.block) c.requires))
     (goes_first c.args.form first before c.put.new.self
     (ap (λ (a : Answered). a.waiting) is

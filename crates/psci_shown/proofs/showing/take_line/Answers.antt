@@ -6,10 +6,13 @@ use Rattle.psci_bench.specs.Answered.{Answered}
 use Rattle.psci_bench.specs.Block.{ReadAhead}
 use Rattle.psci_bench.specs.Progress.{progress, progress_of}
 use Rattle.psci_bench.specs.Run.{LineRefused}
+use Rattle.psci_bench.proofs.Beginning.{room_of}
 use Rattle.psci_bench.proofs.Steps.{if_err_so}
+use Rattle.psci_script.specs.Script.{Transcript}
+use Rattle.psci_shown.proofs.Shows.{no_rest}
 use Rattle.psci_shown.specs.Shown.{LineShown}
 use Rattle.psci_shown.specs.Transcript.{Goes, shown_of_rest}
-use Rattle.psci_shown.proofs.Steps.{line_goes, line_not, still_stops}
+use Rattle.psci_shown.proofs.Steps.{cut_short, line_goes, line_not}
 use Rattle.psci_shown.proofs.showing.take_line.Goals as goal
 
 pub returns-in_err-show_line-clause-err : goal.returns-in_err-show_line-clause-err
@@ -20,7 +23,7 @@ returns-in_err-show_line-clause-err g c =
     let f = c.in_err-show_line.field-0.0 in
     if_err_so c.from_residual.result f _ c.from_residual.ensures
     (λ first before k. line_not c.args.form f run.board run.past c.args.count first before s e
-    c.requires.count c.requires.line k
+    c.requires.count (room_of c.unread.ensures.bytes c.unread.ensures.room) c.requires.line k
     (subst (λ (u : List ℕ). LineRefused f (c.args.count + 1) (line_of (take e.line u)))
     c.unread.ensures.bytes (c.in_err-show_line.ensures {u = tt}).err))
 
@@ -30,8 +33,10 @@ returns-in_err-put-clause-err g c =
     let run = c.args.run.now in
     let form = c.args.form in
     if_err_so c.from_residual-in_err-put.result Memory _ c.from_residual-in_err-put.ensures
-    (λ first before k. still_stops form (shown_of_rest form run.board run.past c.args.count) first
-    before s c.put.new.self (c.in_err-put.ensures {u = tt}).err k)
+    (λ first before k. cut_short form (shown_of_rest form run.board run.past c.args.count)
+    c.args.count first before s c.put.new.self c.args.extent c.requires.line
+    (room_of c.unread.ensures.bytes c.unread.ensures.room) (c.in_err-put.ensures {u = tt}).err
+    (ap (λ (r : Transcript). r.text) (no_rest form run.board run.past c.args.count)) k)
 
 pub returns-clause-ok : goal.returns-clause-ok
 returns-clause-ok g c = λ first before k.
@@ -42,7 +47,7 @@ returns-clause-ok g c = λ first before k.
     let e = c.args.extent in
     let text = c.show_line.new.texts.out.items in
     subst (λ (y : ReadAhead). Goes form (shown_of_rest form new.board new.past (c.args.count + 1))
-    first before (progress y s.left c.put.new.self s.taken)) (sym c.skip.ensures)
+    (c.args.count + 1) first before (progress y s.left c.put.new.self s.taken)) (sym c.skip.ensures)
     (line_goes (line_of (take e.line s.block.unread)) form old new c.args.count first before
     s.block s.left s.taken s.answered c.put.new.self e text refl c.requires.count
     c.requires.line c.show_line.ensures.board k
