@@ -3,16 +3,13 @@ use Rattle.std.proofs.Common.{◌≡◌, ℕ, ◌+◌, ◌<◌, ◌≤◌, Bool,
 use Rattle.std.proofs.Common.{length, take, refl, ap, sym, ◌∙◌, arith, append-nil, subst, Option, Some}
 use Rattle.std.proofs.Common.{None, Result, Ok, Err, IsErr, IsErrAnd, IfErr, inl, inr}
 use Rattle.std.specs.Prelude.{codes}
-use Rattle.std.proofs.Math.Seq.{take-append_seam, take-length}
+use Rattle.std.proofs.Math.Seq.{take-append_seam}
 use Rattle.std.specs.Io.KnownBytes.{Appends, Consumes, IsAtEnd}
 use Rattle.psci_world.specs.psci_board.Board.{BoardValue}
 use Rattle.psci_world.specs.psci_world_spec.declared.said.Record.{Record}
 use Rattle.psci_script.specs.Lines.{lines}
-use Rattle.psci_script.specs.Script.{Transcript, after_line, board_line, ends_unanswered, line_said}
-use Rattle.psci_script.specs.Script.{ok_or, transcript, transcript_of_board, transcript_of_first}
-use Rattle.psci_script.specs.Script.{transcript_of_line, transcript_of_lines, transcript_of_rest}
-use Rattle.psci_script.specs.psci_board_text.Verdict.{board_of}
-use Rattle.psci_script.specs.psci_board_text.declared.fault.BoardFault.{BoardFault}
+use Rattle.psci_script.specs.Script.{Transcript, after_line, ends_unanswered}
+use Rattle.psci_script.specs.Script.{ok_or, transcript}
 use Rattle.psci_script.specs.psci_text.Reading.{literal_at}
 use Rattle.psci_script.specs.declared.fault.Replayed.{Replayed}
 use Rattle.psci_script.specs.declared.fault.ReplayFault.{ReplayFault}
@@ -20,10 +17,7 @@ use Rattle.psci_script.specs.declared.fault.ReplayFault.TheVariants.{Script, Boa
 use Rattle.psci_script.specs.declared.fault.ReplayFault.TheVariants.{Memory}
 use Rattle.psci_script.specs.declared.fault.ScriptFault.{ScriptFault}
 use Rattle.psci_script.specs.declared.fault.ScriptFault.TheVariants.{NoBoard, Line, Long, TooMany}
-use Rattle.psci_script.specs.declared.grammar.Line.{Line as LineSays}
-use Rattle.psci_script.specs.declared.grammar.Line.TheVariants.{Blank, Event as Says}
 use Rattle.psci_bench.specs.Answered.{Answered}
-use Rattle.psci_bench.specs.Block.{ReadAhead}
 use Rattle.psci_bench.specs.Progress.{Progress, progress, FailsLine, FaultyLine, IsLineFront}
 use Rattle.psci_bench.specs.Run.{IsWithinBlock, is_write_fault}
 use Rattle.psci_bench.proofs.Known.{appends_more}
@@ -32,10 +26,12 @@ use Rattle.psci_shown.specs.declared.form.Form.{Form}
 use Rattle.psci_shown.specs.Shown.{opening}
 use Rattle.psci_shown.specs.Transcript.{CutShort, Ends, EndsBy, Goes, NothingDone, Runs, Shows}
 use Rattle.psci_shown.specs.Transcript.{Stops, WritesAll, WritesLines, WritesPart}
-use Rattle.psci_shown.specs.Transcript.{shown, shown_of_board, shown_of_first, shown_of_line}
+use Rattle.psci_shown.specs.Transcript.{shown, shown_of_first}
 use Rattle.psci_shown.specs.Transcript.{shown_of_lines, shown_of_rest}
-use Rattle.psci_shown.proofs.Shows.{cut_here, ends_many, ends_wide, fault_rest, goes_ahead}
-use Rattle.psci_shown.proofs.Shows.{no_rest, same_end, stops_failed, stops_part}
+use Rattle.psci_shown.proofs.Rests.{fault_rest}
+use Rattle.psci_shown.proofs.Shows.{cut_here, ends_many, ends_wide, goes_ahead}
+use Rattle.psci_shown.proofs.Rests.{no_rest, same_end}
+use Rattle.psci_shown.proofs.Shows.{stops_failed, stops_part}
 
 -- The beginning ---------------------------------------------------------------------------------
 

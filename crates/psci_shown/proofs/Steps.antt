@@ -1,7 +1,7 @@
 -- One step of a shown script, by what it answered.
 use Rattle.std.proofs.Common.{◌≡◌, ℕ, ◌+◌, ◌<◌, ◌≤◌, Bool, true, false, List, [], ◌∷◌, ◌++◌, length}
-use Rattle.std.proofs.Common.{take, refl, ap, sym, ◌∙◌, arith, append-nil, subst, cond, nat_lt, Option}
-use Rattle.std.proofs.Common.{Some, None, Result, Ok, Err, inl, inr}
+use Rattle.std.proofs.Common.{take, refl, ap, sym, ◌∙◌, arith, subst, cond, nat_lt, Option}
+use Rattle.std.proofs.Common.{Some, None, Ok, Err, inl, inr}
 use Rattle.std.specs.Prelude.{codes, unwrap_or}
 use Rattle.std.proofs.lemmas.List.{length-take-le}
 use Rattle.psci_world.specs.Seen.{WorldValue}
@@ -9,8 +9,7 @@ use Rattle.psci_world.specs.psci_board.Board.{BoardValue}
 use Rattle.psci_world.specs.psci_world_spec.Legal.{legal_record}
 use Rattle.psci_world.specs.psci_world_spec.declared.said.Record.{Record}
 use Rattle.psci_script.specs.Line.{line_of}
-use Rattle.psci_script.specs.Script.{Transcript, after_line, board_line, ok_or}
-use Rattle.psci_script.specs.psci_board_text.Verdict.{board_of}
+use Rattle.psci_script.specs.Script.{Transcript, board_line, ok_or}
 use Rattle.psci_script.specs.psci_text.Reading.{literal_at}
 use Rattle.psci_script.specs.declared.fault.ReplayFault.{ReplayFault}
 use Rattle.psci_script.specs.declared.fault.ReplayFault.TheVariants.{Script, Board, Read, Write}
@@ -29,8 +28,10 @@ use Rattle.psci_shown.specs.declared.form.Form.{Form}
 use Rattle.psci_shown.specs.Shown.{LineShown, board_text, event_text, heading}
 use Rattle.psci_shown.specs.Transcript.{Ends, EndsBy, Goes, shown_of_board, shown_of_first}
 use Rattle.psci_shown.specs.Transcript.{shown_of_lines, shown_of_rest}
-use Rattle.psci_shown.proofs.Shows.{blank_rest, cut_here, ends_line, event_rest, fault_rest}
-use Rattle.psci_shown.proofs.Shows.{goes_put, no_rest}
+use Rattle.psci_shown.proofs.Rests.{blank_rest, event_rest, fault_rest}
+use Rattle.psci_shown.proofs.Shows.{cut_here, ends_line}
+use Rattle.psci_shown.proofs.Rests.{no_rest}
+use Rattle.psci_shown.proofs.Shows.{goes_put}
 
 some : (e : Extent) (block : ReadAhead) → IsLine e block → 0 < length block.unread
 some e block (few, feeds, inl w) = omega (arith, w.1)

@@ -1,5 +1,5 @@
 -- Texts that are written piece by piece.
-use Rattle.std.proofs.Common.{◌≡◌, ℕ, List, [], ◌++◌, refl, ap, sym, ◌∙◌, append_assoc, Bool, true}
+use Rattle.std.proofs.Common.{◌≡◌, ℕ, List, [], ◌++◌, ap, ◌∙◌, append_assoc, Bool, true}
 use Rattle.std.proofs.Common.{false, Result, Ok, Err, OnOk, if◌then◌else◌}
 use Rattle.psci_run.specs.Joined.{joined}
 

@@ -1,8 +1,8 @@
 -- A board and an event as JSON objects.
 use Rattle.std.specs.Prelude.{ℕ, ◌+◌, ◌&&◌, not, Bool, true, false, List, [], ◌∷◌, ◌++◌, codes}
-use Rattle.std.specs.Prelude.{Option, None, Some, length, reverse, slice_get, suc, if◌then◌else◌}
+use Rattle.std.specs.Prelude.{Option, None, Some, length, reverse, slice_get, if◌then◌else◌}
 use Rattle.std.specs.Prelude.{flat_map, unwrap_or}
-use Rattle.std.specs.Fmt.{decimal, digits}
+use Rattle.std.specs.Fmt.{decimal}
 use Rattle.psci_world.specs.psci_board.Board.{BoardValue, cores, cores_below, height, nodes}
 use Rattle.psci_world.specs.psci_board.declared.node.Node.{Node}
 use Rattle.psci_world.specs.psci_board.declared.span.CoreSpan.{CoreSpan}

@@ -1,17 +1,11 @@
 -- What a script is shown as.
-use Rattle.std.specs.Prelude.{◌≡◌, ℕ, ◌+◌, List, [], ◌∷◌, ◌++◌, codes, if◌then◌else◌, Option, None}
-use Rattle.std.specs.Prelude.{Some, Result, Ok, Err, unwrap_or}
+use Rattle.std.specs.Prelude.{◌≡◌, ℕ, List, [], ◌∷◌, codes, if◌then◌else◌, Option, None}
+use Rattle.std.specs.Prelude.{Some, unwrap_or}
 use Rattle.psci_world.specs.Seen.{WorldValue}
 use Rattle.psci_world.specs.psci_board.Board.{BoardValue}
 use Rattle.psci_world.specs.psci_world_spec.Legal.{legal_record}
 use Rattle.psci_world.specs.psci_world_spec.declared.said.Record.{Record}
-use Rattle.psci_script.specs.Line.{line_of}
-use Rattle.psci_script.specs.Lines.{lines}
-use Rattle.psci_script.specs.Script.{board_line, line_said}
-use Rattle.psci_script.specs.psci_board_text.Verdict.{board_of}
-use Rattle.psci_script.specs.psci_board_text.declared.fault.BoardFault.{BoardFault}
 use Rattle.psci_script.specs.psci_text.Reading.{literal_at}
-use Rattle.psci_script.specs.declared.fault.ScriptFault.{ScriptFault}
 use Rattle.psci_script.specs.declared.grammar.Line.{Line as LineSays}
 use Rattle.psci_script.specs.declared.grammar.Line.TheVariants.{Blank, Event as Says}
 use Rattle.psci_shown.specs.declared.form.Form.{Form}

@@ -4,145 +4,18 @@ ghost use Rattle.std.specs.Prelude.{◌≡◌, ◌≤◌, ◌++◌, [], OnOk, le
 ghost use Rattle.psci_world.specs.psci_board.Board.{height};
 ghost use Rattle.psci_shown.specs.Json as json;
 ghost use Rattle.psci_shown.specs.Json.{all_depths, cores_members, depths_members, event_object};
-ghost use Rattle.psci_shown.specs.Json.{event_members, level_depths, life_members, message_members};
-ghost use Rattle.psci_shown.specs.Json.{parts_text, words_members};
+ghost use Rattle.psci_shown.specs.Json.{level_depths, life_members, message_members};
+ghost use Rattle.psci_shown.specs.Json.{event_members, parts_text, words_members};
 ghost use Rattle.psci_run.specs.Run.{answered};
 
-use crate::json::{before, kind_word, place_word, state_word, truth};
+use crate::event_pieces::{AckText, EventText, LifeText, NameText, PartText};
+use crate::json::{before, place_word, state_word, truth};
 use crate::lines::put;
 use psci_run::Run;
 use psci_script::SaidText as AnswerText;
 use psci_show::{AskedText, Depths, SaidText, is_told};
-use psci_world::{Ack, Core, Event, Kind, Node, Part, Record, Regs, Said, Sent};
+use psci_world::{Core, Event, Node, Part, Record, Said, Sent};
 use std::alloc::AllocError;
-use std::fmt;
-
-/// The members of an event.
-#[derive(Clone, Copy)]
-struct EventText<'a>(&'a Event);
-
-/// A part of a message: level, depth and generation.
-#[derive(Clone, Copy)]
-struct PartText<'a>(&'a Part);
-
-/// What a message and its acknowledgement have in common.
-#[derive(Clone, Copy)]
-struct NameText {
-    kind: Kind,
-    core: Core,
-    life: u32,
-    number: u32,
-}
-
-/// An acknowledgement that was made, of the message of a number.
-#[derive(Clone, Copy)]
-struct AckText<'a> {
-    index: u64,
-    message: u64,
-    ack: &'a Ack,
-}
-
-/// The life, if there is one.
-#[derive(Clone, Copy)]
-struct LifeText(Option<u32>);
-
-impl fmt::Display for EventText<'_> {
-    ghost use Rattle.std.specs.Prelude.{Some};
-    ghost use Rattle.psci_shown.specs.Json.{event_text};
-
-    ghost output = { λ text. Some (event_text text.0.now) };
-
-    fn fmt<W: fmt::Write>(&self, f: &mut fmt::Formatter<W>) -> fmt::Result {
-        match self.0 {
-            Event::Call(core, Regs { x0, x1, x2, x3 }) => write!(
-                f,
-                "\"kind\": \"call\", \"number\": {core}, \"registers\": \
-                 [\"0x{x0:x}\", \"0x{x1:x}\", \"0x{x2:x}\", \"0x{x3:x}\"]"
-            ),
-            Event::Enter(core) => write!(f, "\"kind\": \"enter\", \"number\": {core}"),
-            Event::Wake(core) => write!(f, "\"kind\": \"wake\", \"number\": {core}"),
-            Event::Reset(core) => write!(f, "\"kind\": \"reset\", \"number\": {core}"),
-            Event::Deliver(number) => write!(f, "\"kind\": \"deliver\", \"number\": {number}"),
-            Event::Take(number) => write!(f, "\"kind\": \"take\", \"number\": {number}"),
-        }
-    }
-}
-
-impl fmt::Display for PartText<'_> {
-    ghost use Rattle.std.specs.Prelude.{Some};
-    ghost use Rattle.psci_shown.specs.Json.{part_text};
-
-    ghost output = { λ text. Some (part_text text.0.now) };
-
-    fn fmt<W: fmt::Write>(&self, f: &mut fmt::Formatter<W>) -> fmt::Result {
-        let Part {
-            level,
-            depth,
-            generation,
-        } = self.0;
-        write!(f, "[{level}, {depth}, {generation}]")
-    }
-}
-
-impl fmt::Display for NameText {
-    ghost use Rattle.std.specs.Prelude.{Some};
-    ghost use Rattle.psci_shown.specs.Json.{name_text};
-
-    ghost output = { λ name. Some (name_text name.kind name.core.number name.life name.number) };
-
-    fn fmt<W: fmt::Write>(&self, f: &mut fmt::Formatter<W>) -> fmt::Result {
-        let kind = kind_word(self.kind);
-        let core = self.core.number;
-        let life = self.life;
-        let number = self.number;
-        write!(
-            f,
-            "\"kind\": \"{kind}\", \"core\": {core}, \"life\": {life}, \"number\": {number}"
-        )
-    }
-}
-
-impl fmt::Display for AckText<'_> {
-    ghost use Rattle.std.specs.Prelude.{Some};
-    ghost use Rattle.psci_shown.specs.Json.{ack_text};
-
-    ghost output = { λ text. Some (ack_text text.index text.message text.ack.now) };
-
-    fn fmt<W: fmt::Write>(&self, f: &mut fmt::Formatter<W>) -> fmt::Result {
-        let AckText {
-            index,
-            message,
-            ack,
-        } = *self;
-        let name = NameText {
-            kind: ack.kind,
-            core: ack.core,
-            life: ack.life,
-            number: ack.number,
-        };
-        let applied = ack.applied;
-        let stale = truth(ack.stale);
-        write!(
-            f,
-            "{{\"index\": {index}, \"message\": {message}, {name}, \"applied\": {applied}, \
-             \"stale\": {stale}}}"
-        )
-    }
-}
-
-impl fmt::Display for LifeText {
-    ghost use Rattle.std.specs.Prelude.{Some};
-    ghost use Rattle.psci_shown.specs.Json.{life_text};
-
-    ghost output = { λ text. Some (life_text text.0) };
-
-    fn fmt<W: fmt::Write>(&self, f: &mut fmt::Formatter<W>) -> fmt::Result {
-        match self.0 {
-            Some(life) => write!(f, "{life}"),
-            None => write!(f, "null"),
-        }
-    }
-}
 
 /// Writes the words of an event and of its answer.
 fn write_words(out: &mut String, run: &Run, item: &Record) -> Result<(), AllocError>

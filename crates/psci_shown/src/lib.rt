@@ -5,6 +5,7 @@
 #![tactic(auto)]
 
 mod event_json;
+mod event_pieces;
 mod form;
 mod json;
 mod legend;

@@ -1,6 +1,6 @@
 -- The newest event is written before and behind its line.
-use Rattle.std.proofs.Common.{◌≡◌, ℕ, List, [], ◌∷◌, ◌++◌, length, ◌∙◌, ap, sym, refl, option_map}
-use Rattle.std.proofs.Common.{Option, Some, slice_get, string_bytes}
+use Rattle.std.proofs.Common.{◌≡◌, ℕ, List, [], ◌∷◌, ◌++◌, length, ◌∙◌, ap, sym, option_map}
+use Rattle.std.proofs.Common.{Some, slice_get, string_bytes}
 use Rattle.psci_world.specs.psci_board.Board.{BoardValue}
 use Rattle.psci_world.specs.psci_world_spec.declared.said.Record.{Record}
 use Rattle.psci_shown.specs.Json.{event_members, event_object, object_start}

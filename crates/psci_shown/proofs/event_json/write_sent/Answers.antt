@@ -1,5 +1,5 @@
 -- What is written is said of the message's value.
-use Rattle.std.proofs.Common.{◌≡◌, ℕ, List, ◌++◌, ◌∙◌, ap, subst, string_bytes}
+use Rattle.std.proofs.Common.{◌≡◌, ◌++◌, ◌∙◌, ap, subst, string_bytes}
 use Rattle.std.specs.Prelude.{codes}
 use Rattle.psci_world.specs.psci_world_spec.psci_link.Message.{MessageValue}
 use Rattle.psci_shown.specs.Json.{parts_text, start_by}

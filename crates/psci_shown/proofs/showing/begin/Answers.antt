@@ -1,11 +1,11 @@
 -- The first line is shown, or ends the script.
-use Rattle.std.proofs.Common.{◌≡◌, ℕ, List, take, ◌++◌, ◌∙◌, ap, subst, sym, Some, None, Ok, Err, refl}
+use Rattle.std.proofs.Common.{ℕ, List, take, ◌++◌, ◌∙◌, ap, subst, sym, Some, None, Ok, Err, refl}
 use Rattle.psci_script.specs.declared.fault.ReplayFault.{ReplayFault}
 use Rattle.psci_script.specs.declared.fault.ReplayFault.TheVariants.{Memory, Script}
 use Rattle.psci_script.specs.declared.fault.ScriptFault.TheVariants.{NoBoard}
 use Rattle.psci_bench.specs.Answered.{Answered}
 use Rattle.psci_bench.specs.Block.{ReadAhead}
-use Rattle.psci_bench.specs.Progress.{Progress, progress, progress_of}
+use Rattle.psci_bench.specs.Progress.{progress, progress_of}
 use Rattle.psci_bench.specs.Run.{BoardRead}
 use Rattle.psci_bench.proofs.Beginning.{room_of}
 use Rattle.psci_bench.proofs.Steps.{finds_as, if_err_so}

@@ -1,10 +1,9 @@
 -- What stands before the script waits.
-use Rattle.std.proofs.Common.{◌≡◌, ℕ, List, [], ◌++◌, ◌∙◌, ap, subst, sym, refl, inl}
-use Rattle.psci_script.specs.declared.fault.ReplayFault.{ReplayFault}
+use Rattle.std.proofs.Common.{ℕ, List, ◌++◌, ◌∙◌, ap, subst, sym, refl, inl}
 use Rattle.psci_script.specs.declared.fault.ReplayFault.TheVariants.{Memory}
 use Rattle.psci_bench.specs.Answered.{Answered}
 use Rattle.psci_bench.specs.Block.{ReadAhead}
-use Rattle.psci_bench.specs.Progress.{Progress, progress, progress_of}
+use Rattle.psci_bench.specs.Progress.{Progress, progress}
 use Rattle.psci_bench.proofs.Steps.{if_err_so}
 use Rattle.psci_shown.specs.Transcript.{EndsBy, Goes, shown_of_lines}
 use Rattle.psci_shown.proofs.Finish.{goes_first}

@@ -1,5 +1,5 @@
 -- A later line is shown, or ends the script.
-use Rattle.std.proofs.Common.{◌≡◌, ℕ, List, take, ◌++◌, ◌+◌, ◌∙◌, ap, subst, sym, refl}
+use Rattle.std.proofs.Common.{ℕ, List, take, ◌++◌, ◌+◌, ◌∙◌, ap, subst, sym, refl}
 use Rattle.psci_script.specs.declared.fault.ReplayFault.TheVariants.{Memory}
 use Rattle.psci_script.specs.Line.{line_of}
 use Rattle.psci_bench.specs.Answered.{Answered}
@@ -9,7 +9,7 @@ use Rattle.psci_bench.specs.Run.{LineRefused}
 use Rattle.psci_bench.proofs.Beginning.{room_of}
 use Rattle.psci_bench.proofs.Steps.{if_err_so}
 use Rattle.psci_script.specs.Script.{Transcript}
-use Rattle.psci_shown.proofs.Shows.{no_rest}
+use Rattle.psci_shown.proofs.Rests.{no_rest}
 use Rattle.psci_shown.specs.Shown.{LineShown}
 use Rattle.psci_shown.specs.Transcript.{Goes, shown_of_rest}
 use Rattle.psci_shown.proofs.Steps.{cut_short, line_goes, line_not}

@@ -4,7 +4,7 @@ use Rattle.std.specs.Prelude.{codes}
 use Rattle.std.specs.Fmt.{HasWritten, decimal}
 use Rattle.psci_world.specs.psci_world_spec.psci_link.Message.{AckValue}
 use Rattle.psci_shown.specs.Json.{ack_text, name_text}
-use Rattle.psci_shown.proofs.event_json.AckTextDisplay.fmt.Goals as goal
+use Rattle.psci_shown.proofs.event_pieces.AckTextDisplay.fmt.Goals as goal
 
 abbrev ack_by : ℕ → ℕ → List ℕ → ℕ → List ℕ → List ℕ
 ack_by index message name applied stale =
