@@ -1,6 +1,7 @@
 -- What a shown script leaves, from its beginning to the last text that is written.
 use Rattle.std.proofs.Common.{◌≡◌, ℕ, ◌+◌, ◌<◌, ◌≤◌, Bool, true, false, cond, List, [], ◌∷◌, ◌++◌}
-use Rattle.std.proofs.Common.{length, take, refl, ap, sym, ◌∙◌, arith, append-nil, subst, Option, Some}
+use Rattle.std.proofs.Common.{length, take, refl, ap, sym, ◌∙◌, arith, append-nil, subst, Option}
+use Rattle.std.proofs.Common.{Some}
 use Rattle.std.proofs.Common.{None, Result, Ok, Err, IsErr, IsErrAnd, IfErr, inl, inr}
 use Rattle.std.specs.Prelude.{codes}
 use Rattle.std.proofs.Math.Seq.{take-append_seam}

@@ -68,7 +68,8 @@ above : event_lines (wide 45) board (run_from board [] (Enter 0 ∷ on_3 ∷ [])
     ≡ codes "   2  core 0 CPU_ON of core 3, entry\n"
     ++ (codes "      0x40001000, context 0x7 -> SUCCESS;\n"
     ++ (codes "      Start #0 of core 3\n"
-    ++ (codes "      core 0: R; core 3: P 3!; cluster 0: 0;\n" ++ codes "      cluster 1: 3!; system: 0\n")))
+    ++ (codes "      core 0: R; core 3: P 3!; cluster 0: 0;\n"
+    ++ codes "      cluster 1: 3!; system: 0\n")))
 unfolding computing sleep_of digits answered
 above = refl
 
@@ -81,17 +82,20 @@ narrowest = refl
 -- JSON ------------------------------------------------------------------------------------------
 
 object_of_board : board_object (codes "(2 2)") board
-    ≡ codes "{\"board\": \"(2 2)\", \"cores\": 4, \"domains\": [[{\"name\": \"core 0\", \"cores\": [0]}, "
+    ≡ codes "{\"board\": \"(2 2)\", \"cores\": 4, \"domains\": "
+    ++ (codes "[[{\"name\": \"core 0\", \"cores\": [0]}, "
     ++ (codes "{\"name\": \"core 1\", \"cores\": [1]}, {\"name\": \"core 2\", \"cores\": [2]}, "
-    ++ (codes "{\"name\": \"core 3\", \"cores\": [3]}], [{\"name\": \"cluster 0\", \"cores\": [0, 1]}, "
+    ++ (codes "{\"name\": \"core 3\", \"cores\": [3]}], "
+    ++ (codes "[{\"name\": \"cluster 0\", \"cores\": [0, 1]}, "
     ++ (codes "{\"name\": \"cluster 1\", \"cores\": [2, 3]}], "
-    ++ codes "[{\"name\": \"system\", \"cores\": [0, 1, 2, 3]}]]}\n")))
+    ++ codes "[{\"name\": \"system\", \"cores\": [0, 1, 2, 3]}]]}\n")))))
 unfolding computing digits
 object_of_board = refl
 
 -- a message is sent, and what is granted differs from what is
 message_sent : event_object board (run_from board [] (Enter 0 ∷ on_3 ∷ [])) (codes "call 0 ..")
-    ≡ codes "{\"number\": 2, \"line\": \"call 0 ..\", \"event\": {\"kind\": \"call\", \"number\": 0, "
+    ≡ codes "{\"number\": 2, \"line\": \"call 0 ..\", "
+    ++ (codes "\"event\": {\"kind\": \"call\", \"number\": 0, "
     ++ (codes "\"registers\": [\"0xc4000003\", \"0x101\", \"0x40001000\", \"0x7\"]}, "
     ++ (codes "\"asked\": \"core 0 CPU_ON of core 3, entry 0x40001000, context 0x7\", "
     ++ (codes "\"answer\": \"return 0 #0 start 3 life 1 number 0\", "
@@ -100,23 +104,25 @@ message_sent : event_object board (run_from board [] (Enter 0 ∷ on_3 ∷ [])) 
     ++ (codes "\"places\": [\"running\", \"stopped\", \"stopped\", \"stopped\"], "
     ++ (codes "\"depths\": [[0, 3, 3, 3], [0, 3], [0]], "
     ++ (codes "\"granted\": [[0, 3, 3, 0], [0, 0], [0]], "
-    ++ (codes "\"sent\": {\"index\": 0, \"kind\": \"start\", \"core\": 3, \"life\": 1, \"number\": 0, "
-    ++ (codes "\"parts\": []}, \"acknowledged\": null, \"taken\": null, "
-    ++ codes "\"life\": 1, \"live\": true}\n"))))))))))
+    ++ (codes "\"sent\": {\"index\": 0, \"kind\": \"start\", \"core\": 3, "
+    ++ (codes "\"life\": 1, \"number\": 0, \"parts\": []}, "
+    ++ (codes "\"acknowledged\": null, \"taken\": null, "
+    ++ codes "\"life\": 1, \"live\": true}\n"))))))))))))
 unfolding computing sleep_of digits answered
 message_sent = refl
 
 -- an acknowledgement is made
 made : event_object board (run_from board [] asleep) (codes "deliver 1")
-    ≡ codes "{\"number\": 6, \"line\": \"deliver 1\", \"event\": {\"kind\": \"deliver\", \"number\": 1}, "
+    ≡ codes "{\"number\": 6, \"line\": \"deliver 1\", "
+    ++ (codes "\"event\": {\"kind\": \"deliver\", \"number\": 1}, "
     ++ (codes "\"asked\": \"the power controller gets Down #1 of core 3\", "
     ++ (codes "\"answer\": \"ack #1 applied 1\", "
     ++ (codes "\"said\": \"acknowledgement 1: 1 of 1 parts applied\", "
     ++ (codes "\"cores\": [\"running\", \"off\", \"off\", \"retention\"], "
     ++ (codes "\"places\": [\"running\", \"stopped\", \"stopped\", \"stopped\"], "
     ++ (codes "\"depths\": [[0, 3, 3, 2], [0, 0], [0]], \"granted\": [[0, 3, 3, 2], [0, 0], [0]], "
-    ++ (codes "\"sent\": null, \"acknowledged\": {\"index\": 1, \"message\": 1, \"kind\": \"down\", "
-    ++ (codes "\"core\": 3, \"life\": 1, \"number\": 1, \"applied\": 1, \"stale\": false}, "
-    ++ codes "\"taken\": null, \"life\": 1, \"live\": true}\n"))))))))
+    ++ (codes "\"sent\": null, \"acknowledged\": {\"index\": 1, \"message\": 1, "
+    ++ (codes "\"kind\": \"down\", \"core\": 3, \"life\": 1, \"number\": 1, \"applied\": 1, \"stale\": false}, "
+    ++ codes "\"taken\": null, \"life\": 1, \"live\": true}\n")))))))))
 unfolding computing sleep_of digits answered
 made = refl

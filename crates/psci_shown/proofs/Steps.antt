@@ -134,22 +134,24 @@ pub line_goes : (o : Option LineSays) (form : Form) (v w : WorldValue) (n : ℕ)
     (progress (skipped block e) left new taken)
 line_goes None form v w n first before block left taken old new e text o h i b k x a = absurd x
 line_goes (Some Blank) form v w n first before block left taken old new e text o h i b k x a =
-    subst (λ (z : WorldValue). Goes form (shown_of_rest form z.board z.past (n + 1)) (n + 1) first before
-    (progress (skipped block e) left new taken)) (sym x.0)
+    subst (λ (z : WorldValue). Goes form (shown_of_rest form z.board z.past (n + 1)) (n + 1) first
+    before (progress (skipped block e) left new taken)) (sym x.0)
     (goes_put form (shown_of_rest form v.board v.past n) (shown_of_rest form v.board v.past (n + 1))
     n (length v.past) first before block left taken old new e [] i k
     (λ ls. blank_rest form v.board v.past n (take e.line block.unread) ls (omega arith)
     (short e block i) o) (no_rest form v.board v.past (n + 1))
     (a ∙ ap (λ (t : List ℕ). old.waiting ++ t) x.1))
-line_goes (Some (Says event)) form v w n first before block left taken old new e text o h i b k x a =
+line_goes (Some (Says event)) form v w n first before block left taken old new e text o h i b k x
+    a =
     let later : List Record = legal_record v.board v.past event ∷ v.past in
     let line = take e.line block.unread in
-    subst (λ (p : List Record). Goes form (shown_of_rest form w.board p (n + 1)) (n + 1) first before
-    (progress (skipped block e) left new taken)) (sym x.0)
+    subst (λ (p : List Record). Goes form (shown_of_rest form w.board p (n + 1)) (n + 1) first
+    before (progress (skipped block e) left new taken)) (sym x.0)
     (subst (λ (c : BoardValue). Goes form (shown_of_rest form c later (n + 1)) (n + 1) first before
     (progress (skipped block e) left new taken)) (sym b)
     (goes_put form (shown_of_rest form v.board v.past n) (shown_of_rest form v.board later (n + 1))
-    n (length later) first before block left taken old new e (event_text form v.board later line) i k
+    n (length later) first before block left taken old new e (event_text form v.board later line)
+    i k
     (λ ls. event_rest form v.board v.past n line ls event (omega arith) (short e block i) o)
     (no_rest form v.board later (n + 1))
     (a ∙ ap (λ (t : List ℕ). old.waiting ++ t) x.1)))

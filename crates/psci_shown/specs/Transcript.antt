@@ -186,5 +186,6 @@ Shows form (Err (Board fault)) first left before after =
 Shows form (Err Read) first left before after =
     WritesLines form IsLineFront first left before after
 Shows form (Err Memory) first left before after =
-    ((left ≡ first) × Appends before after []) ⊎ WritesLines form IsWithinBlock first left before after
+    ((left ≡ first) × Appends before after [])
+    ⊎ WritesLines form IsWithinBlock first left before after
 Shows form (Err Write) first left before after = WritesPart form first before after

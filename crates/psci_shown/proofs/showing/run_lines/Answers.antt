@@ -61,5 +61,5 @@ returns-clause-runs g c =
     (sym c.events.ensures)
     (ends_none form (shown_of_rest form l.run.board l.run.past l.lines) l.lines first before t
     (Ok (record { lines = l.lines; events = length l.run.past }))
-    (goes_ahead form (shown_of_rest form l.run.board l.run.past l.lines) l.lines first before _ t f.0
-    l.invariant.goes) f.1 f.2 (no_rest form l.run.board l.run.past l.lines))
+    (goes_ahead form (shown_of_rest form l.run.board l.run.past l.lines) l.lines first before _ t
+    f.0 l.invariant.goes) f.1 f.2 (no_rest form l.run.board l.run.past l.lines))
