@@ -17,3 +17,4 @@ pub mod Calling
 pub mod Following
 mod SwapRows
 pub mod Twins
+pub mod Histories
