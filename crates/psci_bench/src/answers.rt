@@ -9,7 +9,7 @@ ghost use Rattle.psci_script.specs.Text.{answer_line};
 
 use crate::device::Sink;
 use crate::transfer::write_all;
-use psci_script::{Act, Answer, LONGEST_RETURN, ReplayFault, Said, write_return};
+use psci_script::{LONGEST_ANSWER, ReplayFault, Said, write_answer};
 use std::alloc::{AllocError, Global};
 use std::marker::Model;
 
@@ -19,7 +19,8 @@ const FIRST_ROOM: usize = 65536;
 /// The answers to the events so far, of which the last may wait to be written.
 #[derive(Drop)]
 pub struct Answers {
-    line: String,
+    /// Where the next answer line is written.
+    room: [u8; LONGEST_ANSWER],
     waiting: Vec<u8>,
     events: u64,
 }
@@ -38,7 +39,7 @@ impl Answers {
         ensures { IfOk result (λ answers. answers ≡ record { waiting = []; events = 0 }) }
     {
         Ok(Answers {
-            line: String::with_capacity(alloc, 256)?,
+            room: [0; LONGEST_ANSWER],
             waiting: Vec::with_capacity(alloc, FIRST_ROOM)?,
             events: 0,
         })
@@ -60,21 +61,8 @@ impl Answers {
         }) }
         ensures err { OnErr result (self.new ≡ self.old) }
     {
-        let number = self.events + 1;
-        if let Said::Fw {
-            act: Act::Return(code),
-            sent: None,
-        } = said
-        {
-            let mut line = [0; LONGEST_RETURN];
-            let start = write_return(number, *code, &mut line);
-            self.waiting.extend_from_slice(&line[start..])?;
-        } else {
-            let answer = Answer { number, said };
-            self.line.clear();
-            write!(self.line, "{answer}")?;
-            self.waiting.extend_from_slice(self.line.as_bytes())?;
-        }
+        let start = write_answer(self.events + 1, said, &mut self.room);
+        self.waiting.extend_from_slice(&self.room[start..])?;
         self.events += 1;
         Ok(())
     }

@@ -1,10 +1,11 @@
-pub mod Codes
 pub mod Cutting
 pub mod EventLines
 mod FaultRows
+pub mod HexDigits
 mod LimitRows
 mod LineRows
 mod NumberRows
+pub mod LineFeeds
 pub mod PartLines
 mod RunRows
 mod ScriptRows

@@ -5,15 +5,6 @@ ghost use Rattle.std.specs.Prelude.{Some};
 use psci_world_spec::{Ack, Act, Kind, Part, Said, Sent, Taken};
 use std::fmt;
 
-/// What was said of the event of this number, counted from 1.
-#[derive(Clone, Copy)]
-pub struct Answer<'a> {
-    /// The number of the event.
-    pub number: u64,
-    /// What was said of it.
-    pub said: &'a Said,
-}
-
 /// What a core does next, as an answer line has it.
 #[derive(Clone, Copy)]
 struct ActText<'a>(&'a Act);
@@ -166,16 +157,5 @@ impl fmt::Display for SaidText<'_> {
             Said::Ignored => write!(f, "ignored"),
             Said::Absent => write!(f, "absent"),
         }
-    }
-}
-
-impl fmt::Display for Answer<'_> {
-    ghost use Rattle.std.specs.Prelude.{Some};
-    ghost use Rattle.psci_script.specs.Text.{answer_line};
-
-    ghost output = { λ answer. Some (answer_line answer.number answer.said.now) };
-
-    fn fmt<W: fmt::Write>(&self, f: &mut fmt::Formatter<W>) -> fmt::Result {
-        writeln!(f, "{} {}", self.number, SaidText(self.said))
     }
 }

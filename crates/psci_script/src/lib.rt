@@ -5,15 +5,17 @@
 //! - The *answer text* of a script has one line for each event before the first fault.
 #![tactic(auto)]
 
+mod answer_line;
 mod answer_text;
+mod digits;
 mod fault;
 mod grammar;
 mod laws;
 mod limits;
 mod lines;
-mod return_line;
 
-pub use answer_text::{Answer, SaidText};
+pub use answer_line::{LONGEST_ANSWER, write_answer};
+pub use answer_text::SaidText;
 pub use fault::{ReplayFault, Replayed, ScriptFault};
 pub use grammar::{Line, read_line};
 pub use laws::law_event_lines;
@@ -22,4 +24,3 @@ pub use lines::{Extent, Front, cut, last_line};
 pub use psci_board_text::{BoardFault, ReadBoard, law_boards};
 pub use psci_text::literal;
 pub use psci_world_spec::{Act, Board, Code, Event, Said};
-pub use return_line::{LONGEST_RETURN, write_return};
