@@ -62,7 +62,8 @@ impl Answers {
         ensures err { OnErr result (self.new ≡ self.old) }
     {
         let start = write_answer(self.events + 1, said, &mut self.room);
-        self.waiting.extend_from_slice(&self.room[start..])?;
+        let room = &self.room[..];
+        self.waiting.extend_from_slice(&room[start..])?;
         self.events += 1;
         Ok(())
     }
