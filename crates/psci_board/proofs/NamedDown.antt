@@ -1,14 +1,16 @@
 -- The place that a word names, from the highest level down.
 use Rattle.std.proofs.Common.{◌≡◌, ℕ, zero, suc, ◌+◌, ◌*◌, ◌/◌, ◌%◌, ◌^◌, ◌<◌, ◌≤◌, List, [], ◌∷◌}
-use Rattle.std.proofs.Common.{length, drop, get_or, ap, subst, refl, sym, ◌∙◌, arith, Some, None}
+use Rattle.std.proofs.Common.{sum, take, length, drop, get_or, ap, subst, refl, sym, ◌∙◌, arith, Some, None}
 use Rattle.std.proofs.lemmas.Nat.{pow-add}
 use Rattle.std.proofs.Math.Nat.{div-one, div-div-eq-div-mul}
 use Rattle.std.proofs.Math.Seq.{drop-cons}
 use Rattle.std.proofs.lemmas.List.{drop_all}
-use Rattle.psci_board.specs.Board.{IsTree}
+use Rattle.psci_board.specs.Board.{IsTree, address_up, group_of, index_in}
+use Rattle.psci_board.specs.Board.{size_below}
+use Rattle.psci_board.proofs.Groups.{counted}
 use Rattle.psci_board.specs.Level.{index_named, child_in}
-use Rattle.psci_board.proofs.Fields.{named_at, named_below, named_below_none, none_named}
-use Rattle.psci_board.proofs.Levels.{IsTree-drop}
+use Rattle.psci_board.proofs.Fields.{named_at, named_below, named_below_none, none_named, named_is}
+use Rattle.psci_board.proofs.Levels.{IsTree-drop, level}
 use Rattle.psci_board.proofs.Named.{shifted}
 
 -- a word without one field more
@@ -28,14 +30,6 @@ none_up (w ∷ ws) word (suc k) t h e =
     named_below_none w ws word t (none_up ws (word / 256) k t.3 (omega arith)
     (ap (index_named (drop k ws)) (shifted (word / 256) word k refl) ∙ e))
 
--- a word has no field above those of all levels
-pub none_over : (levels : List (List ℕ)) (word n : ℕ) → IsTree levels → n ≡ length levels
-    → (word / 2 ^ (8 * n) ≡ 0 → ⊥) → index_named levels word ≡ None
-none_over levels word n t long over =
-    none_up levels word n t (omega (arith, long))
-    (ap (λ ls. index_named ls (word / 2 ^ (8 * n))) (drop_all n levels (omega (arith, long)))
-    ∙ none_named [] (word / 2 ^ (8 * n)) (λ i h a. over (omega (arith, h, a))))
-
 -- one level down
 pub named_step : (levels : List (List ℕ)) (word k g : ℕ) → IsTree levels → k < length levels
     → index_named (drop (k + 1) levels) (word / 2 ^ (8 * (k + 1))) ≡ Some g
@@ -52,3 +46,61 @@ named_step levels word k g t h e =
     ∙ e in
     ap (λ ls. index_named ls (word / 2 ^ (8 * k))) cut
     ∙ named_below w ws g (word / 2 ^ (8 * k)) (subst IsTree cut (IsTree-drop k levels t)) above
+
+-- a place that is named above stands on the level
+pub inside_step : (levels : List (List ℕ)) (word k g : ℕ) → IsTree levels → k < length levels
+    → index_named (drop (k + 1) levels) (word / 2 ^ (8 * (k + 1))) ≡ Some g
+    → g < length (get_or levels k [])
+inside_step levels word k g t h e =
+    let next : k + 1 ≡ suc k = omega arith in
+    omega (
+      arith,
+      (named_is (drop (k + 1) levels) (word / 2 ^ (8 * (k + 1))) g e).inside,
+      ap (λ (j : ℕ). size_below (drop j levels)) next,
+      (level levels k t h).above,
+    )
+
+-- Under the system alone -----------------------------------------------------------------------
+
+-- the field of a child of the system is its place
+lone : (w : List ℕ) (i : ℕ) → length w ≡ 1 → i < sum w → address_up (w ∷ []) i ≡ i
+lone w i one h =
+    let c = counted w i h in
+    let first : group_of w i ≡ 0 = omega (arith, c.group) in
+    let whole : sum (take 0 w) + index_in w i ≡ i = rw first at c.whole in
+    omega (arith, whole)
+
+-- a word names the child of that number
+named_top : (w : List ℕ) (word : ℕ) → IsTree (w ∷ []) → word < sum w
+    → index_named (w ∷ []) word ≡ Some word
+named_top w word t h = named_at (w ∷ []) word word t h (lone w word t.0 h)
+
+-- a word names none, where there is no such child
+named_past : (w : List ℕ) (word : ℕ) → IsTree (w ∷ []) → sum w ≤ word
+    → index_named (w ∷ []) word ≡ None
+named_past w word t h =
+    none_named (w ∷ []) word (λ i j a. absurd (omega (arith, a, lone w i t.0 j)))
+
+-- the highest level stands alone
+highest : (levels : List (List ℕ)) (k : ℕ) → k + 1 ≡ length levels
+    → drop k levels ≡ get_or levels k [] ∷ []
+highest levels k e =
+    let next : length levels ≤ suc k = omega arith in
+    drop-cons levels k [] (omega arith)
+    ∙ ap (λ (ws : List (List ℕ)). get_or levels k [] ∷ ws) (drop_all (suc k) levels next)
+
+pub named_highest : (levels : List (List ℕ)) (word k : ℕ) → IsTree levels → k + 1 ≡ length levels
+    → word / 2 ^ (8 * k) < sum (get_or levels k [])
+    → index_named (drop k levels) (word / 2 ^ (8 * k)) ≡ Some (word / 2 ^ (8 * k))
+named_highest levels word k t e h =
+    let cut : drop k levels ≡ get_or levels k [] ∷ [] = highest levels k e in
+    ap (λ ls. index_named ls (word / 2 ^ (8 * k))) cut
+    ∙ named_top (get_or levels k []) (word / 2 ^ (8 * k)) (subst IsTree cut (IsTree-drop k levels t)) h
+
+pub none_highest : (levels : List (List ℕ)) (word k : ℕ) → IsTree levels → k + 1 ≡ length levels
+    → sum (get_or levels k []) ≤ word / 2 ^ (8 * k) → index_named levels word ≡ None
+none_highest levels word k t e h =
+    let cut : drop k levels ≡ get_or levels k [] ∷ [] = highest levels k e in
+    none_up levels word k t (omega (arith, e))
+    (ap (λ ls. index_named ls (word / 2 ^ (8 * k))) cut
+    ∙ named_past (get_or levels k []) (word / 2 ^ (8 * k)) (subst IsTree cut (IsTree-drop k levels t)) h)

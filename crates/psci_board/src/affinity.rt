@@ -8,21 +8,27 @@ use crate::level::Level;
 use crate::limits::MOST_LEVELS;
 
 /// The place on the level below these that a word names, its lowest field that of the place: from
-/// the highest level down, one step for each.
+/// the highest level down, one step for each. The children of the system have one field and all
+/// that stands above it, so that no word with more is named.
 pub fn place_of(levels: &[Level], word: u64) -> Option<u16>
     requires tree { IsTree levels.now }
     requires high { length levels.now ≤ MOST_LEVELS }
     ensures { result ≡ index_named levels.now word }
 {
     let count = levels.len() as u32;
-    if word >> (8 * count) != 0 {
+    if count == 0 {
+        return (word == 0).then_some(0);
+    }
+    let top = count - 1;
+    let highest = word >> (8 * top);
+    if highest >= u64::from(levels[top as usize].all_children()) {
         return None;
     }
-    let mut place = 0;
-    for step in 0..count {
-        let level = count - 1 - step;
+    let mut place = highest as u16;
+    for step in 0..top {
+        let level = top - 1 - step;
         let field = (word >> (8 * level)) % 256;
-        place = levels[level as usize].child(place, field as u32)?;
+        place = levels[level as usize].own_child(place, field as u32)?;
     }
     Some(place)
 }

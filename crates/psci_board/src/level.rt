@@ -86,8 +86,22 @@ impl Level {
     pub fn child(&self, place: u16, number: u32) -> Option<u16>
         ensures { result ≡ child_in self.now place number }
     {
-        let first = *self.firsts.get(place as usize)?;
-        (number < u32::from(self.children(place))).then(|| first + number as u16)
+        if place as usize >= self.counts.len() {
+            return None;
+        }
+        self.own_child(place, number)
+    }
+
+    /// The same of a node that the level has.
+    pub fn own_child(&self, place: u16, number: u32) -> Option<u16>
+        requires { place < length self.now }
+        ensures { result ≡ child_in self.now place number }
+    {
+        let place = place as usize;
+        if number >= u32::from(self.counts[place]) {
+            return None;
+        }
+        Some(self.firsts[place] + number as u16)
     }
 
     /// The place of the node whose child is at `place` on the level below.

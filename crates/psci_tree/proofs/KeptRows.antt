@@ -6,7 +6,7 @@ use Rattle.std.specs.Prelude.{Some, None, slice_index_or}
 use Rattle.psci_tree.specs.declared.state.CoreState.{CoreState}
 use Rattle.psci_tree.specs.declared.state.Activity.TheVariants.{Active, Suspended, Off}
 use Rattle.psci_tree.specs.Recount.{never_started}
-use Rattle.psci_tree.specs.Kept.{recount, kept_together}
+use Rattle.psci_tree.specs.Kept.{recount, kept_activated, kept_together}
 use Rattle.psci_tree.specs.Changes.{core_changed}
 use Rattle.psci_tree.specs.Way.{cleared_from}
 
@@ -58,6 +58,19 @@ keeps_beside : kept_together (recount (pending ∷ retained ∷ []))
     (recount (gone ∷ never_started ∷ []))
     ≡ record { lows = 0 ∷ 0 ∷ 0 ∷ 0 ∷ []; known = 6; active = 1; off = 2 }
 keeps_beside = refl
+
+-- an off core is asked on: it asks for nothing, and is one more that is active and one less that is
+-- off
+activated_off : kept_activated (recount (gone ∷ retained ∷ [])) (recount (gone ∷ []))
+    (recount (pending ∷ []))
+    ≡ record { lows = 0 ∷ 0 ∷ 0 ∷ 0 ∷ []; known = 5; active = 1; off = 0 }
+activated_off = refl
+
+-- a suspended core wakes by its next start: the one before it is no longer in the sum
+activated_woken : kept_activated (recount (gone ∷ retained ∷ [])) (recount (retained ∷ []))
+    (recount (record { activity = Active; known = 5 } ∷ []))
+    ≡ record { lows = 0 ∷ 0 ∷ 0 ∷ 0 ∷ []; known = 6; active = 1; off = 1 }
+activated_woken = refl
 
 -- a start takes its own number, however many there were before, and not one more
 change_starts : core_changed (record { activity = Active; started = Some 9 }) retained

@@ -1,5 +1,5 @@
 -- What a domain keeps of the cores below it, so that they need not be counted again.
-use Rattle.std.specs.Prelude.{◌≡◌, ℕ, ◌+◌, ◌*◌, ◌^◌, ◌≤◌, min, List, [], ◌∷◌, length, map}
+use Rattle.std.specs.Prelude.{◌≡◌, ℕ, ◌+◌, ◌-◌, ◌*◌, ◌^◌, ◌≤◌, min, List, [], ◌∷◌, length, map}
 use Rattle.std.specs.Prelude.{slice_index}
 use Rattle.std.specs.List.{All, sum_by, count_by, flat_map}
 use Rattle.psci_tree.specs.declared.state.CoreState.{CoreState}
@@ -30,6 +30,22 @@ kept_together j k = record {
   active = j.active + k.active;
   off = j.off + k.off;
 }
+
+-- what is kept of some cores, once one of them is active: before it was active this was kept of
+-- it, and after
+abbrev pub kept_activated : Kept → Kept → Kept → Kept
+kept_activated k before after = record {
+  lows = 0 ∷ 0 ∷ 0 ∷ 0 ∷ [];
+  known = k.known - before.known + after.known;
+  active = k.active - before.active + after.active;
+  off = k.off - before.off + after.off;
+}
+
+-- no sum of the one is above that of the other
+pub record IsPart (j k : Kept) : Type 0 where
+  pub known : j.known ≤ k.known
+  pub active : j.active ≤ k.active
+  pub off : j.off ≤ k.off
 
 -- this is kept of these cores: it is their recount, and each known start has 32 bits
 pub record Keeps (k : Kept) (cs : List CoreState) : Type 0 where

@@ -6,6 +6,8 @@ ghost use Rattle.psci_board.specs.Board.{HasNode, IsTree, height, place_above, s
 ghost use Rattle.psci_tree.specs.declared.standing.Standing.{Standing};
 ghost use Rattle.psci_tree.specs.Standing.{kept_standing};
 ghost use Rattle.psci_tree.specs.declared.domain.Domain.{Domain};
+ghost use Rattle.psci_tree.specs.declared.state.CoreState.{CoreState};
+ghost use Rattle.psci_tree.specs.declared.state.Activity.TheVariants.{Active};
 ghost use Rattle.psci_tree.specs.Recount.{never_started};
 ghost use Rattle.psci_tree.specs.Domains.{HasShape, IsWhole, child_counts, leaves};
 ghost use Rattle.psci_tree.specs.Domains.{domains_down};
@@ -70,6 +72,37 @@ pub fn change_core(root: &mut Domain, board: &Board, core: Core, way: &Way, stat
     ensures kept { IsKept root.new }
 {
     root.change(board.height(), &way.numbers, state, &Kept::of_core(state));
+}
+
+/// The same of a core that was in this state before, and is running or pending from now on.
+pub fn activate_core(
+    root: &mut Domain,
+    board: &Board,
+    core: Core,
+    way: &Way,
+    before: &CoreState,
+    state: &CoreState,
+)
+    requires tree { IsTree board.now.levels }
+    requires whole { IsWhole root.old board.now.levels }
+    requires core { core.number < size_below board.now.levels }
+    requires way { IsWayOf board.now.levels core.number way.now }
+    requires kept { IsKept root.old }
+    requires before { (c : CoreState) → before.now
+        ≡ slice_index_or (leaves root.old) core.number c }
+    requires active { state.now.activity ≡ Active }
+    ensures cores { leaves root.new ≡ slice_set (leaves root.old) core.number state.now }
+    ensures shape { (k : ℕ) → child_counts k root.new ≡ child_counts k root.old }
+    ensures kept { IsKept root.new }
+{
+    let was = Kept::of_core(before);
+    root.activate(
+        board.height(),
+        &way.numbers,
+        state,
+        &was,
+        &Kept::of_core(state),
+    );
 }
 
 /// Turns off every core, and forgets its starts.

@@ -1,7 +1,10 @@
 //! Power domains that hold those below them.
 
 ghost use Rattle.std.specs.Prelude.{◌≡◌, ℕ, ◌^◌, ◌<◌, ◌≤◌, ◌∷◌, [], length, replicate, slice_set};
+ghost use Rattle.std.specs.Prelude.{slice_index_or};
 ghost use Rattle.psci_tree.specs.declared.domain.Domain.{Domain};
+ghost use Rattle.psci_tree.specs.declared.state.CoreState.{CoreState};
+ghost use Rattle.psci_tree.specs.declared.state.Activity.TheVariants.{Active};
 ghost use Rattle.psci_tree.specs.Recount.{never_started};
 ghost use Rattle.psci_tree.specs.Domains.{branches, leaves, cores_in, child_counts, IsWay};
 ghost use Rattle.psci_tree.specs.Domains.{index_by};
@@ -45,6 +48,39 @@ impl Domain {
         let number = way[level as usize - 1] as usize;
         self.children[number].change(level - 1, way, state, kept);
         self.kept = self.anew();
+    }
+
+    /// The same of a core that is running or pending from now on, of which this was kept before, and
+    /// is kept after. It asks for nothing, so no domain beside the way has to be looked at.
+    pub fn activate(
+        &mut self,
+        level: u32,
+        way: &[u32],
+        state: &CoreState,
+        before: &Kept,
+        after: &Kept,
+    )
+        requires long { level ≤ length way.now }
+        requires way { IsWay level way.now self.old }
+        requires few { length (leaves self.old) < 2 ^ 16 }
+        requires kept { IsKept self.old }
+        requires active { state.now.activity ≡ Active }
+        requires before { (c : CoreState) → Keeps before.now (slice_index_or (leaves self.old)
+            (index_by level way.now self.old) c ∷ []) }
+        requires after { Keeps after.now (state.now ∷ []) }
+        ensures cores { leaves self.new ≡ slice_set (leaves self.old)
+            (index_by level way.now self.old) state.now }
+        ensures shape { (k : ℕ) → child_counts k self.new ≡ child_counts k self.old }
+        ensures kept { IsKept self.new }
+    {
+        if level == 0 {
+            self.core = *state;
+            self.kept = *after;
+            return;
+        }
+        self.kept.activate(before, after);
+        let number = way[level as usize - 1] as usize;
+        self.children[number].activate(level - 1, way, state, before, after);
     }
 
     /// Turns off every core below, and forgets its starts.

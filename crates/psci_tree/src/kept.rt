@@ -1,7 +1,7 @@
 //! What a domain keeps of the cores below it.
 
 ghost use Rattle.std.specs.Prelude.{◌≡◌, ℕ, ◌+◌, ◌<◌, ◌^◌, ◌∷◌, [], length, slice_index};
-ghost use Rattle.psci_tree.specs.Kept.{Keeps, kept_together};
+ghost use Rattle.psci_tree.specs.Kept.{IsPart, Keeps, kept_activated, kept_together};
 
 use crate::state::CoreState;
 use psci_board::MOST_ON_PATH;
@@ -64,5 +64,20 @@ impl Kept {
             active: self.active + other.active,
             off: self.off + other.off,
         }
+    }
+
+    /// A core of which this was kept before is running or pending now, and this is kept of it
+    /// after: so it asks for nothing.
+    pub fn activate(&mut self, before: &Kept, after: &Kept)
+        requires was { IsPart before.now self.old }
+        requires known { self.old.known + after.now.known < 2 ^ 64 }
+        requires active { self.old.active + after.now.active < 2 ^ 32 }
+        requires off { self.old.off + after.now.off < 2 ^ 32 }
+        ensures { self.new ≡ kept_activated self.old before.now after.now }
+    {
+        self.lows = [0; MOST_ON_PATH];
+        self.known = self.known - before.known + after.known;
+        self.active = self.active - before.active + after.active;
+        self.off = self.off - before.off + after.off;
     }
 }

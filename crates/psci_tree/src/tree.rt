@@ -1,7 +1,7 @@
 //! The tree of power domains.
 
 use crate::build::build;
-use crate::descent::{change_core, domain_at, standings_on, turn_off};
+use crate::descent::{activate_core, change_core, domain_at, standings_on, turn_off};
 use crate::domain::Domain;
 use crate::grants::{clear_up, deepest_rows, fill_rows, write};
 use crate::standing::Standing;
@@ -230,7 +230,7 @@ impl Tree {
         ensures levels { self.new.levels ≡ self.old.levels }
         ensures tree { IsDomainTree self.new }
     {
-        self.set_core(core, Activity::Suspended(ask), None);
+        self.set_core(core, Activity::Suspended(ask));
     }
 
     /// A core is off, or going off.
@@ -240,7 +240,7 @@ impl Tree {
         ensures levels { self.new.levels ≡ self.old.levels }
         ensures tree { IsDomainTree self.new }
     {
-        self.set_core(core, Activity::Off, None);
+        self.set_core(core, Activity::Off);
     }
 
     /// A core is pending: nothing is granted or confirmed any more on its path.
@@ -250,7 +250,7 @@ impl Tree {
         ensures levels { self.new.levels ≡ self.old.levels }
         ensures tree { IsDomainTree self.new }
     {
-        self.set_core(core, Activity::Active, None);
+        self.activate(core, None);
         self.clear_path(core);
     }
 
@@ -262,7 +262,7 @@ impl Tree {
         ensures levels { self.new.levels ≡ self.old.levels }
         ensures tree { IsDomainTree self.new }
     {
-        self.set_core(core, Activity::Active, Some(number));
+        self.activate(core, Some(number));
         self.clear_path(core);
     }
 
@@ -297,22 +297,50 @@ impl Tree {
             .unwrap_or(NEVER_STARTED)
     }
 
-    /// Changes a core.
-    fn set_core(&mut self, core: Core, activity: Activity, started: Option<u32>)
+    /// Changes what a core does. Its known start stays.
+    fn set_core(&mut self, core: Core, activity: Activity)
         requires core { core.number < size_below self.old.levels }
         requires activity { IsActivity activity }
         ensures value { self.new ≡ with_core_state self.old core.number activity
-            (unwrap_or started (known_at self.old core.number)) }
+            (known_at self.old core.number) }
         ensures levels { self.new.levels ≡ self.old.levels }
         ensures tree { IsDomainTree self.new }
     {
         let number = core.number as usize;
-        let state = self.cores[number].changed(&Change { activity, started });
+        let state = self.cores[number].changed(&Change {
+            activity,
+            started: None,
+        });
         change_core(
             &mut self.root,
             &self.board,
             core,
             &self.ways[number],
+            &state,
+        );
+        self.cores[number] = state;
+    }
+
+    /// A core is running or pending, after the start of this number, if there was one.
+    fn activate(&mut self, core: Core, started: Option<u32>)
+        requires { core.number < size_below self.old.levels }
+        ensures value { self.new ≡ with_core_state self.old core.number Active
+            (unwrap_or started (known_at self.old core.number)) }
+        ensures levels { self.new.levels ≡ self.old.levels }
+        ensures tree { IsDomainTree self.new }
+    {
+        let number = core.number as usize;
+        let before = self.cores[number];
+        let state = before.changed(&Change {
+            activity: Activity::Active,
+            started,
+        });
+        activate_core(
+            &mut self.root,
+            &self.board,
+            core,
+            &self.ways[number],
+            &before,
             &state,
         );
         self.cores[number] = state;

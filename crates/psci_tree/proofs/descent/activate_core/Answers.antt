@@ -1,0 +1,47 @@
+use Rattle.std.proofs.Common.{◌∙◌, ◌≡◌, ◌∷◌, [], ℕ, List, arith, ap, get_or, subst, sym}
+use Rattle.std.proofs.Math.ListN.{set}
+use Rattle.psci_tree.specs.Domains.{leaves, IsWay, index_by}
+use Rattle.psci_tree.specs.Kept.{Keeps}
+use Rattle.psci_tree.specs.declared.state.CoreState.{CoreState}
+use Rattle.psci_tree.specs.declared.domain.Domain.{Domain}
+use Rattle.psci_tree.proofs.Slices.{length_cores, size_few}
+use Rattle.psci_tree.proofs.Ways.{system_way}
+use Rattle.psci_tree.proofs.descent.activate_core.Goals as goal
+
+pub activate-requires-clause-way : goal.activate-requires-clause-way
+activate-requires-clause-way c =
+    let levels : List (List ℕ) = c.args.board.now.levels in
+    subst (λ l. IsWay l c.args.way.now.numbers c.args.root.now) (sym c.height.ensures.height)
+    (system_way c.args.root.now levels c.args.core.number c.args.way.now.numbers c.requires.tree
+    c.requires.whole c.requires.core c.requires.way.numbers).0
+
+pub activate-requires-clause-few : goal.activate-requires-clause-few
+activate-requires-clause-few c =
+    let levels : List (List ℕ) = c.args.board.now.levels in
+    omega (
+      arith,
+      length_cores c.args.root.now levels c.requires.tree c.requires.whole,
+      size_few levels c.requires.tree,
+    )
+
+pub activate-requires-clause-before : goal.activate-requires-clause-before
+activate-requires-clause-before c = λ d.
+    let root : Domain = c.args.root.now in
+    let way : List ℕ = c.args.way.now.numbers in
+    let place : index_by c.height.result way root ≡ c.args.core.number =
+    ap (λ l. index_by l way root) c.height.ensures.height
+    ∙ (system_way root c.args.board.now.levels c.args.core.number way c.requires.tree
+    c.requires.whole c.requires.core c.requires.way.numbers).1 in
+    subst (λ (x : CoreState). Keeps c.of_core-was.result (x ∷ []))
+    (c.requires.before d ∙ ap (λ p. get_or (leaves root) p d) (sym place)) c.of_core-was.ensures
+
+pub returns-clause-cores : goal.returns-clause-cores
+returns-clause-cores c =
+    let root : Domain = c.args.root.now in
+    let levels : List (List ℕ) = c.args.board.now.levels in
+    c.activate.ensures.cores
+    ∙ ap (λ l. set (leaves root) (index_by l c.args.way.now.numbers root) c.args.state.now)
+    c.height.ensures.height
+    ∙ ap (λ p. set (leaves root) p c.args.state.now) (system_way root levels
+    c.args.core.number c.args.way.now.numbers c.requires.tree c.requires.whole c.requires.core
+    c.requires.way.numbers).1
