@@ -1,5 +1,5 @@
--- Worked examples: each value that is kept with cores 1 and 3 swapped, or two clusters, in a halting
--- life 2 and in OS-initiated mode; calls and replies; and histories that are told of swapped cores.
+-- Worked examples: each value that is kept with cores 1 and 3 swapped, or two clusters, in a
+-- halting life 2 and in OS-initiated mode; calls and replies; and histories told of swapped cores.
 use Rattle.std.proofs.Common.{◌≡◌, ◌+◌, ◌*◌, ◌==◌, ℕ, Bool, true, false, if◌then◌else◌}
 use Rattle.std.proofs.Common.{List, [], ◌∷◌, Option, None, Some, map, ap, refl, arith}
 use Rattle.psci_board.specs.Board.{core_of}
@@ -91,7 +91,8 @@ granted_to_cores = refl
 confirmed_of_clusters : map (by_clusters.confirmed 1) (0 ∷ 1 ∷ 2 ∷ []) ≡ true ∷ false ∷ false ∷ []
 confirmed_of_clusters = refl
 
-confirmed_of_cores : map (by_clusters.confirmed 0) (0 ∷ 1 ∷ 2 ∷ 3 ∷ []) ≡ false ∷ false ∷ false ∷ true ∷ []
+confirmed_of_cores : map (by_clusters.confirmed 0) (0 ∷ 1 ∷ 2 ∷ 3 ∷ [])
+    ≡ false ∷ false ∷ false ∷ true ∷ []
 confirmed_of_cores = refl
 
 -- a message stands in the other core's slot and names that core; the system's stays where it is
