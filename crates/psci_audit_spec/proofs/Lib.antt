@@ -3,4 +3,5 @@ pub mod ListRows
 pub mod Only
 pub mod Reading
 pub mod Telling
+mod OtherRows
 mod ToldRows

@@ -52,7 +52,7 @@ first_confirmed-by b s level place is boot =
     ∙ ap (λ (t : Bool). has_node b (record { level = level; place = place }) && not t)
     (boot_path-by b s level place is boot)
 
-start_of_life-by : (b : BoardValue) (s : ℕ → ℕ → ℕ) (life : ℕ) → Renumbers b s → s 0 0 ≡ 0
+pub start_of_life-by : (b : BoardValue) (s : ℕ → ℕ → ℕ) (life : ℕ) → Renumbers b s → s 0 0 ≡ 0
     → values_by s (start_of_life b life) ≡ start_of_life b life
 start_of_life-by b s life is boot = λ i. record (start_of_life b life) {
   status = λ c. ap (λ (t : Bool). if t then statuses.Pending else statuses.Off)

@@ -16,4 +16,6 @@ pub mod Entries
 pub mod Calling
 pub mod Following
 mod SwapRows
+mod ValueRows
 pub mod Twins
+pub mod Histories

@@ -2,6 +2,7 @@
 -- same of the renumbered cores. A renumbering gives each place of a level another place of the level,
 -- and so each core, at level 0, another number.
 use Rattle.std.specs.Prelude.{◌≡◌, ℕ, zero, suc, ◌+◌, ◌==◌, ◌<◌, if◌then◌else◌, nat_lt}
+use Rattle.std.specs.Prelude.{List, [], ◌∷◌}
 use Rattle.std.specs.Prelude.{◌-◌, ◌&&◌, Bool, nat_le, option_map, ◌⊎◌}
 use Rattle.psci_board.specs.Board.{BoardValue, children_at, core_of, cores, first_child, node_of}
 use Rattle.psci_board.specs.Board.{nodes, parent, up}
@@ -17,6 +18,7 @@ use Rattle.psci_fw_spec.specs.declared.call.FwCall.TheVariants.{Smc, Enter, Take
 use Rattle.psci_fw_spec.specs.declared.outcome.Outcome.{Outcome}
 use Rattle.psci_fw_spec.specs.declared.reply.FwReply.{FwReply}
 use Rattle.psci_fw_spec.specs.declared.reply.FwReply.TheVariants.{Out, Taken, Fault}
+use Rattle.psci_fw_spec.specs.Exchange.{FwExchange}
 use Rattle.psci_fw_spec.specs.Values.{Values}
 
 -- What a renumbering keeps of a board: each domain has its children, and each cluster its cores, but
@@ -149,3 +151,17 @@ values_by s v = record {
   confirmed = λ level place. v.confirmed level (s level place);
   outstanding = λ slot. option_map (message_by s) (v.outstanding (slot_by s slot));
 }
+
+-- Histories -------------------------------------------------------------------------------------
+
+-- a call of the other core, with its reply
+pub record ExchangedBy (b : BoardValue) (s : ℕ → ℕ → ℕ) (e f : FwExchange) : Type 0 where
+  pub core : f.core ≡ s 0 e.core
+  pub call : CallsBy b s e.call f.call
+  pub reply : f.reply ≡ reply_by s e.reply
+
+-- the same calls in the same order, with their replies, told of the renumbered cores
+abbrev pub HappenedBy : BoardValue → (ℕ → ℕ → ℕ) → List FwExchange → List FwExchange → Type 0
+HappenedBy b s [] [] = Unit {0}
+HappenedBy b s (e ∷ h) (f ∷ g) = ExchangedBy b s e f × HappenedBy b s h g
+HappenedBy b s h g = ⊥

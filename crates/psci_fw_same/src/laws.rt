@@ -1,6 +1,6 @@
 //! Cores may be renumbered. The law is the contract of a function that does nothing.
 
-ghost use Rattle.std.specs.Prelude.{◌≡◌, ℕ};
+ghost use Rattle.std.specs.Prelude.{◌≡◌, ℕ, List};
 ghost use Rattle.psci_abi.specs.declared.request.Request.{Request};
 ghost use Rattle.psci_board.specs.Board.{BoardValue, IsBoard};
 ghost use Rattle.psci_fw_spec.specs.declared.call.FwCall.{FwCall};
@@ -8,12 +8,17 @@ ghost use Rattle.psci_fw_spec.specs.declared.reply.FwReply.{FwReply};
 ghost use Rattle.psci_fw_spec.specs.After.{after};
 ghost use Rattle.psci_fw_spec.specs.Answer.{answer};
 ghost use Rattle.psci_fw_spec.specs.Calls.{outcome_of};
+ghost use Rattle.psci_fw_spec.specs.Exchange.{FwExchange};
+ghost use Rattle.psci_fw_spec.specs.History.{values_of};
+ghost use Rattle.psci_fw_spec.specs.Legal.{IsLegal};
 ghost use Rattle.psci_fw_spec.specs.Values.{Values};
 ghost use Rattle.psci_fw_same.specs.Renumbered.{AreSiblings, AreTwins, AsksBy, CallsBy};
-ghost use Rattle.psci_fw_same.specs.Renumbered.{IsRenumbering, SparesBoot, outcome_by};
-ghost use Rattle.psci_fw_same.specs.Renumbered.{reply_by, swap_clusters, swap_cores, values_by};
+ghost use Rattle.psci_fw_same.specs.Renumbered.{HappenedBy, IsRenumbering, SparesBoot};
+ghost use Rattle.psci_fw_same.specs.Renumbered.{outcome_by, reply_by, swap_clusters, swap_cores};
+ghost use Rattle.psci_fw_same.specs.Renumbered.{values_by};
 
 use psci_board::{law_children, law_parents, law_paths, law_words};
+use psci_fw_spec::law_values;
 
 /// No core is special: with the cores renumbered, in the values and in the call, each call is
 /// answered the same, and leaves the same values, of the other numbers. Only a life's start knows
@@ -33,6 +38,13 @@ pub fn law_no_core_is_special()
         → SparesBoot s v.life call
         → after b (s 0 c) other (reply_by s reply) (values_by s v)
         ≡ values_by s (after b c call reply v) }
+    // So all that is kept after some calls is kept of the other numbers after the same calls of the
+    // renumbered cores, and these are answered rightly where the first ones are.
+    ensures values { (b : BoardValue) (s : ℕ → ℕ → ℕ) (h g : List FwExchange) → IsBoard b
+        → IsRenumbering b s → s 0 0 ≡ 0 → HappenedBy b s h g
+        → values_of b g ≡ values_by s (values_of b h) }
+    ensures legal { (b : BoardValue) (s : ℕ → ℕ → ℕ) (h g : List FwExchange) → IsBoard b
+        → IsRenumbering b s → s 0 0 ≡ 0 → HappenedBy b s h g → IsLegal b h → IsLegal b g }
     // What a request asks some request asks of the renumbered cores.
     ensures told { (b : BoardValue) (s : ℕ → ℕ → ℕ) (r : Request) → IsBoard b → IsRenumbering b s
         → (q : Request) × AsksBy b s r q }
@@ -47,4 +59,5 @@ pub fn law_no_core_is_special()
     law_children();
     law_parents();
     law_words();
+    law_values();
 }

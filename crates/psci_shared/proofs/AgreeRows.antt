@@ -1,7 +1,7 @@
 -- Worked examples of passes that agree with a book, and for each clause one that breaks just it.
 -- Core 0 asked twice, and core 1 in between.
 use Rattle.std.proofs.lemmas.Bool.{false≢true}
-use Rattle.std.proofs.Common.{◌≡◌, ℕ, ◌<◌, ◌≤◌, List, [], ◌∷◌, map, Bool, true, false}
+use Rattle.std.proofs.Common.{◌≡◌, ℕ, zero, suc, ◌<◌, ◌≤◌, List, [], ◌∷◌, map, Bool, true, false}
 use Rattle.std.proofs.Common.{refl, ap, arith}
 use Rattle.psci_fw.specs.psci_board.declared.node.Core.{Core}
 use Rattle.psci_fw.specs.psci_fw_spec.declared.call.FwCall.{FwCall}
@@ -18,7 +18,7 @@ use Rattle.psci_shared.specs.Agree.{has_place}
 use Rattle.psci_shared.specs.Books.{BookView, entered, entry, history_of}
 use Rattle.psci_shared.specs.Gathers.{IsCause, items_of}
 use Rattle.psci_shared.specs.Passes.{PassView, item}
-use Rattle.psci_shared.specs.Places.{places_of, times}
+use Rattle.psci_shared.specs.Places.{AllPlaced, places_of, times}
 
 abbrev core : ℕ → Core
 core n = record { number = n }
@@ -71,6 +71,10 @@ both_agree = (
 )
 
 -- a pass without items agrees with every book
+second_does_not_agree : Agree wide (pass false 0 ours ∷ pass false 0 theirs ∷ []) → ⊥
+second_does_not_agree h =
+    let e : ◌≡◌ {A = ℕ} 1 0 = ap (λ (c : Core). c.number) h.0.1.0.1.0.1.0 in omega arith
+
 no_items : Agrees wide (pass false 1 [])
 no_items = ((λ is. absurd (false≢true is)), tt)
 
@@ -150,6 +154,21 @@ placed = refl
 placed_wrongly : map (λ place. times place (map places_of (pass false 0 ours ∷ pass false 0 ours ∷ [])))
     (0 ∷ 1 ∷ []) ≡ 2 ∷ 0 ∷ []
 placed_wrongly = refl
+
+-- both passes have all places of the book, whatever its room; one alone has not
+all_placed : AllPlaced wide (pass false 0 ours ∷ pass false 1 theirs ∷ [])
+all_placed zero h = refl
+all_placed (suc zero) h = refl
+all_placed (suc (suc zero)) h = refl
+all_placed (suc (suc (suc place))) h =
+    let k : suc (suc (suc place)) < 3 = h in absurd (omega arith)
+
+place_in_none : AllPlaced wide (pass false 0 ours ∷ []) → ⊥
+place_in_none h = let e : ◌≡◌ {A = ℕ} 0 1 = h 1 (omega arith) in omega arith
+
+last_place_in_none : AllPlaced wide
+    (pass false 0 (item 0 (ask 1) (Fault NoLife) ∷ []) ∷ pass false 1 theirs ∷ []) → ⊥
+last_place_in_none h = let e : ◌≡◌ {A = ℕ} 0 1 = h 2 (omega arith) in omega arith
 
 -- Gathering ---------------------------------------------------------------------------------------
 

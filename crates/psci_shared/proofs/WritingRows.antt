@@ -3,15 +3,18 @@
 use Rattle.std.proofs.Common.{◌≡◌, inl, inr, ℕ, zero, suc, ◌<◌, ◌≤◌, List, [], ◌∷◌, length, pos}
 use Rattle.std.proofs.Common.{negsuc, Bool, true, false, refl, ap, arith, Some, None}
 use Rattle.std.specs.Prelude.{nat_lt, if◌then◌else◌}
+use Rattle.psci_fw.specs.psci_abi.declared.code.Code.{Code}
 use Rattle.psci_fw.specs.psci_abi.declared.format.Format.TheVariants.{Original}
-use Rattle.psci_fw.specs.psci_board.Board.{BoardValue}
-use Rattle.psci_fw.specs.psci_fw_spec.declared.call.FwCall.TheVariants.{Enter}
+use Rattle.psci_fw.specs.psci_board.Board.{BoardValue, core_of}
+use Rattle.psci_fw.specs.psci_fw_spec.declared.call.FwCall.TheVariants.{Enter, Smc}
 use Rattle.psci_fw.specs.psci_fw_spec.declared.outcome.Act.TheVariants as acts
 use Rattle.psci_fw.specs.psci_fw_spec.declared.reply.FwReply.TheVariants.{Out}
 use Rattle.psci_fw.specs.psci_fw_spec.declared.status.Status.TheVariants.{On, Off, Pending}
 use Rattle.psci_fw.specs.psci_fw_spec.AffinityInfo.{status_code}
 use Rattle.psci_fw.specs.psci_fw_spec.Statuses.{statuses}
+use Rattle.psci_link.specs.declared.kind.Kind.TheVariants.{Start}
 use Rattle.psci_link.specs.declared.start.Cause.TheVariants.{Boot}
+use Rattle.psci_link.specs.Message.{MessageValue}
 use Rattle.psci_status.specs.Lists.{Item, gain, row}
 use Rattle.psci_shared.specs.declared.entry.FwEntry.{FwEntry}
 use Rattle.psci_shared.specs.Books.{entry, history_of}
@@ -27,6 +30,16 @@ board = record {
   starts = 9;
   lives = 3;
   format = Original;
+}
+
+-- the Start of a core that was never on
+abbrev start_of : ℕ → MessageValue
+start_of c = record {
+  kind = Start;
+  core = record { number = c };
+  life = 1;
+  number = 0;
+  parts = [];
 }
 
 abbrev entries : List FwEntry
@@ -50,6 +63,11 @@ opening_is_missing h = let e : ◌≡◌ {A = ℕ} 2 3 = ap length (h 0 (omega a
 nothing_is_written : IsWritten board ((Off ∷ []) ∷ (Off ∷ []) ∷ []) entries → ⊥
 unfolding statuses history_of
 nothing_is_written h = let e : ◌≡◌ {A = ℕ} 1 3 = ap length (h 0 (omega arith)) in omega arith
+
+-- nothing is said of core 1
+other_core_is_missing : IsWritten board ((On ∷ Pending ∷ Off ∷ []) ∷ []) entries → ⊥
+unfolding statuses history_of
+other_core_is_missing h = let e : ◌≡◌ {A = ℕ} 0 1 = ap length (h 1 (omega arith)) in omega arith
 
 -- before any call
 first_written : IsWritten board ((Off ∷ []) ∷ (Off ∷ []) ∷ []) []
@@ -83,6 +101,23 @@ after_no_opening = refl
 without_a_life : written_after board [] 0 0 (Off ∷ []) ≡ Off ∷ []
 unfolding history_of
 without_a_life = refl
+
+-- core 0 asks core 1 on
+abbrev asked_on : List FwEntry
+asked_on =
+    entry 1 (record { number = 0 }) (Enter (record { life = 1; number = 1; cause = Boot }))
+    (Out (record { act = acts.Enter 0 0; message = None }))
+    ∷ entry 2 (record { number = 0 }) (Smc (record { x0 = 0x84000003; x1 = 1; x2 = 0; x3 = 0 }))
+    (Out (record { act = acts.Return (record { 0 = pos 0 }); message = Some (start_of 1) })) ∷ []
+
+after_asking_on : written_after board asked_on 1 1 (Off ∷ []) ≡ Pending ∷ Off ∷ []
+unfolding history_of core_of
+after_asking_on = refl
+
+caller_stays_on : written_after board asked_on 1 0 (On ∷ Pending ∷ Off ∷ [])
+    ≡ On ∷ Pending ∷ Off ∷ []
+unfolding history_of core_of
+caller_stays_on = refl
 
 -- What a pass has seen ----------------------------------------------------------------------------
 
@@ -129,9 +164,28 @@ pending_is_read = (Pending, (1, refl, ((0, Off) ∷ [], refl)), refl)
 nothing_new_is_read : IsAffinity (Some (record { number = 0 })) before before (record { 0 = pos 1 })
 nothing_new_is_read = (Off, (0, refl, ([], refl)), refl)
 
+-- of core 1, of which it has seen less than of core 0
+pending_is_read_of_core_1 : IsAffinity (Some (record { number = 1 }))
+    (pass (((2, On) ∷ []) ∷ ((0, Off) ∷ []) ∷ []))
+    (pass (((2, On) ∷ []) ∷ ((1, Pending) ∷ (0, Off) ∷ []) ∷ [])) (record { 0 = pos 2 })
+pending_is_read_of_core_1 = (Pending, (1, refl, ((0, Off) ∷ [], refl)), refl)
+
 -- the word names no core
 nobody_is_read : IsAffinity None before before (record { 0 = negsuc 1 })
 nobody_is_read = (refl, refl)
+
+-- then nothing was read, and no status is answered
+nothing_is_read_of_nobody : IsAffinity None before
+    (pass (((1, Pending) ∷ (0, Off) ∷ []) ∷ ((0, Off) ∷ []) ∷ [])) (record { 0 = negsuc 1 }) → ⊥
+nothing_is_read_of_nobody h =
+    let e : ◌≡◌ {A = ℕ} 2 1 = ap (λ (p : PassView). length (row p.seen 0)) h.1 in omega arith
+
+-- the number of a status, or 9
+abbrev status_in : Code → ℕ
+status_in code = elim code.0 [ pos n ↦ n | negsuc n ↦ 9 ]
+
+no_status_of_nobody : IsAffinity None before before (record { 0 = pos 1 }) → ⊥
+no_status_of_nobody h = let e : ◌≡◌ {A = ℕ} 1 9 = ap status_in h.0 in omega arith
 
 -- the status of the last item
 abbrev last_code : List Item → ℕ

@@ -7,6 +7,7 @@ use Rattle.psci_world_spec.specs.psci_board.Board.{node_of}
 use Rattle.psci_world_spec.specs.psci_link.Message.{MessageValue}
 use Rattle.psci_world_spec.specs.psci_link.declared.kind.Kind.{Kind}
 use Rattle.psci_world_spec.specs.psci_link.declared.kind.Kind.TheVariants.{Down, Off, Start}
+use Rattle.psci_world_spec.specs.psci_link.declared.kind.Kind.TheVariants as kinds
 use Rattle.psci_world_spec.specs.declared.event.Event.TheVariants.{Deliver, Enter, Reset, Take}
 use Rattle.psci_world_spec.specs.declared.event.Event.TheVariants.{Wake}
 use Rattle.psci_world_spec.proofs.Scripts.{board, call, one_core, tall}
@@ -224,6 +225,11 @@ down_comes = refl
 off_comes : asked_text board messages [] (Deliver 2) ≡ codes "the power controller gets Off #2"
 unfolding digits
 off_comes = refl
+
+reset_comes : asked_text board (sent kinds.Reset 0 ∷ []) [] (Deliver 0)
+    ≡ codes "the power controller gets Reset #0"
+unfolding digits
+reset_comes = refl
 
 nothing_comes : asked_text board messages [] (Deliver 3)
     ≡ codes "the power controller gets message 3"

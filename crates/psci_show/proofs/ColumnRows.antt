@@ -7,7 +7,7 @@ use Rattle.psci_world_spec.specs.declared.event.Event.{Event}
 use Rattle.psci_world_spec.specs.declared.event.Event.TheVariants.{Deliver, Enter, Take, Wake}
 use Rattle.psci_world_spec.specs.Legal.{run_from}
 use Rattle.psci_world_spec.proofs.Scripts.{board, call, computing, off, on_3, retention}
-use Rattle.psci_world_spec.proofs.Scripts.{system_off, system_reset}
+use Rattle.psci_world_spec.proofs.Scripts.{system_off, system_reset, version}
 use Rattle.psci_show.specs.Columns.{core_state, depths_of, depths_text, letter_of, sleep_of}
 
 -- the letters of the four cores after these events
@@ -99,6 +99,23 @@ entered_next_life : letters (on (retention 3 ∷ system_reset 0 ∷ Deliver 2 �
 unfolding computing sleep_of
 entered_next_life = refl
 
+-- the boot core suspends the system
+system_suspended : letters (Enter 0 ∷ call 0 0xc400000e 0x40000000 0 0 ∷ []) ≡ codes "d..."
+unfolding computing sleep_of
+system_suspended = refl
+
+-- what another core does ends no sleep: it calls, and core 2 enters
+others_go_on : letters (on (retention 3 ∷ version 0 ∷ call 0 0xc4000003 0x100 0x40000000 0
+    ∷ Deliver 2 ∷ Enter 2 ∷ [])) ≡ codes "R.Rr"
+unfolding computing sleep_of
+others_go_on = refl
+
+-- in life 2
+second_life_retention : letters (on (system_reset 0 ∷ Deliver 1 ∷ Enter 0 ∷ on_3 ∷ Deliver 2
+    ∷ Enter 3 ∷ retention 3 ∷ [])) ≡ codes "R..r"
+unfolding computing sleep_of
+second_life_retention = refl
+
 -- Depths --------------------------------------------------------------------------------------
 
 -- the depth of a power domain after these events, with its mark
@@ -115,6 +132,16 @@ asked_on = refl
 cluster_of_it : shown 1 1 (Enter 0 ∷ on_3 ∷ []) ≡ Some (codes "3!")
 unfolding computing digits
 cluster_of_it = refl
+
+-- its cluster is on, and the core of the cluster's number is not
+cluster_is_on : shown 1 1 (on []) ≡ Some (codes "0 ")
+unfolding computing digits
+cluster_is_on = refl
+
+-- core 3 was on in life 1, and the firmware does not know of life 2
+untold_of_life_2 : shown 0 3 (on (system_reset 0 ∷ Deliver 1 ∷ [])) ≡ Some (codes "3 ")
+unfolding computing digits
+untold_of_life_2 = refl
 
 other_core : shown 0 2 (Enter 0 ∷ on_3 ∷ []) ≡ Some (codes "3 ")
 unfolding computing digits

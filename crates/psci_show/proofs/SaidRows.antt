@@ -6,13 +6,15 @@ use Rattle.psci_world_spec.specs.psci_coord.psci_parts.declared.part.Part.{Part}
 use Rattle.psci_world_spec.specs.psci_fw_spec.declared.outcome.Act.TheVariants.{Resume, Return, Stop}
 use Rattle.psci_world_spec.specs.psci_fw_spec.declared.outcome.Act.TheVariants.{Enter as EntersAt}
 use Rattle.psci_world_spec.specs.psci_link.Message.{MessageValue}
+use Rattle.psci_world_spec.specs.psci_link.declared.start.Cause.TheVariants as causes
 use Rattle.psci_world_spec.specs.psci_link.declared.kind.Kind.{Kind}
-use Rattle.psci_world_spec.specs.psci_link.declared.kind.Kind.TheVariants.{Down, Off, Start}
+use Rattle.psci_world_spec.specs.psci_link.declared.kind.Kind.TheVariants.{Down, Off, Reset, Start}
 use Rattle.psci_world_spec.specs.psci_link.declared.taken.Taken.TheVariants.{Used, Old}
-use Rattle.psci_world_spec.specs.declared.event.Event.TheVariants.{Deliver, Enter, Take}
+use Rattle.psci_world_spec.specs.declared.event.Event.TheVariants.{Deliver, Enter, Take, Wake}
 use Rattle.psci_world_spec.specs.declared.said.Said.TheVariants.{Absent, Acked, Fw, Ignored}
+use Rattle.psci_world_spec.specs.declared.said.Said.TheVariants.{Kick}
 use Rattle.psci_world_spec.specs.declared.said.Said.TheVariants.{Taken as Took}
-use Rattle.psci_world_spec.proofs.Scripts.{board, call}
+use Rattle.psci_world_spec.proofs.Scripts.{board, call, tall}
 use Rattle.psci_show.specs.Words.{said_text, words_text}
 
 -- what is said of a call of this function word that returns a code
@@ -56,6 +58,10 @@ hw_off = refl
 hw_standby : returned 0x8400000d (pos 2) ≡ codes "HW_STANDBY"
 unfolding digits
 hw_standby = refl
+
+hw_invalid : returned 0xc400000d (negsuc 1) ≡ codes "INVALID_PARAMETERS"
+unfolding digits
+hw_invalid = refl
 
 no_migration : returned 0x84000006 (pos 2) ≡ codes "2, nothing to migrate"
 unfolding digits
@@ -150,6 +156,23 @@ goes_less_down = refl
 powers_off : stops_with (message Off []) ≡ codes "stops; Off #1"
 unfolding digits
 powers_off = refl
+
+resets : stops_with (message Reset []) ≡ codes "stops; Reset #1"
+unfolding digits
+resets = refl
+
+-- on a board of height 3
+goes_down_whole : said_text tall [] (call 3 0x84000002 0 0 0) (Fw Stop (Some (record {
+  index = 0;
+  message = message Down (part 0 3 ∷ part 1 3 ∷ part 2 2 ∷ part 3 1 ∷ []);
+}))) ≡ codes "stops; Down #0: power-down of core and cluster, retention of group, standby of system"
+unfolding digits
+goes_down_whole = refl
+
+is_woken : said_text board [] (Wake 3) (Kick (record { life = 2; number = 5; cause = causes.Wake }))
+    ≡ codes "the core is started, number 5"
+unfolding digits
+is_woken = refl
 
 starts : said_text board [] (call 0 0xc4000003 0x101 0 0)
     (Fw (Return (record { 0 = pos 0 })) (Some (record { index = 0; message = message Start [] })))

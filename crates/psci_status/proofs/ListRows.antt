@@ -1,9 +1,9 @@
 -- Worked examples of what was written and what was seen of a core. It was OFF, ON_PENDING and ON.
-use Rattle.std.proofs.Common.{◌≡◌, inl, inr, ◌+◌, ◌*◌, ◌<◌, List, [], ◌∷◌, map, refl}
-use Rattle.std.proofs.Common.{arith}
+use Rattle.std.proofs.Common.{◌≡◌, inl, inr, ℕ, ◌+◌, ◌*◌, ◌<◌, List, [], ◌∷◌, map, refl}
+use Rattle.std.proofs.Common.{ap, arith}
 use Rattle.psci_fw_spec.specs.declared.status.Status.{Status}
 use Rattle.psci_fw_spec.specs.declared.status.Status.TheVariants.{On, Off, Pending}
-use Rattle.psci_status.specs.Lists.{IsLast, IsWord, Rises, Stands, Within, gain}
+use Rattle.psci_status.specs.Lists.{IsLast, IsWord, Item, Rises, Stands, Within, gain}
 use Rattle.psci_status.specs.Lists.{gain_from, gains, item_of, newest, row}
 
 abbrev written : List Status
@@ -45,6 +45,13 @@ middle_stands = inr (inl (refl, refl))
 last_stands : Stands written (2, On)
 last_stands = inl (refl, refl)
 
+-- another status under the serial of ON_PENDING
+other_status : Stands written (1, Off) → ⊥
+other_status (inl is) = let e : ◌≡◌ {A = ℕ} 1 2 = is.0 in omega arith
+other_status (inr (inl is)) = let e : Off ≡ Pending = is.1 in cc
+other_status (inr (inr (inl is))) = let e : ◌≡◌ {A = ℕ} 1 0 = is.0 in omega arith
+other_status (inr (inr (inr other))) = other
+
 -- what was seen: serials that rise, and items that were written
 some_seen : Within written ((2, On) ∷ (0, Off) ∷ [])
 some_seen = (last_stands, omega arith, (first_stands, tt, tt))
@@ -67,6 +74,14 @@ not_rising h = let e : 2 < 1 = h.0 in omega arith
 -- the last that was written is the last that was seen, or an earlier one is
 last_seen : IsLast written ((2, On) ∷ (0, Off) ∷ [])
 last_seen = ((0, Off) ∷ [], refl)
+
+-- the serial of the last item
+abbrev serial : List Item → ℕ
+serial [] = 9
+serial (item ∷ items) = item.0
+
+earlier_seen : IsLast written ((1, Pending) ∷ (0, Off) ∷ []) → ⊥
+earlier_seen h = let e : ◌≡◌ {A = ℕ} 1 2 = ap serial h.1 in omega arith
 
 -- one item more, if its serial is above the last
 gains_first : gain (0, Off) [] ≡ (0, Off) ∷ []
@@ -93,6 +108,12 @@ gains_of_two : gains (((0, Off) ∷ []) ∷ ((0, Off) ∷ []) ∷ [])
     (map newest (written ∷ (Off ∷ []) ∷ []))
     ≡ ((2, On) ∷ (0, Off) ∷ []) ∷ ((0, Off) ∷ []) ∷ []
 gains_of_two = refl
+
+-- of the second core alone
+gains_of_second : gains (((2, On) ∷ []) ∷ ((0, Off) ∷ []) ∷ [])
+    (((1, Pending) ∷ []) ∷ ((3, Pending) ∷ []) ∷ [])
+    ≡ ((2, On) ∷ []) ∷ ((3, Pending) ∷ (0, Off) ∷ []) ∷ []
+gains_of_second = refl
 
 gains_of_spent : gains (((0, Off) ∷ []) ∷ []) [] ≡ ((0, Off) ∷ []) ∷ []
 gains_of_spent = refl

@@ -136,6 +136,14 @@ told_unwritten f =
     not_there (inr (inr (inl is))) = let e : ◌≡◌ {A = ℕ} 3 0 = is.0 in omega arith
     not_there (inr (inr (inr other))) = other
 
+told_unwritten_of_second : Fits 0 log 0 (record writer { told = [] ∷ ((1, On) ∷ []) ∷ [] }) → ⊥
+told_unwritten_of_second f =
+    let stands : Stands (Off ∷ []) (1, On) = (f.2 1).0 in not_there stands
+  where
+    not_there : Stands (Off ∷ []) (1, On) → ⊥
+    not_there (inl is) = let e : ◌≡◌ {A = ℕ} 1 0 = is.0 in omega arith
+    not_there (inr other) = other
+
 -- Views -------------------------------------------------------------------------------------------
 
 -- at the start OFF was written of each core
@@ -151,6 +159,18 @@ at_the_start = refl
 notes_of_both : (note_of writer).seen ∷ (note_of reader).seen ∷ []
     ≡ (((2, On) ∷ []) ∷ ((0, Off) ∷ []) ∷ []) ∷ items ∷ []
 notes_of_both = refl
+
+-- no note writes, or has what was written or what its seat was told
+note_of_writer : note_of writer ≡ record reader { seen = ((2, On) ∷ []) ∷ ((0, Off) ∷ []) ∷ [] }
+note_of_writer = refl
+
+note_of_reader : note_of (record reader { told = items }) ≡ reader
+note_of_reader = refl
+
+-- a reader that gains stays a reader, which is told nothing
+reader_stays : informed (record reader { seen = ((0, Off) ∷ []) ∷ ((0, Off) ∷ []) ∷ [] })
+    (note_of writer) ≡ reader
+reader_stays = refl
 
 -- a reader gains what a note of the writer has; the writer keeps what a reader's note says
 reader_is_informed : (informed (record reader { seen = ((0, Off) ∷ []) ∷ ((0, Off) ∷ []) ∷ [] })

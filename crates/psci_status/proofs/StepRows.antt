@@ -62,9 +62,17 @@ never_written (inr (inl is)) = let e : ◌≡◌ {A = ℕ} 3 1 = is.0 in omega a
 never_written (inr (inr (inl is))) = let e : ◌≡◌ {A = ℕ} 3 0 = is.0 in omega arith
 never_written (inr (inr (inr other))) = other
 
-told_unwritten : Looked (at 0 0) (writer log (((3, Off) ∷ []) ∷ [])) 8
+looks_told_unwritten : Looked (at 0 0) (writer log (((3, Off) ∷ []) ∷ [])) 8
     (writer log (((3, Off) ∷ []) ∷ [])) → ⊥
-told_unwritten h = never_written (h.2 0).0
+looks_told_unwritten h = never_written (h.2 0).0
+
+looks_told_of_second : Looked (at 0 0) (writer log ([] ∷ ((1, On) ∷ []) ∷ [])) 8
+    (writer log ([] ∷ ((1, On) ∷ []) ∷ [])) → ⊥
+looks_told_of_second h = let stands : Stands (Off ∷ []) (1, On) = (h.2 1).0 in not_there stands
+  where
+    not_there : Stands (Off ∷ []) (1, On) → ⊥
+    not_there (inl is) = let e : ◌≡◌ {A = ℕ} 1 0 = is.0 in omega arith
+    not_there (inr other) = other
 
 -- A reader loads ----------------------------------------------------------------------------------
 
@@ -78,6 +86,11 @@ loads_on = (refl, ((0, Off) ∷ [], refl), (omega arith, (tt, tt)))
 loads_pending : Loaded (at 1 0) (reader all_off) 6
     (reader (((0, Off) ∷ []) ∷ ((1, Pending) ∷ (0, Off) ∷ []) ∷ []))
 loads_pending = (refl, ((0, Off) ∷ [], refl), (omega arith, (tt, tt)))
+
+-- it has seen more of the first core than of this one
+loads_of_second : Loaded (at 1 0) (reader items) 6
+    (reader (((2, On) ∷ (0, Off) ∷ []) ∷ ((1, Pending) ∷ (0, Off) ∷ []) ∷ []))
+loads_of_second = (refl, ((0, Off) ∷ [], refl), (omega arith, (tt, tt)))
 
 -- it has seen nothing more; it has seen something of another core
 loads_nothing : Loaded (at 0 0) (reader all_off) 8 (reader all_off) → ⊥
@@ -107,6 +120,11 @@ loads_after_a_fall h = let e : 2 < 1 = h.2.1.0 in omega arith
 stores_pending : Stored (at 1 6) (writer log items) 1
     (writer ((On ∷ Pending ∷ Off ∷ []) ∷ (Pending ∷ Off ∷ []) ∷ []) items)
 stores_pending = refl
+
+-- OFF of the first, with serial 3
+stores_off_of_first : Stored (at 0 13) (writer log items) 8
+    (writer ((Off ∷ On ∷ Pending ∷ Off ∷ []) ∷ (Off ∷ []) ∷ []) items)
+stores_off_of_first = refl
 
 stores_another_status : Stored (at 1 6) (writer log items) 1
     (writer ((On ∷ Pending ∷ Off ∷ []) ∷ (On ∷ Off ∷ []) ∷ []) items) → ⊥

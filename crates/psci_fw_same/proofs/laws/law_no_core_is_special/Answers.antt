@@ -2,6 +2,7 @@
 use Rattle.psci_fw_same.proofs.Calling.{answer-by}
 use Rattle.psci_fw_same.proofs.Following.{after-by}
 use Rattle.psci_fw_same.proofs.Functions.{outcome_of-by}
+use Rattle.psci_fw_same.proofs.Histories.{legal-by, values_of-by}
 use Rattle.psci_fw_same.proofs.Numberings.{renumbers}
 use Rattle.psci_fw_same.proofs.Siblings.{siblings}
 use Rattle.psci_fw_same.proofs.Told.{told}
@@ -35,3 +36,18 @@ pub returns-clause-twins : goal.returns-clause-twins
 returns-clause-twins c = λ b p q board two.
     twins b p q board (c.law_paths.ensures b board) (c.law_children.ensures b board)
     (c.law_parents.ensures b board) two
+
+pub returns-clause-values : goal.returns-clause-values
+returns-clause-values c = λ b s h g board is boot told.
+    values_of-by b s h g (record {
+      first = c.law_values.ensures.first b;
+      more = c.law_values.ensures.more b;
+    }) (renumbers b s (c.law_paths.ensures b board) (c.law_children.ensures b board) is) boot told
+
+pub returns-clause-legal : goal.returns-clause-legal
+returns-clause-legal c = λ b s h g board is boot told legal.
+    legal-by b s h g (record {
+      first = c.law_values.ensures.first b;
+      more = c.law_values.ensures.more b;
+    }) (renumbers b s (c.law_paths.ensures b board) (c.law_children.ensures b board) is) boot told
+    legal
