@@ -15,5 +15,6 @@ pub mod Changing
 pub mod Entries
 pub mod Calling
 pub mod Following
+mod RenumberedRows
 mod SwapRows
 pub mod Twins

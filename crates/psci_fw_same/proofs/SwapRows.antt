@@ -13,7 +13,7 @@ use Rattle.psci_fw_same.specs.Renumbered.{AreSiblings, AreTwins, AsksBy, message
 use Rattle.psci_fw_same.specs.Renumbered.{swap_clusters, swap_cores, values_by}
 
 -- cores 0 to 2 below the system
-abbrev one_level : BoardValue
+abbrev pub one_level : BoardValue
 one_level = record {
   levels = (3 ∷ []) ∷ [];
   ranges = record { start = 0x40000000; end = 0x40100000 } ∷ [];
@@ -24,7 +24,7 @@ one_level = record {
 }
 
 -- core 0 in a cluster by itself, cores 1 to 3 in another
-abbrev two_levels : BoardValue
+abbrev pub two_levels : BoardValue
 two_levels = record one_level { levels = (1 ∷ 3 ∷ []) ∷ (2 ∷ []) ∷ [] }
 
 siblings_at_one : AreSiblings one_level 1 2
@@ -50,7 +50,7 @@ places : swap_cores 1 3 0 1 ∷ swap_cores 1 3 1 1 ∷ swap_cores 1 3 2 1 ∷ []
 places = refl
 
 -- Three clusters: cores 0 and 1, cores 2 and 3, and core 4 by itself.
-abbrev clusters : BoardValue
+abbrev pub clusters : BoardValue
 clusters = record one_level { levels = (2 ∷ 2 ∷ 1 ∷ []) ∷ (3 ∷ []) ∷ [] }
 
 twins_at_two : AreTwins clusters 0 1
