@@ -15,6 +15,7 @@ pub mod Changing
 pub mod Entries
 pub mod Calling
 pub mod Following
+mod RenumberedRows
 mod SwapRows
 mod ValueRows
 pub mod Twins

@@ -1,3 +1,4 @@
 pub mod KeptLines
 mod KeptRows
+mod ReadRows
 mod WordRows

@@ -20,33 +20,33 @@ use Rattle.psci_shared_ctl.specs.Gathers.{IsCause, items_of}
 use Rattle.psci_shared_ctl.specs.Passes.{PassView, item}
 use Rattle.psci_shared_ctl.specs.Places.{places_of}
 
-abbrev wake : ℕ → CtlCall
+abbrev pub wake : ℕ → CtlCall
 wake halted = Wake (record { number = 3 }) halted
 
-abbrev reset : CtlCall
+abbrev pub reset : CtlCall
 reset = Reset (record { number = 3 })
 
-abbrev ignored : CtlReply
+abbrev pub ignored : CtlReply
 ignored = Kick kicks.Ignored
 
-abbrev entries : List CtlEntry
+abbrev pub entries : List CtlEntry
 entries = entry 5 (wake 1) ignored ∷ entry 6 reset ignored ∷ entry 9 (wake 2) ignored ∷ []
 
 -- a book that is full, and one that is not
-abbrev full : BookView
+abbrev pub full : BookView
 full = record { entries = entries; room = 3 }
 
-abbrev wide : BookView
+abbrev pub wide : BookView
 wide = record { entries = entries; room = 4 }
 
-abbrev pass : Bool → List CtlItem → PassView
+abbrev pub pass : Bool → List CtlItem → PassView
 pass told items = record { room = 4; told_full = told; items = items }
 
 -- the items of both passes
-abbrev ours : List CtlItem
+abbrev pub ours : List CtlItem
 ours = item 0 (wake 1) ignored ∷ item 2 (wake 2) ignored ∷ []
 
-abbrev theirs : List CtlItem
+abbrev pub theirs : List CtlItem
 theirs = item 1 reset ignored ∷ []
 
 -- Passes that agree -------------------------------------------------------------------------------

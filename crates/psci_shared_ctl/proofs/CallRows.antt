@@ -122,7 +122,7 @@ told_full = refl
 -- What the type of a book keeps -------------------------------------------------------------------
 
 -- two cores
-abbrev board : BoardValue
+abbrev pub board : BoardValue
 board = record {
   levels = (2 ∷ []) ∷ [];
   ranges = record { start = 0; end = 64 } ∷ [];

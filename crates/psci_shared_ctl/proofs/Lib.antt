@@ -1,4 +1,5 @@
 pub mod AgreeRows
 pub mod CallRows
 pub mod Histories
+mod BookRows
 pub mod Placed

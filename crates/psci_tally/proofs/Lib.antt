@@ -1,3 +1,4 @@
+mod AnswerRows
 mod CountRows
 mod TableRows
 mod TallyRows
