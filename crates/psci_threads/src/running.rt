@@ -1,28 +1,16 @@
 //! A run of core threads, and what the audit says of its trace.
 
-ghost use Rattle.std.specs.Prelude.{◌≡◌, ◌≤◌, [], ◌∷◌, IfErr, IfOk, replicate};
-ghost use Rattle.psci_fw.specs.psci_board.Board.{cores};
-ghost use Rattle.psci_fw.specs.psci_fw_spec.declared.status.Status.TheVariants.{Off};
-ghost use Rattle.psci_status.specs.Seats.{table, table_of_writer, written};
+ghost use Rattle.std.specs.Prelude.{◌≡◌, ◌≤◌, IfErr, IfOk};
+ghost use Rattle.psci_audit.specs.psci_board.Board.{cores};
 ghost use Rattle.psci_audit.specs.Merged.{history_of};
 ghost use Rattle.psci_audit.specs.Told.{IsListOfSafe};
 ghost use Rattle.psci_threads.specs.Runs.{IsAudited, IsFound};
 
-use crate::fault::{BenchFault, Cut};
-use crate::gate::Gate;
-use crate::gathering::gathered;
-use crate::link::Link;
-use crate::platform::{Platform, Returned};
-use crate::wire::Wire;
-use crate::worker::Worker;
+use crate::fault::{BenchFault, fault_of};
 use psci_audit::{Trace, audit};
-use psci_shared::{Board, Core, Named, SharedFirmware, StatusWords, Tickets, Writer};
-use psci_shared_ctl::SharedController;
+use psci_workers::{Board, Gate, Gathered, run_cores};
 use std::alloc::Global;
-use std::marker::Brand;
 use std::sync::Wait;
-use std::sync::ledger::Blank;
-use std::thread;
 use std::thread::Threads;
 
 /// A run of threads that the audit found legal.
@@ -36,31 +24,6 @@ pub struct Threaded {
     pub controller: u64,
     /// How many entries the audit found to be one legal run.
     pub audited: u64,
-}
-
-/// What a run is of.
-#[derive(Clone, Copy)]
-struct Plan<'a> {
-    board: &'a Board,
-    seed: u64,
-    /// How many calls each core makes at most.
-    count: u64,
-}
-
-/// What the firmware and the power controller of a run are made of.
-#[derive(Drop)]
-struct Makings {
-    words: StatusWords,
-    writer: Writer,
-    firmware: Blank,
-    controller: Blank,
-}
-
-/// What one thread does.
-#[derive(Drop)]
-enum Job<N: Named, M: Named> {
-    Core(Worker<N, M>),
-    Link(Link<N, M>),
 }
 
 /// Runs a thread for each core, which makes so many calls at most, and one for the link; then audits
@@ -80,20 +43,20 @@ pub fn threads<R: Threads + Wait + Sync, G: Gate + Sync>(
         (history_of t.trace.firmware.items t.trace.controller.items)) }
     ensures fault { IfErr result (λ f. IsFound board.now f) }
 {
-    let Ok((words, writer)) = StatusWords::new(alloc, board) else {
-        return Err(Cut::Memory.fault());
-    };
-    let makings = Makings {
-        words,
-        writer,
-        firmware: Blank::new(1001),
-        controller: Blank::new(1001),
-    };
-    let plan = Plan { board, seed, count };
-    let tickets = Tickets::new();
-    match run::<Brand, Brand, R, G>(rt, alloc, plan, gate, &tickets, makings) {
-        Ok(trace) => audited(alloc, board, trace),
-        Err(cut) => Err(cut.fault()),
+    match run_cores(rt, alloc, board, seed, count, gate) {
+        Ok(
+            Gathered {
+                firmware,
+                controller,
+            },
+        ) => {
+            let trace = Trace {
+                firmware,
+                controller,
+            };
+            audited(alloc, board, trace)
+        }
+        Err(cut) => Err(fault_of(cut)),
     }
 }
 
@@ -114,102 +77,4 @@ fn audited(alloc: Global, board: &Board, trace: Trace) -> Result<Threaded, Bench
         }),
         Err(fault) => Err(BenchFault::Audit(fault)),
     }
-}
-
-/// The trace of a run over a firmware and a power controller of these makings.
-fn run<'a, N, M, R, G>(
-    rt: &R,
-    alloc: Global,
-    plan: Plan<'a>,
-    gate: &'a G,
-    tickets: &'a Tickets,
-    makings: Makings,
-) -> Result<Trace, Cut>
-where
-    N: Named + Send + Sync,
-    M: Named + Send + Sync,
-    R: Threads + Wait + Sync,
-    G: Gate + Sync,
-    requires boards { (plan.board.now ≡ N.board) × (plan.board.now ≡ M.board) }
-    requires names { (makings.firmware.name ≡ N.name) × (makings.controller.name ≡ M.name) }
-    requires parts { (makings.firmware.parts ≡ N.parts) × (N.parts ≡ 1001) }
-    requires others { (makings.controller.parts ≡ M.parts) × (M.parts ≡ 1001) }
-    requires words { (table makings.words ≡ N.table) × (N.table.words ≡ cores N.board) }
-    requires writer { (table_of_writer makings.writer ≡ N.table)
-        × (written makings.writer ≡ replicate (cores N.board) (Off ∷ [])) }
-{
-    let Makings {
-        words,
-        writer,
-        firmware,
-        controller,
-    } = makings;
-    let Plan { board, seed, count } = plan;
-    let room = room_of(board, count);
-    let mut firmware = SharedFirmware::<N>::new(
-        alloc, board, words, writer, room, tickets, firmware,
-    )?;
-    let mut controller = SharedController::<M>::new(alloc, board, room, tickets, controller)?;
-    let jobs = jobs_of(alloc, board, seed, &mut firmware, &mut controller)?;
-    let wire = Wire::new(alloc, board.cores())?;
-    let platform = Platform {
-        board,
-        firmware: &firmware,
-        controller: &controller,
-        wire: &wire,
-        gate,
-        count,
-    };
-    let returned = thread::map_vec(rt, jobs, &|job| done(rt, &platform, job))?;
-    gathered(alloc, firmware, controller, returned)
-}
-
-/// What a thread hands back that has done its job.
-fn done<N: Named, M: Named, R: Wait, G: Gate>(
-    rt: &R,
-    platform: &Platform<'_, N, M, G>,
-    job: Job<N, M>,
-) -> Returned<N, M> {
-    match job {
-        Job::Core(worker) => worker.run(rt, platform),
-        Job::Link(link) => link.run(rt, platform),
-    }
-}
-
-/// A worker for each core, and the link last: where no thread can be made the jobs are done one
-/// after another, and the link then finds that all workers have ended.
-fn jobs_of<N: Named, M: Named>(
-    alloc: Global,
-    board: &Board,
-    seed: u64,
-    firmware: &mut SharedFirmware<'_, N>,
-    controller: &mut SharedController<'_, M>,
-) -> Result<Vec<Job<N, M>>, Cut>
-    requires { board.now ≡ M.board }
-{
-    let mut jobs = Vec::new(alloc);
-    for number in 0..board.cores() {
-        let core = Core { number };
-        let pass = firmware.pass(core)?;
-        let asked = controller.pass()?;
-        jobs.push(Job::Core(Worker::new(pass, asked, core, seed)))?;
-    }
-    let pass = firmware.pass(Core { number: 0 })?;
-    let asked = controller.pass()?;
-    jobs.push(Job::Link(Link::new(alloc, pass, asked, seed)))?;
-    Ok(jobs)
-}
-
-/// So many entries a run has room for in the lists of all its passes. Each of these is as long as a
-/// book.
-const ROOM: u64 = 4_000_000;
-
-/// How many entries a call of a core may lead to, with its entries, messages and acknowledgements.
-const ENTRIES: u64 = 8;
-
-/// How many entries a book has room for.
-fn room_of(board: &Board, count: u64) -> u32 {
-    let cores = u64::from(board.cores());
-    let wanted = count.min(10_000) * ENTRIES * cores + 64;
-    wanted.min(ROOM / (cores + 1)) as u32
 }

@@ -3,15 +3,15 @@
 ghost use Rattle.std.specs.Prelude.{◌≡◌, ◌≢◌, ◌<◌, ℕ};
 ghost use Rattle.psci_abi.specs.declared.request.Request.TheVariants.{CpuOn, Version};
 ghost use Rattle.psci_board.specs.Board.{cores};
-ghost use Rattle.psci_threads.specs.Calls.{EndsLife};
+ghost use Rattle.psci_traffic.specs.Calls.{EndsLife};
 
 use psci_abi::Request;
+use psci_board::{Board, Core};
 use psci_draws::{Draws, affinity};
-use psci_shared::{Board, Core};
 
 /// The call of this number of a core, which may go off or not. The first calls are the same whatever
 /// the seed, later ones are drawn.
-pub(crate) fn request_of(
+pub fn request_of(
     draws: &mut Draws,
     board: &Board,
     core: Core,

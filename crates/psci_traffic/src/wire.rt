@@ -7,11 +7,11 @@ use std::sync::Wait;
 use std::sync::atomic::{AtomicBool, AtomicU32, Ordering};
 
 /// The bytes of a frame.
-pub(crate) type Bytes = [u8; FRAME_LEN];
+pub type Bytes = [u8; FRAME_LEN];
 
 /// The queues of frames to the link, and what all threads of a run count together.
 #[derive(Drop)]
-pub(crate) struct Wire {
+pub struct Wire {
     /// From the firmware to the power controller.
     messages: SegQueue<Bytes>,
     /// From the power controller to the firmware.
@@ -28,7 +28,7 @@ pub(crate) struct Wire {
 
 impl Wire {
     /// Queues without frames, and so many workers, of which one is busy: that of the boot core.
-    pub(crate) fn new(alloc: Global, workers: u16) -> Result<Wire, AllocError> {
+    pub fn new(alloc: Global, workers: u16) -> Result<Wire, AllocError> {
         Ok(Wire {
             messages: SegQueue::new(alloc)?,
             acks: SegQueue::new(alloc)?,
@@ -40,7 +40,7 @@ impl Wire {
     }
 
     /// Sends a frame; false if memory ran out.
-    pub(crate) fn send<R: Wait>(&self, rt: &R, frame: &Frame) -> bool {
+    pub fn send<R: Wait>(&self, rt: &R, frame: &Frame) -> bool {
         let _before = self.under_way.fetch_add(1, Ordering::SeqCst);
         let queue = match frame {
             Frame::Message(_) => &self.messages,
@@ -54,7 +54,7 @@ impl Wire {
     }
 
     /// The next frame of either queue, if there is one.
-    pub(crate) fn next<R: Wait>(&self, rt: &R) -> Option<Bytes> {
+    pub fn next<R: Wait>(&self, rt: &R) -> Option<Bytes> {
         match self.messages.pop(rt) {
             Some(bytes) => Some(bytes),
             None => self.acks.pop(rt),
@@ -62,12 +62,12 @@ impl Wire {
     }
 
     /// A frame has arrived for the last time.
-    pub(crate) fn arrived(&self) {
+    pub fn arrived(&self) {
         let _before = self.under_way.fetch_sub(1, Ordering::SeqCst);
     }
 
     /// A worker is busy from now on, or no longer.
-    pub(crate) fn set_busy(&self, is_busy: bool) {
+    pub fn set_busy(&self, is_busy: bool) {
         let _before = if is_busy {
             self.busy.fetch_add(1, Ordering::SeqCst)
         } else {
@@ -77,27 +77,27 @@ impl Wire {
 
     /// Whether no core that waits can be asked on any more. A busy worker sends before it is no
     /// longer busy, so this looks at the frames last.
-    pub(crate) fn is_still(&self) -> bool {
+    pub fn is_still(&self) -> bool {
         self.busy.load(Ordering::SeqCst) == 0 && self.under_way.load(Ordering::SeqCst) == 0
     }
 
     /// A worker has ended.
-    pub(crate) fn leave(&self) {
+    pub fn leave(&self) {
         let _before = self.at_work.fetch_sub(1, Ordering::SeqCst);
     }
 
     /// Whether all workers have ended.
-    pub(crate) fn is_left(&self) -> bool {
+    pub fn is_left(&self) -> bool {
         self.at_work.load(Ordering::SeqCst) == 0
     }
 
     /// The run is to end: no worker makes a further call.
-    pub(crate) fn give_up(&self) {
+    pub fn give_up(&self) {
         self.is_over.store(true, Ordering::SeqCst);
     }
 
     /// Whether the run is to end.
-    pub(crate) fn is_over(&self) -> bool {
+    pub fn is_over(&self) -> bool {
         self.is_over.load(Ordering::SeqCst)
     }
 }

@@ -4,13 +4,12 @@ ghost use Rattle.std.specs.Prelude.{◌≡◌, ◌<◌, length};
 ghost use Rattle.psci_link.specs.Frame.{IsOf};
 ghost use Rattle.psci_link.specs.declared.frame.Frame.TheVariants as frames;
 
-use crate::gate::Gate;
 use crate::platform::{Ending, Platform, Returned, fault_of};
-use crate::wire::Bytes;
 use psci_draws::Draws;
 use psci_link::{Frame, Message, decode};
 use psci_shared::{Named, Pass};
 use psci_shared_ctl::{CtlPass, Delivery};
+use psci_traffic::Bytes;
 use std::alloc::Global;
 use std::sync::Wait;
 use std::thread;
@@ -55,11 +54,7 @@ impl<N: Named, M: Named> Link<N, M> {
     }
 
     /// Carries frames until all workers have ended and the last frame has arrived.
-    pub(crate) fn run<R: Wait, G: Gate>(
-        self,
-        rt: &R,
-        platform: &Platform<'_, N, M, G>,
-    ) -> Returned<N, M> {
+    pub(crate) fn run<R: Wait>(self, rt: &R, platform: &Platform<'_, N, M>) -> Returned<N, M> {
         let mut link = self;
         let ended = link.work(rt, platform);
         if fault_of(ended).is_some() {
@@ -78,11 +73,7 @@ impl<N: Named, M: Named> Link<N, M> {
         }
     }
 
-    fn work<R: Wait, G: Gate>(
-        &mut self,
-        rt: &R,
-        platform: &Platform<'_, N, M, G>,
-    ) -> Result<(), Ending> {
+    fn work<R: Wait>(&mut self, rt: &R, platform: &Platform<'_, N, M>) -> Result<(), Ending> {
         let mut turns = 0;
         for _ in rt.forever() {
             let all_ended = platform.wire.is_left();
@@ -101,11 +92,7 @@ impl<N: Named, M: Named> Link<N, M> {
     }
 
     /// Takes all frames that were sent. One in eight arrives twice.
-    fn fetch<R: Wait, G: Gate>(
-        &mut self,
-        rt: &R,
-        platform: &Platform<'_, N, M, G>,
-    ) -> Result<(), Ending> {
+    fn fetch<R: Wait>(&mut self, rt: &R, platform: &Platform<'_, N, M>) -> Result<(), Ending> {
         for _ in rt.forever() {
             let Some(bytes) = platform.wire.next(rt) else {
                 return Ok(());
@@ -124,11 +111,7 @@ impl<N: Named, M: Named> Link<N, M> {
     }
 
     /// One of the first frames, whichever is drawn, is lost or arrives.
-    fn carry<R: Wait, G: Gate>(
-        &mut self,
-        rt: &R,
-        platform: &Platform<'_, N, M, G>,
-    ) -> Result<(), Ending>
+    fn carry<R: Wait>(&mut self, rt: &R, platform: &Platform<'_, N, M>) -> Result<(), Ending>
         requires { 0 < length self.old.carried.items }
     {
         let drawn = self.draws.below(CHOICE) as usize;
@@ -152,10 +135,10 @@ impl<N: Named, M: Named> Link<N, M> {
     }
 
     /// A frame arrives, and is read.
-    fn arrive<R: Wait, G: Gate>(
+    fn arrive<R: Wait>(
         &mut self,
         rt: &R,
-        platform: &Platform<'_, N, M, G>,
+        platform: &Platform<'_, N, M>,
         bytes: &Bytes,
     ) -> Result<(), Ending> {
         let Ok(frame) = decode(bytes, platform.board) else {
@@ -165,10 +148,10 @@ impl<N: Named, M: Named> Link<N, M> {
     }
 
     /// The power controller has a message, or the firmware an acknowledgement.
-    fn receive<R: Wait, G: Gate>(
+    fn receive<R: Wait>(
         &mut self,
         rt: &R,
-        platform: &Platform<'_, N, M, G>,
+        platform: &Platform<'_, N, M>,
         frame: &Frame,
     ) -> Result<(), Ending>
         requires { IsOf M.board frame.now }
@@ -184,10 +167,10 @@ impl<N: Named, M: Named> Link<N, M> {
 
     /// A message is delivered; its acknowledgement is sent.
     #[tactic(auto, using(crate::proofs::Sendable::sendable))]
-    fn deliver<R: Wait, G: Gate>(
+    fn deliver<R: Wait>(
         &mut self,
         rt: &R,
-        platform: &Platform<'_, N, M, G>,
+        platform: &Platform<'_, N, M>,
         message: &Message,
     ) -> Result<(), Ending>
         requires { IsOf M.board (frames.Message message.now) }

@@ -1,6 +1,6 @@
 use Rattle.psci_shared.specs.Names.{no_table}
 use Rattle.psci_status.specs.Seats.{table}
-use Rattle.psci_threads.proofs.running.threads.Given as goal
+use Rattle.psci_workers.proofs.running.run_cores.Given as goal
 
 abbrev pub ghosts-run-N-Named : goal.ghosts-run-N-Named
 ghosts-run-N-Named g a = record { board = a.plan.board.now; table = table a.makings.words }

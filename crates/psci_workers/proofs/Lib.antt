@@ -1,3 +1,2 @@
-pub mod CallRows
 pub mod Crossing
 pub mod Sendable

@@ -1,6 +1,6 @@
 //! Who says whether a core may call.
 
-use psci_shared::Core;
+use psci_board::Core;
 
 /// Says whether a core may make its call of some number; a core's calls are numbered from 0.
 pub trait Gate {

@@ -1,21 +1,29 @@
-//! The trace of a run: both books, gathered with the passes of all threads.
+//! What a run hands back: the entries of both books, gathered with the passes of all threads.
 
 ghost use Rattle.std.specs.Prelude.{◌≡◌, IfOk};
 
-use crate::fault::Cut;
+use crate::cut::Cut;
 use crate::platform::Returned;
-use psci_audit::Trace;
 use psci_shared::{FwEntry, Named, SharedFirmware};
 use psci_shared_ctl::{CtlEntry, SharedController};
 use std::alloc::{AllocError, Global};
 
-/// The trace of a run whose threads handed these back, or the first fault of a thread.
-pub(crate) fn gathered<N: Named, M: Named>(
+/// The entries of both books, each in the order of its book.
+#[derive(Drop)]
+pub struct Gathered {
+    /// What the firmware was asked, with its replies.
+    pub firmware: Vec<FwEntry>,
+    /// What the power controller was asked, with its replies.
+    pub controller: Vec<CtlEntry>,
+}
+
+/// The entries of a run whose threads handed these back, or the first fault of a thread.
+pub(crate) fn gather<N: Named, M: Named>(
     alloc: Global,
     firmware: SharedFirmware<'_, N>,
     controller: SharedController<'_, M>,
     returned: Vec<Returned<N, M>>,
-) -> Result<Trace, Cut> {
+) -> Result<Gathered, Cut> {
     let mut passes = Vec::new(alloc);
     let mut asked = Vec::new(alloc);
     for thread in returned {
@@ -31,7 +39,7 @@ pub(crate) fn gathered<N: Named, M: Named>(
     let Ok(others) = controller.gather(asked) else {
         return Err(Cut::Gather);
     };
-    Ok(Trace {
+    Ok(Gathered {
         firmware: copied(alloc, books.book.entries())?,
         controller: copied_controls(alloc, others.book.entries())?,
     })

@@ -2,20 +2,18 @@
 
 ghost use Rattle.std.specs.Prelude.{◌≡◌};
 
-use crate::fault::Cut;
-use crate::gate::Gate;
-use crate::wire::Wire;
+use crate::cut::Cut;
 use psci_shared::{Board, Named, Pass, SharedFirmware};
 use psci_shared_ctl::{CtlPass, SharedController};
+use psci_traffic::Wire;
 
 /// What all threads of a run share.
 #[derive(Drop)]
-pub(crate) struct Platform<'a, N: Named, M: Named, G: Gate> {
+pub(crate) struct Platform<'a, N: Named, M: Named> {
     pub(crate) board: &'a Board,
     pub(crate) firmware: &'a SharedFirmware<'a, N>,
     pub(crate) controller: &'a SharedController<'a, M>,
     pub(crate) wire: &'a Wire,
-    pub(crate) gate: &'a G,
     /// How many calls each core makes at most.
     pub(crate) count: u64,
     ghost named: { board.now ≡ M.board },

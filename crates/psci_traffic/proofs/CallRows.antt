@@ -1,6 +1,6 @@
 -- Worked examples: which calls end a life.
 use Rattle.psci_abi.specs.declared.request.Request.TheVariants as calls
-use Rattle.psci_threads.specs.Calls.{EndsLife}
+use Rattle.psci_traffic.specs.Calls.{EndsLife}
 
 system_off : EndsLife calls.SystemOff
 system_off = tt

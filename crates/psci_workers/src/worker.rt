@@ -3,8 +3,6 @@
 ghost use Rattle.std.specs.Prelude.{◌<◌};
 ghost use Rattle.psci_fw.specs.psci_board.Board.{cores};
 
-use crate::calls::request_of;
-use crate::gate::Gate;
 use crate::platform::{Ending, Platform, Returned, fault_of};
 use psci_abi::Request;
 use psci_draws::{Draws, registers};
@@ -12,6 +10,7 @@ use psci_fw::{Act, Outcome, Start};
 use psci_link::Frame;
 use psci_shared::{CallFault, Core, Named, Pass};
 use psci_shared_ctl::{CtlPass, Kick};
+use psci_traffic::{Gate, request_of};
 use std::sync::Wait;
 use std::thread;
 
@@ -66,10 +65,11 @@ impl<N: Named, M: Named> Worker<N, M> {
     pub(crate) fn run<R: Wait, G: Gate>(
         self,
         rt: &R,
-        platform: &Platform<'_, N, M, G>,
+        platform: &Platform<'_, N, M>,
+        gate: &G,
     ) -> Returned<N, M> {
         let mut worker = self;
-        let ended = worker.work(rt, platform);
+        let ended = worker.work(rt, platform, gate);
         worker.set_busy(platform, false);
         if fault_of(ended).is_some() {
             platform.wire.give_up();
@@ -94,26 +94,27 @@ impl<N: Named, M: Named> Worker<N, M> {
     fn work<R: Wait, G: Gate>(
         &mut self,
         rt: &R,
-        platform: &Platform<'_, N, M, G>,
+        platform: &Platform<'_, N, M>,
+        gate: &G,
     ) -> Result<(), Ending> {
         for call in 0..platform.count {
             self.reset_now_and_then(rt, platform, call)?;
             self.arrive(rt, platform, call)?;
-            self.call(rt, platform, call)?;
+            self.call(rt, platform, gate, call)?;
         }
         Ok(())
     }
 
     /// Whether the core may go off for good: the boot core only late, so that it asks others on.
-    fn may_go_off<G: Gate>(&self, platform: &Platform<'_, N, M, G>, call: u64) -> bool {
+    fn may_go_off(&self, platform: &Platform<'_, N, M>, call: u64) -> bool {
         self.core.number > 0 || call > platform.count - platform.count / 4
     }
 
     /// A running core is reset, once in many calls.
-    fn reset_now_and_then<R: Wait, G: Gate>(
+    fn reset_now_and_then<R: Wait>(
         &mut self,
         rt: &R,
-        platform: &Platform<'_, N, M, G>,
+        platform: &Platform<'_, N, M>,
         call: u64,
     ) -> Result<(), Ending> {
         let may_reset = call > 1 && self.may_go_off(platform, call);
@@ -128,10 +129,10 @@ impl<N: Named, M: Named> Worker<N, M> {
     }
 
     /// Brings the core to run: it enters each time it is started.
-    fn arrive<R: Wait, G: Gate>(
+    fn arrive<R: Wait>(
         &mut self,
         rt: &R,
-        platform: &Platform<'_, N, M, G>,
+        platform: &Platform<'_, N, M>,
         call: u64,
     ) -> Result<(), Ending> {
         let wakes_at = self.draws.below(OFF_TURNS);
@@ -155,10 +156,10 @@ impl<N: Named, M: Named> Worker<N, M> {
 
     /// The start that the core has not entered by: the last one, or else, where it may wake, one of
     /// its own.
-    fn start<R: Wait, G: Gate>(
+    fn start<R: Wait>(
         &mut self,
         rt: &R,
-        platform: &Platform<'_, N, M, G>,
+        platform: &Platform<'_, N, M>,
         call: u64,
         may_wake: bool,
     ) -> Result<Option<Start>, Ending> {
@@ -170,10 +171,10 @@ impl<N: Named, M: Named> Worker<N, M> {
     }
 
     /// The start by a wake-up event, or now and then by a reset of a sleeping core.
-    fn wake<R: Wait, G: Gate>(
+    fn wake<R: Wait>(
         &mut self,
         rt: &R,
-        platform: &Platform<'_, N, M, G>,
+        platform: &Platform<'_, N, M>,
         call: u64,
     ) -> Result<Option<Start>, Ending> {
         let may_reset = self.state == State::Asleep && self.may_go_off(platform, call);
@@ -193,10 +194,10 @@ impl<N: Named, M: Named> Worker<N, M> {
     }
 
     /// The core enters by its start. Where it does not go on from there, it is off.
-    fn enter<R: Wait, G: Gate>(
+    fn enter<R: Wait>(
         &mut self,
         rt: &R,
-        platform: &Platform<'_, N, M, G>,
+        platform: &Platform<'_, N, M>,
         start: Start,
     ) -> Result<(), Ending> {
         let entered = platform.firmware.enter(rt, &mut self.pass, start);
@@ -208,10 +209,11 @@ impl<N: Named, M: Named> Worker<N, M> {
     fn call<R: Wait, G: Gate>(
         &mut self,
         rt: &R,
-        platform: &Platform<'_, N, M, G>,
+        platform: &Platform<'_, N, M>,
+        gate: &G,
         call: u64,
     ) -> Result<(), Ending> {
-        if !platform.gate.may(self.core, call) {
+        if !gate.may(self.core, call) {
             return Err(Ending::Gate);
         }
         let off = self.may_go_off(platform, call);
@@ -219,7 +221,7 @@ impl<N: Named, M: Named> Worker<N, M> {
         let answered = platform
             .firmware
             .smc(rt, &mut self.pass, registers(request, true));
-        platform.gate.done(self.core, call);
+        gate.done(self.core, call);
         let stopped = match request {
             Request::CpuOff => State::Off,
             _ => State::Asleep,
@@ -228,10 +230,10 @@ impl<N: Named, M: Named> Worker<N, M> {
     }
 
     /// Sends the message of an outcome. Where the outcome is a stop, the core has stopped so.
-    fn go_on<R: Wait, G: Gate>(
+    fn go_on<R: Wait>(
         &mut self,
         rt: &R,
-        platform: &Platform<'_, N, M, G>,
+        platform: &Platform<'_, N, M>,
         answered: Result<Outcome, CallFault>,
         stopped: State,
     ) -> Result<(), Ending> {
@@ -253,7 +255,7 @@ impl<N: Named, M: Named> Worker<N, M> {
     }
 
     /// The worker is busy from now on, or not.
-    fn set_busy<G: Gate>(&mut self, platform: &Platform<'_, N, M, G>, is_busy: bool) {
+    fn set_busy(&mut self, platform: &Platform<'_, N, M>, is_busy: bool) {
         if self.is_busy != is_busy {
             self.is_busy = is_busy;
             platform.wire.set_busy(is_busy);

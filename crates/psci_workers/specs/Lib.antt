@@ -1,0 +1,2 @@
+pub use Rattle.psci_shared.specs as psci_shared
+pub use Rattle.psci_shared_ctl.specs as psci_shared_ctl
