@@ -21,7 +21,7 @@ use Rattle.psci_script.specs.Lines.{lines}
 use Rattle.psci_script.specs.Script.{board_line, line_said, transcript, transcript_of_board}
 use Rattle.psci_script.specs.Script.{transcript_of_first, transcript_of_line, transcript_of_lines}
 use Rattle.psci_script.specs.Script.{Transcript, transcript_of_rest}
-use Rattle.psci_bench.specs.Run.{WritesAnswers, AnswersPart, Replays}
+use Rattle.psci_lines.specs.Run.{WritesAnswers, AnswersPart, Replays}
 use Rattle.psci_bench.specs.ScriptRun.{AllSafe, Prints, SaysRun, WritesPart, WritesRun, events_of}
 use Rattle.psci_bench.specs.ScriptRun.{run_by, run_of_lines, run_on, text_of, with_event}
 use Rattle.psci_script.specs.Text.{answer_line}

@@ -5,39 +5,19 @@ ghost use Rattle.std.specs.Prelude.{IfOk, IfErr, OnOk};
 ghost use Rattle.psci_script.specs.psci_board.Board.{BoardValue};
 ghost use Rattle.psci_script.specs.psci_world_spec.declared.said.Record.{Record};
 ghost use Rattle.psci_world.specs.Seen.{IsPresent};
-ghost use Rattle.psci_script.specs.Limits.{longest_line, most_lines};
-ghost use Rattle.psci_bench.specs.Progress.{IsFresh, IsLine, OnlyGivenUp};
-ghost use Rattle.psci_bench.specs.Progress.{SameDevices, StaySound, progress_of};
-ghost use Rattle.psci_bench.specs.Run.{BoardRead, IsUnderWay, EndsBy};
-ghost use Rattle.psci_bench.specs.Run.{Runs, Replays, LineLeaves, LineRefused, IsNoDevice};
-ghost use Rattle.psci_bench.specs.Run.{is_write_fault};
+ghost use Rattle.psci_script.specs.Limits.{most_lines};
+ghost use Rattle.psci_lines.specs.Progress.{IsFresh, IsLine, OnlyGivenUp};
+ghost use Rattle.psci_lines.specs.Progress.{SameDevices, StaySound, progress_of};
+ghost use Rattle.psci_lines.specs.Run.{EndsBy, IsNoDevice, LineRefused, Replays, Runs};
+ghost use Rattle.psci_lines.specs.Run.{is_write_fault};
 ghost use Rattle.psci_bench.specs.ScriptRun.{Prints};
+ghost use Rattle.psci_bench.specs.UnderWay.{IsUnderWay, LineLeaves};
 
-use crate::answers::Answers;
-use crate::block::Block;
-use crate::device::{Sink, Source};
 use crate::laws::law_safe_scripts;
-use crate::progress::Progress;
-use psci_script::{
-    BoardFault, Extent, Line, ReadBoard, ReplayFault, Replayed, ScriptFault, literal, read_line,
-};
-use psci_world::{Board, Present};
+use psci_lines::{Answers, Block, Progress, Sink, Source, read_board};
+use psci_script::{Extent, Line, ReplayFault, Replayed, ScriptFault, read_line};
+use psci_world::Present;
 use std::alloc::Global;
-
-/// The board of a first line.
-pub fn read_board(alloc: Global, line: &[u8]) -> Result<Board, ReplayFault>
-    requires { length line.now ≤ longest_line }
-    ensures { BoardRead result line.now }
-{
-    let Some(text) = literal(line, b"board ") else {
-        return Err(ScriptFault::NoBoard.at(1));
-    };
-    match Board::read_bytes(alloc, text) {
-        Ok(board) => Ok(board),
-        Err(BoardFault::Memory) => Err(ReplayFault::Memory),
-        Err(fault) => Err(ReplayFault::Board(fault)),
-    }
-}
 
 /// Makes the event happen that a line says, if it says one, and adds the answer.
 fn answer(
@@ -64,98 +44,105 @@ fn answer(
     }
 }
 
-impl<S: Source, K: Sink> Progress<'_, '_, S, K> {
-    /// The present of the board that the first line has, before any event.
-    fn begin(&mut self, alloc: Global) -> Result<Present, ReplayFault>
-        requires { IsFresh S.left K.taken self.old }
-        ensures devices { SameDevices self.old self.new }
-        ensures sound { OnOk result (StaySound S.failed K.failed self.old self.new) }
-        ensures ok { IfOk result (λ present. IsUnderWay present 1
-            (S.left self.old.source.now) (K.taken self.old.sink.now)
-            (progress_of S.left K.taken self.new)) }
-        ensures err { IfErr result (λ fault. EndsBy fault
-            (S.left self.old.source.now) (K.taken self.old.sink.now)
-            (progress_of S.left K.taken self.new)) }
-        ensures given_up { IfErr result (OnlyGivenUp S.failed S.interruptions K.failed
-            K.interruptions self.new.source.now self.new.sink.now) }
-    {
-        let Some(extent) = self.next_line(1)? else {
-            return Err(ScriptFault::NoBoard.at(1));
-        };
-        let board = read_board(alloc, &self.block.unread()[..extent.line])?;
-        let present = Present::new(alloc, &board)?;
-        self.block.skip(extent.taken);
-        Ok(present)
-    }
+/// The present of the board that the first line has, before any event.
+fn begin<S: Source, K: Sink>(
+    progress: &mut Progress<'_, '_, S, K>,
+    alloc: Global,
+) -> Result<Present, ReplayFault>
+    requires { IsFresh S.left K.taken progress.old }
+    ensures devices { SameDevices progress.old progress.new }
+    ensures sound { OnOk result (StaySound S.failed K.failed progress.old progress.new) }
+    ensures ok { IfOk result (λ present. IsUnderWay present 1
+        (S.left progress.old.source.now) (K.taken progress.old.sink.now)
+        (progress_of S.left K.taken progress.new)) }
+    ensures err { IfErr result (λ fault. EndsBy fault
+        (S.left progress.old.source.now) (K.taken progress.old.sink.now)
+        (progress_of S.left K.taken progress.new)) }
+    ensures given_up { IfErr result (OnlyGivenUp S.failed S.interruptions K.failed
+        K.interruptions progress.new.source.now progress.new.sink.now) }
+{
+    let Some(extent) = progress.next_line(1)? else {
+        return Err(ScriptFault::NoBoard.at(1));
+    };
+    let board = read_board(alloc, &progress.block.unread()[..extent.line])?;
+    let present = Present::new(alloc, &board)?;
+    progress.block.skip(extent.taken);
+    Ok(present)
+}
 
-    /// Takes and answers a line, after so many others.
-    fn take_line(
-        &mut self,
-        present: &mut Present,
-        extent: Extent,
-        count: u64,
-    ) -> Result<(), ReplayFault>
-        requires line { IsLine extent self.old.block.now }
-        requires count { count < most_lines }
-        requires events { self.old.answers.now.events < 2 ^ 64 - 1 }
-        ensures devices { SameDevices self.old self.new }
-        ensures sound { StaySound S.failed K.failed self.old self.new }
-        ensures ok { OnOk result ((first before : Option (List ℕ))
-            → IsUnderWay present.old count first before (progress_of S.left K.taken self.old)
-            → IsUnderWay present.new (count + 1) first before
-            (progress_of S.left K.taken self.new)) }
-        ensures err { IfErr result (λ fault. (first before : Option (List ℕ))
-            → IsUnderWay present.old count first before (progress_of S.left K.taken self.old)
-            → EndsBy fault first before (progress_of S.left K.taken self.new)) }
-        ensures fault { IfErr result (λ fault. IsNoDevice fault) }
-    {
-        let line = read_line(&self.block.unread()[..extent.line]);
-        answer(present, self.answers, line, count + 1)?;
-        self.block.skip(extent.taken);
-        Ok(())
-    }
+/// Takes and answers a line, after so many others.
+fn take_line<S: Source, K: Sink>(
+    progress: &mut Progress<'_, '_, S, K>,
+    present: &mut Present,
+    extent: Extent,
+    count: u64,
+) -> Result<(), ReplayFault>
+    requires line { IsLine extent progress.old.block.now }
+    requires count { count < most_lines }
+    requires events { progress.old.answers.now.events < 2 ^ 64 - 1 }
+    ensures devices { SameDevices progress.old progress.new }
+    ensures sound { StaySound S.failed K.failed progress.old progress.new }
+    ensures ok { OnOk result ((first before : Option (List ℕ))
+        → IsUnderWay present.old count first before (progress_of S.left K.taken progress.old)
+        → IsUnderWay present.new (count + 1) first before
+        (progress_of S.left K.taken progress.new)) }
+    ensures err { IfErr result (λ fault. (first before : Option (List ℕ))
+        → IsUnderWay present.old count first before (progress_of S.left K.taken progress.old)
+        → EndsBy fault first before (progress_of S.left K.taken progress.new)) }
+    ensures fault { IfErr result (λ fault. IsNoDevice fault) }
+{
+    let line = read_line(&progress.block.unread()[..extent.line]);
+    answer(present, progress.answers, line, count + 1)?;
+    progress.block.skip(extent.taken);
+    Ok(())
+}
 
-    /// Answers each line of the script; the last answers may still wait to be written.
-    fn run(&mut self, alloc: Global) -> Result<Replayed, ReplayFault>
-        requires { IsFresh S.left K.taken self.old }
-        ensures devices { SameDevices self.old self.new }
-        ensures sound { OnOk result (StaySound S.failed K.failed self.old self.new) }
-        ensures runs { Runs result
-            (S.left self.old.source.now) (K.taken self.old.sink.now)
-            (progress_of S.left K.taken self.new) }
-        ensures given_up { IfErr result (OnlyGivenUp S.failed S.interruptions K.failed
-            K.interruptions self.new.source.now self.new.sink.now) }
-    {
-        let mut present = self.begin(alloc)?;
-        let mut lines: u64 = 1;
-        'lines: while let Some(extent) = self.next_line(lines + 1)? {
-            self.take_line(&mut present, extent, lines)?;
-            lines += 1;
-        }
-        Ok(Replayed {
-            lines,
-            events: self.answers.events(),
-        })
+/// Answers each line of the script; the last answers may still wait to be written.
+fn run_lines<S: Source, K: Sink>(
+    progress: &mut Progress<'_, '_, S, K>,
+    alloc: Global,
+) -> Result<Replayed, ReplayFault>
+    requires { IsFresh S.left K.taken progress.old }
+    ensures devices { SameDevices progress.old progress.new }
+    ensures sound { OnOk result (StaySound S.failed K.failed progress.old progress.new) }
+    ensures runs { Runs result
+        (S.left progress.old.source.now) (K.taken progress.old.sink.now)
+        (progress_of S.left K.taken progress.new) }
+    ensures given_up { IfErr result (OnlyGivenUp S.failed S.interruptions K.failed
+        K.interruptions progress.new.source.now progress.new.sink.now) }
+{
+    let mut present = begin(progress, alloc)?;
+    let mut lines: u64 = 1;
+    'lines: while let Some(extent) = progress.next_line(lines + 1)? {
+        take_line(progress, &mut present, extent, lines)?;
+        lines += 1;
     }
+    Ok(Replayed {
+        lines,
+        events: progress.answers.events(),
+    })
+}
 
-    /// Answers the script, and writes the last answers.
-    fn complete(&mut self, alloc: Global) -> Result<Replayed, ReplayFault>
-        requires { IsFresh S.left K.taken self.old }
-        ensures devices { SameDevices self.old self.new }
-        ensures sound { OnOk result (StaySound S.failed K.failed self.old self.new) }
-        ensures replays { Replays result
-            (S.left self.old.source.now) (S.left self.new.source.now)
-            (K.taken self.old.sink.now) (K.taken self.new.sink.now) }
-        ensures given_up { IfErr result (OnlyGivenUp S.failed S.interruptions K.failed
-            K.interruptions self.new.source.now self.new.sink.now) }
-    {
-        let ended = self.run(alloc);
-        if is_write_fault(&ended) {
-            return ended;
-        }
-        self.answers.write_to(self.sink)?;
-        ended
+/// Answers the script, and writes the last answers.
+fn complete<S: Source, K: Sink>(
+    progress: &mut Progress<'_, '_, S, K>,
+    alloc: Global,
+) -> Result<Replayed, ReplayFault>
+    requires { IsFresh S.left K.taken progress.old }
+    ensures devices { SameDevices progress.old progress.new }
+    ensures sound { OnOk result (StaySound S.failed K.failed progress.old progress.new) }
+    ensures replays { Replays result
+        (S.left progress.old.source.now) (S.left progress.new.source.now)
+        (K.taken progress.old.sink.now) (K.taken progress.new.sink.now) }
+    ensures given_up { IfErr result (OnlyGivenUp S.failed S.interruptions K.failed
+        K.interruptions progress.new.source.now progress.new.sink.now) }
+{
+    let ended = run_lines(progress, alloc);
+    if is_write_fault(&ended) {
+        return ended;
     }
+    progress.answers.write_to(progress.sink)?;
+    ended
 }
 
 /// Answers the script that comes from the source into the sink, as `replay` does.
@@ -174,7 +161,8 @@ fn replay_lines<S: Source, K: Sink>(
 {
     let mut block = Block::new(alloc)?;
     let mut answers = Answers::new(alloc)?;
-    Progress::new(source, sink, &mut block, &mut answers).complete(alloc)
+    let mut progress = Progress::new(source, sink, &mut block, &mut answers);
+    complete(&mut progress, alloc)
 }
 
 /// Answers the script that comes from the source into the sink: its events happen one after another

@@ -22,12 +22,12 @@ use Rattle.psci_script.specs.declared.fault.ScriptFault.{ScriptFault}
 use Rattle.psci_script.specs.declared.fault.ScriptFault.TheVariants.{NoBoard, Line, Long, TooMany}
 use Rattle.psci_script.specs.declared.grammar.Line.{Line as LineSays}
 use Rattle.psci_script.specs.declared.grammar.Line.TheVariants.{Blank, Event as Says}
-use Rattle.psci_bench.specs.Answered.{Answered}
-use Rattle.psci_bench.specs.Block.{ReadAhead}
-use Rattle.psci_bench.specs.Progress.{Progress, progress, FailsLine, FaultyLine}
-use Rattle.psci_bench.specs.Run.{is_write_fault}
-use Rattle.psci_bench.proofs.Known.{appends_more}
-use Rattle.psci_bench.proofs.Transcripts.{is_lt, line_long, line_many}
+use Rattle.psci_lines.specs.Answered.{Answered}
+use Rattle.psci_lines.specs.Block.{ReadAhead}
+use Rattle.psci_lines.specs.Progress.{Progress, progress, FailsLine, FaultyLine}
+use Rattle.psci_lines.specs.Run.{is_write_fault}
+use Rattle.psci_lines.proofs.Known.{appends_more}
+use Rattle.psci_lines.proofs.Transcripts.{is_lt, line_long, line_many}
 use Rattle.psci_shown.specs.declared.form.Form.{Form}
 use Rattle.psci_shown.specs.Shown.{opening}
 use Rattle.psci_shown.specs.Transcript.{Ends, EndsBy, Goes, Runs, Shows, Stops, WritesAll, WritesPart}

@@ -20,15 +20,15 @@ use Rattle.psci_script.specs.declared.fault.ScriptFault.TheVariants.{Line}
 use Rattle.psci_script.specs.declared.grammar.Line.{Line as LineSays}
 use Rattle.psci_script.specs.declared.grammar.Line.TheVariants.{Blank, Event as Says}
 use Rattle.psci_script.specs.declared.lines.Extent.{Extent}
-use Rattle.psci_bench.specs.Answered.{Answered}
-use Rattle.psci_bench.specs.Block.{ReadAhead}
-use Rattle.psci_bench.specs.Progress.{Progress, progress, Ahead, IsLine, WriteFailed}
-use Rattle.psci_bench.specs.Run.{Follows}
-use Rattle.psci_bench.proofs.Known.{appends_more, consumes_more}
-use Rattle.psci_bench.proofs.Split.{lines_none, lines_some, Longer}
-use Rattle.psci_bench.proofs.Ends.{cut_front, follows_whole}
-use Rattle.psci_bench.proofs.Transcripts.{follows_ahead, line_first, line_follows, line_read}
-use Rattle.psci_bench.proofs.Transcripts.{skipped, taken_within}
+use Rattle.psci_lines.specs.Answered.{Answered}
+use Rattle.psci_lines.specs.Block.{ReadAhead}
+use Rattle.psci_lines.specs.Progress.{Progress, progress, Ahead, IsLine, WriteFailed}
+use Rattle.psci_lines.specs.Run.{Follows}
+use Rattle.psci_lines.proofs.Known.{appends_more, consumes_more}
+use Rattle.psci_lines.proofs.Split.{lines_none, lines_some, Longer}
+use Rattle.psci_lines.proofs.Ends.{cut_front, follows_whole}
+use Rattle.psci_lines.proofs.Transcripts.{follows_ahead, line_first, line_follows, line_read}
+use Rattle.psci_lines.proofs.Transcripts.{skipped, taken_within}
 use Rattle.psci_shown.specs.declared.form.Form.{Form}
 use Rattle.psci_shown.specs.Shown.{event_text, opening}
 use Rattle.psci_shown.specs.Transcript.{Ends, Goes, Stops, shown, shown_of_line, shown_of_lines}

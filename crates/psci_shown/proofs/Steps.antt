@@ -20,11 +20,11 @@ use Rattle.psci_script.specs.declared.fault.ScriptFault.TheVariants.{NoBoard, Li
 use Rattle.psci_script.specs.declared.grammar.Line.{Line as LineSays}
 use Rattle.psci_script.specs.declared.grammar.Line.TheVariants.{Blank, Event as Says}
 use Rattle.psci_script.specs.declared.lines.Extent.{Extent}
-use Rattle.psci_bench.specs.Answered.{Answered}
-use Rattle.psci_bench.specs.Block.{ReadAhead}
-use Rattle.psci_bench.specs.Progress.{Progress, progress, IsLine}
-use Rattle.psci_bench.specs.Run.{BoardRead, LineRefused}
-use Rattle.psci_bench.proofs.Transcripts.{line_read, skipped}
+use Rattle.psci_lines.specs.Answered.{Answered}
+use Rattle.psci_lines.specs.Block.{ReadAhead}
+use Rattle.psci_lines.specs.Progress.{Progress, progress, IsLine}
+use Rattle.psci_lines.specs.Run.{BoardRead, LineRefused}
+use Rattle.psci_lines.proofs.Transcripts.{line_read, skipped}
 use Rattle.psci_shown.specs.declared.form.Form.{Form}
 use Rattle.psci_shown.specs.Shown.{LineShown, board_text, event_text, heading}
 use Rattle.psci_shown.specs.Transcript.{Ends, EndsBy, Goes, Stops, shown_of_board, shown_of_first}

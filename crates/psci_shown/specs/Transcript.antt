@@ -18,8 +18,8 @@ use Rattle.psci_script.specs.declared.fault.ScriptFault.{ScriptFault}
 use Rattle.psci_script.specs.declared.fault.ScriptFault.TheVariants.{NoBoard}
 use Rattle.psci_script.specs.declared.grammar.Line.{Line as LineSays}
 use Rattle.psci_script.specs.declared.grammar.Line.TheVariants.{Blank, Event as Says}
-use Rattle.psci_bench.specs.Progress.{Progress}
-use Rattle.psci_bench.specs.Run.{Follows}
+use Rattle.psci_lines.specs.Progress.{Progress}
+use Rattle.psci_lines.specs.Run.{Follows}
 use Rattle.psci_shown.specs.declared.form.Form.{Form}
 use Rattle.psci_shown.specs.Shown.{event_text, heading, opening}
 

@@ -12,5 +12,6 @@ mod lines;
 mod showing;
 
 pub use form::{Form, Layout};
-pub use psci_bench::{Io, ReplayFault, Replayed, ScriptFault, Sink, Source, Std};
+pub use psci_lines::{Io, Sink, Source, Std};
+pub use psci_script::{ReplayFault, Replayed, ScriptFault};
 pub use showing::show;

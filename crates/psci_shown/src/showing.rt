@@ -2,9 +2,9 @@
 
 ghost use Rattle.std.specs.Prelude.{◌≡◌, ◌+◌, ◌<◌, ◌≤◌, ℕ, List, [], false, length, IfErr, IfOk};
 ghost use Rattle.std.specs.Prelude.{OnOk, Ok, Err, Option, string_bytes};
-ghost use Rattle.psci_bench.specs.Progress.{IsFresh, IsLine, OnlyGivenUp, SameDevices, StaySound};
-ghost use Rattle.psci_bench.specs.Progress.{progress_of};
-ghost use Rattle.psci_bench.specs.Run.{BoardRead, IsNoDevice, LineRefused, is_write_fault};
+ghost use Rattle.psci_lines.specs.Progress.{IsFresh, IsLine, OnlyGivenUp, SameDevices, StaySound};
+ghost use Rattle.psci_lines.specs.Progress.{progress_of};
+ghost use Rattle.psci_lines.specs.Run.{BoardRead, IsNoDevice, LineRefused, is_write_fault};
 ghost use Rattle.psci_script.specs.Limits.{longest_line, most_lines};
 ghost use Rattle.psci_script.specs.Line.{line_of};
 ghost use Rattle.psci_shown.specs.Shown as shown;
@@ -17,7 +17,7 @@ use crate::form::Form;
 use crate::json::write_board;
 use crate::legend::Legend;
 use crate::lines::{put, write_lines};
-use psci_bench::{Answers, Block, Progress, Sink, Source, read_board};
+use psci_lines::{Answers, Block, Progress, Sink, Source, read_board};
 use psci_run::Run;
 use psci_script::{Extent, Line, ReplayFault, Replayed, ScriptFault, literal, read_line};
 use psci_world::Board;

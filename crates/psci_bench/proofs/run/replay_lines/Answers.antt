@@ -1,6 +1,6 @@
 -- Where no memory is had for the first room, nothing was done.
 use Rattle.psci_script.specs.declared.fault.ReplayFault.TheVariants.{Memory}
-use Rattle.psci_bench.proofs.Finish.{replays_so, nothing_done}
+use Rattle.psci_lines.proofs.Finish.{replays_so, nothing_done}
 use Rattle.psci_bench.proofs.run.replay_lines.Goals as goal
 
 pub returns-in_err-block-clause-replays : goal.returns-in_err-block-clause-replays

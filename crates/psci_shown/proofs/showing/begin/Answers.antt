@@ -3,11 +3,11 @@ use Rattle.std.proofs.Common.{◌≡◌, ℕ, List, take, ◌++◌, ◌∙◌, a
 use Rattle.psci_script.specs.declared.fault.ReplayFault.{ReplayFault}
 use Rattle.psci_script.specs.declared.fault.ReplayFault.TheVariants.{Memory, Script}
 use Rattle.psci_script.specs.declared.fault.ScriptFault.TheVariants.{NoBoard}
-use Rattle.psci_bench.specs.Answered.{Answered}
-use Rattle.psci_bench.specs.Block.{ReadAhead}
-use Rattle.psci_bench.specs.Progress.{Progress, progress, progress_of}
-use Rattle.psci_bench.specs.Run.{BoardRead}
-use Rattle.psci_bench.proofs.Steps.{finds_as, if_err_so}
+use Rattle.psci_lines.specs.Answered.{Answered}
+use Rattle.psci_lines.specs.Block.{ReadAhead}
+use Rattle.psci_lines.specs.Progress.{Progress, progress, progress_of}
+use Rattle.psci_lines.specs.Run.{BoardRead}
+use Rattle.psci_lines.proofs.Steps.{finds_as, if_err_so}
 use Rattle.psci_shown.specs.Shown.{board_text, heading}
 use Rattle.psci_shown.specs.Transcript.{EndsBy, Goes, shown_of_lines, shown_of_rest}
 use Rattle.psci_shown.proofs.Finish.{faulty_first, fails_so}

@@ -1,7 +1,7 @@
 -- How a run ended is what is answered, once the last texts were written too.
 use Rattle.std.proofs.Common.{subst, sym, Err}
 use Rattle.psci_script.specs.declared.fault.ReplayFault.{ReplayFault}
-use Rattle.psci_bench.specs.Progress.{progress_of}
+use Rattle.psci_lines.specs.Progress.{progress_of}
 use Rattle.psci_shown.specs.Transcript.{Shows}
 use Rattle.psci_shown.proofs.Finish.{shows_done, shows_failed, shows_part, shows_so}
 use Rattle.psci_shown.proofs.showing.complete.Goals as goal

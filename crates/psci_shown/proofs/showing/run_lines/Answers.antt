@@ -1,9 +1,9 @@
 -- Each line is shown, until the script ends or is at fault.
 use Rattle.std.proofs.Common.{arith, ℕ, ◌+◌, ◌∙◌, ap, subst, sym, Some, None, Ok, length}
 use Rattle.psci_script.specs.Script.{ends_unanswered}
-use Rattle.psci_bench.specs.Progress.{progress_of}
-use Rattle.psci_bench.proofs.Ahead.{same_more, sound_more}
-use Rattle.psci_bench.proofs.Steps.{finds_as}
+use Rattle.psci_lines.specs.Progress.{progress_of}
+use Rattle.psci_lines.proofs.Ahead.{same_more, sound_more}
+use Rattle.psci_lines.proofs.Steps.{finds_as}
 use Rattle.psci_shown.specs.Transcript.{Ends, shown_of_rest}
 use Rattle.psci_shown.proofs.Finish.{fails_so, faulty_rest, runs_so}
 use Rattle.psci_shown.proofs.Shows.{ends_none, goes_ahead, no_rest}

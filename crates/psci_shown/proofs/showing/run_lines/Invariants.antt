@@ -1,6 +1,6 @@
 -- So many lines were taken and shown, and the devices are those of the beginning.
 use Rattle.std.proofs.Common.{◌-◌, ◌≤◌}
-use Rattle.psci_bench.specs.Progress.{SameDevices, StaySound, progress_of}
+use Rattle.psci_lines.specs.Progress.{SameDevices, StaySound, progress_of}
 use Rattle.psci_shown.specs.Transcript.{Goes, shown_of_rest}
 use Rattle.psci_shown.proofs.showing.run_lines.Given as goal
 

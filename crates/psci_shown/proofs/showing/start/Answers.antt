@@ -2,10 +2,10 @@
 use Rattle.std.proofs.Common.{◌≡◌, ℕ, List, [], ◌++◌, ◌∙◌, ap, subst, sym}
 use Rattle.psci_script.specs.declared.fault.ReplayFault.{ReplayFault}
 use Rattle.psci_script.specs.declared.fault.ReplayFault.TheVariants.{Memory}
-use Rattle.psci_bench.specs.Answered.{Answered}
-use Rattle.psci_bench.specs.Block.{ReadAhead}
-use Rattle.psci_bench.specs.Progress.{Progress, progress, progress_of}
-use Rattle.psci_bench.proofs.Steps.{if_err_so}
+use Rattle.psci_lines.specs.Answered.{Answered}
+use Rattle.psci_lines.specs.Block.{ReadAhead}
+use Rattle.psci_lines.specs.Progress.{Progress, progress, progress_of}
+use Rattle.psci_lines.proofs.Steps.{if_err_so}
 use Rattle.psci_shown.specs.Transcript.{EndsBy, Goes, shown_of_lines}
 use Rattle.psci_shown.proofs.Finish.{goes_first, nothing_shown}
 use Rattle.psci_shown.proofs.showing.start.Goals as goal

@@ -2,11 +2,11 @@
 use Rattle.std.proofs.Common.{◌≡◌, ℕ, List, take, ◌++◌, ◌+◌, ◌∙◌, ap, subst, sym, refl}
 use Rattle.psci_script.specs.declared.fault.ReplayFault.TheVariants.{Memory}
 use Rattle.psci_script.specs.Line.{line_of}
-use Rattle.psci_bench.specs.Answered.{Answered}
-use Rattle.psci_bench.specs.Block.{ReadAhead}
-use Rattle.psci_bench.specs.Progress.{progress, progress_of}
-use Rattle.psci_bench.specs.Run.{LineRefused}
-use Rattle.psci_bench.proofs.Steps.{if_err_so}
+use Rattle.psci_lines.specs.Answered.{Answered}
+use Rattle.psci_lines.specs.Block.{ReadAhead}
+use Rattle.psci_lines.specs.Progress.{progress, progress_of}
+use Rattle.psci_lines.specs.Run.{LineRefused}
+use Rattle.psci_lines.proofs.Steps.{if_err_so}
 use Rattle.psci_shown.specs.Shown.{LineShown}
 use Rattle.psci_shown.specs.Transcript.{Goes, shown_of_rest}
 use Rattle.psci_shown.proofs.Steps.{line_goes, line_not, still_stops}

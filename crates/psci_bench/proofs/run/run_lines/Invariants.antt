@@ -1,0 +1,16 @@
+use Rattle.std.proofs.Common.{◌-◌, ◌≤◌}
+use Rattle.psci_lines.specs.Progress.{SameDevices, StaySound, progress_of}
+use Rattle.psci_bench.specs.UnderWay.{IsUnderWay}
+use Rattle.psci_bench.proofs.run.run_lines.Given as goal
+
+abbrev pub invariant-lines : goal.invariant-lines
+invariant-lines g l = record {
+  few : l.lines ≤ 1000000;
+  devices : SameDevices l.fn.progress l.progress;
+  sound : StaySound g.S.Source.failed g.K.Sink.failed l.fn.progress l.progress;
+  goes : IsUnderWay l.present l.lines (g.S.Source.left l.fn.progress.source.now)
+      (g.K.Sink.taken l.fn.progress.sink.now) (progress_of g.S.Source.left g.K.Sink.taken l.progress);
+}
+
+abbrev pub decreases-lines : goal.decreases-lines
+decreases-lines g l = 1000000 - l.lines

@@ -1,0 +1,6 @@
+pub mod Answered
+pub mod Block
+pub mod Device
+pub mod Limits
+pub mod Progress
+pub mod Run

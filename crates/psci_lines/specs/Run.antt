@@ -1,0 +1,184 @@
+-- Where a run of a script stands, and what it leaves when it ends.
+use Rattle.std.specs.Prelude.{◌≡◌, ℕ, Bool, true, false, List, [], ◌++◌, ◌+◌, length, take}
+use Rattle.std.specs.Prelude.{◌<◌, ◌≤◌, ◌⊎◌, Option, None, IfSome, Result, Ok, Err}
+use Rattle.std.specs.Io.KnownBytes.{Appends, Consumes, IsAtEnd}
+use Rattle.psci_script.specs.psci_board.Board.{BoardValue}
+use Rattle.psci_script.specs.psci_board_text.Verdict.{board_of}
+use Rattle.psci_script.specs.psci_world_spec.declared.said.Record.{Record}
+use Rattle.psci_script.specs.declared.fault.Replayed.{Replayed}
+use Rattle.psci_script.specs.declared.fault.ReplayFault.{ReplayFault}
+use Rattle.psci_script.specs.declared.fault.ReplayFault.TheVariants.{Script, Board, Read, Write}
+use Rattle.psci_script.specs.declared.fault.ReplayFault.TheVariants.{Memory}
+use Rattle.psci_script.specs.declared.fault.ScriptFault.TheVariants.{Line}
+use Rattle.psci_script.specs.declared.grammar.Line.{Line as LineSays}
+use Rattle.psci_lines.specs.Block.{ReadAhead}
+use Rattle.psci_lines.specs.Limits.{block_room}
+use Rattle.psci_script.specs.Lines.{lines, AreWhole}
+use Rattle.psci_lines.specs.Progress.{Progress, IsLineFront}
+use Rattle.psci_script.specs.Script.{after_line, transcript, transcript_of_rest, board_line}
+
+-- what may follow the lines that were taken: anything, but after the end only what was read
+abbrev pub Follows : ReadAhead → List ℕ → Type 0
+Follows block rest = block.ended ≡ true → (n : ℕ) × (rest ≡ take n block.unread)
+
+-- So many lines were taken, and answered by these records: whatever follows is answered as the
+-- lines that are left, after what was answered.
+pub record LinesAnswered (b : BoardValue) (past : List Record) (count : ℕ)
+    (first : Option (List ℕ)) (before : Option (List ℕ)) (s : Progress) : Type 0 where
+  -- the bytes of the lines that were taken
+  pub whole : List ℕ
+  pub from : Consumes first s.left (whole ++ s.block.unread)
+  pub at_end : s.block.ended ≡ true → IsAtEnd s.left
+  -- the answers that were written
+  pub written : List ℕ
+  pub to : Appends before s.taken written
+  pub answers : (rest : List ℕ) → Follows s.block rest
+      → transcript (whole ++ rest) ≡ after_line (written ++ s.answered.waiting)
+      (transcript_of_rest b past count (lines rest))
+  pub events : s.answered.events ≡ length past
+  -- only the last line of a script may have no line feed
+  pub lines : (s.block.ended ≡ true → 0 < length s.block.unread) → AreWhole whole
+
+-- The script came to an end, or to its first fault.
+pub record Ended (end : Result Replayed ReplayFault)
+    (first before : Option (List ℕ)) (s : Progress) : Type 0 where
+  -- the bytes that were read
+  pub read : List ℕ
+  pub from : Consumes first s.left read
+  pub at_end : s.block.ended ≡ true → IsAtEnd s.left
+  pub written : List ℕ
+  pub to : Appends before s.taken written
+  pub transcript : (rest : List ℕ) → (s.block.ended ≡ true → rest ≡ [])
+      → transcript (read ++ rest) ≡ record { text = written ++ s.answered.waiting; end = end }
+
+-- there are so many lines, and none is at fault
+abbrev pub AreSound : ℕ → List ℕ → Type 0
+AreSound count bytes =
+    ((count ≡ 0) × (bytes ≡ []))
+    ⊎ ((events : ℕ)
+    × ((transcript bytes).end ≡ Ok (record { lines = count; events = events })))
+
+-- what was read ahead after the lines before that of number n: one block at most
+abbrev pub IsWithinBlock : ℕ → List ℕ → Type 0
+IsWithinBlock n part = length part ≤ block_room
+
+-- A read failed or memory ran out after whole lines, which are answered.
+pub record CutShort (Rest : ℕ → List ℕ → Type 0) (first before : Option (List ℕ))
+    (s : Progress) : Type 0 where
+  pub whole : List ℕ
+  pub lines : AreWhole whole
+  pub count : ℕ
+  pub sound : AreSound count whole
+  -- what was read after them
+  pub part : List ℕ
+  pub fits : Rest (count + 1) part
+  pub from : Consumes first s.left (whole ++ part)
+  pub at_end : s.block.ended ≡ true → IsAtEnd s.left
+  pub written : List ℕ
+  pub to : Appends before s.taken written
+  -- whatever follows is answered after them
+  pub more : (rest : List ℕ) → (s.block.ended ≡ true → rest ≡ []) → (text : List ℕ)
+      × ((transcript ((whole ++ part) ++ rest)).text ≡ (written ++ s.answered.waiting) ++ text)
+  pub transcript : (transcript whole).text ≡ written ++ s.answered.waiting
+
+-- A write failed: a front part of the answers was written.
+pub record Unwritten (first before : Option (List ℕ))
+    (left taken : Option (List ℕ)) : Type 0 where
+  pub read : List ℕ
+  pub from : Consumes first left read
+  pub ended : Bool
+  pub at_end : ended ≡ true → IsAtEnd left
+  pub written : List ℕ
+  pub to : Appends before taken written
+  pub transcript : (rest : List ℕ) → (ended ≡ true → rest ≡ [])
+      → (more : List ℕ) × ((transcript (read ++ rest)).text ≡ written ++ more)
+
+-- what a run leaves that ended early
+abbrev pub EndsBy : ReplayFault → Option (List ℕ) → Option (List ℕ) → Progress → Type 0
+EndsBy (Script line fault) first before s = Ended (Err (Script line fault)) first before s
+EndsBy (Board fault) first before s = Ended (Err (Board fault)) first before s
+EndsBy Read first before s = CutShort IsLineFront first before s
+EndsBy Memory first before s = CutShort IsWithinBlock first before s
+EndsBy Write first before s = Unwritten first before s.left s.taken
+
+-- what a run leaves, by how it ended
+abbrev pub Runs : Result Replayed ReplayFault → Option (List ℕ) → Option (List ℕ)
+    → Progress
+    → Type 0
+Runs (Ok replayed) first before s = Ended (Ok replayed) first before s
+Runs (Err fault) first before s = EndsBy fault first before s
+
+-- a write failed
+abbrev pub is_write_fault : Result Replayed ReplayFault → Bool
+is_write_fault (Ok replayed) = false
+is_write_fault (Err (Script line fault)) = false
+is_write_fault (Err (Board fault)) = false
+is_write_fault (Err Read) = false
+is_write_fault (Err Write) = true
+is_write_fault (Err Memory) = false
+
+-- Of a replay ---------------------------------------------------------------------------------
+
+-- the answer text of the script was written, which ends so
+abbrev pub WritesAnswers : Result Replayed ReplayFault → Option (List ℕ) → Option (List ℕ)
+    → Option (List ℕ) → Type 0
+WritesAnswers end first before after = IfSome first (λ bytes.
+    ((transcript bytes).end ≡ end) × Appends before after (transcript bytes).text)
+
+-- Whole lines were read, none of them at fault, and exactly these are answered.
+pub record AnswersLines (Rest : ℕ → List ℕ → Type 0)
+    (first left before after : Option (List ℕ)) : Type 0 where
+  pub whole : List ℕ
+  pub lines : AreWhole whole
+  pub count : ℕ
+  pub sound : AreSound count whole
+  -- what was read after them
+  pub part : List ℕ
+  pub fits : Rest (count + 1) part
+  pub from : Consumes first left (whole ++ part)
+  pub to : Appends before after (transcript whole).text
+
+-- a front part of the answer text was written
+abbrev pub AnswersPart : Option (List ℕ) → Option (List ℕ) → Option (List ℕ) → Type 0
+AnswersPart first before after = IfSome first (λ bytes.
+    (n : ℕ) × Appends before after (take n (transcript bytes).text))
+
+-- what a replay leaves, by its answer
+abbrev pub Replays : Result Replayed ReplayFault → Option (List ℕ) → Option (List ℕ)
+    → Option (List ℕ) → Option (List ℕ) → Type 0
+Replays (Ok replayed) first left before after = WritesAnswers (Ok replayed) first before after
+Replays (Err (Script line fault)) first left before after =
+    WritesAnswers (Err (Script line fault)) first before after
+Replays (Err (Board fault)) first left before after =
+    WritesAnswers (Err (Board fault)) first before after
+Replays (Err Read) first left before after =
+    AnswersLines IsLineFront first left before after
+Replays (Err Memory) first left before after =
+    AnswersLines IsWithinBlock first left before after
+Replays (Err Write) first left before after = AnswersPart first before after
+
+-- the board of a first line, or what is wrong with it
+abbrev pub BoardRead : Result BoardValue ReplayFault → List ℕ → Type 0
+BoardRead (Ok b) line = (text : List ℕ) × (board_line line ≡ Ok text) × (board_of text ≡ Ok b)
+BoardRead (Err (Script number fault)) line = (number ≡ 1) × (board_line line ≡ Err fault)
+BoardRead (Err (Board fault)) line =
+    (text : List ℕ) × (board_line line ≡ Ok text) × (board_of text ≡ Err fault)
+BoardRead (Err Memory) line = Unit {0}
+BoardRead (Err Read) line = ⊥
+BoardRead (Err Write) line = ⊥
+
+-- why a line is not answered: it is outside the grammar, or memory ran out
+abbrev pub LineRefused : ReplayFault → ℕ → Option LineSays → Type 0
+LineRefused Memory number line = Unit {0}
+LineRefused (Script n fault) number line = (n ≡ number) × (fault ≡ Line) × (line ≡ None)
+LineRefused (Board fault) number line = ⊥
+LineRefused Read number line = ⊥
+LineRefused Write number line = ⊥
+
+-- a fault of the script or of memory, and of no device
+abbrev pub IsNoDevice : ReplayFault → Type 0
+IsNoDevice Memory = Unit {0}
+IsNoDevice (Script n fault) = Unit {0}
+IsNoDevice (Board fault) = Unit {0}
+IsNoDevice Read = ⊥
+IsNoDevice Write = ⊥
