@@ -1,4 +1,5 @@
 pub mod AgreeRows
+mod BookRows
 pub mod CallRows
 pub mod Histories
 pub mod Placed
