@@ -1,5 +1,6 @@
 pub mod AgreeRows
+mod BookRows
 pub mod CallRows
 pub mod Histories
-mod BookRows
 pub mod Placed
+mod TiedRows

@@ -1,0 +1,78 @@
+-- Worked examples of what the type of a book with two entries keeps, and what it does not.
+use Rattle.std.proofs.Common.{◌≡◌, ℕ, ◌<◌, List, [], ◌∷◌, refl, ap, arith}
+use Rattle.psci_board.specs.Board.{BoardValue}
+use Rattle.psci_ctl.specs.psci_ctl_spec.psci_abi.declared.format.Format.TheVariants.{Original}
+use Rattle.psci_ctl.specs.Seen.{ControllerValue, seen}
+use Rattle.psci_ctl.specs.psci_ctl_spec.Effects.{effect_of}
+use Rattle.psci_ctl.specs.psci_ctl_spec.History.{values_of}
+use Rattle.psci_ctl.specs.psci_ctl_spec.Replies.{reply, reset_of}
+use Rattle.psci_ctl.specs.psci_ctl_spec.Values.{Values}
+use Rattle.psci_ctl.specs.psci_ctl_spec.declared.call.CtlCall.TheVariants.{Reset}
+use Rattle.psci_ctl.specs.psci_ctl_spec.declared.kick.Kick.TheVariants as kicks
+use Rattle.psci_ctl.specs.psci_ctl_spec.declared.reply.CtlReply.{CtlReply}
+use Rattle.psci_ctl.specs.psci_ctl_spec.declared.reply.CtlReply.TheVariants.{Delivery, Kick}
+use Rattle.psci_ctl.specs.psci_ctl_spec.psci_link.declared.start.Cause.TheVariants as causes
+use Rattle.psci_shared_ctl.specs.declared.entry.CtlEntry.{CtlEntry}
+use Rattle.psci_shared_ctl.specs.Books.{entry, history_of}
+use Rattle.psci_shared_ctl.specs.Inside.{IsTied}
+
+-- what an example unfolds to compute a reply and what is kept
+unfoldable computing : Unit {0}
+unfolding values_of effect_of reply reset_of history_of
+computing = tt
+
+-- two cores
+abbrev board : BoardValue
+board = record {
+  levels = (2 ∷ []) ∷ [];
+  ranges = record { start = 0; end = 64 } ∷ [];
+  boot = 0;
+  starts = 9;
+  lives = 3;
+  format = Original;
+}
+
+-- a core is reset, for its start of this number
+abbrev resets : ℕ → ℕ → CtlEntry
+resets c number = entry number (Reset (record { number = c }))
+    (Kick (kicks.Started (record { life = 1; number = number; cause = causes.Reset })))
+
+-- core 1 is reset twice
+abbrev entries : List CtlEntry
+entries = resets 1 1 ∷ resets 1 2 ∷ []
+
+-- a book of both
+both_tied : (c : ControllerValue) → c.board ≡ board
+    → seen c ≡ values_of board (history_of entries) → IsTied board 1001 c entries 2 2
+unfolding computing
+both_tied c of_board values = record {
+  board = of_board;
+  values = values;
+  legal = (refl, omega arith, (refl, omega arith, tt));
+  within = omega arith;
+  reserved = omega arith;
+  whole = refl;
+  small = omega arith;
+}
+
+-- the number of the start, or 0
+abbrev number_in : CtlReply → ℕ
+number_in (Kick (kicks.Started s)) = s.number
+number_in (Kick kicks.Ignored) = 0
+number_in (Delivery delivery) = 0
+
+-- the second reset is answered as the first; a core that the board does not have is reset
+answered_as_the_first : (c : ControllerValue) → IsTied board 1001 c (resets 1 1 ∷ resets 1 1 ∷ []) 4 3 → ⊥
+unfolding computing
+answered_as_the_first c h = let e : ◌≡◌ {A = ℕ} 1 2 = ap number_in h.legal.0 in omega arith
+
+no_core : (c : ControllerValue) → IsTied board 1001 c (resets 2 1 ∷ []) 4 3 → ⊥
+unfolding computing
+no_core c h = let e : 2 < 2 = h.legal.1 in omega arith
+
+-- the power controller has another start than the entries say
+other_start : (c : ControllerValue) → (seen c).starts 1 ≡ 1 → IsTied board 1001 c entries 4 3 → ⊥
+unfolding computing
+other_start c one h =
+    let e : (seen c).starts 1 ≡ 2 = ap (λ (v : Values). v.starts 1) h.values in
+    omega (arith, one, e)
