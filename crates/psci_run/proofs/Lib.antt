@@ -1,3 +1,4 @@
 mod RowRows
+mod RunRows
 pub mod Joins
 pub mod Runs
