@@ -1,6 +1,6 @@
 -- Worked examples: what an audit answers, and what it does not.
-use Rattle.std.proofs.Common.{◌≡◌, ℕ, [], ◌∷◌, None, Some, Ok, Err, true, false, pos}
-use Rattle.std.proofs.Common.{ap, refl, arith}
+use Rattle.std.proofs.Common.{◌≡◌, ℕ, List, [], ◌∷◌, ◌++◌, None, Some, Ok, Err, true, false, pos}
+use Rattle.std.proofs.Common.{ap, refl, arith, length, length-append, reverse}
 use Rattle.psci_world_spec.specs.psci_fw_spec.declared.call.FwCall.TheVariants as calls
 use Rattle.psci_world_spec.specs.psci_fw_spec.declared.outcome.Act.{Act}
 use Rattle.psci_world_spec.specs.psci_fw_spec.declared.outcome.Act.TheVariants as acts
@@ -87,6 +87,12 @@ second_place = record {
   illegal = λ may. let e = may.1 in cc;
 }
 
+-- there is no such place in a list of nothing
+nothing_is_illegal_in_none : (place : ℕ) → IsFirstIllegal board [] place → ⊥
+nothing_is_illegal_in_none place is =
+    let e : length (reverse is.before ++ (is.entry ∷ is.since)) ≡ 0 = ap length is.parts in
+    let d = length-append (reverse is.before) (is.entry ∷ is.since) in omega (arith, e, d)
+
 -- tickets that fall come before an entry that may not follow
 falling : IsFault board (returns 2 ∷ enters 1 ∷ []) [] Ticket
 falling fit = let less = fit.firmware.1.0 in omega (arith, less)
@@ -110,6 +116,17 @@ stops = refl
 -- a list that is judged never has a ticket that does not fit
 no_ticket : IsJudged board [] (Err Ticket) → ⊥
 no_ticket judged = judged
+
+two_of_one : IsJudged board (boots ∷ []) (Ok 2) → ⊥
+two_of_one judged = let e : 1 ≡ 2 = judged.1 in omega (arith, e)
+
+none_of_one : IsJudged board [] (Err (Illegal 0)) → ⊥
+none_of_one judged = nothing_is_illegal_in_none 0 judged
+
+-- the boot core enters, and PSCI_VERSION follows
+two_judged : IsJudged board (boots ∷ version 0 65537 ∷ []) (Ok 2)
+unfolding auditing
+two_judged = (((omega arith, refl, tt, refl), ((omega arith, refl, refl, tt, refl), tt)), refl)
 
 is_judged : IsJudged board (boots ∷ []) (Ok 1)
 unfolding auditing

@@ -1,5 +1,5 @@
 -- Worked examples: books that are merged, tickets that fit and that do not, and what is answered.
-use Rattle.std.proofs.Common.{◌≡◌, ℕ, [], ◌∷◌, false, inl, inr, refl, arith}
+use Rattle.std.proofs.Common.{◌≡◌, ℕ, [], ◌∷◌, true, false, inl, inr, refl, arith}
 use Rattle.psci_world_spec.specs.psci_ctl_spec.declared.call.CtlCall.TheVariants as asks
 use Rattle.psci_world_spec.specs.psci_ctl_spec.declared.kick.Kick.TheVariants as kicks
 use Rattle.psci_world_spec.specs.psci_ctl_spec.declared.reply.CtlReply.TheVariants as replied
@@ -7,11 +7,14 @@ use Rattle.psci_world_spec.specs.psci_fw_spec.declared.call.FwCall.TheVariants a
 use Rattle.psci_world_spec.specs.psci_fw_spec.declared.fault.FwFault.TheVariants.{NoCore}
 use Rattle.psci_world_spec.specs.psci_fw_spec.declared.reply.FwReply.TheVariants as replies
 use Rattle.psci_world_spec.specs.psci_link.declared.kind.Kind.TheVariants as kinds
+use Rattle.psci_world_spec.specs.psci_link.declared.start.Cause.TheVariants as causes
 use Rattle.psci_shared.specs.declared.entry.FwEntry.{FwEntry}
 use Rattle.psci_shared_ctl.specs.declared.entry.CtlEntry.{CtlEntry}
 use Rattle.psci_audit_spec.specs.Entries.{Asked}
 use Rattle.psci_audit_spec.specs.Told.{asked}
-use Rattle.psci_audit.specs.Merged.{IsIn, TicketsFit, asked_by, controlled_by, merged}
+use Rattle.psci_audit_spec.proofs.ListRows.{start}
+use Rattle.psci_audit.specs.Merged.{IsIn, TicketsFit, asked_by, controlled_by, is_asked_first}
+use Rattle.psci_audit.specs.Merged.{merged}
 
 -- an entry of the firmware's book under a ticket
 abbrev f : ℕ → FwEntry
@@ -76,6 +79,21 @@ no_core_of_a_take : asked_by (record (f 1) {
       stale = false;
     })) (replies.Fault NoCore))
 no_core_of_a_take = refl
+
+-- a function and an entry stand under the core of their pass
+a_call_of_core_3 : asked_by (f 1)
+    ≡ Asked (asked 3 (calls.Smc (record { x0 = 0; x1 = 0; x2 = 0; x3 = 0 })) (replies.Fault NoCore))
+a_call_of_core_3 = refl
+
+an_entry_of_core_3 : asked_by (record (f 1) { call = calls.Enter (start 2 causes.On) })
+    ≡ Asked (asked 3 (calls.Enter (start 2 causes.On)) (replies.Fault NoCore))
+an_entry_of_core_3 = refl
+
+-- whose entry is the next one
+next_by_ticket : is_asked_first (f 2 ∷ []) (c 1 ∷ []) ∷ is_asked_first (f 2 ∷ []) (c 3 ∷ [])
+    ∷ is_asked_first (f 2 ∷ []) [] ∷ is_asked_first [] (c 1 ∷ []) ∷ []
+    ≡ false ∷ true ∷ true ∷ false ∷ []
+next_by_ticket = refl
 
 -- Tickets --------------------------------------------------------------------------------------
 
