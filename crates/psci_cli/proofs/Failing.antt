@@ -5,7 +5,7 @@ use Rattle.psci_command.specs.psci_board_text.declared.fault.BoardFault.{BoardFa
 use Rattle.psci_threads.specs.Runs.{IsFound}
 use Rattle.psci_threads.specs.declared.fault.BenchFault.{BenchFault}
 use Rattle.psci_threads.specs.declared.fault.BenchFault.TheVariants as faults
-use Rattle.psci_audit.specs.declared.fault.AuditFault.TheVariants as found
+use Rattle.psci_threads.specs.psci_audit.declared.fault.AuditFault.TheVariants as found
 use Rattle.psci_cli.specs.Threading.{IsFailed, IsStarted, IsThreaded, failure_at}
 
 -- a run that was started and failed ends as its fault says

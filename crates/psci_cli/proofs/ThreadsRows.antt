@@ -13,7 +13,7 @@ use Rattle.psci_command.specs.psci_script.declared.fault.ReplayFault.TheVariants
 use Rattle.psci_command.specs.psci_script.declared.fault.ReplayFault.TheVariants.{Write}
 use Rattle.psci_threads.specs.declared.fault.BenchFault.{BenchFault}
 use Rattle.psci_threads.specs.declared.fault.BenchFault.TheVariants as faults
-use Rattle.psci_audit.specs.declared.fault.AuditFault.TheVariants as found
+use Rattle.psci_threads.specs.psci_audit.declared.fault.AuditFault.TheVariants as found
 use Rattle.psci_cli.specs.Threading.{IsTooLarge, ThreadsEnds, failure_at}
 use Rattle.psci_cli.specs.ThreadsText.{threads_text}
 

@@ -13,8 +13,8 @@ use Rattle.psci_threads.specs.Runs.{IsAudited, IsFound}
 use Rattle.psci_threads.specs.declared.fault.BenchFault.{BenchFault}
 use Rattle.psci_threads.specs.declared.fault.BenchFault.TheVariants as faults
 use Rattle.psci_threads.specs.declared.running.Threaded.{Threaded}
-use Rattle.psci_audit.specs.declared.fault.AuditFault.{AuditFault}
-use Rattle.psci_audit.specs.declared.fault.AuditFault.TheVariants as found
+use Rattle.psci_threads.specs.psci_audit.declared.fault.AuditFault.{AuditFault}
+use Rattle.psci_threads.specs.psci_audit.declared.fault.AuditFault.TheVariants as found
 
 -- how the program ends at what an audit has found
 abbrev pub failure_found : AuditFault → Failure
