@@ -61,6 +61,9 @@ firmware life = record {
       ∷ record { status = statuses.Pending; opening = None }
       ∷ record { status = statuses.Off; opening = None }
       ∷ record { status = statuses.Off; opening = None } ∷ [];
+  counts =
+      (record { on = 1; pending = 1 } ∷ record { on = 0; pending = 0 } ∷ [])
+      ∷ (record { on = 1; pending = 1 } ∷ []) ∷ [];
   slots = record { cores = None ∷ None ∷ None ∷ None ∷ []; system = None };
 }
 

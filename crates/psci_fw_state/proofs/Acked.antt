@@ -23,6 +23,7 @@ use Rattle.psci_tree.specs.declared.state.Activity.TheVariants as activities
 use Rattle.psci_tree.specs.declared.state.CoreState.{CoreState}
 use Rattle.psci_fw_spec.specs.declared.status.Status.{Status}
 use Rattle.psci_fw_state.specs.declared.row.CoreRow.{CoreRow}
+use Rattle.psci_fw_state.specs.declared.counts.StatusCounts.{StatusCounts}
 use Rattle.psci_fw_state.specs.Confirming.{is_last_claim}
 use Rattle.psci_fw_state.specs.Rows.{row_at}
 use Rattle.psci_fw_state.specs.Seen.{StateValue, phase_by, values_in}
@@ -110,7 +111,8 @@ state_same : (s : StateValue) (u : TreeValue) (a : AckValue) → IsAcked s u a
 state_same s u a is = record { here = is.cores a.core.number; else = λ k n. is.cores k }
 
 -- the core of a used acknowledgement is off
-off_of : (s : StateValue) (u : TreeValue) (rows : List CoreRow) (slots : SlotsValue) (a : AckValue)
+off_of : (s : StateValue) (u : TreeValue) (rows : List CoreRow) (counts : List (List StatusCounts))
+    (slots : SlotsValue) (a : AckValue)
     → turns_off (values_in s) a ≡ true → IsAcked s u a
     → Set (row_at s.rows) (row_at rows) a.core.number (record {
       status = statuses.Off;
@@ -118,10 +120,10 @@ off_of : (s : StateValue) (u : TreeValue) (rows : List CoreRow) (slots : SlotsVa
     })
     → ((slot : Slot) → message_in slots slot
     ≡ changed slot (Acknowledge a) (message_in s.slots slot))
-    → values_in (record s { tree = u; rows = rows; slots = slots })
+    → values_in (record s { tree = u; rows = rows; counts = counts; slots = slots })
     ≡ with_acknowledgement s.board a (values_in s)
 unfolding values_in
-off_of s u rows slots a off acked row left =
+off_of s u rows counts slots a off acked row left =
     let away : is_away ((values_in s).phase a.core.number) ≡ true = (and_parts _ _ off).1 in
     same_values _ _ (record {
       life = refl;
@@ -134,7 +136,7 @@ off_of s u rows slots a off acked row left =
           ∙ ap (λ (t : Bool). updated (values_in s).status a.core.number
           (cond t statuses.Off ((values_in s).status a.core.number)) k) (sym off);
       phase = stays (values_in s).phase
-          (values_in (record s { tree = u; rows = rows; slots = slots })).phase a.core.number _
+          (values_in (record s { tree = u; rows = rows; counts = counts; slots = slots })).phase a.core.number _
           (both_set (λ (r : CoreRow) (x : CoreState). phase_by r.status x.activity) (row_at s.rows)
           (row_at rows) (state_at s.tree) (state_at u) a.core.number _ _ row
           (state_same s u a acked))
@@ -147,18 +149,18 @@ off_of s u rows slots a off acked row left =
       outstanding = left;
     })
 
-pub off_changed : (s now : StateValue) (u : TreeValue) (rows : List CoreRow) (slots : SlotsValue)
-    (a : AckValue) → s ≡ now → turns_off (values_in now) a ≡ true → IsAcked s u a
+pub off_changed : (s now : StateValue) (u : TreeValue) (rows : List CoreRow)
+    (counts : List (List StatusCounts)) (slots : SlotsValue) (a : AckValue) → s ≡ now → turns_off (values_in now) a ≡ true → IsAcked s u a
     → Set (row_at s.rows) (row_at rows) a.core.number (record {
       status = statuses.Off;
       opening = (row_at s.rows a.core.number).opening;
     })
     → ((slot : Slot) → message_in slots slot
     ≡ changed slot (Acknowledge a) (message_in s.slots slot))
-    → values_in (record s { tree = u; rows = rows; slots = slots })
+    → values_in (record s { tree = u; rows = rows; counts = counts; slots = slots })
     ≡ with_acknowledgement now.board a (values_in now)
-off_changed s now u rows slots a e off acked row left =
-    rw (← e) (off_of s u rows slots a (rw e off) acked row left)
+off_changed s now u rows counts slots a e off acked row left =
+    rw (← e) (off_of s u rows counts slots a (rw e off) acked row left)
 
 -- a used acknowledgement that turns no core off
 used_of : (s : StateValue) (u : TreeValue) (slots : SlotsValue) (a : AckValue)

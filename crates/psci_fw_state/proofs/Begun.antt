@@ -21,9 +21,10 @@ use Rattle.psci_fw_spec.specs.declared.status.Status.TheVariants as statuses
 use Rattle.psci_fw_spec.specs.Lives.{first_confirmed, first_granted, first_phase, first_status, in_life}
 use Rattle.psci_fw_spec.specs.Lives.{start_of_life}
 use Rattle.psci_fw_spec.specs.Phases as phases
-use Rattle.psci_fw_spec.specs.Values.{Values}
+use Rattle.psci_fw_spec.specs.Values.{Values, updated}
 use Rattle.psci_fw_state.specs.declared.row.CoreRow.{CoreRow}
-use Rattle.psci_fw_state.specs.Rows.{AreFirst, first_row, off_row, row_at}
+use Rattle.psci_fw_state.specs.declared.counts.StatusCounts.{StatusCounts}
+use Rattle.psci_fw_state.specs.Rows.{AreFirst, first_row, off_row, row_at, status_at}
 use Rattle.psci_fw_state.specs.Seen.{IsState, StateValue, phase_by, values_in}
 use Rattle.psci_fw_state.proofs.Equal.{same_values}
 
@@ -51,6 +52,18 @@ each_first b rows is first k = elim (cases_lt k (cores b)) [
   | inr h ↦ get_or_past rows k off_row (omega (arith, first.count))
       ∙ beyond b k (omega (arith, some_below b.levels is.tree))
 ]
+
+-- every core is OFF, once the boot core is
+pub off_but_boot : (b : BoardValue) (rows : List CoreRow) → IsBoard b → AreFirst b rows → (k : ℕ)
+    → updated (status_at rows) 0 statuses.Off k ≡ statuses.Off
+off_but_boot b rows is first k = by (k == 0) refl
+  where
+    by : (t : Bool) → (k == 0) ≡ t → updated (status_at rows) 0 statuses.Off k ≡ statuses.Off
+    by true e = rw e refl
+    by false e =
+        let status : status_at rows k ≡ first_status k =
+        ap (λ (r : CoreRow). r.status) (each_first b rows is first k) in
+        let first_off : first_status k ≡ statuses.Off = rw e refl in rw e (status ∙ first_off)
 
 -- Domains that are not there --------------------------------------------------------------------
 
@@ -216,7 +229,7 @@ confirmed_first b u l p is e law =
         flip false = refl
 
 pub at_start : (b kept : BoardValue) (life : ℕ) (u : TreeValue) (rows : List CoreRow)
-    (slots : SlotsValue) → IsBoard b → IsDomainTree u → u.levels ≡ b.levels
+    (counts : List (List StatusCounts)) (slots : SlotsValue) → IsBoard b → IsDomainTree u → u.levels ≡ b.levels
     → ((c : ℕ) → state_at u c ≡ first_core c)
     → ((l p : ℕ) → l ≤ height b → p < nodes b l
     → granted_at u l p ≡ cond (place_above b.levels l 0 == p) 0 3)
@@ -230,10 +243,11 @@ pub at_start : (b kept : BoardValue) (life : ℕ) (u : TreeValue) (rows : List C
       mode = Platform;
       tree = u;
       rows = rows;
+      counts = counts;
       slots = slots;
     }) ≡ start_of_life b life
 unfolding values_in
-at_start b kept life u rows slots is tree levels cores_are granted confirmed first empty =
+at_start b kept life u rows counts slots is tree levels cores_are granted confirmed first empty =
     let each : (k : ℕ) → row_at rows k ≡ first_row b k = each_first b rows is first in
     same_values _ _ (record {
       life = refl;

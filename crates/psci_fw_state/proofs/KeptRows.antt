@@ -14,9 +14,11 @@ use Rattle.psci_link.specs.Slots.Slot.{OfCore, OfSystem}
 use Rattle.psci_tree.specs.declared.state.Activity.TheVariants as activities
 use Rattle.psci_tree.specs.Recount.{TreeValue}
 use Rattle.psci_fw_state.specs.declared.row.CoreRow.{CoreRow}
+use Rattle.psci_fw_state.specs.declared.counts.StatusCounts.{StatusCounts}
 use Rattle.psci_fw_state.specs.Claims.{MayClaim}
 use Rattle.psci_fw_state.specs.Confirming.{is_last_claim}
-use Rattle.psci_fw_state.specs.Rows.{AreFirst, first_row, off_row, row_at, status_of_all}
+use Rattle.psci_fw_state.specs.Counts.{counts_below}
+use Rattle.psci_fw_state.specs.Rows.{AreFirst, first_row, off_row, row_at, status_at}
 use Rattle.psci_fw_state.specs.Seen.{IsState, StateValue, is_pending_phase, message_shown}
 use Rattle.psci_fw_state.specs.Seen.{phase_by, stopped, values_in}
 
@@ -59,10 +61,8 @@ first_rows = refl
 row_is_missing : AreFirst board (first_row board 0 ∷ off ∷ off ∷ []) → ⊥
 row_is_missing h = let e : ◌≡◌ {A = ℕ} 3 4 = h.count in omega arith
 
-together : status_of_all rows ∷ status_of_all (off ∷ pending ∷ off ∷ [])
-    ∷ status_of_all (off ∷ off ∷ []) ∷ status_of_all (pending ∷ row ∷ []) ∷ []
-    ≡ On ∷ Pending ∷ Off ∷ On ∷ []
-together = refl
+statuses : map (status_at rows) (0 ∷ 1 ∷ 3 ∷ 4 ∷ []) ≡ On ∷ Pending ∷ Off ∷ Off ∷ []
+statuses = refl
 
 -- Phases ------------------------------------------------------------------------------------------
 
@@ -121,6 +121,9 @@ state = record {
   mode = OsInitiated;
   tree = tree;
   rows = rows;
+  counts =
+      (record { on = 1; pending = 1 } ∷ record { on = 1; pending = 0 } ∷ [])
+      ∷ (record { on = 2; pending = 1 } ∷ []) ∷ [];
   slots = record { cores = None ∷ Some start ∷ None ∷ None ∷ []; system = Some reset };
 }
 
@@ -217,3 +220,15 @@ slot_too_few h = let e : ◌≡◌ {A = ℕ} 1 4 = h.slots in omega arith
 
 tree_of_another_board : IsState (record state { tree = record tree { levels = (4 ∷ []) ∷ [] } }) → ⊥
 tree_of_another_board h = let e : ◌≡◌ {A = ℕ} 1 2 = ap length h.levels in omega arith
+
+-- a cluster has another count than that of its cores
+counts_of_others : IsState (record state {
+  counts =
+      (record { on = 1; pending = 1 } ∷ record { on = 0; pending = 0 } ∷ [])
+      ∷ (record { on = 2; pending = 1 } ∷ []) ∷ [];
+}) → ⊥
+unfolding counts_below
+counts_of_others h =
+    let e : ◌≡◌ {A = ℕ} 0 1 =
+    ap (λ (k : StatusCounts). k.on) (h.counts.each 1 1 (omega arith) (omega arith) (omega arith)) in
+    omega arith

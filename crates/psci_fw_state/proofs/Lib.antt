@@ -2,9 +2,12 @@ mod Acked
 mod Begun
 mod Changed
 mod Confirming
+mod CountRows
+mod Counting
 pub mod Equal
 mod Granting
 mod Moved
-mod Spanned
+mod NodeStatus
 mod Viewed
+mod KeptCounts
 mod KeptRows

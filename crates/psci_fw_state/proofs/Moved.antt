@@ -1,5 +1,5 @@
 -- A core is suspended, asked on, or arrives: what the values in the state are then.
-use Rattle.std.proofs.Common.{◌≡◌, ℕ, ◌==◌, Bool, true, false, cond, List, length}
+use Rattle.std.proofs.Common.{◌≡◌, ℕ, ◌<◌, ◌==◌, Bool, true, false, cond, List, length}
 use Rattle.std.proofs.Common.{None, Some, Option, Vec, refl, sym, ◌∙◌, ap, arith}
 use Rattle.std.proofs.Math.ListN.{set}
 use Rattle.std.proofs.lemmas.List.{length-set, with_items_is}
@@ -29,12 +29,15 @@ use Rattle.psci_fw_spec.specs.Phases.{Phase, unless_pending}
 use Rattle.psci_fw_spec.specs.Phases as phases
 use Rattle.psci_fw_spec.specs.Values.{Values, updated}
 use Rattle.psci_fw_state.specs.declared.row.CoreRow.{CoreRow}
-use Rattle.psci_fw_state.specs.Rows.{row_at}
+use Rattle.psci_fw_state.specs.declared.counts.StatusCounts.{StatusCounts}
+use Rattle.psci_fw_state.specs.Counts.{AreCounts}
+use Rattle.psci_fw_state.specs.Rows.{row_at, status_at}
 use Rattle.psci_fw_state.specs.Seen.{IsState, StateValue, is_pending_phase, phase_by, stopped, values_in}
-use Rattle.psci_fw_state.proofs.Changed.{Set, ap_set, both_set, core_set}
+use Rattle.psci_fw_state.proofs.Changed.{Set, ap_set, both_set, core_set, row_set}
 use Rattle.psci_fw_state.proofs.Changed.{stays, suspended_is}
 use Rattle.psci_fw_state.proofs.Changed.{updated_is}
 use Rattle.psci_fw_state.proofs.Equal.{arrived, same_values}
+use Rattle.psci_fw_state.proofs.KeptCounts.{same_counts}
 
 -- the rows in memory, one of them set
 pub rows_set : {Z : Type 0} (old : Vec CoreRow Z) (mid new : List CoreRow) (c : ℕ) (r : CoreRow)
@@ -43,6 +46,18 @@ rows_set old mid new c r e f =
     let long : length new ≡ old.len =
     ap length f ∙ length-set mid c r ∙ ap length e ∙ sym old.ok.0 in
     with_items_is old new long ∙ f ∙ ap (λ rows. set rows c r) e
+
+-- what is counted stays, where a core goes on elsewhere and has the status that it had
+pub counts_stay : (levels : List (List ℕ)) (rows new : List CoreRow) (c : ℕ) (r : CoreRow)
+    (o : Option Opening) (kept : List (List StatusCounts)) → c < length rows → r ≡ row_at rows c
+    → new ≡ set rows c (record { status = r.status; opening = o })
+    → AreCounts levels (status_at rows) kept → AreCounts levels (status_at new) kept
+counts_stay levels rows new c r o kept inside is e are =
+    let put : CoreRow = record { status = r.status; opening = o } in
+    rw e (same_counts levels (status_at rows) (status_at (set rows c put)) kept are
+    (stays (status_at rows) (status_at (set rows c put)) c _
+    (ap_set (λ (x : CoreRow). x.status) _ _ _ _ (row_set rows c put inside))
+    (ap (λ (x : CoreRow). x.status) is)))
 
 -- Suspended -------------------------------------------------------------------------------------
 
@@ -136,7 +151,7 @@ path_unconfirmed s u c is law l p =
 -- Asked on --------------------------------------------------------------------------------------
 
 pub pending_of : (b : BoardValue) (s : StateValue) (u : TreeValue) (rows : List CoreRow)
-    (slots : SlotsValue) (m : MessageValue) (o : Opening)
+    (counts : List (List StatusCounts)) (slots : SlotsValue) (m : MessageValue) (o : Opening)
     → Set (state_at s.tree) (state_at u) m.core.number (record {
       activity = activities.Active;
       known = known_at s.tree m.core.number;
@@ -149,10 +164,10 @@ pub pending_of : (b : BoardValue) (s : StateValue) (u : TreeValue) (rows : List 
     → ((l p : ℕ) → is_confirmed_at u l p
     ≡ unconfirmed b m.core.number (is_confirmed_at s.tree) l p)
     → ((slot : Slot) → message_in slots slot ≡ changed slot (Put m) (message_in s.slots slot))
-    → values_in (record s { tree = u; rows = rows; slots = slots })
+    → values_in (record s { tree = u; rows = rows; counts = counts; slots = slots })
     ≡ with_pending b (record { message = m; opening = o }) (values_in s)
 unfolding values_in
-pending_of b s u rows slots m o at row granted confirmed sent = same_values _ _ (record {
+pending_of b s u rows counts slots m o at row granted confirmed sent = same_values _ _ (record {
   life = refl;
   halting = refl;
   mode = refl;
@@ -161,7 +176,7 @@ pending_of b s u rows slots m o at row granted confirmed sent = same_values _ _ 
   status = updated_is (λ k. (row_at s.rows k).status) (λ k. (row_at rows k).status) m.core.number _
       (ap_set (λ (r : CoreRow). r.status) _ _ _ _ row);
   phase = updated_is (values_in s).phase
-      (values_in (record s { tree = u; rows = rows; slots = slots })).phase m.core.number _
+      (values_in (record s { tree = u; rows = rows; counts = counts; slots = slots })).phase m.core.number _
       (both_set (λ (r : CoreRow) (x : CoreState). phase_by r.status x.activity) (row_at s.rows)
       (row_at rows) (state_at s.tree) (state_at u) m.core.number _ _ row at);
   opening = updated_is (λ k. (row_at s.rows k).opening) (λ k. (row_at rows k).opening)
@@ -185,7 +200,7 @@ pub arrives : (b : BoardValue) (c : ℕ) (s : Start) (v : Values) → v.life ≡
 arrives b c s v e = arrived_in b c s v (in_life b s.life v) (in_this b s.life v e)
 
 running_of : (b : BoardValue) (s : StateValue) (u : TreeValue) (rows : List CoreRow)
-    (slots : SlotsValue) (c : ℕ) (start : Start)
+    (counts : List (List StatusCounts)) (slots : SlotsValue) (c : ℕ) (start : Start)
     → Set (state_at s.tree) (state_at u) c (record {
       activity = activities.Active;
       known = start.number;
@@ -195,10 +210,10 @@ running_of : (b : BoardValue) (s : StateValue) (u : TreeValue) (rows : List Core
     → ((l p : ℕ) → is_confirmed_at u l p ≡ unconfirmed b c (is_confirmed_at s.tree) l p)
     → ((slot : Slot) → message_in slots slot
     ≡ changed slot (Clear (record { number = c })) (message_in s.slots slot))
-    → values_in (record s { tree = u; rows = rows; slots = slots })
+    → values_in (record s { tree = u; rows = rows; counts = counts; slots = slots })
     ≡ with_running c (arrived b c start (values_in s))
 unfolding values_in
-running_of b s u rows slots c start at row granted confirmed empty = same_values _ _ (record {
+running_of b s u rows counts slots c start at row granted confirmed empty = same_values _ _ (record {
   life = refl;
   halting = refl;
   mode = refl;
@@ -207,7 +222,7 @@ running_of b s u rows slots c start at row granted confirmed empty = same_values
   status = updated_is (λ k. (row_at s.rows k).status) (λ k. (row_at rows k).status) c _
       (ap_set (λ (r : CoreRow). r.status) _ _ _ _ row);
   phase = updated_is (values_in s).phase
-      (values_in (record s { tree = u; rows = rows; slots = slots })).phase c _
+      (values_in (record s { tree = u; rows = rows; counts = counts; slots = slots })).phase c _
       (both_set (λ (r : CoreRow) (x : CoreState). phase_by r.status x.activity) (row_at s.rows)
       (row_at rows) (state_at s.tree) (state_at u) c _ _ row at);
   opening = updated_is (λ k. (row_at s.rows k).opening) (λ k. (row_at rows k).opening) c _
@@ -218,7 +233,7 @@ running_of b s u rows slots c start at row granted confirmed empty = same_values
 })
 
 pub running_changed : (s now : StateValue) (u : TreeValue) (rows : List CoreRow)
-    (slots : SlotsValue) (c : ℕ) (start : Start) → s ≡ now → (values_in now).life ≡ start.life
+    (counts : List (List StatusCounts)) (slots : SlotsValue) (c : ℕ) (start : Start) → s ≡ now → (values_in now).life ≡ start.life
     → ((k : ℕ) → state_at u k
     ≡ cond (c == k) (record { activity = activities.Active; known = start.number })
     (state_at s.tree k))
@@ -227,11 +242,11 @@ pub running_changed : (s now : StateValue) (u : TreeValue) (rows : List CoreRow)
     → ((l p : ℕ) → is_confirmed_at u l p ≡ unconfirmed s.board c (is_confirmed_at s.tree) l p)
     → ((slot : Slot) → message_in slots slot
     ≡ changed slot (Clear (record { number = c })) (message_in s.slots slot))
-    → values_in (record s { tree = u; rows = rows; slots = slots })
+    → values_in (record s { tree = u; rows = rows; counts = counts; slots = slots })
     ≡ with_running c (with_arrival now.board c start (values_in now))
-running_changed s now u rows slots c start e life at row granted confirmed empty =
+running_changed s now u rows counts slots c start e life at row granted confirmed empty =
     rw (← e)
-    (running_of s.board s u rows slots c start (core_set s.tree u c _ at) row granted
+    (running_of s.board s u rows counts slots c start (core_set s.tree u c _ at) row granted
     confirmed empty
     ∙ ap (with_running c) (sym (arrives s.board c start (values_in s) (rw e life))))
 

@@ -1,4 +1,5 @@
 pub mod Claims
 pub mod Confirming
+pub mod Counts
 pub mod Rows
 pub mod Seen

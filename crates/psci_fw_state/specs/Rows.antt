@@ -3,7 +3,6 @@ use Rattle.std.specs.Prelude.{◌≡◌, ℕ, ◌<◌, List, length, slice_index
 use Rattle.psci_board.specs.Board.{BoardValue, cores}
 use Rattle.psci_fw_spec.specs.declared.status.Status.{Status}
 use Rattle.psci_fw_spec.specs.declared.status.Status.TheVariants.{Off}
-use Rattle.psci_fw_spec.specs.AffinityInfo.{status_over}
 use Rattle.psci_fw_spec.specs.Lives.{first_status, first_opening}
 use Rattle.psci_fw_state.specs.declared.row.CoreRow.{CoreRow}
 
@@ -19,11 +18,11 @@ first_row b c = record { status = first_status c; opening = first_opening b c }
 abbrev pub row_at : List CoreRow → ℕ → CoreRow
 row_at rows c = slice_index_or rows c off_row
 
+-- the status of the core of this number
+abbrev pub status_at : List CoreRow → ℕ → Status
+status_at rows c = (row_at rows c).status
+
 -- a row for each core of the board, each as at the start of a life
 pub record AreFirst (b : BoardValue) (rows : List CoreRow) : Type 0 where
   pub count : length rows ≡ cores b
   pub each : (k : ℕ) → k < cores b → row_at rows k ≡ first_row b k
-
--- cores together: ON where one is ON, else ON_PENDING where one is, else OFF
-abbrev pub status_of_all : List CoreRow → Status
-status_of_all rows = status_over (λ r. r.status) rows

@@ -17,7 +17,9 @@ use Rattle.psci_fw_spec.specs.Phases.{Phase}
 use Rattle.psci_fw_spec.specs.Phases as phases
 use Rattle.psci_fw_spec.specs.Values.{Values}
 use Rattle.psci_fw_state.specs.declared.row.CoreRow.{CoreRow}
-use Rattle.psci_fw_state.specs.Rows.{row_at}
+use Rattle.psci_fw_state.specs.declared.counts.StatusCounts.{StatusCounts}
+use Rattle.psci_fw_state.specs.Counts.{AreCounts}
+use Rattle.psci_fw_state.specs.Rows.{row_at, status_at}
 
 -- The state of the firmware, as contracts see it.
 pub record StateValue : Type 0 where
@@ -31,6 +33,8 @@ pub record StateValue : Type 0 where
   pub tree : TreeValue
   -- of each core, in the order of their numbers
   pub rows : List CoreRow
+  -- of each power domain of level 1 and up, by level and place
+  pub counts : List (List StatusCounts)
   pub slots : SlotsValue
 
 -- what a core is to the firmware: one that keeps its domains from going down runs, unless it is
@@ -73,12 +77,14 @@ values_in s = record {
   outstanding = λ slot. message_in s.slots slot;
 }
 
--- Shapes: the tree of the board's power domains, and a row and a slot for each of its cores.
+-- Shapes: the tree of the board's power domains, and a row and a slot for each of its cores. And
+-- what is kept of each power domain is what is counted of the rows of the cores below it.
 pub record IsState (s : StateValue) : Type 0 where
   pub board : IsBoard s.board
   pub tree : IsDomainTree s.tree
   pub levels : s.tree.levels ≡ s.board.levels
   pub rows : length s.rows ≡ cores s.board
+  pub counts : AreCounts s.board.levels (status_at s.rows) s.counts
   pub slots : length s.slots.cores ≡ cores s.board
 
 -- the outstanding message of the core of this number, or of the system at the number of cores

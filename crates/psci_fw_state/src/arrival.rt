@@ -8,6 +8,7 @@ ghost use Rattle.psci_fw_spec.specs.Lives.{in_life};
 ghost use Rattle.psci_fw_spec.specs.Phases.{Away};
 ghost use Rattle.psci_fw_state.specs.Seen.{stopped, values_in};
 
+use crate::counts::{put_row, reset_counts};
 use crate::row::{CoreRow, reset_rows, row_of, set_row};
 use crate::state::State;
 use psci_board::Core;
@@ -32,6 +33,7 @@ impl State {
         self.mode = SuspendMode::Platform;
         self.tree.reset_life();
         reset_rows(&mut self.rows, &self.board);
+        reset_counts(&mut self.counts, &self.rows, &self.tree, &self.board);
         self.slots.clear_all();
     }
 
@@ -53,7 +55,14 @@ impl State {
             status: Status::On,
             ..CoreRow::OFF
         };
-        set_row(&mut self.rows, core, row);
+        put_row(
+            &mut self.rows,
+            &mut self.counts,
+            &self.tree,
+            &self.board,
+            core,
+            row,
+        );
         self.slots.clear(core);
     }
 

@@ -14,6 +14,7 @@ ghost use Rattle.psci_fw_spec.specs.Taking.{taken_by};
 ghost use Rattle.psci_fw_state.specs.Seen.{values_in};
 
 use crate::confirm::confirm_parts;
+use crate::counts::put_row;
 use crate::row::{CoreRow, row_of, set_row};
 use crate::state::State;
 use psci_board::Core;
@@ -80,7 +81,14 @@ impl State {
             status: Status::Pending,
             opening: Some(opening),
         };
-        set_row(&mut self.rows, target, row);
+        put_row(
+            &mut self.rows,
+            &mut self.counts,
+            &self.tree,
+            &self.board,
+            target,
+            row,
+        );
         self.slots.put(message);
     }
 
@@ -131,7 +139,14 @@ impl State {
                 status: Status::Off,
                 ..row_of(&self.rows, core)
             };
-            set_row(&mut self.rows, core, row);
+            put_row(
+                &mut self.rows,
+                &mut self.counts,
+                &self.tree,
+                &self.board,
+                core,
+                row,
+            );
         }
         taken
     }

@@ -4,6 +4,8 @@
 //!
 //! - The *state* of the firmware is its board, and all that a call changes.
 //! - A *row* is what the state keeps of one core beside the tree of power domains.
+//! - The *counts* of a power domain are how many of the cores below it are ON, and how many
+//!   ON_PENDING.
 //! - A *claim* is what a core that stops asks of its power domains, and so sends.
 #![tactic(auto)]
 
@@ -11,6 +13,7 @@ mod arrival;
 mod changes;
 mod claim;
 mod confirm;
+mod counts;
 mod domain;
 mod row;
 mod state;

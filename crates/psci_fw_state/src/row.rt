@@ -58,9 +58,8 @@ pub fn reset_rows(rows: &mut [CoreRow], board: &Board)
     requires { length rows.old ≡ cores board.now }
     ensures { AreFirst board.now rows.new }
 {
-    for core in 0..board.cores() {
-        rows[core as usize] = CoreRow::first(board, core);
-    }
+    rows.fill(CoreRow::OFF);
+    set_row(rows, Core { number: 0 }, CoreRow::first(board, 0));
 }
 
 /// The row of a core; of one that is not there, that it is off.

@@ -1,5 +1,6 @@
 //! The state of the firmware: its board, and all that a call changes.
 
+use crate::counts::{StatusCounts, no_counts, reset_counts};
 use crate::row::{CoreRow, first_rows, row_of};
 use psci_board::{Board, Core, Memory, Node};
 use psci_fw_spec::{Hw, Opening, Status, SuspendMode};
@@ -9,7 +10,7 @@ use std::alloc::Global;
 use std::marker::Model;
 
 /// The state of the firmware of one board. The tree has what each core asks, its known start and the granted
-/// depths; the rows have the rest of what is kept of a core.
+/// depths; the rows have the rest of what is kept of a core, and the counts sum up the statuses in them.
 #[derive(Drop)]
 pub struct State {
     /// The board whose firmware it is of.
@@ -22,10 +23,13 @@ pub struct State {
     pub(crate) tree: Tree,
     /// In the order of the numbers of the cores.
     pub(crate) rows: Vec<CoreRow>,
+    /// From level 1 up, of each power domain.
+    pub(crate) counts: Vec<Vec<StatusCounts>>,
     pub(crate) slots: Slots,
 }
 
 impl Model for State {
+    ghost use Rattle.std.specs.Prelude.{map};
     ghost use Rattle.psci_fw_state.specs.Seen.{IsState, StateValue};
 
     ghost Value = { StateValue };
@@ -37,6 +41,7 @@ impl Model for State {
       mode = s.mode;
       tree = s.tree;
       rows = s.rows.items;
+      counts = map (λ v. v.items) s.counts.items;
       slots = s.slots;
     } };
 
@@ -47,6 +52,7 @@ impl Model for State {
       mode = s.mode;
       tree = s.tree;
       rows = s.rows.items;
+      counts = map (λ v. v.items) s.counts.items;
       slots = s.slots;
     }) };
 }
@@ -66,14 +72,20 @@ impl State {
         ensures values { IfOk result (λ state. values_in state ≡ start_of_life board.now 0) }
     {
         law_start_of_life();
+        let slots = Slots::new(alloc, board.cores())?;
+        let tree = Tree::new(alloc, board)?;
+        let rows = first_rows(alloc, board)?;
+        let mut counts = no_counts(alloc, board)?;
+        reset_counts(&mut counts, &rows, &tree, board);
         Ok(State {
             board: board.copy(alloc)?,
             life: 0,
             halting: false,
             mode: SuspendMode::Platform,
-            tree: Tree::new(alloc, board)?,
-            rows: first_rows(alloc, board)?,
-            slots: Slots::new(alloc, board.cores())?,
+            tree,
+            rows,
+            counts,
+            slots,
         })
     }
 

@@ -55,6 +55,8 @@ impl Block {
     }
 
     /// The bytes.
+    // In place, as `skip` is, since each line of a replay calls both.
+    #[inline(always)]
     pub fn unread(&self) -> &[u8]
         ensures bytes { result.now ≡ self.now.unread }
         ensures room { length result.now ≤ block_room }
@@ -63,6 +65,7 @@ impl Block {
     }
 
     /// Takes bytes from the front.
+    #[inline(always)]
     pub fn skip(&mut self, count: usize)
         requires { count ≤ length self.old.unread }
         ensures { self.new ≡ record self.old { unread = drop count self.old.unread } }

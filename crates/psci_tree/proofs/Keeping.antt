@@ -3,7 +3,7 @@ use Rattle.std.proofs.Common.{◌≡◌, ℕ, zero, suc, ◌+◌, ◌^◌, ◌<�
 use Rattle.std.proofs.Common.{length, get_or, take, drop, cond, arith, refl, ap, sym, ◌∙◌, subst}
 use Rattle.std.proofs.Common.{length-append}
 use Rattle.std.proofs.Math.ListN.{set}
-use Rattle.std.specs.List.{All, flat_map}
+use Rattle.std.specs.List.{All, flat_map, count_by}
 use Rattle.std.proofs.lemmas.List.{take_at, drop_at}
 use Rattle.std.proofs.lemmas.List.Elements.{All-append, All-nil, All-cons, All-take, All-drop}
 use Rattle.std.proofs.lemmas.List.Sums.{sum_by-append, count_by-le-length}
@@ -156,6 +156,22 @@ kept_next ns i d k h is l e =
     subst (Keeps (kept_together k (out-Domain d).kept))
     (ap (λ x. cores_in (take i ns) ++ leaves x) is ∙ sym (cores_take ns i d h))
     (keeps_append k (out-Domain d).kept (cores_in (take i ns)) (leaves d) e own)
+
+-- so many are off below these domains, and below those before a child
+abbrev pub off_in : List Domain → ℕ
+off_in ns = count_by (λ c. is_off c.activity) (cores_in ns)
+
+pub off_in_next : (ns : List Domain) (i : ℕ) (d : Domain) → i < length ns → d ≡ get_or ns i d
+    → AreKept ns → off_in (take (i + 1) ns) ≡ off_in (take i ns) + (out-Domain d).kept.off
+off_in_next ns i d h is l =
+    let own : Keeps (out-Domain d).kept (leaves d) =
+    subst IsRecount (sym is) (kept_own (get_or ns i d) (kept_at ns i d h l)) in
+    ap (count_by (λ (c : CoreState). is_off c.activity)) (cores_take ns i d h)
+    ∙ sum_by-append (λ (c : CoreState). cond (is_off c.activity) 1 0) (cores_in (take i ns))
+    (leaves (get_or ns i d))
+    ∙ ap (λ x. off_in (take i ns) + count_by (λ (c : CoreState). is_off c.activity) (leaves x))
+    (sym is)
+    ∙ ap (λ x. off_in (take i ns) + x) (sym (ap (λ (j : Kept). j.off) own.counted))
 
 -- what is kept of so few cores is so small
 pub record Small (k : Kept) : Type 0 where

@@ -1,11 +1,14 @@
 -- Domains that were turned off one after the other, beside what they were.
 use Rattle.std.proofs.Common.{◌≡◌, ℕ, zero, suc, ◌+◌, ◌<◌, ◌≤◌, List, [], ◌∷◌, ◌++◌, length, get_or}
-use Rattle.std.proofs.Common.{replicate, arith, refl, ap, sym, ◌∙◌, length-append, subst}
+use Rattle.std.proofs.Common.{replicate, cond, min, arith, refl, ap, sym, ◌∙◌, length-append, subst}
 use Rattle.std.proofs.Math.ListN.{set}
-use Rattle.std.specs.List.{flat_map}
-use Rattle.psci_tree.specs.Recount.{never_started}
+use Rattle.std.specs.List.{flat_map, sum_by, count_by}
+use Rattle.std.proofs.lemmas.List.Folds.{sum_by-replicate}
+use Rattle.psci_tree.specs.Recount.{never_started, is_active, is_off}
 use Rattle.psci_tree.specs.Domains.{leaves, cores_in, branches, child_counts}
-use Rattle.psci_tree.specs.Kept.{AreKept, IsKept}
+use Rattle.psci_tree.specs.Kept.{AreKept, IsKept, Keeps, low_in, recount}
+use Rattle.psci_tree.specs.declared.state.CoreState.{CoreState}
+use Rattle.psci_tree.specs.declared.kept.Kept.{Kept}
 use Rattle.psci_tree.specs.declared.domain.Domain.{Domain}
 use Rattle.psci_tree.specs.declared.domain.Domain.TheOpen.{Domain-F}
 use Rattle.psci_tree.specs.declared.domain.Domain.TheViews.{roll-Domain}
@@ -105,3 +108,44 @@ off_widths n x i h a zero =
 off_widths n x i h a (suc k) =
     ap (flat_map (child_counts k)) (children_roll x)
     ∙ off_shape i (branches n) x.children.items k h a
+
+-- What is kept of them --------------------------------------------------------------------------
+
+low_never : (level n : ℕ) → low_in level (replicate n never_started) ≡ 3
+low_never level zero = refl
+low_never level (suc n) = ap (λ x. min 3 x) (low_never level n)
+
+-- all of them are off
+pub count_never : (n : ℕ) → count_by (λ c. is_off c.activity) (replicate n never_started) ≡ n
+count_never n =
+    sum_by-replicate (λ (c : CoreState). cond (is_off c.activity) 1 0) n never_started ∙ omega arith
+
+-- what is kept of so many cores that are off and were never started
+pub kept_never : (n : ℕ) → record {
+  lows = 3 ∷ 3 ∷ 3 ∷ 3 ∷ [];
+  known = 0;
+  active = 0;
+  off = n;
+} ≡ recount (replicate n never_started)
+kept_never n =
+    let low0 = low_never 0 n in
+    let low1 = low_never 1 n in
+    let low2 = low_never 2 n in
+    let low3 = low_never 3 n in
+    let known : sum_by (λ c. c.known) (replicate n never_started) ≡ 0 =
+    sum_by-replicate (λ (c : CoreState). c.known) n never_started ∙ omega arith in
+    let active : count_by (λ c. is_active c.activity) (replicate n never_started) ≡ 0 =
+    sum_by-replicate (λ (c : CoreState). cond (is_active c.activity) 1 0) n never_started
+    ∙ omega arith in
+    let off : count_by (λ c. is_off c.activity) (replicate n never_started) ≡ n = count_never n in
+    cc
+
+-- what is kept of as many cores as are off below domains that were turned off
+pub never_keeps : (k : Kept) (ns : List Domain) (off n : ℕ)
+    → cores_in ns ≡ replicate n never_started
+    → off ≡ count_by (λ c. is_off c.activity) (cores_in ns)
+    → Keeps k (replicate off never_started) → Keeps k (cores_in ns)
+never_keeps k ns off n e c h =
+    let all : off ≡ n =
+    c ∙ ap (count_by (λ (s : CoreState). is_off s.activity)) e ∙ count_never n in
+    subst (Keeps k) (ap (λ m. replicate m never_started) all ∙ sym e) h

@@ -2,10 +2,11 @@
 
 ghost use Rattle.std.specs.Prelude.{◌≡◌, ℕ, ◌^◌, ◌<◌, ◌≤◌, ◌∷◌, [], length, replicate, slice_set};
 ghost use Rattle.std.specs.Prelude.{slice_index_or};
+ghost use Rattle.std.specs.List.{count_by};
 ghost use Rattle.psci_tree.specs.declared.domain.Domain.{Domain};
 ghost use Rattle.psci_tree.specs.declared.state.CoreState.{CoreState};
 ghost use Rattle.psci_tree.specs.declared.state.Activity.TheVariants.{Active};
-ghost use Rattle.psci_tree.specs.Recount.{never_started};
+ghost use Rattle.psci_tree.specs.Recount.{is_off, never_started};
 ghost use Rattle.psci_tree.specs.Domains.{branches, leaves, cores_in, child_counts, IsWay};
 ghost use Rattle.psci_tree.specs.Domains.{index_by};
 ghost use Rattle.psci_tree.specs.Kept.{AreKept, IsKept, Keeps};
@@ -92,13 +93,13 @@ impl Domain {
     {
         if self.children.is_empty() {
             self.core = NEVER_STARTED;
-            self.kept = Kept::of_core(&NEVER_STARTED);
+            self.kept = Kept::never_started(1);
             return;
         }
         for number in 0..self.children.len() {
             self.children[number].turn_off();
         }
-        self.kept = self.anew();
+        self.kept = Kept::never_started(off_below(&self.children));
     }
 
     /// How the domain stands, which is one of this level.
@@ -133,4 +134,17 @@ pub fn kept_of(domains: &[Domain]) -> Kept
         kept = kept.beside(&domain.kept);
     }
     kept
+}
+
+/// How many cores below several domains are off or going off.
+fn off_below(domains: &[Domain]) -> u32
+    requires kept { AreKept domains.now }
+    requires few { length (cores_in domains.now) < 2 ^ 16 }
+    ensures { result ≡ count_by (λ c. is_off c.activity) (cores_in domains.now) }
+{
+    let mut off = 0;
+    for domain in domains {
+        off += domain.kept.off;
+    }
+    off
 }

@@ -1,6 +1,7 @@
 //! What a domain keeps of the cores below it.
 
-ghost use Rattle.std.specs.Prelude.{◌≡◌, ℕ, ◌+◌, ◌<◌, ◌^◌, ◌∷◌, [], length, slice_index};
+ghost use Rattle.std.specs.Prelude.{◌≡◌, ℕ, ◌+◌, ◌<◌, ◌^◌, ◌∷◌, [], length, slice_index, replicate};
+ghost use Rattle.psci_tree.specs.Recount.{never_started};
 ghost use Rattle.psci_tree.specs.Kept.{IsPart, Keeps, kept_activated, kept_together};
 
 use crate::state::CoreState;
@@ -41,6 +42,18 @@ impl Kept {
             known: u64::from(core.known),
             active: u32::from(core.is_active()),
             off: u32::from(core.is_off()),
+        }
+    }
+
+    /// What is kept of so many cores that are off and were never started.
+    pub fn never_started(count: u32) -> Kept
+        ensures { Keeps result (replicate count never_started) }
+    {
+        Kept {
+            lows: [3; MOST_ON_PATH],
+            known: 0,
+            active: 0,
+            off: count,
         }
     }
 

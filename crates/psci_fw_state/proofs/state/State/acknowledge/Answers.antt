@@ -1,4 +1,4 @@
-use Rattle.std.proofs.Common.{◌≡◌, ◌<◌, true, false, length, sym, subst, ap, arith, ◌∙◌}
+use Rattle.std.proofs.Common.{◌≡◌, ◌<◌, true, false, length, sym, subst, ap, arith, ◌∙◌, map}
 use Rattle.psci_link.specs.declared.taken.Taken.TheVariants.{Used}
 use Rattle.psci_link.specs.Message.{AckValue}
 use Rattle.psci_link.specs.Slots.{message_in, slot_of, taken}
@@ -22,6 +22,7 @@ returns-then-is_off-clause-used c = λ used.
       mode = c.self.inside.mode;
       tree = c.self.inside.tree;
       rows = c.self.inside.rows.items;
+      counts = map (λ v. v.items) c.self.inside.counts.items;
       slots = c.self.inside.slots;
     } in
     let a : AckValue = record {
@@ -44,16 +45,16 @@ returns-then-is_off-clause-used c = λ used.
     omega (arith, c.self.invariant.rows, c.self.invariant.slots) in
     let row : c.row_of.result ≡ row_at s.rows a.core.number =
     c.row_of.ensures ∙ ap (λ xs. row_at xs a.core.number) c.deref.ensures.value in
-    let rows = rows_set c.self.inside.rows c.deref_mut.result.now c.set_row.new.rows
+    let rows = rows_set c.self.inside.rows c.deref_mut.result.now c.put_row.new.rows
     a.core.number (record { status = statuses.Off; opening = c.row_of.result.opening })
-    c.deref_mut.ensures.value c.set_row.ensures in
+    c.deref_mut.ensures.value c.put_row.ensures.rows in
     let acked : IsAcked s c.confirm_parts.new.tree a =
     acked_by s c.confirm_parts.new.tree a c.as_slice.result.now
     (λ level. rw (c.as_slice.ensures.parts) (sent_parts s _ a _ _ c.self.view_is c.ack.view_is
     c.applied_parts-applied.ensures level))
     c.confirm_parts.ensures.cores c.confirm_parts.ensures.granted c.confirm_parts.ensures.confirmed in
     rw (← c.ack.view_is)
-    (off_changed s _ c.confirm_parts.new.tree _ c.take_ack-taken.new.self a c.self.view_is off acked
+    (off_changed s _ c.confirm_parts.new.tree _ _ c.take_ack-taken.new.self a c.self.view_is off acked
     (rw (rows, row) (row_set s.rows a.core.number _ row_inside))
     (λ slot. rw (c.take_ack-taken.ensures.slots, ← c.ack.view_is)
     (c.law_slots.ensures.changed s.slots (Acknowledge a) tt slot)))
@@ -67,6 +68,7 @@ returns-else-is_off-clause-used c = λ used.
       mode = c.self.inside.mode;
       tree = c.self.inside.tree;
       rows = c.self.inside.rows.items;
+      counts = map (λ v. v.items) c.self.inside.counts.items;
       slots = c.self.inside.slots;
     } in
     let a : AckValue = record {

@@ -1,9 +1,10 @@
-use Rattle.std.proofs.Common.{◌≡◌, None, ap, ◌∙◌}
+use Rattle.std.proofs.Common.{◌≡◌, None, ap, ◌∙◌, length, map}
 use Rattle.psci_link.specs.Slots.Change.{Clear}
+use Rattle.std.proofs.lemmas.List.{length-set}
 use Rattle.psci_fw_state.specs.Rows.{row_at}
 use Rattle.psci_fw_state.specs.Seen.{StateValue}
 use Rattle.psci_fw_state.proofs.Changed.{in_rows, row_set}
-use Rattle.psci_fw_state.proofs.Moved.{path_cleared, path_unconfirmed, rows_set}
+use Rattle.psci_fw_state.proofs.Moved.{counts_stay, path_cleared, path_unconfirmed, rows_set}
 use Rattle.psci_fw_state.proofs.Moved.{stopped_changed}
 use Rattle.psci_fw_state.proofs.state.State.arrive_away.Goals as goal
 
@@ -16,6 +17,7 @@ returns-clause-after c =
       mode = c.self.inside.mode;
       tree = c.self.inside.tree;
       rows = c.self.inside.rows.items;
+      counts = map (λ v. v.items) c.self.inside.counts.items;
       slots = c.self.inside.slots;
     } in
     let rows = rows_set c.self.inside.rows c.deref_mut.result.now c.set_row.new.rows
@@ -37,3 +39,33 @@ returns-clause-after c =
     c.stop.ensures.confirmed)
     (λ slot. rw c.clear.ensures.slots
     (c.law_slots.ensures.changed s.slots (Clear c.args.core) tt slot))
+
+pub invariant_of-self : goal.invariant_of-self
+invariant_of-self c =
+    let s : StateValue = record {
+      board = c.self.inside.board;
+      life = c.self.inside.life;
+      halting = c.self.inside.halting;
+      mode = c.self.inside.mode;
+      tree = c.self.inside.tree;
+      rows = c.self.inside.rows.items;
+      counts = map (λ v. v.items) c.self.inside.counts.items;
+      slots = c.self.inside.slots;
+    } in
+    let rows = rows_set c.self.inside.rows c.deref_mut.result.now c.set_row.new.rows
+    c.args.core.number (record {
+      status = c.row_of.result.status;
+      opening = None;
+    }) c.deref_mut.ensures.value c.set_row.ensures in
+    let row : c.row_of.result ≡ row_at s.rows c.args.core.number =
+    c.row_of.ensures ∙ ap (λ xs. row_at xs c.args.core.number) c.deref.ensures.value in
+    record {
+      board = c.self.invariant.board;
+      tree = c.stop.ensures.tree;
+      levels = c.stop.ensures.levels ∙ c.self.invariant.levels;
+      rows = ap length rows ∙ length-set s.rows c.args.core.number _ ∙ c.self.invariant.rows;
+      counts = counts_stay s.board.levels s.rows _ c.args.core.number c.row_of.result None
+          s.counts (in_rows _ _ _ c.self.view_is c.self.invariant c.requires.inside) row rows
+          c.self.invariant.counts;
+      slots = c.clear.ensures.cores ∙ c.self.invariant.slots;
+    }

@@ -1,4 +1,4 @@
-use Rattle.std.proofs.Common.{◌<◌, None, length}
+use Rattle.std.proofs.Common.{◌<◌, None, length, map}
 use Rattle.psci_link.specs.Slots.Change.{Clear}
 use Rattle.psci_fw_spec.specs.declared.status.Status.TheVariants as statuses
 use Rattle.psci_fw_state.specs.Seen.{StateValue}
@@ -16,14 +16,15 @@ returns-clause-after c =
       mode = c.self.inside.mode;
       tree = c.self.inside.tree;
       rows = c.self.inside.rows.items;
+      counts = map (λ v. v.items) c.self.inside.counts.items;
       slots = c.self.inside.slots;
     } in
     let inside : c.args.core.number < length s.tree.cores =
     within _ _ _ c.self.view_is c.self.invariant c.requires.inside in
-    let rows = rows_set c.self.inside.rows c.deref_mut.result.now c.set_row.new.rows
+    let rows = rows_set c.self.inside.rows c.deref_mut.result.now c.put_row.new.rows
     c.args.core.number (record { status = statuses.On; opening = None })
-    c.deref_mut.ensures.value c.set_row.ensures in
-    running_changed s _ c.set_start.new.self _ c.clear.new.self
+    c.deref_mut.ensures.value c.put_row.ensures.rows in
+    running_changed s _ c.set_start.new.self _ _ c.clear.new.self
     c.args.core.number c.args.start c.self.view_is c.requires.life
     (λ k. rw c.set_start.ensures.value
     (c.law_cores.ensures.started s.tree c.args.core.number k c.args.start.number inside))

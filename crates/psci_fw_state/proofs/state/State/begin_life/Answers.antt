@@ -1,4 +1,4 @@
-use Rattle.std.proofs.Common.{◌≡◌, ◌<◌, length, sym, ap, ◌∙◌}
+use Rattle.std.proofs.Common.{◌≡◌, ◌<◌, length, sym, ap, ◌∙◌, map}
 use Rattle.std.proofs.lemmas.List.{with_items_is}
 use Rattle.psci_board.specs.Board.{size_below}
 use Rattle.psci_link.specs.Slots.Change.{ClearAll}
@@ -15,6 +15,7 @@ returns-clause-after c =
       mode = c.self.inside.mode;
       tree = c.self.inside.tree;
       rows = c.self.inside.rows.items;
+      counts = map (λ v. v.items) c.self.inside.counts.items;
       slots = c.self.inside.slots;
     } in
     let levels : s.tree.levels ≡ s.board.levels = c.self.invariant.levels in
@@ -24,7 +25,7 @@ returns-clause-after c =
     let rows = with_items_is c.self.inside.rows c.reset_rows.new.rows long in
     begun s _ c.args.life _ c.self.view_is c.if-life-self.false
     (rw rows (at_start s.board _ c.args.life c.reset_life.new.self c.reset_rows.new.rows
-    c.clear_all.new.self c.self.invariant.board c.reset_life.ensures.tree
+    _ c.clear_all.new.self c.self.invariant.board c.reset_life.ensures.tree
     (c.reset_life.ensures.levels ∙ levels)
     (λ k. rw c.reset_life.ensures.value (c.law_start_of_life.ensures.cores s.tree.levels k some))
     (λ l p h i. rw (c.reset_life.ensures.value, levels)

@@ -1,15 +1,33 @@
+use Rattle.std.proofs.Common.{◌≡◌, ap, length, sym, ◌∙◌}
+use Rattle.std.proofs.lemmas.List.{with_items_is}
 use Rattle.psci_fw_state.proofs.Begun.{at_start, none_in, some_below}
 use Rattle.psci_fw_state.proofs.state.State.new.Goals as goal
 
 pub returns-clause-values : goal.returns-clause-values
 returns-clause-values c =
     let board = c.cores.ensures.board in
-    let value = c.in_ok-new.ensures.value in
-    at_start c.args.board.now _ 0 c.in_ok-new.field-0 _ c.in_ok-new-2.field-0 board
-    c.in_ok-new.ensures.tree c.in_ok-new.ensures.levels
+    let value = c.in_ok-tree.ensures.value in
+    at_start c.args.board.now _ 0 c.in_ok-tree.tree _ _ c.in_ok-slots.slots board
+    c.in_ok-tree.ensures.tree c.in_ok-tree.ensures.levels
     (λ k. rw value (c.law_start_of_life.ensures.cores c.args.board.now.levels k
     (some_below c.args.board.now.levels board.tree)))
     (λ l p h i. rw value (c.law_start_of_life.ensures.granted c.args.board.now.levels l p h i))
     (λ l p h i. rw value (c.law_start_of_life.ensures.confirmed c.args.board.now.levels l p h i))
-    (c.in_ok-first_rows.ensures {u = tt})
-    (λ slot. rw (c.in_ok-new-2.ensures.slots) (none_in _ slot))
+    (c.in_ok-rows.ensures {u = tt})
+    (λ slot. rw (c.in_ok-slots.ensures.slots) (none_in _ slot))
+
+pub invariant_of-result : goal.invariant_of-result
+invariant_of-result c =
+    let long : length c.reset_counts.new.counts ≡ c.in_ok-counts.counts.len =
+    c.reset_counts.auto.counts ∙ ap length c.deref_mut.ensures.value
+    ∙ sym c.in_ok-counts.counts.ok.0 in
+    let counts = with_items_is c.in_ok-counts.counts c.reset_counts.new.counts long in
+    let kept = c.in_ok-copy.ensures {u = tt} in
+    rw (kept, counts) (record {
+      board = c.cores.ensures.board;
+      tree = c.in_ok-tree.ensures.tree;
+      levels = c.in_ok-tree.ensures.levels;
+      rows = (c.in_ok-rows.ensures {u = tt}).count;
+      counts = rw (← c.deref.ensures.value) c.reset_counts.ensures;
+      slots = c.in_ok-slots.ensures.cores ∙ c.cores.ensures.cores;
+    })

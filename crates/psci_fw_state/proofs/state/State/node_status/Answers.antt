@@ -1,31 +1,33 @@
-use Rattle.std.proofs.Common.{◌≡◌, ◌+◌, ◌-◌, ◌≤◌, sym, ◌∙◌, ap, arith}
-use Rattle.psci_board.specs.Board.{cores}
+use Rattle.std.proofs.Common.{◌≡◌, ◌<◌, ◌≤◌, List, map, sym, ◌∙◌, ap, arith, inl, inr}
+use Rattle.std.proofs.lemmas.Bool.{cases_lt}
+use Rattle.psci_board.specs.Board.{height, nodes}
 use Rattle.psci_fw_state.specs.declared.row.CoreRow.{CoreRow}
+use Rattle.psci_fw_state.specs.Counts.{counts_at, status_counted}
 use Rattle.psci_fw_state.specs.Rows.{row_at}
-use Rattle.psci_fw_state.proofs.Spanned.{ends_inside, status_leaf, status_none, status_seen}
+use Rattle.psci_fw_state.proofs.NodeStatus.{status_domain, status_leaf, status_none}
 use Rattle.psci_fw_state.proofs.state.State.node_status.Goals as goal
 
-pub slice_bounds-status_of_all-end : goal.slice_bounds-status_of_all-end
-slice_bounds-status_of_all-end c =
-    let b = c.self.inside.board in
-    let laws = c.law_spans.ensures b.levels c.self.invariant.board.tree in
-    let inside : c.in-Some.span.first + c.in-Some.span.count ≤ cores b =
-    ends_inside b c.args.node c.in-Some.span laws (sym c.cores_below.ensures ∙ c.in-Some.is) in
-    omega (arith, c.deref-in-Some.ensures.len, c.self.invariant.rows)
+pub returns : goal.returns
+returns c =
+    let low : c.args.node.level ≤ height c.self.inside.board =
+    elim (cases_lt (height c.self.inside.board) c.args.node.level) [
+      | inl h ↦ absurd (omega (arith, c.nodes.ensures.above h, c.if-node-nodes.false))
+      | inr h ↦ h
+    ] in
+    let inside : c.args.node.place < nodes c.self.inside.board c.args.node.level =
+    omega (arith, c.nodes.ensures.there low, c.if-node-nodes.false) in
+    c.status_below.ensures
+    ∙ ap (λ counts.
+    status_counted (counts_at (map (λ v. v.items) counts) c.args.node.level c.args.node.place))
+    c.deref-2.ensures.value
+    ∙ status_domain _ _ c.args.node c.self.view_is c.self.invariant
+    (λ e. c.if-node-eq0.false e) low inside
 
-pub returns-in-Some : goal.returns-in-Some
-returns-in-Some c =
-    let laws = c.law_spans.ensures c.self.inside.board.levels c.self.invariant.board.tree in
-    let count : c.in-Some.span.first + c.in-Some.span.count - c.in-Some.span.first
-    ≡ c.in-Some.span.count = omega arith in
-    c.status_of_all.ensures ∙ rw (count, c.deref-in-Some.ensures.value)
-    (status_seen _ _ c.args.node c.in-Some.span c.self.view_is c.self.invariant laws
-    (sym c.cores_below.ensures ∙ c.in-Some.is))
-
-pub returns-in-None : goal.returns-in-None
-returns-in-None c =
+pub returns-then-node-nodes : goal.returns-then-node-nodes
+returns-then-node-nodes c =
     rw (← c.self.view_is)
-    (status_none c.self.inside.board _ c.args.node (sym c.cores_below.ensures ∙ c.in-None.is))
+    (status_none c.self.inside.board _ c.args.node
+    (λ h k. omega (arith, c.nodes.ensures.there h, c.if-node-nodes.true)))
 
 pub returns-then-node-eq0 : goal.returns-then-node-eq0
 returns-then-node-eq0 c =

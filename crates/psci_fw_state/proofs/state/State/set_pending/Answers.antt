@@ -1,4 +1,4 @@
-use Rattle.std.proofs.Common.{◌≡◌, ◌<◌, Some, length, sym, subst, ap, arith, ◌∙◌}
+use Rattle.std.proofs.Common.{◌≡◌, ◌<◌, Some, length, sym, subst, ap, arith, ◌∙◌, map}
 use Rattle.psci_board.specs.Board.{cores}
 use Rattle.psci_link.specs.declared.kind.Kind.TheVariants as kinds
 use Rattle.psci_link.specs.Message.{MessageValue}
@@ -19,6 +19,7 @@ returns-clause-after c =
       mode = c.self.inside.mode;
       tree = c.self.inside.tree;
       rows = c.self.inside.rows.items;
+      counts = map (λ v. v.items) c.self.inside.counts.items;
       slots = c.self.inside.slots;
     } in
     let m : MessageValue = record {
@@ -41,11 +42,11 @@ returns-clause-after c =
     omega (arith, c.self.invariant.rows, c.self.invariant.slots) in
     let has_slot : IsOfCores (length s.slots.cores) (slot_of m.kind m.core) =
     rw start slot_inside in
-    let rows = rows_set c.self.inside.rows c.deref_mut.result.now c.set_row.new.rows
+    let rows = rows_set c.self.inside.rows c.deref_mut.result.now c.put_row.new.rows
     m.core.number (record { status = statuses.Pending; opening = Some c.args.opening })
-    c.deref_mut.ensures.value c.set_row.ensures in
+    c.deref_mut.ensures.value c.put_row.ensures.rows in
     rw (← c.self.view_is, ← c.message.view_is)
-    (pending_of s.board s c.set_pending.new.self _ c.put.new.self m c.args.opening
+    (pending_of s.board s c.set_pending.new.self _ _ c.put.new.self m c.args.opening
     (core_set s.tree c.set_pending.new.self m.core.number _ (λ k. rw c.set_pending.ensures.value
     (c.law_cores.ensures.pending s.tree m.core.number k inside)))
     (rw rows (row_set s.rows m.core.number _ row_inside))

@@ -1,8 +1,9 @@
-use Rattle.std.proofs.Common.{◌≡◌, ◌<◌, None, Some, length, sym, ap, refl, ◌∙◌}
+use Rattle.std.proofs.Common.{◌≡◌, ◌<◌, None, Some, length, sym, ap, refl, ◌∙◌, map}
+use Rattle.std.proofs.lemmas.List.{length-set}
 use Rattle.psci_fw_state.specs.Rows.{row_at}
 use Rattle.psci_fw_state.specs.Seen.{StateValue}
 use Rattle.psci_fw_state.proofs.Changed.{in_rows, row_set, same_set, within}
-use Rattle.psci_fw_state.proofs.Moved.{rows_set}
+use Rattle.psci_fw_state.proofs.Moved.{counts_stay, rows_set}
 use Rattle.psci_fw_state.proofs.Moved.{suspended_changed}
 use Rattle.psci_fw_state.proofs.state.State.set_suspended.Goals as goal
 
@@ -15,6 +16,7 @@ returns-then-deep-clause-after c =
       mode = c.self.inside.mode;
       tree = c.self.inside.tree;
       rows = c.self.inside.rows.items;
+      counts = map (λ v. v.items) c.self.inside.counts.items;
       slots = c.self.inside.slots;
     } in
     let inside : c.args.core.number < length s.tree.cores =
@@ -47,6 +49,7 @@ returns-else-deep-clause-after c =
       mode = c.self.inside.mode;
       tree = c.self.inside.tree;
       rows = c.self.inside.rows.items;
+      counts = map (λ v. v.items) c.self.inside.counts.items;
       slots = c.self.inside.slots;
     } in
     let inside : c.args.core.number < length s.tree.cores =
@@ -61,3 +64,34 @@ returns-else-deep-clause-after c =
     (λ l p. rw c.set_ask.ensures.value
     (c.law_confirmed.ensures.suspended s.tree c.args.core.number l p c.args.ask))
     (rw (sym c.deep.ensures ∙ c.if-deep.false) refl)
+
+pub invariant_of-self : goal.invariant_of-self
+invariant_of-self c =
+    let s : StateValue = record {
+      board = c.self.inside.board;
+      life = c.self.inside.life;
+      halting = c.self.inside.halting;
+      mode = c.self.inside.mode;
+      tree = c.self.inside.tree;
+      rows = c.self.inside.rows.items;
+      counts = map (λ v. v.items) c.self.inside.counts.items;
+      slots = c.self.inside.slots;
+    } in
+    let rows = rows_set c.self.inside.rows c.deref_mut.result.now c.set_row.new.rows
+    c.args.core.number (record {
+      status = c.row_of.result.status;
+      opening = Some c.args.opening;
+    }) c.deref_mut.ensures.value c.set_row.ensures in
+    let row : c.row_of.result ≡ row_at s.rows c.args.core.number =
+    c.row_of.ensures ∙ ap (λ xs. row_at xs c.args.core.number) c.deref.ensures.value in
+    record {
+      board = c.self.invariant.board;
+      tree = c.set_ask.ensures.tree;
+      levels = c.set_ask.ensures.levels ∙ c.self.invariant.levels;
+      rows = ap length rows ∙ length-set s.rows c.args.core.number _ ∙ c.self.invariant.rows;
+      counts = counts_stay s.board.levels s.rows _ c.args.core.number c.row_of.result
+          (Some c.args.opening) s.counts
+          (in_rows _ _ _ c.self.view_is c.self.invariant c.requires.inside) row rows
+          c.self.invariant.counts;
+      slots = c.self.invariant.slots;
+    }

@@ -4,16 +4,18 @@ use Rattle.std.proofs.Common.{get_or-set_other}
 use Rattle.std.proofs.lemmas.Bool.{eqb-true}
 use Rattle.std.proofs.Math.ListN.{set, length-set}
 use Rattle.std.specs.Vec.{with_item}
+use Rattle.std.specs.List.{count_by}
 use Rattle.std.proofs.lemmas.List.{get_or_default, length-replicate}
-use Rattle.psci_tree.specs.Recount.{never_started}
+use Rattle.psci_tree.specs.Recount.{is_off, never_started}
 use Rattle.psci_tree.specs.Domains.{leaves, branches, cores_in, child_counts}
+use Rattle.psci_tree.specs.Kept.{AreKept}
 use Rattle.psci_tree.specs.declared.domain.Domain.{Domain}
 use Rattle.psci_tree.specs.declared.domain.Domain.TheOpen.{Domain-F}
 use Rattle.psci_tree.specs.declared.domain.Domain.TheViews.{out-Domain, the_lemmas}
 use Rattle.psci_tree.proofs.Below.{children_roll, cores_le, cores_roll, length_of_domain}
 use Rattle.psci_tree.proofs.Keeping.{kept_roll, kept_roll_core}
 use Rattle.psci_tree.proofs.OffOnes.{AreOffTo, IsOffOne, off_cores, off_kept, off_length, off_more}
-use Rattle.psci_tree.proofs.OffOnes.{off_next, off_widths}
+use Rattle.psci_tree.proofs.OffOnes.{never_keeps, off_next, off_widths}
 use Rattle.psci_tree.proofs.domain.Domain.+turn_off.Goals as goal
 
 -- what is not empty has children, and what is empty has none
@@ -35,8 +37,8 @@ returns-then-is_empty-clause-kept t c =
     let here = kept_roll_core (record {
       children = (out-Domain own).children;
       core = never_started;
-      kept = c.of_core-self.result;
-    }) none c.of_core-self.ensures in
+      kept = c.never_started-self.result;
+    }) none c.never_started-self.ensures in
     simp the_lemmas (simp the_lemmas at here)
 
 -- the child that the loop is at, and what it was
@@ -117,18 +119,19 @@ loop-number-preserved t c =
       done = subst (AreOffTo (i + 1) ns) (sym (children_roll half)) more;
     }
 
-pub anew-self-requires-clause-kept : goal.anew-self-requires-clause-kept
-anew-self-requires-clause-kept t c =
+pub off_below-requires-clause-kept : goal.off_below-requires-clause-kept
+off_below-requires-clause-kept t c =
     let own : Domain = c.args.self.now in
-    off_kept c.loop-number.number (branches own) (branches c.loop-number.self) (omega (
+    subst AreKept (sym c.deref.ensures.value) (off_kept c.loop-number.number (branches own)
+    (branches c.loop-number.self) (omega (
       arith,
       c.loop-number-test.false,
       c.len-number-end.ensures,
       (out-Domain own).children.ok.0,
-    )) c.loop-number.invariant.done
+    )) c.loop-number.invariant.done)
 
-pub anew-self-requires-clause-few : goal.anew-self-requires-clause-few
-anew-self-requires-clause-few t c =
+pub off_below-requires-clause-few : goal.off_below-requires-clause-few
+off_below-requires-clause-few t c =
     let own : Domain = c.args.self.now in
     let ms : List Domain = branches c.loop-number.self in
     let all : length (branches own) ≤ c.loop-number.number = omega (
@@ -140,6 +143,7 @@ anew-self-requires-clause-few t c =
     omega (
       arith,
       c.requires.few,
+      ap (λ ns. length (cores_in ns)) c.deref.ensures.value,
       ap length (off_cores c.loop-number.number (branches own) ms all c.loop-number.invariant.done),
       length-replicate (length (cores_in (branches own))) never_started,
       length_of_domain own (omega (
@@ -168,7 +172,7 @@ returns-clause-cores t c =
     cores_roll (record {
       children = (out-Domain now).children;
       core = (out-Domain now).core;
-      kept = c.anew-self.result;
+      kept = c.never_started-self-2.result;
     }) (omega (arith, some, off_length i (branches own) (branches now) c.loop-number.invariant.done))
     ∙ off_cores i (branches own) (branches now) all c.loop-number.invariant.done
     ∙ ap (λ n. replicate n never_started) (sym (length_of_domain own some))
@@ -180,7 +184,7 @@ returns-clause-shape t c =
     off_widths own (record {
       children = (out-Domain now).children;
       core = (out-Domain now).core;
-      kept = c.anew-self.result;
+      kept = c.never_started-self-2.result;
     }) c.loop-number.number (omega (
       arith,
       c.loop-number-test.false,
@@ -193,18 +197,24 @@ returns-clause-kept t c =
     let own : Domain = c.args.self.now in
     let now : Domain = c.loop-number.self in
     let i : ℕ = c.loop-number.number in
+    let all : length (branches own) ≤ i = omega (
+      arith,
+      c.loop-number-test.false,
+      c.len-number-end.ensures,
+      (out-Domain own).children.ok.0,
+    ) in
     kept_roll (record {
       children = (out-Domain now).children;
       core = (out-Domain now).core;
-      kept = c.anew-self.result;
+      kept = c.never_started-self-2.result;
     }) (omega (
       arith,
       some_of_test _ _ c.is_empty.ensures c.if-is_empty.false,
       (out-Domain own).children.ok.0,
       off_length i (branches own) (branches now) c.loop-number.invariant.done,
-    )) c.anew-self.ensures (off_kept i (branches own) (branches now) (omega (
-      arith,
-      c.loop-number-test.false,
-      c.len-number-end.ensures,
-      (out-Domain own).children.ok.0,
-    )) c.loop-number.invariant.done)
+    )) (never_keeps c.never_started-self-2.result (branches now) c.off_below.result
+    (length (cores_in (branches own)))
+    (off_cores i (branches own) (branches now) all c.loop-number.invariant.done)
+    (c.off_below.ensures ∙ ap (λ ns. count_by (λ s. is_off s.activity) (cores_in ns))
+    c.deref.ensures.value) c.never_started-self-2.ensures)
+    (off_kept i (branches own) (branches now) all c.loop-number.invariant.done)

@@ -1,0 +1,160 @@
+-- Worked examples of what is counted of the cores below a power domain: boards of height 1, 2 and 3,
+-- even and uneven.
+use Rattle.std.proofs.Common.{◌≡◌, ℕ, zero, suc, ◌<◌, ◌≤◌, List, [], ◌∷◌, length, map, drop}
+use Rattle.std.proofs.Common.{get_or, refl, ap, arith}
+use Rattle.psci_board.specs.declared.node.Node.{Node}
+use Rattle.psci_board.specs.Board.{size_below}
+use Rattle.psci_fw_spec.specs.declared.status.Status.{Status}
+use Rattle.psci_fw_spec.specs.declared.status.Status.TheVariants.{On, Off, Pending}
+use Rattle.psci_fw_state.specs.declared.counts.StatusCounts.{StatusCounts}
+use Rattle.psci_fw_state.specs.Counts.{AreCounts, HasDomains, MayRecount, counts_at, counts_below}
+use Rattle.psci_fw_state.specs.Counts.{level_counts, no_cores, one_core, recounted}
+use Rattle.psci_fw_state.specs.Counts.{status_counted, with_counts}
+
+-- so many ON, and so many ON_PENDING
+abbrev count : ℕ → ℕ → StatusCounts
+count on pending = record { on = on; pending = pending }
+
+abbrev node : ℕ → ℕ → Node
+node level place = record { level = level; place = place }
+
+-- the statuses of the cores, from the first one on; any other is OFF
+abbrev cores_are : List Status → ℕ → Status
+cores_are statuses c = get_or statuses c Off
+
+-- One core, and several --------------------------------------------------------------------------
+
+of_one : map one_core (On ∷ Off ∷ Pending ∷ []) ≡ count 1 0 ∷ count 0 0 ∷ count 0 1 ∷ []
+of_one = refl
+
+of_none : no_cores ≡ count 0 0
+of_none = refl
+
+-- one that is ON comes before any number that are ON_PENDING
+together : map status_counted (count 0 0 ∷ count 0 1 ∷ count 0 7 ∷ count 1 0 ∷ count 1 7 ∷ [])
+    ≡ Off ∷ Pending ∷ Pending ∷ On ∷ On ∷ []
+together = refl
+
+-- asked on, entered, gone off, and the other way round
+counted_anew : recounted (count 2 1) (one_core Off) (one_core Pending)
+    ∷ recounted (count 2 1) (one_core Pending) (one_core On)
+    ∷ recounted (count 2 1) (one_core On) (one_core Off)
+    ∷ recounted (count 2 1) (one_core Pending) (one_core Off)
+    ∷ recounted (count 2 1) (one_core On) (one_core Pending) ∷ []
+    ≡ count 2 2 ∷ count 3 0 ∷ count 1 1 ∷ count 2 0 ∷ count 1 2 ∷ []
+counted_anew = refl
+
+none_to_take_away : MayRecount (count 0 3) (one_core On) (one_core Off) → ⊥
+none_to_take_away h = let e : 1 ≤ 0 = h.on in omega arith
+
+none_pending_to_take_away : MayRecount (count 3 0) (one_core Pending) (one_core On) → ⊥
+none_pending_to_take_away h = let e : 1 ≤ 0 = h.pending in omega arith
+
+too_many_on : MayRecount (count 65535 0) (one_core Off) (one_core On) → ⊥
+too_many_on h = let e : 65536 < 65536 = h.few_on in omega arith
+
+too_many_pending : MayRecount (count 0 65535) (one_core Off) (one_core Pending) → ⊥
+too_many_pending h = let e : 65536 < 65536 = h.few_pending in omega arith
+
+-- Below a domain ---------------------------------------------------------------------------------
+
+-- height 1: three cores below the system, which has no neighbour
+one_level : counts_below ((3 ∷ []) ∷ []) (cores_are (On ∷ Pending ∷ On ∷ [])) (node 1 0)
+    ∷ counts_below ((3 ∷ []) ∷ []) (cores_are (On ∷ Pending ∷ On ∷ [])) (node 1 1) ∷ []
+    ≡ count 2 1 ∷ count 0 0 ∷ []
+unfolding counts_below
+one_level = refl
+
+-- height 2: clusters of one, three and two cores
+abbrev uneven : List (List ℕ)
+uneven = (1 ∷ 3 ∷ 2 ∷ []) ∷ (3 ∷ []) ∷ []
+
+abbrev statuses : ℕ → Status
+statuses = cores_are (Pending ∷ On ∷ Off ∷ Pending ∷ Off ∷ On ∷ [])
+
+two_levels : counts_below uneven statuses (node 1 0) ∷ counts_below uneven statuses (node 1 1)
+    ∷ counts_below uneven statuses (node 1 2) ∷ counts_below uneven statuses (node 2 0) ∷ []
+    ≡ count 0 1 ∷ count 1 1 ∷ count 1 0 ∷ count 2 2 ∷ []
+unfolding counts_below
+two_levels = refl
+
+-- height 3: two groups, of one cluster and of two
+abbrev high : List (List ℕ)
+high = (2 ∷ 1 ∷ 1 ∷ []) ∷ (1 ∷ 2 ∷ []) ∷ (2 ∷ []) ∷ []
+
+abbrev of_high : ℕ → Status
+of_high = cores_are (On ∷ On ∷ Pending ∷ On ∷ [])
+
+three_levels : counts_below high of_high (node 1 0) ∷ counts_below high of_high (node 1 1)
+    ∷ counts_below high of_high (node 1 2) ∷ counts_below high of_high (node 2 0)
+    ∷ counts_below high of_high (node 2 1) ∷ counts_below high of_high (node 3 0) ∷ []
+    ≡ count 2 0 ∷ count 0 1 ∷ count 1 0 ∷ count 2 0 ∷ count 1 1 ∷ count 3 1 ∷ []
+unfolding counts_below
+three_levels = refl
+
+-- Kept -------------------------------------------------------------------------------------------
+
+abbrev kept : List (List StatusCounts)
+kept = (count 0 1 ∷ count 1 1 ∷ count 1 0 ∷ []) ∷ (count 2 2 ∷ []) ∷ []
+
+-- by level from 1 up, and by place; of no other domain
+found : counts_at kept 1 0 ∷ counts_at kept 1 2 ∷ counts_at kept 2 0 ∷ counts_at kept 2 1
+    ∷ counts_at kept 3 0 ∷ [] ≡ count 0 1 ∷ count 1 0 ∷ count 2 2 ∷ count 0 0 ∷ count 0 0 ∷ []
+found = refl
+
+written : with_counts kept (node 1 1) (count 2 0)
+    ≡ (count 0 1 ∷ count 2 0 ∷ count 1 0 ∷ []) ∷ (count 2 2 ∷ []) ∷ []
+written = refl
+
+written_above : with_counts kept (node 2 0) (count 3 1)
+    ≡ (count 0 1 ∷ count 1 1 ∷ count 1 0 ∷ []) ∷ (count 3 1 ∷ []) ∷ []
+written_above = refl
+
+places : (level : ℕ) → 0 < level → level ≤ length uneven
+    → length (level_counts kept level) ≡ size_below (drop level uneven)
+places zero some top = absurd (omega arith)
+places (suc zero) some top = refl
+places (suc (suc zero)) some top = refl
+places (suc (suc (suc level))) some top = absurd (let e : suc (suc (suc level)) ≤ 2 = top in omega arith)
+
+each : (level place : ℕ) → 0 < level → level ≤ length uneven
+    → place < size_below (drop level uneven)
+    → counts_at kept level place ≡ counts_below uneven statuses (node level place)
+unfolding counts_below
+each zero place some top inside = absurd (omega arith)
+each (suc zero) zero some top inside = refl
+each (suc zero) (suc zero) some top inside = refl
+each (suc zero) (suc (suc zero)) some top inside = refl
+each (suc zero) (suc (suc (suc place))) some top inside =
+    absurd (let e : suc (suc (suc place)) < 3 = inside in omega arith)
+each (suc (suc zero)) zero some top inside = refl
+each (suc (suc zero)) (suc place) some top inside =
+    absurd (let e : suc place < 1 = inside in omega arith)
+each (suc (suc (suc level))) place some top inside =
+    absurd (let e : suc (suc (suc level)) ≤ 2 = top in omega arith)
+
+kept_so : AreCounts uneven statuses kept
+kept_so = record { shape = record { height = refl; domains = places }; each = each }
+
+-- a level has no counts; a domain of a level has none
+level_is_missing : HasDomains uneven ((count 0 1 ∷ count 1 1 ∷ count 1 0 ∷ []) ∷ []) → ⊥
+level_is_missing h = let e : ◌≡◌ {A = ℕ} 1 2 = h.height in omega arith
+
+domain_is_missing : HasDomains uneven ((count 0 1 ∷ count 1 1 ∷ []) ∷ (count 2 2 ∷ []) ∷ []) → ⊥
+domain_is_missing h =
+    let e : ◌≡◌ {A = ℕ} 2 3 = h.domains 1 (omega arith) (omega arith) in omega arith
+
+-- counts of others: core 1 is ON, and not counted so below its cluster, nor below the system
+cluster_counts_others : AreCounts uneven statuses (with_counts kept (node 1 1) (count 0 1)) → ⊥
+unfolding counts_below
+cluster_counts_others h =
+    let e : ◌≡◌ {A = ℕ} 0 1 =
+    ap (λ (k : StatusCounts). k.on) (h.each 1 1 (omega arith) (omega arith) (omega arith)) in
+    omega arith
+
+system_counts_others : AreCounts uneven statuses (with_counts kept (node 2 0) (count 2 1)) → ⊥
+unfolding counts_below
+system_counts_others h =
+    let e : ◌≡◌ {A = ℕ} 1 2 =
+    ap (λ (k : StatusCounts). k.pending) (h.each 2 0 (omega arith) (omega arith) (omega arith)) in
+    omega arith

@@ -1,0 +1,71 @@
+use Rattle.std.proofs.Common.{◌≡◌, ◌+◌, ◌≤◌, ℕ, List, arith, ap, map, sym, refl, ◌∙◌}
+use Rattle.std.proofs.lemmas.Bool.{eq-eqb, ne_eqb}
+use Rattle.psci_board.specs.Board.{BoardValue, height}
+use Rattle.psci_tree.specs.Standing.{on_path as on_path_of}
+use Rattle.psci_fw_spec.specs.declared.status.Status.{Status}
+use Rattle.psci_fw_spec.specs.Values.{updated}
+use Rattle.psci_fw_state.specs.declared.counts.StatusCounts.{StatusCounts}
+use Rattle.psci_fw_state.specs.declared.row.CoreRow.{CoreRow}
+use Rattle.psci_fw_state.specs.Counts.{one_core}
+use Rattle.psci_fw_state.specs.Rows.{status_at}
+use Rattle.psci_fw_state.proofs.KeptCounts.{turn_may, turn_more, turn_place}
+use Rattle.psci_fw_state.proofs.counts.recount.Goals as goal
+
+here : (f : ℕ → Status) (core : ℕ) (s : Status) → s ≡ updated f core s core
+here f core s = let at = eq-eqb core core refl in rw at refl
+
+beside : (f : ℕ → Status) (core : ℕ) (s : Status) (c : ℕ) → (c ≡ core → ⊥)
+    → f c ≡ updated f core s c
+beside f core s c n = let at = ne_eqb c core n in rw at refl
+
+pub recount_domain-requires-clause-place : goal.recount_domain-requires-clause-place
+recount_domain-requires-clause-place c =
+    let b : BoardValue = c.args.board.now in
+    let core : ℕ = c.args.core.number in
+    let now : ℕ → Status = status_at c.args.rows.now in
+    turn_place b (updated now core c.args.before) now core
+    (c.law_paths.ensures b c.requires.board) c.requires.board.tree c.requires.inside
+    (beside now core c.args.before) (map (λ v. v.items) c.loop-level.counts) c.loop-level.level
+    (omega arith) (omega (arith, c.loop-level-test.true, c.height-level-end.ensures.height))
+    c.loop-level.invariant c.on_path-node.result
+    (c.on_path-node.ensures
+    ∙ ap (λ (ws : List (List ℕ)). on_path_of ws core c.loop-level.level) c.requires.levels)
+    c.of_core-had.result c.of_core-has.result
+    (c.of_core-had.ensures ∙ ap one_core (here now core c.args.before))
+    (c.of_core-has.ensures
+    ∙ ap (λ (r : CoreRow). one_core r.status) c.row_of-after.ensures)
+
+pub recount_domain-requires-clause-may : goal.recount_domain-requires-clause-may
+recount_domain-requires-clause-may c =
+    let b : BoardValue = c.args.board.now in
+    let core : ℕ = c.args.core.number in
+    let now : ℕ → Status = status_at c.args.rows.now in
+    turn_may b (updated now core c.args.before) now core
+    (c.law_paths.ensures b c.requires.board) c.requires.board.tree c.requires.inside
+    (beside now core c.args.before) (map (λ v. v.items) c.loop-level.counts) c.loop-level.level
+    (omega arith) (omega (arith, c.loop-level-test.true, c.height-level-end.ensures.height))
+    c.loop-level.invariant c.on_path-node.result
+    (c.on_path-node.ensures
+    ∙ ap (λ (ws : List (List ℕ)). on_path_of ws core c.loop-level.level) c.requires.levels)
+    c.of_core-had.result c.of_core-has.result
+    (c.of_core-had.ensures ∙ ap one_core (here now core c.args.before))
+    (c.of_core-has.ensures
+    ∙ ap (λ (r : CoreRow). one_core r.status) c.row_of-after.ensures)
+
+pub loop-level-preserved : goal.loop-level-preserved
+loop-level-preserved c =
+    let b : BoardValue = c.args.board.now in
+    let core : ℕ = c.args.core.number in
+    let now : ℕ → Status = status_at c.args.rows.now in
+    turn_more b (updated now core c.args.before) now core
+    (c.law_paths.ensures b c.requires.board) c.requires.board.tree c.requires.inside
+    (beside now core c.args.before) (map (λ v. v.items) c.loop-level.counts) c.loop-level.level
+    (omega arith) (omega (arith, c.loop-level-test.true, c.height-level-end.ensures.height))
+    c.loop-level.invariant c.on_path-node.result
+    (c.on_path-node.ensures
+    ∙ ap (λ (ws : List (List ℕ)). on_path_of ws core c.loop-level.level) c.requires.levels)
+    c.of_core-had.result c.of_core-has.result
+    (c.of_core-had.ensures ∙ ap one_core (here now core c.args.before))
+    (c.of_core-has.ensures
+    ∙ ap (λ (r : CoreRow). one_core r.status) c.row_of-after.ensures)
+    (map (λ v. v.items) c.recount_domain.new.counts) c.recount_domain.ensures

@@ -1,9 +1,0 @@
-use Rattle.std.proofs.Common.{◌≡◌, ℕ, ◌<◌, length}
-use Rattle.psci_fw_state.specs.Rows.{row_at, first_row}
-use Rattle.psci_fw_state.proofs.row.reset_rows.Given as goal
-
-abbrev pub invariant-loop-core : goal.invariant-loop-core
-invariant-loop-core l = record {
-  count : length l.rows ≡ l.core-end;
-  each : (k : ℕ) → k < l.core → row_at l.rows k ≡ first_row l.board k;
-}
