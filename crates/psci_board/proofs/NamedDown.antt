@@ -3,6 +3,7 @@ use Rattle.std.proofs.Common.{◌≡◌, ℕ, zero, suc, ◌+◌, ◌*◌, ◌/�
 use Rattle.std.proofs.Common.{sum, take, length, drop, get_or, ap, subst, refl, sym, ◌∙◌, arith, Some, None}
 use Rattle.std.proofs.lemmas.Nat.{pow-add}
 use Rattle.std.proofs.Math.Nat.{div-one, div-div-eq-div-mul}
+use Rattle.std.specs.Int.{w64, to_le_bytes}
 use Rattle.std.proofs.Math.Seq.{drop-cons}
 use Rattle.std.proofs.lemmas.List.{drop_all}
 use Rattle.psci_board.specs.Board.{IsTree, address_up, group_of, index_in}
@@ -46,6 +47,23 @@ named_step levels word k g t h e =
     ∙ e in
     ap (λ ls. index_named ls (word / 2 ^ (8 * k))) cut
     ∙ named_below w ws g (word / 2 ^ (8 * k)) (subst IsTree cut (IsTree-drop k levels t)) above
+
+-- the byte of this number of a word is its field for this level
+byte_of : (word k : ℕ) → k < 3
+    → get_or (to_le_bytes w64 word) k 0 ≡ word / 2 ^ (8 * k) % 256
+byte_of word zero h = sym (ap (λ w. w % 256) (div-one word))
+byte_of word (suc zero) h = refl
+byte_of word (suc (suc zero)) h = refl
+byte_of word (suc (suc (suc k))) h = omega (arith, h)
+
+-- the same by the bytes of the word
+pub field_step : (levels : List (List ℕ)) (word k g : ℕ) → IsTree levels → k < length levels
+    → k < 3 → index_named (drop (k + 1) levels) (word / 2 ^ (8 * (k + 1))) ≡ Some g
+    → index_named (drop k levels) (word / 2 ^ (8 * k))
+    ≡ child_in (get_or levels k []) g (get_or (to_le_bytes w64 word) k 0)
+field_step levels word k g t h few e =
+    named_step levels word k g t h e
+    ∙ ap (child_in (get_or levels k []) g) (sym (byte_of word k few))
 
 -- a place that is named above stands on the level
 pub inside_step : (levels : List (List ℕ)) (word k g : ℕ) → IsTree levels → k < length levels

@@ -24,11 +24,11 @@ pub fn place_of(levels: &[Level], word: u64) -> Option<u16>
     if highest >= u64::from(levels[top as usize].all_children()) {
         return None;
     }
+    let fields = word.to_le_bytes();
     let mut place = highest as u16;
-    for step in 0..top {
-        let level = top - 1 - step;
-        let field = (word >> (8 * level)) % 256;
-        place = levels[level as usize].own_child(place, field as u32)?;
+    for level in (0..top).rev() {
+        let field = u32::from(fields[level as usize]);
+        place = levels[level as usize].own_child(place, field)?;
     }
     Some(place)
 }

@@ -127,8 +127,6 @@ impl Board {
     /// The node of this level that an affinity word names, if there is one: fields below the level
     /// are not looked at. There is none on a level above the height. It takes one step for each
     /// level, however many nodes there are.
-    // In place, since a call would write what it answers to memory, on each AFFINITY_INFO.
-    #[inline(always)]
     pub fn node_of(&self, word: u64, level: u32) -> Option<Node>
         ensures { result ≡ node_of self.now word level }
     {

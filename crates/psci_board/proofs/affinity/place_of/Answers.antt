@@ -1,9 +1,10 @@
-use Rattle.std.proofs.Common.{◌≡◌, ◌<◌, ◌+◌, ◌-◌, ◌*◌, ◌/◌, ◌%◌, ◌^◌, ◌∙◌, ℕ, List, [], length, drop, get_or}
-use Rattle.std.proofs.Common.{ap, sym, arith, sum}
+use Rattle.std.proofs.Common.{◌≡◌, ◌<◌, ◌+◌, ◌-◌, ◌*◌, ◌/◌, ◌^◌, ◌∙◌, ℕ, List, [], length, drop, get_or}
+use Rattle.std.proofs.Common.{ap, sym, subst, arith, sum, Some}
+use Rattle.std.specs.Int.{w64, to_le_bytes}
 use Rattle.std.proofs.lemmas.List.{get_or_default}
 use Rattle.std.proofs.Math.Nat.{div-one}
 use Rattle.psci_board.specs.Level.{index_named, child_in}
-use Rattle.psci_board.proofs.NamedDown.{none_up, named_step, none_highest, named_highest, inside_step}
+use Rattle.psci_board.proofs.NamedDown.{none_up, field_step, none_highest, named_highest, inside_step}
 use Rattle.psci_board.proofs.affinity.place_of.Goals as goal
 
 pub returns-then-highest-from : goal.returns-then-highest-from
@@ -22,17 +23,15 @@ returns-then-highest-from c =
       ap (λ (w : List ℕ). sum w) level,
     )))
 
-pub loop-step-init : goal.loop-step-init
-loop-step-init c = λ k e.
+pub loop-level-init : goal.loop-level-init
+loop-level-init c =
     let levels : List (List ℕ) = c.args.levels.now in
     let m : ℕ = length levels - 1 in
     let fits : m < length levels = omega (arith, c.if-count-eq0.false) in
     let own : List ℕ = c.index-levels-top.result in
     let level : own ≡ get_or levels m [] =
     c.index-levels-top.is ∙ get_or_default levels m own [] fits in
-    let same : k ≡ m = omega (arith, e) in
-    ap (λ j. index_named (drop j levels) (c.args.word / 2 ^ (8 * j))) same
-    ∙ named_highest levels c.args.word m c.requires.tree (omega (arith, fits)) (omega (
+    named_highest levels c.args.word m c.requires.tree (omega (arith, fits)) (omega (
       arith,
       c.if-highest-from.false,
       c.from.ensures,
@@ -43,59 +42,65 @@ loop-step-init c = λ k e.
 pub own_child-requires : goal.own_child-requires
 own_child-requires c =
     let levels : List (List ℕ) = c.args.levels.now in
-    let m : ℕ = length levels - 1 - 1 - c.loop-step.step in
-    let fits : m < length levels = omega (arith, c.loop-step-test.true) in
+    let m : ℕ = c.loop-level.level - 1 in
+    let next : m + 1 ≡ c.loop-level.level = omega (arith, c.loop-level-test.true) in
+    let fits : m < length levels = omega (arith, c.loop-level-test.true) in
     let own : List ℕ = c.index-levels-level.result in
     let level : own ≡ get_or levels m [] =
     c.index-levels-level.is ∙ get_or_default levels m own [] fits in
     omega (
       arith,
-      inside_step levels c.args.word m c.loop-step.place c.requires.tree fits
-          (c.loop-step.invariant (m + 1) (omega (arith, fits, c.loop-step-test.true))),
+      inside_step levels c.args.word m c.loop-level.place c.requires.tree fits
+          (subst (λ j. index_named (drop j levels) (c.args.word / 2 ^ (8 * j)) ≡ Some c.loop-level.place)
+          (sym next) c.loop-level.invariant),
       ap (λ (w : List ℕ). length w) level,
     )
 
-pub loop-step-preserved : goal.loop-step-preserved
-loop-step-preserved c = λ k e.
+pub loop-level-preserved : goal.loop-level-preserved
+loop-level-preserved c =
     let levels : List (List ℕ) = c.args.levels.now in
-    let word : ℕ = c.args.word in
-    let m : ℕ = length levels - 1 - 1 - c.loop-step.step in
-    let fits : m < length levels = omega (arith, c.loop-step-test.true) in
-    let field : ℕ = word / 2 ^ (8 * m) % 256 in
+    let m : ℕ = c.loop-level.level - 1 in
+    let next : m + 1 ≡ c.loop-level.level = omega (arith, c.loop-level-test.true) in
+    let fits : m < length levels = omega (arith, c.loop-level-test.true) in
     let own : List ℕ = c.index-levels-level.result in
     let level : own ≡ get_or levels m [] =
     c.index-levels-level.is ∙ get_or_default levels m own [] fits in
-    let named : index_named (drop m levels) (word / 2 ^ (8 * m))
-    ≡ child_in own c.loop-step.place field =
-    named_step levels word m c.loop-step.place c.requires.tree fits
-    (c.loop-step.invariant (m + 1) (omega (arith, fits, c.loop-step-test.true)))
-    ∙ ap (λ (w : List ℕ). child_in w c.loop-step.place field) (sym level) in
-    let same : k ≡ m = omega (arith, e, fits) in
-    ap (λ j. index_named (drop j levels) (word / 2 ^ (8 * j))) same
-    ∙ named
+    field_step levels c.args.word m c.loop-level.place c.requires.tree fits
+    (omega (arith, fits, c.requires.high))
+    (subst (λ j. index_named (drop j levels) (c.args.word / 2 ^ (8 * j)) ≡ Some c.loop-level.place)
+    (sym next) c.loop-level.invariant)
+    ∙ ap (λ (w : List ℕ). child_in w c.loop-level.place (get_or (to_le_bytes w64 c.args.word) m 0))
+    (sym level)
+    ∙ ap (λ bs. child_in own c.loop-level.place (get_or bs m 0)) (sym c.to_le_bytes-fields.ensures)
+    ∙ ap (child_in own c.loop-level.place) (sym c.from-field.ensures)
     ∙ sym c.in_ok-place.ensures
 
 pub returns-in_err-place : goal.returns-in_err-place
 returns-in_err-place c =
     let levels : List (List ℕ) = c.args.levels.now in
-    let word : ℕ = c.args.word in
-    let m : ℕ = length levels - 1 - 1 - c.loop-step.step in
-    let fits : m < length levels = omega (arith, c.loop-step-test.true) in
-    let field : ℕ = word / 2 ^ (8 * m) % 256 in
+    let m : ℕ = c.loop-level.level - 1 in
+    let next : m + 1 ≡ c.loop-level.level = omega (arith, c.loop-level-test.true) in
+    let fits : m < length levels = omega (arith, c.loop-level-test.true) in
     let own : List ℕ = c.index-levels-level.result in
     let level : own ≡ get_or levels m [] =
     c.index-levels-level.is ∙ get_or_default levels m own [] fits in
-    let named : index_named (drop m levels) (word / 2 ^ (8 * m))
-    ≡ child_in own c.loop-step.place field =
-    named_step levels word m c.loop-step.place c.requires.tree fits
-    (c.loop-step.invariant (m + 1) (omega (arith, fits, c.loop-step-test.true)))
-    ∙ ap (λ (w : List ℕ). child_in w c.loop-step.place field) (sym level) in
-    rw c.from_residual.ensures (sym (none_up levels word m c.requires.tree (omega (arith, fits))
-    (named ∙ sym c.in_err-place.ensures)))
+    let named : index_named (drop m levels) (c.args.word / 2 ^ (8 * m))
+    ≡ child_in own c.loop-level.place c.from-field.result =
+    field_step levels c.args.word m c.loop-level.place c.requires.tree fits
+    (omega (arith, fits, c.requires.high))
+    (subst (λ j. index_named (drop j levels) (c.args.word / 2 ^ (8 * j)) ≡ Some c.loop-level.place)
+    (sym next) c.loop-level.invariant)
+    ∙ ap (λ (w : List ℕ). child_in w c.loop-level.place (get_or (to_le_bytes w64 c.args.word) m 0))
+    (sym level)
+    ∙ ap (λ bs. child_in own c.loop-level.place (get_or bs m 0)) (sym c.to_le_bytes-fields.ensures)
+    ∙ ap (child_in own c.loop-level.place) (sym c.from-field.ensures) in
+    rw c.from_residual.ensures (sym (none_up levels c.args.word m c.requires.tree
+    (omega (arith, fits)) (named ∙ sym c.in_err-place.ensures)))
 
 pub returns : goal.returns
 returns c =
     let levels : List (List ℕ) = c.args.levels.now in
+    let last : c.loop-level.level ≡ 0 = omega (arith, c.loop-level-test.false) in
     sym (ap (index_named levels) (sym (div-one c.args.word))
-    ∙ c.loop-step.invariant 0
-    (omega (arith, c.loop-step-test.false, c.loop-step.auto.step-end)))
+    ∙ subst (λ j. index_named (drop j levels) (c.args.word / 2 ^ (8 * j)) ≡ Some c.loop-level.place)
+    last c.loop-level.invariant)
