@@ -229,6 +229,34 @@ front() {
     answers "./psci replay without a proved program"
 }
 
+# ./psci prove proves each crate that the program stands on, once, and keeps what is built. Here a
+# command stands for the kit's, which says of each crate in its folder that it is proved.
+proving() {
+    local name kit=$work/kit fresh=$work/proving
+    has_python "./psci prove" || return 0
+    mkdir -p "$kit" "$fresh"
+    cat > "$kit/rt" << 'END'
+#!/bin/sh
+for crate in crates/*; do echo "rt: ${crate#crates/} proved"; done
+mkdir crates/psci_cli/out
+printf '#!/bin/sh\necho built of "$@"\n' > crates/psci_cli/out/psci_cli
+chmod +x crates/psci_cli/out/psci_cli
+END
+    chmod +x "$kit/rt"
+    for name in crates/*/src; do mkdir -p "$fresh/$name"; done
+    cp psci crates.txt HANDLES "$fresh"
+    PATH=$kit:$PATH "$fresh/psci" prove < /dev/null > "$work/out" 2> "$work/proved"
+    echo $? > "$work/got"
+    tail -n 1 "$work/proved" > "$work/err"
+    expect "./psci prove" 0 "psci: built; ./psci runs the proved program from now on"
+    tools/repo.py below psci_cli | tr ' ' '\n' | sort > "$work/lines"
+    sed -n 's/^psci: proved .*(\(.*\))$/\1/p' "$work/proved" | sort > "$work/out"
+    answers "the crates that ./psci prove proves"
+    front_of "$fresh" version
+    echo "built of version" > "$work/lines"
+    answers "./psci after ./psci prove"
+}
+
 # the line of a storm, which the seed alone decides; its words, streams and memory
 storms() {
     local seed tree

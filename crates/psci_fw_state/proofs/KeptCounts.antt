@@ -156,8 +156,12 @@ module _ (b : BoardValue) (old new : ℕ → Status) (core : ℕ) (laws : PathLa
 
   pub turn_may : MayRecount (counts_at kept n.level n.place) had has
   turn_may =
-      rw (is, before, after_is,
-      so_far.left level (place_above b.levels level core) low (omega arith) top place_inside)
+      rw (
+        is,
+        before,
+        after_is,
+        so_far.left level (place_above b.levels level core) low (omega arith) top place_inside,
+      )
       (may_recount b.levels old new core there same
       (record { level = level; place = place_above b.levels level core }) tree refl)
 

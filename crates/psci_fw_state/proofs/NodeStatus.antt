@@ -32,8 +32,10 @@ status_of_counts : (levels : List (List ℕ)) (status : ℕ → Status) (n : Nod
     → status_counted (counts_below levels status n) ≡ status_over status (below_in levels n)
 unfolding counts_below
 status_of_counts levels status n =
-    rw (some_counted (λ c. is_on (status c)) (below_in levels n),
-    some_counted (λ c. is_pending_status (status c)) (below_in levels n)) refl
+    rw (
+      some_counted (λ c. is_on (status c)) (below_in levels n),
+      some_counted (λ c. is_pending_status (status c)) (below_in levels n),
+    ) refl
 
 -- The status of a node --------------------------------------------------------------------------
 
