@@ -1,6 +1,7 @@
 -- Worked examples: what an audit answers, and what it does not.
 use Rattle.std.proofs.Common.{◌≡◌, ℕ, List, [], ◌∷◌, ◌++◌, None, Some, Ok, Err, true, false, pos}
 use Rattle.std.proofs.Common.{ap, refl, arith, length, length-append, reverse}
+use Rattle.std.proofs.lemmas.List.{length-reverse}
 use Rattle.psci_world_spec.specs.psci_fw_spec.declared.call.FwCall.TheVariants as calls
 use Rattle.psci_world_spec.specs.psci_fw_spec.declared.outcome.Act.{Act}
 use Rattle.psci_world_spec.specs.psci_fw_spec.declared.outcome.Act.TheVariants as acts
@@ -93,6 +94,13 @@ nothing_is_illegal_in_none place is =
     let e : length (reverse is.before ++ (is.entry ∷ is.since)) ≡ 0 = ap length is.parts in
     let d = length-append (reverse is.before) (is.entry ∷ is.since) in omega (arith, e, d)
 
+-- nor is there a second place in a list of one entry
+past_the_last : IsFirstIllegal board (boots ∷ []) 1 → ⊥
+past_the_last is =
+    let e : length (reverse is.before ++ (is.entry ∷ is.since)) ≡ 1 = ap length is.parts in
+    let d = length-append (reverse is.before) (is.entry ∷ is.since) in
+    let s = length-reverse is.before in omega (arith, e, d, s, is.at)
+
 -- tickets that fall come before an entry that may not follow
 falling : IsFault board (returns 2 ∷ enters 1 ∷ []) [] Ticket
 falling fit = let less = fit.firmware.1.0 in omega (arith, less)
@@ -112,6 +120,10 @@ goes_on = refl
 
 stops : IsFollowed (Ok false) 3 (Some (Illegal 3))
 stops = refl
+
+-- the entry could not be judged, whatever its place
+without_memory : IsFollowed (Err (record {})) 3 (Some Memory)
+without_memory = refl
 
 -- a list that is judged never has a ticket that does not fit
 no_ticket : IsJudged board [] (Err Ticket) → ⊥

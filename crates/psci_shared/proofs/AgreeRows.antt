@@ -163,6 +163,13 @@ all_placed (suc (suc zero)) h = refl
 all_placed (suc (suc (suc place))) h =
     let k : suc (suc (suc place)) < 3 = h in absurd (omega arith)
 
+-- the entry of a book with room for two more has its place, and no other place needs one
+room_needs_no_place : AllPlaced
+    (record { entries = entry 7 (core 1) (ask 2) (Fault NotRunning) ∷ []; room = 3 })
+    (pass false 0 [] ∷ pass false 1 (item 0 (ask 2) (Fault NotRunning) ∷ []) ∷ [])
+room_needs_no_place zero h = refl
+room_needs_no_place (suc place) h = let k : suc place < 1 = h in absurd (omega arith)
+
 place_in_none : AllPlaced wide (pass false 0 ours ∷ []) → ⊥
 place_in_none h = let e : ◌≡◌ {A = ℕ} 0 1 = h 1 (omega arith) in omega arith
 

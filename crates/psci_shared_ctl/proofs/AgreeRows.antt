@@ -9,6 +9,7 @@ use Rattle.psci_ctl.specs.psci_ctl_spec.declared.delivery.Delivery.TheVariants a
 use Rattle.psci_ctl.specs.psci_ctl_spec.declared.kick.Kick.TheVariants as kicks
 use Rattle.psci_ctl.specs.psci_ctl_spec.declared.reply.CtlReply.{CtlReply}
 use Rattle.psci_ctl.specs.psci_ctl_spec.declared.reply.CtlReply.TheVariants.{Delivery, Kick}
+use Rattle.psci_ctl.specs.psci_ctl_spec.psci_link.declared.start.Cause.TheVariants as causes
 use Rattle.psci_shared_ctl.specs.declared.entry.CtlEntry.{CtlEntry}
 use Rattle.psci_shared_ctl.specs.declared.entry.CtlItem.{CtlItem}
 use Rattle.psci_shared.specs.declared.fault.GatherCause.TheVariants.{Astray, Missing}
@@ -89,6 +90,18 @@ another_call h = let e : ◌≡◌ {A = ℕ} 1 7 = ap number h.0.1.0 in omega ar
 
 another_reply : AllStandFrom entries 0 (item 0 (wake 1) (Delivery deliveries.Ignored) ∷ []) → ⊥
 another_reply h = let e : ◌≡◌ {A = ℕ} 1 0 = ap is_kick h.0.1.1 in omega arith
+
+-- the life of the start, or 0
+abbrev life_in : CtlReply → ℕ
+life_in (Kick (kicks.Started start)) = start.life
+life_in (Kick kicks.Ignored) = 0
+life_in (Delivery delivery) = 0
+
+-- the wake-up was ignored, and the item says that it started the core in life 2
+started_where_ignored : AllStandFrom entries 0
+    (item 2 (wake 2) (Kick (kicks.Started (record { life = 2; number = 3; cause = causes.Wake })))
+    ∷ []) → ⊥
+started_where_ignored h = let e : ◌≡◌ {A = ℕ} 0 2 = ap life_in h.0.1.1 in omega arith
 
 -- the same entry twice; entries in the wrong order; no such entry
 place_twice : AllStandFrom entries 0 (item 1 reset ignored ∷ item 1 reset ignored ∷ []) → ⊥
