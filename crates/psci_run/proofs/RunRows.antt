@@ -2,7 +2,7 @@
 -- their messages, boards of height 1 and 3 and of uneven clusters, no life, the next life, depths
 -- that are not granted; and text that has just room and has just none.
 use Rattle.std.proofs.Common.{◌≡◌, ◌<◌, ℕ, zero, suc, List, [], ◌∷◌, Option, None, Some, length}
-use Rattle.std.proofs.Common.{map, refl, ap, arith, false}
+use Rattle.std.proofs.Common.{map, refl, ap, arith, false, true}
 use Rattle.std.specs.Prelude.{codes}
 use Rattle.std.specs.Fmt.{decimal, digits}
 use Rattle.psci_world.specs.Seen.{WorldValue}
@@ -136,6 +136,12 @@ row_of_one_core : row_text false one_core (run_from one_core [] (Enter 0 ∷ [])
     ≡ codes "R  0   0 "
 unfolding computing sleep_of digits
 row_of_one_core = refl
+
+-- each letter is in color, and no depth is
+row_in_color : row_text true one_core (run_from one_core [] (Enter 0 ∷ []))
+    ≡ codes "\u{1b}[32mR\u{1b}[0m  0   0 "
+unfolding computing sleep_of digits
+row_in_color = refl
 
 row_at_height_3 : row_text false tall (run_from tall [] (Enter 0 ∷ []))
     ≡ codes "R...  0  3  3  3   0  3  3  3   0  3   0 "

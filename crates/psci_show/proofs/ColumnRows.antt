@@ -1,19 +1,26 @@
 -- The columns after known events.
 use Rattle.std.proofs.Common.{◌≡◌, ℕ, List, [], ◌∷◌, refl, Option, None, Some}
-use Rattle.std.specs.Prelude.{codes, flat_map, option_map}
+use Rattle.std.specs.Prelude.{codes, flat_map, map, option_map}
 use Rattle.std.specs.List.{range_with_len}
 use Rattle.std.specs.Fmt.{digits}
 use Rattle.psci_world_spec.specs.declared.event.Event.{Event}
-use Rattle.psci_world_spec.specs.declared.event.Event.TheVariants.{Deliver, Enter, Take, Wake}
+use Rattle.psci_world_spec.specs.psci_board.Board.{BoardValue}
+use Rattle.psci_world_spec.specs.declared.event.Event.TheVariants.{Deliver, Enter, Reset, Take}
+use Rattle.psci_world_spec.specs.declared.event.Event.TheVariants.{Wake}
 use Rattle.psci_world_spec.specs.Legal.{run_from}
-use Rattle.psci_world_spec.proofs.Scripts.{board, call, computing, off, on_3, retention}
-use Rattle.psci_world_spec.proofs.Scripts.{system_off, system_reset, version}
-use Rattle.psci_show.specs.Columns.{core_state, depths_of, depths_text, letter_of, sleep_of}
+use Rattle.psci_world_spec.proofs.Scripts.{board, call, computing, off, on_3, one_core, retention}
+use Rattle.psci_world_spec.proofs.Scripts.{system_off, system_reset, tall, version}
+use Rattle.psci_show.specs.declared.sleep.Sleep.{Sleep}
+use Rattle.psci_show.specs.Columns.{core_state, depths_of, depths_text, letter_of, sleep_in}
+use Rattle.psci_show.specs.Columns.{sleep_of}
 
--- the letters of the four cores after these events
+-- the letters of the first cores of a board after these events, and of the four of this one
+abbrev letters_of : BoardValue → ℕ → List Event → List ℕ
+letters_of b count events =
+    flat_map (λ c. letter_of (core_state b (run_from b [] events) c)) (range_with_len 0 count)
+
 abbrev letters : List Event → List ℕ
-letters events =
-    flat_map (λ c. letter_of (core_state board (run_from board [] events) c)) (range_with_len 0 4)
+letters events = letters_of board 4 events
 
 -- core 3 is on and has entered
 abbrev on : List Event → List Event
@@ -116,13 +123,56 @@ second_life_retention : letters (on (system_reset 0 ∷ Deliver 1 ∷ Enter 0 �
 unfolding computing sleep_of
 second_life_retention = refl
 
+-- core 3, behind the boot core, is the last one, and suspends the system
+system_suspended_by_core_3 : letters (on (off 0 ∷ Deliver 1 ∷ Take 1
+    ∷ call 3 0xc400000e 0x40000000 0 0 ∷ [])) ≡ codes "...d"
+unfolding computing sleep_of
+system_suspended_by_core_3 = refl
+
+-- a reset starts a core that sleeps, and when it has entered it sleeps no more
+reset_in_retention : letters (on (retention 3 ∷ Reset 3 ∷ [])) ≡ codes "R..S"
+unfolding computing sleep_of
+reset_in_retention = refl
+
+off_after_reset : letters (on (retention 3 ∷ Reset 3 ∷ Enter 3 ∷ off 3 ∷ [])) ≡ codes "R..g"
+unfolding computing sleep_of
+off_after_reset = refl
+
+-- in OS-initiated mode
+os_initiated : letters (on (off 3 ∷ call 0 0x8400000f 1 0 0 ∷ call 0 0xc4000001 1 0 0 ∷ []))
+    ≡ codes "b..g"
+unfolding computing sleep_of
+os_initiated = refl
+
+-- at height 1 and 3
+one_core_suspended : letters_of one_core 1 (Enter 0 ∷ call 0 0xc400000e 0x40000000 0 0 ∷ [])
+    ≡ codes "d"
+unfolding computing sleep_of
+one_core_suspended = refl
+
+other_group_in_retention : letters_of tall 4 (Enter 0 ∷ call 0 0xc4000003 0x10000 0x40001000 7
+    ∷ Deliver 0 ∷ Enter 2 ∷ retention 2 ∷ []) ≡ codes "R.r."
+unfolding computing sleep_of
+other_group_in_retention = refl
+
+-- the sleep of core 1, and none of those before and behind it
+abbrev some_sleep : Option Sleep
+some_sleep = Some (record { depth = 2; life = 3 })
+
+each_sleep : map (λ (c : ℕ). sleep_in (None ∷ some_sleep ∷ []) c) (0 ∷ 1 ∷ 2 ∷ [])
+    ≡ None ∷ some_sleep ∷ None ∷ []
+each_sleep = refl
+
 -- Depths --------------------------------------------------------------------------------------
 
--- the depth of a power domain after these events, with its mark
-abbrev shown : ℕ → ℕ → List Event → Option (List ℕ)
-shown level place events =
+-- the depth of a power domain of a board after these events, with its mark, and of this board
+abbrev shown_of : BoardValue → ℕ → ℕ → List Event → Option (List ℕ)
+shown_of b level place events =
     option_map depths_text
-    (depths_of board (run_from board [] events) (record { level = level; place = place }))
+    (depths_of b (run_from b [] events) (record { level = level; place = place }))
+
+abbrev shown : ℕ → ℕ → List Event → Option (List ℕ)
+shown level place events = shown_of board level place events
 
 -- core 3 is asked on: it is off, and not to be so
 asked_on : shown 0 3 (Enter 0 ∷ on_3 ∷ []) ≡ Some (codes "3!")
@@ -167,3 +217,25 @@ untold = refl
 no_depth : shown 0 3 (Enter 0 ∷ system_off 0 ∷ Deliver 0 ∷ []) ≡ None
 unfolding computing digits
 no_depth = refl
+
+-- core 3 is asked on in life 2
+asked_on_in_life_2 : shown 0 3 (on (system_reset 0 ∷ Deliver 1 ∷ Enter 0 ∷ on_3 ∷ []))
+    ≡ Some (codes "3!")
+unfolding computing digits
+asked_on_in_life_2 = refl
+
+-- core 2 of a board of height 3 is asked on: its cluster and its group are off, the system is on
+abbrev other_group : List Event
+other_group = Enter 0 ∷ call 0 0xc4000003 0x10000 0x40001000 7 ∷ []
+
+cluster_of_height_3 : shown_of tall 1 2 other_group ≡ Some (codes "3!")
+unfolding computing digits
+cluster_of_height_3 = refl
+
+group_of_height_3 : shown_of tall 2 1 other_group ≡ Some (codes "3!")
+unfolding computing digits
+group_of_height_3 = refl
+
+system_of_height_3 : shown_of tall 3 0 other_group ≡ Some (codes "0 ")
+unfolding computing digits
+system_of_height_3 = refl

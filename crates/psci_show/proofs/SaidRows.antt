@@ -67,6 +67,10 @@ no_migration : returned 0x84000006 (pos 2) ≡ codes "2, nothing to migrate"
 unfolding digits
 no_migration = refl
 
+other_migration : returned 0x84000006 (negsuc 0) ≡ codes "NOT_SUPPORTED"
+unfolding digits
+other_migration = refl
+
 no_flags : returned 0x8400000a (pos 0) ≡ codes "there, no flags"
 unfolding digits
 no_flags = refl
