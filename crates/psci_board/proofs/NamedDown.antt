@@ -21,7 +21,7 @@ next_field word k =
     rw (step, pow-add 2 (8 * k) 8) (div-div-eq-div-mul word (2 ^ (8 * k)) 256)
 
 -- where no place is named above, none is below
-pub none_up : (levels : List (List ℕ)) (word k : ℕ) → IsTree levels → k ≤ length levels
+none_up : (levels : List (List ℕ)) (word k : ℕ) → IsTree levels → k ≤ length levels
     → index_named (drop k levels) (word / 2 ^ (8 * k)) ≡ None → index_named levels word ≡ None
 none_up levels word zero t h e =
     let same : word / 2 ^ (8 * 0) ≡ word = div-one word in
@@ -107,6 +107,19 @@ highest levels k e =
     drop-cons levels k [] (omega arith)
     ∙ ap (λ (ws : List (List ℕ)). get_or levels k [] ∷ ws) (drop_all (suc k) levels next)
 
+-- nor is one on a level between
+pub none_above : (levels : List (List ℕ)) (word low k : ℕ) → IsTree levels → low ≤ k → k ≤ length levels
+    → index_named (drop k levels) (word / 2 ^ (8 * k)) ≡ None
+    → index_named (drop low levels) (word / 2 ^ (8 * low)) ≡ None
+none_above levels word zero k t l h e =
+    ap (index_named levels) (div-one word) ∙ none_up levels word k t h e
+none_above [] word (suc low) k t l h e = absurd (omega (arith, l, h))
+none_above (w ∷ ws) word (suc low) zero t l h e = absurd (omega (arith, l))
+none_above (w ∷ ws) word (suc low) (suc k) t l h e =
+    ap (index_named (drop low ws)) (sym (shifted (word / 256) word low refl))
+    ∙ none_above ws (word / 256) low k t.3 (omega (arith, l)) (omega (arith, h))
+    (ap (index_named (drop k ws)) (shifted (word / 256) word k refl) ∙ e)
+
 pub named_highest : (levels : List (List ℕ)) (word k : ℕ) → IsTree levels → k + 1 ≡ length levels
     → word / 2 ^ (8 * k) < sum (get_or levels k [])
     → index_named (drop k levels) (word / 2 ^ (8 * k)) ≡ Some (word / 2 ^ (8 * k))
@@ -115,10 +128,11 @@ named_highest levels word k t e h =
     ap (λ ls. index_named ls (word / 2 ^ (8 * k))) cut
     ∙ named_top (get_or levels k []) (word / 2 ^ (8 * k)) (subst IsTree cut (IsTree-drop k levels t)) h
 
-pub none_highest : (levels : List (List ℕ)) (word k : ℕ) → IsTree levels → k + 1 ≡ length levels
-    → sum (get_or levels k []) ≤ word / 2 ^ (8 * k) → index_named levels word ≡ None
-none_highest levels word k t e h =
+pub none_highest : (levels : List (List ℕ)) (word low k : ℕ) → IsTree levels → low ≤ k
+    → k + 1 ≡ length levels → sum (get_or levels k []) ≤ word / 2 ^ (8 * k)
+    → index_named (drop low levels) (word / 2 ^ (8 * low)) ≡ None
+none_highest levels word low k t l e h =
     let cut : drop k levels ≡ get_or levels k [] ∷ [] = highest levels k e in
-    none_up levels word k t (omega (arith, e))
+    none_above levels word low k t l (omega (arith, e))
     (ap (λ ls. index_named ls (word / 2 ^ (8 * k))) cut
     ∙ named_past (get_or levels k []) (word / 2 ^ (8 * k)) (subst IsTree cut (IsTree-drop k levels t)) h)

@@ -1,23 +1,24 @@
 //! Affinity words: one field of 8 bits for each level below the system.
 
-ghost use Rattle.std.specs.Prelude.{◌≡◌, ◌≤◌, length};
+ghost use Rattle.std.specs.Prelude.{◌≡◌, ◌≤◌, ◌*◌, ◌/◌, ◌^◌, drop, length};
 ghost use Rattle.psci_board.specs.Board.{IsTree};
 ghost use Rattle.psci_board.specs.Level.{index_named};
 
 use crate::level::Level;
 use crate::limits::MOST_LEVELS;
 
-/// The place on the level below these that a word names, its lowest field that of the place: from
-/// the highest level down, one step for each. The children of the system have one field and all
-/// that stands above it, so that no word with more is named.
-pub fn place_of(levels: &[Level], word: u64) -> Option<u16>
+/// The place on level `low` that a word names, by its field for this level and those for the levels
+/// above: from the highest level down, one step for each. The children of the system have one field
+/// and all that stands above it, so that no word with more is named.
+pub fn place_of(levels: &[Level], word: u64, low: u32) -> Option<u16>
     requires tree { IsTree levels.now }
     requires high { length levels.now ≤ MOST_LEVELS }
-    ensures { result ≡ index_named levels.now word }
+    requires low { low ≤ length levels.now }
+    ensures { result ≡ index_named (drop low levels.now) (word / 2 ^ (8 * low)) }
 {
     let count = levels.len() as u32;
-    if count == 0 {
-        return (word == 0).then_some(0);
+    if low == count {
+        return (word >> (8 * low) == 0).then_some(0);
     }
     let top = count - 1;
     let highest = word >> (8 * top);
@@ -26,7 +27,7 @@ pub fn place_of(levels: &[Level], word: u64) -> Option<u16>
     }
     let fields = word.to_le_bytes();
     let mut place = highest as u16;
-    for level in (0..top).rev() {
+    for level in (low..top).rev() {
         let field = u32::from(fields[level as usize]);
         place = levels[level as usize].own_child(place, field)?;
     }

@@ -120,7 +120,7 @@ impl Board {
         ensures core { result ≡ core_of self.now word }
         ensures inside { IfSome result (λ core. core.number < cores self.now) }
     {
-        let place = place_of(&self.levels, word)?;
+        let place = place_of(&self.levels, word, 0)?;
         Some(Core { number: place })
     }
 
@@ -133,8 +133,7 @@ impl Board {
         if level > self.height() {
             return None;
         }
-        let (_, above) = self.levels.split_at(level as usize);
-        let place = place_of(above, word >> (8 * level))?;
+        let place = place_of(&self.levels, word, level)?;
         Some(Node { level, place })
     }
 

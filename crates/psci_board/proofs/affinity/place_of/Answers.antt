@@ -2,20 +2,20 @@ use Rattle.std.proofs.Common.{◌≡◌, ◌<◌, ◌+◌, ◌-◌, ◌*◌, ◌
 use Rattle.std.proofs.Common.{ap, sym, subst, arith, sum, Some}
 use Rattle.std.specs.Int.{w64, to_le_bytes}
 use Rattle.std.proofs.lemmas.List.{get_or_default}
-use Rattle.std.proofs.Math.Nat.{div-one}
 use Rattle.psci_board.specs.Level.{index_named, child_in}
-use Rattle.psci_board.proofs.NamedDown.{none_up, field_step, none_highest, named_highest, inside_step}
+use Rattle.psci_board.proofs.NamedDown.{none_above, field_step, none_highest, named_highest, inside_step}
 use Rattle.psci_board.proofs.affinity.place_of.Goals as goal
 
 pub returns-then-highest-from : goal.returns-then-highest-from
 returns-then-highest-from c =
     let levels : List (List ℕ) = c.args.levels.now in
     let m : ℕ = length levels - 1 in
-    let fits : m < length levels = omega (arith, c.if-count-eq0.false) in
+    let fits : m < length levels = omega (arith, c.if-low-count.false) in
     let own : List ℕ = c.index-levels-top.result in
     let level : own ≡ get_or levels m [] =
     c.index-levels-top.is ∙ get_or_default levels m own [] fits in
-    sym (none_highest levels c.args.word m c.requires.tree (omega (arith, fits)) (omega (
+    sym (none_highest levels c.args.word c.args.low m c.requires.tree
+    (omega (arith, c.requires.low, c.if-low-count.false)) (omega (arith, fits)) (omega (
       arith,
       c.if-highest-from.true,
       c.from.ensures,
@@ -27,17 +27,19 @@ pub loop-level-init : goal.loop-level-init
 loop-level-init c =
     let levels : List (List ℕ) = c.args.levels.now in
     let m : ℕ = length levels - 1 in
-    let fits : m < length levels = omega (arith, c.if-count-eq0.false) in
+    let fits : m < length levels = omega (arith, c.if-low-count.false) in
     let own : List ℕ = c.index-levels-top.result in
     let level : own ≡ get_or levels m [] =
-    c.index-levels-top.is ∙ get_or_default levels m own [] fits in
-    named_highest levels c.args.word m c.requires.tree (omega (arith, fits)) (omega (
-      arith,
-      c.if-highest-from.false,
-      c.from.ensures,
-      c.all_children.ensures,
-      ap (λ (w : List ℕ). sum w) level,
-    ))
+    c.index-levels-top.is ∙ get_or_default levels m own [] fits in (
+      omega (arith, c.requires.low, c.if-low-count.false),
+      named_highest levels c.args.word m c.requires.tree (omega (arith, fits)) (omega (
+        arith,
+        c.if-highest-from.false,
+        c.from.ensures,
+        c.all_children.ensures,
+        ap (λ (w : List ℕ). sum w) level,
+      )),
+    )
 
 pub own_child-requires : goal.own_child-requires
 own_child-requires c =
@@ -52,7 +54,7 @@ own_child-requires c =
       arith,
       inside_step levels c.args.word m c.loop-level.place c.requires.tree fits
           (subst (λ j. index_named (drop j levels) (c.args.word / 2 ^ (8 * j)) ≡ Some c.loop-level.place)
-          (sym next) c.loop-level.invariant),
+          (sym next) c.loop-level.invariant.1),
       ap (λ (w : List ℕ). length w) level,
     )
 
@@ -64,16 +66,18 @@ loop-level-preserved c =
     let fits : m < length levels = omega (arith, c.loop-level-test.true) in
     let own : List ℕ = c.index-levels-level.result in
     let level : own ≡ get_or levels m [] =
-    c.index-levels-level.is ∙ get_or_default levels m own [] fits in
-    field_step levels c.args.word m c.loop-level.place c.requires.tree fits
-    (omega (arith, fits, c.requires.high))
-    (subst (λ j. index_named (drop j levels) (c.args.word / 2 ^ (8 * j)) ≡ Some c.loop-level.place)
-    (sym next) c.loop-level.invariant)
-    ∙ ap (λ (w : List ℕ). child_in w c.loop-level.place (get_or (to_le_bytes w64 c.args.word) m 0))
-    (sym level)
-    ∙ ap (λ bs. child_in own c.loop-level.place (get_or bs m 0)) (sym c.to_le_bytes-fields.ensures)
-    ∙ ap (child_in own c.loop-level.place) (sym c.from-field.ensures)
-    ∙ sym c.in_ok-place.ensures
+    c.index-levels-level.is ∙ get_or_default levels m own [] fits in (
+      omega (arith, c.loop-level-test.true),
+      field_step levels c.args.word m c.loop-level.place c.requires.tree fits
+          (omega (arith, fits, c.requires.high))
+          (subst (λ j. index_named (drop j levels) (c.args.word / 2 ^ (8 * j)) ≡ Some c.loop-level.place)
+          (sym next) c.loop-level.invariant.1)
+          ∙ ap (λ (w : List ℕ). child_in w c.loop-level.place (get_or (to_le_bytes w64 c.args.word) m 0))
+          (sym level)
+          ∙ ap (λ bs. child_in own c.loop-level.place (get_or bs m 0)) (sym c.to_le_bytes-fields.ensures)
+          ∙ ap (child_in own c.loop-level.place) (sym c.from-field.ensures)
+          ∙ sym c.in_ok-place.ensures,
+    )
 
 pub returns-in_err-place : goal.returns-in_err-place
 returns-in_err-place c =
@@ -89,18 +93,18 @@ returns-in_err-place c =
     field_step levels c.args.word m c.loop-level.place c.requires.tree fits
     (omega (arith, fits, c.requires.high))
     (subst (λ j. index_named (drop j levels) (c.args.word / 2 ^ (8 * j)) ≡ Some c.loop-level.place)
-    (sym next) c.loop-level.invariant)
+    (sym next) c.loop-level.invariant.1)
     ∙ ap (λ (w : List ℕ). child_in w c.loop-level.place (get_or (to_le_bytes w64 c.args.word) m 0))
     (sym level)
     ∙ ap (λ bs. child_in own c.loop-level.place (get_or bs m 0)) (sym c.to_le_bytes-fields.ensures)
     ∙ ap (child_in own c.loop-level.place) (sym c.from-field.ensures) in
-    rw c.from_residual.ensures (sym (none_up levels c.args.word m c.requires.tree
-    (omega (arith, fits)) (named ∙ sym c.in_err-place.ensures)))
+    rw c.from_residual.ensures (sym (none_above levels c.args.word c.args.low m c.requires.tree
+    (omega (arith, c.loop-level-test.true)) (omega (arith, fits)) (named ∙ sym c.in_err-place.ensures)))
 
 pub returns : goal.returns
 returns c =
     let levels : List (List ℕ) = c.args.levels.now in
-    let last : c.loop-level.level ≡ 0 = omega (arith, c.loop-level-test.false) in
-    sym (ap (index_named levels) (sym (div-one c.args.word))
-    ∙ subst (λ j. index_named (drop j levels) (c.args.word / 2 ^ (8 * j)) ≡ Some c.loop-level.place)
-    last c.loop-level.invariant)
+    let last : c.loop-level.level ≡ c.args.low =
+    omega (arith, c.loop-level-test.false, c.loop-level.invariant.0) in
+    sym (subst (λ j. index_named (drop j levels) (c.args.word / 2 ^ (8 * j)) ≡ Some c.loop-level.place)
+    last c.loop-level.invariant.1)

@@ -1,18 +1,25 @@
-use Rattle.std.proofs.Common.{refl, sym}
+use Rattle.std.proofs.Common.{◌≡◌, ◌*◌, ◌/◌, ◌^◌, ℕ, List, drop, refl, sym, ap}
+use Rattle.std.proofs.Math.Nat.{div-one}
 use Rattle.psci_board.specs.Board.{core_of}
+use Rattle.psci_board.specs.Level.{index_named}
 use Rattle.psci_board.proofs.Named.{core_inside}
 use Rattle.psci_board.proofs.board.Board.core_of.Goals as goal
+
+-- the fields from those of a core up are the whole word
+whole : (levels : List (List ℕ)) (word : ℕ)
+    → index_named (drop 0 levels) (word / 2 ^ (8 * 0)) ≡ index_named levels word
+whole levels word = ap (index_named levels) (div-one word)
 
 pub returns-in_err-place-clause-core : goal.returns-in_err-place-clause-core
 unfolding core_of
 returns-in_err-place-clause-core c =
-    let e = rw c.deref.ensures.value at c.in_err-place.ensures in
+    let e = rw (c.deref.ensures.value, whole _ c.args.word) at c.in_err-place.ensures in
     rw (c.from_residual.ensures, ← c.self.view_is) (rw (← e) refl)
 
 pub returns-clause-core : goal.returns-clause-core
 unfolding core_of
 returns-clause-core c =
-    let e = rw c.deref.ensures.value at c.in_ok-place.ensures in
+    let e = rw (c.deref.ensures.value, whole _ c.args.word) at c.in_ok-place.ensures in
     rw (← c.self.view_is) (rw (← e) refl)
 
 pub returns-clause-inside : goal.returns-clause-inside

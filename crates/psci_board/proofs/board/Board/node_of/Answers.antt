@@ -1,7 +1,5 @@
 use Rattle.std.proofs.Common.{sym, refl, arith, ◌<◌, ◌≤◌}
-use Rattle.std.proofs.lemmas.List.{length-drop}
 use Rattle.psci_board.specs.Board.{height}
-use Rattle.psci_board.proofs.Levels.{IsTree-drop}
 use Rattle.psci_board.proofs.Readers.{node_of-above, node_of-within}
 use Rattle.psci_board.proofs.board.Board.node_of.Goals as goal
 
@@ -12,28 +10,14 @@ returns-then-level-height c =
 
 pub returns-in_err-place : goal.returns-in_err-place
 returns-in_err-place c =
-    let above = rw c.deref.ensures.value at c.split_at.ensures.back in
-    let e = rw above at c.in_err-place.ensures in
+    let e = rw c.deref.ensures.value at c.in_err-place.ensures in
     let low : c.args.level ≤ height c.args.self.now = omega (arith, c.height.ensures.height) in
     let within = node_of-within c.args.self.now c.args.word c.args.level low in
     rw (c.from_residual.ensures, within, ← c.self.view_is) (rw (← e) refl)
 
 pub returns : goal.returns
 returns c =
-    let above = rw c.deref.ensures.value at c.split_at.ensures.back in
-    let e = rw above at c.in_ok-place.ensures in
+    let e = rw c.deref.ensures.value at c.in_ok-place.ensures in
     let low : c.args.level ≤ height c.args.self.now = omega (arith, c.height.ensures.height) in
     let within = node_of-within c.args.self.now c.args.word c.args.level low in
     rw (within, ← c.self.view_is) (rw (← e) refl)
-
-pub place_of-requires : goal.place_of-requires
-place_of-requires c =
-    let above = rw c.deref.ensures.value at c.split_at.ensures.back in
-    record {
-      tree = rw above (IsTree-drop c.args.level _ c.self.invariant.tree);
-      high = rw above (omega (
-        arith,
-        length-drop c.args.level c.self.inside.levels.items,
-        c.self.invariant.high,
-      ));
-    }
