@@ -12,13 +12,14 @@ use Rattle.psci_world_spec.specs.psci_fw_spec.declared.reply.FwReply.TheVariants
 use Rattle.psci_world_spec.specs.psci_link.declared.start.Cause.TheVariants as causes
 use Rattle.psci_world_spec.specs.psci_link.declared.taken.Taken.TheVariants as takens
 use Rattle.psci_world_spec.specs.psci_link.Message.{MessageValue}
+use Rattle.psci_world_spec.specs.declared.event.Event.TheVariants.{Enter}
 use Rattle.psci_world_spec.specs.declared.said.Said.{Said}
 use Rattle.psci_world_spec.specs.declared.said.Said.TheVariants.{Absent, Acked, Fw, Ignored, Kick}
 use Rattle.psci_world_spec.specs.declared.said.Said.TheVariants.{Taken}
 use Rattle.psci_world_spec.proofs.Scripts.{board}
 use Rattle.psci_world.specs.Seen.{WorldValue}
-use Rattle.psci_audit_spec.proofs.ListRows.{ack_3, boots, judging, start, start_3}
-use Rattle.psci_audit.specs.Following.{Follows}
+use Rattle.psci_audit_spec.proofs.ListRows.{ack_3, boots, judging, start, start_3, version}
+use Rattle.psci_audit.specs.Following.{Follows, IsStep}
 use Rattle.psci_audit.specs.Replies.{SaysDelivery, SaysKick, SaysOutcome, SaysTaken}
 
 -- Outcomes -------------------------------------------------------------------------------------
@@ -78,6 +79,10 @@ ignored_so = refl
 ignored_otherwise : SaysDelivery Ignored (replied.Delivery (deliveries.Applied ack_3)) → ⊥
 ignored_otherwise says = let e : 1 ≡ 9 = ap applied_in says in omega (arith, e)
 
+-- there is no message of that number, and nothing became of it
+no_message : SaysDelivery Absent (replied.Delivery deliveries.Ignored) → ⊥
+no_message says = says
+
 -- Starts ---------------------------------------------------------------------------------------
 
 started_so : SaysKick (Kick (start 2 causes.Reset))
@@ -111,3 +116,32 @@ without_a_record follows = follows.1
 not_refused : Follows new new [] boots false → ⊥
 unfolding judging
 not_refused refused = refused (omega arith, refl, refl, tt, refl)
+
+-- the boot core has entered, as one record tells
+abbrev entered : WorldValue
+entered = record {
+  board = board;
+  past = record { event = Enter 0; said = Fw (acts.Enter 0x40000000 0) None } ∷ [];
+}
+
+enters_first : Follows new entered [] boots true
+unfolding judging
+enters_first = ((omega arith, refl, refl, tt, refl), ((start 1 causes.Boot, refl, refl), tt))
+
+-- a core calls that has not entered, whatever is told of it
+calls_first : (told : WorldValue) → Follows new told [] (version 0 65537) true → ⊥
+unfolding judging
+calls_first told follows = let e = follows.0.1 in cc
+
+-- no record tells no entry, and nothing else
+first_step : IsStep new entered boots true
+unfolding judging
+first_step [] told = ((omega arith, refl, refl, tt, refl), ((start 1 causes.Boot, refl, refl), tt))
+first_step (e ∷ entries) told = absurd told
+
+-- after the record of its entry the boot core does not enter again
+second_step : (told : WorldValue) → IsStep entered told boots true → ⊥
+unfolding judging
+second_step told is =
+    let follows = is (boots ∷ []) ((start 1 causes.Boot, refl, refl), tt) in
+    let e = follows.0.1 in cc

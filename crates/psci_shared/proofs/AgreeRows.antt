@@ -10,6 +10,7 @@ use Rattle.psci_fw.specs.psci_fw_spec.declared.fault.FwFault.TheVariants.{NoCore
 use Rattle.psci_fw.specs.psci_fw_spec.declared.fault.FwFault.TheVariants.{NotRunning, OldStart}
 use Rattle.psci_fw.specs.psci_fw_spec.declared.reply.FwReply.{FwReply}
 use Rattle.psci_fw.specs.psci_fw_spec.declared.reply.FwReply.TheVariants.{Out, Taken, Fault}
+use Rattle.psci_link.specs.declared.start.Cause.TheVariants.{On}
 use Rattle.psci_shared.specs.declared.entry.FwEntry.{FwEntry}
 use Rattle.psci_shared.specs.declared.entry.FwItem.{FwItem}
 use Rattle.psci_shared.specs.declared.fault.GatherCause.TheVariants.{Astray, Missing}
@@ -105,6 +106,15 @@ another_call h = let e : ◌≡◌ {A = ℕ} 1 7 = ap word h.0.1.1 in omega arit
 
 another_reply : AllStandFrom entries (core 0) 0 (item 0 (ask 1) (Fault OldStart) ∷ []) → ⊥
 another_reply h = let e : ◌≡◌ {A = ℕ} 1 4 = ap number h.0.1.2 in omega arith
+
+-- core 1 called a function, and the item says that it entered in life 2
+entered_where_called : AllStandFrom entries (core 1) 0
+    (item 1 (Enter (record { life = 2; number = 1; cause = On })) (Fault NotRunning) ∷ []) → ⊥
+entered_where_called h = let e : ◌≡◌ {A = ℕ} 2 0 = ap word h.0.1.1 in omega arith
+
+-- it was refused since core 1 does not run, and the item says since there is no such core
+refused_otherwise : AllStandFrom entries (core 1) 0 (item 1 (ask 2) (Fault NoCore) ∷ []) → ⊥
+refused_otherwise h = let e : ◌≡◌ {A = ℕ} 2 3 = ap number h.0.1.2 in omega arith
 
 -- the same entry twice; entries in the wrong order
 place_twice : AllStandFrom entries (core 1) 0

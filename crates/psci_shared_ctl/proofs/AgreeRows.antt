@@ -88,6 +88,10 @@ is_kick (Delivery delivery) = 0
 another_call : AllStandFrom entries 0 (item 0 (wake 7) ignored ∷ []) → ⊥
 another_call h = let e : ◌≡◌ {A = ℕ} 1 7 = ap number h.0.1.0 in omega arith
 
+-- the core was reset, and the item says that it was woken
+woken_where_reset : AllStandFrom entries 0 (item 1 (wake 3) ignored ∷ []) → ⊥
+woken_where_reset h = let e : ◌≡◌ {A = ℕ} 8 3 = ap number h.0.1.0 in omega arith
+
 another_reply : AllStandFrom entries 0 (item 0 (wake 1) (Delivery deliveries.Ignored) ∷ []) → ⊥
 another_reply h = let e : ◌≡◌ {A = ℕ} 1 0 = ap is_kick h.0.1.1 in omega arith
 
