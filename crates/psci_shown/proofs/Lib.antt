@@ -1,3 +1,6 @@
+mod JsonRows
+mod LayoutRows
+mod ScriptRows
 mod ShownRows
 pub mod Finish
 pub mod Shows
