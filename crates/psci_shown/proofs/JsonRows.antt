@@ -1,7 +1,7 @@
 -- Known runs as JSON: each state, place, kind and event by its word; boards of height 1 and of
 -- uneven clusters; acknowledgements in another order than their messages; no life, a halting one,
 -- the next.
-use Rattle.std.proofs.Common.{◌≡◌, ℕ, List, [], ◌∷◌, ◌++◌, None, map, refl, false, true}
+use Rattle.std.proofs.Common.{◌≡◌, ℕ, List, [], ◌∷◌, ◌++◌, None, map, refl, true}
 use Rattle.std.specs.Prelude.{codes}
 use Rattle.std.specs.Fmt.{digits}
 use Rattle.psci_world_spec.specs.psci_fw_spec.psci_link.declared.kind.Kind.TheVariants as kinds
