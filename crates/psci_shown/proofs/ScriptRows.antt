@@ -26,14 +26,14 @@ use Rattle.psci_shown.specs.declared.form.Form.{Form}
 use Rattle.psci_shown.specs.declared.form.Form.TheVariants.{Json, Lines}
 
 -- what an example unfolds to show a script that is written out
-unfoldable showing : Unit {0}
+unfoldable pub showing : Unit {0}
 unfolding shown shown_of_rest lines line_of event_at call_at alone_at register_at
     optional_register_at spaced_at hex_at number_at literal_at board_of verdict board_text tree_at
     member_at list_at more_at at_most range_at computing digits sleep_of answered
 showing = tt
 
 -- lines of 80 columns, behind a legend or not
-abbrev plain : Form
+abbrev pub plain : Form
 plain = Lines (record { width = 80; color = false; legend = false })
 
 abbrev explained : Form
