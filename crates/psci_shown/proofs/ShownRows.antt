@@ -1,9 +1,9 @@
 -- What known runs are shown as, in lines and as JSON.
-use Rattle.std.proofs.Common.{◌≡◌, ℕ, List, [], ◌∷◌, ◌++◌, refl, false, true, Ok, Err}
+use Rattle.std.proofs.Common.{◌≡◌, ℕ, List, [], ◌∷◌, ◌++◌, refl, false}
 use Rattle.std.specs.Prelude.{codes}
 use Rattle.std.specs.Fmt.{digits}
 use Rattle.psci_world_spec.specs.declared.event.Event.{Event}
-use Rattle.psci_world_spec.specs.declared.event.Event.TheVariants.{Call, Deliver, Enter, Take}
+use Rattle.psci_world_spec.specs.declared.event.Event.TheVariants.{Call, Deliver, Enter}
 use Rattle.psci_world_spec.specs.Legal.{run_from}
 use Rattle.psci_world_spec.proofs.Scripts.{board, computing, on_3}
 use Rattle.psci_show.specs.Columns.{sleep_of}
