@@ -1,5 +1,5 @@
 -- Worked examples: what an audit answers, and what it does not.
-use Rattle.std.proofs.Common.{◌≡◌, ℕ, List, [], ◌∷◌, ◌++◌, None, Some, Ok, Err, true, false, pos}
+use Rattle.std.proofs.Common.{◌≡◌, ℕ, [], ◌∷◌, ◌++◌, None, Some, Ok, Err, true, false, pos}
 use Rattle.std.proofs.Common.{ap, refl, arith, length, length-append, reverse}
 use Rattle.std.proofs.lemmas.List.{length-reverse}
 use Rattle.psci_world_spec.specs.psci_fw_spec.declared.call.FwCall.TheVariants as calls
@@ -9,12 +9,10 @@ use Rattle.psci_world_spec.specs.psci_fw_spec.declared.reply.FwReply.TheVariants
 use Rattle.psci_world_spec.specs.psci_link.declared.start.Cause.TheVariants as causes
 use Rattle.psci_world_spec.proofs.Scripts.{board}
 use Rattle.psci_shared.specs.declared.entry.FwEntry.{FwEntry}
-use Rattle.psci_audit_spec.specs.Entries.{Entry}
-use Rattle.psci_audit_spec.specs.Legal.{IsLegal}
 use Rattle.psci_audit_spec.proofs.ListRows.{boots, judging, number_in, start, version}
 use Rattle.psci_audit.specs.declared.fault.AuditFault.TheVariants.{Ticket, Illegal, Memory}
 use Rattle.psci_audit.specs.Merged.{IsFault, IsFirstIllegal, IsFollowed, IsJudged, IsSound}
-use Rattle.psci_audit.specs.Merged.{asked_by, history_of, merged}
+use Rattle.psci_audit.specs.Merged.{asked_by, merged}
 
 unfoldable auditing : Unit {0}
 unfolding judging merged
