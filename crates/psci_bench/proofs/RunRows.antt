@@ -8,6 +8,7 @@ use Rattle.std.specs.Io.KnownBytes.{Appends, Consumes}
 use Rattle.psci_script.specs.psci_board.Board.{BoardValue}
 use Rattle.psci_script.specs.psci_board_text.declared.fault.BoardFault.TheVariants.{Grammar}
 use Rattle.psci_script.specs.psci_world_spec.psci_fw_spec.declared.outcome.Act.TheVariants as acts
+use Rattle.psci_script.specs.psci_world_spec.declared.event.Event.{Event}
 use Rattle.psci_script.specs.psci_world_spec.declared.event.Event.TheVariants.{Deliver, Enter}
 use Rattle.psci_script.specs.psci_world_spec.declared.event.Event.TheVariants.{Take, Wake}
 use Rattle.psci_script.specs.psci_world_spec.declared.said.Record.{Record}
@@ -117,6 +118,10 @@ abbrev levels_of : Option ScriptRun → List (List ℕ)
 levels_of None = []
 levels_of (Some run) = run.board.levels
 
+-- what is not there
+abbrev absent : Event → Record
+absent event = record { event = event; said = Absent }
+
 -- a start at the boot address
 abbrev entered : ℕ → ℕ → Record
 entered c address = record { event = Enter c; said = Fw (acts.Enter address 0) None }
@@ -134,8 +139,7 @@ from_line_2 b ls = refl
 two_absent : (b : BoardValue) → run_on (Ok b) (codes "deliver 4" ∷ codes "take 2" ∷ [])
     ≡ Some (record {
       board = b;
-      past =
-          record { event = Take 2; said = Absent } ∷ record { event = Deliver 4; said = Absent } ∷ [];
+      past = absent (Take 2) ∷ absent (Deliver 4) ∷ [];
     })
 unfolding events_of answering
 two_absent b = refl
