@@ -1,2 +1,3 @@
+mod RunRows
 pub mod ScriptRuns
 pub mod UnderWay
