@@ -36,8 +36,6 @@ fn line_feed(bytes: &[u8]) -> Option<usize>
 }
 
 /// What is at the front of these bytes.
-// In place, since a call would say by a number what is then asked again, on each line.
-#[inline(always)]
 pub fn cut(bytes: &[u8]) -> Front
     ensures { IsFrontOf result bytes.now }
 {
