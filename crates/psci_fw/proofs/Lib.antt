@@ -1,3 +1,4 @@
 mod Answered
+mod Fresh
 mod SeenRows
 mod Stopping

@@ -1,11 +1,14 @@
-//! What holds of the claims of cores that stop, for proofs. The law is the contract of a function
-//! that does nothing.
+//! What holds of the claims of cores that stop, and of a firmware that no core has entered, for
+//! proofs. Each law is the contract of a function that does nothing.
 
 ghost use Rattle.std.specs.Prelude.{◌≡◌, ◌<◌, ◌&&◌, ℕ, List, None, Ok, false, not, true};
 ghost use Rattle.psci_board.specs.Board.{BoardValue, IsBoard, cores, height, may_enter};
 ghost use Rattle.psci_coord.specs.psci_parts.declared.part.Part.{Part};
 ghost use Rattle.psci_state.specs.Ask.{deepest_of, is_deep};
 ghost use Rattle.psci_link.specs.declared.start.Start.{Start};
+ghost use Rattle.psci_fw_spec.specs.declared.call.FwCall.{FwCall};
+ghost use Rattle.psci_fw_spec.specs.After.{after};
+ghost use Rattle.psci_fw_spec.specs.Answer.{answer};
 ghost use Rattle.psci_fw_spec.specs.Changes.{with_arrival};
 ghost use Rattle.psci_fw_spec.specs.Claims.{off_parts, suspend_parts};
 ghost use Rattle.psci_fw_spec.specs.CpuSuspend.{ask_named};
@@ -15,11 +18,12 @@ ghost use Rattle.psci_fw_spec.specs.Lives.{in_life};
 ghost use Rattle.psci_fw_spec.specs.Phases.{Running};
 ghost use Rattle.psci_fw_spec.specs.SystemCalls.{all_others, is_off_status};
 ghost use Rattle.psci_fw_spec.specs.Values.{Values};
+ghost use Rattle.psci_fw.specs.Seen.{IsFresh};
 ghost use Rattle.psci_fw_state.specs.Claims.{MayClaim};
 
 use psci_board::law_paths;
 use psci_coord::{law_claims, law_last_core};
-use psci_fw_spec::law_invariant;
+use psci_fw_spec::{law_caller, law_enters, law_invariant};
 
 /// The claims of cores that stop may be granted.
 pub fn law_may_claim()
@@ -49,4 +53,16 @@ pub fn law_may_claim()
     law_paths();
     law_claims();
     law_last_core();
+}
+
+/// A firmware that no core has entered is as at the start of a life: it is in another one once that
+/// is its life, and it stays so until a core enters.
+pub fn law_fresh()
+    ensures begun { (b : BoardValue) (v : Values) (life : ℕ) → v.life ≡ 0 → IsFresh b v
+        → record v { life = life } ≡ in_life b life v }
+    ensures kept { (b : BoardValue) (v : Values) (c : ℕ) (call : FwCall) → IsFresh b v
+        → IsFresh b (after b c call (answer b v c call) v) }
+{
+    law_caller();
+    law_enters();
 }
