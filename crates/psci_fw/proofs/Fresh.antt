@@ -4,7 +4,7 @@ use Rattle.std.proofs.Common.{Option, None, Some, refl, sym, subst, ap, arith, â
 use Rattle.std.proofs.lemmas.Bool.{eqb-true}
 use Rattle.std.proofs.lemmas.Bool.Decides.{nat_tests}
 use Rattle.psci_board.specs.Board.{BoardValue, cores}
-use Rattle.psci_abi.specs.declared.regs.Regs.{Regs}
+use Rattle.psci_abi.specs.declared.registers.Regs.{Regs}
 use Rattle.psci_link.specs.Message.{AckValue}
 use Rattle.psci_link.specs.declared.start.Start.{Start}
 use Rattle.psci_link.specs.declared.taken.Taken.{Taken}
