@@ -229,6 +229,52 @@ front() {
     answers "./psci replay without a proved program"
 }
 
+# Without the whole program ./psci replays by the one that only replays, while no source of a crate
+# below it is newer. Here another command stands for it, and one that fails for the kit's.
+replaying() {
+    local fresh=$work/replaying name at=crates/psci_replay/out
+    for name in crates/*/src; do
+        mkdir -p "$fresh/$name"
+        echo "//! Nothing." > "$fresh/$name/lib.rt"
+    done
+    cp psci crates.txt "$fresh"
+    mkdir "$fresh/$at" "$fresh/kit"
+    printf '#!/bin/sh\nexit 1\n' > "$fresh/kit/rt"
+    chmod +x "$fresh/kit/rt"
+    printf '#!/bin/sh\necho replayed\n' > "$fresh/$at/psci_replay"
+    chmod +x "$fresh/$at/psci_replay"
+    touch -d "1 minute" "$fresh/crates/psci_storm/src/lib.rt"
+    front_of "$fresh" replay
+    echo replayed > "$work/lines"
+    expect "./psci replay by the program that only replays" 0
+    answers "./psci replay by the program that only replays"
+    PATH=$fresh/kit:$PATH front_of "$fresh" replay --help
+    expect_unproved "./psci replay with a further word"
+    touch -d "1 minute" "$fresh/crates/psci_world/src/lib.rt"
+    PATH=$fresh/kit:$PATH front_of "$fresh" replay
+    expect_unproved "./psci replay by a program that is older than a source"
+}
+
+# expect_unproved NAME: the run before began unproved
+expect_unproved() {
+    if head -n 1 "$work/err" | grep -q "^psci: nothing of this run is proved"; then pass; else
+        fail "$1: $(head -n 1 "$work/err")"
+    fi
+}
+
+# the program that only replays answers each example as the whole one does, whatever its words
+replay_program() {
+    local file whole=$program
+    program=$top/crates/psci_replay/out/psci_replay
+    [ -x "$program" ] || { skip "the program that only replays" "$program"; program=$whole; return; }
+    for file in examples/*.psci tests/scripts/lines/*.psci; do script "${file%.psci}"; done
+    one_entry
+    run < "$work/script"
+    expect "the program that only replays, without a word" 0
+    answers "the program that only replays, without a word"
+    program=$whole
+}
+
 # ./psci prove proves each crate that the program stands on, once, and keeps what is built. Here a
 # command stands for the kit's, which says of each crate in its folder that it is proved.
 proving() {

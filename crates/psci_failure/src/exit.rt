@@ -1,12 +1,14 @@
-//! How the program ends: exit statuses, and what standard error says.
+//! Failures: their exit statuses, what standard error says of them, and how the program ends.
 
 ghost use Rattle.std.specs.Prelude.{◌≡◌, ◌++◌, ◌∷◌, [], OnOk};
 ghost use Rattle.std.specs.Io.KnownBytes.{Appends};
-ghost use Rattle.psci_command.specs.Exit.{failure_report, status_of};
+ghost use Rattle.std.specs.Process.{exit_status};
+ghost use Rattle.psci_failure.specs.Exit.{ended_status, failure_report, status_of};
 
 use psci_script::{BoardFault, ReplayFault, ScriptFault};
 use std::fmt;
 use std::io::{self, Write};
+use std::process::ExitCode;
 
 /// Why the program ended before it was done.
 #[derive(Clone, Copy, Debug, PartialEq, Eq)]
@@ -64,6 +66,19 @@ impl Failure {
     }
 }
 
+/// Ends the program: a failure is told on standard error, and the exit status says it too.
+pub fn end(rt: &HostRuntime, ended: Result<(), Failure>) -> ExitCode
+    ensures { exit_status result ≡ ended_status ended }
+{
+    match ended {
+        Ok(()) => ExitCode::SUCCESS,
+        Err(failure) => {
+            failure.tell(rt);
+            ExitCode::from(failure.status())
+        }
+    }
+}
+
 /// Writes the line that standard error has of a failure.
 fn write_report<W: Write>(to: &mut W, failure: Failure) -> io::Result<()>
     ensures { OnOk result (Appends (W.contents to.old) (W.contents to.new)
@@ -86,7 +101,7 @@ struct BoardReport(BoardFault);
 
 /// The number of a script fault.
 fn script_code(fault: ScriptFault) -> u8
-    ensures { result ≡ Rattle.psci_command.specs.Exit.script_code fault }
+    ensures { result ≡ Rattle.psci_failure.specs.Exit.script_code fault }
 {
     match fault {
         ScriptFault::NoBoard => 1,
@@ -98,7 +113,7 @@ fn script_code(fault: ScriptFault) -> u8
 
 /// The number of a board fault.
 fn board_code(fault: BoardFault) -> u8
-    ensures { result ≡ Rattle.psci_command.specs.Exit.board_code fault }
+    ensures { result ≡ Rattle.psci_failure.specs.Exit.board_code fault }
 {
     match fault {
         BoardFault::Grammar => 1,
@@ -114,7 +129,7 @@ fn board_code(fault: BoardFault) -> u8
 
 impl fmt::Display for FailureReport {
     ghost use Rattle.std.specs.Prelude.{Some};
-    ghost use Rattle.psci_command.specs.Exit.{failure_report};
+    ghost use Rattle.psci_failure.specs.Exit.{failure_report};
 
     ghost output = { λ r. Some (failure_report r.0) };
 
@@ -134,7 +149,7 @@ impl fmt::Display for FailureReport {
 
 impl fmt::Display for Report {
     ghost use Rattle.std.specs.Prelude.{Some};
-    ghost use Rattle.psci_command.specs.Exit.{report};
+    ghost use Rattle.psci_failure.specs.Exit.{report};
 
     ghost output = { λ r. Some (report r.0) };
 
@@ -158,7 +173,7 @@ impl fmt::Display for Report {
 
 impl fmt::Display for BoardReport {
     ghost use Rattle.std.specs.Prelude.{Some};
-    ghost use Rattle.psci_command.specs.Exit.{given_board_report};
+    ghost use Rattle.psci_failure.specs.Exit.{given_board_report};
 
     ghost output = { λ r. Some (given_board_report r.0) };
 

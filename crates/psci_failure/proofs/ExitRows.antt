@@ -1,16 +1,17 @@
 -- The exit status and the text of each row of the exit table.
-use Rattle.std.proofs.Common.{◌≡◌, [], refl}
+use Rattle.std.proofs.Common.{◌≡◌, [], Ok, Err, refl}
 use Rattle.std.specs.Prelude.{codes}
 use Rattle.std.specs.Fmt.{digits}
 use Rattle.psci_script.specs.psci_board_text.declared.fault.BoardFault.TheVariants as boards
 use Rattle.psci_script.specs.declared.fault.ReplayFault.TheVariants.{Script, Board, Read, Write}
 use Rattle.psci_script.specs.declared.fault.ReplayFault.TheVariants.{Memory}
 use Rattle.psci_script.specs.declared.fault.ScriptFault.TheVariants as scripts
-use Rattle.psci_command.specs.declared.exit.AuditFailure.TheVariants.{Ticket, Illegal}
-use Rattle.psci_command.specs.declared.exit.Failure.TheVariants.{CommandLine, Replay, TooManyCores}
-use Rattle.psci_command.specs.declared.exit.Failure.TheVariants.{Audit, Gate, Gather}
-use Rattle.psci_command.specs.declared.exit.Failure.TheVariants.{Board as GivenBoard}
-use Rattle.psci_command.specs.Exit.{failure_report, given_board_report, report, status_of}
+use Rattle.psci_failure.specs.declared.exit.AuditFailure.TheVariants.{Ticket, Illegal}
+use Rattle.psci_failure.specs.declared.exit.Failure.TheVariants.{CommandLine, Replay, TooManyCores}
+use Rattle.psci_failure.specs.declared.exit.Failure.TheVariants.{Audit, Gate, Gather}
+use Rattle.psci_failure.specs.declared.exit.Failure.TheVariants.{Board as GivenBoard}
+use Rattle.psci_failure.specs.Exit.{IsOfReplay, ended_status, failure_report, given_board_report}
+use Rattle.psci_failure.specs.Exit.{report, status_of}
 
 -- the command line: 2, and the parser has said why
 pub command_line_status : status_of CommandLine ≡ 2
@@ -226,3 +227,32 @@ replay_told = refl
 -- the parser has told this one
 command_line_told : failure_report CommandLine ≡ []
 command_line_told = refl
+
+-- a program that was done ends with 0, and else as its failure says
+done_status : ended_status (Ok tt) ≡ 0
+done_status = refl
+
+failed_status : ended_status (Err (Replay Read)) ≡ 4
+failed_status = refl
+
+-- a replay ends early by a fault of its own, of whatever kind, and not by the command line
+replay_ends_by_script : IsOfReplay (Replay (Script 2 scripts.Line))
+replay_ends_by_script = tt
+
+replay_ends_by_board : IsOfReplay (Replay (Board boards.Grammar))
+replay_ends_by_board = tt
+
+replay_ends_by_read : IsOfReplay (Replay Read)
+replay_ends_by_read = tt
+
+replay_ends_by_write : IsOfReplay (Replay Write)
+replay_ends_by_write = tt
+
+replay_ends_by_memory : IsOfReplay (Replay Memory)
+replay_ends_by_memory = tt
+
+replay_by_command_line : IsOfReplay CommandLine → ⊥
+replay_by_command_line h = h
+
+replay_by_given_board : IsOfReplay (GivenBoard boards.Grammar) → ⊥
+replay_by_given_board h = h

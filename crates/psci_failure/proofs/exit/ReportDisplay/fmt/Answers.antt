@@ -1,5 +1,5 @@
 -- The number that is written is the fault's.
-use Rattle.psci_command.proofs.exit.ReportDisplay.fmt.Goals as goal
+use Rattle.psci_failure.proofs.exit.ReportDisplay.fmt.Goals as goal
 
 pub returns-in-Script-clause-writes : goal.returns-in-Script-clause-writes
 returns-in-Script-clause-writes g c =

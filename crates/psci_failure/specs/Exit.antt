@@ -1,13 +1,13 @@
 -- Exit statuses, and what standard error says of a fault.
-use Rattle.std.specs.Prelude.{ℕ, List, [], ◌++◌, codes}
+use Rattle.std.specs.Prelude.{ℕ, List, [], ◌++◌, codes, Result, Ok, Err, ⊤}
 use Rattle.std.specs.Fmt.{decimal}
 use Rattle.psci_script.specs.psci_board_text.declared.fault.BoardFault.{BoardFault}
 use Rattle.psci_script.specs.psci_board_text.declared.fault.BoardFault.TheVariants as boards
-use Rattle.psci_command.specs.declared.exit.Failure.{Failure}
-use Rattle.psci_command.specs.declared.exit.AuditFailure.TheVariants.{Ticket, Illegal}
-use Rattle.psci_command.specs.declared.exit.Failure.TheVariants.{CommandLine, Replay, TooManyCores}
-use Rattle.psci_command.specs.declared.exit.Failure.TheVariants.{Audit, Gate, Gather}
-use Rattle.psci_command.specs.declared.exit.Failure.TheVariants.{Board as GivenBoard}
+use Rattle.psci_failure.specs.declared.exit.Failure.{Failure}
+use Rattle.psci_failure.specs.declared.exit.AuditFailure.TheVariants.{Ticket, Illegal}
+use Rattle.psci_failure.specs.declared.exit.Failure.TheVariants.{CommandLine, Replay, TooManyCores}
+use Rattle.psci_failure.specs.declared.exit.Failure.TheVariants.{Audit, Gate, Gather}
+use Rattle.psci_failure.specs.declared.exit.Failure.TheVariants.{Board as GivenBoard}
 use Rattle.psci_script.specs.declared.fault.ScriptFault.{ScriptFault}
 use Rattle.psci_script.specs.declared.fault.ScriptFault.TheVariants as scripts
 use Rattle.psci_script.specs.declared.fault.ReplayFault.{ReplayFault}
@@ -50,7 +50,7 @@ replay_status Read = 4
 replay_status Write = 4
 replay_status Memory = 5
 
--- the exit status of the program
+-- the exit status of the program at a failure
 abbrev pub status_of : Failure → ℕ
 status_of CommandLine = 2
 status_of (GivenBoard fault) = given_board_status fault
@@ -59,6 +59,16 @@ status_of (Replay fault) = replay_status fault
 status_of Gate = 6
 status_of Gather = 6
 status_of (Audit found) = 6
+
+-- the same however it ended
+abbrev pub ended_status : Result Unit Failure → ℕ
+ended_status (Ok done) = 0
+ended_status (Err failure) = status_of failure
+
+-- a replay ends early by a fault of its own, and not by the command line or by threads
+abbrev pub IsOfReplay : Failure → Type 0
+IsOfReplay (Replay fault) = ⊤
+IsOfReplay _ = ⊥
 
 -- what standard error says of a board fault
 abbrev pub board_report : BoardFault → List ℕ
