@@ -1,3 +1,5 @@
 mod Answered
+mod Called
+mod Fresh
 mod SeenRows
 mod Stopping

@@ -1,16 +1,14 @@
 -- Worked examples of what is read of a firmware, of the way on of a core that enters, and of what a
 -- suspended core leaves.
-use Rattle.std.proofs.Common.{◌≡◌, ℕ, ◌<◌, List, [], ◌∷◌, map, Bool, true, false, pos, None, Some}
-use Rattle.std.proofs.Common.{refl, ap, arith, Option, ◌==◌}
+use Rattle.std.proofs.Common.{◌≡◌, ℕ, ◌<◌, [], ◌∷◌, map, true, false, None, Some}
+use Rattle.std.proofs.Common.{refl, arith, Option, ◌==◌}
 use Rattle.std.specs.Prelude.{if◌then◌else◌}
 use Rattle.psci_board.specs.Board.{BoardValue, up}
 use Rattle.psci_board.specs.declared.node.Node.{Node}
-use Rattle.psci_coord.specs.psci_parts.declared.part.Part.{Part}
 use Rattle.psci_fw_spec.specs.psci_abi.declared.format.Format.TheVariants.{Original}
 use Rattle.psci_fw_spec.specs.psci_coord.psci_tree.declared.state.Activity.TheVariants as activities
 use Rattle.psci_fw_spec.specs.declared.hw.Hw.TheVariants as hardware
 use Rattle.psci_fw_spec.specs.declared.mode.SuspendMode.TheVariants.{OsInitiated}
-use Rattle.psci_fw_spec.specs.declared.opening.Opening.{Opening}
 use Rattle.psci_fw_spec.specs.declared.outcome.Act.TheVariants as acts
 use Rattle.psci_fw_spec.specs.declared.status.Status.TheVariants as statuses
 use Rattle.psci_fw_spec.specs.AffinityInfo.{node_status}

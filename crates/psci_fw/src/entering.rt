@@ -6,10 +6,12 @@ ghost use Rattle.psci_fw_spec.specs.After.{change};
 ghost use Rattle.psci_fw_spec.specs.Effects.{enter_effect};
 ghost use Rattle.psci_fw_spec.specs.Entering.{enter_fault, enter_outcome, is_old, resumes};
 ghost use Rattle.psci_fw_spec.specs.Invariant.{AreValues};
+ghost use Rattle.psci_fw_spec.specs.Lives.{in_life};
 ghost use Rattle.psci_fw_state.specs.Seen.{values_in};
+ghost use Rattle.psci_fw.specs.Seen.{IsFresh};
 ghost use Rattle.psci_fw.specs.Ways.{way_on};
 
-use crate::laws::law_may_claim;
+use crate::laws::{law_fresh, law_may_claim};
 use crate::off::send_down;
 use psci_board::Core;
 use psci_fw_spec::{Act, Cause, FwFault, Opening, Outcome, Start, law_stops};
@@ -48,6 +50,7 @@ fn is_old(state: &State, core: Core, start: Start) -> bool
 pub fn enter(state: &mut State, core: Core, start: Start) -> Outcome
     requires board { IsBoard state.old.board }
     requires values { AreValues state.old.board (values_in state.old) }
+    requires fresh { IsFresh state.old.board (values_in state.old) }
     requires fault { enter_fault state.old.board (values_in state.old) core.number start ≡ None }
     ensures answer { result
         ≡ enter_outcome state.old.board (values_in state.old) core.number start }
@@ -57,7 +60,7 @@ pub fn enter(state: &mut State, core: Core, start: Start) -> Outcome
 {
     law_may_claim();
     law_stops();
-    state.begin_life(start.life);
+    begin(state, start.life);
     if state.halting() {
         state.arrive_away(core, start);
         return Outcome::stops();
@@ -72,6 +75,21 @@ pub fn enter(state: &mut State, core: Core, start: Start) -> Outcome
             let parts = state.leaving_parts(core);
             send_down(state, core, parts)
         }
+    }
+}
+
+/// This life begins, if it is another one than the firmware's. Before the first one there is
+/// nothing to put back.
+fn begin(state: &mut State, life: u32)
+    requires { IsFresh state.old.board (values_in state.old) }
+    ensures after { values_in state.new ≡ in_life state.old.board life (values_in state.old) }
+    ensures board { state.new.board ≡ state.old.board }
+{
+    law_fresh();
+    if state.life() == 0 {
+        state.set_life(life);
+    } else {
+        state.begin_life(life);
     }
 }
 

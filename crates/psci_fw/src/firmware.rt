@@ -36,6 +36,7 @@ ghost use Rattle.psci_fw.specs.Seen.{hw_shown, life_shown, seen, status_shown};
 ghost use Rattle.psci_fw_state.specs.Seen.{message_shown};
 
 use crate::entering::{check_start, enter};
+use crate::laws::law_fresh;
 use crate::smc::{check_caller, dispatch};
 use psci_fw_spec::law_invariant;
 
@@ -47,6 +48,7 @@ impl Firmware {
         ensures values { IfOk result (λ f. seen f ≡ start_of_life board.now 0) }
     {
         law_invariant();
+        law_fresh();
         Ok(Firmware {
             state: State::new(alloc, board)?,
         })
@@ -67,6 +69,7 @@ impl Firmware {
         ensures refused { OnErr result (self.new ≡ self.old) }
     {
         law_invariant();
+        law_fresh();
         check_caller(&self.state, core)?;
         Ok(dispatch(&mut self.state, core, read(regs)))
     }
@@ -90,6 +93,7 @@ impl Firmware {
         ensures refused { OnErr result (self.new ≡ self.old) }
     {
         law_invariant();
+        law_fresh();
         check_start(&self.state, core, start)?;
         Ok(enter(&mut self.state, core, start))
     }
@@ -106,6 +110,7 @@ impl Firmware {
         ensures old { result ≡ Old → self.new ≡ self.old }
     {
         law_invariant();
+        law_fresh();
         self.state.acknowledge(ack)
     }
 

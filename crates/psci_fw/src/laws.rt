@@ -1,25 +1,35 @@
-//! What holds of the claims of cores that stop, for proofs. The law is the contract of a function
-//! that does nothing.
+//! What holds of the claims of cores that stop, and of a firmware that no core has entered, for
+//! proofs. Each law is the contract of a function that does nothing.
 
 ghost use Rattle.std.specs.Prelude.{◌≡◌, ◌<◌, ◌&&◌, ℕ, List, None, Ok, false, not, true};
 ghost use Rattle.psci_board.specs.Board.{BoardValue, IsBoard, cores, height, may_enter};
 ghost use Rattle.psci_coord.specs.psci_parts.declared.part.Part.{Part};
 ghost use Rattle.psci_state.specs.Ask.{deepest_of, is_deep};
 ghost use Rattle.psci_link.specs.declared.start.Start.{Start};
-ghost use Rattle.psci_fw_spec.specs.Changes.{with_arrival};
+ghost use Rattle.psci_abi.specs.Calls.{request_of};
+ghost use Rattle.psci_abi.specs.declared.registers.Regs.{Regs};
+ghost use Rattle.psci_link.specs.declared.taken.Taken.TheVariants.{Used};
+ghost use Rattle.psci_link.specs.Message.{AckValue};
+ghost use Rattle.psci_fw_spec.specs.declared.outcome.Outcome.{Outcome};
+ghost use Rattle.psci_fw_spec.specs.After.{change};
+ghost use Rattle.psci_fw_spec.specs.Calls.{call_fault};
+ghost use Rattle.psci_fw_spec.specs.Changes.{with_acknowledgement, with_arrival};
 ghost use Rattle.psci_fw_spec.specs.Claims.{off_parts, suspend_parts};
 ghost use Rattle.psci_fw_spec.specs.CpuSuspend.{ask_named};
+ghost use Rattle.psci_fw_spec.specs.Effects.{enter_effect, function_effect};
 ghost use Rattle.psci_fw_spec.specs.Entering.{enter_fault, resumes};
 ghost use Rattle.psci_fw_spec.specs.Invariant.{AreValues};
-ghost use Rattle.psci_fw_spec.specs.Lives.{in_life};
+ghost use Rattle.psci_fw_spec.specs.Lives.{in_life, start_of_life};
 ghost use Rattle.psci_fw_spec.specs.Phases.{Running};
 ghost use Rattle.psci_fw_spec.specs.SystemCalls.{all_others, is_off_status};
+ghost use Rattle.psci_fw_spec.specs.Taking.{taken_by};
 ghost use Rattle.psci_fw_spec.specs.Values.{Values};
+ghost use Rattle.psci_fw.specs.Seen.{IsFresh};
 ghost use Rattle.psci_fw_state.specs.Claims.{MayClaim};
 
 use psci_board::law_paths;
 use psci_coord::{law_claims, law_last_core};
-use psci_fw_spec::law_invariant;
+use psci_fw_spec::{law_caller, law_enters, law_invariant};
 
 /// The claims of cores that stop may be granted.
 pub fn law_may_claim()
@@ -49,4 +59,26 @@ pub fn law_may_claim()
     law_paths();
     law_claims();
     law_last_core();
+}
+
+/// A firmware that no core has entered is as at the start of a life, and so it is at the start of
+/// another one once that is its life.
+pub fn law_fresh()
+    ensures first { (b : BoardValue) → IsFresh b (start_of_life b 0) }
+    ensures begun { (b : BoardValue) (v : Values) (life : ℕ) → v.life ≡ 0 → IsFresh b v
+        → record v { life = life } ≡ in_life b life v }
+    // A core has entered before each call that is not refused.
+    ensures call { (b : BoardValue) (v : Values) (c : ℕ) (regs : Regs) (o : Outcome)
+        → call_fault b v c ≡ None
+        → IsFresh b (change b (function_effect b c (request_of regs) o.act o.message) v) }
+    // A core has entered after each entry that is not refused.
+    ensures enter { (b : BoardValue) (v : Values) (c : ℕ) (s : Start) (o : Outcome)
+        → enter_fault b v c s ≡ None
+        → IsFresh b (change b (enter_effect c s o.act o.message) v) }
+    // A core has entered before each acknowledgement that is used, since one has sent its message.
+    ensures take { (b : BoardValue) (v : Values) (a : AckValue) → IsFresh b v
+        → taken_by v a ≡ Used → IsFresh b (with_acknowledgement b a v) }
+{
+    law_caller();
+    law_enters();
 }

@@ -37,6 +37,16 @@ impl State {
         self.slots.clear_all();
     }
 
+    /// The firmware is in this life, and all else stays. So the first life begins: a new firmware is
+    /// as at the start of a life.
+    #[tactic(auto, unfolding(crate::specs::Seen::values_in))]
+    pub fn set_life(&mut self, life: u32)
+        ensures after { values_in self.new ≡ record (values_in self.old) { life = life } }
+        ensures board { self.new.board ≡ self.old.board }
+    {
+        self.life = life;
+    }
+
     /// A core has entered by this start of the firmware's life, and goes on: it is ON and runs.
     #[tactic(auto, unfolding(crate::specs::Seen::values_in))]
     pub fn arrive_running(&mut self, core: Core, start: Start)

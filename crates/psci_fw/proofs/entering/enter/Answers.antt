@@ -14,23 +14,23 @@ pub returns-then-halting-clause-answer : goal.returns-then-halting-clause-answer
 returns-then-halting-clause-answer c =
     c.stops.ensures
     ∙ halted_outcome c.args.state.now.board (values_in c.args.state.now) c.args.core.number c.args.start
-    (sym (ap (λ (x : Values). x.halting) c.begin_life.ensures.after)
+    (sym (ap (λ (x : Values). x.halting) c.begin.ensures.after)
     ∙ sym c.halting.ensures ∙ c.if-halting.true)
 
 pub send_down-requires-clause-claim : goal.send_down-requires-clause-claim
 send_down-requires-clause-claim c =
     let b = c.args.state.now.board in
-    let at = c.arrive_away-in-None.ensures.board ∙ c.begin_life.ensures.board in
+    let at = c.arrive_away-in-None.ensures.board ∙ c.begin.ensures.board in
     let v = values_in c.args.state.now in
     let core = c.args.core.number in
     let s = c.args.start in
-    let found = c.begin_life.ensures.after in
+    let found = c.begin.ensures.after in
     let awake : (in_life b s.life v).halting ≡ false =
     sym (ap (λ (x : Values). x.halting) found) ∙ sym c.halting.ensures ∙ c.if-halting.false in
     let none : way_on (in_life b s.life v) core s ≡ None =
     sym (ap (λ (x : Values). way_on x core s) found) ∙ sym c.way_on.ensures ∙ c.in-None.is in
     let same = leaving_off b _ (with_arrival b core s v) _ core _ at
-    (arrived_away b _ v _ _ core s c.begin_life.ensures.board found c.arrive_away-in-None.ensures.after)
+    (arrived_away b _ v _ _ core s c.begin.ensures.board found c.arrive_away-in-None.ensures.after)
     c.leaving_parts-parts.ensures in
     subst AreClaims (sym same) (c.law_stops.ensures.parks b v core s c.requires.board
     (fault_inside b v core s c.requires.fault) c.requires.values awake
@@ -39,16 +39,16 @@ send_down-requires-clause-claim c =
 pub send_down-requires-clause-may : goal.send_down-requires-clause-may
 send_down-requires-clause-may c =
     let b = c.args.state.now.board in
-    let at = c.arrive_away-in-None.ensures.board ∙ c.begin_life.ensures.board in
+    let at = c.arrive_away-in-None.ensures.board ∙ c.begin.ensures.board in
     let v = values_in c.args.state.now in
     let core = c.args.core.number in
     let s = c.args.start in
-    let found = c.begin_life.ensures.after in
+    let found = c.begin.ensures.after in
     let awake : (in_life b s.life v).halting ≡ false =
     sym (ap (λ (x : Values). x.halting) found) ∙ sym c.halting.ensures ∙ c.if-halting.false in
     let none : way_on (in_life b s.life v) core s ≡ None =
     sym (ap (λ (x : Values). way_on x core s) found) ∙ sym c.way_on.ensures ∙ c.in-None.is in
-    let away = arrived_away b _ v _ _ core s c.begin_life.ensures.board found c.arrive_away-in-None.ensures.after in
+    let away = arrived_away b _ v _ _ core s c.begin.ensures.board found c.arrive_away-in-None.ensures.after in
     let same = leaving_off b _ (with_arrival b core s v) _ core _ at away
     c.leaving_parts-parts.ensures in
     left_may b _ (with_arrival b core s v) _ core _ _ at away same
@@ -59,7 +59,7 @@ send_down-requires-clause-may c =
 pub returns-in-Some-clause-answer : goal.returns-in-Some-clause-answer
 returns-in-Some-clause-answer c =
     let v = values_in c.args.state.now in
-    let found = c.begin_life.ensures.after in
+    let found = c.begin.ensures.after in
     way_outcome c.args.state.now.board v c.args.core.number c.args.start c.in-Some.act
     (sym (ap (λ (x : Values). x.halting) found) ∙ sym c.halting.ensures ∙ c.if-halting.false)
     (sym (ap (λ (x : Values). way_on x c.args.core.number c.args.start) found)
@@ -68,16 +68,16 @@ returns-in-Some-clause-answer c =
 pub returns-in-None-clause-answer : goal.returns-in-None-clause-answer
 returns-in-None-clause-answer c =
     let b = c.args.state.now.board in
-    let at = c.arrive_away-in-None.ensures.board ∙ c.begin_life.ensures.board in
+    let at = c.arrive_away-in-None.ensures.board ∙ c.begin.ensures.board in
     let v = values_in c.args.state.now in
     let core = c.args.core.number in
     let s = c.args.start in
-    let found = c.begin_life.ensures.after in
+    let found = c.begin.ensures.after in
     let awake : (in_life b s.life v).halting ≡ false =
     sym (ap (λ (x : Values). x.halting) found) ∙ sym c.halting.ensures ∙ c.if-halting.false in
     let none : way_on (in_life b s.life v) core s ≡ None =
     sym (ap (λ (x : Values). way_on x core s) found) ∙ sym c.way_on.ensures ∙ c.in-None.is in
-    let away = arrived_away b _ v _ _ core s c.begin_life.ensures.board found c.arrive_away-in-None.ensures.after in
+    let away = arrived_away b _ v _ _ core s c.begin.ensures.board found c.arrive_away-in-None.ensures.after in
     let same = leaving_off b _ (with_arrival b core s v) _ core _ at away
     c.leaving_parts-parts.ensures in
     parked b (with_arrival b core s v) _ core _ _ away same c.send_down.ensures.answer

@@ -1,0 +1,33 @@
+use Rattle.std.proofs.Common.{◌≡◌, None, subst, sym}
+use Rattle.psci_abi.specs.declared.request.Request.{Request}
+use Rattle.psci_board.specs.Board.{BoardValue, IsBoard}
+use Rattle.psci_fw_spec.specs.declared.call.FwCall.TheVariants.{Smc}
+use Rattle.psci_fw_spec.specs.After.{change}
+use Rattle.psci_fw_spec.specs.Calls.{call_fault}
+use Rattle.psci_fw_spec.specs.Effects.{function_effect}
+use Rattle.psci_fw_spec.specs.Invariant.{AreValues}
+use Rattle.psci_fw_state.specs.Seen.{values_in}
+use Rattle.psci_fw.specs.Seen.{IsFresh}
+use Rattle.psci_fw.proofs.Called.{called}
+use Rattle.psci_fw.proofs.firmware.Firmware.smc.Goals as goal
+
+pub invariant_of-self : goal.invariant_of-self
+invariant_of-self c =
+    let b = c.self.inside.state.board in
+    let v = values_in c.self.inside.state in
+    let w = values_in c.dispatch.new.state in
+    let core = c.args.core.number in
+    let o = c.dispatch.result in
+    let at = sym c.dispatch.ensures.board in
+    let left = c.dispatch.ensures.after in
+    let fault : call_fault b v core ≡ None = c.in_ok-check_caller.ensures in
+    record {
+      board = subst IsBoard at c.self.invariant.board;
+      values = subst (λ (x : BoardValue). AreValues x w) at (subst (AreValues b)
+          (sym (called b v w core c.args.regs _ o fault c.read.ensures c.dispatch.ensures.answer left))
+          (c.law_invariant.ensures.answer b v core (Smc c.args.regs) c.self.invariant.board
+          c.self.invariant.values));
+      fresh = subst (λ (x : BoardValue). IsFresh x w) at (subst (IsFresh b) (sym left)
+          (subst (λ (r : Request). IsFresh b (change b (function_effect b core r o.act o.message) v))
+          (sym c.read.ensures) (c.law_fresh.ensures.call b v core c.args.regs o fault)));
+    }
