@@ -25,6 +25,7 @@ _psci() {
         show) mapfile -t COMPREPLY < <(compgen -W \
             "--json --legend --width --color --help" -- "$word") ;;
         help) mapfile -t COMPREPLY < <(compgen -W "replay storm threads show" -- "$word") ;;
+        prove) mapfile -t COMPREPLY < <(compgen -W "all" -- "$word") ;;
         replay | draw) mapfile -t COMPREPLY < <(compgen -W "--help" -- "$word") ;;
     esac
 }

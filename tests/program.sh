@@ -229,18 +229,65 @@ front() {
     answers "./psci replay without a proved program"
 }
 
-# ./psci prove proves each crate that the program stands on, once, and keeps what is built. Here a
-# command stands for the kit's, which says of each crate in its folder that it is proved.
+# Without the whole program ./psci replays by the one that only replays, while no source of a crate
+# below it is newer. Here another command stands for it, and one that fails for the kit's.
+replaying() {
+    local fresh=$work/replaying name at=crates/psci_replay/out
+    for name in crates/*/src; do
+        mkdir -p "$fresh/$name"
+        echo "//! Nothing." > "$fresh/$name/lib.rt"
+    done
+    cp psci crates.txt "$fresh"
+    mkdir "$fresh/$at" "$fresh/kit"
+    printf '#!/bin/sh\nexit 1\n' > "$fresh/kit/rt"
+    chmod +x "$fresh/kit/rt"
+    printf '#!/bin/sh\necho replayed\n' > "$fresh/$at/psci_replay"
+    chmod +x "$fresh/$at/psci_replay"
+    touch -d "1 minute" "$fresh/crates/psci_storm/src/lib.rt"
+    front_of "$fresh" replay
+    echo replayed > "$work/lines"
+    expect "./psci replay by the program that only replays" 0
+    answers "./psci replay by the program that only replays"
+    PATH=$fresh/kit:$PATH front_of "$fresh" replay --help
+    expect_unproved "./psci replay with a further word"
+    touch -d "1 minute" "$fresh/crates/psci_world/src/lib.rt"
+    PATH=$fresh/kit:$PATH front_of "$fresh" replay
+    expect_unproved "./psci replay by a program that is older than a source"
+}
+
+# expect_unproved NAME: the run before began unproved
+expect_unproved() {
+    if head -n 1 "$work/err" | grep -q "^psci: nothing of this run is proved"; then pass; else
+        fail "$1: $(head -n 1 "$work/err")"
+    fi
+}
+
+# the program that only replays answers each example as the whole one does, whatever its words
+replay_program() {
+    local file whole=$program
+    program=$top/crates/psci_replay/out/psci_replay
+    [ -x "$program" ] || { skip "the program that only replays" "$program"; program=$whole; return; }
+    for file in examples/*.psci tests/scripts/lines/*.psci; do script "${file%.psci}"; done
+    one_entry
+    run < "$work/script"
+    expect "the program that only replays, without a word" 0
+    answers "the program that only replays, without a word"
+    program=$whole
+}
+
+# ./psci prove proves each crate that a program stands on, once, and keeps what is built. Here a
+# command stands for the kit's, in whose libraries there is a stamp.
 proving() {
-    local name kit=$work/kit fresh=$work/proving
+    local name word kit=$work/kit fresh=$work/proving
     has_python "./psci prove" || return 0
-    mkdir -p "$kit" "$fresh"
+    mkdir -p "$kit" "$fresh/tools"
     cat > "$kit/rt" << 'END'
 #!/bin/sh
-for crate in crates/*; do echo "rt: ${crate#crates/} proved"; done
-mkdir crates/psci_cli/out
-printf '#!/bin/sh\necho built of "$@"\n' > crates/psci_cli/out/psci_cli
-chmod +x crates/psci_cli/out/psci_cli
+name=${PWD##*/}
+if [ "$1" = lib ]; then mkdir -p out/rlib && touch out/rlib/stamp; exit; fi
+mkdir -p out
+printf '#!/bin/sh\necho %s built of "$@"\n' "$name" > "out/$name"
+chmod +x "out/$name"
 END
     chmod +x "$kit/rt"
     for name in crates/*/src; do
@@ -248,16 +295,25 @@ END
         echo "//! Nothing." > "$fresh/$name/lib.rt"
     done
     cp psci crates.txt HANDLES "$fresh"
-    PATH=$kit:$PATH "$fresh/psci" prove < /dev/null > "$work/out" 2> "$work/proved"
-    echo $? > "$work/got"
-    tail -n 1 "$work/proved" > "$work/err"
-    expect "./psci prove" 0 "psci: built; ./psci runs the proved program from now on"
-    tools/repo.py below psci_cli | tr ' ' '\n' | sort > "$work/lines"
-    sed -n 's/^psci: proved .*(\(.*\))$/\1/p' "$work/proved" | sort > "$work/out"
-    answers "the crates that ./psci prove proves"
+    cp tools/prove tools/repo.py "$fresh/tools"
+    for name in psci_replay psci_cli; do
+        word=all
+        [ "$name" = psci_cli ] || word=
+        # shellcheck disable=SC2086
+        PATH=$kit:$PATH "$fresh/psci" prove $word < /dev/null > "$work/out" 2> "$work/proved"
+        echo $? > "$work/got"
+        tail -n 1 "$work/proved" > "$work/err"
+        expect "./psci prove $word" 0 "psci: built; ./psci runs it from now on"
+        tools/repo.py below "$name" | tr ' ' '\n' | sort > "$work/lines"
+        sed -n 's/^psci: proved .*(\(.*\))$/\1/p' "$work/proved" | sort > "$work/out"
+        answers "the crates that ./psci prove $word proves"
+        front_of "$fresh" replay
+        echo "$name built of${word:+ replay}" > "$work/lines"
+        answers "./psci replay after ./psci prove $word"
+    done
     front_of "$fresh" version
-    echo "built of version" > "$work/lines"
-    answers "./psci after ./psci prove"
+    echo "psci_cli built of version" > "$work/lines"
+    answers "./psci after ./psci prove all"
 }
 
 # the line of a storm, which the seed alone decides; its words, streams and memory

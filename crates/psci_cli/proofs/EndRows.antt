@@ -2,37 +2,14 @@
 use Rattle.std.proofs.Common.{◌≡◌, ℕ, Ok, Err, refl, inl, inr}
 use Rattle.psci_command.specs.psci_board.Board.{BoardValue}
 use Rattle.psci_command.specs.psci_board_text.declared.fault.BoardFault.TheVariants as boards
-use Rattle.psci_command.specs.declared.exit.Failure.TheVariants.{CommandLine, Replay}
-use Rattle.psci_command.specs.declared.exit.Failure.TheVariants.{Board as GivenBoard}
-use Rattle.psci_command.specs.psci_script.declared.fault.ReplayFault.TheVariants.{Board, Memory}
-use Rattle.psci_command.specs.psci_script.declared.fault.ReplayFault.TheVariants.{Read, Script}
-use Rattle.psci_command.specs.psci_script.declared.fault.ReplayFault.TheVariants.{Write}
+use Rattle.psci_command.specs.psci_failure.declared.exit.Failure.TheVariants.{CommandLine, Replay}
+use Rattle.psci_command.specs.psci_failure.declared.exit.Failure.TheVariants.{Board as GivenBoard}
+use Rattle.psci_command.specs.psci_script.declared.fault.ReplayFault.TheVariants.{Memory, Read}
+use Rattle.psci_command.specs.psci_script.declared.fault.ReplayFault.TheVariants.{Script, Write}
 use Rattle.psci_command.specs.psci_script.declared.fault.ScriptFault.TheVariants as scripts
-use Rattle.psci_cli.specs.Ends.{IsOfReplay, IsStormed, IsUnkept, StormEnds}
+use Rattle.psci_cli.specs.Ends.{IsStormed, IsUnkept, StormEnds}
 use Rattle.psci_storm.specs.Storm.{IsStorm}
 use Rattle.psci_storm.specs.declared.outcome.StormedWorld.{StormedWorld}
-
--- a replay ends early by a fault of its own, of whatever kind, and not by the command line
-replay_ends_by_script : IsOfReplay (Replay (Script 2 scripts.Line))
-replay_ends_by_script = tt
-
-replay_ends_by_board : IsOfReplay (Replay (Board boards.Grammar))
-replay_ends_by_board = tt
-
-replay_ends_by_read : IsOfReplay (Replay Read)
-replay_ends_by_read = tt
-
-replay_ends_by_write : IsOfReplay (Replay Write)
-replay_ends_by_write = tt
-
-replay_ends_by_memory : IsOfReplay (Replay Memory)
-replay_ends_by_memory = tt
-
-replay_by_command_line : IsOfReplay CommandLine → ⊥
-replay_by_command_line h = h
-
-replay_by_given_board : IsOfReplay (GivenBoard boards.Grammar) → ⊥
-replay_by_given_board h = h
 
 -- a storm that was made is one of so many events on the board that the text says
 storm_made : (s : StormedWorld) → IsStorm s.world.board 3 s.world.past s.storm

@@ -3,11 +3,11 @@ use Rattle.std.specs.Prelude.{◌≡◌, ◌⊎◌, ◌≤◌, ◌<◌, Result, 
 use Rattle.psci_command.specs.psci_board.Board.{BoardValue, cores}
 use Rattle.psci_command.specs.psci_board_text.Verdict.{Answers}
 use Rattle.psci_command.specs.psci_board_text.declared.fault.BoardFault.{BoardFault}
-use Rattle.psci_command.specs.declared.exit.AuditFailure.TheVariants as failures
-use Rattle.psci_command.specs.declared.exit.Failure.{Failure}
-use Rattle.psci_command.specs.declared.exit.Failure.TheVariants.{Audit, Gate, Gather}
-use Rattle.psci_command.specs.declared.exit.Failure.TheVariants.{Replay, TooManyCores}
-use Rattle.psci_command.specs.declared.exit.Failure.TheVariants.{Board as GivenBoard}
+use Rattle.psci_command.specs.psci_failure.declared.exit.AuditFailure.TheVariants as failures
+use Rattle.psci_command.specs.psci_failure.declared.exit.Failure.{Failure}
+use Rattle.psci_command.specs.psci_failure.declared.exit.Failure.TheVariants.{Audit, Gate, Gather}
+use Rattle.psci_command.specs.psci_failure.declared.exit.Failure.TheVariants.{Replay, TooManyCores}
+use Rattle.psci_command.specs.psci_failure.declared.exit.Failure.TheVariants.{Board as GivenBoard}
 use Rattle.psci_command.specs.psci_script.declared.fault.ReplayFault.TheVariants.{Memory, Write}
 use Rattle.psci_threads.specs.Runs.{IsAudited, IsFound}
 use Rattle.psci_threads.specs.declared.fault.BenchFault.{BenchFault}

@@ -9,14 +9,15 @@ mod threads_line;
 ghost use Rattle.std.specs.Prelude.{◌≡◌, IfErr};
 ghost use Rattle.std.specs.IoError.{error_kind};
 ghost use Rattle.std.specs.declared.io.ErrorKind.TheVariants as kinds;
-ghost use Rattle.psci_command.specs.declared.exit.Failure.TheVariants.{Replay};
+ghost use Rattle.psci_command.specs.psci_failure.Exit.{IsOfReplay};
+ghost use Rattle.psci_command.specs.psci_failure.declared.exit.Failure.TheVariants.{Replay};
 ghost use Rattle.psci_command.specs.psci_script.declared.fault.ReplayFault.TheVariants.{Memory};
 ghost use Rattle.psci_command.specs.psci_script.declared.fault.ReplayFault.TheVariants.{Write};
 ghost use Rattle.psci_command.specs.psci_board_text.Verdict.{board_of};
-ghost use Rattle.psci_cli.specs.Ends.{IsOfReplay, IsUnkept, IsStormed, StormEnds};
+ghost use Rattle.psci_cli.specs.Ends.{IsUnkept, IsStormed, StormEnds};
 
 use psci_bench::{ReplayFault, Std, replay};
-use psci_command::{Board, Failure, ReadBoard, Request, StormRequest, asked, words};
+use psci_command::{Board, Failure, ReadBoard, Request, StormRequest, asked, end, words};
 use psci_keep::write_script;
 use psci_storm::{StormedWorld, storm_world};
 use shown::show_standard;
@@ -105,11 +106,5 @@ fn run<R: Threads + Wait + Sync>(rt: &HostRuntime, threads: &R) -> Result<(), Fa
 }
 
 fn main(rt: HostRuntime) -> ExitCode {
-    match run(&rt, &rt) {
-        Ok(()) => ExitCode::SUCCESS,
-        Err(failure) => {
-            failure.tell(&rt);
-            ExitCode::from(failure.status())
-        }
-    }
+    end(&rt, run(&rt, &rt))
 }

@@ -5,15 +5,15 @@ use Rattle.std.specs.Prelude.{codes}
 use Rattle.clap.specs.Walk.{Row, Text}
 use Rattle.clap.specs.declared.error.kind.ErrorKind.TheVariants.{DisplayHelp, DisplayVersion}
 use Rattle.clap.specs.declared.error.kind.ErrorKind.TheVariants.{MissingSubcommand}
-use Rattle.psci_script.specs.declared.fault.ReplayFault.TheVariants.{Memory, Write}
+use Rattle.psci_failure.specs.psci_script.declared.fault.ReplayFault.TheVariants.{Memory, Write}
+use Rattle.psci_failure.specs.declared.exit.Failure.TheVariants as failures
+use Rattle.psci_failure.specs.declared.exit.Failure.TheVariants.{CommandLine}
 use Rattle.psci_command.specs.Commands.{IsAsked, IsStormOf, IsThreadsOf, IsWordless}
 use Rattle.psci_command.specs.Program.{AsksHelp, standard_board}
 use Rattle.psci_command.specs.declared.requests.Request.TheVariants.{Nothing, Replay}
 use Rattle.psci_command.specs.declared.requests.Request.TheVariants.{Storm, Threads}
 use Rattle.psci_command.specs.declared.requests.StormRequest.{StormRequest}
 use Rattle.psci_command.specs.declared.requests.ThreadsRequest.{ThreadsRequest}
-use Rattle.psci_command.specs.declared.exit.Failure.TheVariants as failures
-use Rattle.psci_command.specs.declared.exit.Failure.TheVariants.{CommandLine}
 use Rattle.psci_command.proofs.StormCommandRows.{board_row, count_row, counts_row, no_counts}
 use Rattle.psci_command.proofs.StormCommandRows.{keep_row, seed_row, standard_row}
 use Rattle.psci_command.proofs.ValueRows.{spelled}

@@ -5,9 +5,12 @@ use Rattle.std.specs.Prelude.{codes}
 use Rattle.clap.specs.Walk.{Text}
 use Rattle.clap.specs.Words.{subcommand_of}
 use Rattle.clap.specs.declared.error.kind.ErrorKind.TheVariants.{DisplayHelp, MissingSubcommand}
-use Rattle.psci_script.specs.psci_board_text.declared.fault.BoardFault.TheVariants as boards
-use Rattle.psci_script.specs.declared.fault.ReplayFault.TheVariants.{Memory, Read, Script, Write}
-use Rattle.psci_script.specs.declared.fault.ScriptFault.TheVariants.{NoBoard}
+use Rattle.psci_failure.specs.psci_board_text.declared.fault.BoardFault.TheVariants as boards
+use Rattle.psci_failure.specs.psci_script.declared.fault.ReplayFault.TheVariants.{Memory, Read}
+use Rattle.psci_failure.specs.psci_script.declared.fault.ReplayFault.TheVariants.{Script, Write}
+use Rattle.psci_failure.specs.psci_script.declared.fault.ScriptFault.TheVariants.{NoBoard}
+use Rattle.psci_failure.specs.declared.exit.Failure.TheVariants.{CommandLine, Replay}
+use Rattle.psci_failure.specs.declared.exit.Failure.TheVariants.{Board as GivenBoard}
 use Rattle.psci_command.proofs.AskedRows.{kept, of_counts, of_file, of_given_board, of_rows}
 use Rattle.psci_command.proofs.AskedRows.{request, rows, rows_of_board, rows_with_counts, threads}
 use Rattle.psci_command.proofs.AskedRows.{rows_with_file}
@@ -21,8 +24,6 @@ use Rattle.psci_command.proofs.ThreadsCommandRows.{plain_asked, plain_rows, plai
 use Rattle.psci_command.proofs.ThreadsCommandRows.{threads_with}
 use Rattle.psci_command.specs.declared.requests.Request.TheVariants.{Nothing, Show, Storm, Threads}
 use Rattle.psci_command.specs.declared.requests.Request.TheVariants.{Replay as ReplayScript}
-use Rattle.psci_command.specs.declared.exit.Failure.TheVariants.{CommandLine, Replay}
-use Rattle.psci_command.specs.declared.exit.Failure.TheVariants.{Board as GivenBoard}
 use Rattle.psci_command.specs.Commands.{IsUnmet}
 use Rattle.psci_command.specs.Heard.{HasFault, HasHelp, IsHeard, IsHeardBy}
 use Rattle.psci_command.specs.Program.{Words, program, standard_board}

@@ -1,6 +1,5 @@
 mod AskedRows
 mod CommandRows
-mod ExitRows
 pub mod Flags
 mod HeardRows
 mod Hearing

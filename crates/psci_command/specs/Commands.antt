@@ -1,7 +1,9 @@
 -- What a command line asks for, by the command that was met and its matches.
 use Rattle.std.specs.Prelude.{◌≡◌, ◌⊎◌, ℕ, codes, List, Option, Some, None, option_map}
 use Rattle.clap.specs.Walk.{Row, Text, first_of, one_of}
-use Rattle.psci_script.specs.declared.fault.ReplayFault.TheVariants as faults
+use Rattle.psci_failure.specs.psci_script.declared.fault.ReplayFault.TheVariants as faults
+use Rattle.psci_failure.specs.declared.exit.Failure.{Failure}
+use Rattle.psci_failure.specs.declared.exit.Failure.TheVariants.{CommandLine, Replay}
 use Rattle.psci_command.specs.declared.requests.Request.{Request}
 use Rattle.psci_command.specs.declared.requests.Request.TheVariants.{Show, Storm, Threads, Nothing}
 use Rattle.psci_command.specs.declared.requests.Request.TheVariants.{Replay as ReplayScript}
@@ -9,8 +11,6 @@ use Rattle.psci_command.specs.declared.requests.Draw.{Draw}
 use Rattle.psci_command.specs.declared.requests.ShowRequest.{ShowRequest}
 use Rattle.psci_command.specs.declared.requests.StormRequest.{StormRequest}
 use Rattle.psci_command.specs.declared.requests.ThreadsRequest.{ThreadsRequest}
-use Rattle.psci_command.specs.declared.exit.Failure.{Failure}
-use Rattle.psci_command.specs.declared.exit.Failure.TheVariants.{CommandLine, Replay}
 use Rattle.psci_command.specs.Values.{IsColorIn, IsFlagIn, IsNumberIn}
 
 -- some matches have this board, this seed and this count

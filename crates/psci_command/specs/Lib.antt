@@ -1,9 +1,9 @@
 pub mod Commands
-pub mod Exit
 pub mod Heard
 pub mod Plain
 pub mod Program
 pub mod Values
-pub use Rattle.psci_script.specs.psci_board
-pub use Rattle.psci_script.specs.psci_board_text
-pub use Rattle.psci_script.specs as psci_script
+pub use Rattle.psci_failure.specs.psci_board
+pub use Rattle.psci_failure.specs.psci_board_text
+pub use Rattle.psci_failure.specs.psci_script
+pub use Rattle.psci_failure.specs as psci_failure

@@ -3,20 +3,20 @@
 ghost use Rattle.std.specs.Prelude.{◌≡◌, ◌⊎◌, IfOk, IfErr, map, string_bytes, Ok, Err};
 ghost use Rattle.clap.specs.Words.{FailsBy, fault_of, kind_of, subcommand_of};
 ghost use Rattle.clap.specs.declared.error.kind.ErrorKind.TheVariants.{OutOfMemory};
-ghost use Rattle.psci_script.specs.declared.fault.ReplayFault.TheVariants.{Memory, Write};
+ghost use Rattle.psci_failure.specs.psci_script.declared.fault.ReplayFault.TheVariants.{Memory};
+ghost use Rattle.psci_failure.specs.psci_script.declared.fault.ReplayFault.TheVariants.{Write};
+ghost use Rattle.psci_failure.specs.declared.exit.Failure.TheVariants.{CommandLine};
 ghost use Rattle.psci_command.specs.declared.requests.Request.TheVariants.{Nothing};
-ghost use Rattle.psci_command.specs.declared.exit.Failure.TheVariants.{CommandLine};
 ghost use Rattle.psci_command.specs.Commands.{IsAsked, IsWordless};
 ghost use Rattle.psci_command.specs.Program.{AsksHelp, program};
 ghost use Rattle.psci_command.specs.Heard.{IsHeard, IsHeardBy};
 
 use crate::commands::commands;
-use crate::exit::Failure;
 use crate::plain::plain;
 use crate::requests::{Request, request_of};
 use crate::show_command::colors;
 use clap::error::{Error, ErrorKind};
-use psci_script::ReplayFault;
+use psci_failure::{Failure, ReplayFault};
 use std::alloc::Global;
 use std::rt::Env;
 use std::{env, io, str};

@@ -1,12 +1,9 @@
-//! The command line of the program: what its words ask for, and how a failure is told.
-//!
-//! - The *words* are the program's name and the arguments that it was given.
-//! - A *failure* has an exit status, and a line on standard error.
+//! The command line of the program: what its words ask for. The *words* are the program's name and
+//! the arguments that it was given.
 #![tactic(auto)]
 
 mod command_line;
 mod commands;
-mod exit;
 mod options;
 mod plain;
 mod requests;
@@ -15,6 +12,5 @@ mod storm_command;
 mod threads_command;
 
 pub use command_line::{asked, words};
-pub use exit::{AuditFailure, Failure};
-pub use psci_script::{Board, BoardFault, ReadBoard};
+pub use psci_failure::{AuditFailure, Board, BoardFault, Failure, ReadBoard, end};
 pub use requests::{Color, Request, ShowRequest, StormRequest, ThreadsRequest};

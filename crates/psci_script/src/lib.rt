@@ -6,7 +6,6 @@
 #![tactic(auto)]
 
 mod answer_line;
-mod answer_text;
 mod digits;
 mod fault;
 mod grammar;
@@ -15,7 +14,6 @@ mod limits;
 mod lines;
 
 pub use answer_line::{LONGEST_ANSWER, write_answer};
-pub use answer_text::SaidText;
 pub use fault::{ReplayFault, Replayed, ScriptFault};
 pub use grammar::{Line, read_line};
 pub use laws::law_event_lines;

@@ -8,10 +8,10 @@ ghost use Rattle.psci_shown.specs.Json.{event_members, level_depths, life_member
 ghost use Rattle.psci_shown.specs.Json.{parts_text, words_members};
 ghost use Rattle.psci_run.specs.Run.{answered};
 
+use crate::answer_text::AnswerText;
 use crate::json::{before, kind_word, place_word, state_word, truth};
 use crate::lines::put;
 use psci_run::Run;
-use psci_script::SaidText as AnswerText;
 use psci_show::{AskedText, Depths, SaidText, is_told};
 use psci_world::{Ack, Core, Event, Kind, Node, Part, Record, Regs, Said, Sent};
 use std::alloc::AllocError;

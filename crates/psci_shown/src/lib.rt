@@ -4,6 +4,7 @@
 //! - A *form* is how a run is shown: in lines of a *layout*, or as JSON.
 #![tactic(auto)]
 
+mod answer_text;
 mod event_json;
 mod form;
 mod json;

@@ -3,7 +3,8 @@
 ghost use Rattle.std.specs.Prelude.{◌≡◌, length};
 ghost use Rattle.psci_world.specs.psci_world_spec.Histories.{sent};
 
-use psci_world::{Settled, World};
+use psci_settling::Settled;
+use psci_world::World;
 
 /// What became of a storm.
 #[derive(Clone, Copy, Debug, PartialEq, Eq)]

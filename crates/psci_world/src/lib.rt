@@ -9,10 +9,8 @@
 #![tactic(auto)]
 
 mod kept;
-mod outstanding;
 mod present;
 mod runs;
-mod settling;
 mod world;
 
 pub use present::Present;
@@ -22,5 +20,4 @@ pub use psci_machine::{
     Part, Parts, Place, Record, Regs, Said, Sent, Start, Status, Taken, law_histories, law_runs,
 };
 pub use runs::run;
-pub use settling::{Settled, settle};
 pub use world::World;

@@ -1,0 +1,2 @@
+pub mod Settles
+pub use Rattle.psci_settle.specs.Settling
