@@ -1,7 +1,7 @@
-use Rattle.std.proofs.Common.{◌≡◌, ◌<◌, ◌+◌, ◌∙◌, suc, [], arith, subst}
-use Rattle.std.proofs.Common.{List, ℕ, map, get_or, length, take, ap, sym, sum, replicate, ◌^◌}
+use Rattle.std.proofs.Common.{◌≡◌, ◌<◌, ◌≤◌, ◌+◌, ◌∙◌, suc, [], arith, subst}
+use Rattle.std.proofs.Common.{List, ℕ, map, get_or, length, take, drop, ap, sym, sum, replicate, ◌^◌}
 use Rattle.std.specs.List.{AllPass}
-use Rattle.std.proofs.lemmas.List.{length-map, take_more, length-replicate}
+use Rattle.std.proofs.lemmas.List.{length-map, take_more, length-replicate, drop_all}
 use Rattle.std.proofs.lemmas.List.Concat.{flat_map_single}
 use Rattle.psci_board.specs.Board.{IsTree, is_width, size_below}
 use Rattle.psci_tree.specs.Domains.{child_count, cores_in}
@@ -54,6 +54,16 @@ loop-below-init c =
       off = c.in_ok-row.ensures.off ∙ ap (λ n. replicate n never_started) c.cores.ensures.cores;
     }
 
+pub parents_of-requires-clause-board : goal.parents_of-requires-clause-board
+parents_of-requires-clause-board c = c.cores.ensures.board
+
+pub parents_of-requires-clause-level : goal.parents_of-requires-clause-level
+parents_of-requires-clause-level c =
+    omega (arith, c.loop-below-test.true, c.height-below-end.ensures.height)
+
+pub parents_of-requires-clause-kept : goal.parents_of-requires-clause-kept
+parents_of-requires-clause-kept c = c.loop-below.invariant.kept
+
 pub parents_of-requires-clause-few : goal.parents_of-requires-clause-few
 parents_of-requires-clause-few c =
     let row : List Domain = c.loop-below.row.items in
@@ -91,3 +101,13 @@ returns-clause-off c =
     root_cores c.args.board.now.levels at.row.items _ c.in-Some.root at.below (at_end c)
     c.in-Some.ensures.items at.invariant.size
     ∙ at.invariant.off
+
+pub unreachable-requires : goal.unreachable-requires
+unreachable-requires c =
+    let levels : List (List ℕ) = c.args.board.now.levels in
+    let at = c.loop-below in
+    let last : length levels ≤ at.below =
+    omega (arith, c.loop-below-test.false, c.height-below-end.ensures.height) in
+    let none : drop at.below levels ≡ [] = drop_all at.below levels last in
+    let one : length at.row.items ≡ 1 = at.invariant.size ∙ ap size_below none in
+    omega (arith, one, c.in-None.ensures.cases.0)
