@@ -1,14 +1,15 @@
 -- Domains put together level by level, from the cores up.
-use Rattle.std.proofs.Common.{◌≡◌, ℕ, zero, suc, ◌<◌, List, [], ◌∷◌, ◌++◌, length, drop, map}
+use Rattle.std.proofs.Common.{◌≡◌, ℕ, zero, suc, ◌<◌, ◌≤◌, List, [], ◌∷◌, ◌++◌, length, take, drop, map}
 use Rattle.std.proofs.Common.{sum, replicate, ◌+◌, refl, ap, sym, ◌∙◌, arith, append-nil, get_or}
 use Rattle.std.specs.List.{flat_map, AllPass}
 use Rattle.std.proofs.lemmas.Bool.Decides.{nat_tests}
-use Rattle.std.proofs.lemmas.List.{length_push, map-append, replicate_more}
+use Rattle.std.proofs.lemmas.List.{length_push, map-append, replicate_more, take_all, drop_all}
 use Rattle.std.proofs.lemmas.List.Concat.{flat_map-append, flat_map_single}
 use Rattle.std.proofs.lemmas.List.Sums.{sum_by_push}
 use Rattle.psci_board.specs.Board.{IsTree, size_below, is_width}
 use Rattle.psci_tree.specs.declared.state.CoreState.{CoreState}
 use Rattle.psci_tree.specs.Domains.{leaves, cores_in, branches, child_count, child_counts}
+use Rattle.psci_tree.specs.Domains.{HasShape, IsWhole}
 use Rattle.psci_tree.specs.declared.domain.Domain.{Domain}
 use Rattle.psci_tree.specs.declared.domain.Domain.TheOpen.{Domain-F}
 use Rattle.psci_tree.specs.declared.domain.Domain.TheViews.{roll-Domain}
@@ -84,3 +85,53 @@ cores_push ns x n s none own h =
 -- each domain above the cores has a child
 pub some_children : (w : List ℕ) (i : ℕ) → AllPass is_width w → i < length w → 0 < get_or w i 0
 some_children w i h l = let e = h i 0 l in grind (arith, nat_tests)
+
+-- the last level -------------------------------------------------------------------------------
+
+-- all children were handed to their parents
+pub none_left : (done rest : List Domain) (w : List ℕ) (i : ℕ) → length w ≤ i
+    → sum (drop i w) ≡ length rest → done ≡ done ++ rest
+none_left done [] w i h e = sym (append-nil done)
+none_left done (n ∷ ns) w i h e =
+    let none : sum (drop i w) ≡ 0 = rw (drop_all i w h) refl in
+    absurd (omega arith)
+
+one_left : (ns rest : List Domain) (root : Domain) → ns ≡ rest ++ root ∷ [] → length ns ≡ 1
+    → ns ≡ root ∷ []
+one_left ns [] root e n = e
+one_left ns (d ∷ ds) root e n = absurd (omega (arith, ap length e, length_push ds root))
+
+root_alone : (levels : List (List ℕ)) (ns rest : List Domain) (root : Domain) (k : ℕ)
+    → k ≡ length levels → ns ≡ rest ++ root ∷ [] → length ns ≡ size_below (drop k levels)
+    → ns ≡ root ∷ []
+root_alone levels ns rest root k h e n =
+    let none : drop k levels ≡ [] = drop_all k levels (omega arith) in
+    one_left ns rest root e (n ∙ ap size_below none)
+
+shape_of : (root : Domain) (levels : List (List ℕ)) → AreShaped (root ∷ []) levels
+    → HasShape root levels
+shape_of root [] h = tt
+shape_of root (w ∷ ws) h =
+    (sym (append-nil (child_counts (length ws) root)) ∙ h.0, shape_of root ws h.1)
+
+-- the one domain of the last level is the whole board
+pub root_whole : (levels : List (List ℕ)) (ns rest : List Domain) (root : Domain) (k : ℕ)
+    → k ≡ length levels → ns ≡ rest ++ root ∷ [] → length ns ≡ size_below (drop k levels)
+    → AreShaped ns (take k levels) → sum (flat_map (child_counts k) ns) ≡ 0 → IsWhole root levels
+root_whole levels ns rest root k h e n s m =
+    let alone = root_alone levels ns rest root k h e n in
+    let all : take k levels ≡ levels = take_all k levels (omega arith) in
+    record {
+      shape = shape_of root levels (rw (alone, all) at s);
+      ends =
+          ap sum (sym (append-nil (child_counts (length levels) root)))
+          ∙ ap (λ xs. sum (flat_map (child_counts (length levels)) xs)) (sym alone)
+          ∙ ap (λ j. sum (flat_map (child_counts j) ns)) (sym h)
+          ∙ m;
+    }
+
+pub root_cores : (levels : List (List ℕ)) (ns rest : List Domain) (root : Domain) (k : ℕ)
+    → k ≡ length levels → ns ≡ rest ++ root ∷ [] → length ns ≡ size_below (drop k levels)
+    → leaves root ≡ cores_in ns
+root_cores levels ns rest root k h e n =
+    sym (append-nil (leaves root)) ∙ ap cores_in (sym (root_alone levels ns rest root k h e n))

@@ -6,6 +6,7 @@ pub mod Built
 pub mod Cleared
 pub mod GrantRows
 pub mod Granted
+pub mod Held
 pub mod Keeping
 pub mod KeptRows
 pub mod Looked

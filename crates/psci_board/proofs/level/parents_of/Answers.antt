@@ -1,5 +1,6 @@
-use Rattle.std.proofs.Common.{arith}
-use Rattle.std.proofs.lemmas.List.{length_push}
+use Rattle.std.proofs.Common.{ℕ, arith}
+use Rattle.std.proofs.lemmas.List.{length_push, take_all}
+use Rattle.std.proofs.lemmas.List.Sums.{sum_by_more}
 use Rattle.psci_board.proofs.Groups.{one_more_child}
 use Rattle.psci_board.proofs.level.parents_of.Goals as goal
 
@@ -14,3 +15,23 @@ loop-child-preserved c =
       each = one_more_child c.args.counts.now before after place c.loop-child._child (omega arith)
           (omega arith) kept.len kept.each c.in_ok-push.ensures.items;
     }
+
+pub loop-place-preserved : goal.loop-place-preserved
+loop-place-preserved c =
+    let at = c.loop-child in
+    let counts = c.args.counts.now in
+    let more = sum_by_more (λ (x : ℕ). x) counts c.loop-place.place 0 c.loop-place-test.true in
+    record { len = omega arith; each = at.invariant.each }
+
+pub loop-child-init : goal.loop-child-init
+loop-child-init c = record { len = omega arith; each = c.loop-place.invariant.each }
+
+pub returns-clause-len : goal.returns-clause-len
+returns-clause-len c =
+    let all = take_all c.loop-place.place c.args.counts.now c.loop-place-test.false in
+    rw all at c.loop-place.invariant.len
+
+pub returns-clause-each : goal.returns-clause-each
+returns-clause-each c =
+    let len = returns-clause-len c in
+    λ i h. c.loop-place.invariant.each i (omega arith)

@@ -1,13 +1,16 @@
-use Rattle.std.proofs.Common.{◌≡◌, ◌<◌, ◌+◌, ◌∙◌, suc, [], arith, subst}
-use Rattle.std.proofs.Common.{List, ℕ, map, get_or, length, take, ap, sym}
+use Rattle.std.proofs.Common.{◌≡◌, ◌<◌, ◌≤◌, ◌+◌, ◌∙◌, suc, [], arith, subst}
+use Rattle.std.proofs.Common.{List, ℕ, map, get_or, length, take, drop, ap, sym, sum, replicate, ◌^◌}
 use Rattle.std.specs.List.{AllPass}
-use Rattle.std.proofs.lemmas.List.{length-map, take_more}
-use Rattle.psci_board.specs.Board.{IsTree, is_width}
+use Rattle.std.proofs.lemmas.List.{length-map, take_more, length-replicate, drop_all}
+use Rattle.std.proofs.lemmas.List.Concat.{flat_map_single}
+use Rattle.psci_board.specs.Board.{IsTree, is_width, size_below}
 use Rattle.psci_tree.specs.Domains.{child_count, cores_in}
 use Rattle.psci_tree.specs.declared.domain.Domain.{Domain}
+use Rattle.psci_board.proofs.Levels.{level}
+use Rattle.psci_tree.specs.Recount.{never_started}
 use Rattle.psci_tree.proofs.Slices.{cores_down, widths_at}
 use Rattle.psci_tree.proofs.Built.{shaped_more, ends_more}
-use Rattle.psci_tree.proofs.Built.{tree_at}
+use Rattle.psci_tree.proofs.Built.{tree_at, root_whole, root_cores}
 use Rattle.psci_tree.specs.Kept.{AreKept}
 use Rattle.psci_tree.proofs.Keeping.{kept_last}
 use Rattle.psci_tree.proofs.build.build.Goals as goal
@@ -39,3 +42,72 @@ loop-below-preserved c =
 pub returns-clause-kept : goal.returns-clause-kept
 returns-clause-kept c =
     kept_last _ c.in-Some.root (subst AreKept c.in-Some.ensures.items c.loop-below.invariant.kept)
+
+pub loop-below-init : goal.loop-below-init
+loop-below-init c =
+    let row : List Domain = c.in_ok-row.row.items in
+    record {
+      shape = tt;
+      ends = ap sum (flat_map_single child_count row) ∙ c.in_ok-row.ensures.leaves;
+      size = c.in_ok-row.ensures.count ∙ c.cores.ensures.cores;
+      kept = c.in_ok-row.ensures.kept;
+      off = c.in_ok-row.ensures.off ∙ ap (λ n. replicate n never_started) c.cores.ensures.cores;
+    }
+
+pub parents_of-requires-clause-board : goal.parents_of-requires-clause-board
+parents_of-requires-clause-board c = c.cores.ensures.board
+
+pub parents_of-requires-clause-level : goal.parents_of-requires-clause-level
+parents_of-requires-clause-level c =
+    omega (arith, c.loop-below-test.true, c.height-below-end.ensures.height)
+
+pub parents_of-requires-clause-kept : goal.parents_of-requires-clause-kept
+parents_of-requires-clause-kept c = c.loop-below.invariant.kept
+
+pub parents_of-requires-clause-few : goal.parents_of-requires-clause-few
+parents_of-requires-clause-few c =
+    let row : List Domain = c.loop-below.row.items in
+    let n : ℕ = size_below c.args.board.now.levels in
+    let all : length (cores_in row) ≡ n =
+    ap length c.loop-below.invariant.off ∙ length-replicate n never_started in
+    let few : length (cores_in row) < 2 ^ 16 =
+    omega (arith, all, c.cores.ensures.cores, c.cores.type_inv) in
+    few
+
+pub parents_of-requires-clause-children : goal.parents_of-requires-clause-children
+parents_of-requires-clause-children c =
+    let row : List Domain = c.loop-below.row.items in
+    let levels : List (List ℕ) = c.args.board.now.levels in
+    let at : ℕ = c.loop-below.below in
+    let fits : at < length levels =
+    omega (arith, c.loop-below-test.true, c.height-below-end.ensures.height) in
+    let size = (level levels at c.cores.ensures.board.tree fits).size in
+    let all : sum (get_or levels at []) ≡ length row = sym (c.loop-below.invariant.size ∙ size) in
+    all
+
+at_end : (c : goal.After-drop-row) → c.loop-below.below ≡ length c.args.board.now.levels
+at_end c =
+    omega (arith, c.loop-below-test.false, c.loop-below.auto, c.height-below-end.ensures.height)
+
+pub returns-clause-whole : goal.returns-clause-whole
+returns-clause-whole c =
+    let at = c.loop-below in
+    root_whole c.args.board.now.levels at.row.items _ c.in-Some.root at.below (at_end c)
+    c.in-Some.ensures.items at.invariant.size at.invariant.shape at.invariant.ends
+
+pub returns-clause-off : goal.returns-clause-off
+returns-clause-off c =
+    let at = c.loop-below in
+    root_cores c.args.board.now.levels at.row.items _ c.in-Some.root at.below (at_end c)
+    c.in-Some.ensures.items at.invariant.size
+    ∙ at.invariant.off
+
+pub unreachable-requires : goal.unreachable-requires
+unreachable-requires c =
+    let levels : List (List ℕ) = c.args.board.now.levels in
+    let at = c.loop-below in
+    let last : length levels ≤ at.below =
+    omega (arith, c.loop-below-test.false, c.height-below-end.ensures.height) in
+    let none : drop at.below levels ≡ [] = drop_all at.below levels last in
+    let one : length at.row.items ≡ 1 = at.invariant.size ∙ ap size_below none in
+    omega (arith, one, c.in-None.ensures.cases.0)

@@ -1,14 +1,14 @@
 use Rattle.std.proofs.Common.{◌≡◌, ◌<◌, ◌≤◌, ◌+◌, ◌∙◌, suc, arith, ap, ℕ, List, [], get_or}
-use Rattle.std.proofs.Common.{length, take, drop, map, sym, append_assoc, ◌++◌, ◌∷◌, subst}
+use Rattle.std.proofs.Common.{length, take, drop, map, sym, append_assoc, ◌++◌, ◌∷◌, subst, rules}
 use Rattle.std.specs.List.{flat_map}
-use Rattle.std.proofs.lemmas.List.{take-append-drop, length-take-le, length-drop, take_more}
+use Rattle.std.proofs.lemmas.List.{take-append-drop, length-take-le, length-drop, take_more, take_all}
 use Rattle.std.proofs.lemmas.List.Sums.{sum_by-drop_more}
 use Rattle.psci_board.specs.Board.{children_at, size_below}
 use Rattle.psci_tree.specs.Domains.{branches, child_count, cores_in}
 use Rattle.psci_tree.specs.Kept.{AreKept, Keeps}
 use Rattle.psci_tree.specs.declared.domain.Domain.{Domain}
 use Rattle.psci_tree.proofs.Below.{length_parts}
-use Rattle.psci_tree.proofs.Built.{tree_at, children_push, counts_push, some_children}
+use Rattle.psci_tree.proofs.Built.{tree_at, children_push, counts_push, some_children, none_left}
 use Rattle.psci_tree.proofs.Keeping.{kept_take, kept_drop, kept_push, kept_roll}
 use Rattle.psci_tree.proofs.Slices.{widths_at}
 use Rattle.psci_tree.proofs.build.parents_of.Goals as goal
@@ -123,3 +123,41 @@ loop-place-preserved c =
         c.loop-place.invariant.left,
       );
     }
+
+pub loop-place-init : goal.loop-place-init
+loop-place-init c =
+    let none : c.new-parents.result.items ≡ [] = c.new-parents.ensures.items in
+    record {
+      whole = ap (λ ns. flat_map branches ns ++ c.args.row.items) none;
+      counts = ap (map child_count) none;
+      kept = subst AreKept (sym none) (search rules);
+      rest = c.requires.kept;
+      few = c.requires.few;
+      left = c.requires.children;
+    }
+
+at_end : (c : goal.After-drop-rest-2)
+    → length (get_or c.args.board.now.levels c.args.below []) ≤ c.loop-place.place
+at_end c =
+    let levels : List (List ℕ) = c.args.board.now.levels in
+    let up : c.args.below + 1 ≡ suc c.args.below = omega arith in
+    omega (
+      arith,
+      c.loop-place-test.false,
+      c.nodes-place-end.ensures.there (omega (arith, c.requires.level)),
+      ap (λ l. size_below (drop l levels)) up,
+      tree_at levels c.args.below c.requires.board.tree c.requires.level,
+    )
+
+pub returns-clause-children : goal.returns-clause-children
+returns-clause-children c =
+    let at = c.loop-place in
+    let own : List ℕ = get_or c.args.board.now.levels c.args.below [] in
+    none_left (flat_map branches at.parents.items) at.rest.items own at.place (at_end c)
+    at.invariant.left
+    ∙ at.invariant.whole
+
+pub returns-clause-counts : goal.returns-clause-counts
+returns-clause-counts c =
+    let own : List ℕ = get_or c.args.board.now.levels c.args.below [] in
+    c.loop-place.invariant.counts ∙ take_all c.loop-place.place own (at_end c)

@@ -69,3 +69,10 @@ returns-clause-value c =
     ∙ ap (λ cs. at levels cs rows rows-2) (c.in_ok-build.ensures.off)
     ∙ ap (λ gs. at levels off gs rows-2) (c.in_ok-deepest_rows.ensures {u = tt})
     ∙ ap (at levels off (all_off levels).granted) (c.in_ok-deepest_rows-2.ensures {u = tt})
+
+pub returns-clause-levels : goal.returns-clause-levels
+returns-clause-levels c =
+    c.set_pending.ensures.levels ∙ ap (λ (b : BoardValue). b.levels) c.in_ok-copy.ensures
+
+pub returns-clause-tree : goal.returns-clause-tree
+returns-clause-tree c = c.set_pending.ensures.tree

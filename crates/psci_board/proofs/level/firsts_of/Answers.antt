@@ -1,0 +1,38 @@
+use Rattle.std.proofs.Common.{◌≡◌, ℕ, ◌+◌, ◌<◌, ◌++◌, List, [], ◌∷◌, length, take, get_or, sum, arith, inl, inr}
+use Rattle.std.proofs.lemmas.Bool.{cases_lt}
+use Rattle.std.proofs.lemmas.List.{get_or_append_left, get_or_push, length_push}
+use Rattle.std.proofs.lemmas.List.Sums.{sum_by_more, sum_by_more_le}
+use Rattle.psci_board.proofs.level.firsts_of.Goals as goal
+
+-- one more first place, in the list of those of all nodes before
+one_more : (w fs gs : List ℕ) (i n : ℕ) → length fs ≡ i → n ≡ sum (take i w)
+    → ((k : ℕ) → k < i → get_or fs k 0 ≡ sum (take k w)) → gs ≡ fs ++ n ∷ []
+    → (k : ℕ) → k < i + 1 → get_or gs k 0 ≡ sum (take k w)
+one_more w fs gs i n l s each e k j = elim (cases_lt k i) [
+  | inl m ↦
+      let here : k < length fs = omega arith in
+      rw (e, get_or_append_left fs (n ∷ []) 0 k here) (each k m)
+  | inr m ↦
+      let last : i ≡ k = omega arith in
+      let at : length fs ≡ k = omega arith in
+      rw (e, get_or_push fs n 0 k at) (rw (← last) s)
+]
+
+pub overflow_add-first : goal.overflow_add-first
+overflow_add-first c =
+    let at = c.loop-count in
+    let all = sum_by_more_le (λ (x : ℕ). x) c.args.counts.now at.count-index 0 c.loop-count-test.true in
+    omega arith
+
+pub loop-count-preserved : goal.loop-count-preserved
+loop-count-preserved c =
+    let at = c.loop-count in
+    let counts = c.args.counts.now in
+    let more = sum_by_more (λ (x : ℕ). x) counts at.count-index 0 c.loop-count-test.true in
+    let pushed = length_push at.firsts.items at.first in
+    record {
+      first = omega arith;
+      len = rw c.in_ok-push.ensures.items (omega arith);
+      each = one_more counts at.firsts.items c.push.new.self.items at.count-index at.first
+          at.invariant.len at.invariant.first at.invariant.each c.in_ok-push.ensures.items;
+    }

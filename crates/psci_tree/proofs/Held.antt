@@ -1,0 +1,73 @@
+-- A tree that is held in memory, after one core came into another state.
+use Rattle.std.proofs.Common.{◌≡◌, ℕ, ◌<◌, List, length, get_or, ap, sym, subst, ◌∙◌, arith, inl, inr}
+use Rattle.std.specs.Prelude.{unwrap_or}
+use Rattle.std.proofs.Math.ListN.{set}
+use Rattle.std.proofs.lemmas.Bool.{cases_eq}
+use Rattle.std.proofs.lemmas.List.{get_or-set_same, get_or-set_other, get_or_default, length-set}
+use Rattle.psci_board.specs.Board.{size_below}
+use Rattle.psci_tree.specs.declared.state.Change.{Change}
+use Rattle.psci_tree.specs.declared.state.CoreState.{CoreState}
+use Rattle.psci_tree.specs.declared.domain.Domain.{Domain}
+use Rattle.psci_tree.specs.declared.way.Way.{Way}
+use Rattle.psci_tree.specs.Changes.{core_changed, with_core_state}
+use Rattle.psci_tree.specs.Domains.{leaves, child_counts}
+use Rattle.psci_tree.specs.Inside.{IsHeld}
+use Rattle.psci_tree.specs.Kept.{IsKept}
+use Rattle.psci_tree.specs.Recount.{TreeValue, IsActivity, IsDomainTree, known_at, never_started}
+use Rattle.psci_tree.proofs.Slices.{whole_kept}
+
+core_valid : (t : TreeValue) (core : ℕ) (s : CoreState) → IsDomainTree t
+    → core < size_below t.levels → IsActivity s.activity
+    → IsDomainTree (record t { cores = set t.cores core s })
+core_valid t core s v h a = record {
+  tree = v.tree;
+  high = v.high;
+  cores = length-set t.cores core s ∙ v.cores;
+  granted = v.granted;
+  confirmed = v.confirmed;
+  asks = λ k. elim (cases_eq k core) [
+    | inl e ↦
+        let there : core < length t.cores = omega (arith, v.cores) in
+        rw (e, get_or-set_same t.cores core s never_started there) a
+    | inr d ↦ rw (get_or-set_other t.cores core k s never_started d) (v.asks k)
+  ];
+  deepest = v.deepest;
+  nested = v.nested;
+}
+
+-- what was held is held, with the new state of the core
+pub held_core : (root new : Domain) (cores : List CoreState) (ways : List Way) (t : TreeValue)
+    (core : ℕ) (s : CoreState) → IsHeld root cores ways t → core < size_below t.levels
+    → IsActivity s.activity → leaves new ≡ set t.cores core s
+    → ((k : ℕ) → child_counts k new ≡ child_counts k root) → IsKept new
+    → IsHeld new (set cores core s) ways (record t { cores = leaves new })
+held_core root new cores ways t core s h l a e same kept =
+    subst (λ cs. IsHeld new (set cores core s) ways (record t { cores = cs })) (sym e) (record {
+      tied = record {
+        whole = whole_kept root new t.levels same h.tied.whole;
+        kept = kept;
+        valid = core_valid t core s h.tied.valid l a;
+      };
+      row = ap (λ cs. set cs core s) h.row;
+      lead = h.lead;
+    })
+
+-- the state of a core, as the row of states has it
+pub state_held : (root : Domain) (cores : List CoreState) (ways : List Way) (t : TreeValue)
+    (core : ℕ) (x y : CoreState) → IsHeld root cores ways t → core < size_below t.levels
+    → x ≡ get_or cores core x → x ≡ get_or t.cores core y
+state_held root cores ways t core x y h l e =
+    let there : core < length t.cores = omega (arith, h.tied.valid.cores) in
+    e ∙ ap (λ cs. get_or cs core x) h.row ∙ get_or_default t.cores core x y there
+
+-- the value of the tree after the change
+pub core_value : (root : Domain) (cores : List CoreState) (ways : List Way) (t : TreeValue)
+    (core : ℕ) (x s : CoreState) (change : Change) (now : List CoreState)
+    → IsHeld root cores ways t → core < size_below t.levels → x ≡ get_or cores core x
+    → s ≡ core_changed change x → now ≡ set t.cores core s
+    → record t { cores = now }
+    ≡ with_core_state t core change.activity (unwrap_or change.started (known_at t core))
+core_value root cores ways t core x s change now h l e d n =
+    let was = state_held root cores ways t core x never_started h l e in
+    ap (λ cs. record t { cores = cs })
+    (n ∙ ap (λ y. set t.cores core y) (d ∙ ap (core_changed change) was))
