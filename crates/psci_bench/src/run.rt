@@ -1,10 +1,11 @@
 //! Scripts, answered event by event.
 
 ghost use Rattle.std.specs.Prelude.{◌≡◌, ◌+◌, ◌-◌, ◌^◌, ◌<◌, ◌≤◌, ℕ, List, length, false, Option};
-ghost use Rattle.std.specs.Prelude.{IfOk, IfErr, OnOk};
+ghost use Rattle.std.specs.Prelude.{Some, IfOk, IfErr, OnErr, OnOk};
 ghost use Rattle.psci_script.specs.psci_board.Board.{BoardValue};
 ghost use Rattle.psci_script.specs.psci_world_spec.declared.said.Record.{Record};
 ghost use Rattle.psci_world.specs.Seen.{IsPresent};
+ghost use Rattle.psci_script.specs.declared.grammar.Line.TheVariants.{Event as Says};
 ghost use Rattle.psci_script.specs.Limits.{most_lines};
 ghost use Rattle.psci_lines.specs.Progress.{IsFresh, IsLine, OnlyGivenUp};
 ghost use Rattle.psci_lines.specs.Progress.{SameDevices, StaySound, progress_of};
@@ -15,8 +16,8 @@ ghost use Rattle.psci_bench.specs.UnderWay.{IsUnderWay, LineLeaves};
 
 use crate::laws::law_safe_scripts;
 use psci_lines::{Answers, Block, Progress, Sink, Source, read_board};
-use psci_script::{Extent, Line, ReplayFault, Replayed, ScriptFault, read_line};
-use psci_world::Present;
+use psci_script::{Event, Extent, Line, ReplayFault, Replayed, ScriptFault, read_line};
+use psci_world::{Memory, Present};
 use std::alloc::Global;
 
 /// Makes the event happen that a line says, if it says one, and adds the answer.
@@ -37,11 +38,26 @@ fn answer(
         None => Err(ScriptFault::Line.at(number)),
         Some(Line::Blank) => Ok(()),
         Some(Line::Event(event)) => {
-            let said = present.happen(event)?;
-            answers.add(&said)?;
+            make_happen(present, answers, event)?;
             Ok(())
         }
     }
+}
+
+/// Makes an event happen, and adds the answer.
+// Apart, so that a line without an event sets no room for what is said to zero. In place, since a
+// call would save its registers on each event.
+#[inline(always)]
+fn make_happen(present: &mut Present, answers: &mut Answers, event: Event) -> Result<(), Memory>
+    requires { answers.old.events < 2 ^ 64 - 1 }
+    ensures ok { OnOk result ((b : BoardValue) (past : List Record) → IsPresent b past present.old
+        → answers.old.events ≡ length past
+        → LineLeaves (Some (Says event)) b past present.new answers.old answers.new) }
+    ensures err { OnErr result (answers.new ≡ answers.old) }
+{
+    let said = present.happen(event)?;
+    answers.add(&said)?;
+    Ok(())
 }
 
 /// The present of the board that the first line has, before any event.

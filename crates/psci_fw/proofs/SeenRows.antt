@@ -1,14 +1,14 @@
 -- Worked examples of what is read of a firmware, of the way on of a core that enters, and of what a
 -- suspended core leaves.
 use Rattle.std.proofs.Common.{◌≡◌, ℕ, ◌<◌, [], ◌∷◌, map, true, false, None, Some}
-use Rattle.std.proofs.Common.{refl, arith, Option, ◌==◌}
+use Rattle.std.proofs.Common.{refl, ap, arith, Option, ◌==◌}
 use Rattle.std.specs.Prelude.{if◌then◌else◌}
 use Rattle.psci_board.specs.Board.{BoardValue, up}
 use Rattle.psci_board.specs.declared.node.Node.{Node}
 use Rattle.psci_fw_spec.specs.psci_abi.declared.format.Format.TheVariants.{Original}
 use Rattle.psci_fw_spec.specs.psci_coord.psci_tree.declared.state.Activity.TheVariants as activities
 use Rattle.psci_fw_spec.specs.declared.hw.Hw.TheVariants as hardware
-use Rattle.psci_fw_spec.specs.declared.mode.SuspendMode.TheVariants.{OsInitiated}
+use Rattle.psci_fw_spec.specs.declared.mode.SuspendMode.TheVariants.{OsInitiated, Platform}
 use Rattle.psci_fw_spec.specs.declared.outcome.Act.TheVariants as acts
 use Rattle.psci_fw_spec.specs.declared.status.Status.TheVariants as statuses
 use Rattle.psci_fw_spec.specs.AffinityInfo.{node_status}
@@ -23,7 +23,7 @@ use Rattle.psci_link.specs.Slots.Slot.{OfCore}
 use Rattle.psci_fw_state.specs.Seen.{values_in}
 use Rattle.psci_fw.specs.Calls.{MayCall}
 use Rattle.psci_fw.specs.Halts.{IsOfSystem}
-use Rattle.psci_fw.specs.Seen.{FirmwareValue, hw_shown, life_shown, status_shown}
+use Rattle.psci_fw.specs.Seen.{FirmwareValue, IsFresh, hw_shown, life_shown, status_shown}
 use Rattle.psci_fw.specs.Suspending.{left_by_suspend}
 use Rattle.psci_fw.specs.Ways.{way_by, way_on}
 
@@ -94,6 +94,29 @@ hardware_in_life_3 = refl
 no_hardware_before_a_life : hw_shown (firmware 0) (at 1 1) ≡ None
 unfolding values_in
 no_hardware_before_a_life = refl
+
+-- Before any core has entered --------------------------------------------------------------------
+
+new_firmware : IsFresh board (start_of_life board 0)
+new_firmware = record { same = λ e. refl }
+
+-- once a core has entered the values may be any
+fresh_in_life_2 : IsFresh board (values_in (firmware 2))
+unfolding values_in
+fresh_in_life_2 = record { same = λ e. let no : 2 ≡ 0 = e in absurd (omega arith) }
+
+values_before_a_life : IsFresh board (values_in (firmware 0)) → ⊥
+unfolding values_in
+values_before_a_life h =
+    let e : OsInitiated ≡ Platform = ap (λ (x : Values). x.mode) (h.same refl) in absurd (cc)
+
+halting_before_a_life : IsFresh board (record (start_of_life board 0) { halting = true }) → ⊥
+halting_before_a_life h =
+    let e : true ≡ false = ap (λ (x : Values). x.halting) (h.same refl) in absurd (cc)
+
+started_before_a_life : IsFresh board (record (start_of_life board 0) { known = λ c. 1 }) → ⊥
+started_before_a_life h =
+    let e : ◌≡◌ {A = ℕ} 1 0 = ap (λ (x : Values). x.known 0) (h.same refl) in omega arith
 
 -- Ways on -----------------------------------------------------------------------------------------
 
