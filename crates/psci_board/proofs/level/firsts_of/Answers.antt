@@ -1,7 +1,7 @@
 use Rattle.std.proofs.Common.{◌≡◌, ℕ, ◌+◌, ◌<◌, ◌++◌, List, [], ◌∷◌, length, take, get_or, sum, arith, inl, inr}
 use Rattle.std.proofs.lemmas.Bool.{cases_lt}
 use Rattle.std.proofs.lemmas.List.{get_or_append_left, get_or_push, length_push}
-use Rattle.std.proofs.lemmas.List.Sums.{sum_by_more, sum_by_more_le}
+use Rattle.std.proofs.lemmas.List.Sums.{sum_by_more}
 use Rattle.psci_board.proofs.level.firsts_of.Goals as goal
 
 -- one more first place, in the list of those of all nodes before
@@ -17,12 +17,6 @@ one_more w fs gs i n l s each e k j = elim (cases_lt k i) [
       let at : length fs ≡ k = omega arith in
       rw (e, get_or_push fs n 0 k at) (rw (← last) s)
 ]
-
-pub overflow_add-first : goal.overflow_add-first
-overflow_add-first c =
-    let at = c.loop-count in
-    let all = sum_by_more_le (λ (x : ℕ). x) c.args.counts.now at.count-index 0 c.loop-count-test.true in
-    omega arith
 
 pub loop-count-preserved : goal.loop-count-preserved
 loop-count-preserved c =
