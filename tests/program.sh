@@ -275,21 +275,26 @@ replay_program() {
     program=$whole
 }
 
-# ./psci prove proves each crate that a program stands on, once, and keeps what is built. Here a
-# command stands for the kit's, in whose libraries there is a stamp.
+# ./psci prove proves each crate that a program stands on, once, and builds it. Here commands stand
+# for those of the kit, which make what they are asked for.
 proving() {
     local name word kit=$work/kit fresh=$work/proving
     has_python "./psci prove" || return 0
-    mkdir -p "$kit" "$fresh/tools"
-    cat > "$kit/rt" << 'END'
+    mkdir -p "$kit/bin" "$fresh/tools"
+    echo "no kit" > "$kit/KIT-ID"
+    printf '#!/bin/sh\nexit 1\n' > "$kit/bin/rt"
+    cat > "$kit/bin/rattle" << 'END'
 #!/bin/sh
-name=${PWD##*/}
-if [ "$1" = lib ]; then mkdir -p out/rlib && touch out/rlib/stamp; exit; fi
-mkdir -p out
-printf '#!/bin/sh\necho %s built of "$@"\n' "$name" > "out/$name"
-chmod +x "out/$name"
+while [ "$1" != -o ]; do shift; done
+case $2 in *.o) : > "$2" ;; *) mkdir "$2" ;; esac
 END
-    chmod +x "$kit/rt"
+    cat > "$kit/bin/rattle-link" << 'END'
+#!/bin/sh
+while [ "$1" != -o ]; do shift; done
+printf '#!/bin/sh\necho %s built of "$@"\n' "${2##*/}" > "$2"
+chmod +x "$2"
+END
+    chmod +x "$kit/bin"/*
     for name in crates/*/src; do
         mkdir -p "$fresh/$name"
         echo "//! Nothing." > "$fresh/$name/lib.rt"
@@ -300,7 +305,8 @@ END
         word=all
         [ "$name" = psci_cli ] || word=
         # shellcheck disable=SC2086
-        PATH=$kit:$PATH "$fresh/psci" prove $word < /dev/null > "$work/out" 2> "$work/proved"
+        XDG_CACHE_HOME=$work/cache PATH=$kit/bin:$PATH "$fresh/psci" prove $word < /dev/null \
+            > "$work/out" 2> "$work/proved"
         echo $? > "$work/got"
         tail -n 1 "$work/proved" > "$work/err"
         expect "./psci prove $word" 0 "psci: built; ./psci runs it from now on"
@@ -314,6 +320,11 @@ END
     front_of "$fresh" version
     echo "psci_cli built of version" > "$work/lines"
     answers "./psci after ./psci prove all"
+    tools/repo.py below psci_cli | tr ' ' '\n' | grep -vx psci_cli | sort > "$work/lines"
+    find "$work/cache/gumdarts/proved" -name '*.rlib' | sed 's|.*/||; s|\.rlib$||' | sort > "$work/names"
+    comm -23 "$work/lines" "$work/names" > "$work/out"
+    : > "$work/lines"
+    answers "each library that ./psci prove proves is kept"
 }
 
 # the line of a storm, which the seed alone decides; its words, streams and memory
