@@ -9,12 +9,13 @@
 #![tactic(auto)]
 
 mod code;
-mod format;
+mod flags;
 mod registers;
 mod request;
 pub mod words;
 
 pub use code::Code;
-pub use format::{Format, features};
+pub use flags::features;
+pub use psci_format::Format;
 pub use registers::Regs;
 pub use request::{Request, read};

@@ -6,7 +6,7 @@ use Rattle.psci_world_spec.specs.psci_fw_spec.declared.call.FwCall.TheVariants a
 use Rattle.psci_world_spec.specs.psci_fw_spec.declared.outcome.Act.{Act}
 use Rattle.psci_world_spec.specs.psci_fw_spec.declared.outcome.Act.TheVariants as acts
 use Rattle.psci_world_spec.specs.psci_fw_spec.declared.reply.FwReply.TheVariants as replies
-use Rattle.psci_world_spec.specs.psci_link.declared.start.Cause.TheVariants as causes
+use Rattle.psci_world_spec.specs.psci_messages.declared.start.Cause.TheVariants as causes
 use Rattle.psci_world_spec.proofs.Scripts.{board}
 use Rattle.psci_shared.specs.declared.entry.FwEntry.{FwEntry}
 use Rattle.psci_audit_spec.proofs.ListRows.{boots, judging, number_in, start, version}

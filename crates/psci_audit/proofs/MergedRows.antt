@@ -6,8 +6,8 @@ use Rattle.psci_world_spec.specs.psci_ctl_spec.declared.reply.CtlReply.TheVarian
 use Rattle.psci_world_spec.specs.psci_fw_spec.declared.call.FwCall.TheVariants as calls
 use Rattle.psci_world_spec.specs.psci_fw_spec.declared.fault.FwFault.TheVariants.{NoCore}
 use Rattle.psci_world_spec.specs.psci_fw_spec.declared.reply.FwReply.TheVariants as replies
-use Rattle.psci_world_spec.specs.psci_link.declared.kind.Kind.TheVariants as kinds
-use Rattle.psci_world_spec.specs.psci_link.declared.start.Cause.TheVariants as causes
+use Rattle.psci_world_spec.specs.psci_messages.declared.kind.Kind.TheVariants as kinds
+use Rattle.psci_world_spec.specs.psci_messages.declared.start.Cause.TheVariants as causes
 use Rattle.psci_shared.specs.declared.entry.FwEntry.{FwEntry}
 use Rattle.psci_shared_ctl.specs.declared.entry.CtlEntry.{CtlEntry}
 use Rattle.psci_audit_spec.specs.Entries.{Asked}

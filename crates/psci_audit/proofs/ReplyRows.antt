@@ -9,9 +9,9 @@ use Rattle.psci_world_spec.specs.psci_ctl_spec.declared.reply.CtlReply.TheVarian
 use Rattle.psci_world_spec.specs.psci_fw_spec.declared.outcome.Act.TheVariants as acts
 use Rattle.psci_world_spec.specs.psci_fw_spec.declared.reply.FwReply.{FwReply}
 use Rattle.psci_world_spec.specs.psci_fw_spec.declared.reply.FwReply.TheVariants as replies
-use Rattle.psci_world_spec.specs.psci_link.declared.start.Cause.TheVariants as causes
-use Rattle.psci_world_spec.specs.psci_link.declared.taken.Taken.TheVariants as takens
-use Rattle.psci_world_spec.specs.psci_link.Message.{MessageValue}
+use Rattle.psci_world_spec.specs.psci_messages.declared.start.Cause.TheVariants as causes
+use Rattle.psci_world_spec.specs.psci_messages.declared.taken.Taken.TheVariants as takens
+use Rattle.psci_world_spec.specs.psci_messages.Message.{MessageValue}
 use Rattle.psci_world_spec.specs.declared.event.Event.TheVariants.{Enter}
 use Rattle.psci_world_spec.specs.declared.said.Said.{Said}
 use Rattle.psci_world_spec.specs.declared.said.Said.TheVariants.{Absent, Acked, Fw, Ignored, Kick}

@@ -11,12 +11,12 @@ use Rattle.psci_world_spec.specs.psci_fw_spec.declared.outcome.Act.{Act}
 use Rattle.psci_world_spec.specs.psci_fw_spec.declared.outcome.Act.TheVariants as acts
 use Rattle.psci_world_spec.specs.psci_fw_spec.declared.reply.FwReply.{FwReply}
 use Rattle.psci_world_spec.specs.psci_fw_spec.declared.reply.FwReply.TheVariants as replies
-use Rattle.psci_world_spec.specs.psci_link.declared.kind.Kind.TheVariants as kinds
-use Rattle.psci_world_spec.specs.psci_link.declared.start.Cause.{Cause}
-use Rattle.psci_world_spec.specs.psci_link.declared.start.Cause.TheVariants as causes
-use Rattle.psci_world_spec.specs.psci_link.declared.start.Start.{Start}
-use Rattle.psci_world_spec.specs.psci_link.declared.taken.Taken.TheVariants as takens
-use Rattle.psci_world_spec.specs.psci_link.Message.{AckValue, MessageValue}
+use Rattle.psci_world_spec.specs.psci_messages.declared.kind.Kind.TheVariants as kinds
+use Rattle.psci_world_spec.specs.psci_messages.declared.start.Cause.{Cause}
+use Rattle.psci_world_spec.specs.psci_messages.declared.start.Cause.TheVariants as causes
+use Rattle.psci_world_spec.specs.psci_messages.declared.start.Start.{Start}
+use Rattle.psci_world_spec.specs.psci_messages.declared.taken.Taken.TheVariants as takens
+use Rattle.psci_world_spec.specs.psci_messages.Message.{AckValue, MessageValue}
 use Rattle.psci_world_spec.proofs.Scripts.{board, computing}
 use Rattle.psci_audit_spec.specs.Entries.{Entry, Asked, Controlled, acks, controller_history}
 use Rattle.psci_audit_spec.specs.Entries.{firmware_history, place, sent}

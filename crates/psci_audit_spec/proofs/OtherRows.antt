@@ -2,7 +2,7 @@
 -- messages and a second life; and for each way to be wrong there one that is not legal.
 use Rattle.std.proofs.Common.{◌≡◌, ℕ, List, [], ◌∷◌, Option, None, Some, true, false}
 use Rattle.std.proofs.Common.{ap, refl, arith}
-use Rattle.psci_world_spec.specs.psci_coord.psci_parts.declared.part.Part.{Part}
+use Rattle.psci_world_spec.specs.psci_claims.psci_parts.declared.part.Part.{Part}
 use Rattle.psci_world_spec.specs.psci_ctl_spec.declared.call.CtlCall.TheVariants as asks
 use Rattle.psci_world_spec.specs.psci_ctl_spec.declared.delivery.Delivery.TheVariants as deliveries
 use Rattle.psci_world_spec.specs.psci_ctl_spec.declared.kick.Kick.TheVariants as kicks
@@ -11,11 +11,11 @@ use Rattle.psci_world_spec.specs.psci_ctl_spec.declared.reply.CtlReply.TheVarian
 use Rattle.psci_world_spec.specs.psci_fw_spec.declared.call.FwCall.TheVariants as calls
 use Rattle.psci_world_spec.specs.psci_fw_spec.declared.outcome.Act.TheVariants as acts
 use Rattle.psci_world_spec.specs.psci_fw_spec.declared.reply.FwReply.TheVariants as replies
-use Rattle.psci_world_spec.specs.psci_link.declared.kind.Kind.{Kind}
-use Rattle.psci_world_spec.specs.psci_link.declared.kind.Kind.TheVariants as kinds
-use Rattle.psci_world_spec.specs.psci_link.declared.start.Cause.TheVariants as causes
-use Rattle.psci_world_spec.specs.psci_link.declared.taken.Taken.TheVariants as takens
-use Rattle.psci_world_spec.specs.psci_link.Message.{AckValue, MessageValue}
+use Rattle.psci_world_spec.specs.psci_messages.declared.kind.Kind.{Kind}
+use Rattle.psci_world_spec.specs.psci_messages.declared.kind.Kind.TheVariants as kinds
+use Rattle.psci_world_spec.specs.psci_messages.declared.start.Cause.TheVariants as causes
+use Rattle.psci_world_spec.specs.psci_messages.declared.taken.Taken.TheVariants as takens
+use Rattle.psci_world_spec.specs.psci_messages.Message.{AckValue, MessageValue}
 use Rattle.psci_world_spec.proofs.Scripts.{board, part}
 use Rattle.psci_audit_spec.specs.Entries.{Entry, Asked, Controlled}
 use Rattle.psci_audit_spec.specs.Legal.{IsLegal}

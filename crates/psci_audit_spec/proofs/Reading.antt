@@ -14,7 +14,7 @@ use Rattle.psci_world_spec.specs.psci_fw_spec.declared.outcome.Act.{Act}
 use Rattle.psci_world_spec.specs.psci_fw_spec.declared.outcome.Outcome.{Outcome}
 use Rattle.psci_world_spec.specs.psci_fw_spec.declared.reply.FwReply.{FwReply}
 use Rattle.psci_world_spec.specs.psci_fw_spec.declared.reply.FwReply.TheVariants as replies
-use Rattle.psci_world_spec.specs.psci_link.Message.{MessageValue}
+use Rattle.psci_world_spec.specs.psci_messages.Message.{MessageValue}
 use Rattle.psci_world_spec.specs.declared.said.Said.{Said}
 use Rattle.psci_world_spec.specs.declared.said.Said.TheVariants.{Fw, Kick, Acked, Absent}
 use Rattle.psci_world_spec.specs.declared.said.Sent.{Sent}

@@ -8,8 +8,8 @@ use Rattle.psci_world_spec.specs.psci_ctl_spec.History as controls
 use Rattle.psci_world_spec.specs.psci_fw_spec.Exchange.{FwExchange}
 use Rattle.psci_world_spec.specs.psci_fw_spec.History as remembers
 use Rattle.psci_world_spec.specs.psci_fw_spec.Said.{listed}
-use Rattle.psci_world_spec.specs.psci_link.declared.start.Start.{Start}
-use Rattle.psci_world_spec.specs.psci_link.Message.{AckValue, MessageValue}
+use Rattle.psci_world_spec.specs.psci_messages.declared.start.Start.{Start}
+use Rattle.psci_world_spec.specs.psci_messages.Message.{AckValue, MessageValue}
 use Rattle.psci_world_spec.specs.declared.event.Event.{Event}
 use Rattle.psci_world_spec.specs.declared.event.Event.TheVariants.{Call, Enter, Wake, Reset}
 use Rattle.psci_world_spec.specs.declared.event.Event.TheVariants.{Deliver, Take}

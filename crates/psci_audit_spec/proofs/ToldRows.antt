@@ -12,9 +12,9 @@ use Rattle.psci_world_spec.specs.psci_fw_spec.declared.call.FwCall.TheVariants a
 use Rattle.psci_world_spec.specs.psci_fw_spec.declared.outcome.Act.TheVariants as acts
 use Rattle.psci_world_spec.specs.psci_fw_spec.declared.reply.FwReply.TheVariants as replies
 use Rattle.psci_world_spec.specs.psci_fw_spec.Exchange.{FwExchange}
-use Rattle.psci_world_spec.specs.psci_link.declared.start.Cause.TheVariants as causes
-use Rattle.psci_world_spec.specs.psci_link.declared.taken.Taken.TheVariants as takens
-use Rattle.psci_world_spec.specs.psci_link.Message.{AckValue}
+use Rattle.psci_world_spec.specs.psci_messages.declared.start.Cause.TheVariants as causes
+use Rattle.psci_world_spec.specs.psci_messages.declared.taken.Taken.TheVariants as takens
+use Rattle.psci_world_spec.specs.psci_messages.Message.{AckValue}
 use Rattle.psci_world_spec.specs.declared.event.Event.TheVariants.{Call, Enter, Wake, Reset}
 use Rattle.psci_world_spec.specs.declared.event.Event.TheVariants.{Deliver, Take}
 use Rattle.psci_world_spec.specs.declared.said.Record.{Record}

@@ -17,7 +17,7 @@ use Rattle.psci_world_spec.specs.psci_fw_spec.Exchange.{FwExchange}
 use Rattle.psci_world_spec.specs.psci_fw_spec.History as remembers
 use Rattle.psci_world_spec.specs.psci_fw_spec.Said.{listed}
 use Rattle.psci_world_spec.specs.psci_fw_spec.Values as kept
-use Rattle.psci_world_spec.specs.psci_link.Message.{AckValue, MessageValue}
+use Rattle.psci_world_spec.specs.psci_messages.Message.{AckValue, MessageValue}
 use Rattle.psci_world_spec.specs.declared.place.Place.{Place}
 use Rattle.psci_world_spec.specs.Places.{first_place, place_after, place_controlled}
 

@@ -14,7 +14,7 @@ use Rattle.psci_world_spec.specs.psci_fw_spec.declared.reply.FwReply.{FwReply}
 use Rattle.psci_world_spec.specs.psci_fw_spec.declared.reply.FwReply.TheVariants as replies
 use Rattle.psci_world_spec.specs.psci_fw_spec.Answer.{answer}
 use Rattle.psci_world_spec.specs.psci_fw_spec.Values as kept
-use Rattle.psci_world_spec.specs.psci_link.Message.{AckValue, MessageValue}
+use Rattle.psci_world_spec.specs.psci_messages.Message.{AckValue, MessageValue}
 use Rattle.psci_world_spec.specs.declared.place.Place.{Place}
 use Rattle.psci_world_spec.specs.declared.place.Place.TheVariants.{Started, Running, Stopped}
 use Rattle.psci_world_spec.specs.Lists.{indexed}

@@ -2,4 +2,4 @@ pub mod Board
 pub mod Laws
 pub mod Level
 pub mod Paths
-pub use Rattle.psci_abi.specs as psci_abi
+pub use Rattle.psci_format.specs as psci_format

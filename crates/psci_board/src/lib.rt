@@ -26,7 +26,7 @@ pub use level::Level;
 pub use limits::{MOST_CHILDREN, MOST_CORES, MOST_LEVELS, MOST_LIVES, MOST_ON_PATH, MOST_RANGES};
 pub use memory::Memory;
 pub use node::{Core, Node};
-pub use psci_abi::Format;
+pub use psci_format::Format;
 pub use range::AddressRange;
 pub use span::CoreSpan;
 pub use tree_laws::{law_children, law_parents, law_paths, law_sizes, law_spans, law_words};

@@ -2,8 +2,8 @@
 use Rattle.std.proofs.Common.{◌≡◌, List, ◌∷◌, [], refl}
 use Rattle.std.specs.Prelude.{ℕ, codes, Option, Some, None, Result, Ok, Err, map, replicate}
 use Rattle.std.specs.Fmt.{digits}
-use Rattle.psci_board.specs.psci_abi.declared.format.Format.{Format}
-use Rattle.psci_board.specs.psci_abi.declared.format.Format.TheVariants.{Original, Extended}
+use Rattle.psci_board.specs.psci_format.declared.format.Format.{Format}
+use Rattle.psci_board.specs.psci_format.declared.format.Format.TheVariants.{Original, Extended}
 use Rattle.psci_board_text.specs.declared.fault.BoardFault.{BoardFault}
 use Rattle.psci_board_text.specs.declared.fault.BoardFault.TheVariants.{Grammar, BadLimit}
 use Rattle.psci_board.specs.Board.{BoardValue}

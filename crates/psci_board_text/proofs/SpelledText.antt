@@ -6,7 +6,7 @@ use Rattle.std.specs.Fmt.{decimal}
 use Rattle.std.specs.List.{AllByRecursion}
 use Rattle.std.proofs.lemmas.List.Elements.{recursion_from_All}
 use Rattle.std.proofs.lemmas.Option.{option_and_then_some, same_Some}
-use Rattle.psci_board.specs.psci_abi.declared.format.Format.{Format}
+use Rattle.psci_board.specs.psci_format.declared.format.Format.{Format}
 use Rattle.psci_text.specs.Spelling.{TextLaws, IsHex, IsNumber, hex}
 use Rattle.psci_board_text.specs.Grammar.{TreeText, BoardText, IsTreeText, IsRange}
 use Rattle.psci_board_text.specs.Grammar.{IsBoardText, format_part, spaced, tree, range, spelling}

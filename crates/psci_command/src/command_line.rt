@@ -2,6 +2,7 @@
 
 ghost use Rattle.std.specs.Prelude.{◌≡◌, ◌⊎◌, IfOk, IfErr, map, string_bytes, Ok, Err};
 ghost use Rattle.clap.specs.Words.{FailsBy, fault_of, kind_of, subcommand_of};
+ghost use Rattle.clap.specs.Words.{subcommand_rows_of};
 ghost use Rattle.clap.specs.declared.error.kind.ErrorKind.TheVariants.{OutOfMemory};
 ghost use Rattle.psci_failure.specs.psci_script.declared.fault.ReplayFault.TheVariants.{Memory};
 ghost use Rattle.psci_failure.specs.psci_script.declared.fault.ReplayFault.TheVariants.{Write};
@@ -15,11 +16,26 @@ use crate::commands::commands;
 use crate::plain::plain;
 use crate::requests::{Request, request_of};
 use crate::show_command::colors;
+use clap::ArgMatches;
 use clap::error::{Error, ErrorKind};
 use psci_failure::{Failure, ReplayFault};
 use std::alloc::Global;
 use std::rt::Env;
 use std::{env, io, str};
+
+/// What the parser has found in these words, the program's name first, or its error; with these
+/// words for colors.
+fn matches_in<'a>(
+    alloc: Global,
+    colors: &'a [&'a str],
+    words: &'a [String],
+) -> Result<ArgMatches<'a>, Error>
+    ensures matches { IfOk result (λ matches. subcommand_rows_of matches
+        ≡ subcommand_of (program colors.entry) (map string_bytes words.now)) }
+    ensures fault { FailsBy (fault_of (program colors.entry) (map string_bytes words.now)) result }
+{
+    commands(alloc, colors)?.try_get_matches_from(words)
+}
 
 /// What these words ask for, the program's name first, or the parser's error; with these words for
 /// colors.
@@ -32,7 +48,7 @@ fn request_in<'a>(
         IsAsked (subcommand_of (program colors.entry) (map string_bytes words.now)) request) }
     ensures fault { FailsBy (fault_of (program colors.entry) (map string_bytes words.now)) result }
 {
-    let matches = commands(alloc, colors)?.try_get_matches_from(words)?;
+    let matches = matches_in(alloc, colors, words)?;
     Ok(request_of(&matches))
 }
 

@@ -1,7 +1,7 @@
-//! The options of commands.
+//! Commands without options, and the options of commands.
 
 ghost use Rattle.std.specs.Prelude.{◌≡◌, false, codes, IfOk};
-ghost use Rattle.clap.specs.Words.{app_of, rule_of, with_rule};
+ghost use Rattle.clap.specs.Words.{app_of, new_app, rule_of, with_rule};
 ghost use Rattle.psci_command.specs.Program.{board_rule, count_rule, flag_rule, number_rule};
 ghost use Rattle.psci_command.specs.Program.{seed_rule, text_rule};
 
@@ -13,6 +13,20 @@ use std::alloc::{AllocError, Global};
 const BOARD: &str = "(2 2) exec 0x40000000-0x40100000 boot 0x40000000 starts 1000 lives 3";
 
 const BOARD_HELP: &str = "The board, as the first line of a script has it behind its first word";
+
+/// The command of this name without options, with what help says of it.
+pub fn described<'a>(
+    alloc: Global,
+    name: &'a str,
+    about: &'a str,
+    long_about: &'a str,
+) -> Command<'a>
+    ensures { app_of result ≡ new_app name.entry.now }
+{
+    Command::new(alloc, name)
+        .about(about)
+        .long_about(long_about)
+}
 
 /// The command, with a board, a seed and a count as well.
 pub fn drawn<'a>(
@@ -26,13 +40,8 @@ pub fn drawn<'a>(
 {
     command
         .arg(board(alloc))?
-        .arg(number(alloc, "seed", seed_help, value_parser!(u64)))?
-        .arg(number(
-            alloc,
-            "count",
-            count_help,
-            value_parser!(u64).range(..=10_000),
-        ))
+        .arg(seed(alloc, seed_help))?
+        .arg(count(alloc, count_help))
 }
 
 /// The board, which may be left out.
@@ -40,10 +49,23 @@ fn board<'a>(alloc: Global) -> Arg<'a>
     ensures rule { rule_of result ≡ board_rule }
     ensures local { result.global ≡ false }
 {
-    Arg::new(alloc, "board")
-        .long("board")
-        .help(BOARD_HELP)
-        .default_value(BOARD)
+    text(alloc, "board", BOARD_HELP).default_value(BOARD)
+}
+
+/// The seed: any number of 64 bits.
+fn seed<'a>(alloc: Global, help: &'a str) -> Arg<'a>
+    ensures rule { rule_of result ≡ seed_rule }
+    ensures local { result.global ≡ false }
+{
+    number(alloc, "seed", help, value_parser!(u64))
+}
+
+/// The count: at most 10,000.
+fn count<'a>(alloc: Global, help: &'a str) -> Arg<'a>
+    ensures rule { rule_of result ≡ count_rule }
+    ensures local { result.global ≡ false }
+{
+    number(alloc, "count", help, value_parser!(u64).range(..=10_000))
 }
 
 /// A number that must be given, under this name.
@@ -51,11 +73,7 @@ fn number<'a>(alloc: Global, name: &'a str, help: &'a str, parser: ValueParser<'
     ensures rule { rule_of result ≡ number_rule name.entry.now parser.entry }
     ensures local { result.global ≡ false }
 {
-    Arg::new(alloc, name)
-        .long(name)
-        .help(help)
-        .required(true)
-        .value_parser(parser)
+    text(alloc, name, help).required(true).value_parser(parser)
 }
 
 /// A flag of this name, which may be left out.
@@ -63,10 +81,7 @@ pub fn flag<'a>(alloc: Global, name: &'a str, help: &'a str) -> Arg<'a>
     ensures rule { rule_of result ≡ flag_rule name.entry.now }
     ensures local { result.global ≡ false }
 {
-    Arg::new(alloc, name)
-        .long(name)
-        .help(help)
-        .action(ArgAction::SetTrue)
+    text(alloc, name, help).action(ArgAction::SetTrue)
 }
 
 /// A text, which may be left out, under this name.

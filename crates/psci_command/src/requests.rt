@@ -1,15 +1,15 @@
 //! What a command asks for, by the matches that the parser has found for it.
 
-ghost use Rattle.std.specs.Prelude.{Some};
-ghost use Rattle.clap.specs.Words.{found_of, rows_of, subcommand_rows_of};
+ghost use Rattle.std.specs.Prelude.{◌≡◌, Some, codes, option_map};
+ghost use Rattle.clap.specs.Words.{first_of, found_of, one_of, rows_of, subcommand_rows_of};
 ghost use Rattle.psci_command.specs.Commands.{IsAsked, IsDrawOf, IsShowOf, IsStormOf};
 ghost use Rattle.psci_command.specs.Commands.{IsThreadsOf};
-ghost use Rattle.psci_command.specs.Values.{IsColorIn};
+ghost use Rattle.psci_command.specs.Values.{IsColorIn, IsFlagIn, IsNumberIn};
 
 use clap::ArgMatches;
 
 /// A storm, as the command line asks for it.
-#[derive(Clone, Copy, Debug, PartialEq, Eq)]
+#[derive(Clone, Copy)]
 pub struct StormRequest<'a> {
     /// The text of the board.
     pub board: &'a str,
@@ -24,7 +24,7 @@ pub struct StormRequest<'a> {
 }
 
 /// Threads, as the command line asks for them.
-#[derive(Clone, Copy, Debug, PartialEq, Eq)]
+#[derive(Clone, Copy)]
 pub struct ThreadsRequest<'a> {
     /// The text of the board.
     pub board: &'a str,
@@ -35,7 +35,7 @@ pub struct ThreadsRequest<'a> {
 }
 
 /// A script that is to be shown, as the command line asks for it.
-#[derive(Clone, Copy, Debug, PartialEq, Eq)]
+#[derive(Clone, Copy)]
 pub struct ShowRequest {
     /// Whether it is to be shown as JSON.
     pub json: bool,
@@ -48,7 +48,7 @@ pub struct ShowRequest {
 }
 
 /// When there are colors.
-#[derive(Clone, Copy, Debug, PartialEq, Eq)]
+#[derive(Clone, Copy, PartialEq, Eq)]
 pub enum Color {
     /// On a terminal where `NO_COLOR` is not set.
     Auto,
@@ -59,7 +59,7 @@ pub enum Color {
 }
 
 /// What the command line asks for.
-#[derive(Clone, Copy, Debug, PartialEq, Eq)]
+#[derive(Clone, Copy)]
 pub enum Request<'a> {
     /// Replay a script.
     Replay,
@@ -102,9 +102,9 @@ fn draw_in<'a>(matches: &ArgMatches<'a>) -> Option<Draw<'a>>
     ensures { IsDrawOf (rows_of (found_of matches.now)) result }
 {
     Some(Draw {
-        board: matches.get_str("board")?,
-        seed: matches.get_one("seed")?,
-        count: matches.get_one("count")?,
+        board: text_in(matches, "board")?,
+        seed: number_in(matches, "seed")?,
+        count: number_in(matches, "count")?,
     })
 }
 
@@ -117,8 +117,8 @@ fn storm_in<'a>(matches: &ArgMatches<'a>) -> Option<StormRequest<'a>>
         board,
         seed,
         count,
-        counts: matches.get_one("counts").unwrap_or(false),
-        keep: matches.get_str("keep"),
+        counts: flag_in(matches, "counts"),
+        keep: text_in(matches, "keep"),
     })
 }
 
@@ -134,13 +134,41 @@ fn threads_in<'a>(matches: &ArgMatches<'a>) -> Option<ThreadsRequest<'a>>
 fn show_in(matches: &ArgMatches<'_>) -> Option<ShowRequest>
     ensures { IsShowOf (rows_of (found_of matches.now)) result }
 {
-    let color = Color::named(matches.get_str("color")?)?;
+    let color = Color::named(text_in(matches, "color")?)?;
     Some(ShowRequest {
-        json: matches.get_one("json").unwrap_or(false),
-        legend: matches.get_one("legend").unwrap_or(false),
-        width: matches.get_one("width"),
+        json: flag_in(matches, "json"),
+        legend: flag_in(matches, "legend"),
+        width: width_in(matches),
         color,
     })
+}
+
+/// The text of the option of this name, where these matches have one.
+fn text_in<'a>(matches: &ArgMatches<'a>, name: &str) -> Option<&'a str>
+    ensures { option_map (λ s. s.now) result ≡ first_of name.now (rows_of (found_of matches.now)) }
+{
+    matches.get_str(name)
+}
+
+/// The number of the option of this name, where these matches have one.
+fn number_in(matches: &ArgMatches<'_>, name: &str) -> Option<u64>
+    ensures { IsNumberIn 64 (one_of name.now (rows_of (found_of matches.now))) result }
+{
+    matches.get_one(name)
+}
+
+/// Whether the flag of this name is set in these matches.
+fn flag_in(matches: &ArgMatches<'_>, name: &str) -> bool
+    ensures { IsFlagIn (one_of name.now (rows_of (found_of matches.now))) result }
+{
+    matches.get_one(name).unwrap_or(false)
+}
+
+/// The width, where these matches have one.
+fn width_in(matches: &ArgMatches<'_>) -> Option<u16>
+    ensures { IsNumberIn 16 (one_of (codes "width") (rows_of (found_of matches.now))) result }
+{
+    matches.get_one("width")
 }
 
 impl Color {

@@ -1,15 +1,18 @@
 //! The command `show`.
 
-ghost use Rattle.std.specs.Prelude.{◌≡◌, [], false, IfOk};
-ghost use Rattle.clap.specs.Words.{app_of, rule_of};
-ghost use Rattle.psci_command.specs.Program.{AreColors, color_rule, show_shape, width_rule};
+ghost use Rattle.std.specs.Prelude.{◌≡◌, [], false, codes, IfOk};
+ghost use Rattle.clap.specs.Words.{app_of, new_app, rule_of, with_rule};
+ghost use Rattle.psci_command.specs.Program.{AreColors, color_rule, flag_rule, show_shape};
+ghost use Rattle.psci_command.specs.Program.{width_rule};
 
-use crate::options::flag;
+use crate::options::{described, flag, text};
 use clap::builder::ValueParser;
 use clap::{Arg, Command};
 use std::alloc::{AllocError, Global};
 
-const ABOUT_SHOW: &str =
+const ABOUT_SHOW: &str = "Show a script in words, with the state of each core and power domain";
+
+const LONG_ABOUT_SHOW: &str =
     "Takes a script from standard input, and says what each event of it asks for and is answered, in
 words. A line has the event's number, a letter for each core, the depth of each power domain as the
 power controller has it, level by level, and then the words; a depth has a ! behind it where it is
@@ -38,13 +41,18 @@ pub fn show_command<'a>(alloc: Global, colors: &'a [&'a str]) -> Result<Command<
     ensures { IfOk result (λ command. app_of command
         ≡ record { top = show_shape colors.entry; subs = [] }) }
 {
-    Command::new(alloc, "show")
-        .about("Show a script in words, with the state of each core and power domain")
-        .long_about(ABOUT_SHOW)
+    flagged(alloc)?.arg(width(alloc))?.arg(color(alloc, colors))
+}
+
+/// The command `show` with its flags alone.
+fn flagged<'a>(alloc: Global) -> Result<Command<'a>, AllocError>
+    ensures { IfOk result (λ command. app_of command ≡ with_rule
+        (with_rule (new_app (codes "show")) (flag_rule (codes "json")))
+        (flag_rule (codes "legend"))) }
+{
+    described(alloc, "show", ABOUT_SHOW, LONG_ABOUT_SHOW)
         .arg(flag(alloc, "json", JSON_HELP))?
-        .arg(flag(alloc, "legend", LEGEND_HELP))?
-        .arg(width(alloc))?
-        .arg(color(alloc, colors))
+        .arg(flag(alloc, "legend", LEGEND_HELP))
 }
 
 /// The width, which may be left out.
@@ -52,10 +60,7 @@ fn width<'a>(alloc: Global) -> Arg<'a>
     ensures rule { rule_of result ≡ width_rule }
     ensures local { result.global ≡ false }
 {
-    Arg::new(alloc, "width")
-        .long("width")
-        .help(WIDTH_HELP)
-        .value_parser(ValueParser::unsigned(0, 65_535))
+    text(alloc, "width", WIDTH_HELP).value_parser(ValueParser::unsigned(0, 65_535))
 }
 
 /// When letters are colored, by one of these words.
@@ -63,9 +68,7 @@ fn color<'a>(alloc: Global, colors: &'a [&'a str]) -> Arg<'a>
     ensures rule { rule_of result ≡ color_rule colors.entry }
     ensures local { result.global ≡ false }
 {
-    Arg::new(alloc, "color")
-        .long("color")
-        .help(COLOR_HELP)
+    text(alloc, "color", COLOR_HELP)
         .default_value("auto")
         .value_parser(ValueParser::Names(colors))
 }

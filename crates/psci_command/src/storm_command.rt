@@ -4,11 +4,13 @@ ghost use Rattle.std.specs.Prelude.{◌≡◌, [], IfOk};
 ghost use Rattle.clap.specs.Words.{app_of};
 ghost use Rattle.psci_command.specs.Program.{storm_shape};
 
-use crate::options::{drawn, flag, text};
+use crate::options::{described, drawn, flag, text};
 use clap::Command;
 use std::alloc::{AllocError, Global};
 
-const ABOUT_STORM: &str =
+const ABOUT_STORM: &str = "Make a storm of random events, and let it settle";
+
+const LONG_ABOUT_STORM: &str =
     "Makes so many random events happen on a board, drawn from the seed, and then lets it settle.
 Standard output has one line: `storm events E sent S quiet R` (E events in all, S messages sent, at
 rest after R rounds) or `storm events E sent S halting`. With --counts there is a line more for each
@@ -29,9 +31,7 @@ pub fn storm_command<'a>(alloc: Global) -> Result<Command<'a>, AllocError>
     ensures { IfOk result (λ command. app_of command
         ≡ record { top = storm_shape; subs = [] }) }
 {
-    let storm = Command::new(alloc, "storm")
-        .about("Make a storm of random events, and let it settle")
-        .long_about(ABOUT_STORM);
+    let storm = described(alloc, "storm", ABOUT_STORM, LONG_ABOUT_STORM);
     drawn(storm, alloc, SEED_HELP, COUNT_HELP)?
         .arg(flag(alloc, "counts", COUNTS_HELP))?
         .arg(text(alloc, "keep", KEEP_HELP))

@@ -4,11 +4,13 @@ ghost use Rattle.std.specs.Prelude.{◌≡◌, [], IfOk};
 ghost use Rattle.clap.specs.Words.{app_of};
 ghost use Rattle.psci_command.specs.Program.{threads_shape};
 
-use crate::options::drawn;
+use crate::options::{described, drawn};
 use clap::Command;
 use std::alloc::{AllocError, Global};
 
-const ABOUT_THREADS: &str =
+const ABOUT_THREADS: &str = "Start a thread for each core, and audit what they did";
+
+const LONG_ABOUT_THREADS: &str =
     "Starts a thread for each core of a board of at most 64 cores, and one for the link, which loses,
 repeats and reorders messages. Then an audit holds what the books of firmware and power controller
 say against the rules: it has to be one legal run. Standard output has one line: `threads firmware F
@@ -25,8 +27,6 @@ pub fn threads_command<'a>(alloc: Global) -> Result<Command<'a>, AllocError>
     ensures { IfOk result (λ command. app_of command
         ≡ record { top = threads_shape; subs = [] }) }
 {
-    let threads = Command::new(alloc, "threads")
-        .about("Start a thread for each core, and audit what they did")
-        .long_about(ABOUT_THREADS);
+    let threads = described(alloc, "threads", ABOUT_THREADS, LONG_ABOUT_THREADS);
     drawn(threads, alloc, SEED_HELP, COUNT_HELP)
 }

@@ -1,10 +1,2 @@
-mod Accepted
-mod BelowLaws
-mod Boards
-mod ClaimLaws
-mod ClaimRows
 mod Climbing
-mod LastCoreRows
-mod LeastBelow
-mod OsiLaws
 mod TreeView

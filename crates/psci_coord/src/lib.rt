@@ -1,13 +1,10 @@
-//! What a core that stops asks of its power domains.
+//! What a stopping core asks of its power domains, read off the tree.
 //!
-//! - A *claim* is the list of the parts of one stop: one part for each level, from the core up.
+//! - In *platform-coordinated* mode a core claims of each domain on its path the least that the
+//!   cores below the domain ask. In *OS-initiated* mode it claims what it asks itself.
 #![tactic(auto)]
 
 mod claim;
-mod laws;
-mod osi;
 
 pub use claim::{claims, own_parts};
-pub use laws::{law_below, law_claims, law_last_core, law_off, law_own, law_platform};
-pub use osi::Osi;
-pub use psci_parts::{MOST_PARTS, Part, Parts};
+pub use psci_claims::{MOST_PARTS, Part, Parts};

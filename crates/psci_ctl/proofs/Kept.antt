@@ -5,7 +5,7 @@ use Rattle.std.specs.Prelude.{nat_lt}
 use Rattle.std.proofs.Common.{Bool, true, false, ◌==◌, ◌&&◌, [], get_or}
 use Rattle.std.proofs.lemmas.Bool.{and_parts, eq-eqb, eqb-true, lt-ltb}
 use Rattle.psci_board.specs.Board.{BoardValue, IsBoard, cores}
-use Rattle.psci_link.specs.declared.start.Cause.{Cause}
+use Rattle.psci_messages.specs.declared.start.Cause.{Cause}
 use Rattle.psci_ctl_spec.specs.Changes.{change, next_life, with_start}
 use Rattle.psci_ctl_spec.specs.Effects.{Effect, Starts, Ends, Begins}
 use Rattle.psci_ctl_spec.specs.Follows.{AreValues, MayFollow}

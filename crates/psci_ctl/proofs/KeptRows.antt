@@ -4,9 +4,9 @@ use Rattle.std.proofs.Common.{◌≡◌, ℕ, ◌+◌, ◌*◌, ◌≤◌, List,
 use Rattle.std.proofs.Common.{None, Some, refl, ap, arith}
 use Rattle.psci_board.specs.Board.{BoardValue, up}
 use Rattle.psci_parts.specs.declared.part.Part.{Part}
-use Rattle.psci_ctl_spec.specs.psci_abi.declared.format.Format.TheVariants.{Original}
+use Rattle.psci_ctl_spec.specs.psci_format.declared.format.Format.TheVariants.{Original}
 use Rattle.psci_ctl_spec.specs.Values.{Values, starts_below}
-use Rattle.psci_link.specs.declared.start.Cause.TheVariants.{Boot, On, Wake}
+use Rattle.psci_messages.specs.declared.start.Cause.TheVariants.{Boot, On, Wake}
 use Rattle.psci_ctl.specs.declared.done.Done.{Done}
 use Rattle.psci_ctl.specs.declared.level.DomainRow.{DomainRow}
 use Rattle.psci_ctl.specs.declared.row.CoreRow.{CoreRow}

@@ -8,7 +8,7 @@ use Rattle.psci_board.specs.declared.node.Node.{Node}
 use Rattle.psci_board.specs.Board.{height}
 use Rattle.psci_parts.specs.declared.part.Part.{Part}
 use Rattle.psci_board.specs.Board.{domain_of}
-use Rattle.psci_link.specs.Message.{PartByPart}
+use Rattle.psci_messages.specs.Message.{PartByPart}
 use Rattle.psci_ctl_spec.specs.Parts.{is_applied, is_covered, is_live, laid}
 use Rattle.psci_ctl_spec.specs.Values.{Values, starts_below}
 use Rattle.psci_ctl.specs.Rows.{deepened, with_depth}

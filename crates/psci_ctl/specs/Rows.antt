@@ -5,7 +5,7 @@ use Rattle.psci_board.specs.Board.{BoardValue, height, nodes}
 use Rattle.psci_board.specs.declared.node.Node.{Node}
 use Rattle.psci_parts.specs.declared.part.Part.{Part}
 use Rattle.psci_board.specs.Board.{domain_of}
-use Rattle.psci_link.specs.declared.start.Cause.TheVariants as causes
+use Rattle.psci_messages.specs.declared.start.Cause.TheVariants as causes
 use Rattle.psci_ctl_spec.specs.Values.{Values, starts_below}
 use Rattle.psci_board.specs.Paths.{is_on_path}
 use Rattle.psci_ctl.specs.declared.row.CoreRow.{CoreRow}

@@ -6,7 +6,7 @@ use crate::row::{CoreRow, off_cores};
 use crate::starting::{begin_life, start_core};
 use psci_board::{Board, Core, Memory, Node};
 use psci_ctl_spec::{Cause, Delivery, Kick, Start, law_limits};
-use psci_link::Message;
+use psci_messages::Message;
 use std::alloc::Global;
 use std::marker::Model;
 

@@ -4,13 +4,13 @@ ghost use Rattle.std.specs.Prelude.{◌≡◌, ◌≤◌, ◌+◌, ◌<◌, ◌=
 ghost use Rattle.std.specs.Prelude.{if◌then◌else◌, nat_lt};
 ghost use Rattle.psci_board.specs.Board.{cores, height, nodes};
 ghost use Rattle.psci_board.specs.Board.{domain_of};
-ghost use Rattle.psci_link.specs.Message.{PartByPart, AreClaims, most_applied};
+ghost use Rattle.psci_messages.specs.Message.{PartByPart, AreClaims, most_applied};
 ghost use Rattle.psci_ctl_spec.specs.Changes.{change, with_start};
 ghost use Rattle.psci_ctl_spec.specs.Effects.{Begins, Ends, message_effect};
 ghost use Rattle.psci_ctl_spec.specs.Legal.{IsOfBoard};
 ghost use Rattle.psci_ctl_spec.specs.Parts.{applied, is_covered, is_stale, laid};
 ghost use Rattle.psci_ctl_spec.specs.Replies.{ack_by, ack_of, may_follow, may_start};
-ghost use Rattle.psci_link.specs.declared.start.Cause.TheVariants.{On};
+ghost use Rattle.psci_messages.specs.declared.start.Cause.TheVariants.{On};
 ghost use Rattle.psci_ctl_spec.specs.Values.{starts_below};
 ghost use Rattle.psci_ctl.specs.Rows.{deepened};
 ghost use Rattle.psci_ctl.specs.Seen.{seen, start_done};
@@ -24,7 +24,7 @@ use crate::row::forget_starts;
 use crate::starting::begin_life;
 use psci_board::{Core, Node, law_paths};
 use psci_ctl_spec::{Cause, law_limits};
-use psci_link::{Kind, Message, law_parts};
+use psci_messages::{Kind, Message, law_parts};
 use psci_parts::Part;
 
 impl Controller {

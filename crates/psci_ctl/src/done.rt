@@ -1,10 +1,10 @@
 //! What was done with a message.
 
 ghost use Rattle.std.specs.Prelude.{◌≡◌, ◌≤◌};
-ghost use Rattle.psci_link.specs.Message.{most_applied};
+ghost use Rattle.psci_messages.specs.Message.{most_applied};
 ghost use Rattle.psci_ctl_spec.specs.Replies.{ack_of};
 
-use psci_link::{Ack, Message};
+use psci_messages::{Ack, Message};
 
 /// What was done with a message of this life.
 #[derive(Clone, Copy)]

@@ -7,14 +7,14 @@ use Rattle.std.specs.Prelude.{slice_get}
 use Rattle.psci_board.specs.Board.{BoardValue, cores, height}
 use Rattle.psci_board.specs.declared.node.Node.{Node}
 use Rattle.psci_board.specs.Laws.{ChildLaws}
-use Rattle.psci_link.specs.psci_parts.declared.part.Part.{Part}
-use Rattle.psci_link.specs.Message.{AreClaims, PartByPart}
-use Rattle.psci_link.specs.declared.start.Cause.{Cause}
+use Rattle.psci_messages.specs.psci_parts.declared.part.Part.{Part}
+use Rattle.psci_messages.specs.Message.{AreClaims, PartByPart}
+use Rattle.psci_messages.specs.declared.start.Cause.{Cause}
 use Rattle.psci_ctl_spec.specs.Effects.{Effect, Nothing, Starts, Deepens, Ends, Begins, effect_of}
 use Rattle.psci_ctl_spec.specs.Exchange.{CtlExchange}
 use Rattle.psci_ctl_spec.specs.Follows.{IsFront, MayFollow}
 use Rattle.psci_ctl_spec.specs.History.{depth, depth_by, effect_in, life, life_by}
-use Rattle.psci_link.specs.OnlyIf.{only_if}
+use Rattle.psci_messages.specs.OnlyIf.{only_if}
 use Rattle.psci_ctl_spec.specs.History.{starts, starts_by}
 use Rattle.psci_ctl_spec.specs.History.{values_of}
 use Rattle.psci_ctl_spec.specs.Lasting.{Applies, IsApplied, IsFirst, keeps_life}

@@ -4,7 +4,7 @@ use Rattle.std.proofs.Common.{◌≡◌, ℕ, true, false, List, [], ◌∷◌, 
 use Rattle.std.proofs.Common.{lit<, lit≤, Bool, ap}
 use Rattle.std.proofs.lemmas.Bool.{true≢false}
 use Rattle.psci_board.specs.Board.{up}
-use Rattle.psci_link.specs.declared.kind.Kind.TheVariants.{Down}
+use Rattle.psci_messages.specs.declared.kind.Kind.TheVariants.{Down}
 use Rattle.psci_ctl_spec.specs.declared.call.CtlCall.{CtlCall}
 use Rattle.psci_ctl_spec.specs.declared.delivery.Delivery.TheVariants.{Applied, Ignored}
 use Rattle.psci_ctl_spec.specs.declared.reply.CtlReply.{CtlReply}

@@ -3,13 +3,13 @@ use Rattle.std.proofs.Common.{◌≡◌, ℕ, Bool, true, false, cond, ◌==◌,
 use Rattle.std.proofs.Common.{None, option_map, unwrap_or, refl}
 use Rattle.std.specs.Prelude.{slice_get}
 use Rattle.psci_board.specs.Board.{BoardValue}
-use Rattle.psci_link.specs.psci_parts.declared.part.Part.{Part}
+use Rattle.psci_messages.specs.psci_parts.declared.part.Part.{Part}
 use Rattle.psci_ctl_spec.specs.Changes.{after, change}
 use Rattle.psci_ctl_spec.specs.Effects.{Effect, Nothing, Starts, Deepens, Ends, Begins}
 use Rattle.psci_ctl_spec.specs.Exchange.{CtlExchange}
 use Rattle.psci_ctl_spec.specs.History.{cause_by, depth_by, effect_in}
 use Rattle.psci_ctl_spec.specs.History.{life_by, starts_by, values_of}
-use Rattle.psci_link.specs.OnlyIf.{only_if}
+use Rattle.psci_messages.specs.OnlyIf.{only_if}
 use Rattle.psci_ctl_spec.specs.Values.{Values, start_of_life}
 use Rattle.psci_ctl_spec.specs.Parts.{depth_or}
 use Rattle.psci_board.specs.Paths.{is_on_path}

@@ -1,7 +1,7 @@
 -- Worked examples: domains that are less deep by the last part than by the one before.
 use Rattle.std.proofs.Common.{Some, None, ◌∷◌, [], refl}
 use Rattle.psci_board.specs.Board.{up}
-use Rattle.psci_link.specs.declared.start.Cause.TheVariants as causes
+use Rattle.psci_messages.specs.declared.start.Cause.TheVariants as causes
 use Rattle.psci_ctl_spec.specs.Changes.{after}
 use Rattle.psci_ctl_spec.specs.Effects.{effect_of}
 use Rattle.psci_ctl_spec.specs.History.{values_of}

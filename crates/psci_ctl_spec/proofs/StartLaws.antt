@@ -2,7 +2,7 @@
 use Rattle.std.proofs.Common.{ℕ, ◌+◌, ◌<◌, cond, refl, ap, ◌∙◌}
 use Rattle.std.proofs.Common.{add-zero}
 use Rattle.psci_board.specs.Board.{BoardValue, cores, up}
-use Rattle.psci_link.specs.declared.start.Cause.{Cause}
+use Rattle.psci_messages.specs.declared.start.Cause.{Cause}
 use Rattle.psci_ctl_spec.specs.Laws.{StartLaws, SumLaws}
 use Rattle.psci_ctl_spec.specs.Values.{Values, starts_below}
 use Rattle.psci_ctl_spec.proofs.Paths.{on_path}

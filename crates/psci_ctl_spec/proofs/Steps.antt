@@ -1,18 +1,18 @@
 -- Worked examples are stated so: some calls in turn, and the replies to them.
 use Rattle.std.proofs.Common.{◌≡◌, ℕ, Bool, List, [], ◌∷◌, map, reverse, Option}
-use Rattle.psci_link.specs.psci_abi.declared.format.Format.TheVariants.{Original}
+use Rattle.psci_messages.specs.psci_format.declared.format.Format.TheVariants.{Original}
 use Rattle.psci_board.specs.Board.{BoardValue}
-use Rattle.psci_link.specs.psci_parts.declared.part.Part.{Part}
-use Rattle.psci_link.specs.declared.kind.Kind.{Kind}
-use Rattle.psci_link.specs.declared.kind.Kind.TheVariants as kinds
+use Rattle.psci_messages.specs.psci_parts.declared.part.Part.{Part}
+use Rattle.psci_messages.specs.declared.kind.Kind.{Kind}
+use Rattle.psci_messages.specs.declared.kind.Kind.TheVariants as kinds
 use Rattle.psci_ctl_spec.specs.declared.call.CtlCall.{CtlCall}
 use Rattle.psci_ctl_spec.specs.declared.call.CtlCall.TheVariants as calls
 use Rattle.psci_ctl_spec.specs.declared.delivery.Delivery.TheVariants as deliveries
 use Rattle.psci_ctl_spec.specs.declared.kick.Kick.TheVariants as kicks
 use Rattle.psci_ctl_spec.specs.declared.reply.CtlReply.{CtlReply}
 use Rattle.psci_ctl_spec.specs.declared.reply.CtlReply.TheVariants as replies
-use Rattle.psci_link.specs.declared.start.Cause.{Cause}
-use Rattle.psci_link.specs.declared.start.Start.{Start}
+use Rattle.psci_messages.specs.declared.start.Cause.{Cause}
+use Rattle.psci_messages.specs.declared.start.Start.{Start}
 use Rattle.psci_ctl_spec.specs.Changes.{after}
 use Rattle.psci_ctl_spec.specs.Exchange.{CtlExchange}
 use Rattle.psci_ctl_spec.specs.History.{values_of}

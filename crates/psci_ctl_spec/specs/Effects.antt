@@ -1,10 +1,10 @@
 -- What a call with its reply comes down to.
 use Rattle.std.specs.Prelude.{ℕ, ◌==◌, nat_lt, if◌then◌else◌, List, take}
 use Rattle.psci_board.specs.Board.{BoardValue}
-use Rattle.psci_link.specs.psci_parts.declared.part.Part.{Part}
-use Rattle.psci_link.specs.Message.{MessageValue, AckValue}
-use Rattle.psci_link.specs.declared.kind.Kind.{Kind}
-use Rattle.psci_link.specs.declared.kind.Kind.TheVariants as kinds
+use Rattle.psci_messages.specs.psci_parts.declared.part.Part.{Part}
+use Rattle.psci_messages.specs.Message.{MessageValue, AckValue}
+use Rattle.psci_messages.specs.declared.kind.Kind.{Kind}
+use Rattle.psci_messages.specs.declared.kind.Kind.TheVariants as kinds
 use Rattle.psci_ctl_spec.specs.declared.call.CtlCall.{CtlCall}
 use Rattle.psci_ctl_spec.specs.declared.call.CtlCall.TheVariants as calls
 use Rattle.psci_ctl_spec.specs.declared.delivery.Delivery.TheVariants as deliveries
@@ -12,8 +12,8 @@ use Rattle.psci_ctl_spec.specs.declared.kick.Kick.{Kick}
 use Rattle.psci_ctl_spec.specs.declared.kick.Kick.TheVariants as kicks
 use Rattle.psci_ctl_spec.specs.declared.reply.CtlReply.{CtlReply}
 use Rattle.psci_ctl_spec.specs.declared.reply.CtlReply.TheVariants as replies
-use Rattle.psci_link.specs.declared.start.Cause.{Cause}
-use Rattle.psci_link.specs.declared.start.Cause.TheVariants as causes
+use Rattle.psci_messages.specs.declared.start.Cause.{Cause}
+use Rattle.psci_messages.specs.declared.start.Cause.TheVariants as causes
 
 -- Every reply to every call comes down to one of these.
 pub data Effect : Type 0 where

@@ -1,7 +1,7 @@
 -- Histories in which every reply is the one reply.
 use Rattle.std.specs.Prelude.{◌≡◌, ◌<◌, ◌≤◌, ◌+◌, List, [], ◌∷◌, length}
 use Rattle.psci_board.specs.Board.{BoardValue, cores, height}
-use Rattle.psci_link.specs.Message.{MessageValue, IsMessage}
+use Rattle.psci_messages.specs.Message.{MessageValue, IsMessage}
 use Rattle.psci_ctl_spec.specs.declared.call.CtlCall.{CtlCall}
 use Rattle.psci_ctl_spec.specs.declared.call.CtlCall.TheVariants as calls
 use Rattle.psci_ctl_spec.specs.declared.reply.CtlReply.{CtlReply}

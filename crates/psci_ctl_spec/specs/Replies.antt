@@ -2,9 +2,9 @@
 use Rattle.std.specs.Prelude.{ℕ, ◌+◌, Bool, true, false, ◌==◌, ◌&&◌, nat_lt, if◌then◌else◌}
 use Rattle.std.specs.Prelude.{Option, None, Some}
 use Rattle.psci_board.specs.Board.{BoardValue}
-use Rattle.psci_link.specs.Message.{MessageValue, AckValue}
-use Rattle.psci_link.specs.declared.kind.Kind.{Kind}
-use Rattle.psci_link.specs.declared.kind.Kind.TheVariants as kinds
+use Rattle.psci_messages.specs.Message.{MessageValue, AckValue}
+use Rattle.psci_messages.specs.declared.kind.Kind.{Kind}
+use Rattle.psci_messages.specs.declared.kind.Kind.TheVariants as kinds
 use Rattle.psci_ctl_spec.specs.declared.call.CtlCall.{CtlCall}
 use Rattle.psci_ctl_spec.specs.declared.call.CtlCall.TheVariants as calls
 use Rattle.psci_ctl_spec.specs.declared.delivery.Delivery.{Delivery}
@@ -13,9 +13,9 @@ use Rattle.psci_ctl_spec.specs.declared.kick.Kick.{Kick}
 use Rattle.psci_ctl_spec.specs.declared.kick.Kick.TheVariants as kicks
 use Rattle.psci_ctl_spec.specs.declared.reply.CtlReply.{CtlReply}
 use Rattle.psci_ctl_spec.specs.declared.reply.CtlReply.TheVariants as replies
-use Rattle.psci_link.specs.declared.start.Cause.{Cause}
-use Rattle.psci_link.specs.declared.start.Cause.TheVariants as causes
-use Rattle.psci_link.specs.declared.start.Start.{Start}
+use Rattle.psci_messages.specs.declared.start.Cause.{Cause}
+use Rattle.psci_messages.specs.declared.start.Cause.TheVariants as causes
+use Rattle.psci_messages.specs.declared.start.Start.{Start}
 use Rattle.psci_ctl_spec.specs.Parts.{applied, is_stale}
 use Rattle.psci_ctl_spec.specs.Values.{Values}
 

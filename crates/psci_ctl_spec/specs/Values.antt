@@ -4,8 +4,8 @@ use Rattle.std.specs.List.{sum_by}
 use Rattle.psci_board.specs.Board.{BoardValue, below}
 use Rattle.psci_board.specs.Paths.{is_on_path}
 use Rattle.psci_board.specs.declared.node.Node.{Node}
-use Rattle.psci_link.specs.declared.start.Cause.{Cause}
-use Rattle.psci_link.specs.declared.start.Cause.TheVariants as causes
+use Rattle.psci_messages.specs.declared.start.Cause.{Cause}
+use Rattle.psci_messages.specs.declared.start.Cause.TheVariants as causes
 
 -- The values of the power controller. Of a core or a domain that the board does not have they say
 -- what they say of one that is off and was never started.

@@ -3,7 +3,7 @@
 ghost use Rattle.std.specs.Prelude.{◌≡◌};
 
 use psci_board::Core;
-use psci_link::Message;
+use psci_messages::Message;
 
 /// What is asked of the power controller.
 #[derive(Drop)]

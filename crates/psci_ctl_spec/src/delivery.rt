@@ -2,7 +2,7 @@
 
 ghost use Rattle.std.specs.Prelude.{◌≡◌};
 
-use psci_link::Ack;
+use psci_messages::Ack;
 
 /// What becomes of a message.
 #[derive(Debug, PartialEq, Eq, Drop)]

@@ -2,7 +2,7 @@
 
 ghost use Rattle.std.specs.Prelude.{◌≡◌};
 
-use psci_link::Start;
+use psci_messages::Start;
 
 /// What becomes of a wake-up event or a reset of a core.
 #[derive(Clone, Copy, Debug, PartialEq, Eq)]

@@ -3,9 +3,9 @@
 ghost use Rattle.std.specs.Prelude.{◌≡◌, ◌⊎◌, ◌<◌, ◌≤◌, ℕ, List, [], ◌∷◌, ◌++◌, map, Some};
 ghost use Rattle.psci_board.specs.Board.{BoardValue, IsBoard, cores, height};
 ghost use Rattle.psci_board.specs.declared.node.Node.{Node};
-ghost use Rattle.psci_link.specs.psci_parts.declared.part.Part.{Part};
+ghost use Rattle.psci_messages.specs.psci_parts.declared.part.Part.{Part};
 ghost use Rattle.psci_ctl_spec.specs.declared.call.CtlCall.{CtlCall};
-ghost use Rattle.psci_link.specs.declared.start.Cause.{Cause};
+ghost use Rattle.psci_messages.specs.declared.start.Cause.{Cause};
 ghost use Rattle.psci_ctl_spec.specs.Changes.{after, change};
 ghost use Rattle.psci_ctl_spec.specs.Effects.{Effect, effect_of};
 ghost use Rattle.psci_ctl_spec.specs.Exchange.{CtlExchange};
@@ -19,7 +19,7 @@ ghost use Rattle.psci_ctl_spec.specs.Replies.{reply};
 ghost use Rattle.psci_ctl_spec.specs.Values.{Values, start_of_life};
 
 use psci_board::{law_children, law_paths, law_sizes};
-use psci_link::law_parts;
+use psci_messages::law_parts;
 
 /// The values that a history says are those of the first life's start before any call, and after
 /// one more exchange those that the exchange leaves. So kept values say what the history says,

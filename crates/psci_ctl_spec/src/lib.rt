@@ -24,5 +24,5 @@ pub use laws::{
     law_acknowledgements, law_depths, law_limits, law_nesting, law_one_reply, law_past,
     law_replies, law_start, law_sums, law_values,
 };
-pub use psci_link::{Cause, Start, law_parts};
+pub use psci_messages::{Cause, Start, law_parts};
 pub use reply::CtlReply;

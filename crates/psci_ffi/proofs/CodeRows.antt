@@ -9,11 +9,11 @@ use Rattle.psci_fw_spec.specs.declared.outcome.Act.TheVariants.{Return, Stop, En
 use Rattle.psci_fw_spec.specs.declared.reply.FwReply.TheVariants.{Out, Fault}
 use Rattle.psci_fw_spec.specs.declared.status.Status.TheVariants as statuses
 use Rattle.psci_link.specs.declared.fault.FrameFault.TheVariants as faults
-use Rattle.psci_link.specs.declared.kind.Kind.TheVariants.{Start}
-use Rattle.psci_link.specs.declared.start.Cause.TheVariants as causes
-use Rattle.psci_link.specs.declared.taken.Taken.TheVariants as takens
+use Rattle.psci_messages.specs.declared.kind.Kind.TheVariants.{Start}
+use Rattle.psci_messages.specs.declared.start.Cause.TheVariants as causes
+use Rattle.psci_messages.specs.declared.taken.Taken.TheVariants as takens
 use Rattle.psci_link.specs.Frame.{part_fields}
-use Rattle.psci_link.specs.Message.{MessageValue}
+use Rattle.psci_messages.specs.Message.{MessageValue}
 use Rattle.psci_ffi.specs.declared.answer.Answer.{Answer}
 use Rattle.psci_ffi.specs.declared.answer.SomeFrame.{SomeFrame}
 use Rattle.psci_ffi.specs.Codes.{cause_said, frame_code, hw_number, not_an_ack, opened_said}

@@ -14,10 +14,10 @@ use Rattle.psci_fw_spec.specs.Values.{Values}
 use Rattle.psci_link.specs.declared.fault.FrameFault.{FrameFault}
 use Rattle.psci_link.specs.declared.frame.Frame.{Frame}
 use Rattle.psci_link.specs.declared.frame.Frame.TheVariants as frames
-use Rattle.psci_link.specs.declared.taken.Taken.{Taken}
-use Rattle.psci_link.specs.declared.taken.Taken.TheVariants.{Old}
+use Rattle.psci_messages.specs.declared.taken.Taken.{Taken}
+use Rattle.psci_messages.specs.declared.taken.Taken.TheVariants.{Old}
 use Rattle.psci_link.specs.Frame.{IsOf}
-use Rattle.psci_link.specs.Message.{AckValue}
+use Rattle.psci_messages.specs.Message.{AckValue}
 use Rattle.psci_ffi.specs.Codes.{taken_code}
 use Rattle.psci_ffi.specs.Frames.{IsTaken}
 

@@ -13,10 +13,10 @@ use Rattle.psci_fw_spec.specs.declared.status.Status.TheVariants.{On, Off, Pendi
 use Rattle.psci_fw_spec.specs.NodeHwState.{hw_code}
 use Rattle.psci_link.specs.declared.fault.FrameFault.{FrameFault}
 use Rattle.psci_link.specs.declared.fault.FrameFault.TheVariants as faults
-use Rattle.psci_link.specs.declared.start.Cause.{Cause}
-use Rattle.psci_link.specs.declared.start.Cause.TheVariants as causes
-use Rattle.psci_link.specs.declared.taken.Taken.{Taken}
-use Rattle.psci_link.specs.declared.taken.Taken.TheVariants as takes
+use Rattle.psci_messages.specs.declared.start.Cause.{Cause}
+use Rattle.psci_messages.specs.declared.start.Cause.TheVariants as causes
+use Rattle.psci_messages.specs.declared.taken.Taken.{Taken}
+use Rattle.psci_messages.specs.declared.taken.Taken.TheVariants as takes
 
 -- what a number says of an opening
 abbrev pub opened_said : ℕ → Result Unit BoardFault

@@ -9,7 +9,7 @@ use Rattle.psci_link.specs.declared.fault.FrameFault.{FrameFault}
 use Rattle.psci_link.specs.declared.frame.Frame.{Frame}
 use Rattle.psci_link.specs.declared.frame.Frame.TheVariants.{Ack, Message}
 use Rattle.psci_link.specs.Frame.{IsFrame, IsOf, first_fault, frame_bytes}
-use Rattle.psci_link.specs.Message.{AckValue, MessageValue}
+use Rattle.psci_messages.specs.Message.{AckValue, MessageValue}
 use Rattle.psci_ffi.specs.Codes.{frame_code, no_firmware, not_an_ack, taken_code}
 use Rattle.psci_ffi.specs.Slot.{Kept}
 

@@ -16,7 +16,7 @@ use Rattle.psci_fw_spec.specs.Answer.{answer}
 use Rattle.psci_fw_spec.specs.Lives.{start_of_life}
 use Rattle.psci_link.specs.declared.frame.Frame.TheVariants.{Message}
 use Rattle.psci_link.specs.Frame.{frame_bytes}
-use Rattle.psci_link.specs.Message.{MessageValue}
+use Rattle.psci_messages.specs.Message.{MessageValue}
 use Rattle.psci_ffi.specs.declared.answer.Answer.{Answer}
 use Rattle.psci_ffi.specs.declared.answer.SomeFrame.{SomeFrame}
 use Rattle.psci_ffi.specs.Codes.{cause_said, no_cause, no_firmware, refusal}

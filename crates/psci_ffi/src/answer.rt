@@ -2,12 +2,13 @@
 
 ghost use Rattle.std.specs.Prelude.{◌≡◌};
 ghost use Rattle.psci_fw_spec.specs.Answer.{reply_of};
-ghost use Rattle.psci_link.specs.Message.{MessageValue};
+ghost use Rattle.psci_messages.specs.Message.{MessageValue};
 ghost use Rattle.psci_ffi.specs.Shown.{act_shown, frame_shown, no_frame, plain, refused, shown};
 
 use crate::codes::refusal;
 use psci_fw::{Act, FwFault, Outcome};
-use psci_link::{FRAME_LEN, Frame, Message, encode};
+use psci_link::{FRAME_LEN, Frame, encode};
+use psci_messages::Message;
 use std::mem::size_of;
 
 /// A frame, if there is one.

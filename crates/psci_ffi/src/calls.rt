@@ -2,7 +2,7 @@
 
 ghost use Rattle.std.specs.Prelude.{◌≡◌, None, Some};
 ghost use Rattle.psci_fw_spec.specs.declared.call.FwCall.TheVariants.{Smc};
-ghost use Rattle.psci_link.specs.Message.{AckValue, MessageValue};
+ghost use Rattle.psci_messages.specs.Message.{AckValue, MessageValue};
 ghost use Rattle.psci_ffi.specs.Frames.{IsTakenIn};
 ghost use Rattle.psci_ffi.specs.Shown.{IsAfter, IsSameRefused, answered, start_called};
 

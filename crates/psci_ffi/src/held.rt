@@ -2,7 +2,8 @@
 
 use psci_board::{Board, Core, Memory, Node};
 use psci_fw::{Cause, Firmware, FwFault, Hw, Outcome, Regs, Start, Status};
-use psci_link::{Frame, Message, decode};
+use psci_link::{Frame, decode};
+use psci_messages::Message;
 use std::alloc::Global;
 use std::marker::Model;
 
@@ -32,7 +33,7 @@ ghost use Rattle.psci_fw_spec.specs.Lives.{start_of_life};
 ghost use Rattle.psci_fw_spec.specs.Phases.{is_running};
 ghost use Rattle.psci_fw_spec.specs.declared.call.FwCall.TheVariants as calls;
 ghost use Rattle.psci_fw_state.specs.Seen.{message_shown};
-ghost use Rattle.psci_link.specs.Message.{AckValue, MessageValue};
+ghost use Rattle.psci_messages.specs.Message.{AckValue, MessageValue};
 ghost use Rattle.psci_ffi.specs.Frames.{IsAcknowledged, IsFaulty, IsMisplaced};
 
 use crate::codes::{NOT_AN_ACK, frame_code, taken_code};

@@ -5,9 +5,9 @@ use Rattle.std.proofs.lemmas.Bool.{ltb-true}
 use Rattle.std.specs.Option.{option_or}
 use Rattle.psci_abi.specs.declared.request.Request.TheVariants as requests
 use Rattle.psci_board.specs.Board.{BoardValue, cores, may_enter}
-use Rattle.psci_coord.specs.declared.osi.Osi.{Osi}
-use Rattle.psci_coord.specs.psci_parts.declared.part.Part.{Part}
-use Rattle.psci_link.specs.declared.kind.Kind.TheVariants.{Down}
+use Rattle.psci_claims.specs.declared.osi.Osi.{Osi}
+use Rattle.psci_claims.specs.psci_parts.declared.part.Part.{Part}
+use Rattle.psci_messages.specs.declared.kind.Kind.TheVariants.{Down}
 use Rattle.psci_state.specs.Ask.{is_deep}
 use Rattle.psci_state.specs.declared.fault.BadState.{BadState}
 use Rattle.psci_fw_spec.specs.declared.fault.FwFault.{FwFault}
@@ -16,7 +16,7 @@ use Rattle.psci_fw_spec.specs.declared.opening.Opening.{Opening}
 use Rattle.psci_fw_spec.specs.declared.outcome.Act.{Act}
 use Rattle.psci_fw_spec.specs.declared.outcome.Act.TheVariants.{Resume}
 use Rattle.psci_fw_spec.specs.declared.outcome.Outcome.{Outcome}
-use Rattle.psci_link.specs.declared.start.Start.{Start}
+use Rattle.psci_messages.specs.declared.start.Start.{Start}
 use Rattle.psci_fw_spec.specs.After.{change}
 use Rattle.psci_fw_spec.specs.Changes.{with_arrival, with_claims, with_phase, with_rest}
 use Rattle.psci_fw_spec.specs.Claims.{leaving_claims, off_parts, suspend_parts}

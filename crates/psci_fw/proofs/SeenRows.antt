@@ -5,8 +5,8 @@ use Rattle.std.proofs.Common.{refl, ap, arith, Option, ◌==◌}
 use Rattle.std.specs.Prelude.{if◌then◌else◌}
 use Rattle.psci_board.specs.Board.{BoardValue, up}
 use Rattle.psci_board.specs.declared.node.Node.{Node}
-use Rattle.psci_fw_spec.specs.psci_abi.declared.format.Format.TheVariants.{Original}
-use Rattle.psci_fw_spec.specs.psci_coord.psci_tree.declared.state.Activity.TheVariants as activities
+use Rattle.psci_fw_spec.specs.psci_abi.psci_format.declared.format.Format.TheVariants.{Original}
+use Rattle.psci_state.specs.declared.cores.Activity.TheVariants as activities
 use Rattle.psci_fw_spec.specs.declared.hw.Hw.TheVariants as hardware
 use Rattle.psci_fw_spec.specs.declared.mode.SuspendMode.TheVariants.{OsInitiated, Platform}
 use Rattle.psci_fw_spec.specs.declared.outcome.Act.TheVariants as acts
@@ -15,11 +15,11 @@ use Rattle.psci_fw_spec.specs.AffinityInfo.{node_status}
 use Rattle.psci_fw_spec.specs.Lives.{start_of_life}
 use Rattle.psci_fw_spec.specs.Phases as phases
 use Rattle.psci_fw_spec.specs.Values.{Values}
-use Rattle.psci_link.specs.declared.kind.Kind.TheVariants as kinds
-use Rattle.psci_link.specs.declared.start.Cause.TheVariants.{On, Reset, Wake}
-use Rattle.psci_link.specs.declared.start.Start.{Start}
-use Rattle.psci_link.specs.Message.{MessageValue}
-use Rattle.psci_link.specs.Slots.Slot.{OfCore}
+use Rattle.psci_messages.specs.declared.kind.Kind.TheVariants as kinds
+use Rattle.psci_messages.specs.declared.start.Cause.TheVariants.{On, Reset, Wake}
+use Rattle.psci_messages.specs.declared.start.Start.{Start}
+use Rattle.psci_messages.specs.Message.{MessageValue}
+use Rattle.psci_messages.specs.Slots.Slot.{OfCore}
 use Rattle.psci_fw_state.specs.Seen.{values_in}
 use Rattle.psci_fw.specs.Calls.{MayCall}
 use Rattle.psci_fw.specs.Halts.{IsOfSystem}

@@ -7,18 +7,18 @@ use Rattle.psci_abi.specs.declared.request.Request.{Request}
 use Rattle.psci_abi.specs.declared.request.Request.TheVariants as requests
 use Rattle.psci_board.specs.Board.{BoardValue, cores, height, may_enter, up}
 use Rattle.psci_board.specs.Laws.{PathLaws}
-use Rattle.psci_coord.specs.psci_parts.declared.part.Part.{Part}
-use Rattle.psci_coord.specs.Claim.{off_wish, own_wish}
-use Rattle.psci_coord.specs.Claim.{least_wish, platform_claims}
-use Rattle.psci_coord.specs.Laws.{ClaimLaws, LastCoreLaws}
-use Rattle.psci_coord.specs.View.{PowerView}
-use Rattle.psci_link.specs.declared.kind.Kind.TheVariants.{Down}
+use Rattle.psci_claims.specs.psci_parts.declared.part.Part.{Part}
+use Rattle.psci_claims.specs.Claim.{off_wish, own_wish}
+use Rattle.psci_claims.specs.Claim.{least_wish, platform_claims}
+use Rattle.psci_claims.specs.Laws.{ClaimLaws, LastCoreLaws}
+use Rattle.psci_claims.specs.View.{PowerView}
+use Rattle.psci_messages.specs.declared.kind.Kind.TheVariants.{Down}
 use Rattle.psci_state.specs.Ask.{deepest_of, is_deep}
 use Rattle.psci_fw_spec.specs.declared.mode.SuspendMode.{SuspendMode}
 use Rattle.psci_fw_spec.specs.declared.mode.SuspendMode.TheVariants.{Platform, OsInitiated}
 use Rattle.psci_fw_spec.specs.declared.outcome.Act.TheVariants.{Resume, Stop}
 use Rattle.psci_fw_spec.specs.declared.outcome.Outcome.{Outcome}
-use Rattle.psci_link.specs.declared.start.Start.{Start}
+use Rattle.psci_messages.specs.declared.start.Start.{Start}
 use Rattle.psci_fw_spec.specs.After.{change}
 use Rattle.psci_fw_spec.specs.Calls.{function_outcome, outcome_of}
 use Rattle.psci_fw_spec.specs.Changes.{Rest, with_arrival, with_phase}
@@ -35,7 +35,7 @@ use Rattle.psci_fw_spec.specs.Phases.{Running, Suspended, activity_of}
 use Rattle.psci_fw_spec.specs.SystemCalls.{all_others, is_off_status}
 use Rattle.psci_fw_spec.specs.Values.{Values}
 use Rattle.psci_fw_spec.specs.Views.{ask, view}
-use Rattle.psci_coord.specs.psci_tree.Recount.{asks}
+use Rattle.psci_state.specs.Cores.{asks}
 
 -- Nothing is granted on the path ----------------------------------------------------------------
 

@@ -5,5 +5,5 @@ pub mod Suspending
 pub mod Ways
 pub use Rattle.psci_abi.specs as psci_abi
 pub use Rattle.psci_board.specs as psci_board
-pub use Rattle.psci_link.specs as psci_link
+pub use Rattle.psci_messages.specs as psci_messages
 pub use Rattle.psci_fw_spec.specs as psci_fw_spec

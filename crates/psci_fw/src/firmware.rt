@@ -4,7 +4,7 @@ use psci_abi::{Regs, read};
 use psci_board::{Board, Core, Memory, Node};
 use psci_fw_spec::{FwFault, Hw, Outcome, Start, Status};
 use psci_fw_state::State;
-use psci_link::{Ack, Message, Taken};
+use psci_messages::{Ack, Message, Taken};
 use std::alloc::Global;
 use std::marker::Model;
 
@@ -25,7 +25,7 @@ impl Model for Firmware {
 }
 
 ghost use Rattle.std.specs.Prelude.{◌≡◌, ℕ, IfOk, OnErr, option_map};
-ghost use Rattle.psci_link.specs.declared.taken.Taken.TheVariants.{Old};
+ghost use Rattle.psci_messages.specs.declared.taken.Taken.TheVariants.{Old};
 ghost use Rattle.psci_fw_spec.specs.declared.call.FwCall.TheVariants as calls;
 ghost use Rattle.psci_fw_spec.specs.declared.reply.FwReply.TheVariants as replies;
 ghost use Rattle.psci_fw_spec.specs.After.{after};

@@ -3,13 +3,13 @@
 
 ghost use Rattle.std.specs.Prelude.{◌≡◌, ◌<◌, ◌&&◌, ℕ, List, None, Ok, false, not, true};
 ghost use Rattle.psci_board.specs.Board.{BoardValue, IsBoard, cores, height, may_enter};
-ghost use Rattle.psci_coord.specs.psci_parts.declared.part.Part.{Part};
+ghost use Rattle.psci_claims.specs.psci_parts.declared.part.Part.{Part};
 ghost use Rattle.psci_state.specs.Ask.{deepest_of, is_deep};
-ghost use Rattle.psci_link.specs.declared.start.Start.{Start};
+ghost use Rattle.psci_messages.specs.declared.start.Start.{Start};
 ghost use Rattle.psci_abi.specs.Calls.{request_of};
 ghost use Rattle.psci_abi.specs.declared.registers.Regs.{Regs};
-ghost use Rattle.psci_link.specs.declared.taken.Taken.TheVariants.{Used};
-ghost use Rattle.psci_link.specs.Message.{AckValue};
+ghost use Rattle.psci_messages.specs.declared.taken.Taken.TheVariants.{Used};
+ghost use Rattle.psci_messages.specs.Message.{AckValue};
 ghost use Rattle.psci_fw_spec.specs.declared.outcome.Outcome.{Outcome};
 ghost use Rattle.psci_fw_spec.specs.After.{change};
 ghost use Rattle.psci_fw_spec.specs.Calls.{call_fault};
@@ -28,7 +28,7 @@ ghost use Rattle.psci_fw.specs.Seen.{IsFresh};
 ghost use Rattle.psci_fw_state.specs.Claims.{MayClaim};
 
 use psci_board::law_paths;
-use psci_coord::{law_claims, law_last_core};
+use psci_claims::{law_claims, law_last_core};
 use psci_fw_spec::{law_caller, law_enters, law_invariant};
 
 /// The claims of cores that stop may be granted.

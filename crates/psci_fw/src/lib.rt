@@ -26,4 +26,4 @@ pub use psci_fw_spec::{
     Act, Cause, FwCall, FwFault, FwReply, Hw, Opening, Outcome, Start, Status, SuspendMode,
     law_caller, law_first_start, law_power_on, law_values,
 };
-pub use psci_link::Taken;
+pub use psci_messages::Taken;

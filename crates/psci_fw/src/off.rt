@@ -3,8 +3,8 @@
 ghost use Rattle.std.specs.Prelude.{◌≡◌, ◌<◌};
 ghost use Rattle.psci_abi.specs.declared.request.Request.TheVariants.{CpuOff};
 ghost use Rattle.psci_board.specs.Board.{cores};
-ghost use Rattle.psci_link.specs.declared.kind.Kind.TheVariants as kinds;
-ghost use Rattle.psci_link.specs.Message.{AreClaims};
+ghost use Rattle.psci_messages.specs.declared.kind.Kind.TheVariants as kinds;
+ghost use Rattle.psci_messages.specs.Message.{AreClaims};
 ghost use Rattle.psci_fw_spec.specs.Changes.{with_claims};
 ghost use Rattle.psci_fw_spec.specs.Outcomes.{message_for, stops_with};
 ghost use Rattle.psci_fw_state.specs.Claims.{MayClaim};
@@ -13,10 +13,10 @@ ghost use Rattle.psci_fw_state.specs.Seen.{values_in};
 
 use crate::laws::law_may_claim;
 use psci_board::Core;
-use psci_coord::Parts;
+use psci_claims::Parts;
 use psci_fw_spec::{Outcome, law_stops};
 use psci_fw_state::State;
-use psci_link::Kind;
+use psci_messages::Kind;
 
 /// CPU_OFF (DEN0022D): the caller stops, and goes off.
 pub fn cpu_off(state: &mut State, caller: Core) -> Outcome

@@ -9,10 +9,10 @@ ghost use Rattle.psci_fw_state.specs.Seen.{values_in};
 
 use psci_abi::Code;
 use psci_board::Core;
-use psci_coord::Parts;
+use psci_claims::Parts;
 use psci_fw_spec::{Act, Opening, Outcome, Status};
 use psci_fw_state::State;
-use psci_link::Kind;
+use psci_messages::Kind;
 
 /// CPU_ON (DEN0022D): the core that `target` names is to be started, and will go on at the opening.
 pub fn cpu_on(state: &mut State, caller: Core, target: u64, opening: Opening) -> Outcome

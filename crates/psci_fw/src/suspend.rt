@@ -15,7 +15,7 @@ use crate::laws::law_may_claim;
 use crate::off::send_down;
 use psci_abi::Code;
 use psci_board::{Board, Core};
-use psci_coord::Osi;
+use psci_claims::Osi;
 use psci_fw_spec::{Opening, Outcome, law_stops};
 use psci_fw_state::State;
 use psci_state::Ask;

@@ -2,7 +2,7 @@
 
 ghost use Rattle.std.specs.Prelude.{◌≡◌, ℕ, [], ◌∷◌};
 ghost use Rattle.psci_abi.specs.declared.request.Request.TheVariants as requests;
-ghost use Rattle.psci_link.specs.declared.kind.Kind.TheVariants as kinds;
+ghost use Rattle.psci_messages.specs.declared.kind.Kind.TheVariants as kinds;
 ghost use Rattle.psci_fw_spec.specs.Changes.{with_halt, with_phase};
 ghost use Rattle.psci_fw_spec.specs.Outcomes.{message_for, stops_with};
 ghost use Rattle.psci_fw_spec.specs.Phases.{Away};
@@ -15,10 +15,10 @@ use crate::laws::law_may_claim;
 use crate::suspend::sleep;
 use psci_abi::Code;
 use psci_board::Core;
-use psci_coord::Parts;
+use psci_claims::Parts;
 use psci_fw_spec::{Opening, Outcome, Status};
 use psci_fw_state::State;
-use psci_link::Kind;
+use psci_messages::Kind;
 use psci_state::Ask;
 
 /// The reset type of SYSTEM_RESET2 (DEN0022D) that is there. Bit 31 marks a type of a vendor.

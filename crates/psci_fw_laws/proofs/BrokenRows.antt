@@ -2,9 +2,9 @@
 -- a state that breaks it.
 use Rattle.std.proofs.Common.{◌≡◌, ◌+◌, ℕ, true, false, [], ◌∷◌, Option, None, Some, refl}
 use Rattle.std.proofs.Common.{arith}
-use Rattle.psci_link.specs.declared.kind.Kind.TheVariants.{Down, Start, Off}
-use Rattle.psci_link.specs.Message.{MessageValue}
-use Rattle.psci_link.specs.Slots.{Slot, OfCore, OfSystem}
+use Rattle.psci_messages.specs.declared.kind.Kind.TheVariants.{Down, Start, Off}
+use Rattle.psci_messages.specs.Message.{MessageValue}
+use Rattle.psci_messages.specs.Slots.{Slot, OfCore, OfSystem}
 use Rattle.psci_fw_spec.specs.declared.status.Status.TheVariants.{On}
 use Rattle.psci_fw_spec.specs.Phases.{Away, Pending, Running, Suspended}
 use Rattle.psci_board.specs.Board.{up}

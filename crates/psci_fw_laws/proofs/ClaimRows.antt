@@ -2,12 +2,12 @@
 use Rattle.std.proofs.Common.{◌≡◌, ◌<◌, ℕ, ◌+◌, inl, inr, List, [], ◌∷◌, true, false, None, Some}
 use Rattle.std.proofs.Common.{refl, ap, arith}
 use Rattle.psci_board.specs.Board.{core_of, up}
-use Rattle.psci_coord.specs.Claim.{claims_of}
-use Rattle.psci_coord.specs.View.{generation, least_ask}
-use Rattle.psci_coord.specs.psci_parts.declared.part.Part.{Part}
-use Rattle.psci_link.specs.declared.kind.Kind.TheVariants.{Down, Start, Reset}
-use Rattle.psci_link.specs.Message.{MessageValue}
-use Rattle.psci_link.specs.Outstanding.{changes_since, last_message, outstanding}
+use Rattle.psci_claims.specs.Claim.{claims_of}
+use Rattle.psci_claims.specs.View.{generation, least_ask}
+use Rattle.psci_claims.specs.psci_parts.declared.part.Part.{Part}
+use Rattle.psci_messages.specs.declared.kind.Kind.TheVariants.{Down, Start, Reset}
+use Rattle.psci_messages.specs.Message.{MessageValue}
+use Rattle.psci_messages.specs.Outstanding.{changes_since, last_message, outstanding}
 use Rattle.psci_fw_spec.specs.Answer.{answer}
 use Rattle.psci_fw_spec.specs.Calls.{outcome_of}
 use Rattle.psci_fw_spec.specs.Claims.{off_parts}

@@ -5,13 +5,13 @@ use Rattle.std.proofs.Common.{inl, inr}
 use Rattle.std.specs.Prelude.{nat_le, nat_lt}
 use Rattle.std.proofs.lemmas.Bool.{cond_both, eqb-false, leb-false, ltb-false, ltb-true}
 use Rattle.std.proofs.lemmas.Bool.{and_cases, or_left, or_parts, or_right, not-false}
-use Rattle.psci_coord.specs.psci_abi.Calls.{request_of}
-use Rattle.psci_coord.specs.psci_abi.declared.registers.Regs.{Regs}
+use Rattle.psci_fw_spec.specs.psci_abi.Calls.{request_of}
+use Rattle.psci_fw_spec.specs.psci_abi.declared.registers.Regs.{Regs}
 use Rattle.psci_board.specs.Board.{BoardValue, cores}
-use Rattle.psci_link.specs.declared.taken.Taken.TheVariants as takens
-use Rattle.psci_link.specs.Message.{AckValue, MessageValue}
-use Rattle.psci_link.specs.Slots.{answers, slot_of, taken}
-use Rattle.psci_coord.specs.psci_tree.Recount.{asks}
+use Rattle.psci_messages.specs.declared.taken.Taken.TheVariants as takens
+use Rattle.psci_messages.specs.Message.{AckValue, MessageValue}
+use Rattle.psci_messages.specs.Slots.{answers, slot_of, taken}
+use Rattle.psci_claims.specs.psci_state.Cores.{asks}
 use Rattle.psci_fw_spec.specs.declared.call.FwCall.{FwCall}
 use Rattle.psci_fw_spec.specs.declared.call.FwCall.TheVariants.{Smc, Enter, Take}
 use Rattle.psci_fw_spec.specs.declared.fault.FwFault.{FwFault}
@@ -20,7 +20,7 @@ use Rattle.psci_fw_spec.specs.declared.opening.Opening.{Opening}
 use Rattle.psci_fw_spec.specs.declared.outcome.Act.TheVariants as acts
 use Rattle.psci_fw_spec.specs.declared.outcome.Outcome.{Outcome}
 use Rattle.psci_fw_spec.specs.declared.reply.FwReply.TheVariants as replies
-use Rattle.psci_link.specs.declared.start.Start.{Start}
+use Rattle.psci_messages.specs.declared.start.Start.{Start}
 use Rattle.psci_fw_spec.specs.Answer.{answer, reply_or}
 use Rattle.psci_fw_spec.specs.Calls.{call_fault, outcome_of}
 use Rattle.psci_fw_spec.specs.Changes.{with_arrival, with_phase}

@@ -1,11 +1,11 @@
 -- What a function is answered is allowed.
 use Rattle.std.proofs.Common.{◌≡◌, ℕ, true, false, []}
 use Rattle.std.proofs.Common.{refl}
-use Rattle.psci_coord.specs.psci_abi.declared.request.Request.{Request}
-use Rattle.psci_coord.specs.psci_abi.declared.request.Request.TheVariants as requests
+use Rattle.psci_fw_spec.specs.psci_abi.declared.request.Request.{Request}
+use Rattle.psci_fw_spec.specs.psci_abi.declared.request.Request.TheVariants as requests
 use Rattle.psci_board.specs.Board.{BoardValue}
-use Rattle.psci_link.specs.declared.kind.Kind.{Kind}
-use Rattle.psci_link.specs.declared.kind.Kind.TheVariants as kinds
+use Rattle.psci_messages.specs.declared.kind.Kind.{Kind}
+use Rattle.psci_messages.specs.declared.kind.Kind.TheVariants as kinds
 use Rattle.psci_fw_spec.specs.Calls.{function_outcome, outcome_of}
 use Rattle.psci_fw_spec.specs.CpuOn.{target_of}
 use Rattle.psci_fw_spec.specs.Effects.{Halts}

@@ -5,10 +5,10 @@ use Rattle.std.specs.Prelude.{slice_get}
 use Rattle.std.proofs.lemmas.Bool.{and_from, and_parts, cases_eq, cond_both, eqb-false, eqb-true}
 use Rattle.std.proofs.lemmas.Bool.{cond-true, not-true, not_from_false}
 use Rattle.psci_board.specs.Board.{BoardValue, cores, has_node, up}
-use Rattle.psci_coord.specs.psci_parts.declared.part.Part.{Part}
-use Rattle.psci_link.specs.declared.kind.Kind.TheVariants.{Down}
-use Rattle.psci_link.specs.Message.{MessageValue}
-use Rattle.psci_link.specs.Slots.{is_kind}
+use Rattle.psci_claims.specs.psci_parts.declared.part.Part.{Part}
+use Rattle.psci_messages.specs.declared.kind.Kind.TheVariants.{Down}
+use Rattle.psci_messages.specs.Message.{MessageValue}
+use Rattle.psci_messages.specs.Slots.{is_kind}
 use Rattle.psci_fw_spec.specs.Lives.{first_granted}
 use Rattle.psci_fw_spec.specs.Paths.{claimed_or, cleared, granted_with}
 use Rattle.psci_board.specs.Paths.{is_path_place}

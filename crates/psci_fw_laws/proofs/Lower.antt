@@ -2,12 +2,12 @@
 use Rattle.std.proofs.Common.{◌≡◌, ℕ, ◌<◌, false, List, None, Ok}
 use Rattle.psci_board.specs.Board.{BoardValue, cores}
 use Rattle.psci_board.specs.Laws.{PathLaws, SpanLaws, WordLaws}
-use Rattle.psci_coord.specs.psci_parts.declared.part.Part.{Part}
-use Rattle.psci_coord.specs.Laws.{BelowLaws, ClaimLaws, LastCoreLaws, PlatformLaws}
-use Rattle.psci_coord.specs.View.{PowerView}
-use Rattle.psci_link.specs.Message.{AreClaims, PartByPart}
-use Rattle.psci_coord.specs.psci_state.Ask.{IsAsk}
-use Rattle.psci_link.specs.declared.start.Start.{Start}
+use Rattle.psci_claims.specs.psci_parts.declared.part.Part.{Part}
+use Rattle.psci_claims.specs.Laws.{BelowLaws, ClaimLaws, LastCoreLaws, PlatformLaws}
+use Rattle.psci_claims.specs.View.{PowerView}
+use Rattle.psci_messages.specs.Message.{AreClaims, PartByPart}
+use Rattle.psci_claims.specs.psci_state.Ask.{IsAsk}
+use Rattle.psci_messages.specs.declared.start.Start.{Start}
 use Rattle.psci_fw_spec.specs.After.{change}
 use Rattle.psci_fw_spec.specs.Changes.{PowerOn, with_arrival, with_pending}
 use Rattle.psci_fw_spec.specs.Claims.{off_parts, suspend_parts}

@@ -1,8 +1,8 @@
 -- No claim is above the known starts below its domain.
 use Rattle.std.proofs.Common.{◌≡◌, ℕ, ◌<◌, ◌≤◌, inl, inr, Bool, List, arith, subst, ap, sym, ◌∙◌}
 use Rattle.psci_board.specs.Board.{BoardValue, cores, up}
-use Rattle.psci_coord.specs.psci_parts.declared.part.Part.{Part}
-use Rattle.psci_link.specs.Message.{MessageValue}
+use Rattle.psci_claims.specs.psci_parts.declared.part.Part.{Part}
+use Rattle.psci_messages.specs.Message.{MessageValue}
 use Rattle.psci_fw_spec.specs.Phases.{Phase, Running}
 use Rattle.psci_fw_spec.specs.Values.{updated}
 use Rattle.psci_fw_laws.specs.KnownBelow.{known_below}

@@ -4,11 +4,11 @@ use Rattle.std.proofs.Common.{arith, subst, ap, sym, ◌∙◌}
 use Rattle.std.specs.Prelude.{slice_get}
 use Rattle.psci_board.specs.Board.{BoardValue, cores, up}
 use Rattle.psci_board.specs.Laws.{PathLaws, SpanLaws}
-use Rattle.psci_coord.specs.psci_parts.declared.part.Part.{Part}
-use Rattle.psci_link.specs.declared.kind.Kind.{Kind}
-use Rattle.psci_link.specs.declared.kind.Kind.TheVariants.{Down, Start}
-use Rattle.psci_link.specs.Message.{MessageValue}
-use Rattle.psci_link.specs.Slots.{slot_of}
+use Rattle.psci_claims.specs.psci_parts.declared.part.Part.{Part}
+use Rattle.psci_messages.specs.declared.kind.Kind.{Kind}
+use Rattle.psci_messages.specs.declared.kind.Kind.TheVariants.{Down, Start}
+use Rattle.psci_messages.specs.Message.{MessageValue}
+use Rattle.psci_messages.specs.Slots.{slot_of}
 use Rattle.psci_fw_spec.specs.Changes.{with_claims, with_phase}
 use Rattle.psci_fw_spec.specs.Phases.{Phase, Pending, Running, unless_pending}
 use Rattle.psci_fw_spec.specs.Values.{Values}

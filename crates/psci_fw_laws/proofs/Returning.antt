@@ -2,10 +2,10 @@
 use Rattle.std.proofs.Common.{ℕ, Bool, true, false, cond}
 use Rattle.std.proofs.Common.{None, Some}
 use Rattle.std.specs.Ordering.{int_eq}
-use Rattle.psci_coord.specs.psci_abi.Codes.{success}
-use Rattle.psci_coord.specs.psci_abi.declared.code.Code.{Code}
-use Rattle.psci_coord.specs.psci_abi.declared.request.Request.{Request}
-use Rattle.psci_coord.specs.psci_abi.declared.request.Request.TheVariants as requests
+use Rattle.psci_fw_spec.specs.psci_abi.Codes.{success}
+use Rattle.psci_fw_spec.specs.psci_abi.declared.code.Code.{Code}
+use Rattle.psci_fw_spec.specs.psci_abi.declared.request.Request.{Request}
+use Rattle.psci_fw_spec.specs.psci_abi.declared.request.Request.TheVariants as requests
 use Rattle.psci_board.specs.Board.{BoardValue}
 use Rattle.psci_fw_spec.specs.declared.outcome.Act.TheVariants as acts
 use Rattle.psci_fw_spec.specs.declared.outcome.Outcome.{Outcome}

@@ -2,10 +2,10 @@
 use Rattle.std.proofs.Common.{◌≡◌, ℕ, suc, true, false, List, ◌∷◌}
 use Rattle.std.proofs.Common.{◌==◌, Option, None, Some, refl, subst, ap, sym, ◌∙◌}
 use Rattle.std.proofs.lemmas.Bool.{cond_both, eqb-true, eqb-false}
-use Rattle.psci_link.specs.declared.kind.Kind.TheVariants.{Down, Start}
-use Rattle.psci_link.specs.Message.{AckValue, MessageValue}
-use Rattle.psci_link.specs.Slots.{Acknowledge, Clear, Put, OfCore, OfSystem, Slot, changed}
-use Rattle.psci_link.specs.Slots.{is_slot, left_by, slot_of}
+use Rattle.psci_messages.specs.declared.kind.Kind.TheVariants.{Down, Start}
+use Rattle.psci_messages.specs.Message.{AckValue, MessageValue}
+use Rattle.psci_messages.specs.Slots.{Acknowledge, Clear, Put, OfCore, OfSystem, Slot, changed}
+use Rattle.psci_messages.specs.Slots.{is_slot, left_by, slot_of}
 use Rattle.psci_fw_spec.specs.Phases.{Phase, Pending}
 use Rattle.psci_fw_spec.specs.Values.{updated}
 use Rattle.psci_fw_laws.specs.Messages.{is_system}

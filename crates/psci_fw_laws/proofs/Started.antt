@@ -4,11 +4,11 @@ use Rattle.std.proofs.Common.{Some, refl, arith, subst, ap, sym, ◌∙◌}
 use Rattle.std.specs.Prelude.{slice_get}
 use Rattle.std.proofs.lemmas.Bool.{cond_both}
 use Rattle.psci_board.specs.Board.{BoardValue}
-use Rattle.psci_coord.specs.psci_parts.declared.part.Part.{Part}
-use Rattle.psci_link.specs.declared.kind.Kind.{Kind}
-use Rattle.psci_link.specs.declared.kind.Kind.TheVariants.{Down, Start, Off, Reset}
-use Rattle.psci_link.specs.Message.{AckValue, ArePartsOf, MessageValue}
-use Rattle.psci_link.specs.Slots.{OfSystem, is_kind, slot_of}
+use Rattle.psci_claims.specs.psci_parts.declared.part.Part.{Part}
+use Rattle.psci_messages.specs.declared.kind.Kind.{Kind}
+use Rattle.psci_messages.specs.declared.kind.Kind.TheVariants.{Down, Start, Off, Reset}
+use Rattle.psci_messages.specs.Message.{AckValue, ArePartsOf, MessageValue}
+use Rattle.psci_messages.specs.Slots.{OfSystem, is_kind, slot_of}
 use Rattle.psci_fw_spec.specs.declared.status.Status.TheVariants as statuses
 use Rattle.psci_fw_spec.specs.AffinityInfo.{is_on}
 use Rattle.psci_fw_spec.specs.Changes.{PowerOn, turns_off, with_acknowledgement, with_halt}

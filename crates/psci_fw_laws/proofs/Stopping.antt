@@ -2,13 +2,13 @@
 use Rattle.std.proofs.Common.{◌≡◌, ℕ, ◌≤◌, false, List}
 use Rattle.std.proofs.Common.{Some, Ok, refl, subst, ap, sym, ◌∙◌}
 use Rattle.std.specs.Prelude.{slice_get}
-use Rattle.psci_coord.specs.psci_abi.declared.request.Request.{Request}
-use Rattle.psci_coord.specs.psci_abi.declared.request.Request.TheVariants as requests
+use Rattle.psci_fw_spec.specs.psci_abi.declared.request.Request.{Request}
+use Rattle.psci_fw_spec.specs.psci_abi.declared.request.Request.TheVariants as requests
 use Rattle.psci_board.specs.Board.{BoardValue, height}
-use Rattle.psci_coord.specs.psci_parts.declared.part.Part.{Part}
-use Rattle.psci_link.specs.declared.kind.Kind.TheVariants as kinds
-use Rattle.psci_coord.specs.psci_state.Ask.{IsAsk, deepest_of}
-use Rattle.psci_coord.specs.psci_tree.Recount.{asks}
+use Rattle.psci_claims.specs.psci_parts.declared.part.Part.{Part}
+use Rattle.psci_messages.specs.declared.kind.Kind.TheVariants as kinds
+use Rattle.psci_claims.specs.psci_state.Ask.{IsAsk, deepest_of}
+use Rattle.psci_claims.specs.psci_state.Cores.{asks}
 use Rattle.psci_fw_spec.specs.declared.opening.Opening.{Opening}
 use Rattle.psci_fw_spec.specs.After.{change}
 use Rattle.psci_fw_spec.specs.Changes.{Rest, with_rest}
@@ -38,7 +38,7 @@ stopped : (b : BoardValue) (v : Values) (c : ℕ) (rest : Rest) (parts : List Pa
     → IsReady b v → IsCalling b v c → v.halting ≡ false
     → (rest.phase ≡ Running → ⊥) → (rest.phase ≡ Pending → ⊥)
     → (AreValues b (change b (Rests c rest (message_for v kinds.Down c parts)) v)
-    → Rattle.psci_link.specs.Message.AreClaims parts)
+    → Rattle.psci_messages.specs.Message.AreClaims parts)
     → AreMade b v.known c parts
     → ((level : ℕ) (p : Part) → slice_get parts level ≡ Some p
     → p.depth ≤ asks (activity_of rest.phase) level)

@@ -3,8 +3,8 @@ use Rattle.std.proofs.Common.{◌≡◌, ℕ, Bool, true, false, cond, ◌==◌}
 use Rattle.std.proofs.Common.{Option, None, Some, Ok, Err, refl, arith, subst}
 use Rattle.std.specs.Prelude.{Result}
 use Rattle.std.proofs.lemmas.Bool.{eqb-false}
-use Rattle.psci_coord.specs.psci_abi.declared.code.Code.{Code}
-use Rattle.psci_coord.specs.psci_abi.declared.request.Request.TheVariants as requests
+use Rattle.psci_fw_spec.specs.psci_abi.declared.code.Code.{Code}
+use Rattle.psci_fw_spec.specs.psci_abi.declared.request.Request.TheVariants as requests
 use Rattle.psci_board.specs.Board.{BoardValue, core_of, may_enter}
 use Rattle.psci_board.specs.declared.node.Core.{Core}
 use Rattle.psci_fw_spec.specs.declared.status.Status.{Status}

@@ -1,8 +1,8 @@
 -- What was asked when a Down was sent.
 use Rattle.std.specs.Prelude.{◌≡◌, ◌<◌, ◌≤◌, ◌++◌, ℕ, List, ◌∷◌, slice_get, Some}
 use Rattle.psci_board.specs.Board.{BoardValue, cores, up}
-use Rattle.psci_coord.specs.psci_parts.declared.part.Part.{Part}
-use Rattle.psci_link.specs.Message.{MessageValue}
+use Rattle.psci_claims.specs.psci_parts.declared.part.Part.{Part}
+use Rattle.psci_messages.specs.Message.{MessageValue}
 use Rattle.psci_fw_spec.specs.declared.mode.SuspendMode.TheVariants.{Platform}
 use Rattle.psci_fw_spec.specs.Exchange.{FwExchange, effect}
 use Rattle.psci_fw_spec.specs.History.{values_of}

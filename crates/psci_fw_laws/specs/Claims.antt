@@ -2,10 +2,10 @@
 use Rattle.std.specs.Prelude.{◌≡◌, ◌<◌, ℕ, true, false, ◌⊎◌, ◌&&◌, ◌==◌, if◌then◌else◌, List}
 use Rattle.std.specs.Prelude.{slice_get, Option, None, Some}
 use Rattle.psci_board.specs.Board.{BoardValue, cores, has_node, up}
-use Rattle.psci_coord.specs.psci_parts.declared.part.Part.{Part}
-use Rattle.psci_link.specs.declared.kind.Kind.TheVariants.{Down}
-use Rattle.psci_link.specs.Message.{MessageValue}
-use Rattle.psci_link.specs.Slots.{is_kind}
+use Rattle.psci_claims.specs.psci_parts.declared.part.Part.{Part}
+use Rattle.psci_messages.specs.declared.kind.Kind.TheVariants.{Down}
+use Rattle.psci_messages.specs.Message.{MessageValue}
+use Rattle.psci_messages.specs.Slots.{is_kind}
 use Rattle.psci_board.specs.Paths.{is_path_place}
 use Rattle.psci_fw_spec.specs.Phases.{Phase, Running}
 use Rattle.psci_fw_laws.specs.KnownBelow.{known_below}

@@ -1,8 +1,8 @@
 -- What the firmware keeps true of its values and of all messages that were sent.
 use Rattle.std.specs.Prelude.{◌≡◌, ◌≤◌, ℕ, Bool, false, List, Option}
 use Rattle.psci_board.specs.Board.{BoardValue}
-use Rattle.psci_link.specs.Message.{MessageValue}
-use Rattle.psci_link.specs.Slots.{Slot}
+use Rattle.psci_messages.specs.Message.{MessageValue}
+use Rattle.psci_messages.specs.Slots.{Slot}
 use Rattle.psci_fw_spec.specs.declared.status.Status.{Status}
 use Rattle.psci_fw_spec.specs.AffinityInfo.{is_on}
 use Rattle.psci_fw_spec.specs.Phases.{Phase}

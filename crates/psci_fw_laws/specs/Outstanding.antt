@@ -1,8 +1,8 @@
 -- What is outstanding.
 use Rattle.std.specs.Prelude.{◌≡◌, ℕ, true, false, List, slice_get, Option, Some}
-use Rattle.psci_link.specs.declared.kind.Kind.TheVariants.{Down, Start}
-use Rattle.psci_link.specs.Message.{MessageValue}
-use Rattle.psci_link.specs.Slots.{Slot, OfCore, OfSystem}
+use Rattle.psci_messages.specs.declared.kind.Kind.TheVariants.{Down, Start}
+use Rattle.psci_messages.specs.Message.{MessageValue}
+use Rattle.psci_messages.specs.Slots.{Slot, OfCore, OfSystem}
 use Rattle.psci_fw_spec.specs.Phases.{Phase, Pending}
 use Rattle.psci_fw_laws.specs.Messages.{is_system}
 

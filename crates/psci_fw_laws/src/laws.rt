@@ -4,10 +4,10 @@ ghost use Rattle.std.specs.Prelude.{◌≡◌, ◌<◌, ◌≤◌, ◌+◌, ◌*
 ghost use Rattle.std.specs.Prelude.{slice_get};
 ghost use Rattle.psci_board.specs.Board.{BoardValue, IsBoard, cores, height, up};
 ghost use Rattle.psci_board.specs.declared.node.Node.{Node};
-ghost use Rattle.psci_coord.specs.psci_parts.declared.part.Part.{Part};
-ghost use Rattle.psci_coord.specs.View.{generation};
-ghost use Rattle.psci_link.specs.declared.kind.Kind.TheVariants.{Down};
-ghost use Rattle.psci_link.specs.Message.{MessageValue};
+ghost use Rattle.psci_claims.specs.psci_parts.declared.part.Part.{Part};
+ghost use Rattle.psci_claims.specs.View.{generation};
+ghost use Rattle.psci_messages.specs.declared.kind.Kind.TheVariants.{Down};
+ghost use Rattle.psci_messages.specs.Message.{MessageValue};
 ghost use Rattle.psci_fw_spec.specs.Exchange.{FwExchange};
 ghost use Rattle.psci_fw_spec.specs.History.{values_of};
 ghost use Rattle.psci_fw_spec.specs.Invariant.{is_expected};
@@ -29,7 +29,7 @@ ghost use Rattle.psci_fw_laws.specs.Within.{AreWithin};
 use crate::kept::law_kept;
 use psci_board::{law_paths, law_spans};
 use psci_fw_spec::law_invariant;
-use psci_link::law_parts;
+use psci_messages::law_parts;
 
 /// Every message is of a life from 1 to the firmware's, within the board's limits; a Down is a
 /// claim whose generations never fall upwards. One of this life is no newer than the known

@@ -3,7 +3,7 @@ use Rattle.std.proofs.Common.{◌≡◌, ℕ, ◌==◌, Bool, not, nat_lt, refl,
 use Rattle.std.proofs.Common.{if◌then◌else◌, Option, None, Some}
 use Rattle.psci_abi.specs.Calls.{request_of}
 use Rattle.psci_board.specs.Board.{BoardValue, cores}
-use Rattle.psci_link.specs.Slots.{slot_of, taken}
+use Rattle.psci_messages.specs.Slots.{slot_of, taken}
 use Rattle.psci_fw_spec.specs.declared.call.FwCall.{FwCall}
 use Rattle.psci_fw_spec.specs.declared.call.FwCall.TheVariants.{Smc, Enter, Take}
 use Rattle.psci_fw_spec.specs.declared.fault.FwFault.{FwFault}

@@ -7,11 +7,11 @@ use Rattle.std.specs.List.{sum_by}
 use Rattle.psci_board.specs.Board.{BoardValue, below, up}
 use Rattle.psci_board.specs.Paths.{is_path_place}
 use Rattle.psci_board.specs.declared.node.Node.{Node}
-use Rattle.psci_coord.specs.psci_parts.declared.part.Part.{Part}
-use Rattle.psci_link.specs.declared.kind.Kind.TheVariants.{Down}
-use Rattle.psci_link.specs.Message.{AckValue, MessageValue}
-use Rattle.psci_link.specs.Slots.{Acknowledge, Clear, Put, is_kind, slot_of}
-use Rattle.psci_link.specs.declared.start.Start.{Start}
+use Rattle.psci_claims.specs.psci_parts.declared.part.Part.{Part}
+use Rattle.psci_messages.specs.declared.kind.Kind.TheVariants.{Down}
+use Rattle.psci_messages.specs.Message.{AckValue, MessageValue}
+use Rattle.psci_messages.specs.Slots.{Acknowledge, Clear, Put, is_kind, slot_of}
+use Rattle.psci_messages.specs.declared.start.Start.{Start}
 use Rattle.psci_fw_spec.specs.declared.status.Status.TheVariants as statuses
 use Rattle.psci_fw_spec.specs.Changes.{PowerOn, Rest, confirms_on, target, turns_off}
 use Rattle.psci_fw_spec.specs.Changes.{with_acknowledgement, with_arrival, with_claims, with_halt}

@@ -3,7 +3,7 @@ use Rattle.std.proofs.Common.{◌≡◌, ℕ, refl, ap, ◌∙◌}
 use Rattle.psci_abi.specs.declared.request.Request.{Request}
 use Rattle.psci_abi.specs.declared.request.Request.TheVariants as requests
 use Rattle.psci_board.specs.Board.{BoardValue, node_of}
-use Rattle.psci_link.specs.declared.kind.Kind.TheVariants as kinds
+use Rattle.psci_messages.specs.declared.kind.Kind.TheVariants as kinds
 use Rattle.psci_fw_spec.specs.Calls.{function_outcome, outcome_of}
 use Rattle.psci_fw_spec.specs.Outcomes.{stops}
 use Rattle.psci_fw_spec.specs.SuspendMode.{mode_of}

@@ -9,12 +9,12 @@ use Rattle.psci_abi.specs.declared.request.Request.TheVariants.{AffinityInfo, Cp
 use Rattle.psci_abi.specs.declared.request.Request.TheVariants.{SetSuspendMode, Version}
 use Rattle.psci_board.specs.Board.{BoardValue, core_of, up}
 use Rattle.psci_board.specs.declared.node.Node.{Node}
-use Rattle.psci_link.specs.Message.{AckValue, MessageValue}
-use Rattle.psci_link.specs.Slots.{Slot, OfCore, OfSystem}
-use Rattle.psci_link.specs.declared.kind.Kind.TheVariants as kinds
-use Rattle.psci_link.specs.declared.start.Start.{Start}
-use Rattle.psci_link.specs.declared.start.Cause.TheVariants.{Wake}
-use Rattle.psci_link.specs.declared.taken.Taken.TheVariants.{Old, Used}
+use Rattle.psci_messages.specs.Message.{AckValue, MessageValue}
+use Rattle.psci_messages.specs.Slots.{Slot, OfCore, OfSystem}
+use Rattle.psci_messages.specs.declared.kind.Kind.TheVariants as kinds
+use Rattle.psci_messages.specs.declared.start.Start.{Start}
+use Rattle.psci_messages.specs.declared.start.Cause.TheVariants.{Wake}
+use Rattle.psci_messages.specs.declared.taken.Taken.TheVariants.{Old, Used}
 use Rattle.psci_fw_spec.specs.declared.call.FwCall.{FwCall}
 use Rattle.psci_fw_spec.specs.declared.call.FwCall.TheVariants.{Enter, Smc, Take}
 use Rattle.psci_fw_spec.specs.declared.fault.FwFault.TheVariants.{OldStart}

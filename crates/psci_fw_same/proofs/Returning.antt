@@ -9,8 +9,8 @@ use Rattle.psci_abi.specs.Codes.{internal_failure, invalid_address, success}
 use Rattle.psci_board.specs.Board.{BoardValue, below, core_of, has_node, height, may_enter}
 use Rattle.psci_board.specs.declared.node.Core.{Core}
 use Rattle.psci_board.specs.declared.node.Node.{Node}
-use Rattle.psci_link.specs.declared.kind.Kind.TheVariants as kinds
-use Rattle.psci_link.specs.Message.{MessageValue}
+use Rattle.psci_messages.specs.declared.kind.Kind.TheVariants as kinds
+use Rattle.psci_messages.specs.Message.{MessageValue}
 use Rattle.psci_fw_spec.specs.declared.mode.SuspendMode.{SuspendMode}
 use Rattle.psci_fw_spec.specs.declared.mode.SuspendMode.TheVariants.{Platform, OsInitiated}
 use Rattle.psci_fw_spec.specs.declared.outcome.Act.TheVariants as acts

@@ -3,12 +3,12 @@ use Rattle.std.proofs.Common.{◌≡◌, ℕ, ◌==◌, Bool, true, false, ◌&&
 use Rattle.std.proofs.Common.{if◌then◌else◌, Option, None, Some}
 use Rattle.std.specs.Prelude.{option_map}
 use Rattle.psci_board.specs.declared.node.Core.{Core}
-use Rattle.psci_link.specs.declared.kind.Kind.{Kind}
-use Rattle.psci_link.specs.declared.kind.Kind.TheVariants.{Down, Start, Off, Reset}
-use Rattle.psci_link.specs.declared.taken.Taken.TheVariants.{Used, Old}
-use Rattle.psci_link.specs.Message.{AckValue, MessageValue}
-use Rattle.psci_link.specs.Slots.{Acknowledge, Change, Clear, ClearAll, OfCore, OfSystem, Put, Slot}
-use Rattle.psci_link.specs.Slots.{answers, changed, is_done, is_kind, is_slot, left_by, slot_of, taken}
+use Rattle.psci_messages.specs.declared.kind.Kind.{Kind}
+use Rattle.psci_messages.specs.declared.kind.Kind.TheVariants.{Down, Start, Off, Reset}
+use Rattle.psci_messages.specs.declared.taken.Taken.TheVariants.{Used, Old}
+use Rattle.psci_messages.specs.Message.{AckValue, MessageValue}
+use Rattle.psci_messages.specs.Slots.{Acknowledge, Change, Clear, ClearAll, OfCore, OfSystem, Put, Slot}
+use Rattle.psci_messages.specs.Slots.{answers, changed, is_done, is_kind, is_slot, left_by, slot_of, taken}
 use Rattle.psci_fw_spec.specs.Changes.{with_slots}
 use Rattle.psci_fw_spec.specs.Values.{Values}
 use Rattle.psci_fw_same.specs.Renumbered.{acknowledgement_by, core_by, message_by, slot_by, values_by}

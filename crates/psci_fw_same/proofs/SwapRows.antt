@@ -1,12 +1,12 @@
 -- Worked examples: two cores of a cluster of three are swapped, below the system and below a cluster
 -- of a board with two.
 use Rattle.std.proofs.Common.{◌≡◌, [], ◌∷◌, refl, arith, map}
-use Rattle.psci_abi.specs.declared.format.Format.TheVariants.{Original}
+use Rattle.psci_abi.specs.psci_format.declared.format.Format.TheVariants.{Original}
 use Rattle.psci_abi.specs.declared.request.Request.TheVariants.{AffinityInfo, CpuOff, CpuOn}
 use Rattle.psci_abi.specs.declared.request.Request.TheVariants.{NodeHwState}
 use Rattle.psci_board.specs.Board.{BoardValue, core_of, node_of, up}
-use Rattle.psci_link.specs.declared.kind.Kind.TheVariants.{Start}
-use Rattle.psci_link.specs.Slots.{OfCore, OfSystem}
+use Rattle.psci_messages.specs.declared.kind.Kind.TheVariants.{Start}
+use Rattle.psci_messages.specs.Slots.{OfCore, OfSystem}
 use Rattle.psci_fw_spec.specs.declared.status.Status.TheVariants.{Off, Pending}
 use Rattle.psci_fw_spec.specs.Lives.{start_of_life}
 use Rattle.psci_fw_same.specs.Renumbered.{AreSiblings, AreTwins, AsksBy, message_by, slot_by, swap}

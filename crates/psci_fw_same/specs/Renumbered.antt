@@ -11,8 +11,8 @@ use Rattle.psci_board.specs.declared.node.Node.{Node}
 use Rattle.psci_abi.specs.Calls.{request_of}
 use Rattle.psci_abi.specs.declared.request.Request.{Request}
 use Rattle.psci_abi.specs.declared.request.Request.TheVariants as requests
-use Rattle.psci_link.specs.Message.{AckValue, MessageValue}
-use Rattle.psci_link.specs.Slots.{Slot, OfCore, OfSystem}
+use Rattle.psci_messages.specs.Message.{AckValue, MessageValue}
+use Rattle.psci_messages.specs.Slots.{Slot, OfCore, OfSystem}
 use Rattle.psci_fw_spec.specs.declared.call.FwCall.{FwCall}
 use Rattle.psci_fw_spec.specs.declared.call.FwCall.TheVariants.{Smc, Enter, Take}
 use Rattle.psci_fw_spec.specs.declared.outcome.Outcome.{Outcome}

@@ -1,6 +1,6 @@
 -- Worked examples: what becomes of acknowledgements.
 use Rattle.std.proofs.Common.{◌∷◌, [], false, refl, true}
-use Rattle.psci_link.specs.declared.kind.Kind.TheVariants.{Off, Reset, Start}
+use Rattle.psci_messages.specs.declared.kind.Kind.TheVariants.{Off, Reset, Start}
 use Rattle.psci_fw_spec.proofs.Steps.{◌⇒◌, AreAnswered, affinity, board, boot, boots, computing}
 use Rattle.psci_fw_spec.proofs.Steps.{enter_boot, enter_on, enter_wake, goes_on_3, goes_to, off}
 use Rattle.psci_fw_spec.proofs.Steps.{old, on, on_3, part, starts, stops, suspend, take, take_down}

@@ -4,10 +4,10 @@ use Rattle.std.proofs.Common.{arith, Some, Ok}
 use Rattle.std.specs.Prelude.{slice_get}
 use Rattle.std.proofs.Math.Nat.{eq-zero-or-pos}
 use Rattle.psci_board.specs.Board.{BoardValue, IsBoard, cores}
-use Rattle.psci_coord.specs.Claim.{claims_of, least_wish, off_wish, own_wish}
-use Rattle.psci_coord.specs.psci_parts.declared.part.Part.{Part}
-use Rattle.psci_coord.specs.View.{PowerView}
-use Rattle.psci_link.specs.Message.{AreClaims}
+use Rattle.psci_claims.specs.Claim.{claims_of, least_wish, off_wish, own_wish}
+use Rattle.psci_claims.specs.psci_parts.declared.part.Part.{Part}
+use Rattle.psci_claims.specs.View.{PowerView}
+use Rattle.psci_messages.specs.Message.{AreClaims}
 use Rattle.psci_state.specs.Ask.{IsAsk}
 use Rattle.psci_fw_spec.specs.declared.mode.SuspendMode.{SuspendMode}
 use Rattle.psci_fw_spec.specs.declared.mode.SuspendMode.TheVariants.{Platform, OsInitiated}

@@ -3,10 +3,10 @@ use Rattle.std.proofs.Common.{◌≡◌, ◌∙◌, ℕ, Bool, true, false, not,
 use Rattle.std.proofs.Common.{Option, None, Some, option_map, unwrap_or, refl, ap}
 use Rattle.std.specs.Option.{option_or}
 use Rattle.psci_board.specs.Board.{BoardValue}
-use Rattle.psci_coord.specs.psci_parts.declared.part.Part.{Part}
+use Rattle.psci_claims.specs.psci_parts.declared.part.Part.{Part}
 use Rattle.std.proofs.Common.{slice_get}
-use Rattle.psci_link.specs.Outstanding as slots
-use Rattle.psci_link.specs.Slots.{slot_of}
+use Rattle.psci_messages.specs.Outstanding as slots
+use Rattle.psci_messages.specs.Slots.{slot_of}
 use Rattle.psci_fw_spec.specs.After.{change}
 use Rattle.psci_fw_spec.specs.Changes.{target}
 use Rattle.psci_fw_spec.specs.Confirmed.{confirms, unless_claimed}
@@ -15,7 +15,7 @@ use Rattle.psci_fw_spec.specs.Effects.{Enters, Parks, StopsAtOnce, Acknowledges}
 use Rattle.psci_fw_spec.specs.Exchange.{FwExchange}
 use Rattle.psci_fw_spec.specs.History.{begins, changes, confirmed, granted, known, life}
 use Rattle.psci_fw_spec.specs.History.{says_confirmed, values_of}
-use Rattle.psci_link.specs.OnlyIf.{only_if}
+use Rattle.psci_messages.specs.OnlyIf.{only_if}
 use Rattle.psci_fw_spec.specs.Lives.{first_confirmed}
 use Rattle.psci_board.specs.Paths.{is_path_place}
 use Rattle.psci_fw_spec.specs.Said.{arrived}

@@ -8,16 +8,16 @@ use Rattle.psci_abi.specs.declared.request.Request.TheVariants as requests
 use Rattle.psci_board.specs.Board.{BoardValue, core_of, height, may_enter, node_of}
 use Rattle.psci_board.specs.declared.node.Core.{Core}
 use Rattle.psci_board.specs.declared.node.Node.{Node}
-use Rattle.psci_coord.specs.declared.osi.Osi.{Osi}
-use Rattle.psci_coord.specs.psci_parts.declared.part.Part.{Part}
-use Rattle.psci_coord.specs.Claim.{claims_of}
-use Rattle.psci_coord.specs.View.{generation, is_all_off, least_ask}
-use Rattle.psci_link.specs.declared.kind.Kind.TheVariants as kinds
+use Rattle.psci_claims.specs.declared.osi.Osi.{Osi}
+use Rattle.psci_claims.specs.psci_parts.declared.part.Part.{Part}
+use Rattle.psci_claims.specs.Claim.{claims_of}
+use Rattle.psci_claims.specs.View.{generation, is_all_off, least_ask}
+use Rattle.psci_messages.specs.declared.kind.Kind.TheVariants as kinds
 use Rattle.psci_state.specs.Ask.{deepest_of, is_deep}
 use Rattle.psci_state.specs.declared.fault.BadState.{BadState}
 use Rattle.psci_fw_spec.specs.declared.mode.SuspendMode.{SuspendMode}
 use Rattle.psci_fw_spec.specs.declared.mode.SuspendMode.TheVariants.{Platform, OsInitiated}
-use Rattle.psci_link.specs.declared.start.Start.{Start}
+use Rattle.psci_messages.specs.declared.start.Start.{Start}
 use Rattle.psci_fw_spec.specs.declared.opening.Opening.{Opening}
 use Rattle.psci_fw_spec.specs.declared.outcome.Act.TheVariants as acts
 use Rattle.psci_fw_spec.specs.declared.status.Status.{Status}

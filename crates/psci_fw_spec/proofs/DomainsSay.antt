@@ -3,7 +3,7 @@ use Rattle.std.proofs.Common.{◌≡◌, ◌∙◌, ℕ, Bool, true, false, not,
 use Rattle.std.proofs.Common.{Option, None, Some, option_map, unwrap_or, refl, ap}
 use Rattle.std.specs.Option.{option_or}
 use Rattle.psci_board.specs.Board.{BoardValue}
-use Rattle.psci_coord.specs.psci_parts.declared.part.Part.{Part}
+use Rattle.psci_claims.specs.psci_parts.declared.part.Part.{Part}
 use Rattle.std.proofs.Common.{slice_get}
 use Rattle.psci_fw_spec.specs.After.{change}
 use Rattle.psci_fw_spec.specs.Changes.{target}
@@ -11,7 +11,7 @@ use Rattle.psci_fw_spec.specs.Effects.{Effect, AsksOn, Rests}
 use Rattle.psci_fw_spec.specs.Effects.{Enters, Parks, StopsAtOnce}
 use Rattle.psci_fw_spec.specs.Exchange.{FwExchange}
 use Rattle.psci_fw_spec.specs.History.{begins, granted, life, says_granted, values_of}
-use Rattle.psci_link.specs.OnlyIf.{only_if}
+use Rattle.psci_messages.specs.OnlyIf.{only_if}
 use Rattle.psci_fw_spec.specs.Lives.{first_granted}
 use Rattle.psci_board.specs.Paths.{is_path_place}
 use Rattle.psci_fw_spec.specs.Said.{arrived}

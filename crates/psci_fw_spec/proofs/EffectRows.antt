@@ -1,8 +1,8 @@
 -- Worked examples: what calls with their replies come down to, and phases.
 use Rattle.std.proofs.Common.{◌++◌, ◌∷◌, ◌≡◌, List, None, Option, Some, [], false, map, negsuc}
 use Rattle.std.proofs.Common.{refl, true, ℕ}
-use Rattle.psci_link.specs.Message.{MessageValue}
-use Rattle.psci_link.specs.declared.kind.Kind.TheVariants as kinds
+use Rattle.psci_messages.specs.Message.{MessageValue}
+use Rattle.psci_messages.specs.declared.kind.Kind.TheVariants as kinds
 use Rattle.psci_fw_spec.specs.declared.fault.FwFault.TheVariants.{NoCore, NotRunning, OldStart}
 use Rattle.psci_fw_spec.specs.declared.mode.SuspendMode.TheVariants.{OsInitiated, Platform}
 use Rattle.psci_fw_spec.specs.declared.opening.Opening.{Opening}
@@ -10,8 +10,8 @@ use Rattle.psci_fw_spec.specs.declared.outcome.Act.{Act}
 use Rattle.psci_fw_spec.specs.declared.outcome.Act.TheVariants as acts
 use Rattle.psci_fw_spec.specs.declared.reply.FwReply.{FwReply}
 use Rattle.psci_fw_spec.specs.declared.reply.FwReply.TheVariants.{Out}
-use Rattle.psci_link.specs.declared.start.Cause.TheVariants as causes
-use Rattle.psci_link.specs.declared.start.Start.{Start}
+use Rattle.psci_messages.specs.declared.start.Cause.TheVariants as causes
+use Rattle.psci_messages.specs.declared.start.Start.{Start}
 use Rattle.psci_fw_spec.specs.Effects.{Acknowledges, AsksOn, Effect, Enters, GoesOn, Halts}
 use Rattle.psci_fw_spec.specs.Effects.{Nothing}
 use Rattle.psci_fw_spec.specs.Effects.{Parks, Rests, SetsMode, Stops, StopsAtOnce, effect_of}

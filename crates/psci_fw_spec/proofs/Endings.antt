@@ -9,10 +9,10 @@ use Rattle.psci_abi.specs.declared.request.Request.{Request}
 use Rattle.psci_abi.specs.declared.request.Request.TheVariants as requests
 use Rattle.psci_board.specs.Board.{BoardValue, height, may_enter}
 use Rattle.psci_board.specs.declared.node.Core.{Core}
-use Rattle.psci_coord.specs.declared.osi.Osi.{Osi}
-use Rattle.psci_coord.specs.psci_parts.declared.part.Part.{Part}
-use Rattle.psci_link.specs.declared.kind.Kind.TheVariants as kinds
-use Rattle.psci_link.specs.Message.{MessageValue}
+use Rattle.psci_claims.specs.declared.osi.Osi.{Osi}
+use Rattle.psci_claims.specs.psci_parts.declared.part.Part.{Part}
+use Rattle.psci_messages.specs.declared.kind.Kind.TheVariants as kinds
+use Rattle.psci_messages.specs.Message.{MessageValue}
 use Rattle.psci_state.specs.Ask.{deepest_of, is_deep}
 use Rattle.psci_state.specs.declared.fault.BadState.{BadState}
 use Rattle.psci_fw_spec.specs.declared.outcome.Act.TheVariants as acts

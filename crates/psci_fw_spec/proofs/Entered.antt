@@ -6,8 +6,8 @@ use Rattle.std.proofs.Common.{subst, ◌∙◌}
 use Rattle.std.proofs.lemmas.Bool.{ltb-false, ltb-true}
 use Rattle.psci_abi.specs.Calls.{request_of}
 use Rattle.psci_board.specs.Board.{BoardValue, cores, height}
-use Rattle.psci_link.specs.declared.taken.Taken.{Taken}
-use Rattle.psci_link.specs.declared.taken.Taken.TheVariants.{Used, Old}
+use Rattle.psci_messages.specs.declared.taken.Taken.{Taken}
+use Rattle.psci_messages.specs.declared.taken.Taken.TheVariants.{Used, Old}
 use Rattle.psci_state.specs.Ask.{deepest_of}
 use Rattle.psci_fw_spec.specs.declared.call.FwCall.{FwCall}
 use Rattle.psci_fw_spec.specs.declared.call.FwCall.TheVariants.{Smc, Enter, Take}
@@ -17,7 +17,7 @@ use Rattle.psci_fw_spec.specs.declared.opening.Opening.{Opening}
 use Rattle.psci_fw_spec.specs.declared.outcome.Act.TheVariants as acts
 use Rattle.psci_fw_spec.specs.declared.outcome.Outcome.{Outcome}
 use Rattle.psci_fw_spec.specs.declared.reply.FwReply.TheVariants as replies
-use Rattle.psci_link.specs.declared.start.Start.{Start}
+use Rattle.psci_messages.specs.declared.start.Start.{Start}
 use Rattle.psci_fw_spec.specs.After.{after, change}
 use Rattle.psci_fw_spec.specs.Answer.{answer, reply_or}
 use Rattle.psci_fw_spec.specs.Calls.{call_fault, outcome_of}

@@ -1,6 +1,6 @@
 -- Worked examples: a life in which the system goes off or is reset.
 use Rattle.std.proofs.Common.{◌∷◌, [], false, refl, true}
-use Rattle.psci_link.specs.declared.kind.Kind.TheVariants.{Off, Reset, Start}
+use Rattle.psci_messages.specs.declared.kind.Kind.TheVariants.{Off, Reset, Start}
 use Rattle.psci_fw_spec.specs.declared.fault.FwFault.TheVariants.{OldStart}
 use Rattle.psci_fw_spec.proofs.Steps.{◌⇒◌, AreAnswered, affinity, board, boot, boots, computing}
 use Rattle.psci_fw_spec.proofs.Steps.{enter_boot, enter_on, enter_reset, enter_wake, goes_on_3}

@@ -1,7 +1,7 @@
 -- Worked examples: hardware states, by any caller, in each mode, in the first life and in later
 -- ones.
 use Rattle.std.proofs.Common.{◌∷◌, ℕ, [], false, refl}
-use Rattle.psci_link.specs.declared.kind.Kind.TheVariants as kinds
+use Rattle.psci_messages.specs.declared.kind.Kind.TheVariants as kinds
 use Rattle.psci_fw_spec.proofs.Lopsided.{lopsided}
 use Rattle.psci_fw_spec.proofs.Steps.{◌⇒◌, AreAnswered, Step, board, boot, boots, computing}
 use Rattle.psci_fw_spec.proofs.Steps.{enter_boot, enter_on, enter_reset, enter_wake, error}

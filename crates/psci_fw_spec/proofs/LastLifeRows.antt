@@ -1,7 +1,7 @@
 -- Worked examples: calls in the last life by other cores than the boot core, at their start limit
 -- and below it, and on a board of one level; and claims on three levels by the least ask.
 use Rattle.std.proofs.Common.{◌∷◌, [], false, refl}
-use Rattle.psci_link.specs.declared.kind.Kind.TheVariants.{Off, Reset}
+use Rattle.psci_messages.specs.declared.kind.Kind.TheVariants.{Off, Reset}
 use Rattle.psci_fw_spec.proofs.Lopsided.{affinity_by, features_by, lopsided, migrate_info_type}
 use Rattle.psci_fw_spec.proofs.Steps.{◌⇒◌, AreAnswered, boots, computing, enter_boot, enter_on}
 use Rattle.psci_fw_spec.proofs.Steps.{enter_reset, enter_wake, error, goes_to, off, old, on, on_by}

@@ -1,7 +1,7 @@
 -- Worked examples: calls by cores 2 and 3 of an uneven board of three levels, in life 2 and in
 -- OS-initiated mode.
 use Rattle.std.proofs.Common.{◌∷◌, [], false, refl}
-use Rattle.psci_link.specs.declared.kind.Kind.TheVariants.{Off, Reset, Start}
+use Rattle.psci_messages.specs.declared.kind.Kind.TheVariants.{Off, Reset, Start}
 use Rattle.psci_fw_spec.specs.declared.fault.FwFault.TheVariants.{NoCore, OldStart}
 use Rattle.psci_fw_spec.proofs.Lopsided.{affinity_by, features_by, lopsided, migrate_info_type}
 use Rattle.psci_fw_spec.proofs.Steps.{◌⇒◌, AreAnswered, boots, computing, enter_boot, enter_on}

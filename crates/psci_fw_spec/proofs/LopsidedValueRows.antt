@@ -3,7 +3,7 @@
 use Rattle.std.proofs.Common.{◌≡◌, ◌==◌, ◌++◌, ◌∷◌, List, None, Some, [], false, refl}
 use Rattle.std.proofs.Common.{if◌then◌else◌, true}
 use Rattle.psci_board.specs.declared.node.Node.{Node}
-use Rattle.psci_link.specs.declared.kind.Kind.TheVariants as kinds
+use Rattle.psci_messages.specs.declared.kind.Kind.TheVariants as kinds
 use Rattle.psci_fw_spec.specs.declared.mode.SuspendMode.TheVariants.{OsInitiated, Platform}
 use Rattle.psci_fw_spec.specs.declared.status.Status.TheVariants as statuses
 use Rattle.psci_fw_spec.specs.AffinityInfo.{node_status}

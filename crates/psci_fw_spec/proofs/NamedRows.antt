@@ -3,7 +3,7 @@ use Rattle.std.proofs.Common.{◌≡◌, [], Some, refl}
 use Rattle.psci_abi.specs.declared.request.Request.TheVariants.{CpuOff, CpuOn}
 use Rattle.psci_board.specs.Board.{core_of}
 use Rattle.psci_board.specs.declared.node.Core.{Core}
-use Rattle.psci_link.specs.declared.kind.Kind.TheVariants.{Down, Off, Start}
+use Rattle.psci_messages.specs.declared.kind.Kind.TheVariants.{Down, Off, Start}
 use Rattle.psci_fw_spec.specs.Lives.{start_of_life}
 use Rattle.psci_fw_spec.specs.Named.{IsNamed}
 use Rattle.psci_fw_spec.proofs.Steps.{board, message}

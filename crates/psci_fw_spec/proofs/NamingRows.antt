@@ -3,7 +3,7 @@
 -- cores of a cluster swapped. The boot core stands in a cluster by itself.
 use Rattle.std.proofs.Common.{ℕ, ◌+◌, ◌*◌, ◌/◌, ◌%◌, List, [], ◌∷◌, false, refl}
 use Rattle.psci_board.specs.Board.{BoardValue}
-use Rattle.psci_link.specs.declared.kind.Kind.TheVariants.{Reset}
+use Rattle.psci_messages.specs.declared.kind.Kind.TheVariants.{Reset}
 use Rattle.psci_fw_spec.proofs.Lopsided.{affinity_by}
 use Rattle.psci_fw_spec.proofs.Steps.{◌⇒◌, AreAnswered, Row, board, boots, computing, enter_boot}
 use Rattle.psci_fw_spec.proofs.Steps.{enter_on, enter_reset, enter_wake, error, goes_to, off, on}

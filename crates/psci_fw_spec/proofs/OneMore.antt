@@ -1,7 +1,7 @@
 -- A history with one more exchange says the values that it leaves, field by field.
 use Rattle.std.proofs.Common.{◌≡◌, List, [], ◌∷◌, refl}
 use Rattle.psci_board.specs.Board.{BoardValue}
-use Rattle.psci_link.specs.Outstanding.{last_message, outstanding}
+use Rattle.psci_messages.specs.Outstanding.{last_message, outstanding}
 use Rattle.psci_fw_spec.specs.After.{after}
 use Rattle.psci_fw_spec.specs.Exchange.{FwExchange, effect}
 use Rattle.psci_fw_spec.specs.History.{values_of}

@@ -11,7 +11,7 @@ use Rattle.psci_fw_spec.specs.Effects.{Effect, AsksOn, Rests}
 use Rattle.psci_fw_spec.specs.Effects.{Enters, Parks, StopsAtOnce}
 use Rattle.psci_fw_spec.specs.Exchange.{FwExchange}
 use Rattle.psci_fw_spec.specs.History.{begins, life, opening, says_opening, values_of}
-use Rattle.psci_link.specs.OnlyIf.{only_if}
+use Rattle.psci_messages.specs.OnlyIf.{only_if}
 use Rattle.psci_fw_spec.specs.Lives.{first_opening}
 use Rattle.psci_fw_spec.specs.Said.{arrived}
 use Rattle.psci_fw_spec.proofs.Says.{found, said, said_or}

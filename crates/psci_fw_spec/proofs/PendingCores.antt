@@ -4,9 +4,9 @@ use Rattle.std.proofs.Common.{None, Some, unwrap_or, nat_lt, refl, sym, ap, subs
 use Rattle.std.specs.Option.{option_or}
 use Rattle.std.proofs.lemmas.Bool.{and_parts}
 use Rattle.psci_board.specs.Board.{BoardValue}
-use Rattle.psci_link.specs.declared.kind.Kind.TheVariants.{Down}
-use Rattle.psci_link.specs.Message.{AckValue}
-use Rattle.psci_link.specs.Slots.{is_kind}
+use Rattle.psci_messages.specs.declared.kind.Kind.TheVariants.{Down}
+use Rattle.psci_messages.specs.Message.{AckValue}
+use Rattle.psci_messages.specs.Slots.{is_kind}
 use Rattle.psci_fw_spec.specs.declared.status.Status.{Status}
 use Rattle.psci_fw_spec.specs.declared.status.Status.TheVariants as statuses
 use Rattle.psci_fw_spec.specs.AffinityInfo as affinity
@@ -15,7 +15,7 @@ use Rattle.psci_fw_spec.specs.Effects.{Effect, AsksOn}
 use Rattle.psci_fw_spec.specs.Effects.{Enters, Parks, StopsAtOnce, Acknowledges}
 use Rattle.psci_fw_spec.specs.Exchange.{FwExchange, effect}
 use Rattle.psci_fw_spec.specs.History.{begins, is_gone, is_pending, life, phase}
-use Rattle.psci_link.specs.OnlyIf.{only_if}
+use Rattle.psci_messages.specs.OnlyIf.{only_if}
 use Rattle.psci_fw_spec.specs.History.{phase_left, says_pending, says_status, status}
 use Rattle.psci_fw_spec.specs.Lives.{first_status}
 use Rattle.psci_fw_spec.specs.Phases.{Phase, Pending, is_away}

@@ -10,7 +10,7 @@ use Rattle.psci_fw_spec.specs.Effects.{Effect, GoesOn, SetsMode, AsksOn, Rests, 
 use Rattle.psci_fw_spec.specs.Effects.{Stops, Enters, Parks, StopsAtOnce}
 use Rattle.psci_fw_spec.specs.Exchange.{FwExchange}
 use Rattle.psci_fw_spec.specs.History.{begins, is_pending, life, phase_left, says_left}
-use Rattle.psci_link.specs.OnlyIf.{only_if}
+use Rattle.psci_messages.specs.OnlyIf.{only_if}
 use Rattle.psci_fw_spec.specs.History.{says_pending, values_of}
 use Rattle.psci_fw_spec.specs.Phases.{Phase, Pending, Running, Suspended, Away, unless_pending}
 use Rattle.psci_fw_spec.specs.Said.{arrived}

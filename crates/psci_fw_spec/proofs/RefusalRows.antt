@@ -1,6 +1,6 @@
 -- Worked examples: calls and entries that are refused.
 use Rattle.std.proofs.Common.{◌∷◌, [], refl}
-use Rattle.psci_link.specs.declared.kind.Kind.TheVariants.{Off}
+use Rattle.psci_messages.specs.declared.kind.Kind.TheVariants.{Off}
 use Rattle.psci_fw_spec.specs.declared.fault.FwFault.TheVariants.{NoCore, NoLife, NotRunning}
 use Rattle.psci_fw_spec.specs.declared.fault.FwFault.TheVariants.{OldStart}
 use Rattle.psci_fw_spec.proofs.Steps.{◌⇒◌, AreAnswered, affinity, board, boot, boots, computing}

@@ -1,6 +1,6 @@
 -- Worked examples: SYSTEM_RESET2.
 use Rattle.std.proofs.Common.{◌∷◌, [], Some, None, false, true, refl}
-use Rattle.psci_link.specs.declared.kind.Kind.TheVariants.{Off, Reset}
+use Rattle.psci_messages.specs.declared.kind.Kind.TheVariants.{Off, Reset}
 use Rattle.psci_fw_spec.specs.declared.fault.FwFault.TheVariants.{NoCore, NoLife, NotRunning}
 use Rattle.psci_fw_spec.specs.Phases.{Away, Running}
 use Rattle.psci_fw_spec.proofs.Steps.{◌⇒◌, AreAnswered, affinity, board, boot, boots, computing}

@@ -5,13 +5,13 @@ use Rattle.std.specs.Ordering.{int_eq}
 use Rattle.std.proofs.lemmas.Bool.{and_parts, eqb-true}
 use Rattle.std.proofs.lemmas.Bool.Decides.{Decides-int_eq, nat_tests}
 use Rattle.psci_board.specs.Board.{BoardValue}
-use Rattle.psci_coord.specs.psci_parts.declared.part.Part.{Part}
-use Rattle.psci_link.specs.declared.kind.Kind.{Kind}
-use Rattle.psci_link.specs.declared.kind.Kind.TheVariants as kinds
-use Rattle.psci_link.specs.declared.taken.Taken.{Taken}
-use Rattle.psci_link.specs.declared.taken.Taken.TheVariants as takens
-use Rattle.psci_link.specs.Message.{MessageValue}
-use Rattle.psci_link.specs.Slots.{is_kind}
+use Rattle.psci_claims.specs.psci_parts.declared.part.Part.{Part}
+use Rattle.psci_messages.specs.declared.kind.Kind.{Kind}
+use Rattle.psci_messages.specs.declared.kind.Kind.TheVariants as kinds
+use Rattle.psci_messages.specs.declared.taken.Taken.{Taken}
+use Rattle.psci_messages.specs.declared.taken.Taken.TheVariants as takens
+use Rattle.psci_messages.specs.Message.{MessageValue}
+use Rattle.psci_messages.specs.Slots.{is_kind}
 use Rattle.psci_fw_spec.specs.declared.fault.FwFault.{FwFault}
 use Rattle.psci_fw_spec.specs.declared.fault.FwFault.TheVariants as faults
 use Rattle.psci_fw_spec.specs.declared.outcome.Act.{Act}

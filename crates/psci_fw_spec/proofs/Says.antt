@@ -5,13 +5,13 @@ use Rattle.std.specs.Option.{option_or}
 use Rattle.std.proofs.lemmas.Bool.{eqb-true}
 use Rattle.psci_board.specs.Board.{BoardValue}
 use Rattle.psci_fw_spec.specs.declared.mode.SuspendMode.TheVariants.{Platform}
-use Rattle.psci_link.specs.declared.start.Start.{Start}
+use Rattle.psci_messages.specs.declared.start.Start.{Start}
 use Rattle.psci_fw_spec.specs.After.{change}
 use Rattle.psci_fw_spec.specs.Effects.{Effect}
 use Rattle.psci_fw_spec.specs.Effects.{Enters, Parks, StopsAtOnce}
 use Rattle.psci_fw_spec.specs.Exchange.{FwExchange}
 use Rattle.psci_fw_spec.specs.History.{begins, halting, known, life, life_after, mode}
-use Rattle.psci_link.specs.OnlyIf.{only_if}
+use Rattle.psci_messages.specs.OnlyIf.{only_if}
 use Rattle.psci_fw_spec.specs.History.{says_halting, says_known, says_mode, values_of}
 use Rattle.psci_fw_spec.specs.Lives.{start_of_life}
 use Rattle.psci_fw_spec.specs.Said.{arrived}

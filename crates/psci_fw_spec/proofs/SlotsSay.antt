@@ -2,9 +2,9 @@
 use Rattle.std.proofs.Common.{◌≡◌, ◌∙◌, ℕ, Bool, true, false, not, ◌==◌, List, [], ◌∷◌, ◌++◌}
 use Rattle.std.proofs.Common.{Some, refl, ap}
 use Rattle.psci_board.specs.Board.{BoardValue}
-use Rattle.psci_link.specs.Outstanding as slots
-use Rattle.psci_link.specs.Slots.{Change, Clear, ClearAll, Put, Slot, changed}
-use Rattle.psci_link.specs.declared.start.Start.{Start}
+use Rattle.psci_messages.specs.Outstanding as slots
+use Rattle.psci_messages.specs.Slots.{Change, Clear, ClearAll, Put, Slot, changed}
+use Rattle.psci_messages.specs.declared.start.Start.{Start}
 use Rattle.psci_fw_spec.specs.After.{change}
 use Rattle.psci_fw_spec.specs.Effects.{Effect, AsksOn, Rests, Halts}
 use Rattle.psci_fw_spec.specs.Effects.{Enters, Parks, StopsAtOnce, Acknowledges}

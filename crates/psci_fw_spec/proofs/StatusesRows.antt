@@ -1,7 +1,7 @@
 -- Worked examples: the statuses that a core has had, and the messages that were sent, the last
 -- first.
 use Rattle.std.proofs.Common.{◌++◌, ◌∷◌, ◌≡◌, List, [], false, map, refl, ℕ}
-use Rattle.psci_link.specs.declared.kind.Kind.TheVariants as kinds
+use Rattle.psci_messages.specs.declared.kind.Kind.TheVariants as kinds
 use Rattle.psci_fw_spec.specs.declared.status.Status.{Status}
 use Rattle.psci_fw_spec.specs.declared.status.Status.TheVariants.{Off, On, Pending}
 use Rattle.psci_fw_spec.specs.Sent.{sent_messages}

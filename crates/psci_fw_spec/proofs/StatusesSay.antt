@@ -4,8 +4,8 @@ use Rattle.std.proofs.Common.{None, Some, unwrap_or, nat_lt, refl, ap}
 use Rattle.std.specs.Option.{option_or}
 use Rattle.std.proofs.lemmas.Bool.{eqb-true}
 use Rattle.psci_board.specs.Board.{BoardValue}
-use Rattle.psci_link.specs.declared.kind.Kind.TheVariants.{Down}
-use Rattle.psci_link.specs.Slots.{is_kind}
+use Rattle.psci_messages.specs.declared.kind.Kind.TheVariants.{Down}
+use Rattle.psci_messages.specs.Slots.{is_kind}
 use Rattle.psci_fw_spec.specs.declared.status.Status.TheVariants as statuses
 use Rattle.psci_fw_spec.specs.After.{change}
 use Rattle.psci_fw_spec.specs.Changes.{target}
@@ -13,7 +13,7 @@ use Rattle.psci_fw_spec.specs.Effects.{Effect, AsksOn}
 use Rattle.psci_fw_spec.specs.Effects.{Enters, Parks, StopsAtOnce, Acknowledges}
 use Rattle.psci_fw_spec.specs.Exchange.{FwExchange}
 use Rattle.psci_fw_spec.specs.History.{begins, life, phase, says_status, status}
-use Rattle.psci_link.specs.OnlyIf.{only_if}
+use Rattle.psci_messages.specs.OnlyIf.{only_if}
 use Rattle.psci_fw_spec.specs.History.{values_of}
 use Rattle.psci_fw_spec.specs.Lives.{first_status}
 use Rattle.psci_fw_spec.specs.Phases.{is_away}

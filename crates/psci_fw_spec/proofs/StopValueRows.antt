@@ -1,6 +1,6 @@
 -- Worked examples: the values after a core has stopped, in OS-initiated mode and in a halting life.
 use Rattle.std.proofs.Common.{◌++◌, ◌∷◌, List, None, Some, [], false, refl, true}
-use Rattle.psci_link.specs.declared.kind.Kind.TheVariants as kinds
+use Rattle.psci_messages.specs.declared.kind.Kind.TheVariants as kinds
 use Rattle.psci_fw_spec.specs.declared.mode.SuspendMode.TheVariants.{OsInitiated, Platform}
 use Rattle.psci_fw_spec.specs.declared.status.Status.TheVariants as statuses
 use Rattle.psci_fw_spec.specs.Phases.{Away, Running, Suspended}

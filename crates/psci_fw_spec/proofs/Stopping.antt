@@ -4,16 +4,16 @@ use Rattle.std.proofs.Common.{arith, Option, None, Some}
 use Rattle.std.specs.Prelude.{is_some}
 use Rattle.std.specs.Option.{option_or}
 use Rattle.psci_board.specs.Board.{BoardValue, cores}
-use Rattle.psci_coord.specs.Claim.{claims_of, least_wish, off_wish, own_wish}
-use Rattle.psci_coord.specs.psci_parts.declared.part.Part.{Part}
-use Rattle.psci_coord.specs.View.{PowerView}
-use Rattle.psci_link.specs.Message.{MessageValue}
+use Rattle.psci_claims.specs.Claim.{claims_of, least_wish, off_wish, own_wish}
+use Rattle.psci_claims.specs.psci_parts.declared.part.Part.{Part}
+use Rattle.psci_claims.specs.View.{PowerView}
+use Rattle.psci_messages.specs.Message.{MessageValue}
 use Rattle.psci_state.specs.Ask.{IsAsk}
-use Rattle.psci_coord.specs.psci_tree.Recount.{is_off}
+use Rattle.psci_state.specs.Cores.{is_off}
 use Rattle.psci_fw_spec.specs.declared.mode.SuspendMode.{SuspendMode}
 use Rattle.psci_fw_spec.specs.declared.mode.SuspendMode.TheVariants.{Platform, OsInitiated}
 use Rattle.psci_fw_spec.specs.declared.opening.Opening.{Opening}
-use Rattle.psci_link.specs.declared.start.Start.{Start}
+use Rattle.psci_messages.specs.declared.start.Start.{Start}
 use Rattle.psci_fw_spec.specs.declared.status.Status.TheVariants as statuses
 use Rattle.psci_fw_spec.specs.Changes.{Rest, with_arrival, with_claims, with_phase, with_rest}
 use Rattle.psci_fw_spec.specs.Claims.{leaving_claims, off_parts, suspend_claims, suspend_parts}

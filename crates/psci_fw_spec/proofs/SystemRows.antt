@@ -1,6 +1,6 @@
 -- Worked examples: SYSTEM_SUSPEND, SYSTEM_OFF and SYSTEM_RESET.
 use Rattle.std.proofs.Common.{◌∷◌, [], false, refl}
-use Rattle.psci_link.specs.declared.kind.Kind.TheVariants.{Off, Reset}
+use Rattle.psci_messages.specs.declared.kind.Kind.TheVariants.{Off, Reset}
 use Rattle.psci_fw_spec.proofs.Steps.{◌⇒◌, AreAnswered, affinity, board, boot, boots, computing}
 use Rattle.psci_fw_spec.proofs.Steps.{enter_boot, enter_on, enter_reset, enter_wake, error}
 use Rattle.psci_fw_spec.proofs.Steps.{goes_on_3, goes_to, limited, off, old, on, on_3, one_cluster}

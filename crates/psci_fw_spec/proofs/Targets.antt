@@ -10,7 +10,7 @@ use Rattle.psci_abi.specs.declared.request.Request.{Request}
 use Rattle.psci_abi.specs.declared.request.Request.TheVariants as requests
 use Rattle.psci_board.specs.Board.{BoardValue, core_of, may_enter}
 use Rattle.psci_board.specs.declared.node.Core.{Core}
-use Rattle.psci_link.specs.Message.{MessageValue}
+use Rattle.psci_messages.specs.Message.{MessageValue}
 use Rattle.psci_fw_spec.specs.declared.call.FwCall.TheVariants.{Smc}
 use Rattle.psci_fw_spec.specs.declared.fault.FwFault.{FwFault}
 use Rattle.psci_fw_spec.specs.declared.mode.SuspendMode.{SuspendMode}

@@ -2,10 +2,10 @@
 use Rattle.std.proofs.Common.{◌++◌, ◌∷◌, ◌≡◌, Bool, List, None, Option, Some, [], false, map, refl}
 use Rattle.std.proofs.Common.{ℕ}
 use Rattle.psci_board.specs.Board.{BoardValue}
-use Rattle.psci_coord.specs.psci_parts.declared.part.Part.{Part}
-use Rattle.psci_link.specs.Message.{MessageValue}
-use Rattle.psci_link.specs.Slots.Slot.{OfCore, OfSystem}
-use Rattle.psci_link.specs.declared.kind.Kind.TheVariants as kinds
+use Rattle.psci_claims.specs.psci_parts.declared.part.Part.{Part}
+use Rattle.psci_messages.specs.Message.{MessageValue}
+use Rattle.psci_messages.specs.Slots.Slot.{OfCore, OfSystem}
+use Rattle.psci_messages.specs.declared.kind.Kind.TheVariants as kinds
 use Rattle.psci_fw_spec.specs.declared.mode.SuspendMode.{SuspendMode}
 use Rattle.psci_fw_spec.specs.declared.mode.SuspendMode.TheVariants.{Platform}
 use Rattle.psci_fw_spec.specs.declared.opening.Opening.{Opening}

@@ -5,12 +5,12 @@ use Rattle.std.specs.Prelude.{slice_get, length, Some}
 use Rattle.std.proofs.lemmas.Bool.{cases_Bool, cases_lt}
 use Rattle.std.proofs.lemmas.Option.{slice_get-get_or, slice_get_past}
 use Rattle.psci_board.specs.Board.{BoardValue, cores, height, up}
-use Rattle.psci_coord.specs.Claim.{claims_of, least_wish, off_wish, own_wish}
-use Rattle.psci_coord.specs.LastCore.{last_core_check}
-use Rattle.psci_coord.specs.psci_parts.declared.part.Part.{Part}
-use Rattle.psci_coord.specs.View.{PowerView, domain_of, is_all_off}
+use Rattle.psci_claims.specs.Claim.{claims_of, least_wish, off_wish, own_wish}
+use Rattle.psci_claims.specs.LastCore.{last_core_check}
+use Rattle.psci_claims.specs.psci_parts.declared.part.Part.{Part}
+use Rattle.psci_claims.specs.View.{PowerView, domain_of, is_all_off}
 use Rattle.psci_state.specs.Ask.{IsAsk}
-use Rattle.psci_coord.specs.psci_tree.Recount.{is_off}
+use Rattle.psci_state.specs.Cores.{is_off}
 use Rattle.psci_fw_spec.specs.declared.mode.SuspendMode.{SuspendMode}
 use Rattle.psci_fw_spec.specs.declared.mode.SuspendMode.TheVariants.{Platform, OsInitiated}
 use Rattle.psci_fw_spec.specs.Phases.{Phase, Pending, Running, Suspended, Away, activity_of}

@@ -6,7 +6,7 @@ use Rattle.psci_abi.specs.declared.code.Code.{Code}
 use Rattle.psci_abi.specs.declared.request.Request.{Request}
 use Rattle.psci_abi.specs.declared.request.Request.TheVariants as requests
 use Rattle.psci_board.specs.Board.{BoardValue, cores}
-use Rattle.psci_link.specs.declared.kind.Kind.TheVariants as kinds
+use Rattle.psci_messages.specs.declared.kind.Kind.TheVariants as kinds
 use Rattle.psci_fw_spec.specs.declared.fault.FwFault.{FwFault}
 use Rattle.psci_fw_spec.specs.declared.fault.FwFault.TheVariants.{NoCore, NoLife, NotRunning}
 use Rattle.psci_fw_spec.specs.declared.outcome.Outcome.{Outcome}

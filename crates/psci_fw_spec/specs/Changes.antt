@@ -2,12 +2,12 @@
 use Rattle.std.specs.Prelude.{ℕ, Bool, true, ◌&&◌, nat_lt, if◌then◌else◌, Option, None, Some}
 use Rattle.std.specs.Option.{option_or}
 use Rattle.psci_board.specs.Board.{BoardValue}
-use Rattle.psci_link.specs.declared.kind.Kind.TheVariants.{Down}
-use Rattle.psci_link.specs.Message.{AckValue, MessageValue}
-use Rattle.psci_link.specs.Slots.{Change, Put, Clear, Acknowledge, changed, is_kind, slot_of}
+use Rattle.psci_messages.specs.declared.kind.Kind.TheVariants.{Down}
+use Rattle.psci_messages.specs.Message.{AckValue, MessageValue}
+use Rattle.psci_messages.specs.Slots.{Change, Put, Clear, Acknowledge, changed, is_kind, slot_of}
 use Rattle.psci_fw_spec.specs.declared.mode.SuspendMode.{SuspendMode}
 use Rattle.psci_fw_spec.specs.declared.opening.Opening.{Opening}
-use Rattle.psci_link.specs.declared.start.Start.{Start}
+use Rattle.psci_messages.specs.declared.start.Start.{Start}
 use Rattle.psci_fw_spec.specs.declared.status.Status.TheVariants as statuses
 use Rattle.psci_fw_spec.specs.Confirmed.{claimed_anew, confirms, unconfirmed}
 use Rattle.psci_fw_spec.specs.Lives.{in_life}

@@ -4,11 +4,11 @@ use Rattle.std.specs.Prelude.{None, Some, List, slice_get, option_and_then}
 use Rattle.std.specs.List.{sum_by}
 use Rattle.psci_board.specs.Board.{BoardValue, below}
 use Rattle.psci_board.specs.Paths.{is_path_place}
-use Rattle.psci_coord.specs.psci_parts.declared.part.Part.{Part}
-use Rattle.psci_link.specs.declared.kind.Kind.TheVariants.{Down}
-use Rattle.psci_link.specs.Message.{AckValue, MessageValue}
-use Rattle.psci_link.specs.OnlyIf.{only_if}
-use Rattle.psci_link.specs.Slots.{is_kind}
+use Rattle.psci_claims.specs.psci_parts.declared.part.Part.{Part}
+use Rattle.psci_messages.specs.declared.kind.Kind.TheVariants.{Down}
+use Rattle.psci_messages.specs.Message.{AckValue, MessageValue}
+use Rattle.psci_messages.specs.OnlyIf.{only_if}
+use Rattle.psci_messages.specs.Slots.{is_kind}
 
 -- the part of a Down for this level, where the acknowledgement says that it was applied: of the
 -- parts, which count from the core up, the first ones were

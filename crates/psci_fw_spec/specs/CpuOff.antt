@@ -1,8 +1,8 @@
 -- CPU_OFF: a core goes off.
 use Rattle.std.specs.Prelude.{ℕ}
 use Rattle.psci_board.specs.Board.{BoardValue}
-use Rattle.psci_link.specs.declared.kind.Kind.TheVariants.{Down}
-use Rattle.psci_link.specs.Message.{MessageValue}
+use Rattle.psci_messages.specs.declared.kind.Kind.TheVariants.{Down}
+use Rattle.psci_messages.specs.Message.{MessageValue}
 use Rattle.psci_fw_spec.specs.declared.outcome.Outcome.{Outcome}
 use Rattle.psci_fw_spec.specs.Claims.{off_parts}
 use Rattle.psci_fw_spec.specs.Outcomes.{message_for, stops_with}

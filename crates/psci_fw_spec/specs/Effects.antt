@@ -7,8 +7,8 @@ use Rattle.psci_abi.specs.declared.code.Code.{Code}
 use Rattle.psci_abi.specs.declared.request.Request.{Request}
 use Rattle.psci_abi.specs.declared.request.Request.TheVariants as requests
 use Rattle.psci_board.specs.Board.{BoardValue, height}
-use Rattle.psci_link.specs.declared.taken.Taken.TheVariants.{Used}
-use Rattle.psci_link.specs.Message.{AckValue, MessageValue}
+use Rattle.psci_messages.specs.declared.taken.Taken.TheVariants.{Used}
+use Rattle.psci_messages.specs.Message.{AckValue, MessageValue}
 use Rattle.psci_state.specs.Ask.{deepest_of, is_deep}
 use Rattle.psci_state.specs.declared.fault.BadState.{BadState}
 use Rattle.std.specs.Ordering.{int_eq}
@@ -20,7 +20,7 @@ use Rattle.psci_fw_spec.specs.declared.outcome.Act.{Act}
 use Rattle.psci_fw_spec.specs.declared.outcome.Act.TheVariants as acts
 use Rattle.psci_fw_spec.specs.declared.reply.FwReply.{FwReply}
 use Rattle.psci_fw_spec.specs.declared.reply.FwReply.TheVariants.{Out, Taken}
-use Rattle.psci_link.specs.declared.start.Start.{Start}
+use Rattle.psci_messages.specs.declared.start.Start.{Start}
 use Rattle.psci_fw_spec.specs.Changes.{PowerOn, Rest}
 use Rattle.psci_fw_spec.specs.CpuSuspend.{ask_named}
 use Rattle.psci_fw_spec.specs.Phases.{Suspended, Away}

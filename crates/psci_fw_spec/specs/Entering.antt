@@ -7,9 +7,9 @@ use Rattle.psci_fw_spec.specs.declared.fault.FwFault.TheVariants.{NoCore, NoLife
 use Rattle.psci_fw_spec.specs.declared.opening.Opening.{Opening}
 use Rattle.psci_fw_spec.specs.declared.outcome.Act.TheVariants as acts
 use Rattle.psci_fw_spec.specs.declared.outcome.Outcome.{Outcome}
-use Rattle.psci_link.specs.declared.start.Cause.{Cause}
-use Rattle.psci_link.specs.declared.start.Cause.TheVariants.{Boot, On, Wake, Reset}
-use Rattle.psci_link.specs.declared.start.Start.{Start}
+use Rattle.psci_messages.specs.declared.start.Cause.{Cause}
+use Rattle.psci_messages.specs.declared.start.Cause.TheVariants.{Boot, On, Wake, Reset}
+use Rattle.psci_messages.specs.declared.start.Start.{Start}
 use Rattle.psci_fw_spec.specs.Changes.{with_arrival}
 use Rattle.psci_fw_spec.specs.CpuOff.{off_message}
 use Rattle.psci_fw_spec.specs.Lives.{in_life}

@@ -5,11 +5,11 @@ use Rattle.std.specs.Prelude.{None, Some, option_map, unwrap_or, List, [], â—Œâˆ
 use Rattle.std.specs.Prelude.{slice_get, option_and_then}
 use Rattle.std.specs.Option.{option_or}
 use Rattle.psci_board.specs.Board.{BoardValue}
-use Rattle.psci_link.specs.declared.kind.Kind.TheVariants.{Down}
-use Rattle.psci_link.specs.Message.{AckValue, MessageValue}
-use Rattle.psci_link.specs.OnlyIf.{only_if}
-use Rattle.psci_link.specs.Outstanding as slots
-use Rattle.psci_link.specs.Slots.{Change, is_kind, slot_of}
+use Rattle.psci_messages.specs.declared.kind.Kind.TheVariants.{Down}
+use Rattle.psci_messages.specs.Message.{AckValue, MessageValue}
+use Rattle.psci_messages.specs.OnlyIf.{only_if}
+use Rattle.psci_messages.specs.Outstanding as slots
+use Rattle.psci_messages.specs.Slots.{Change, is_kind, slot_of}
 use Rattle.psci_fw_spec.specs.declared.mode.SuspendMode.{SuspendMode}
 use Rattle.psci_fw_spec.specs.declared.mode.SuspendMode.TheVariants.{Platform}
 use Rattle.psci_fw_spec.specs.declared.opening.Opening.{Opening}

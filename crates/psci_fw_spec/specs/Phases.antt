@@ -1,8 +1,8 @@
 -- What a core is to the firmware.
 use Rattle.std.specs.Prelude.{ℕ, Bool, true, false, not, List}
 use Rattle.psci_state.specs.Ask.{is_deep}
-use Rattle.psci_coord.specs.psci_tree.declared.state.Activity.{Activity}
-use Rattle.psci_coord.specs.psci_tree.declared.state.Activity.TheVariants as activities
+use Rattle.psci_state.specs.declared.cores.Activity.{Activity}
+use Rattle.psci_state.specs.declared.cores.Activity.TheVariants as activities
 
 -- What a core is to the firmware.
 pub data Phase : Type 0 where

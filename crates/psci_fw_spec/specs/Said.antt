@@ -1,9 +1,9 @@
 -- What an effect says happened.
 use Rattle.std.specs.Prelude.{ℕ, Bool, List, [], ◌∷◌, ◌++◌, Option, None, Some}
 use Rattle.std.specs.Prelude.{if◌then◌else◌, option_map}
-use Rattle.psci_link.specs.Message.{MessageValue}
-use Rattle.psci_link.specs.Slots.{Change, Put, Clear, ClearAll, Acknowledge}
-use Rattle.psci_link.specs.declared.start.Start.{Start}
+use Rattle.psci_messages.specs.Message.{MessageValue}
+use Rattle.psci_messages.specs.Slots.{Change, Put, Clear, ClearAll, Acknowledge}
+use Rattle.psci_messages.specs.declared.start.Start.{Start}
 use Rattle.psci_fw_spec.specs.Changes.{PowerOn}
 use Rattle.psci_fw_spec.specs.Effects.{Effect, Nothing, GoesOn, SetsMode, AsksOn, Rests, Halts}
 use Rattle.psci_fw_spec.specs.Effects.{Stops, Enters, Parks, StopsAtOnce, Acknowledges}

@@ -3,8 +3,8 @@ use Rattle.std.specs.Prelude.{ℕ, [], Bool, true, false, ◌||◌, not, ◌==�
 use Rattle.std.specs.List.{list_all, range_with_len}
 use Rattle.psci_abi.specs.Codes.{denied, invalid_address, invalid_parameters}
 use Rattle.psci_board.specs.Board.{BoardValue, cores, height, may_enter}
-use Rattle.psci_link.specs.declared.kind.Kind.{Kind}
-use Rattle.psci_link.specs.declared.kind.Kind.TheVariants as kinds
+use Rattle.psci_messages.specs.declared.kind.Kind.{Kind}
+use Rattle.psci_messages.specs.declared.kind.Kind.TheVariants as kinds
 use Rattle.psci_state.specs.Ask.{deepest_of}
 use Rattle.psci_fw_spec.specs.declared.outcome.Outcome.{Outcome}
 use Rattle.psci_fw_spec.specs.declared.status.Status.{Status}

@@ -1,7 +1,7 @@
 -- What becomes of an acknowledgement.
-use Rattle.psci_link.specs.declared.taken.Taken.{Taken}
-use Rattle.psci_link.specs.Message.{AckValue}
-use Rattle.psci_link.specs.Slots.{slot_of, taken}
+use Rattle.psci_messages.specs.declared.taken.Taken.{Taken}
+use Rattle.psci_messages.specs.Message.{AckValue}
+use Rattle.psci_messages.specs.Slots.{slot_of, taken}
 use Rattle.psci_fw_spec.specs.Values.{Values}
 
 -- an acknowledgement is used where its message is outstanding

@@ -1,8 +1,8 @@
 -- What claims are made from, as the firmware's values say it.
 use Rattle.std.specs.Prelude.{ℕ, nat_le, if◌then◌else◌}
 use Rattle.psci_board.specs.Board.{BoardValue, height}
-use Rattle.psci_coord.specs.View.{PowerView}
-use Rattle.psci_coord.specs.psci_tree.Recount.{asks, is_active, is_off}
+use Rattle.psci_claims.specs.View.{PowerView}
+use Rattle.psci_state.specs.Cores.{asks, is_active, is_off}
 use Rattle.psci_fw_spec.specs.Phases.{activity_of}
 use Rattle.psci_fw_spec.specs.Values.{Values}
 

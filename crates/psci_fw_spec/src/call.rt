@@ -3,7 +3,7 @@
 ghost use Rattle.std.specs.Prelude.{◌≡◌};
 
 use psci_abi::Regs;
-use psci_link::{Ack, Start};
+use psci_messages::{Ack, Start};
 
 /// What is asked of the firmware.
 #[derive(Debug, PartialEq, Drop)]

@@ -6,8 +6,8 @@ ghost use Rattle.psci_abi.specs.declared.registers.Regs.{Regs};
 ghost use Rattle.psci_abi.specs.declared.request.Request.{Request};
 ghost use Rattle.psci_abi.specs.declared.request.Request.TheVariants.{CpuOn};
 ghost use Rattle.psci_board.specs.Board.{BoardValue, IsBoard, cores, core_of};
-ghost use Rattle.psci_coord.specs.psci_parts.declared.part.Part.{Part};
-ghost use Rattle.psci_link.specs.Message.{AckValue, AreClaims};
+ghost use Rattle.psci_claims.specs.psci_parts.declared.part.Part.{Part};
+ghost use Rattle.psci_messages.specs.Message.{AckValue, AreClaims};
 ghost use Rattle.psci_state.specs.Ask.{IsAsk};
 ghost use Rattle.psci_fw_spec.specs.declared.call.FwCall.{FwCall};
 ghost use Rattle.psci_fw_spec.specs.declared.call.FwCall.TheVariants.{Smc, Enter};
@@ -15,7 +15,7 @@ ghost use Rattle.psci_fw_spec.specs.declared.outcome.Act.TheVariants as acts;
 ghost use Rattle.psci_fw_spec.specs.declared.outcome.Outcome.{Outcome};
 ghost use Rattle.psci_fw_spec.specs.declared.reply.FwReply.{FwReply};
 ghost use Rattle.psci_fw_spec.specs.declared.reply.FwReply.TheVariants.{Out};
-ghost use Rattle.psci_link.specs.declared.start.Start.{Start};
+ghost use Rattle.psci_messages.specs.declared.start.Start.{Start};
 ghost use Rattle.psci_fw_spec.specs.declared.status.Status.TheVariants as statuses;
 ghost use Rattle.psci_fw_spec.specs.After.{after, change};
 ghost use Rattle.psci_fw_spec.specs.Answer.{answer};
@@ -36,8 +36,8 @@ ghost use Rattle.psci_fw_spec.specs.Phases.{Pending, Running, Away};
 ghost use Rattle.psci_fw_spec.specs.Values.{Values};
 
 use psci_board::{law_paths, law_words};
-use psci_coord::{law_below, law_claims, law_last_core, law_off, law_own, law_platform};
-use psci_link::{law_parts, law_slots};
+use psci_claims::{law_below, law_claims, law_last_core, law_off, law_own, law_platform};
+use psci_messages::{law_parts, law_slots};
 use psci_state::law_power_states;
 
 /// The values that a history says are those of a life's start before any core has entered, and

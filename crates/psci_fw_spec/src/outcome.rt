@@ -4,7 +4,7 @@ ghost use Rattle.std.specs.Prelude.{◌≡◌};
 ghost use Rattle.psci_fw_spec.specs.Outcomes.{returns, stops, stops_with};
 
 use psci_abi::Code;
-use psci_link::Message;
+use psci_messages::Message;
 
 /// What the calling core does next.
 #[derive(Clone, Copy, Debug, PartialEq)]

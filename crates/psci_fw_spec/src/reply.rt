@@ -4,7 +4,7 @@ ghost use Rattle.std.specs.Prelude.{◌≡◌};
 
 use crate::fault::FwFault;
 use crate::outcome::Outcome;
-use psci_link::Taken;
+use psci_messages::Taken;
 
 /// What the firmware replies.
 #[derive(Debug, PartialEq, Drop)]

@@ -4,23 +4,23 @@ use Rattle.std.proofs.Common.{None, refl, sym, ◌∙◌, ap, inl, inr}
 use Rattle.std.proofs.Common.{slice_index_or}
 use Rattle.std.proofs.lemmas.Bool.{and_parts, cases_lt}
 use Rattle.std.proofs.lemmas.List.{get_or_past}
-use Rattle.psci_link.specs.declared.kind.Kind.{Kind}
-use Rattle.psci_link.specs.declared.kind.Kind.TheVariants.{Down, Start, Off, Reset}
-use Rattle.psci_link.specs.declared.taken.Taken.TheVariants.{Used}
-use Rattle.psci_link.specs.Message.{AckValue}
-use Rattle.psci_link.specs.Slots.{Slot, SlotsValue, changed, is_kind}
-use Rattle.psci_link.specs.Slots.{message_in, slot_of, taken}
-use Rattle.psci_link.specs.Slots.Change.{Acknowledge}
+use Rattle.psci_messages.specs.declared.kind.Kind.{Kind}
+use Rattle.psci_messages.specs.declared.kind.Kind.TheVariants.{Down, Start, Off, Reset}
+use Rattle.psci_messages.specs.declared.taken.Taken.TheVariants.{Used}
+use Rattle.psci_messages.specs.Message.{AckValue}
+use Rattle.psci_messages.specs.Slots.{Slot, SlotsValue, changed, is_kind}
+use Rattle.psci_messages.specs.Slots.{message_in, slot_of, taken}
+use Rattle.psci_messages.specs.Slots.Change.{Acknowledge}
 use Rattle.psci_fw_spec.specs.declared.status.Status.TheVariants as statuses
 use Rattle.psci_fw_spec.specs.Changes.{confirms_on, turns_off, with_acknowledgement}
 use Rattle.psci_fw_spec.specs.Confirmed.{applied_part}
 use Rattle.psci_fw_spec.specs.Phases.{is_away}
 use Rattle.psci_fw_spec.specs.Values.{Values, updated}
-use Rattle.psci_coord.specs.psci_parts.declared.part.Part.{Part}
+use Rattle.psci_claims.specs.psci_parts.declared.part.Part.{Part}
 use Rattle.psci_tree.specs.Recount.{TreeValue, state_at, granted_at, is_confirmed_at}
-use Rattle.psci_tree.specs.declared.state.Activity.{Activity}
-use Rattle.psci_tree.specs.declared.state.Activity.TheVariants as activities
-use Rattle.psci_tree.specs.declared.state.CoreState.{CoreState}
+use Rattle.psci_state.specs.declared.cores.Activity.{Activity}
+use Rattle.psci_state.specs.declared.cores.Activity.TheVariants as activities
+use Rattle.psci_state.specs.declared.cores.CoreState.{CoreState}
 use Rattle.psci_fw_spec.specs.declared.status.Status.{Status}
 use Rattle.psci_fw_state.specs.declared.row.CoreRow.{CoreRow}
 use Rattle.psci_fw_state.specs.declared.counts.StatusCounts.{StatusCounts}

@@ -9,11 +9,11 @@ use Rattle.std.proofs.Math.ListN.{replicate}
 use Rattle.std.proofs.lemmas.List.Sums.{sum_by-cons}
 use Rattle.psci_board.specs.Board.{BoardValue, IsBoard, IsTree, is_width, size_below, cores, height}
 use Rattle.psci_board.specs.Board.{nodes, place_above, up}
-use Rattle.psci_link.specs.Message.{MessageValue}
-use Rattle.psci_link.specs.Slots.{Slot, SlotsValue, message_in, no_messages}
-use Rattle.psci_link.specs.Slots.Slot.{OfCore, OfSystem}
-use Rattle.psci_tree.specs.declared.state.Activity.TheVariants as activities
-use Rattle.psci_tree.specs.declared.state.CoreState.{CoreState}
+use Rattle.psci_messages.specs.Message.{MessageValue}
+use Rattle.psci_messages.specs.Slots.{Slot, SlotsValue, message_in, no_messages}
+use Rattle.psci_messages.specs.Slots.Slot.{OfCore, OfSystem}
+use Rattle.psci_state.specs.declared.cores.Activity.TheVariants as activities
+use Rattle.psci_state.specs.declared.cores.CoreState.{CoreState}
 use Rattle.psci_tree.specs.Recount.{IsDomainTree, TreeValue, state_at, granted_at, level_sizes}
 use Rattle.psci_tree.specs.Recount.{never_started, is_confirmed_at}
 use Rattle.psci_fw_spec.specs.declared.mode.SuspendMode.TheVariants.{Platform}

@@ -5,8 +5,8 @@ use Rattle.std.proofs.Math.ListN.{set}
 use Rattle.std.proofs.lemmas.Bool.{eqb-true, eqb-false}
 use Rattle.std.proofs.lemmas.List.{get_or-set_same, get_or-set_other}
 use Rattle.psci_board.specs.Board.{cores, size_below}
-use Rattle.psci_tree.specs.declared.state.Activity.TheVariants as activities
-use Rattle.psci_tree.specs.declared.state.CoreState.{CoreState}
+use Rattle.psci_state.specs.declared.cores.Activity.TheVariants as activities
+use Rattle.psci_state.specs.declared.cores.CoreState.{CoreState}
 use Rattle.psci_tree.specs.Recount.{TreeValue, state_at, granted_at, known_at}
 use Rattle.psci_tree.specs.Recount.{is_confirmed_at}
 use Rattle.psci_fw_spec.specs.declared.status.Status.{Status}

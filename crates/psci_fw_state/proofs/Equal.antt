@@ -2,9 +2,9 @@
 use Rattle.std.proofs.Common.{◌≡◌, ℕ, ◌==◌, Bool, true, false, cond, None, refl}
 use Rattle.std.proofs.lemmas.Bool.{eqb-true}
 use Rattle.psci_board.specs.Board.{BoardValue}
-use Rattle.psci_link.specs.Slots.{Slot, changed}
-use Rattle.psci_link.specs.Slots.Change.{Clear}
-use Rattle.psci_link.specs.declared.start.Start.{Start}
+use Rattle.psci_messages.specs.Slots.{Slot, changed}
+use Rattle.psci_messages.specs.Slots.Change.{Clear}
+use Rattle.psci_messages.specs.declared.start.Start.{Start}
 use Rattle.psci_fw_spec.specs.Confirmed.{unconfirmed}
 use Rattle.psci_fw_spec.specs.Paths.{cleared}
 use Rattle.psci_fw_spec.specs.Values.{Values, updated}

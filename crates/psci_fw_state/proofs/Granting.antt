@@ -10,8 +10,8 @@ use Rattle.psci_board.specs.Board.{size_below}
 use Rattle.psci_board.specs.Board.{up}
 use Rattle.psci_board.specs.Laws.{PathLaws}
 use Rattle.psci_board.specs.declared.node.Node.{Node}
-use Rattle.psci_coord.specs.psci_parts.declared.part.Part.{Part}
-use Rattle.psci_link.specs.Message.{PartByPart}
+use Rattle.psci_claims.specs.psci_parts.declared.part.Part.{Part}
+use Rattle.psci_messages.specs.Message.{PartByPart}
 use Rattle.psci_tree.specs.Changes.{MayGrant}
 use Rattle.psci_tree.specs.Standing.{on_path as on_path_of}
 use Rattle.psci_tree.specs.Recount.{TreeValue, granted_at, is_confirmed_at}

@@ -6,17 +6,17 @@ use Rattle.std.proofs.lemmas.List.{length-set, with_items_is}
 use Rattle.std.specs.Option.{option_or}
 use Rattle.std.specs.Vec.{with_items}
 use Rattle.psci_board.specs.Board.{BoardValue, place_above, up}
-use Rattle.psci_link.specs.Message.{MessageValue}
-use Rattle.psci_link.specs.Slots.{Slot, SlotsValue, changed, message_in}
-use Rattle.psci_link.specs.Slots.Change.{Put, Clear}
+use Rattle.psci_messages.specs.Message.{MessageValue}
+use Rattle.psci_messages.specs.Slots.{Slot, SlotsValue, changed, message_in}
+use Rattle.psci_messages.specs.Slots.Change.{Put, Clear}
 use Rattle.psci_state.specs.Ask.{is_deep}
-use Rattle.psci_tree.specs.declared.state.Activity.{Activity}
-use Rattle.psci_tree.specs.declared.state.Activity.TheVariants as activities
-use Rattle.psci_tree.specs.declared.state.CoreState.{CoreState}
+use Rattle.psci_state.specs.declared.cores.Activity.{Activity}
+use Rattle.psci_state.specs.declared.cores.Activity.TheVariants as activities
+use Rattle.psci_state.specs.declared.cores.CoreState.{CoreState}
 use Rattle.psci_tree.specs.Recount.{TreeValue, state_at, granted_at, known_at}
 use Rattle.psci_tree.specs.Recount.{is_confirmed_at}
 use Rattle.psci_fw_spec.specs.declared.opening.Opening.{Opening}
-use Rattle.psci_link.specs.declared.start.Start.{Start}
+use Rattle.psci_messages.specs.declared.start.Start.{Start}
 use Rattle.psci_fw_spec.specs.declared.status.Status.{Status}
 use Rattle.psci_fw_spec.specs.declared.status.Status.TheVariants as statuses
 use Rattle.psci_fw_spec.specs.Changes.{with_arrival, with_pending, with_phase, with_rest}

@@ -2,11 +2,11 @@
 use Rattle.std.proofs.Common.{◌≡◌, ℕ, refl, ap, length, sym, ◌∙◌, List, Ok}
 use Rattle.std.specs.Prelude.{nat_le, if◌then◌else◌}
 use Rattle.psci_board.specs.Board.{BoardValue}
-use Rattle.psci_coord.specs.Claim.{platform_claims}
-use Rattle.psci_coord.specs.LastCore.{last_core_check}
-use Rattle.psci_coord.specs.Looked.{view_of}
-use Rattle.psci_tree.specs.declared.state.Activity.{Activity}
-use Rattle.psci_tree.specs.declared.state.Activity.TheVariants as activities
+use Rattle.psci_claims.specs.Claim.{platform_claims}
+use Rattle.psci_claims.specs.LastCore.{last_core_check}
+use Rattle.psci_claims.specs.Looked.{view_of}
+use Rattle.psci_state.specs.declared.cores.Activity.{Activity}
+use Rattle.psci_state.specs.declared.cores.Activity.TheVariants as activities
 use Rattle.psci_tree.specs.Recount.{asks, state_at, is_active, is_off}
 use Rattle.psci_fw_spec.specs.declared.status.Status.{Status}
 use Rattle.psci_fw_spec.specs.declared.status.Status.TheVariants as statuses

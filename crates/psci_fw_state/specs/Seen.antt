@@ -3,11 +3,11 @@ use Rattle.std.specs.Prelude.{◌≡◌, ℕ, ◌==◌, Bool, true, false, nat_l
 use Rattle.std.specs.Prelude.{None}
 use Rattle.std.specs.Prelude.{if◌then◌else◌}
 use Rattle.psci_board.specs.Board.{BoardValue, IsBoard, cores}
-use Rattle.psci_link.specs.Message.{MessageValue}
-use Rattle.psci_link.specs.Slots.{SlotsValue, message_in}
-use Rattle.psci_link.specs.Slots.Slot.{OfCore, OfSystem}
-use Rattle.psci_tree.specs.declared.state.Activity.{Activity}
-use Rattle.psci_tree.specs.declared.state.Activity.TheVariants as activities
+use Rattle.psci_messages.specs.Message.{MessageValue}
+use Rattle.psci_messages.specs.Slots.{SlotsValue, message_in}
+use Rattle.psci_messages.specs.Slots.Slot.{OfCore, OfSystem}
+use Rattle.psci_state.specs.declared.cores.Activity.{Activity}
+use Rattle.psci_state.specs.declared.cores.Activity.TheVariants as activities
 use Rattle.psci_tree.specs.Recount.{TreeValue, IsDomainTree, state_at, granted_at, known_at}
 use Rattle.psci_tree.specs.Recount.{is_confirmed_at}
 use Rattle.psci_fw_spec.specs.declared.mode.SuspendMode.{SuspendMode}

@@ -13,7 +13,7 @@ use crate::row::{CoreRow, reset_rows, row_of, set_row};
 use crate::state::State;
 use psci_board::Core;
 use psci_fw_spec::{Start, Status, SuspendMode};
-use psci_link::law_slots;
+use psci_messages::law_slots;
 use psci_tree::{Tree, law_confirmed, law_cores, law_granted, law_start_of_life};
 
 impl State {

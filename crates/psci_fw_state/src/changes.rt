@@ -2,9 +2,9 @@
 
 ghost use Rattle.std.specs.Prelude.{◌≡◌, ◌<◌, Some};
 ghost use Rattle.psci_board.specs.Board.{cores};
-ghost use Rattle.psci_link.specs.declared.kind.Kind.TheVariants as kinds;
-ghost use Rattle.psci_link.specs.declared.taken.Taken.TheVariants.{Used, Old};
-ghost use Rattle.psci_link.specs.Slots.{IsOfCores, slot_of};
+ghost use Rattle.psci_messages.specs.declared.kind.Kind.TheVariants as kinds;
+ghost use Rattle.psci_messages.specs.declared.taken.Taken.TheVariants.{Used, Old};
+ghost use Rattle.psci_messages.specs.Slots.{IsOfCores, slot_of};
 ghost use Rattle.psci_fw_spec.specs.Changes.{turns_off, with_acknowledgement, with_halt};
 ghost use Rattle.psci_fw_spec.specs.Changes.{with_mode};
 ghost use Rattle.psci_fw_spec.specs.Changes.{with_pending, with_phase, with_rest};
@@ -19,7 +19,7 @@ use crate::row::{CoreRow, row_of, set_row};
 use crate::state::State;
 use psci_board::Core;
 use psci_fw_spec::{Opening, Status, SuspendMode};
-use psci_link::{Ack, Kind, Message, Taken, law_slots};
+use psci_messages::{Ack, Kind, Message, Taken, law_slots};
 use psci_state::Ask;
 use psci_tree::{law_confirmed, law_cores, law_granted};
 

@@ -2,10 +2,10 @@
 
 ghost use Rattle.std.specs.Prelude.{◌≡◌, ◌<◌, ◌≤◌, ◌+◌, ℕ, length, IfOk, OnErr};
 ghost use Rattle.psci_board.specs.Board.{IsBoard, cores, height};
-ghost use Rattle.psci_coord.specs.Claim.{off_claims, platform_claims};
-ghost use Rattle.psci_coord.specs.LastCore.{last_core_check};
-ghost use Rattle.psci_link.specs.declared.kind.Kind.TheVariants as kinds;
-ghost use Rattle.psci_link.specs.Message.{ArePartsOf, AreClaims};
+ghost use Rattle.psci_claims.specs.Claim.{off_claims, platform_claims};
+ghost use Rattle.psci_claims.specs.LastCore.{last_core_check};
+ghost use Rattle.psci_messages.specs.declared.kind.Kind.TheVariants as kinds;
+ghost use Rattle.psci_messages.specs.Message.{ArePartsOf, AreClaims};
 ghost use Rattle.psci_tree.specs.Recount.{IsDomainTree, state_at, granted_at};
 ghost use Rattle.psci_tree.specs.Recount.{is_confirmed_at};
 ghost use Rattle.psci_fw_spec.specs.Changes.{with_claims, with_rest};
@@ -21,9 +21,10 @@ ghost use Rattle.psci_fw_state.specs.Seen.{values_in};
 
 use crate::state::State;
 use psci_board::{Board, Core, law_paths, law_sizes};
-use psci_coord::{Osi, Part, Parts, claims};
+use psci_claims::{Osi, Part, Parts};
+use psci_coord::claims;
 use psci_fw_spec::{Opening, SuspendMode};
-use psci_link::{Kind, Message, law_parts, law_slots};
+use psci_messages::{Kind, Message, law_parts, law_slots};
 use psci_osi::{check, off_parts};
 use psci_state::Ask;
 use psci_tree::{Tree, law_confirmed, law_cores, law_granted};

@@ -3,7 +3,7 @@
 ghost use Rattle.std.specs.Prelude.{◌≡◌, ◌≤◌, ◌<◌, ◌==◌, ◌&&◌, ℕ, true, nat_lt, None, Some};
 ghost use Rattle.std.specs.Prelude.{slice_get, if◌then◌else◌};
 ghost use Rattle.psci_board.specs.Board.{HasNodeIn, IsBoard, cores};
-ghost use Rattle.psci_link.specs.Slots.{slot_of};
+ghost use Rattle.psci_messages.specs.Slots.{slot_of};
 ghost use Rattle.psci_tree.specs.Recount.{IsDomainTree, state_at, granted_at, is_confirmed_at};
 ghost use Rattle.psci_tree.specs.Recount.{known as known_of};
 ghost use Rattle.psci_fw_spec.specs.Confirmed.{applied_part, is_made_at};
@@ -12,8 +12,8 @@ ghost use Rattle.psci_fw_state.specs.Seen.{values_in};
 
 use crate::state::State;
 use psci_board::{Board, Core, Node, law_paths};
-use psci_coord::{Part, Parts};
-use psci_link::{Ack, Kind};
+use psci_claims::{Part, Parts};
+use psci_messages::{Ack, Kind};
 use psci_tree::{Tree, law_confirmed};
 
 impl State {

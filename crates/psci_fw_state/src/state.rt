@@ -4,7 +4,7 @@ use crate::counts::{StatusCounts, no_counts, reset_counts};
 use crate::row::{CoreRow, first_rows, row_of};
 use psci_board::{Board, Core, Memory, Node};
 use psci_fw_spec::{Hw, Opening, Status, SuspendMode};
-use psci_link::{Message, Slots};
+use psci_messages::{Message, Slots};
 use psci_tree::{Activity, Tree, law_start_of_life};
 use std::alloc::Global;
 use std::marker::Model;

@@ -11,7 +11,7 @@ use Rattle.psci_world_laws.specs.psci_board.Board.{BoardValue, HasNode, cores, h
 use Rattle.psci_world_laws.specs.psci_board.Laws.{PathLaws}
 use Rattle.psci_world_laws.specs.psci_board.Paths.{is_path_place}
 use Rattle.psci_world_laws.specs.psci_board.declared.node.Node.{Node}
-use Rattle.psci_world_laws.specs.psci_coord.psci_parts.declared.part.Part.{Part}
+use Rattle.psci_world_laws.specs.psci_claims.psci_parts.declared.part.Part.{Part}
 use Rattle.psci_world_laws.specs.psci_ctl_spec.Changes.{change}
 use Rattle.psci_world_laws.specs.psci_ctl_spec.Effects.{Deepens, message_effect}
 use Rattle.psci_world_laws.specs.psci_ctl_spec.Parts.{applied, depth_or, is_applied, is_live, laid}
@@ -26,12 +26,12 @@ use Rattle.psci_world_laws.specs.psci_fw_spec.NodeHwState.{hw_at}
 use Rattle.psci_world_laws.specs.psci_fw_spec.Phases.{Pending}
 use Rattle.psci_world_laws.specs.psci_fw_spec.Said.{listed}
 use Rattle.psci_world_laws.specs.psci_fw_spec.Values.{Values}
-use Rattle.psci_world_laws.specs.psci_link.declared.kind.Kind.{Kind}
-use Rattle.psci_world_laws.specs.psci_link.declared.kind.Kind.TheVariants as kinds
-use Rattle.psci_world_laws.specs.psci_link.Message.{AckValue, AreClaims, ArePartsOf, MessageValue}
-use Rattle.psci_world_laws.specs.psci_link.Message.{is_climbing}
-use Rattle.psci_world_laws.specs.psci_link.OnlyIf.{only_if}
-use Rattle.psci_world_laws.specs.psci_link.Slots.{OfCore, answers, is_kind, slot_of}
+use Rattle.psci_world_laws.specs.psci_messages.declared.kind.Kind.{Kind}
+use Rattle.psci_world_laws.specs.psci_messages.declared.kind.Kind.TheVariants as kinds
+use Rattle.psci_world_laws.specs.psci_messages.Message.{AckValue, AreClaims, ArePartsOf, MessageValue}
+use Rattle.psci_world_laws.specs.psci_messages.Message.{is_climbing}
+use Rattle.psci_world_laws.specs.psci_messages.OnlyIf.{only_if}
+use Rattle.psci_world_laws.specs.psci_messages.Slots.{OfCore, answers, is_kind, slot_of}
 use Rattle.psci_world_laws.specs.psci_fw_laws.Allowed.{IsAwaited}
 use Rattle.psci_world_laws.specs.psci_fw_laws.Granted.{NonePending}
 use Rattle.psci_world_laws.specs.psci_fw_laws.Kept.{Holds}

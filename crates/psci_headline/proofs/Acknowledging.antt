@@ -5,7 +5,7 @@ use Rattle.std.proofs.Common.{sym, ◌∙◌, arith}
 use Rattle.std.specs.Prelude.{nat_le, slice_get}
 use Rattle.std.proofs.lemmas.Bool.{and_from, eq-eqb, le-leb}
 use Rattle.psci_world_laws.specs.psci_board.Board.{BoardValue, cores, height, up}
-use Rattle.psci_world_laws.specs.psci_coord.psci_parts.declared.part.Part.{Part}
+use Rattle.psci_world_laws.specs.psci_claims.psci_parts.declared.part.Part.{Part}
 use Rattle.psci_world_laws.specs.psci_ctl_spec.Changes.{change}
 use Rattle.psci_world_laws.specs.psci_ctl_spec.Effects.{Deepens, message_effect}
 use Rattle.psci_world_laws.specs.psci_ctl_spec.Parts.{depth_or, laid}
@@ -14,10 +14,10 @@ use Rattle.psci_world_laws.specs.psci_ctl_spec.Values as controlled
 use Rattle.psci_world_laws.proofs.ctl_spec.Front.{get_take}
 use Rattle.psci_world_laws.specs.psci_fw_spec.Phases.{Phase, Away, Pending, Running, activity_of}
 use Rattle.psci_world_laws.specs.psci_fw_spec.Values.{Values}
-use Rattle.psci_world_laws.specs.psci_link.declared.kind.Kind.{Kind}
-use Rattle.psci_world_laws.specs.psci_link.declared.kind.Kind.TheVariants as kinds
-use Rattle.psci_world_laws.specs.psci_link.Message.{AckValue, ArePartsOf, AreClaims, MessageValue}
-use Rattle.psci_world_laws.specs.psci_tree.Recount.{asks}
+use Rattle.psci_world_laws.specs.psci_messages.declared.kind.Kind.{Kind}
+use Rattle.psci_world_laws.specs.psci_messages.declared.kind.Kind.TheVariants as kinds
+use Rattle.psci_world_laws.specs.psci_messages.Message.{AckValue, ArePartsOf, AreClaims, MessageValue}
+use Rattle.psci_world_laws.specs.psci_state.Cores.{asks}
 use Rattle.psci_world_laws.specs.psci_fw_laws.Kept.{Holds}
 use Rattle.psci_world_laws.specs.psci_fw_laws.KnownBelow.{known_below}
 use Rattle.psci_world_laws.proofs.fw_laws.Parts.{part_from}

@@ -10,9 +10,9 @@ use Rattle.psci_world_laws.specs.psci_ctl_spec.Values as controlled
 use Rattle.psci_world_laws.specs.psci_fw_spec.declared.status.Status.TheVariants as statuses
 use Rattle.psci_world_laws.specs.psci_fw_spec.History as remembers
 use Rattle.psci_world_laws.specs.psci_fw_spec.Values.{Values}
-use Rattle.psci_world_laws.specs.psci_link.declared.kind.Kind.TheVariants.{Down}
-use Rattle.psci_world_laws.specs.psci_link.Message.{AckValue, MessageValue}
-use Rattle.psci_world_laws.specs.psci_link.Slots.{OfCore, is_kind, slot_of}
+use Rattle.psci_world_laws.specs.psci_messages.declared.kind.Kind.TheVariants.{Down}
+use Rattle.psci_world_laws.specs.psci_messages.Message.{AckValue, MessageValue}
+use Rattle.psci_world_laws.specs.psci_messages.Slots.{OfCore, is_kind, slot_of}
 use Rattle.psci_world_laws.specs.psci_fw_laws.Allowed.{IsAllowed, IsAwaited}
 use Rattle.psci_world_laws.specs.psci_fw_laws.Kept.{Holds}
 use Rattle.psci_world_laws.specs.psci_world_spec.declared.said.Record.{Record}

@@ -5,8 +5,8 @@ use Rattle.std.proofs.Common.{arith}
 use Rattle.std.specs.Prelude.{slice_get}
 use Rattle.psci_world_laws.specs.psci_board.Board.{BoardValue, HasNode}
 use Rattle.psci_world_laws.specs.psci_board.declared.node.Node.{Node}
-use Rattle.psci_world_laws.specs.psci_coord.psci_parts.declared.part.Part.{Part}
-use Rattle.psci_world_laws.specs.psci_link.Message.{MessageValue}
+use Rattle.psci_world_laws.specs.psci_claims.psci_parts.declared.part.Part.{Part}
+use Rattle.psci_world_laws.specs.psci_messages.Message.{MessageValue}
 use Rattle.psci_world_laws.specs.psci_board.Paths.{is_on_path}
 use Rattle.psci_world_laws.specs.psci_fw_spec.Said.{listed}
 use Rattle.psci_world_laws.specs.psci_fw_spec.Values.{Values}

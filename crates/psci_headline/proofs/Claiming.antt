@@ -7,8 +7,8 @@ use Rattle.std.proofs.lemmas.Bool.{and_from, eq-eqb, eqb-true, false_from_ne_tru
 use Rattle.std.proofs.lemmas.Bool.{le-leb, lt-ltb}
 use Rattle.psci_world_laws.specs.psci_board.Board.{BoardValue, HasNode, has_node, height, up}
 use Rattle.psci_world_laws.specs.psci_board.declared.node.Node.{Node}
-use Rattle.psci_world_laws.specs.psci_coord.psci_parts.declared.part.Part.{Part}
-use Rattle.psci_world_laws.specs.psci_link.Message.{MessageValue}
+use Rattle.psci_world_laws.specs.psci_claims.psci_parts.declared.part.Part.{Part}
+use Rattle.psci_world_laws.specs.psci_messages.Message.{MessageValue}
 use Rattle.psci_world_laws.specs.psci_board.Paths.{is_on_path, is_path_place}
 use Rattle.psci_world_laws.specs.psci_fw_spec.Said.{listed}
 use Rattle.psci_world_laws.specs.psci_fw_spec.Values.{Values}

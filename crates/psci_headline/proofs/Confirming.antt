@@ -6,9 +6,9 @@ use Rattle.std.specs.Prelude.{slice_get}
 use Rattle.std.proofs.lemmas.Bool.{and_parts, eqb-false}
 use Rattle.psci_world_laws.specs.psci_board.Board.{BoardValue, cores, has_node, up}
 use Rattle.psci_world_laws.specs.psci_board.Paths.{is_path_place}
-use Rattle.psci_world_laws.specs.psci_coord.psci_parts.declared.part.Part.{Part}
-use Rattle.psci_world_laws.specs.psci_link.declared.start.Start as starts
-use Rattle.psci_world_laws.specs.psci_link.Message.{AckValue, MessageValue}
+use Rattle.psci_world_laws.specs.psci_claims.psci_parts.declared.part.Part.{Part}
+use Rattle.psci_world_laws.specs.psci_messages.declared.start.Start as starts
+use Rattle.psci_world_laws.specs.psci_messages.Message.{AckValue, MessageValue}
 use Rattle.psci_world_laws.specs.psci_fw_spec.After.{change}
 use Rattle.psci_world_laws.specs.psci_fw_spec.Changes.{confirms_on, target}
 use Rattle.psci_world_laws.specs.psci_fw_spec.Confirmed.{unless_claimed}

@@ -4,11 +4,11 @@ use Rattle.std.proofs.Common.{refl, arith, subst, ap, sym, ◌∙◌, ◌&&◌}
 use Rattle.std.specs.Prelude.{nat_lt}
 use Rattle.std.proofs.lemmas.Bool.{and_parts, cond_both, eqb-false, eqb-true, ltb-true}
 use Rattle.psci_world_laws.specs.psci_board.Board.{BoardValue}
-use Rattle.psci_world_laws.specs.psci_link.declared.kind.Kind.{Kind}
-use Rattle.psci_world_laws.specs.psci_link.declared.kind.Kind.TheVariants.{Down, Start, Off, Reset}
-use Rattle.psci_world_laws.specs.psci_link.Message.{AckValue}
-use Rattle.psci_world_laws.specs.psci_link.Slots.{is_kind}
-use Rattle.psci_world_laws.specs.psci_link.declared.start.Start as starts
+use Rattle.psci_world_laws.specs.psci_messages.declared.kind.Kind.{Kind}
+use Rattle.psci_world_laws.specs.psci_messages.declared.kind.Kind.TheVariants.{Down, Start, Off, Reset}
+use Rattle.psci_world_laws.specs.psci_messages.Message.{AckValue}
+use Rattle.psci_world_laws.specs.psci_messages.Slots.{is_kind}
+use Rattle.psci_world_laws.specs.psci_messages.declared.start.Start as starts
 use Rattle.psci_world_laws.specs.psci_fw_spec.declared.status.Status.TheVariants as statuses
 use Rattle.psci_world_laws.specs.psci_fw_spec.After.{change}
 use Rattle.psci_world_laws.specs.psci_fw_spec.Changes.{target, turns_off}

@@ -9,7 +9,7 @@ use Rattle.psci_world_laws.specs.psci_ctl_spec.declared.delivery.Delivery.TheVar
 use Rattle.psci_world_laws.specs.psci_ctl_spec.declared.kick.Kick.{Kick}
 use Rattle.psci_world_laws.specs.psci_ctl_spec.declared.kick.Kick.TheVariants as kicks
 use Rattle.psci_world_laws.specs.psci_ctl_spec.declared.reply.CtlReply.TheVariants as replied
-use Rattle.psci_world_laws.specs.psci_link.declared.start.Start.{Start}
+use Rattle.psci_world_laws.specs.psci_messages.declared.start.Start.{Start}
 use Rattle.psci_world_laws.specs.psci_ctl_spec.Changes.{after, change}
 use Rattle.psci_world_laws.specs.psci_ctl_spec.Effects.{Effect, Nothing, Starts, Deepens, Ends}
 use Rattle.psci_world_laws.specs.psci_ctl_spec.Effects.{Begins}
@@ -22,7 +22,7 @@ use Rattle.psci_world_laws.specs.psci_ctl_spec.Values.{Values, first_depth, firs
 use Rattle.psci_world_laws.proofs.ctl_spec.OneMore.{values_more}
 use Rattle.psci_world_laws.specs.psci_fw_spec.declared.reply.FwReply.{FwReply}
 use Rattle.psci_world_laws.specs.psci_fw_spec.declared.reply.FwReply.TheVariants as replies
-use Rattle.psci_world_laws.specs.psci_link.Message.{AckValue, MessageValue}
+use Rattle.psci_world_laws.specs.psci_messages.Message.{AckValue, MessageValue}
 use Rattle.psci_world_laws.specs.psci_world_spec.declared.event.Event.{Event}
 use Rattle.psci_world_laws.specs.psci_world_spec.declared.event.Event.TheVariants.{Call, Enter}
 use Rattle.psci_world_laws.specs.psci_world_spec.declared.event.Event.TheVariants.{Wake, Reset}

@@ -4,8 +4,8 @@ use Rattle.std.proofs.Common.{◌≡◌, ◌≤◌, ◌<◌, ◌==◌, ◌||◌,
 use Rattle.std.proofs.Common.{List, [], ◌∷◌, None, Some, slice_get, refl, arith, sym, subst}
 use Rattle.std.proofs.lemmas.Bool.{ne_eqb}
 use Rattle.std.proofs.lemmas.Option.{same_Some}
-use Rattle.psci_world_laws.specs.psci_link.declared.kind.Kind.TheVariants.{Down}
-use Rattle.psci_world_laws.specs.psci_link.Message.{AckValue}
+use Rattle.psci_world_laws.specs.psci_messages.declared.kind.Kind.TheVariants.{Down}
+use Rattle.psci_world_laws.specs.psci_messages.Message.{AckValue}
 use Rattle.psci_world_laws.specs.psci_fw_spec.Phases.{Running, Suspended, Away}
 use Rattle.psci_world_laws.specs.psci_world_spec.declared.event.Event.TheVariants.{Deliver, Enter}
 use Rattle.psci_world_laws.specs.psci_world_spec.declared.event.Event.TheVariants.{Take}

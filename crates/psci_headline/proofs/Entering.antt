@@ -5,8 +5,8 @@ use Rattle.std.proofs.Common.{subst, arith}
 use Rattle.std.specs.Option.{option_or}
 use Rattle.std.proofs.lemmas.Bool.{eqb-false, eqb-true}
 use Rattle.psci_world_laws.specs.psci_board.Board.{BoardValue}
-use Rattle.psci_world_laws.specs.psci_link.declared.start.Start.{Start}
-use Rattle.psci_world_laws.specs.psci_link.Message.{MessageValue}
+use Rattle.psci_world_laws.specs.psci_messages.declared.start.Start.{Start}
+use Rattle.psci_world_laws.specs.psci_messages.Message.{MessageValue}
 use Rattle.psci_world_laws.specs.psci_fw_spec.declared.call.FwCall.{FwCall}
 use Rattle.psci_world_laws.specs.psci_fw_spec.declared.call.FwCall.TheVariants as calls
 use Rattle.psci_world_laws.specs.psci_fw_spec.declared.fault.FwFault.{FwFault}

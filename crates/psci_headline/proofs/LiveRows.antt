@@ -5,7 +5,7 @@ use Rattle.std.proofs.Common.{refl, arith, slice_get, ap, sym, ◌∙◌}
 use Rattle.std.specs.Prelude.{drop}
 use Rattle.psci_world_laws.specs.psci_board.Board.{size_below}
 use Rattle.psci_world_laws.specs.psci_board.declared.node.Node.{Node}
-use Rattle.psci_world_laws.specs.psci_link.declared.kind.Kind.TheVariants.{Down}
+use Rattle.psci_world_laws.specs.psci_messages.declared.kind.Kind.TheVariants.{Down}
 use Rattle.psci_world_laws.specs.psci_world_spec.declared.event.Event.{Event}
 use Rattle.psci_world_laws.specs.psci_world_spec.declared.event.Event.TheVariants.{Deliver, Enter}
 use Rattle.psci_world_laws.specs.psci_world_spec.declared.event.Event.TheVariants.{Wake}

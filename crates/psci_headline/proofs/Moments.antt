@@ -3,13 +3,13 @@ use Rattle.std.proofs.Common.{◌≡◌, ℕ, suc, ◌⊎◌, inl, inr, List, []
 use Rattle.std.proofs.Common.{Some, refl, ap, sym, ◌∙◌, subst, arith}
 use Rattle.std.specs.Prelude.{slice_get}
 use Rattle.psci_world_laws.specs.psci_board.Board.{BoardValue}
-use Rattle.psci_world_laws.specs.psci_coord.psci_parts.declared.part.Part.{Part}
-use Rattle.psci_world_laws.specs.psci_link.declared.start.Start.{Start}
+use Rattle.psci_world_laws.specs.psci_claims.psci_parts.declared.part.Part.{Part}
+use Rattle.psci_world_laws.specs.psci_messages.declared.start.Start.{Start}
 use Rattle.psci_world_laws.specs.psci_ctl_spec.Replies.{last_start}
 use Rattle.psci_world_laws.specs.psci_ctl_spec.Values as controlled
-use Rattle.psci_world_laws.specs.psci_link.declared.kind.Kind.TheVariants.{Down}
-use Rattle.psci_world_laws.specs.psci_link.declared.taken.Taken.{Taken}
-use Rattle.psci_world_laws.specs.psci_link.Message.{AckValue, MessageValue}
+use Rattle.psci_world_laws.specs.psci_messages.declared.kind.Kind.TheVariants.{Down}
+use Rattle.psci_world_laws.specs.psci_messages.declared.taken.Taken.{Taken}
+use Rattle.psci_world_laws.specs.psci_messages.Message.{AckValue, MessageValue}
 use Rattle.psci_world_laws.specs.psci_fw_spec.declared.outcome.Outcome.{Outcome}
 use Rattle.psci_world_laws.specs.psci_fw_spec.Exchange.{FwExchange, effect}
 use Rattle.psci_world_laws.specs.psci_fw_spec.History.{values_of}

@@ -4,7 +4,7 @@ use Rattle.std.proofs.Common.{◌++◌, Option, None, Some, refl, subst, ap, sym
 use Rattle.std.specs.Prelude.{nat_lt}
 use Rattle.std.proofs.lemmas.Bool.{and_parts, eqb-true, true≢false}
 use Rattle.psci_world_laws.specs.psci_board.Board.{BoardValue, cores}
-use Rattle.psci_world_laws.specs.psci_link.declared.start.Start.{Start}
+use Rattle.psci_world_laws.specs.psci_messages.declared.start.Start.{Start}
 use Rattle.psci_world_laws.specs.psci_ctl_spec.Replies.{last_start}
 use Rattle.psci_world_laws.specs.psci_fw_spec.declared.outcome.Act.{Act}
 use Rattle.psci_world_laws.specs.psci_fw_spec.declared.outcome.Act.TheVariants as acts
@@ -13,7 +13,7 @@ use Rattle.psci_world_laws.specs.psci_fw_spec.Effects.{Effect, Nothing, Enters, 
 use Rattle.psci_world_laws.specs.psci_fw_spec.Exchange.{FwExchange, effect}
 use Rattle.psci_world_laws.specs.psci_fw_spec.History.{values_of}
 use Rattle.psci_world_laws.specs.psci_fw_spec.Legal.{IsLegal}
-use Rattle.psci_world_laws.specs.psci_link.Message.{MessageValue}
+use Rattle.psci_world_laws.specs.psci_messages.Message.{MessageValue}
 use Rattle.psci_world_laws.specs.psci_fw_laws.Allowed.{IsAllowed}
 use Rattle.psci_world_laws.specs.psci_world_spec.declared.event.Event.{Event}
 use Rattle.psci_world_laws.specs.psci_world_spec.declared.event.Event.TheVariants.{Call, Enter}

@@ -6,9 +6,9 @@ use Rattle.psci_world_laws.specs.psci_abi.declared.registers.Regs.{Regs}
 use Rattle.psci_world_laws.specs.psci_abi.declared.request.Request.TheVariants.{CpuOn}
 use Rattle.psci_world_laws.specs.psci_board.Board.{BoardValue, core_of}
 use Rattle.psci_world_laws.specs.psci_board.declared.node.Core.{Core}
-use Rattle.psci_world_laws.specs.psci_link.declared.start.Start.{Start}
-use Rattle.psci_world_laws.specs.psci_link.declared.taken.Taken.TheVariants.{Used, Old}
-use Rattle.psci_world_laws.specs.psci_link.Message.{MessageValue}
+use Rattle.psci_world_laws.specs.psci_messages.declared.start.Start.{Start}
+use Rattle.psci_world_laws.specs.psci_messages.declared.taken.Taken.TheVariants.{Used, Old}
+use Rattle.psci_world_laws.specs.psci_messages.Message.{MessageValue}
 use Rattle.psci_world_laws.specs.psci_fw_spec.declared.call.FwCall.{FwCall}
 use Rattle.psci_world_laws.specs.psci_fw_spec.declared.call.FwCall.TheVariants as calls
 use Rattle.psci_world_laws.specs.psci_fw_spec.declared.outcome.Act.{Act}

@@ -12,8 +12,8 @@ use Rattle.psci_world_laws.specs.psci_fw_spec.Lives.{in_life}
 use Rattle.psci_world_laws.specs.psci_fw_spec.Phases.{Away, Running}
 use Rattle.psci_world_laws.specs.psci_fw_spec.Said.{listed}
 use Rattle.psci_world_laws.specs.psci_fw_spec.Values.{Values}
-use Rattle.psci_world_laws.specs.psci_link.declared.kind.Kind.TheVariants.{Down}
-use Rattle.psci_world_laws.specs.psci_link.Message.{AckValue}
+use Rattle.psci_world_laws.specs.psci_messages.declared.kind.Kind.TheVariants.{Down}
+use Rattle.psci_world_laws.specs.psci_messages.Message.{AckValue}
 use Rattle.psci_world_laws.specs.psci_fw_laws.Kept.{Holds}
 use Rattle.psci_world_laws.proofs.fw_laws.Parts.{updated_here}
 use Rattle.psci_world_laws.specs.psci_world_spec.declared.event.Event.TheVariants.{Deliver}

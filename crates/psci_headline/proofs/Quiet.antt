@@ -4,7 +4,7 @@ use Rattle.std.proofs.Common.{sym, ◌∙◌, subst}
 use Rattle.std.proofs.lemmas.Bool.{cond_both, eqb-false, false≢true}
 use Rattle.psci_world_laws.specs.psci_board.Board.{BoardValue, cores}
 use Rattle.psci_world_laws.specs.psci_board.Laws.{PathLaws}
-use Rattle.psci_world_laws.specs.psci_link.Message.{MessageValue}
+use Rattle.psci_world_laws.specs.psci_messages.Message.{MessageValue}
 use Rattle.psci_world_laws.specs.psci_ctl_spec.Follows.{AreValues}
 use Rattle.psci_world_laws.specs.psci_fw_spec.Lives.{in_life, start_of_life}
 use Rattle.psci_world_laws.specs.psci_fw_spec.Phases as phases

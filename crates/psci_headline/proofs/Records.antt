@@ -9,8 +9,8 @@ use Rattle.psci_world_laws.specs.psci_abi.declared.code.Code.{Code}
 use Rattle.psci_world_laws.specs.psci_abi.declared.request.Request.{Request}
 use Rattle.psci_world_laws.specs.psci_abi.declared.request.Request.TheVariants as requests
 use Rattle.psci_world_laws.specs.psci_board.Board.{BoardValue}
-use Rattle.psci_world_laws.specs.psci_link.declared.start.Cause.{Cause}
-use Rattle.psci_world_laws.specs.psci_link.declared.start.Start.{Start}
+use Rattle.psci_world_laws.specs.psci_messages.declared.start.Cause.{Cause}
+use Rattle.psci_world_laws.specs.psci_messages.declared.start.Start.{Start}
 use Rattle.psci_world_laws.specs.psci_ctl_spec.Replies.{last_start, start_shown}
 use Rattle.psci_world_laws.specs.psci_ctl_spec.Values as controlled
 use Rattle.psci_world_laws.specs.psci_fw_spec.declared.mode.SuspendMode.{SuspendMode}
@@ -24,9 +24,9 @@ use Rattle.psci_world_laws.specs.psci_fw_spec.Effects.{enter_effect, function_ef
 use Rattle.psci_world_laws.specs.psci_fw_spec.Exchange.{FwExchange, effect}
 use Rattle.psci_world_laws.specs.psci_fw_spec.Said.{Arrival, arrived}
 use Rattle.psci_world_laws.specs.psci_fw_spec.SuspendMode.{mode_of}
-use Rattle.psci_world_laws.specs.psci_link.declared.taken.Taken.{Taken}
-use Rattle.psci_world_laws.specs.psci_link.declared.taken.Taken.TheVariants as takens
-use Rattle.psci_world_laws.specs.psci_link.Message.{AckValue, MessageValue}
+use Rattle.psci_world_laws.specs.psci_messages.declared.taken.Taken.{Taken}
+use Rattle.psci_world_laws.specs.psci_messages.declared.taken.Taken.TheVariants as takens
+use Rattle.psci_world_laws.specs.psci_messages.Message.{AckValue, MessageValue}
 use Rattle.psci_world_laws.specs.psci_world_spec.declared.event.Event.{Event}
 use Rattle.psci_world_laws.specs.psci_world_spec.declared.event.Event.TheVariants.{Call, Enter}
 use Rattle.psci_world_laws.specs.psci_world_spec.declared.event.Event.TheVariants.{Take}

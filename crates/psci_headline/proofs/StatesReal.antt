@@ -14,7 +14,7 @@ use Rattle.psci_world_laws.specs.psci_fw_spec.After.{change}
 use Rattle.psci_world_laws.specs.psci_fw_spec.Invariant.{AreValues}
 use Rattle.psci_world_laws.specs.psci_fw_spec.NodeHwState.{hw_at, hw_code, node_hw}
 use Rattle.psci_world_laws.specs.psci_fw_spec.Values.{Values}
-use Rattle.psci_world_laws.specs.psci_link.Message.{AckValue}
+use Rattle.psci_world_laws.specs.psci_messages.Message.{AckValue}
 use Rattle.psci_world_laws.specs.psci_fw_laws.Allowed.{IsAllowed}
 use Rattle.psci_world_laws.specs.psci_fw_laws.KnownBelow.{KnownLaws, known_below}
 use Rattle.psci_world_laws.specs.Acknowledged.{WasMade}

@@ -1,8 +1,8 @@
 -- What acknowledgements and the start of a life say of cores that are powered down.
 use Rattle.std.specs.Prelude.{◌≡◌, ℕ, ◌<◌, ◌≤◌, true, List, Some, slice_get}
 use Rattle.psci_world_laws.specs.psci_board.Board.{BoardValue}
-use Rattle.psci_world_laws.specs.psci_link.declared.kind.Kind.TheVariants.{Down}
-use Rattle.psci_world_laws.specs.psci_link.Message.{AckValue}
+use Rattle.psci_world_laws.specs.psci_messages.declared.kind.Kind.TheVariants.{Down}
+use Rattle.psci_world_laws.specs.psci_messages.Message.{AckValue}
 use Rattle.psci_world_laws.specs.psci_fw_spec.Phases.{Running, Away}
 use Rattle.psci_world_laws.specs.psci_fw_spec.Values.{Values}
 use Rattle.psci_world_laws.specs.psci_world_spec.declared.said.Record.{Record}

@@ -7,7 +7,7 @@ ghost use Rattle.psci_board.specs.Board.{HasNodeIn};
 use psci_board::{Board, Core, CoreSpan, Node};
 use psci_board_text::ReadBoard;
 use psci_ctl::Controller;
-use psci_link::Slots;
+use psci_messages::Slots;
 use psci_text::{hex, literal, number};
 use psci_tree::Tree;
 use std::test::Fail;

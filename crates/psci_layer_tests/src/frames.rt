@@ -3,7 +3,8 @@
 use crate::slots::down;
 use psci_board::{Board, Core};
 use psci_board_text::ReadBoard;
-use psci_link::{Ack, FRAME_LEN, Frame, FrameFault, Kind, Message, decode, encode};
+use psci_link::{FRAME_LEN, Frame, FrameFault, decode, encode};
+use psci_messages::{Ack, Kind, Message};
 use std::test::Fail;
 
 /// Core 3 goes down with its cluster.

@@ -1,12 +1,12 @@
 //! A message until it is acknowledged.
 
 ghost use Rattle.std.specs.Prelude.{◌≡◌, ◌≤◌};
-ghost use Rattle.psci_link.specs.Slots.{slot_of};
-ghost use Rattle.psci_link.specs.Slots.Slot.{OfCore};
+ghost use Rattle.psci_messages.specs.Slots.{slot_of};
+ghost use Rattle.psci_messages.specs.Slots.Slot.{OfCore};
 
 use psci_board::Core;
-use psci_coord::{Part, Parts};
-use psci_link::{Ack, Kind, Message, Slots, Taken};
+use psci_claims::{Part, Parts};
+use psci_messages::{Ack, Kind, Message, Slots, Taken};
 use std::test::Fail;
 
 /// Core 3 goes down with its cluster.

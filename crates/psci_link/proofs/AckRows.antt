@@ -1,20 +1,9 @@
--- Acknowledgement frames with two faults, of which the first is told; and acknowledgements of each
--- kind of message of which nothing was applied, that are stale, or both.
-use Rattle.std.proofs.Common.{◌≡◌, ℕ, Bool, true, false, List, [], ◌∷◌, refl}
-use Rattle.std.specs.Prelude.{Some, None, Option, slice_set}
-use Rattle.psci_parts.specs.declared.part.Part.{Part}
+-- Acknowledgement frames with two faults, of which the first is told.
+use Rattle.std.proofs.Common.{◌≡◌, ℕ, List, refl}
+use Rattle.std.specs.Prelude.{Some, slice_set}
 use Rattle.psci_link.specs.declared.fault.FrameFault.TheVariants as faults
-use Rattle.psci_link.specs.declared.kind.Kind.{Kind}
-use Rattle.psci_link.specs.declared.kind.Kind.TheVariants.{Down, Start, Off, Reset}
 use Rattle.psci_link.specs.Frame.{fault_of_kind, first_fault}
-use Rattle.psci_link.specs.Message.{MessageValue}
-use Rattle.psci_link.specs.Outstanding.{changes_since, last_message, outstanding}
-use Rattle.psci_link.specs.Slots.{Slot}
-use Rattle.psci_link.specs.Slots.Change.{Acknowledge, Put}
-use Rattle.psci_link.specs.Slots.Slot.{OfCore, OfSystem}
 use Rattle.psci_link.proofs.FaultRows.{acknowledged, board}
-
--- Two faults ----------------------------------------------------------------------------------
 
 -- the acknowledgement of a Down, with two bytes altered
 abbrev altered : ℕ → ℕ → ℕ → ℕ → List ℕ
@@ -43,92 +32,3 @@ unused_before_core = refl
 last_unused_before_core : first_fault board (altered 52 1 3 4) ≡ Some faults.Unused
 unfolding first_fault fault_of_kind
 last_unused_before_core = refl
-
--- Acknowledgements ----------------------------------------------------------------------------
-
-abbrev part : ℕ → Part
-part level = record { level = level; depth = 3; generation = 1 }
-
--- a message of core 2 in life 2, with two parts if it is a Down
-abbrev parts_of : Kind → List Part
-parts_of Down = part 0 ∷ part 1 ∷ []
-parts_of kind = []
-
-abbrev message : Kind → MessageValue
-message kind = record {
-  kind = kind;
-  core = record { number = 2 };
-  life = 2;
-  number = 5;
-  parts = parts_of kind;
-}
-
-abbrev slot : Kind → Slot
-slot Down = OfCore 2
-slot Start = OfCore 2
-slot kind = OfSystem
-
--- what is outstanding once this was acknowledged of it
-abbrev left : Kind → ℕ → Bool → Option MessageValue
-left kind applied stale = outstanding (slot kind) (Acknowledge (record {
-  kind = kind;
-  core = record { number = 2 };
-  life = 2;
-  number = 5;
-  applied = applied;
-  stale = stale;
-}) ∷ Put (message kind) ∷ [])
-
--- a Down stays outstanding while a part is left, unless it is stale
-down_nothing_applied : left Down 0 false ≡ Some (message Down)
-unfolding outstanding last_message changes_since
-down_nothing_applied = refl
-
-down_stale : left Down 0 true ≡ None
-unfolding outstanding last_message changes_since
-down_stale = refl
-
-down_partly_stale : left Down 1 true ≡ None
-unfolding outstanding last_message changes_since
-down_partly_stale = refl
-
-down_applied_and_stale : left Down 2 true ≡ None
-unfolding outstanding last_message changes_since
-down_applied_and_stale = refl
-
--- each other message is done, whatever is said of it
-start_nothing_applied : left Start 0 false ≡ None
-unfolding outstanding last_message changes_since
-start_nothing_applied = refl
-
-start_stale : left Start 0 true ≡ None
-unfolding outstanding last_message changes_since
-start_stale = refl
-
-start_applied_and_stale : left Start 1 true ≡ None
-unfolding outstanding last_message changes_since
-start_applied_and_stale = refl
-
-off_nothing_applied : left Off 0 false ≡ None
-unfolding outstanding last_message changes_since
-off_nothing_applied = refl
-
-off_stale : left Off 0 true ≡ None
-unfolding outstanding last_message changes_since
-off_stale = refl
-
-off_applied_and_stale : left Off 1 true ≡ None
-unfolding outstanding last_message changes_since
-off_applied_and_stale = refl
-
-reset_nothing_applied : left Reset 0 false ≡ None
-unfolding outstanding last_message changes_since
-reset_nothing_applied = refl
-
-reset_stale : left Reset 0 true ≡ None
-unfolding outstanding last_message changes_since
-reset_stale = refl
-
-reset_applied_and_stale : left Reset 1 true ≡ None
-unfolding outstanding last_message changes_since
-reset_applied_and_stale = refl

@@ -7,7 +7,7 @@ use Rattle.std.proofs.lemmas.Option.{same_Some, none-some}
 use Rattle.psci_board.specs.Board.{BoardValue, cores, height}
 use Rattle.psci_link.specs.declared.fault.FrameFault.{FrameFault}
 use Rattle.psci_link.specs.declared.heading.Heading.{Heading}
-use Rattle.psci_link.specs.Message.{is_climbing, is_falling}
+use Rattle.psci_messages.specs.Message.{is_climbing, is_falling}
 use Rattle.psci_link.specs.Heading.{is_magic, allows_count, parts_of, HasHeading}
 use Rattle.psci_link.specs.Frame.{is_within, parts_in, part_fields_in, count_in, is_unused_after}
 use Rattle.psci_link.specs.Frame.{fault_at, fault_of_kind, first_fault}

@@ -1,7 +1,7 @@
 -- How frames are spelled, and what bytes hold: known frames, and which bytes each field has.
 use Rattle.std.proofs.Common.{◌≡◌, [], ◌∷◌, refl}
 use Rattle.std.specs.Prelude.{true, false, replicate, slice_set}
-use Rattle.psci_link.specs.declared.kind.Kind.TheVariants.{Down, Start, Off, Reset}
+use Rattle.psci_messages.specs.declared.kind.Kind.TheVariants.{Down, Start, Off, Reset}
 use Rattle.psci_link.specs.declared.frame.Frame.{Frame}
 use Rattle.psci_link.specs.declared.frame.Frame.TheVariants.{Message, Ack}
 use Rattle.psci_link.specs.declared.heading.Heading.TheVariants as headings

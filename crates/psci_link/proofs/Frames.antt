@@ -10,13 +10,13 @@ use Rattle.std.proofs.lemmas.Option.{none-some}
 use Rattle.psci_board.specs.declared.node.Core.{Core}
 use Rattle.psci_board.specs.Board.{BoardValue, height}
 use Rattle.psci_parts.specs.declared.part.Part.{Part}
-use Rattle.psci_link.specs.declared.kind.Kind.{Kind}
+use Rattle.psci_messages.specs.declared.kind.Kind.{Kind}
 use Rattle.psci_link.specs.declared.fault.FrameFault.{FrameFault}
 use Rattle.psci_link.specs.declared.frame.Frame.{Frame}
 use Rattle.psci_link.specs.declared.frame.Frame.TheVariants.{Message, Ack}
 use Rattle.psci_link.specs.declared.heading.Heading.{Heading}
 use Rattle.psci_link.specs.declared.heading.Heading.TheVariants as headings
-use Rattle.psci_link.specs.Message.{is_climbing, is_falling, most_applied}
+use Rattle.psci_messages.specs.Message.{is_climbing, is_falling, most_applied}
 use Rattle.psci_link.specs.Heading.{is_magic, heading_of, HasHeading}
 use Rattle.psci_link.specs.Frame.{part_fields, frame_bytes, IsFrame, IsOf, is_within, parts_in}
 use Rattle.psci_link.specs.Frame.{word_at}

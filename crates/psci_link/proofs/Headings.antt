@@ -6,11 +6,11 @@ use Rattle.std.proofs.lemmas.Option.{same_Some, none-some, option_and_then_some}
 use Rattle.std.proofs.lemmas.Bool.{and_parts, and_from, eqb-true, leb-true, le-leb}
 use Rattle.std.proofs.lemmas.List.{nil_from_length}
 use Rattle.psci_parts.specs.declared.part.Part.{Part}
-use Rattle.psci_link.specs.declared.kind.Kind.{Kind}
-use Rattle.psci_link.specs.declared.kind.Kind.TheVariants.{Down, Start, Off, Reset}
+use Rattle.psci_messages.specs.declared.kind.Kind.{Kind}
+use Rattle.psci_messages.specs.declared.kind.Kind.TheVariants.{Down, Start, Off, Reset}
 use Rattle.psci_link.specs.declared.heading.Heading.{Heading}
 use Rattle.psci_link.specs.declared.heading.Heading.TheVariants.{Message, Ack}
-use Rattle.psci_link.specs.Message.{is_climbing, is_falling, ArePartsOf, most_applied}
+use Rattle.psci_messages.specs.Message.{is_climbing, is_falling, ArePartsOf, most_applied}
 use Rattle.psci_link.specs.Heading.{kind_of, heading_of, heading_with, allows_count, parts_of}
 use Rattle.psci_link.specs.Heading.{IsHeld}
 use Rattle.psci_link.specs.Frame.{kind_code}

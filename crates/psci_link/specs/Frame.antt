@@ -10,16 +10,16 @@ use Rattle.psci_board.specs.Board.{BoardValue, cores, height}
 use Rattle.psci_parts.specs.declared.part.Part.{Part}
 use Rattle.psci_link.specs.declared.frame.TheConstants.{FRAME_LEN, HEADER_LEN, PART_LEN}
 use Rattle.psci_parts.specs.declared.parts.TheConstants.{MOST_PARTS}
-use Rattle.psci_link.specs.declared.kind.Kind.{Kind}
-use Rattle.psci_link.specs.declared.kind.Kind.TheVariants.{Down, Start, Off, Reset}
+use Rattle.psci_messages.specs.declared.kind.Kind.{Kind}
+use Rattle.psci_messages.specs.declared.kind.Kind.TheVariants.{Down, Start, Off, Reset}
 use Rattle.psci_link.specs.declared.fault.FrameFault.{FrameFault}
 use Rattle.psci_link.specs.declared.fault.FrameFault.TheVariants as faults
 use Rattle.psci_link.specs.declared.frame.Frame.{Frame}
 use Rattle.psci_link.specs.declared.frame.Frame.TheVariants.{Message, Ack}
 use Rattle.psci_link.specs.declared.heading.Heading.{Heading}
 use Rattle.psci_link.specs.declared.heading.Heading.TheVariants as headings
-use Rattle.psci_link.specs.Message.{MessageValue, AckValue, IsMessage, IsAck, is_climbing}
-use Rattle.psci_link.specs.Message.{is_falling}
+use Rattle.psci_messages.specs.Message.{MessageValue, AckValue, IsMessage, IsAck, is_climbing}
+use Rattle.psci_messages.specs.Message.{is_falling}
 use Rattle.psci_link.specs.Heading.{is_magic, heading_of, allows_count, parts_of}
 
 -- Spelling ------------------------------------------------------------------------------------

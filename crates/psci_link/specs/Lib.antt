@@ -1,9 +1,3 @@
 pub mod Frame
 pub mod Heading
-pub mod Message
-pub mod OnlyIf
-pub mod Outstanding
-pub mod Slots
-pub mod StaleText
-pub use Rattle.psci_board.specs.psci_abi
-pub use Rattle.psci_parts.specs as psci_parts
+pub use Rattle.psci_messages.specs as psci_messages

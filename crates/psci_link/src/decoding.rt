@@ -5,7 +5,7 @@ ghost use Rattle.std.specs.Prelude.{MatchResult, IfOk, IfErr};
 ghost use Rattle.std.specs.Prelude.{length, drop, slice_index};
 ghost use Rattle.psci_link.specs.declared.frame.Frame.TheVariants as frames;
 ghost use Rattle.psci_link.specs.declared.heading.Heading.TheVariants as headings;
-ghost use Rattle.psci_link.specs.Message.{ArePartsOf, is_climbing, is_falling, most_applied};
+ghost use Rattle.psci_messages.specs.Message.{ArePartsOf, is_climbing, is_falling, most_applied};
 ghost use Rattle.psci_link.specs.Heading.{parts_of, IsHeld, HasHeading};
 ghost use Rattle.psci_board.specs.Board.{BoardValue};
 ghost use Rattle.std.specs.List.{list_all};
@@ -15,16 +15,14 @@ ghost use Rattle.psci_link.specs.Frame.{word_at};
 ghost use Rattle.psci_link.specs.Frame.{part_fields_in, count_in, fault_of_kind};
 ghost use Rattle.psci_link.specs.Frame.{first_fault, frame_in};
 
-use crate::ack::Ack;
 use crate::encoding::MAGIC;
 use crate::fault::FrameFault;
 use crate::frame::{
     CORE_AT, COUNT_AT, FRAME_LEN, Frame, HEADER_LEN, KIND_AT, LIFE_AT, NUMBER_AT, PART_LEN,
 };
 use crate::heading::Heading;
-use crate::kind::Kind;
-use crate::message::Message;
 use psci_board::{Board, Core};
+use psci_messages::{Ack, Kind, Message};
 use psci_parts::{Part, Parts};
 
 /// The frame that the bytes are on this board, or their first fault.

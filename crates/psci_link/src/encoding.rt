@@ -5,11 +5,11 @@ ghost use Rattle.std.specs.Prelude.{true};
 ghost use Rattle.std.specs.List.{AllByRecursion};
 ghost use Rattle.psci_link.specs.Frame.{kind_code, header, part_bytes, part_fields, frame_bytes};
 ghost use Rattle.psci_link.specs.Frame.{IsFrame};
-ghost use Rattle.psci_link.specs.Message.{is_climbing};
+ghost use Rattle.psci_messages.specs.Message.{is_climbing};
 
 use crate::frame::{FRAME_LEN, Frame, HEADER_LEN, PART_LEN};
-use crate::kind::Kind;
 use psci_board::Core;
+use psci_messages::Kind;
 use psci_parts::{MOST_PARTS, Part};
 
 /// The first two bytes of a frame.

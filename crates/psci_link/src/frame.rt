@@ -2,8 +2,7 @@
 
 ghost use Rattle.std.specs.Prelude.{◌≡◌};
 
-use crate::ack::Ack;
-use crate::message::Message;
+use psci_messages::{Ack, Message};
 
 /// How many bytes a frame has.
 pub const FRAME_LEN: usize = 53;

@@ -1,6 +1,6 @@
 //! What the kind byte of a frame says.
 
-use crate::kind::Kind;
+use psci_messages::Kind;
 use psci_parts::MOST_PARTS;
 
 /// How many parts a Down has at least: that of its core.

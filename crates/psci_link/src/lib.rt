@@ -1,36 +1,20 @@
 //! What crosses between the firmware and the power controller: messages and their
 //! acknowledgements, the frames that carry them, and the messages that wait for an acknowledgement.
 //!
-//! - A *message* asks the power controller to power down, start, switch off or reset. It is named
-//!   by its kind, core, life and number.
-//! - An *acknowledgement* names the message that it answers, and says what was carried out.
-//! - A *frame* is a message or an acknowledgement as 53 bytes.
-//! - A *start* is one power-up of a core; the starts of a core are numbered from 1 in each life.
-//! - A message is *outstanding* from when it is sent until it is acknowledged or given up. One of
-//!   each core and one of the system may be outstanding.
+//! - A *frame* is a message or an acknowledgement as 53 bytes. All else is that of `psci_messages`,
+//!   which this crate passes on.
 #![tactic(auto)]
 
-mod ack;
 mod decoding;
 mod encoding;
 mod fault;
 mod frame;
 mod heading;
-mod kind;
 mod laws;
-mod message;
-mod slots;
-mod start;
-mod taken;
 
-pub use ack::Ack;
 pub use decoding::decode;
 pub use encoding::encode;
 pub use fault::FrameFault;
 pub use frame::{FRAME_LEN, Frame};
-pub use kind::Kind;
-pub use laws::{law_frames, law_parts, law_slots};
-pub use message::Message;
-pub use slots::Slots;
-pub use start::{Cause, Start};
-pub use taken::Taken;
+pub use laws::law_frames;
+pub use psci_messages::{Ack, Cause, Kind, Message, Slots, Start, Taken, law_parts, law_slots};

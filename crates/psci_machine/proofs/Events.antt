@@ -7,7 +7,7 @@ use Rattle.psci_fw.specs.psci_abi.declared.registers.Regs.{Regs}
 use Rattle.psci_fw.specs.psci_board.Board.{BoardValue, cores}
 use Rattle.psci_ctl.specs.Seen.{seen as seen_controller}
 use Rattle.psci_ctl.specs.psci_ctl_spec.declared.call.CtlCall.TheVariants as asked
-use Rattle.psci_fw.specs.psci_link.declared.start.Start.{Start}
+use Rattle.psci_fw.specs.psci_messages.declared.start.Start.{Start}
 use Rattle.psci_ctl.specs.psci_ctl_spec.Replies.{last_start, reply}
 use Rattle.psci_ctl.specs.psci_ctl_spec.Values as controlled
 use Rattle.psci_fw.specs.Seen.{seen as seen_firmware}
@@ -15,7 +15,7 @@ use Rattle.psci_fw.specs.psci_fw_spec.declared.call.FwCall.{FwCall}
 use Rattle.psci_fw.specs.psci_fw_spec.declared.call.FwCall.TheVariants as calls
 use Rattle.psci_fw.specs.psci_fw_spec.Answer.{answer}
 use Rattle.psci_fw.specs.psci_fw_spec.Values as kept
-use Rattle.psci_fw.specs.psci_link.Message.{AckValue, MessageValue}
+use Rattle.psci_fw.specs.psci_messages.Message.{AckValue, MessageValue}
 use Rattle.psci_world_spec.specs.declared.event.Event.TheVariants.{Call, Enter, Wake, Reset}
 use Rattle.psci_world_spec.specs.declared.event.Event.TheVariants.{Deliver, Take}
 use Rattle.psci_world_spec.specs.declared.place.Place.{Place}

@@ -11,7 +11,7 @@ use Rattle.psci_fw.specs.Seen.{seen as seen_firmware}
 use Rattle.psci_fw.specs.psci_fw_spec.After.{after}
 use Rattle.psci_fw.specs.psci_fw_spec.Exchange as answers
 use Rattle.psci_fw.specs.psci_fw_spec.History as kept
-use Rattle.psci_fw.specs.psci_link.Message.{AckValue, MessageValue}
+use Rattle.psci_fw.specs.psci_messages.Message.{AckValue, MessageValue}
 use Rattle.psci_world_spec.specs.declared.event.Event.{Event}
 use Rattle.psci_world_spec.specs.declared.said.Record.{Record}
 use Rattle.psci_world_spec.specs.declared.said.Said.{Said}

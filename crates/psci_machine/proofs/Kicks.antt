@@ -18,9 +18,9 @@ use Rattle.psci_ctl.specs.psci_ctl_spec.Replies.{ack_by, delivery_of, is_this_li
 use Rattle.psci_ctl.specs.psci_ctl_spec.Values.{Values}
 use Rattle.psci_fw.specs.Seen as firmware
 use Rattle.psci_fw.specs.Seen.{FirmwareValue}
-use Rattle.psci_fw.specs.psci_link.declared.kind.Kind.{Kind}
-use Rattle.psci_fw.specs.psci_link.declared.kind.Kind.TheVariants as kinds
-use Rattle.psci_fw.specs.psci_link.Message.{AckValue, MessageValue}
+use Rattle.psci_fw.specs.psci_messages.declared.kind.Kind.{Kind}
+use Rattle.psci_fw.specs.psci_messages.declared.kind.Kind.TheVariants as kinds
+use Rattle.psci_fw.specs.psci_messages.Message.{AckValue, MessageValue}
 use Rattle.psci_world_spec.specs.declared.event.Event.TheVariants.{Wake, Reset, Deliver}
 use Rattle.psci_world_spec.specs.declared.place.Place.{Place}
 use Rattle.psci_world_spec.specs.declared.place.Place.TheVariants.{Started, Stopped}

@@ -17,8 +17,8 @@ use Rattle.psci_fw.specs.psci_fw_spec.After.{after}
 use Rattle.psci_fw.specs.psci_fw_spec.Exchange.{FwExchange}
 use Rattle.psci_fw.specs.psci_fw_spec.Lives.{start_of_life}
 use Rattle.psci_fw.specs.psci_fw_spec.Values as kept
-use Rattle.psci_fw.specs.psci_link.declared.start.Cause.TheVariants as causes
-use Rattle.psci_fw.specs.psci_link.declared.start.Start.{Start}
+use Rattle.psci_fw.specs.psci_messages.declared.start.Cause.TheVariants as causes
+use Rattle.psci_fw.specs.psci_messages.declared.start.Start.{Start}
 use Rattle.psci_world_spec.specs.declared.event.Event.TheVariants.{Enter, Reset, Wake}
 use Rattle.psci_world_spec.specs.declared.place.Place.TheVariants.{Running, Started, Stopped}
 use Rattle.psci_world_spec.specs.declared.said.Said.{Said}

@@ -6,7 +6,7 @@ use Rattle.psci_ctl.specs.Seen.{seen as seen_controller}
 use Rattle.psci_ctl.specs.psci_ctl_spec.declared.kick.Kick.{Kick}
 use Rattle.psci_ctl.specs.psci_ctl_spec.declared.kick.Kick.TheVariants.{Started as Kicked}
 use Rattle.psci_ctl.specs.psci_ctl_spec.declared.kick.Kick.TheVariants.{Ignored as NotKicked}
-use Rattle.psci_fw.specs.psci_link.declared.start.Start.{Start}
+use Rattle.psci_fw.specs.psci_messages.declared.start.Start.{Start}
 use Rattle.psci_ctl.specs.psci_ctl_spec.Changes as changes
 use Rattle.psci_ctl.specs.psci_ctl_spec.Exchange as controls
 use Rattle.psci_ctl.specs.psci_ctl_spec.Values as controlled
@@ -14,7 +14,7 @@ use Rattle.psci_fw.specs.Seen.{seen as seen_firmware}
 use Rattle.psci_fw.specs.psci_fw_spec.After.{after}
 use Rattle.psci_fw.specs.psci_fw_spec.Exchange as answers
 use Rattle.psci_fw.specs.psci_fw_spec.Values as kept
-use Rattle.psci_fw.specs.psci_link.Message.{AckValue, MessageValue}
+use Rattle.psci_fw.specs.psci_messages.Message.{AckValue, MessageValue}
 use Rattle.psci_world_spec.specs.declared.event.Event.{Event}
 use Rattle.psci_world_spec.specs.declared.place.Place.{Place}
 use Rattle.psci_world_spec.specs.declared.place.Place.TheVariants.{Started, Running, Stopped}

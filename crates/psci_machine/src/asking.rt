@@ -9,7 +9,7 @@ ghost use Rattle.psci_fw.specs.Seen.{seen};
 ghost use Rattle.psci_fw.specs.psci_fw_spec.declared.call.FwCall.TheVariants as calls;
 ghost use Rattle.psci_fw.specs.psci_fw_spec.declared.reply.FwReply.TheVariants as replies;
 ghost use Rattle.psci_fw.specs.psci_fw_spec.Answer.{answer};
-ghost use Rattle.psci_fw.specs.psci_link.Message.{AckValue, MessageValue};
+ghost use Rattle.psci_fw.specs.psci_messages.Message.{AckValue, MessageValue};
 ghost use Rattle.psci_world_spec.specs.declared.event.Event.TheVariants as events;
 ghost use Rattle.psci_world_spec.specs.Legal.{if_running, on_board, said_of};
 ghost use Rattle.psci_world_spec.specs.Places.{place_after};

@@ -39,7 +39,7 @@ impl Model for Machine {
 
 ghost use Rattle.std.specs.Prelude.{◌≡◌, ◌<◌, ℕ, List, [], ◌∷◌, IfOk, reverse, slice_get, Some};
 ghost use Rattle.psci_fw.specs.psci_board.Board.{BoardValue, cores};
-ghost use Rattle.psci_fw.specs.psci_link.Message.{MessageValue};
+ghost use Rattle.psci_fw.specs.psci_messages.Message.{MessageValue};
 ghost use Rattle.psci_ctl.specs.psci_ctl_spec.Legal.{IsOfBoard};
 ghost use Rattle.psci_world_spec.specs.declared.said.Record.{Record};
 ghost use Rattle.psci_world_spec.specs.Histories.{acks, sent};

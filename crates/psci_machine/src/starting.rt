@@ -10,8 +10,8 @@ ghost use Rattle.psci_ctl.specs.psci_ctl_spec.declared.reply.CtlReply.TheVariant
 ghost use Rattle.psci_ctl.specs.psci_ctl_spec.Effects.{message_effect};
 ghost use Rattle.psci_ctl.specs.psci_ctl_spec.Legal.{IsOfBoard};
 ghost use Rattle.psci_ctl.specs.psci_ctl_spec.Replies.{reply};
-ghost use Rattle.psci_fw.specs.psci_link.declared.kind.Kind.TheVariants as kinds;
-ghost use Rattle.psci_fw.specs.psci_link.Message.{AckValue, MessageValue};
+ghost use Rattle.psci_fw.specs.psci_messages.declared.kind.Kind.TheVariants as kinds;
+ghost use Rattle.psci_fw.specs.psci_messages.Message.{AckValue, MessageValue};
 ghost use Rattle.psci_world_spec.specs.declared.event.Event.TheVariants as events;
 ghost use Rattle.psci_world_spec.specs.declared.place.Place.TheVariants.{Started};
 ghost use Rattle.psci_world_spec.specs.declared.said.Said.TheVariants as says;

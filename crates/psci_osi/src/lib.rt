@@ -14,4 +14,4 @@ mod off;
 
 pub use last_core::check;
 pub use off::off_parts;
-pub use psci_coord::Osi;
+pub use psci_claims::Osi;

@@ -2,12 +2,13 @@
 
 ghost use Rattle.std.specs.Prelude.{◌≡◌, ℕ, ◌<◌, ◌≤◌, ◌+◌};
 ghost use Rattle.psci_board.specs.Board.{HasNode, IsBoard, cores, height};
-ghost use Rattle.psci_coord.specs.Claim.{off_claims, off_wish};
-ghost use Rattle.psci_coord.specs.View.{is_all_off};
-ghost use Rattle.psci_coord.specs.Looked.{view_of};
+ghost use Rattle.psci_claims.specs.Claim.{off_claims, off_wish};
+ghost use Rattle.psci_claims.specs.View.{is_all_off};
+ghost use Rattle.psci_claims.specs.Looked.{view_of};
 
 use psci_board::{Board, Core, Node, law_paths, law_spans};
-use psci_coord::{Parts, own_parts};
+use psci_claims::Parts;
+use psci_coord::own_parts;
 use psci_state::Ask;
 use psci_tree::Tree;
 

@@ -2,7 +2,7 @@
 -- each level, a core that runs or is pending beside a claim, a depth between two others.
 use Rattle.std.proofs.Common.{◌≡◌, ◌++◌, ℕ, List, [], ◌∷◌, pos, false, true, refl}
 use Rattle.psci_fw_laws.specs.psci_board.declared.node.Node.{Node}
-use Rattle.psci_fw_laws.specs.psci_link.declared.kind.Kind.TheVariants.{Down}
+use Rattle.psci_fw_laws.specs.psci_messages.declared.kind.Kind.TheVariants.{Down}
 use Rattle.psci_world_spec.specs.declared.event.Event.{Event}
 use Rattle.psci_world_spec.specs.declared.event.Event.TheVariants.{Enter, Wake, Deliver, Take}
 use Rattle.psci_world_spec.specs.Legal.{run_from}

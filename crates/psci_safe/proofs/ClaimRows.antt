@@ -3,7 +3,7 @@
 use Rattle.std.proofs.Common.{◌≡◌, ◌++◌, ℕ, Bool, List, [], ◌∷◌, false, map, true}
 use Rattle.std.proofs.Common.{refl}
 use Rattle.psci_fw_laws.specs.psci_board.declared.node.Node.{Node}
-use Rattle.psci_fw_laws.specs.psci_link.declared.kind.Kind.TheVariants.{Down}
+use Rattle.psci_fw_laws.specs.psci_messages.declared.kind.Kind.TheVariants.{Down}
 use Rattle.psci_world_spec.specs.declared.event.Event.{Event}
 use Rattle.psci_world_spec.specs.declared.event.Event.TheVariants.{Enter, Wake, Deliver}
 use Rattle.psci_world_spec.specs.Legal.{run_from}

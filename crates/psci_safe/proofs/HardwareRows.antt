@@ -1,6 +1,6 @@
 -- Worked examples: hardware states that were real, and moments at which one that is said was not.
 use Rattle.std.proofs.Common.{[], ◌∷◌, false, refl}
-use Rattle.psci_fw_laws.specs.psci_link.declared.kind.Kind.TheVariants.{Down}
+use Rattle.psci_fw_laws.specs.psci_messages.declared.kind.Kind.TheVariants.{Down}
 use Rattle.psci_world_spec.specs.declared.event.Event.TheVariants.{Enter, Wake, Deliver}
 use Rattle.psci_world_spec.specs.declared.event.Event.TheVariants.{Take}
 use Rattle.psci_world_spec.proofs.Scripts.{acked, board, off, on_3, one_core, part, retention}

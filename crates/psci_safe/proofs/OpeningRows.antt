@@ -1,6 +1,6 @@
 -- Worked examples: moments at which a core has entered where it was not asked to, or twice.
 use Rattle.std.proofs.Common.{List, [], ◌∷◌, pos, refl}
-use Rattle.psci_fw_laws.specs.psci_link.declared.kind.Kind.TheVariants as kinds
+use Rattle.psci_fw_laws.specs.psci_messages.declared.kind.Kind.TheVariants as kinds
 use Rattle.psci_world_spec.specs.declared.event.Event.{Event}
 use Rattle.psci_world_spec.specs.declared.event.Event.TheVariants.{Enter, Wake, Reset, Deliver}
 use Rattle.psci_world_spec.specs.declared.event.Event.TheVariants.{Take}

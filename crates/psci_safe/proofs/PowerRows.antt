@@ -1,7 +1,7 @@
 -- Worked examples: moments at which a core executes below a sleeping domain, or one that is
 -- reported OFF is not.
 use Rattle.std.proofs.Common.{[], ◌∷◌, pos, false, refl}
-use Rattle.psci_fw_laws.specs.psci_link.declared.kind.Kind.TheVariants.{Down}
+use Rattle.psci_fw_laws.specs.psci_messages.declared.kind.Kind.TheVariants.{Down}
 use Rattle.psci_world_spec.specs.declared.event.Event.TheVariants.{Enter, Wake, Reset, Deliver}
 use Rattle.psci_world_spec.specs.declared.event.Event.TheVariants.{Take}
 use Rattle.psci_world_spec.proofs.Scripts.{acked, board, call, nothing, off, on_3, part, resumes}

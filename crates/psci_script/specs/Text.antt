@@ -5,13 +5,13 @@ use Rattle.std.specs.Fmt.{decimal, signed_decimal, digits}
 use Rattle.psci_world_spec.specs.psci_fw_spec.declared.outcome.Act.{Act}
 use Rattle.psci_world_spec.specs.psci_fw_spec.declared.outcome.Act.TheVariants.{Return, Stop, Enter}
 use Rattle.psci_world_spec.specs.psci_fw_spec.declared.outcome.Act.TheVariants.{Resume}
-use Rattle.psci_world_spec.specs.psci_coord.psci_parts.declared.part.Part.{Part}
-use Rattle.psci_world_spec.specs.psci_link.declared.kind.Kind.{Kind}
-use Rattle.psci_world_spec.specs.psci_link.declared.kind.Kind.TheVariants.{Down, Start, Off, Reset}
-use Rattle.psci_world_spec.specs.psci_link.declared.taken.Taken.{Taken}
-use Rattle.psci_world_spec.specs.psci_link.declared.taken.Taken.TheVariants.{Used, Old}
-use Rattle.psci_world_spec.specs.psci_link.Message.{AckValue}
-use Rattle.psci_world_spec.specs.psci_link.StaleText.{stale_text}
+use Rattle.psci_world_spec.specs.psci_claims.psci_parts.declared.part.Part.{Part}
+use Rattle.psci_world_spec.specs.psci_messages.declared.kind.Kind.{Kind}
+use Rattle.psci_world_spec.specs.psci_messages.declared.kind.Kind.TheVariants.{Down, Start, Off, Reset}
+use Rattle.psci_world_spec.specs.psci_messages.declared.taken.Taken.{Taken}
+use Rattle.psci_world_spec.specs.psci_messages.declared.taken.Taken.TheVariants.{Used, Old}
+use Rattle.psci_world_spec.specs.psci_messages.Message.{AckValue}
+use Rattle.psci_world_spec.specs.psci_messages.StaleText.{stale_text}
 use Rattle.psci_world_spec.specs.declared.said.Sent.{Sent}
 use Rattle.psci_world_spec.specs.declared.said.Said.{Said}
 use Rattle.psci_world_spec.specs.declared.said.Said.TheVariants.{Fw, Kick, Acked, Ignored, Absent}

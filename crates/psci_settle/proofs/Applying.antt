@@ -9,8 +9,8 @@ use Rattle.psci_ctl_spec.specs.psci_parts.declared.part.Part.{Part}
 use Rattle.psci_board.specs.Board.{domain_of}
 use Rattle.psci_ctl_spec.specs.Parts.{applied}
 use Rattle.psci_ctl_spec.specs.Values.{Values}
-use Rattle.psci_ctl_spec.specs.psci_link.declared.kind.Kind.TheVariants as kinds
-use Rattle.psci_ctl_spec.specs.psci_link.Message.{MessageValue, PartByPart}
+use Rattle.psci_ctl_spec.specs.psci_messages.declared.kind.Kind.TheVariants as kinds
+use Rattle.psci_ctl_spec.specs.psci_messages.Message.{MessageValue, PartByPart}
 use Rattle.psci_world_laws.specs.psci_fw_spec.Phases.{Phase, Pending}
 use Rattle.psci_world_laws.specs.psci_fw_laws.Claims.{IsClaimOn, IsCurrent}
 use Rattle.psci_world_laws.specs.psci_fw_laws.Granted.{HasDeeper, NonePending}

@@ -4,11 +4,11 @@ use Rattle.std.proofs.Common.{Option, None, Some, option_map, unwrap_or, refl, s
 use Rattle.std.specs.Prelude.{nat_lt}
 use Rattle.std.proofs.lemmas.Bool.{cond-true, cond-false, eq-eqb, lt-ltb, ne_eqb}
 use Rattle.psci_board.specs.Board.{BoardValue, cores}
-use Rattle.psci_ctl_spec.specs.psci_link.declared.start.Start.{Start}
+use Rattle.psci_ctl_spec.specs.psci_messages.declared.start.Start.{Start}
 use Rattle.psci_ctl_spec.specs.Replies.{last_start}
-use Rattle.psci_ctl_spec.specs.psci_link.declared.kind.Kind.TheVariants as kinds
-use Rattle.psci_ctl_spec.specs.psci_link.Message.{MessageValue}
-use Rattle.psci_ctl_spec.specs.psci_link.Slots.{Clear, OfCore, Slot, changed, is_slot, slot_of}
+use Rattle.psci_ctl_spec.specs.psci_messages.declared.kind.Kind.TheVariants as kinds
+use Rattle.psci_ctl_spec.specs.psci_messages.Message.{MessageValue}
+use Rattle.psci_ctl_spec.specs.psci_messages.Slots.{Clear, OfCore, Slot, changed, is_slot, slot_of}
 use Rattle.psci_world_laws.specs.psci_fw_spec.declared.call.FwCall.TheVariants as calls
 use Rattle.psci_world_laws.specs.psci_fw_spec.declared.outcome.Act.{Act}
 use Rattle.psci_world_laws.specs.psci_fw_spec.declared.outcome.Act.TheVariants as acts

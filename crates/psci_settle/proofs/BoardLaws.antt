@@ -6,7 +6,7 @@ use Rattle.psci_ctl_spec.specs.psci_parts.declared.part.Part.{Part}
 use Rattle.psci_ctl_spec.specs.Follows.{AreValues}
 use Rattle.psci_ctl_spec.specs.Laws.{AckLaws, SumLaws}
 use Rattle.psci_ctl_spec.specs.Values as controlled
-use Rattle.psci_ctl_spec.specs.psci_link.Message.{AreClaims, PartByPart}
+use Rattle.psci_ctl_spec.specs.psci_messages.Message.{AreClaims, PartByPart}
 use Rattle.psci_world_laws.specs.psci_fw_spec.Sent.{sent_messages}
 use Rattle.psci_world_laws.specs.psci_fw_laws.Kept.{Holds}
 use Rattle.psci_world_laws.specs.psci_world_spec.declared.said.Record.{Record}

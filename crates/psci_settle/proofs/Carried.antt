@@ -6,9 +6,9 @@ use Rattle.std.proofs.lemmas.Bool.{cases_eq, cond_both, eqb-false}
 use Rattle.psci_board.specs.Board.{BoardValue, cores}
 use Rattle.psci_board.specs.Laws.{PathLaws}
 use Rattle.psci_ctl_spec.specs.psci_parts.declared.part.Part.{Part}
-use Rattle.psci_ctl_spec.specs.psci_link.declared.start.Cause.{Cause}
-use Rattle.psci_ctl_spec.specs.psci_link.declared.start.Cause.TheVariants as causes
-use Rattle.psci_ctl_spec.specs.psci_link.declared.start.Start.{Start}
+use Rattle.psci_ctl_spec.specs.psci_messages.declared.start.Cause.{Cause}
+use Rattle.psci_ctl_spec.specs.psci_messages.declared.start.Cause.TheVariants as causes
+use Rattle.psci_ctl_spec.specs.psci_messages.declared.start.Start.{Start}
 use Rattle.psci_ctl_spec.specs.Changes.{next_life}
 use Rattle.psci_ctl_spec.specs.Changes as controlling
 use Rattle.psci_ctl_spec.specs.Effects as controlling_effects
@@ -17,9 +17,9 @@ use Rattle.psci_ctl_spec.specs.Follows.{MayFollow}
 use Rattle.psci_ctl_spec.specs.Laws.{AckLaws, SumLaws}
 use Rattle.psci_ctl_spec.specs.Replies.{ack_by, last_start, may_follow}
 use Rattle.psci_ctl_spec.specs.Values as controlled
-use Rattle.psci_ctl_spec.specs.psci_link.declared.kind.Kind.{Kind}
-use Rattle.psci_ctl_spec.specs.psci_link.declared.kind.Kind.TheVariants as kinds
-use Rattle.psci_ctl_spec.specs.psci_link.Message.{AckValue, AreClaims, MessageValue, PartByPart}
+use Rattle.psci_ctl_spec.specs.psci_messages.declared.kind.Kind.{Kind}
+use Rattle.psci_ctl_spec.specs.psci_messages.declared.kind.Kind.TheVariants as kinds
+use Rattle.psci_ctl_spec.specs.psci_messages.Message.{AckValue, AreClaims, MessageValue, PartByPart}
 use Rattle.psci_world_laws.specs.psci_fw_spec.declared.outcome.Act.{Act}
 use Rattle.psci_world_laws.specs.psci_fw_spec.After.{change}
 use Rattle.psci_world_laws.specs.psci_fw_spec.Changes.{with_acknowledgement}

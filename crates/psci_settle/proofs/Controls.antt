@@ -8,8 +8,8 @@ use Rattle.std.proofs.lemmas.Option.{none-some, slice_get_within}
 use Rattle.psci_board.specs.Board.{BoardValue, cores, height, up}
 use Rattle.psci_ctl_spec.specs.psci_parts.declared.part.Part.{Part}
 use Rattle.psci_board.specs.Board.{domain_of}
-use Rattle.psci_ctl_spec.specs.psci_link.declared.start.Cause.{Cause}
-use Rattle.psci_ctl_spec.specs.psci_link.declared.start.Cause.TheVariants as causes
+use Rattle.psci_ctl_spec.specs.psci_messages.declared.start.Cause.{Cause}
+use Rattle.psci_ctl_spec.specs.psci_messages.declared.start.Cause.TheVariants as causes
 use Rattle.psci_ctl_spec.specs.Changes.{change, one_more}
 use Rattle.psci_ctl_spec.specs.Effects.{Nothing, Starts, Deepens}
 use Rattle.psci_ctl_spec.specs.Follows.{IsFront}
@@ -18,10 +18,10 @@ use Rattle.psci_ctl_spec.specs.Parts.{applied, is_stale}
 use Rattle.psci_ctl_spec.specs.Replies.{ack_of, may_follow}
 use Rattle.psci_ctl_spec.specs.Values as controlled
 use Rattle.psci_ctl_spec.proofs.Front.{take_get}
-use Rattle.psci_ctl_spec.specs.psci_link.declared.kind.Kind.{Kind}
-use Rattle.psci_ctl_spec.specs.psci_link.declared.kind.Kind.TheVariants as kinds
-use Rattle.psci_ctl_spec.specs.psci_link.Message.{AckValue, ArePartsOf, AreClaims, MessageValue}
-use Rattle.psci_ctl_spec.specs.psci_link.Message.{PartByPart}
+use Rattle.psci_ctl_spec.specs.psci_messages.declared.kind.Kind.{Kind}
+use Rattle.psci_ctl_spec.specs.psci_messages.declared.kind.Kind.TheVariants as kinds
+use Rattle.psci_ctl_spec.specs.psci_messages.Message.{AckValue, ArePartsOf, AreClaims, MessageValue}
+use Rattle.psci_ctl_spec.specs.psci_messages.Message.{PartByPart}
 use Rattle.psci_world_laws.specs.psci_fw_spec.Lives.{start_of_life}
 use Rattle.psci_world_laws.specs.psci_fw_spec.Phases.{Phase, Away, Pending}
 use Rattle.psci_world_laws.specs.psci_fw_spec.Values.{Values}

@@ -8,9 +8,9 @@ use Rattle.psci_board.specs.Board.{BoardValue, height, up}
 use Rattle.psci_ctl_spec.specs.psci_parts.declared.part.Part.{Part}
 use Rattle.psci_ctl_spec.specs.Parts.{depth_or, laid}
 use Rattle.psci_board.specs.Paths.{is_on_path}
-use Rattle.psci_ctl_spec.specs.psci_link.declared.kind.Kind.TheVariants.{Down}
-use Rattle.psci_ctl_spec.specs.psci_link.Message.{AckValue, MessageValue}
-use Rattle.psci_ctl_spec.specs.psci_link.Slots.{Slot}
+use Rattle.psci_ctl_spec.specs.psci_messages.declared.kind.Kind.TheVariants.{Down}
+use Rattle.psci_ctl_spec.specs.psci_messages.Message.{AckValue, MessageValue}
+use Rattle.psci_ctl_spec.specs.psci_messages.Slots.{Slot}
 use Rattle.psci_world_laws.specs.psci_fw_spec.Phases.{Phase}
 use Rattle.psci_world_laws.specs.psci_fw_laws.Claims.{AreRising}
 use Rattle.psci_world_laws.specs.psci_fw_laws.KnownBelow.{known_below}

@@ -6,13 +6,13 @@ use Rattle.psci_board.specs.Board.{BoardValue}
 use Rattle.psci_board.specs.declared.node.Core.{Core}
 use Rattle.psci_ctl_spec.specs.Replies.{ack_by, may_follow}
 use Rattle.psci_ctl_spec.specs.Values as controlled
-use Rattle.psci_ctl_spec.specs.psci_link.declared.kind.Kind.{Kind}
-use Rattle.psci_ctl_spec.specs.psci_link.declared.kind.Kind.TheVariants.{Down, Start, Off, Reset}
-use Rattle.psci_ctl_spec.specs.psci_link.declared.taken.Taken.TheVariants.{Used, Old}
-use Rattle.psci_ctl_spec.specs.psci_link.Message.{AckValue, MessageValue}
-use Rattle.psci_ctl_spec.specs.psci_link.Slots.{Acknowledge, OfCore, answers, changed, is_done}
-use Rattle.psci_ctl_spec.specs.psci_link.Slots.{is_kind, is_slot}
-use Rattle.psci_ctl_spec.specs.psci_link.Slots.{left_by, slot_of, taken}
+use Rattle.psci_ctl_spec.specs.psci_messages.declared.kind.Kind.{Kind}
+use Rattle.psci_ctl_spec.specs.psci_messages.declared.kind.Kind.TheVariants.{Down, Start, Off, Reset}
+use Rattle.psci_ctl_spec.specs.psci_messages.declared.taken.Taken.TheVariants.{Used, Old}
+use Rattle.psci_ctl_spec.specs.psci_messages.Message.{AckValue, MessageValue}
+use Rattle.psci_ctl_spec.specs.psci_messages.Slots.{Acknowledge, OfCore, answers, changed, is_done}
+use Rattle.psci_ctl_spec.specs.psci_messages.Slots.{is_kind, is_slot}
+use Rattle.psci_ctl_spec.specs.psci_messages.Slots.{left_by, slot_of, taken}
 use Rattle.psci_world_laws.specs.psci_fw_spec.Taking.{taken_by}
 use Rattle.psci_world_laws.specs.psci_fw_spec.Values.{Values}
 use Rattle.psci_world_laws.specs.psci_fw_laws.Messages.{is_system}

@@ -7,9 +7,9 @@ use Rattle.std.proofs.lemmas.Bool.{eq-eqb}
 use Rattle.std.proofs.lemmas.List.Sums.{list_all-from_AllPass}
 use Rattle.std.specs.List.{AllPass, list_all, list_any, range_with_len}
 use Rattle.psci_board.specs.Board.{BoardValue, cores, height, nodes}
-use Rattle.psci_ctl_spec.specs.psci_link.declared.kind.Kind.TheVariants.{Down}
-use Rattle.psci_ctl_spec.specs.psci_link.Message.{MessageValue}
-use Rattle.psci_ctl_spec.specs.psci_link.Slots.{OfCore, OfSystem, is_kind}
+use Rattle.psci_ctl_spec.specs.psci_messages.declared.kind.Kind.TheVariants.{Down}
+use Rattle.psci_ctl_spec.specs.psci_messages.Message.{MessageValue}
+use Rattle.psci_ctl_spec.specs.psci_messages.Slots.{OfCore, OfSystem, is_kind}
 use Rattle.psci_world_laws.specs.psci_world_spec.declared.event.Event.{Event}
 use Rattle.psci_world_laws.specs.psci_world_spec.declared.said.Record.{Record}
 use Rattle.psci_world_laws.specs.psci_world_spec.declared.said.Said.{Said}

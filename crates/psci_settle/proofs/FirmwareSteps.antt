@@ -1,14 +1,14 @@
 -- What waits after a call, an entry and an acknowledgement that was taken.
 use Rattle.std.proofs.Common.{◌≡◌, ℕ, ◌<◌, List, ◌++◌, Option, None, Some, option_map}
 use Rattle.std.proofs.Common.{refl, subst, sym}
-use Rattle.psci_ctl_spec.specs.psci_abi.Calls.{request_of}
-use Rattle.psci_ctl_spec.specs.psci_abi.declared.registers.Regs.{Regs}
+use Rattle.psci_world_laws.specs.psci_abi.Calls.{request_of}
+use Rattle.psci_world_laws.specs.psci_abi.declared.registers.Regs.{Regs}
 use Rattle.psci_board.specs.Board.{BoardValue, cores}
-use Rattle.psci_ctl_spec.specs.psci_link.declared.start.Start.{Start}
+use Rattle.psci_ctl_spec.specs.psci_messages.declared.start.Start.{Start}
 use Rattle.psci_ctl_spec.specs.Replies.{last_start}
-use Rattle.psci_ctl_spec.specs.psci_link.Message.{AckValue, MessageValue}
-use Rattle.psci_ctl_spec.specs.psci_link.declared.taken.Taken.{Taken}
-use Rattle.psci_ctl_spec.specs.psci_link.declared.taken.Taken.TheVariants as takens
+use Rattle.psci_ctl_spec.specs.psci_messages.Message.{AckValue, MessageValue}
+use Rattle.psci_ctl_spec.specs.psci_messages.declared.taken.Taken.{Taken}
+use Rattle.psci_ctl_spec.specs.psci_messages.declared.taken.Taken.TheVariants as takens
 use Rattle.psci_world_laws.specs.psci_fw_spec.declared.call.FwCall.TheVariants as calls
 use Rattle.psci_world_laws.specs.psci_fw_spec.declared.outcome.Outcome.{Outcome}
 use Rattle.psci_world_laws.specs.psci_fw_spec.declared.reply.FwReply.TheVariants as replies

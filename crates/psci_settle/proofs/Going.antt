@@ -4,10 +4,10 @@ use Rattle.std.proofs.Common.{Some, refl, subst, ap, sym, ◌∙◌}
 use Rattle.psci_board.specs.Board.{BoardValue, cores, height, up}
 use Rattle.psci_ctl_spec.specs.psci_parts.declared.part.Part.{Part}
 use Rattle.psci_ctl_spec.specs.Values as controlled
-use Rattle.psci_ctl_spec.specs.psci_link.declared.kind.Kind.{Kind}
-use Rattle.psci_ctl_spec.specs.psci_link.declared.kind.Kind.TheVariants as kinds
-use Rattle.psci_ctl_spec.specs.psci_link.Message.{ArePartsOf, AreClaims, MessageValue}
-use Rattle.psci_ctl_spec.specs.psci_link.Slots.{OfCore, OfSystem}
+use Rattle.psci_ctl_spec.specs.psci_messages.declared.kind.Kind.{Kind}
+use Rattle.psci_ctl_spec.specs.psci_messages.declared.kind.Kind.TheVariants as kinds
+use Rattle.psci_ctl_spec.specs.psci_messages.Message.{ArePartsOf, AreClaims, MessageValue}
+use Rattle.psci_ctl_spec.specs.psci_messages.Slots.{OfCore, OfSystem}
 use Rattle.psci_world_laws.specs.psci_fw_spec.Lives.{in_life}
 use Rattle.psci_world_laws.specs.psci_fw_spec.Phases.{Pending}
 use Rattle.psci_world_laws.specs.psci_fw_spec.Values.{Values}

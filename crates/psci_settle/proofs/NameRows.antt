@@ -1,8 +1,8 @@
 -- Worked examples: which messages have one name, and where the newest one of a name stands.
 use Rattle.std.proofs.Common.{◌≡◌, ℕ, [], ◌∷◌, None, Some, false, true, map, refl}
-use Rattle.psci_ctl_spec.specs.psci_link.declared.kind.Kind.{Kind}
-use Rattle.psci_ctl_spec.specs.psci_link.declared.kind.Kind.TheVariants.{Down, Start}
-use Rattle.psci_ctl_spec.specs.psci_link.Message.{MessageValue}
+use Rattle.psci_ctl_spec.specs.psci_messages.declared.kind.Kind.{Kind}
+use Rattle.psci_ctl_spec.specs.psci_messages.declared.kind.Kind.TheVariants.{Down, Start}
+use Rattle.psci_ctl_spec.specs.psci_messages.Message.{MessageValue}
 use Rattle.psci_world_laws.proofs.world_spec.Scripts.{part}
 use Rattle.psci_settle.specs.Settling.{has_name, index_of}
 

@@ -4,10 +4,10 @@ use Rattle.std.proofs.Common.{Option, Some, subst, ap, sym, ◌∙◌}
 use Rattle.std.specs.Prelude.{slice_get}
 use Rattle.std.proofs.lemmas.Bool.{cases_eq}
 use Rattle.psci_board.specs.Board.{BoardValue}
-use Rattle.psci_ctl_spec.specs.psci_link.declared.kind.Kind.TheVariants.{Down, Start}
-use Rattle.psci_ctl_spec.specs.psci_link.Message.{AckValue, MessageValue}
-use Rattle.psci_ctl_spec.specs.psci_link.Slots.{Clear, OfCore, OfSystem, Put, Slot, changed}
-use Rattle.psci_ctl_spec.specs.psci_link.Slots.{slot_of}
+use Rattle.psci_ctl_spec.specs.psci_messages.declared.kind.Kind.TheVariants.{Down, Start}
+use Rattle.psci_ctl_spec.specs.psci_messages.Message.{AckValue, MessageValue}
+use Rattle.psci_ctl_spec.specs.psci_messages.Slots.{Clear, OfCore, OfSystem, Put, Slot, changed}
+use Rattle.psci_ctl_spec.specs.psci_messages.Slots.{slot_of}
 use Rattle.psci_world_laws.specs.psci_fw_spec.Phases.{Phase, Pending}
 use Rattle.psci_world_laws.specs.psci_fw_spec.Values.{updated}
 use Rattle.psci_world_laws.proofs.fw_laws.Parts.{updated_at, updated_here, updated_there}

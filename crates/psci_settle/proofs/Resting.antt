@@ -6,8 +6,8 @@ use Rattle.std.proofs.lemmas.Option.{none-some}
 use Rattle.psci_board.specs.Board.{BoardValue, HasNode, cores}
 use Rattle.psci_board.specs.declared.node.Node.{Node}
 use Rattle.psci_ctl_spec.specs.Values as controlled
-use Rattle.psci_ctl_spec.specs.psci_link.Message.{MessageValue}
-use Rattle.psci_ctl_spec.specs.psci_link.Slots.{OfSystem}
+use Rattle.psci_ctl_spec.specs.psci_messages.Message.{MessageValue}
+use Rattle.psci_ctl_spec.specs.psci_messages.Slots.{OfSystem}
 use Rattle.psci_world_laws.specs.psci_fw_spec.Values.{Values}
 use Rattle.psci_world_laws.specs.psci_fw_laws.Granted.{AreGranted}
 use Rattle.psci_world_laws.specs.psci_fw_laws.KnownBelow.{known_below}

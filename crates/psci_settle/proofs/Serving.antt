@@ -13,8 +13,8 @@ use Rattle.psci_ctl_spec.specs.Exchange as controller
 use Rattle.psci_ctl_spec.specs.History as controls
 use Rattle.psci_ctl_spec.specs.Replies.{ack_by, delivery_of, is_this_life, reply}
 use Rattle.psci_ctl_spec.specs.Values as controlled
-use Rattle.psci_ctl_spec.specs.psci_link.Message.{AckValue, MessageValue}
-use Rattle.psci_ctl_spec.specs.psci_link.declared.taken.Taken.TheVariants.{Used}
+use Rattle.psci_ctl_spec.specs.psci_messages.Message.{AckValue, MessageValue}
+use Rattle.psci_ctl_spec.specs.psci_messages.declared.taken.Taken.TheVariants.{Used}
 use Rattle.psci_world_laws.specs.psci_fw_spec.Answer.{answer}
 use Rattle.psci_world_laws.specs.psci_fw_spec.Changes.{with_acknowledgement}
 use Rattle.psci_world_laws.specs.psci_fw_spec.Exchange as firmware

@@ -4,8 +4,8 @@ use Rattle.std.proofs.Common.{◌≡◌, ◌++◌, ◌≤◌, ◌==◌, ℕ, zer
 use Rattle.std.proofs.Common.{◌∷◌, Some, length, refl, arith, ap, ◌∙◌}
 use Rattle.std.proofs.lemmas.Option.{none-some, same_Some}
 use Rattle.psci_board.specs.Board.{BoardValue}
-use Rattle.psci_ctl_spec.specs.psci_link.declared.kind.Kind.TheVariants.{Down, Start}
-use Rattle.psci_ctl_spec.specs.psci_link.Message.{MessageValue}
+use Rattle.psci_ctl_spec.specs.psci_messages.declared.kind.Kind.TheVariants.{Down, Start}
+use Rattle.psci_ctl_spec.specs.psci_messages.Message.{MessageValue}
 use Rattle.psci_world_laws.specs.psci_world_spec.declared.event.Event.{Event}
 use Rattle.psci_world_laws.specs.psci_world_spec.declared.event.Event.TheVariants.{Enter, Reset}
 use Rattle.psci_world_laws.specs.psci_world_spec.declared.event.Event.TheVariants.{Deliver, Take}

@@ -6,7 +6,7 @@ use Rattle.psci_board.specs.Board.{BoardValue, HasNode, cores, height, up}
 use Rattle.psci_board.specs.Laws.{ChildLaws}
 use Rattle.psci_ctl_spec.specs.psci_parts.declared.part.Part.{Part}
 use Rattle.psci_ctl_spec.specs.Follows as controlling
-use Rattle.psci_ctl_spec.specs.psci_link.Message.{MessageValue}
+use Rattle.psci_ctl_spec.specs.psci_messages.Message.{MessageValue}
 use Rattle.psci_world_laws.specs.psci_fw_spec.Lives.{in_life}
 use Rattle.psci_world_laws.specs.psci_fw_spec.Values.{Values}
 use Rattle.psci_world_laws.specs.psci_fw_laws.Claims.{IsClaimOn, IsCurrent}

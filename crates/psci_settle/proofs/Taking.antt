@@ -6,12 +6,12 @@ use Rattle.std.proofs.lemmas.Bool.{and_parts, cases_lt, eqb-true, leb-true, or_c
 use Rattle.std.proofs.lemmas.Option.{same_Some, slice_get_within}
 use Rattle.psci_board.specs.Board.{BoardValue, up}
 use Rattle.psci_ctl_spec.specs.psci_parts.declared.part.Part.{Part}
-use Rattle.psci_ctl_spec.specs.psci_link.declared.kind.Kind.{Kind}
-use Rattle.psci_ctl_spec.specs.psci_link.declared.kind.Kind.TheVariants.{Down, Start, Off, Reset}
-use Rattle.psci_ctl_spec.specs.psci_link.Message.{AckValue, MessageValue}
-use Rattle.psci_ctl_spec.specs.psci_link.Slots.{Acknowledge, OfCore, Slot, answers, changed}
-use Rattle.psci_ctl_spec.specs.psci_link.Slots.{is_done, is_kind}
-use Rattle.psci_ctl_spec.specs.psci_link.Slots.{is_slot, slot_of}
+use Rattle.psci_ctl_spec.specs.psci_messages.declared.kind.Kind.{Kind}
+use Rattle.psci_ctl_spec.specs.psci_messages.declared.kind.Kind.TheVariants.{Down, Start, Off, Reset}
+use Rattle.psci_ctl_spec.specs.psci_messages.Message.{AckValue, MessageValue}
+use Rattle.psci_ctl_spec.specs.psci_messages.Slots.{Acknowledge, OfCore, Slot, answers, changed}
+use Rattle.psci_ctl_spec.specs.psci_messages.Slots.{is_done, is_kind}
+use Rattle.psci_ctl_spec.specs.psci_messages.Slots.{is_slot, slot_of}
 use Rattle.psci_world_laws.specs.psci_fw_spec.Phases.{Phase}
 use Rattle.psci_world_laws.specs.psci_fw_laws.Outstanding.{AreOutstanding}
 use Rattle.psci_settle.specs.Waiting.{AreWaiting, AwaitsStart, IsLivePart, IsTold, WasTold}

@@ -4,9 +4,9 @@ use Rattle.std.proofs.Common.{List, [], ◌∷◌, None, Some, refl, arith, slic
 use Rattle.std.proofs.Common.{subst}
 use Rattle.psci_board.specs.Board.{BoardValue}
 use Rattle.psci_board.specs.declared.node.Node.{Node}
-use Rattle.psci_ctl_spec.specs.psci_link.declared.kind.Kind.TheVariants.{Down, Start}
-use Rattle.psci_ctl_spec.specs.psci_link.Message.{AckValue, MessageValue}
-use Rattle.psci_ctl_spec.specs.psci_link.Slots.{answers}
+use Rattle.psci_ctl_spec.specs.psci_messages.declared.kind.Kind.TheVariants.{Down, Start}
+use Rattle.psci_ctl_spec.specs.psci_messages.Message.{AckValue, MessageValue}
+use Rattle.psci_ctl_spec.specs.psci_messages.Slots.{answers}
 use Rattle.psci_world_laws.specs.psci_fw_laws.KnownBelow.{known_below}
 use Rattle.psci_world_laws.specs.psci_fw_spec.Phases.{Pending, Suspended, Away}
 use Rattle.psci_world_laws.specs.psci_world_spec.declared.event.Event.{Event}

@@ -4,10 +4,10 @@ use Rattle.std.specs.Prelude.{ℕ, zero, suc, ◌+◌, ◌==◌, Bool, true, fal
 use Rattle.std.specs.Prelude.{Option, None, Some, is_some, length, if◌then◌else◌, option_and_then}
 use Rattle.std.specs.List.{list_any, range_with_len}
 use Rattle.psci_board.specs.Board.{BoardValue, cores, height}
-use Rattle.psci_ctl_spec.specs.psci_link.declared.kind.Kind.{Kind}
-use Rattle.psci_ctl_spec.specs.psci_link.declared.kind.Kind.TheVariants.{Start}
-use Rattle.psci_ctl_spec.specs.psci_link.Message.{MessageValue}
-use Rattle.psci_ctl_spec.specs.psci_link.Slots.{OfCore, is_kind}
+use Rattle.psci_ctl_spec.specs.psci_messages.declared.kind.Kind.{Kind}
+use Rattle.psci_ctl_spec.specs.psci_messages.declared.kind.Kind.TheVariants.{Start}
+use Rattle.psci_ctl_spec.specs.psci_messages.Message.{MessageValue}
+use Rattle.psci_ctl_spec.specs.psci_messages.Slots.{OfCore, is_kind}
 use Rattle.psci_world_laws.specs.psci_fw_spec.Lives.{in_life}
 use Rattle.psci_world_laws.specs.psci_world_spec.declared.event.Event.{Event}
 use Rattle.psci_world_laws.specs.psci_world_spec.declared.event.Event.TheVariants.{Enter, Deliver}

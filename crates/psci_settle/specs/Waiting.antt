@@ -4,9 +4,9 @@ use Rattle.std.specs.Prelude.{Option, Some}
 use Rattle.psci_board.specs.Board.{BoardValue, HasNode, cores, up}
 use Rattle.psci_board.specs.declared.node.Node.{Node}
 use Rattle.psci_ctl_spec.specs.psci_parts.declared.part.Part.{Part}
-use Rattle.psci_ctl_spec.specs.psci_link.declared.kind.Kind.TheVariants.{Down, Start}
-use Rattle.psci_ctl_spec.specs.psci_link.Message.{AckValue, MessageValue}
-use Rattle.psci_ctl_spec.specs.psci_link.Slots.{Slot, OfCore, answers}
+use Rattle.psci_ctl_spec.specs.psci_messages.declared.kind.Kind.TheVariants.{Down, Start}
+use Rattle.psci_ctl_spec.specs.psci_messages.Message.{AckValue, MessageValue}
+use Rattle.psci_ctl_spec.specs.psci_messages.Slots.{Slot, OfCore, answers}
 use Rattle.psci_ctl_spec.specs.Values.{first_depth, starts_below}
 use Rattle.psci_ctl_spec.specs.Values as controlled
 use Rattle.psci_world_laws.specs.psci_fw_spec.Lives.{in_life}

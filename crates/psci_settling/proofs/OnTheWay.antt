@@ -6,7 +6,7 @@ use Rattle.std.proofs.lemmas.List.{append_assoc}
 use Rattle.std.specs.List.{range_with_len}
 use Rattle.std.specs.Prelude.{if◌then◌else◌}
 use Rattle.psci_world.specs.psci_board.Board.{BoardValue, height}
-use Rattle.psci_world.specs.psci_world_spec.psci_link.declared.kind.Kind.{Kind}
+use Rattle.psci_world.specs.psci_world_spec.psci_messages.declared.kind.Kind.{Kind}
 use Rattle.psci_settle.specs.Settling.{Reached, all_cores, served, serving, begun, each_core}
 use Rattle.psci_settle.specs.Settling.{entering, is_any, is_start, is_started, is_waiting, round}
 use Rattle.psci_settle.specs.Settling.{rounds, settled, step}

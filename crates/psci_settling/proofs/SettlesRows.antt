@@ -4,7 +4,7 @@ use Rattle.std.proofs.lemmas.List.Sums.{AllPass-from_list_all, list_all-from_All
 use Rattle.std.proofs.Common.{◌≡◌, ◌≤◌, ◌+◌, ◌++◌, ◌&&◌, ℕ, true, false, List, [], ◌∷◌, length}
 use Rattle.std.proofs.Common.{length-append, refl, arith, ap, ◌∙◌}
 use Rattle.std.specs.List.{list_all}
-use Rattle.psci_world.specs.psci_world_spec.psci_link.declared.kind.Kind.TheVariants as kinds
+use Rattle.psci_world.specs.psci_world_spec.psci_messages.declared.kind.Kind.TheVariants as kinds
 use Rattle.psci_settle.specs.Drained.{is_settling}
 use Rattle.psci_settling.specs.declared.outstanding.Which.TheVariants.{All, Starts}
 use Rattle.psci_settling.specs.declared.settling.Settled.{Settled}

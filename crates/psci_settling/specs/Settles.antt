@@ -2,7 +2,7 @@
 use Rattle.std.specs.Prelude.{◌≡◌, ℕ, Bool, List, ◌++◌}
 use Rattle.std.specs.List.{AllPass}
 use Rattle.psci_world.specs.psci_board.Board.{BoardValue}
-use Rattle.psci_world.specs.psci_world_spec.psci_link.declared.kind.Kind.{Kind}
+use Rattle.psci_world.specs.psci_world_spec.psci_messages.declared.kind.Kind.{Kind}
 use Rattle.psci_settle.specs.Drained.{IsSettled, is_settling}
 use Rattle.psci_settle.specs.Settling.{is_any, is_start}
 use Rattle.psci_settling.specs.declared.outstanding.Which.{Which}

@@ -3,7 +3,7 @@
 ghost use Rattle.std.specs.Prelude.{◌≡◌, ◌<◌, None, if◌then◌else◌, option_and_then, option_map};
 ghost use Rattle.std.specs.Prelude.{reverse};
 ghost use Rattle.psci_world.specs.psci_board.Board.{cores};
-ghost use Rattle.psci_world.specs.psci_world_spec.psci_link.Slots.{OfCore};
+ghost use Rattle.psci_world.specs.psci_world_spec.psci_messages.Slots.{OfCore};
 ghost use Rattle.psci_settle.specs.Settling.{has_name, is_waiting, index_of};
 ghost use Rattle.psci_settling.specs.Settles.{serves_kind};
 ghost use Rattle.psci_world.specs.psci_world_spec.Histories.{firmware_values, sent};

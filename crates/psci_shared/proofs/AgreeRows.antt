@@ -10,7 +10,7 @@ use Rattle.psci_fw.specs.psci_fw_spec.declared.fault.FwFault.TheVariants.{NoCore
 use Rattle.psci_fw.specs.psci_fw_spec.declared.fault.FwFault.TheVariants.{NotRunning, OldStart}
 use Rattle.psci_fw.specs.psci_fw_spec.declared.reply.FwReply.{FwReply}
 use Rattle.psci_fw.specs.psci_fw_spec.declared.reply.FwReply.TheVariants.{Out, Taken, Fault}
-use Rattle.psci_link.specs.declared.start.Cause.TheVariants.{On}
+use Rattle.psci_messages.specs.declared.start.Cause.TheVariants.{On}
 use Rattle.psci_shared.specs.declared.entry.FwEntry.{FwEntry}
 use Rattle.psci_shared.specs.declared.entry.FwItem.{FwItem}
 use Rattle.psci_shared.specs.declared.fault.GatherCause.TheVariants.{Astray, Missing}

@@ -2,7 +2,7 @@
 -- type of a book keeps. In life 2 the boot core has entered, and core 1 is OFF.
 use Rattle.std.proofs.Common.{◌≡◌, inl, inr, ℕ, zero, suc, ◌<◌, ◌≤◌, List, [], ◌∷◌, pos}
 use Rattle.std.proofs.Common.{false, refl, ap, arith, None}
-use Rattle.psci_fw.specs.psci_abi.declared.format.Format.TheVariants.{Original}
+use Rattle.psci_fw.specs.psci_abi.psci_format.declared.format.Format.TheVariants.{Original}
 use Rattle.psci_fw.specs.psci_board.Board.{BoardValue}
 use Rattle.psci_fw.specs.psci_fw_spec.Answer.{answer}
 use Rattle.psci_fw.specs.psci_fw_spec.After.{after}
@@ -21,7 +21,7 @@ use Rattle.psci_fw.specs.psci_fw_spec.declared.reply.FwReply.TheVariants.{Out, T
 use Rattle.psci_fw.specs.psci_fw_spec.declared.status.Status.TheVariants.{On, Off, Pending}
 use Rattle.psci_fw.specs.psci_fw_spec.declared.status.Status.{Status}
 use Rattle.psci_fw.specs.Seen.{FirmwareValue, seen}
-use Rattle.psci_link.specs.declared.start.Cause.TheVariants.{Boot}
+use Rattle.psci_messages.specs.declared.start.Cause.TheVariants.{Boot}
 use Rattle.psci_status.specs.Lists.{Item, Within, row}
 use Rattle.psci_shared.specs.declared.entry.FwEntry.{FwEntry}
 use Rattle.psci_shared.specs.Books.{answer_after, entry, history_of}

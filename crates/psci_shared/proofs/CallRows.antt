@@ -9,9 +9,9 @@ use Rattle.psci_fw.specs.psci_fw_spec.declared.reply.FwReply.{FwReply}
 use Rattle.psci_fw.specs.psci_fw_spec.declared.reply.FwReply.TheVariants.{Out, Taken, Fault}
 use Rattle.psci_fw.specs.psci_fw_spec.declared.outcome.Act.TheVariants as acts
 use Rattle.psci_fw.specs.psci_fw_spec.declared.status.Status.TheVariants.{On, Off, Pending}
-use Rattle.psci_link.specs.declared.kind.Kind.TheVariants as kinds
-use Rattle.psci_link.specs.declared.start.Cause.TheVariants.{Wake}
-use Rattle.psci_link.specs.declared.taken.Taken.TheVariants as takens
+use Rattle.psci_messages.specs.declared.kind.Kind.TheVariants as kinds
+use Rattle.psci_messages.specs.declared.start.Cause.TheVariants.{Wake}
+use Rattle.psci_messages.specs.declared.taken.Taken.TheVariants as takens
 use Rattle.std.specs.Prelude.{None}
 use Rattle.psci_status.specs.Lists.{Item}
 use Rattle.psci_shared.specs.declared.entry.FwItem.{FwItem}

@@ -11,9 +11,9 @@ use Rattle.psci_shared.specs.contracts.entry.FwEntry as Entry
 use Rattle.psci_shared.specs.contracts.book.FwBook.TheInside as Inside
 use Rattle.std.proofs.Crossing as heap
 use Rattle.psci_board.proofs.board.Board.TheSendSync as board
-use Rattle.psci_link.proofs.slots.Slots.TheSendSync as slots
+use Rattle.psci_messages.proofs.slots.Slots.TheSendSync as slots
 use Rattle.psci_fw_state.proofs.row.CoreRow.TheSendSync as row
-use Rattle.psci_tree.proofs.state.CoreState.TheSendSync as core
+use Rattle.psci_state.proofs.cores.CoreState.TheSendSync as core
 use Rattle.psci_tree.proofs.kept.Kept.TheSendSync as kept
 use Rattle.psci_tree.proofs.domain.Domain.TheLaws.TheKnot as knot
 use Rattle.psci_tree.specs.contracts.tree.Tree as Tree

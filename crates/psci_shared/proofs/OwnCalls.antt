@@ -16,8 +16,8 @@ use Rattle.psci_fw.specs.psci_fw_spec.History.{begins, life, says_off, says_stat
 use Rattle.psci_fw.specs.psci_fw_spec.Lives.{first_status}
 use Rattle.psci_fw.specs.psci_fw_spec.Said.{arrived}
 use Rattle.psci_fw.specs.psci_fw_spec.Statuses.{added, statuses}
-use Rattle.psci_link.specs.declared.start.Start.{Start}
-use Rattle.psci_link.specs.OnlyIf.{only_if}
+use Rattle.psci_messages.specs.declared.start.Start.{Start}
+use Rattle.psci_messages.specs.OnlyIf.{only_if}
 use Rattle.psci_status.specs.Lists.{Begins, IsLast, Item, row, status_of}
 use Rattle.psci_shared.specs.declared.entry.FwEntry.{FwEntry}
 use Rattle.psci_shared.specs.Books.{exchange_of, history_of}

@@ -4,7 +4,7 @@ use Rattle.std.proofs.Common.{◌≡◌, inl, inr, ℕ, zero, suc, ◌<◌, ◌�
 use Rattle.std.proofs.Common.{negsuc, Bool, true, false, refl, ap, arith, Some, None}
 use Rattle.std.specs.Prelude.{nat_lt, if◌then◌else◌}
 use Rattle.psci_fw.specs.psci_abi.declared.code.Code.{Code}
-use Rattle.psci_fw.specs.psci_abi.declared.format.Format.TheVariants.{Original}
+use Rattle.psci_fw.specs.psci_abi.psci_format.declared.format.Format.TheVariants.{Original}
 use Rattle.psci_fw.specs.psci_board.Board.{BoardValue, core_of}
 use Rattle.psci_fw.specs.psci_fw_spec.declared.call.FwCall.TheVariants.{Enter, Smc}
 use Rattle.psci_fw.specs.psci_fw_spec.declared.outcome.Act.TheVariants as acts
@@ -12,9 +12,9 @@ use Rattle.psci_fw.specs.psci_fw_spec.declared.reply.FwReply.TheVariants.{Out}
 use Rattle.psci_fw.specs.psci_fw_spec.declared.status.Status.TheVariants.{On, Off, Pending}
 use Rattle.psci_fw.specs.psci_fw_spec.AffinityInfo.{status_code}
 use Rattle.psci_fw.specs.psci_fw_spec.Statuses.{statuses}
-use Rattle.psci_link.specs.declared.kind.Kind.TheVariants.{Start}
-use Rattle.psci_link.specs.declared.start.Cause.TheVariants.{Boot}
-use Rattle.psci_link.specs.Message.{MessageValue}
+use Rattle.psci_messages.specs.declared.kind.Kind.TheVariants.{Start}
+use Rattle.psci_messages.specs.declared.start.Cause.TheVariants.{Boot}
+use Rattle.psci_messages.specs.Message.{MessageValue}
 use Rattle.psci_status.specs.Lists.{Item, gain, row}
 use Rattle.psci_shared.specs.declared.entry.FwEntry.{FwEntry}
 use Rattle.psci_shared.specs.Books.{entry, history_of}

@@ -7,7 +7,7 @@ ghost use Rattle.psci_fw.specs.psci_fw_spec.Changes.{PowerOn, target};
 ghost use Rattle.psci_fw.specs.psci_fw_spec.Effects.{AsksOn, Enters};
 ghost use Rattle.psci_fw.specs.psci_fw_spec.Exchange.{effect};
 ghost use Rattle.psci_fw.specs.psci_fw_spec.History.{life, status};
-ghost use Rattle.psci_link.specs.declared.start.Start.{Start};
+ghost use Rattle.psci_messages.specs.declared.start.Start.{Start};
 ghost use Rattle.psci_status.specs.Lists.{Item};
 ghost use Rattle.psci_shared.specs.declared.entry.FwEntry.{FwEntry};
 ghost use Rattle.psci_shared.specs.Books.{exchange_of, history_of};

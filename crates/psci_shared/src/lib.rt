@@ -33,7 +33,7 @@ pub use locked::FwLocked;
 pub use named::Named;
 pub use pass::Pass;
 pub use psci_fw::{Code, FwCall, FwFault, FwReply, Outcome, Regs, Start, Status, Taken};
-pub use psci_link::Ack;
+pub use psci_messages::Ack;
 pub use psci_status::{Board, Core, Memory, Reader, StatusWords, Writer};
 pub use same::is_same_message;
 pub use shared::SharedFirmware;

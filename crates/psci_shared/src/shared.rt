@@ -25,7 +25,7 @@ use crate::named::Named;
 use crate::pass::Pass;
 use crate::tickets::Tickets;
 use psci_fw::{Code, FwCall, FwReply, Outcome, Regs, Start, Taken};
-use psci_link::Ack;
+use psci_messages::Ack;
 use psci_status::{Board, Core, Memory, StatusWords, Writer};
 use std::alloc::Global;
 use std::sync::ledger::Blank;

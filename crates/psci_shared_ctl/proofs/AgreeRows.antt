@@ -9,7 +9,7 @@ use Rattle.psci_ctl.specs.psci_ctl_spec.declared.delivery.Delivery.TheVariants a
 use Rattle.psci_ctl.specs.psci_ctl_spec.declared.kick.Kick.TheVariants as kicks
 use Rattle.psci_ctl.specs.psci_ctl_spec.declared.reply.CtlReply.{CtlReply}
 use Rattle.psci_ctl.specs.psci_ctl_spec.declared.reply.CtlReply.TheVariants.{Delivery, Kick}
-use Rattle.psci_ctl.specs.psci_ctl_spec.psci_link.declared.start.Cause.TheVariants as causes
+use Rattle.psci_ctl.specs.psci_ctl_spec.psci_messages.declared.start.Cause.TheVariants as causes
 use Rattle.psci_shared_ctl.specs.declared.entry.CtlEntry.{CtlEntry}
 use Rattle.psci_shared_ctl.specs.declared.entry.CtlItem.{CtlItem}
 use Rattle.psci_shared.specs.declared.fault.GatherCause.TheVariants.{Astray, Missing}

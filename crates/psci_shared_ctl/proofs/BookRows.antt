@@ -9,7 +9,7 @@ use Rattle.psci_ctl.specs.psci_ctl_spec.Values.{Values}
 use Rattle.psci_ctl.specs.psci_ctl_spec.declared.call.CtlCall.TheVariants.{Reset}
 use Rattle.psci_ctl.specs.psci_ctl_spec.declared.kick.Kick.TheVariants as kicks
 use Rattle.psci_ctl.specs.psci_ctl_spec.declared.reply.CtlReply.TheVariants.{Kick}
-use Rattle.psci_ctl.specs.psci_ctl_spec.psci_link.declared.start.Cause.TheVariants as causes
+use Rattle.psci_ctl.specs.psci_ctl_spec.psci_messages.declared.start.Cause.TheVariants as causes
 use Rattle.psci_shared_ctl.specs.declared.entry.CtlEntry.{CtlEntry}
 use Rattle.psci_shared_ctl.specs.Agree.{Agree, all_apart}
 use Rattle.psci_shared_ctl.specs.Books.{entered, entry, history_of}

@@ -2,7 +2,7 @@
 use Rattle.std.proofs.Common.{◌≡◌, ℕ, ◌<◌, ◌≤◌, List, [], ◌∷◌, length, Bool, true, false}
 use Rattle.std.proofs.Common.{refl, ap, arith}
 use Rattle.psci_board.specs.Board.{BoardValue}
-use Rattle.psci_ctl.specs.psci_ctl_spec.psci_abi.declared.format.Format.TheVariants.{Original}
+use Rattle.psci_ctl.specs.psci_ctl_spec.psci_format.declared.format.Format.TheVariants.{Original}
 use Rattle.psci_ctl.specs.Seen.{ControllerValue, seen}
 use Rattle.psci_ctl.specs.psci_ctl_spec.History.{values_of}
 use Rattle.psci_ctl.specs.psci_ctl_spec.Replies.{reply, wake_of}
@@ -12,7 +12,7 @@ use Rattle.psci_ctl.specs.psci_ctl_spec.declared.delivery.Delivery.TheVariants a
 use Rattle.psci_ctl.specs.psci_ctl_spec.declared.kick.Kick.TheVariants as kicks
 use Rattle.psci_ctl.specs.psci_ctl_spec.declared.reply.CtlReply.{CtlReply}
 use Rattle.psci_ctl.specs.psci_ctl_spec.declared.reply.CtlReply.TheVariants.{Delivery, Kick}
-use Rattle.psci_ctl.specs.psci_ctl_spec.psci_link.declared.kind.Kind.TheVariants as kinds
+use Rattle.psci_ctl.specs.psci_ctl_spec.psci_messages.declared.kind.Kind.TheVariants as kinds
 use Rattle.psci_shared_ctl.specs.declared.entry.CtlItem.{CtlItem}
 use Rattle.psci_shared_ctl.specs.Books.{entry, history_of}
 use Rattle.psci_shared_ctl.specs.Inside.{IsTied}

@@ -2,12 +2,12 @@
 use Rattle.std.proofs.Common.{◌≡◌, ℕ, [], ◌∷◌, List, refl}
 use Rattle.std.specs.Prelude.{codes}
 use Rattle.std.specs.Fmt.{digits}
-use Rattle.psci_world_spec.specs.psci_abi.declared.format.Format.TheVariants.{Extended}
+use Rattle.psci_world_spec.specs.psci_abi.psci_format.declared.format.Format.TheVariants.{Extended}
 use Rattle.psci_world_spec.specs.psci_board.Board.{node_of}
-use Rattle.psci_world_spec.specs.psci_link.Message.{MessageValue}
-use Rattle.psci_world_spec.specs.psci_link.declared.kind.Kind.{Kind}
-use Rattle.psci_world_spec.specs.psci_link.declared.kind.Kind.TheVariants.{Down, Off, Start}
-use Rattle.psci_world_spec.specs.psci_link.declared.kind.Kind.TheVariants as kinds
+use Rattle.psci_world_spec.specs.psci_messages.Message.{MessageValue}
+use Rattle.psci_world_spec.specs.psci_messages.declared.kind.Kind.{Kind}
+use Rattle.psci_world_spec.specs.psci_messages.declared.kind.Kind.TheVariants.{Down, Off, Start}
+use Rattle.psci_world_spec.specs.psci_messages.declared.kind.Kind.TheVariants as kinds
 use Rattle.psci_world_spec.specs.declared.event.Event.TheVariants.{Deliver, Enter, Reset, Take}
 use Rattle.psci_world_spec.specs.declared.event.Event.TheVariants.{Wake}
 use Rattle.psci_world_spec.proofs.Scripts.{board, call, one_core, tall}

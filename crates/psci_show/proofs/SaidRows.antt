@@ -2,14 +2,14 @@
 use Rattle.std.proofs.Common.{◌≡◌, ℕ, ℤ, pos, negsuc, Bool, true, false, [], ◌∷◌, List, refl}
 use Rattle.std.specs.Prelude.{codes, None, Some}
 use Rattle.std.specs.Fmt.{digits}
-use Rattle.psci_world_spec.specs.psci_coord.psci_parts.declared.part.Part.{Part}
+use Rattle.psci_world_spec.specs.psci_claims.psci_parts.declared.part.Part.{Part}
 use Rattle.psci_world_spec.specs.psci_fw_spec.declared.outcome.Act.TheVariants.{Resume, Return, Stop}
 use Rattle.psci_world_spec.specs.psci_fw_spec.declared.outcome.Act.TheVariants.{Enter as EntersAt}
-use Rattle.psci_world_spec.specs.psci_link.Message.{MessageValue}
-use Rattle.psci_world_spec.specs.psci_link.declared.start.Cause.TheVariants as causes
-use Rattle.psci_world_spec.specs.psci_link.declared.kind.Kind.{Kind}
-use Rattle.psci_world_spec.specs.psci_link.declared.kind.Kind.TheVariants.{Down, Off, Reset, Start}
-use Rattle.psci_world_spec.specs.psci_link.declared.taken.Taken.TheVariants.{Used, Old}
+use Rattle.psci_world_spec.specs.psci_messages.Message.{MessageValue}
+use Rattle.psci_world_spec.specs.psci_messages.declared.start.Cause.TheVariants as causes
+use Rattle.psci_world_spec.specs.psci_messages.declared.kind.Kind.{Kind}
+use Rattle.psci_world_spec.specs.psci_messages.declared.kind.Kind.TheVariants.{Down, Off, Reset, Start}
+use Rattle.psci_world_spec.specs.psci_messages.declared.taken.Taken.TheVariants.{Used, Old}
 use Rattle.psci_world_spec.specs.declared.event.Event.TheVariants.{Deliver, Enter, Take, Wake}
 use Rattle.psci_world_spec.specs.declared.said.Said.TheVariants.{Absent, Acked, Fw, Ignored}
 use Rattle.psci_world_spec.specs.declared.said.Said.TheVariants.{Kick}

@@ -15,8 +15,8 @@ use Rattle.psci_world_spec.specs.psci_abi.declared.request.Request.TheVariants.{
 use Rattle.psci_world_spec.specs.psci_abi.declared.request.Request.TheVariants.{SetSuspendMode}
 use Rattle.psci_world_spec.specs.psci_abi.declared.request.Request.TheVariants.{SystemReset2}
 use Rattle.psci_world_spec.specs.psci_abi.declared.request.Request.TheVariants.{Unknown}
-use Rattle.psci_world_spec.specs.psci_link.declared.kind.Kind.{Kind}
-use Rattle.psci_world_spec.specs.psci_link.declared.kind.Kind.TheVariants.{Down, Start, Off, Reset}
+use Rattle.psci_world_spec.specs.psci_messages.declared.kind.Kind.{Kind}
+use Rattle.psci_world_spec.specs.psci_messages.declared.kind.Kind.TheVariants.{Down, Start, Off, Reset}
 
 -- the name of a function, as the standard has it
 abbrev pub function_name : Request → Option (List ℕ)

@@ -13,14 +13,14 @@ use Rattle.psci_world_spec.specs.psci_abi.declared.request.Request.{Request}
 use Rattle.psci_world_spec.specs.psci_abi.declared.request.Request.TheVariants as requests
 use Rattle.psci_world_spec.specs.psci_board.Board.{BoardValue, height, node_of, nodes}
 use Rattle.psci_world_spec.specs.psci_board.declared.node.Node.{Node}
-use Rattle.psci_world_spec.specs.psci_coord.psci_parts.declared.part.Part.{Part}
+use Rattle.psci_world_spec.specs.psci_claims.psci_parts.declared.part.Part.{Part}
 use Rattle.psci_world_spec.specs.psci_fw_spec.declared.outcome.Act.{Act}
 use Rattle.psci_world_spec.specs.psci_fw_spec.declared.outcome.Act.TheVariants as acts
-use Rattle.psci_world_spec.specs.psci_link.Message.{MessageValue}
-use Rattle.psci_world_spec.specs.psci_link.declared.kind.Kind.{Kind}
-use Rattle.psci_world_spec.specs.psci_link.declared.kind.Kind.TheVariants as kinds
-use Rattle.psci_world_spec.specs.psci_link.declared.taken.Taken.{Taken}
-use Rattle.psci_world_spec.specs.psci_link.declared.taken.Taken.TheVariants.{Used, Old}
+use Rattle.psci_world_spec.specs.psci_messages.Message.{MessageValue}
+use Rattle.psci_world_spec.specs.psci_messages.declared.kind.Kind.{Kind}
+use Rattle.psci_world_spec.specs.psci_messages.declared.kind.Kind.TheVariants as kinds
+use Rattle.psci_world_spec.specs.psci_messages.declared.taken.Taken.{Taken}
+use Rattle.psci_world_spec.specs.psci_messages.declared.taken.Taken.TheVariants.{Used, Old}
 use Rattle.psci_world_spec.specs.declared.event.Event.{Event}
 use Rattle.psci_world_spec.specs.declared.event.Event.TheVariants as events
 use Rattle.psci_world_spec.specs.declared.said.Record.{Record}

@@ -9,7 +9,7 @@ use psci_world::{Node, World};
 use std::fmt;
 
 /// How deep a power domain is, and how deep the firmware has granted it to be.
-#[derive(Clone, Copy, Debug, PartialEq, Eq)]
+#[derive(Clone, Copy)]
 pub struct Depths {
     /// The depth, as the power controller has it.
     pub depth: u8,

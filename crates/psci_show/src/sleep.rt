@@ -9,7 +9,7 @@ use crate::message::depth_at;
 use psci_world_spec::{Act, Event, Record, Request, Said, Sent, read};
 
 /// A suspended core: what it asked of itself, and in which life.
-#[derive(Clone, Copy, Debug, PartialEq, Eq)]
+#[derive(Clone, Copy)]
 pub struct Sleep {
     /// 1 standby, 2 retention, 3 power-down.
     pub depth: u8,

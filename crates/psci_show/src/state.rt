@@ -12,7 +12,7 @@ use crate::sleep::Sleep;
 use psci_world::{Core, Place, Status, World};
 
 /// What a core does.
-#[derive(Clone, Copy, Debug, PartialEq, Eq)]
+#[derive(Clone, Copy)]
 pub enum CoreState {
     /// It runs.
     Running,

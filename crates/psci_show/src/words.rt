@@ -120,6 +120,16 @@ fn parts_in(messages: &[Message], event: &Event) -> usize
     }
 }
 
+/// What became of an acknowledgement.
+fn taken_words(taken: Taken) -> &'static str
+    ensures { result.now ≡ words.taken_text taken }
+{
+    match taken {
+        Taken::Used => "used",
+        Taken::Old => "old: nothing waits for it",
+    }
+}
+
 impl fmt::Display for OfText<'_> {
     ghost use Rattle.std.specs.Prelude.{Some};
     ghost use Rattle.psci_show.specs.Words.{of_text};
@@ -146,7 +156,7 @@ impl fmt::Display for AskedText<'_> {
         match self.event {
             Event::Call(core, regs) => {
                 let board = self.board;
-                write!(f, "{}", CallText { board, core, regs })
+                CallText { board, core, regs }.fmt(f)
             }
             Event::Enter(core) => write!(f, "core {core} enters"),
             Event::Wake(core) => write!(f, "a wake-up of core {core}"),
@@ -175,8 +185,8 @@ impl fmt::Display for ReturnedText {
 
     fn fmt<W: fmt::Write>(&self, f: &mut fmt::Formatter<W>) -> fmt::Result {
         match returned_name(self.request, self.code.0) {
-            Some(name) => write!(f, "{name}"),
-            None => write!(f, "{}", self.code.0),
+            Some(name) => f.write_str(name),
+            None => self.code.0.fmt(f),
         }
     }
 }
@@ -190,12 +200,12 @@ impl fmt::Display for ActText {
     fn fmt<W: fmt::Write>(&self, f: &mut fmt::Formatter<W>) -> fmt::Result {
         let request = self.request;
         match self.act {
-            Act::Return(code) => write!(f, "{}", ReturnedText { request, code }),
-            Act::Stop => write!(f, "stops"),
+            Act::Return(code) => ReturnedText { request, code }.fmt(f),
+            Act::Stop => f.write_str("stops"),
             Act::Enter { address, context } => {
                 write!(f, "enters at 0x{address:x} with context 0x{context:x}")
             }
-            Act::Resume => write!(f, "resumes with SUCCESS"),
+            Act::Resume => f.write_str("resumes with SUCCESS"),
         }
     }
 }
@@ -263,10 +273,9 @@ impl fmt::Display for SaidText<'_> {
                 let late = if ack.stale { ", stale" } else { "" };
                 write!(f, "acknowledgement {index}: {applied}{late}")
             }
-            Said::Taken(Taken::Used) => write!(f, "used"),
-            Said::Taken(Taken::Old) => write!(f, "old: nothing waits for it"),
-            Said::Ignored => write!(f, "ignored: it cannot happen now"),
-            Said::Absent => write!(f, "absent: no such number"),
+            Said::Taken(taken) => f.write_str(taken_words(*taken)),
+            Said::Ignored => f.write_str("ignored: it cannot happen now"),
+            Said::Absent => f.write_str("absent: no such number"),
         }
     }
 }

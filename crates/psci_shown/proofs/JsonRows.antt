@@ -4,7 +4,7 @@
 use Rattle.std.proofs.Common.{◌≡◌, ℕ, List, [], ◌∷◌, ◌++◌, None, map, refl, true}
 use Rattle.std.specs.Prelude.{codes}
 use Rattle.std.specs.Fmt.{digits}
-use Rattle.psci_world_spec.specs.psci_fw_spec.psci_link.declared.kind.Kind.TheVariants as kinds
+use Rattle.psci_world_spec.specs.psci_fw_spec.psci_messages.declared.kind.Kind.TheVariants as kinds
 use Rattle.psci_world_spec.specs.declared.event.Event.{Event}
 use Rattle.psci_world_spec.specs.declared.event.Event.TheVariants.{Deliver, Enter, Reset, Take}
 use Rattle.psci_world_spec.specs.declared.event.Event.TheVariants.{Wake}

@@ -1,7 +1,9 @@
 -- Texts that are written piece by piece.
 use Rattle.std.proofs.Common.{◌≡◌, ℕ, List, [], ◌++◌, refl, ap, sym, ◌∙◌, append_assoc, Bool, true}
 use Rattle.std.proofs.Common.{false, Result, Ok, Err, OnOk, if◌then◌else◌}
+use Rattle.std.proofs.Common.{◌+◌, ◌==◌}
 use Rattle.psci_run.specs.Joined.{joined}
+use Rattle.psci_run.proofs.Joins.{joined_after}
 
 -- so many pieces, the last one behind what the ones before it left
 pub wrote2 : (out a b s : List ℕ) → s ≡ out ++ a → s ++ b ≡ out ++ (a ++ b)
@@ -43,6 +45,15 @@ pub joined_all : (between : List ℕ) (text : ℕ → List ℕ) (n m : ℕ) (fir
     → all ≡ first ++ joined between text n → all ≡ first ++ joined between text m
 joined_all between text n m first all e h =
     h ∙ ap (λ (k : ℕ). first ++ joined between text k) e
+
+-- the text of one number more, behind what stands between the texts
+pub joined_then : (between : List ℕ) (text : ℕ → List ℕ) (n : ℕ)
+    (first before after piece last : List ℕ) → before ≡ first ++ joined between text n
+    → piece ≡ (if n == 0 then [] else between) → last ≡ text n
+    → after ≡ before ++ (piece ++ last) → after ≡ first ++ joined between text (n + 1)
+joined_then between text n first before after piece last was stands same is =
+    joined_after between text n first before after piece was stands
+    (is ∙ ap (λ (x : List ℕ). before ++ (piece ++ x)) same)
 
 -- the branch of a test
 pub on_true : {A : Type 0} (t : Bool) (x y : A) → t ≡ true → (if t then x else y) ≡ x

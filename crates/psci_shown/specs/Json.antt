@@ -6,10 +6,10 @@ use Rattle.std.specs.Fmt.{decimal, digits}
 use Rattle.psci_world.specs.psci_board.Board.{BoardValue, cores, cores_below, height, nodes}
 use Rattle.psci_world.specs.psci_board.declared.node.Node.{Node}
 use Rattle.psci_world.specs.psci_board.declared.span.CoreSpan.{CoreSpan}
-use Rattle.psci_world.specs.psci_world_spec.psci_coord.psci_parts.declared.part.Part.{Part}
-use Rattle.psci_world.specs.psci_world_spec.psci_link.Message.{AckValue, MessageValue}
-use Rattle.psci_world.specs.psci_world_spec.psci_link.declared.kind.Kind.{Kind}
-use Rattle.psci_world.specs.psci_world_spec.psci_link.declared.kind.Kind.TheVariants as kinds
+use Rattle.psci_world.specs.psci_world_spec.psci_claims.psci_parts.declared.part.Part.{Part}
+use Rattle.psci_world.specs.psci_world_spec.psci_messages.Message.{AckValue, MessageValue}
+use Rattle.psci_world.specs.psci_world_spec.psci_messages.declared.kind.Kind.{Kind}
+use Rattle.psci_world.specs.psci_world_spec.psci_messages.declared.kind.Kind.TheVariants as kinds
 use Rattle.psci_world.specs.psci_world_spec.declared.event.Event.{Event}
 use Rattle.psci_world.specs.psci_world_spec.declared.event.Event.TheVariants as events
 use Rattle.psci_world.specs.psci_world_spec.declared.place.Place.{Place}

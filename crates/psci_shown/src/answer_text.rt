@@ -1,21 +1,15 @@
 //! The answer to an event, as an answer line has it.
 
-ghost use Rattle.std.specs.Prelude.{Some};
+ghost use Rattle.std.specs.Prelude.{◌≡◌};
+ghost use Rattle.psci_script.specs.Text.{kind_text, taken_text};
+ghost use Rattle.psci_world_spec.specs.psci_messages.StaleText.{stale_text};
 
-use psci_world_spec::{Ack, Act, Kind, Part, Said, Sent, Taken};
+use psci_world_spec::{Act, Kind, Part, Said, Sent, Taken};
 use std::fmt;
 
 /// What a core does next, as an answer line has it.
 #[derive(Clone, Copy)]
 struct ActText<'a>(&'a Act);
-
-/// The word of a kind of message.
-#[derive(Clone, Copy)]
-struct KindText(Kind);
-
-/// A part of a message, after a space: level, depth and generation.
-#[derive(Clone, Copy)]
-struct PartText<'a>(&'a Part);
 
 /// The parts of a message, as an answer line has them after it.
 #[derive(Clone, Copy)]
@@ -25,13 +19,38 @@ struct PartsText<'a>(&'a [Part]);
 #[derive(Clone, Copy)]
 struct SentText<'a>(&'a Sent);
 
-/// What an acknowledgement says, after its number.
-#[derive(Clone, Copy)]
-struct AckText<'a>(&'a Ack);
-
 /// What was said of an event.
 #[derive(Clone, Copy)]
 pub struct AnswerText<'a>(pub &'a Said);
+
+/// The word of a kind of message.
+fn kind_word(kind: Kind) -> &'static str
+    ensures { result.now ≡ kind_text kind }
+{
+    match kind {
+        Kind::Down => "down",
+        Kind::Start => "start",
+        Kind::Off => "off",
+        Kind::Reset => "reset",
+    }
+}
+
+/// What stands behind an acknowledgement.
+fn stale_word(stale: bool) -> &'static str
+    ensures { result.now ≡ stale_text stale }
+{
+    if stale { " stale" } else { "" }
+}
+
+/// What became of an acknowledgement.
+fn taken_word(taken: Taken) -> &'static str
+    ensures { result.now ≡ taken_text taken }
+{
+    match taken {
+        Taken::Used => "used",
+        Taken::Old => "old",
+    }
+}
 
 impl fmt::Display for ActText<'_> {
     ghost use Rattle.std.specs.Prelude.{Some};
@@ -42,42 +61,10 @@ impl fmt::Display for ActText<'_> {
     fn fmt<W: fmt::Write>(&self, f: &mut fmt::Formatter<W>) -> fmt::Result {
         match self.0 {
             Act::Return(code) => write!(f, "return {}", code.0),
-            Act::Stop => write!(f, "stop"),
+            Act::Stop => f.write_str("stop"),
             Act::Enter { address, context } => write!(f, "enter 0x{address:x} 0x{context:x}"),
-            Act::Resume => write!(f, "resume 0"),
+            Act::Resume => f.write_str("resume 0"),
         }
-    }
-}
-
-impl fmt::Display for KindText {
-    ghost use Rattle.std.specs.Prelude.{Some};
-    ghost use Rattle.psci_script.specs.Text.{kind_text};
-
-    ghost output = { λ text. Some (kind_text text.0) };
-
-    fn fmt<W: fmt::Write>(&self, f: &mut fmt::Formatter<W>) -> fmt::Result {
-        match self.0 {
-            Kind::Down => write!(f, "down"),
-            Kind::Start => write!(f, "start"),
-            Kind::Off => write!(f, "off"),
-            Kind::Reset => write!(f, "reset"),
-        }
-    }
-}
-
-impl fmt::Display for PartText<'_> {
-    ghost use Rattle.std.specs.Prelude.{Some};
-    ghost use Rattle.psci_script.specs.Text.{part_text};
-
-    ghost output = { λ text. Some (part_text text.0.now) };
-
-    fn fmt<W: fmt::Write>(&self, f: &mut fmt::Formatter<W>) -> fmt::Result {
-        let Part {
-            level,
-            depth,
-            generation,
-        } = self.0;
-        write!(f, " {level}:{depth}:{generation}")
     }
 }
 
@@ -91,9 +78,14 @@ impl fmt::Display for PartsText<'_> {
         if self.0.is_empty() {
             return Ok(());
         }
-        write!(f, " parts")?;
+        f.write_str(" parts")?;
         for part in self.0 {
-            write!(f, "{}", PartText(part))?;
+            let Part {
+                level,
+                depth,
+                generation,
+            } = part;
+            write!(f, " {level}:{depth}:{generation}")?;
         }
         Ok(())
     }
@@ -107,7 +99,7 @@ impl fmt::Display for SentText<'_> {
 
     fn fmt<W: fmt::Write>(&self, f: &mut fmt::Formatter<W>) -> fmt::Result {
         let message = &self.0.message;
-        let kind = KindText(message.kind);
+        let kind = kind_word(message.kind);
         let core = message.core.number;
         let life = message.life;
         let number = message.number;
@@ -117,23 +109,6 @@ impl fmt::Display for SentText<'_> {
             "#{} {kind} {core} life {life} number {number}{parts}",
             self.0.index
         )
-    }
-}
-
-impl fmt::Display for AckText<'_> {
-    ghost use Rattle.std.specs.Prelude.{Some};
-    ghost use Rattle.psci_script.specs.Text.{ack_text};
-
-    ghost output = { λ text. Some (ack_text text.0.now) };
-
-    fn fmt<W: fmt::Write>(&self, f: &mut fmt::Formatter<W>) -> fmt::Result {
-        let ack: &Ack = self.0;
-        let applied = ack.applied;
-        if ack.stale {
-            write!(f, "applied {applied} stale")
-        } else {
-            write!(f, "applied {applied}")
-        }
     }
 }
 
@@ -151,11 +126,14 @@ impl fmt::Display for AnswerText<'_> {
                 sent: Some(sent),
             } => write!(f, "{} {}", ActText(act), SentText(sent)),
             Said::Kick(start) => write!(f, "started {}", start.number),
-            Said::Acked { index, ack } => write!(f, "ack #{index} {}", AckText(ack)),
-            Said::Taken(Taken::Used) => write!(f, "used"),
-            Said::Taken(Taken::Old) => write!(f, "old"),
-            Said::Ignored => write!(f, "ignored"),
-            Said::Absent => write!(f, "absent"),
+            Said::Acked { index, ack } => {
+                let applied = ack.applied;
+                let stale = stale_word(ack.stale);
+                write!(f, "ack #{index} applied {applied}{stale}")
+            }
+            Said::Taken(taken) => f.write_str(taken_word(*taken)),
+            Said::Ignored => f.write_str("ignored"),
+            Said::Absent => f.write_str("absent"),
         }
     }
 }

@@ -1,12 +1,18 @@
 //! An event as a JSON object.
 
-ghost use Rattle.std.specs.Prelude.{◌≡◌, ◌≤◌, ◌++◌, [], OnOk, length, reverse, string_bytes};
-ghost use Rattle.psci_world.specs.psci_board.Board.{height};
-ghost use Rattle.psci_shown.specs.Json as json;
-ghost use Rattle.psci_shown.specs.Json.{all_depths, cores_members, depths_members, event_object};
-ghost use Rattle.psci_shown.specs.Json.{event_members, level_depths, life_members, message_members};
-ghost use Rattle.psci_shown.specs.Json.{parts_text, words_members};
+ghost use Rattle.std.specs.Prelude.{◌≡◌, ◌≤◌, ◌++◌, [], OnOk, codes, length, reverse};
+ghost use Rattle.std.specs.Prelude.{string_bytes};
+ghost use Rattle.std.specs.Fmt.{decimal};
+ghost use Rattle.psci_world.specs.psci_board.Board.{cores, height};
+ghost use Rattle.psci_world.specs.psci_world_spec.Places.{place};
+ghost use Rattle.psci_world.specs.psci_world_spec.declared.event.Event.TheVariants.{Call};
+ghost use Rattle.psci_show.specs.Columns.{core_state};
+ghost use Rattle.psci_run.specs.Joined.{comma, joined};
 ghost use Rattle.psci_run.specs.Run.{answered};
+ghost use Rattle.psci_shown.specs.Json as json;
+ghost use Rattle.psci_shown.specs.Json.{all_depths, cores_members, depths_members, event_members};
+ghost use Rattle.psci_shown.specs.Json.{event_object, level_depths, life_members};
+ghost use Rattle.psci_shown.specs.Json.{message_members, part_text, parts_text, words_members};
 
 use crate::answer_text::AnswerText;
 use crate::json::{before, kind_word, place_word, state_word, truth};
@@ -17,14 +23,6 @@ use psci_world::{Ack, Core, Event, Kind, Node, Part, Record, Regs, Said, Sent};
 use std::alloc::AllocError;
 use std::fmt;
 
-/// The members of an event.
-#[derive(Clone, Copy)]
-struct EventText<'a>(&'a Event);
-
-/// A part of a message: level, depth and generation.
-#[derive(Clone, Copy)]
-struct PartText<'a>(&'a Part);
-
 /// What a message and its acknowledgement have in common.
 #[derive(Clone, Copy)]
 struct NameText {
@@ -34,55 +32,9 @@ struct NameText {
     number: u32,
 }
 
-/// An acknowledgement that was made, of the message of a number.
-#[derive(Clone, Copy)]
-struct AckText<'a> {
-    index: u64,
-    message: u64,
-    ack: &'a Ack,
-}
-
 /// The life, if there is one.
 #[derive(Clone, Copy)]
 struct LifeText(Option<u32>);
-
-impl fmt::Display for EventText<'_> {
-    ghost use Rattle.std.specs.Prelude.{Some};
-    ghost use Rattle.psci_shown.specs.Json.{event_text};
-
-    ghost output = { λ text. Some (event_text text.0.now) };
-
-    fn fmt<W: fmt::Write>(&self, f: &mut fmt::Formatter<W>) -> fmt::Result {
-        match self.0 {
-            Event::Call(core, Regs { x0, x1, x2, x3 }) => write!(
-                f,
-                "\"kind\": \"call\", \"number\": {core}, \"registers\": \
-                 [\"0x{x0:x}\", \"0x{x1:x}\", \"0x{x2:x}\", \"0x{x3:x}\"]"
-            ),
-            Event::Enter(core) => write!(f, "\"kind\": \"enter\", \"number\": {core}"),
-            Event::Wake(core) => write!(f, "\"kind\": \"wake\", \"number\": {core}"),
-            Event::Reset(core) => write!(f, "\"kind\": \"reset\", \"number\": {core}"),
-            Event::Deliver(number) => write!(f, "\"kind\": \"deliver\", \"number\": {number}"),
-            Event::Take(number) => write!(f, "\"kind\": \"take\", \"number\": {number}"),
-        }
-    }
-}
-
-impl fmt::Display for PartText<'_> {
-    ghost use Rattle.std.specs.Prelude.{Some};
-    ghost use Rattle.psci_shown.specs.Json.{part_text};
-
-    ghost output = { λ text. Some (part_text text.0.now) };
-
-    fn fmt<W: fmt::Write>(&self, f: &mut fmt::Formatter<W>) -> fmt::Result {
-        let Part {
-            level,
-            depth,
-            generation,
-        } = self.0;
-        write!(f, "[{level}, {depth}, {generation}]")
-    }
-}
 
 impl fmt::Display for NameText {
     ghost use Rattle.std.specs.Prelude.{Some};
@@ -102,34 +54,6 @@ impl fmt::Display for NameText {
     }
 }
 
-impl fmt::Display for AckText<'_> {
-    ghost use Rattle.std.specs.Prelude.{Some};
-    ghost use Rattle.psci_shown.specs.Json.{ack_text};
-
-    ghost output = { λ text. Some (ack_text text.index text.message text.ack.now) };
-
-    fn fmt<W: fmt::Write>(&self, f: &mut fmt::Formatter<W>) -> fmt::Result {
-        let AckText {
-            index,
-            message,
-            ack,
-        } = *self;
-        let name = NameText {
-            kind: ack.kind,
-            core: ack.core,
-            life: ack.life,
-            number: ack.number,
-        };
-        let applied = ack.applied;
-        let stale = truth(ack.stale);
-        write!(
-            f,
-            "{{\"index\": {index}, \"message\": {message}, {name}, \"applied\": {applied}, \
-             \"stale\": {stale}}}"
-        )
-    }
-}
-
 impl fmt::Display for LifeText {
     ghost use Rattle.std.specs.Prelude.{Some};
     ghost use Rattle.psci_shown.specs.Json.{life_text};
@@ -144,10 +68,50 @@ impl fmt::Display for LifeText {
     }
 }
 
-/// Writes the words of an event and of its answer.
-fn write_words(out: &mut String, run: &Run, item: &Record) -> Result<(), AllocError>
+/// Writes the members of an event that is no call: what it is, and of which number.
+fn write_kind(out: &mut String, kind: &str, number: u64) -> Result<(), AllocError>
     ensures { OnOk result (string_bytes out.new
-        ≡ string_bytes out.old ++ words_members run.now.board run.now.past item.now) }
+        ≡ string_bytes out.old ++ (codes "\", \"event\": {\"kind\": \"" ++ (kind.now
+        ++ (codes "\", \"number\": " ++ decimal number)))) }
+{
+    write!(
+        out,
+        "\", \"event\": {{\"kind\": \"{kind}\", \"number\": {number}"
+    )
+}
+
+/// Writes the members of a call.
+fn write_call(out: &mut String, core: u64, regs: Regs) -> Result<(), AllocError>
+    ensures { OnOk result (string_bytes out.new ≡ string_bytes out.old
+        ++ (codes "\", \"event\": {" ++ json.event_text (Call core regs))) }
+{
+    let Regs { x0, x1, x2, x3 } = regs;
+    write!(
+        out,
+        "\", \"event\": {{\"kind\": \"call\", \"number\": {core}, \"registers\": \
+         [\"0x{x0:x}\", \"0x{x1:x}\", \"0x{x2:x}\", \"0x{x3:x}\"]"
+    )
+}
+
+/// Writes the members of an event, which what is written next closes.
+fn write_what(out: &mut String, event: &Event) -> Result<(), AllocError>
+    ensures { OnOk result (string_bytes out.new ≡ string_bytes out.old
+        ++ (codes "\", \"event\": {" ++ json.event_text event.now)) }
+{
+    match event {
+        Event::Call(core, regs) => write_call(out, *core, *regs),
+        Event::Enter(core) => write_kind(out, "enter", *core),
+        Event::Wake(core) => write_kind(out, "wake", *core),
+        Event::Reset(core) => write_kind(out, "reset", *core),
+        Event::Deliver(number) => write_kind(out, "deliver", *number),
+        Event::Take(number) => write_kind(out, "take", *number),
+    }
+}
+
+/// Writes the words of an event and of its answer, behind the members of the event.
+fn write_words(out: &mut String, run: &Run, item: &Record) -> Result<(), AllocError>
+    ensures { OnOk result (string_bytes out.new ≡ string_bytes out.old
+        ++ (codes "}" ++ words_members run.now.board run.now.past item.now)) }
 {
     let board = run.world().board();
     let messages = run.world().messages();
@@ -165,8 +129,40 @@ fn write_words(out: &mut String, run: &Run, item: &Record) -> Result<(), AllocEr
     let answer = AnswerText(&item.said);
     write!(
         out,
-        ", \"asked\": \"{asked}\", \"answer\": \"{answer}\", \"said\": \"{said}\""
+        "}}, \"asked\": \"{asked}\", \"answer\": \"{answer}\", \"said\": \"{said}\""
     )
+}
+
+/// Writes the state of each core.
+fn write_states(out: &mut String, run: &Run) -> Result<(), AllocError>
+    ensures { OnOk result (string_bytes out.new
+        ≡ string_bytes out.old ++ (codes ", \"cores\": ["
+        ++ (joined comma (λ c. codes "\"" ++ (json.state_word (core_state run.now.board run.now.past c)
+        ++ codes "\"")) (cores run.now.board) ++ codes "]"))) }
+{
+    write!(out, ", \"cores\": [")?;
+    for number in 0..run.world().board().cores() {
+        let between = before(number as usize);
+        let state = state_word(run.state(Core { number }));
+        write!(out, "{between}\"{state}\"")?;
+    }
+    write!(out, "]")
+}
+
+/// Writes the place of each core.
+fn write_places(out: &mut String, run: &Run) -> Result<(), AllocError>
+    ensures { OnOk result (string_bytes out.new
+        ≡ string_bytes out.old ++ (codes ", \"places\": ["
+        ++ (joined comma (λ c. codes "\"" ++ (json.place_word (place run.now.board run.now.past c)
+        ++ codes "\"")) (cores run.now.board) ++ codes "]"))) }
+{
+    write!(out, ", \"places\": [")?;
+    for number in 0..run.world().board().cores() {
+        let between = before(number as usize);
+        let place = place_word(run.world().place(Core { number }));
+        write!(out, "{between}\"{place}\"")?;
+    }
+    write!(out, "]")
 }
 
 /// Writes the state and the place of each core.
@@ -174,19 +170,8 @@ fn write_cores(out: &mut String, run: &Run) -> Result<(), AllocError>
     ensures { OnOk result (string_bytes out.new
         ≡ string_bytes out.old ++ cores_members run.now.board run.now.past) }
 {
-    write!(out, ", \"cores\": [")?;
-    'states: for number in 0..run.world().board().cores() {
-        let between = before(number as usize);
-        let state = state_word(run.state(Core { number }));
-        write!(out, "{between}\"{state}\"")?;
-    }
-    write!(out, "], \"places\": [")?;
-    'places: for number in 0..run.world().board().cores() {
-        let between = before(number as usize);
-        let place = place_word(run.world().place(Core { number }));
-        write!(out, "{between}\"{place}\"")?;
-    }
-    write!(out, "]")
+    write_states(out, run)?;
+    write_places(out, run)
 }
 
 /// A depth, or the granted one.
@@ -221,12 +206,12 @@ fn write_level(
     write!(out, "]")
 }
 
-/// Writes the depths of all levels, or the granted ones.
-fn write_all(out: &mut String, run: &Run, granted: bool) -> Result<(), AllocError>
-    ensures { OnOk result (string_bytes out.new
-        ≡ string_bytes out.old ++ all_depths granted run.now.board run.now.past) }
+/// Writes the depths of all levels, or the granted ones, behind this text.
+fn write_all(out: &mut String, before_all: &str, run: &Run, granted: bool) -> Result<(), AllocError>
+    ensures { OnOk result (string_bytes out.new ≡ string_bytes out.old
+        ++ (before_all.now ++ all_depths granted run.now.board run.now.past)) }
 {
-    write!(out, "[")?;
+    write!(out, "{before_all}[")?;
     for level in 0..run.world().board().height() + 1 {
         write_level(out, before(level as usize), run, level, granted)?;
     }
@@ -238,14 +223,25 @@ fn write_depths(out: &mut String, run: &Run) -> Result<(), AllocError>
     ensures { OnOk result (string_bytes out.new
         ≡ string_bytes out.old ++ depths_members run.now.board run.now.past) }
 {
-    write!(out, ", \"depths\": ")?;
-    write_all(out, run, false)?;
-    write!(out, ", \"granted\": ")?;
+    write_all(out, ", \"depths\": ", run, false)?;
     if is_told(run.world()) {
-        write_all(out, run, true)
+        write_all(out, ", \"granted\": ", run, true)
     } else {
-        write!(out, "null")
+        write!(out, ", \"granted\": null")
     }
+}
+
+/// Writes a part of a message, behind this text: level, depth and generation.
+fn write_part(out: &mut String, between: &str, part: &Part) -> Result<(), AllocError>
+    ensures { OnOk result (string_bytes out.new
+        ≡ string_bytes out.old ++ (between.now ++ part_text part.now)) }
+{
+    let Part {
+        level,
+        depth,
+        generation,
+    } = part;
+    write!(out, "{between}[{level}, {depth}, {generation}]")
 }
 
 /// Writes the parts of a message.
@@ -255,9 +251,9 @@ fn write_parts(out: &mut String, parts: &[Part]) -> Result<(), AllocError>
     let Some((first, rest)) = parts.split_first() else {
         return Ok(());
     };
-    write!(out, "{}", PartText(first))?;
+    write_part(out, "", first)?;
     for part in rest {
-        write!(out, ", {}", PartText(part))?;
+        write_part(out, ", ", part)?;
     }
     Ok(())
 }
@@ -265,7 +261,7 @@ fn write_parts(out: &mut String, parts: &[Part]) -> Result<(), AllocError>
 /// Writes a message that was sent.
 fn write_sent(out: &mut String, sent: &Sent) -> Result<(), AllocError>
     ensures { OnOk result (string_bytes out.new
-        ≡ string_bytes out.old ++ json.sent_text sent.now) }
+        ≡ string_bytes out.old ++ (codes ", \"sent\": " ++ json.sent_text sent.now)) }
 {
     let message = &sent.message;
     let index = sent.index;
@@ -275,22 +271,46 @@ fn write_sent(out: &mut String, sent: &Sent) -> Result<(), AllocError>
         life: message.life,
         number: message.number,
     };
-    write!(out, "{{\"index\": {index}, {name}, \"parts\": [")?;
+    write!(
+        out,
+        ", \"sent\": {{\"index\": {index}, {name}, \"parts\": ["
+    )?;
     write_parts(out, message.parts.as_slice())?;
     write!(out, "]}}")
 }
 
 /// Writes the message that was sent, if one was.
 fn write_sent_in(out: &mut String, said: &Said) -> Result<(), AllocError>
-    ensures { OnOk result (string_bytes out.new ≡ string_bytes out.old ++ json.sent_in said.now) }
+    ensures { OnOk result (string_bytes out.new
+        ≡ string_bytes out.old ++ (codes ", \"sent\": " ++ json.sent_in said.now)) }
 {
     match said {
         Said::Fw {
             sent: Some(sent),
             ..
         } => write_sent(out, sent),
-        _ => write!(out, "null"),
+        _ => write!(out, ", \"sent\": null"),
     }
+}
+
+/// Writes an acknowledgement that was made, of the message of this number.
+fn write_made(out: &mut String, index: u64, message: u64, ack: &Ack) -> Result<(), AllocError>
+    ensures { OnOk result (string_bytes out.new
+        ≡ string_bytes out.old ++ json.ack_text index message ack.now) }
+{
+    let name = NameText {
+        kind: ack.kind,
+        core: ack.core,
+        life: ack.life,
+        number: ack.number,
+    };
+    let applied = ack.applied;
+    let stale = truth(ack.stale);
+    write!(
+        out,
+        "{{\"index\": {index}, \"message\": {message}, {name}, \"applied\": {applied}, \
+         \"stale\": {stale}}}"
+    )
 }
 
 /// Writes the acknowledgement that was made, if one was.
@@ -300,12 +320,7 @@ fn write_made_in(out: &mut String, item: &Record) -> Result<(), AllocError>
 {
     match (&item.event, &item.said) {
         (Event::Deliver(message), Said::Acked { index, ack }) => {
-            let made = AckText {
-                index: *index,
-                message: *message,
-                ack,
-            };
-            write!(out, "{made}")
+            write_made(out, *index, *message, ack)
         }
         _ => write!(out, "null"),
     }
@@ -330,7 +345,6 @@ fn write_messages(out: &mut String, run: &Run, item: &Record) -> Result<(), Allo
     ensures { OnOk result (string_bytes out.new ≡ string_bytes out.old
         ++ message_members (reverse (answered run.now.past)) item.now) }
 {
-    write!(out, ", \"sent\": ")?;
     write_sent_in(out, &item.said)?;
     write!(out, ", \"acknowledged\": ")?;
     write_made_in(out, item)?;
@@ -362,7 +376,7 @@ fn write_members(text: &mut String, run: &Run, item: &Record) -> Result<(), Allo
     ensures { OnOk result (string_bytes text.new
         ≡ string_bytes text.old ++ event_members run.now.board run.now.past item.now) }
 {
-    write!(text, "\", \"event\": {{{}}}", EventText(&item.event))?;
+    write_what(text, &item.event)?;
     write_words(text, run, item)?;
     write_cores(text, run)?;
     write_depths(text, run)?;

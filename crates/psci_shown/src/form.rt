@@ -1,7 +1,7 @@
 //! How a run is shown.
 
 /// Lines of a width.
-#[derive(Clone, Copy, Debug, PartialEq, Eq)]
+#[derive(Clone, Copy)]
 pub struct Layout {
     /// How many columns a line has; fewer than 40 are taken for 40.
     pub width: u16,
@@ -12,7 +12,7 @@ pub struct Layout {
 }
 
 /// How a run is shown.
-#[derive(Clone, Copy, Debug, PartialEq, Eq)]
+#[derive(Clone, Copy)]
 pub enum Form {
     /// To people: lines of words and columns.
     Lines(Layout),

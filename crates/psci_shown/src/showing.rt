@@ -106,9 +106,8 @@ fn show_board(texts: &mut Texts, form: Form, line: &[u8]) -> Result<Run, ReplayF
     ensures err { IfErr result (λ fault. BoardRead (Err fault) line.now) }
 {
     let board = read_board(texts.alloc, line)?;
-    let run = Run::new(texts.alloc, &board)?;
     texts.board(form, board_text(line), &board)?;
-    Ok(run)
+    Ok(Run::new(texts.alloc, &board)?)
 }
 
 /// Makes the event happen that a line says, if it says one, and shows it.
@@ -188,9 +187,16 @@ fn begin<S: Source, K: Sink>(
     };
     let line = &progress.block.unread()[..extent.line];
     let run = show_board(texts, form, line)?;
-    progress.answers.put(&texts.out)?;
-    progress.block.skip(extent.taken);
-    Ok(run)
+    match progress.answers.put(&texts.out) {
+        Ok(()) => {
+            progress.block.skip(extent.taken);
+            Ok(run)
+        }
+        Err(_) => {
+            drop(run);
+            Err(ReplayFault::Memory)
+        }
+    }
 }
 
 /// Takes and shows a line, after so many others.
@@ -224,6 +230,33 @@ fn take_line<S: Source, K: Sink>(
     Ok(())
 }
 
+/// Shows each line behind the board line, by its run; the last texts may still wait to be written.
+fn take_lines<S: Source, K: Sink>(
+    progress: &mut Progress<'_, '_, S, K>,
+    texts: &mut Texts,
+    form: Form,
+    run: &mut Run,
+) -> Result<Replayed, ReplayFault>
+    ensures devices { SameDevices progress.old progress.new }
+    ensures sound { OnOk result (StaySound S.failed K.failed progress.old progress.new) }
+    ensures runs { (first before : Option (List ℕ))
+        → Goes form (shown_of_rest form run.old.board run.old.past 1) first before
+        (progress_of S.left K.taken progress.old)
+        → Runs form result first before (progress_of S.left K.taken progress.new) }
+    ensures given_up { IfErr result (OnlyGivenUp S.failed S.interruptions K.failed
+        K.interruptions progress.new.source.now progress.new.sink.now) }
+{
+    let mut lines: u64 = 1;
+    'lines: while let Some(extent) = progress.next_line(lines + 1)? {
+        take_line(progress, texts, form, run, extent, lines)?;
+        lines += 1;
+    }
+    Ok(Replayed {
+        lines,
+        events: events(run),
+    })
+}
+
 /// Shows each line of the script; the last texts may still wait to be written.
 fn run_lines<S: Source, K: Sink>(
     progress: &mut Progress<'_, '_, S, K>,
@@ -240,15 +273,9 @@ fn run_lines<S: Source, K: Sink>(
 {
     start(progress, texts, form)?;
     let mut run = begin(progress, texts, form)?;
-    let mut lines: u64 = 1;
-    'lines: while let Some(extent) = progress.next_line(lines + 1)? {
-        take_line(progress, texts, form, &mut run, extent, lines)?;
-        lines += 1;
-    }
-    Ok(Replayed {
-        lines,
-        events: events(&run),
-    })
+    let replayed = take_lines(progress, texts, form, &mut run);
+    drop(run);
+    replayed
 }
 
 /// Whether a write failed.

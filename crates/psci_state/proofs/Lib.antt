@@ -1,5 +1,6 @@
 mod AskRows
 pub mod Back
+mod CoreRows
 mod ExtendedRows
 mod OriginalRows
 pub mod Words

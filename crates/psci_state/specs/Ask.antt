@@ -1,5 +1,5 @@
 -- Asks: a depth for each level from 0 to 3.
-use Rattle.std.specs.Prelude.{◌≡◌, ℕ, ◌+◌, ◌≤◌, Bool, ◌&&◌, ◌==◌, List, [], ◌∷◌}
+use Rattle.std.specs.Prelude.{◌≡◌, ℕ, ◌+◌, ◌≤◌, min, Bool, ◌&&◌, ◌==◌, List, [], ◌∷◌}
 use Rattle.std.specs.Prelude.{length, slice_index, map, nat_le, nat_lt, if◌then◌else◌}
 
 -- the levels of an ask: the core's, 0, and three above it
@@ -42,3 +42,8 @@ highest_of ask =
 -- the core itself is asked to power down
 abbrev pub is_deep : List ℕ → Bool
 is_deep ask = slice_index ask 0 == power_down
+
+-- the least of these depths, of 0 to 3
+abbrev pub least : List ℕ → ℕ
+least [] = 3
+least (d ∷ ds) = min d (least ds)

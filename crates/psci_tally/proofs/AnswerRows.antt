@@ -4,7 +4,7 @@ use Rattle.std.proofs.Common.{◌≡◌, true, false, List, [], ◌∷◌, Bool,
 use Rattle.std.specs.Prelude.{negsuc, pos}
 use Rattle.std.specs.List.{range_with_len}
 use Rattle.psci_world_spec.specs.psci_fw_spec.declared.outcome.Act.TheVariants as acts
-use Rattle.psci_world_spec.specs.psci_link.declared.kind.Kind.TheVariants as kinds
+use Rattle.psci_world_spec.specs.psci_messages.declared.kind.Kind.TheVariants as kinds
 use Rattle.psci_world_spec.proofs.Scripts as scripts
 use Rattle.psci_world_spec.specs.declared.event.Event.TheVariants as events
 use Rattle.psci_world_spec.specs.declared.said.Said.TheVariants as sayings

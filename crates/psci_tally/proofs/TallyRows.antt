@@ -4,8 +4,8 @@ use Rattle.std.specs.Prelude.{count_by, negsuc}
 use Rattle.psci_world_spec.specs.psci_abi.Codes.{denied}
 use Rattle.psci_world_spec.specs.psci_abi.declared.registers.Regs.{Regs}
 use Rattle.psci_world_spec.specs.psci_fw_spec.declared.outcome.Act.TheVariants as acts
-use Rattle.psci_world_spec.specs.psci_link.declared.kind.Kind.TheVariants as kinds
-use Rattle.psci_world_spec.specs.psci_link.declared.taken.Taken.TheVariants as taken
+use Rattle.psci_world_spec.specs.psci_messages.declared.kind.Kind.TheVariants as kinds
+use Rattle.psci_world_spec.specs.psci_messages.declared.taken.Taken.TheVariants as taken
 use Rattle.psci_world_spec.proofs.Scripts as scripts
 use Rattle.psci_world_spec.specs.declared.event.Event.TheVariants as events
 use Rattle.psci_world_spec.specs.declared.said.Said.TheVariants as sayings

@@ -1,7 +1,7 @@
 -- How tallies are spelled, and the lines of counts.
 use Rattle.std.specs.Prelude.{ℕ, List, [], ◌∷◌, ◌++◌, codes, count_by, flat_map}
 use Rattle.std.specs.Fmt.{decimal, signed_decimal}
-use Rattle.psci_world_spec.specs.psci_link.StaleText.{stale_text}
+use Rattle.psci_world_spec.specs.psci_messages.StaleText.{stale_text}
 use Rattle.psci_world_spec.specs.declared.said.Record.{Record}
 use Rattle.psci_tally.specs.declared.asked.Asked.{Asked}
 use Rattle.psci_tally.specs.declared.asked.Asked.TheVariants.{Version, CpuSuspend, CpuOff, CpuOn}

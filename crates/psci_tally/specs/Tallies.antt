@@ -6,8 +6,8 @@ use Rattle.psci_world_spec.specs.psci_abi.declared.request.Request.{Request}
 use Rattle.psci_world_spec.specs.psci_abi.declared.request.Request.TheVariants as requests
 use Rattle.psci_world_spec.specs.psci_fw_spec.declared.outcome.Act.{Act}
 use Rattle.psci_world_spec.specs.psci_fw_spec.declared.outcome.Act.TheVariants as acts
-use Rattle.psci_world_spec.specs.psci_link.declared.taken.Taken.{Taken}
-use Rattle.psci_world_spec.specs.psci_link.declared.taken.Taken.TheVariants as taken
+use Rattle.psci_world_spec.specs.psci_messages.declared.taken.Taken.{Taken}
+use Rattle.psci_world_spec.specs.psci_messages.declared.taken.Taken.TheVariants as taken
 use Rattle.psci_world_spec.specs.declared.event.Event.{Event}
 use Rattle.psci_world_spec.specs.declared.event.Event.TheVariants as events
 use Rattle.psci_world_spec.specs.declared.said.Record.{Record}

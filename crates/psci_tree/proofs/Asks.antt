@@ -5,8 +5,8 @@ use Rattle.std.proofs.lemmas.Bool.{lt-leb, le-leb, leb-true}
 use Rattle.psci_state.specs.Ask.{IsAsk}
 use Rattle.psci_board.specs.declared.node.Node.{Node}
 use Rattle.psci_board.specs.Board.{below_in}
-use Rattle.psci_tree.specs.declared.state.Activity.{Activity}
-use Rattle.psci_tree.specs.declared.state.Activity.TheVariants.{Active, Suspended, Off}
+use Rattle.psci_state.specs.declared.cores.Activity.{Activity}
+use Rattle.psci_state.specs.declared.cores.Activity.TheVariants.{Active, Suspended, Off}
 use Rattle.psci_tree.specs.Recount.{TreeValue, IsDomainTree, IsActivity, asks, ask_at, state_at}
 use Rattle.psci_tree.specs.Recount.{is_active, is_active_at, low}
 use Rattle.psci_tree.proofs.Bounds.{low_each, low_greatest}

@@ -12,7 +12,7 @@ use Rattle.psci_tree.specs.Recount.{least, asks}
 use Rattle.psci_tree.specs.Kept.{low_in}
 use Rattle.psci_tree.specs.declared.kept.Kept.{Kept}
 use Rattle.psci_tree.specs.Domains.{leaves, cores_from, cores_step, cores_in, branches, child_counts}
-use Rattle.psci_tree.specs.declared.state.CoreState.{CoreState}
+use Rattle.psci_state.specs.declared.cores.CoreState.{CoreState}
 use Rattle.psci_tree.specs.declared.domain.Domain.{Domain}
 use Rattle.psci_tree.specs.declared.domain.Domain.TheOpen.{Domain-F}
 use Rattle.psci_tree.specs.declared.domain.Domain.TheViews.{out-Domain, roll-Domain}

@@ -7,7 +7,7 @@ use Rattle.std.proofs.lemmas.List.{length_push, map-append, replicate_more, take
 use Rattle.std.proofs.lemmas.List.Concat.{flat_map-append, flat_map_single}
 use Rattle.std.proofs.lemmas.List.Sums.{sum_by_push}
 use Rattle.psci_board.specs.Board.{IsTree, size_below, is_width}
-use Rattle.psci_tree.specs.declared.state.CoreState.{CoreState}
+use Rattle.psci_state.specs.declared.cores.CoreState.{CoreState}
 use Rattle.psci_tree.specs.Domains.{leaves, cores_in, branches, child_count, child_counts}
 use Rattle.psci_tree.specs.Domains.{HasShape, IsWhole}
 use Rattle.psci_tree.specs.declared.domain.Domain.{Domain}

@@ -4,7 +4,7 @@ use Rattle.std.proofs.Common.{◌≡◌, ℕ, zero, suc, ◌+◌, ◌-◌, ◌<�
 use Rattle.std.proofs.Common.{refl, ap}
 use Rattle.psci_board.specs.declared.node.Node.{Node}
 use Rattle.psci_board.specs.Board.{place_above}
-use Rattle.psci_tree.specs.declared.state.Activity.TheVariants.{Suspended}
+use Rattle.psci_state.specs.declared.cores.Activity.TheVariants.{Suspended}
 use Rattle.psci_tree.specs.Recount.{TreeValue, IsDomainTree, granted_at, never_started}
 use Rattle.psci_tree.specs.Changes.{MayGrant}
 use Rattle.psci_tree.proofs.UnevenRows.{uneven, node}

@@ -5,8 +5,8 @@ use Rattle.std.proofs.Math.ListN.{set}
 use Rattle.std.proofs.lemmas.Bool.{cases_eq}
 use Rattle.std.proofs.lemmas.List.{get_or-set_same, get_or-set_other, get_or_default, length-set}
 use Rattle.psci_board.specs.Board.{size_below}
-use Rattle.psci_tree.specs.declared.state.Change.{Change}
-use Rattle.psci_tree.specs.declared.state.CoreState.{CoreState}
+use Rattle.psci_state.specs.declared.cores.Change.{Change}
+use Rattle.psci_state.specs.declared.cores.CoreState.{CoreState}
 use Rattle.psci_tree.specs.declared.domain.Domain.{Domain}
 use Rattle.psci_tree.specs.declared.way.Way.{Way}
 use Rattle.psci_tree.specs.Changes.{core_changed, with_core_state}

@@ -10,7 +10,7 @@ use Rattle.std.proofs.lemmas.List.Sums.{sum_by-append, count_by-le-length}
 use Rattle.psci_tree.specs.Recount.{is_active, is_off}
 use Rattle.psci_tree.specs.Domains.{leaves, cores_in, branches, domains_down}
 use Rattle.psci_tree.specs.Kept.{Keeps, IsRecount, AreKept, IsKept, recount, kept_together, low_in}
-use Rattle.psci_tree.specs.declared.state.CoreState.{CoreState}
+use Rattle.psci_state.specs.declared.cores.CoreState.{CoreState}
 use Rattle.psci_tree.specs.declared.kept.Kept.{Kept}
 use Rattle.psci_tree.specs.declared.domain.Domain.{Domain, out-Domain}
 use Rattle.psci_tree.specs.declared.domain.Domain.TheOpen.{Domain-F}

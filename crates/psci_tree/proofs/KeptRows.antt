@@ -3,8 +3,8 @@
 use Rattle.std.proofs.Common.{◌≡◌, ℕ, List, [], ◌∷◌, map, refl}
 use Rattle.psci_board.specs.Board.{index_in, place_above}
 use Rattle.std.specs.Prelude.{Some, None, slice_index_or}
-use Rattle.psci_tree.specs.declared.state.CoreState.{CoreState}
-use Rattle.psci_tree.specs.declared.state.Activity.TheVariants.{Active, Suspended, Off}
+use Rattle.psci_state.specs.declared.cores.CoreState.{CoreState}
+use Rattle.psci_state.specs.declared.cores.Activity.TheVariants.{Active, Suspended, Off}
 use Rattle.psci_tree.specs.Recount.{never_started}
 use Rattle.psci_tree.specs.Kept.{recount, kept_activated, kept_together}
 use Rattle.psci_tree.specs.Changes.{core_changed}

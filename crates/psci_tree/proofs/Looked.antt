@@ -6,7 +6,7 @@ use Rattle.std.proofs.lemmas.Bool.Decides.{nat_tests}
 use Rattle.std.proofs.lemmas.List.{get_or-set_same, get_or-set_other, length-replicate}
 use Rattle.psci_board.specs.declared.node.Node.{Node}
 use Rattle.psci_board.specs.Board.{size_below, place_above, HasNodeIn}
-use Rattle.psci_tree.specs.declared.state.Activity.{Activity}
+use Rattle.psci_state.specs.declared.cores.Activity.{Activity}
 use Rattle.psci_tree.specs.Recount.{TreeValue, state_at, granted_at, never_started, level_sizes}
 use Rattle.psci_tree.specs.Recount.{IsDomainTree, confirmed_at, is_confirmed_at}
 use Rattle.psci_tree.specs.Changes.{with_core_state, with_path_cleared, all_off, still_confirmed}

@@ -7,7 +7,7 @@ use Rattle.std.proofs.lemmas.List.Folds.{sum_by-replicate}
 use Rattle.psci_tree.specs.Recount.{never_started, is_active, is_off}
 use Rattle.psci_tree.specs.Domains.{leaves, cores_in, branches, child_counts}
 use Rattle.psci_tree.specs.Kept.{AreKept, IsKept, Keeps, low_in, recount}
-use Rattle.psci_tree.specs.declared.state.CoreState.{CoreState}
+use Rattle.psci_state.specs.declared.cores.CoreState.{CoreState}
 use Rattle.psci_tree.specs.declared.kept.Kept.{Kept}
 use Rattle.psci_tree.specs.declared.domain.Domain.{Domain}
 use Rattle.psci_tree.specs.declared.domain.Domain.TheOpen.{Domain-F}

@@ -1,7 +1,7 @@
 -- The definitions on a board whose values are known: two clusters of two cores.
 use Rattle.std.proofs.Common.{◌≡◌, ℕ, List, [], ◌∷◌, map, refl}
 use Rattle.psci_board.specs.declared.node.Node.{Node}
-use Rattle.psci_tree.specs.declared.state.Activity.TheVariants.{Suspended, Off}
+use Rattle.psci_state.specs.declared.cores.Activity.TheVariants.{Suspended, Off}
 use Rattle.psci_tree.specs.Recount.{TreeValue, state_at, ask_at, known_at, low, known, active, off}
 use Rattle.psci_tree.specs.Changes.{suspended, turned_off, made_pending, started, start_of_life}
 

@@ -17,7 +17,7 @@ use Rattle.psci_board.specs.Laws.{SpanLaws}
 use Rattle.psci_tree.specs.Recount.{TreeValue, state_at, never_started}
 use Rattle.psci_tree.specs.Domains.{leaves, cores_in, branches, child_count}
 use Rattle.psci_tree.specs.Domains.{domains_down, child_counts, HasShape, IsWhole}
-use Rattle.psci_tree.specs.declared.state.CoreState.{CoreState}
+use Rattle.psci_state.specs.declared.cores.CoreState.{CoreState}
 use Rattle.psci_tree.specs.declared.domain.Domain.{Domain}
 use Rattle.psci_tree.proofs.Below.{cores_of_domain, cores_of_core, cores_drop, length_take}
 use Rattle.psci_tree.proofs.Places.{sum-cons, sum_take_le}

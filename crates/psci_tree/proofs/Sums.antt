@@ -8,8 +8,8 @@ use Rattle.std.proofs.lemmas.List.Sums.{sum_by-cons}
 use Rattle.psci_board.specs.declared.node.Node.{Node}
 use Rattle.psci_board.specs.Board.{size_below, place_above, below_in, span}
 use Rattle.psci_board.specs.Laws.{SpanLaws}
-use Rattle.psci_tree.specs.declared.state.CoreState.{CoreState}
-use Rattle.psci_tree.specs.declared.state.Activity.TheVariants.{Active}
+use Rattle.psci_state.specs.declared.cores.CoreState.{CoreState}
+use Rattle.psci_state.specs.declared.cores.Activity.TheVariants.{Active}
 use Rattle.psci_tree.specs.Recount.{TreeValue, IsDomainTree, known, known_at, state_at}
 use Rattle.psci_tree.specs.Changes.{started, with_core_state, with_path_cleared}
 use Rattle.psci_tree.proofs.Looked.{core_with}

@@ -2,7 +2,7 @@
 -- the first two below one domain of level 2, the last below another.
 use Rattle.std.proofs.Common.{◌≡◌, ℕ, true, false, List, [], ◌∷◌, map, refl}
 use Rattle.psci_board.specs.declared.node.Node.{Node}
-use Rattle.psci_tree.specs.declared.state.Activity.TheVariants.{Active, Off}
+use Rattle.psci_state.specs.declared.cores.Activity.TheVariants.{Active, Off}
 use Rattle.psci_tree.specs.Recount.{TreeValue, state_at, ask_at, known_at, is_active_at, is_off_at}
 use Rattle.psci_tree.specs.Recount.{low, known, active, off, granted_at, level_sizes}
 use Rattle.psci_tree.specs.Recount.{is_confirmed_at}

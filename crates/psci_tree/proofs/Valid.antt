@@ -10,7 +10,7 @@ use Rattle.psci_tree.specs.Recount.{TreeValue, IsActivity, IsDomainTree, never_s
 use Rattle.psci_tree.specs.Recount.{granted_at, level_sizes}
 use Rattle.psci_tree.specs.Changes.{with_path_cleared, with_grant, rows_with_depth, all_off}
 use Rattle.psci_tree.specs.Changes.{MayGrant, still_confirmed, with_confirmed}
-use Rattle.psci_tree.specs.declared.state.CoreState.{CoreState}
+use Rattle.psci_state.specs.declared.cores.CoreState.{CoreState}
 use Rattle.psci_tree.proofs.Granted.{zero_at, zero_lengths, same_up, place_lt, size_of_level}
 use Rattle.psci_tree.proofs.Granted.{row_lengths, grant_at, rows_at}
 

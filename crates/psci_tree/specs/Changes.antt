@@ -1,21 +1,14 @@
 -- What a call changes in a tree of power domains.
 use Rattle.std.specs.Prelude.{◌≡◌, ℕ, ◌+◌, ◌-◌, ◌<◌, ◌≤◌, List, [], ◌∷◌, length}
-use Rattle.std.specs.Prelude.{map, replicate, slice_set, slice_index_or, unwrap_or, ◌==◌, if◌then◌else◌}
+use Rattle.std.specs.Prelude.{map, replicate, slice_set, slice_index_or, ◌==◌, if◌then◌else◌}
 use Rattle.psci_board.specs.declared.node.Node.{Node}
 use Rattle.psci_board.specs.Board.{size_below, group_of, place_above}
-use Rattle.psci_tree.specs.declared.state.CoreState.{CoreState}
-use Rattle.psci_tree.specs.declared.state.Change.{Change}
-use Rattle.psci_tree.specs.declared.state.Activity.{Activity}
-use Rattle.psci_tree.specs.declared.state.Activity.TheVariants.{Active, Suspended, Off}
+use Rattle.psci_state.specs.declared.cores.CoreState.{CoreState}
+use Rattle.psci_state.specs.declared.cores.Activity.{Activity}
+use Rattle.psci_state.specs.declared.cores.Activity.TheVariants.{Active, Suspended, Off}
+pub use Rattle.psci_state.specs.Cores.{core_changed}
 use Rattle.psci_tree.specs.Recount.{TreeValue, never_started, known_at, granted_at, level_sizes}
 use Rattle.psci_tree.specs.Recount.{confirmed_at}
-
--- what becomes of a core: another activity, and the number of its start, if it was started
-abbrev pub core_changed : Change → CoreState → CoreState
-core_changed change core = record {
-  activity = change.activity;
-  known = unwrap_or change.started core.known;
-}
 
 -- another state of one core
 abbrev pub with_core_state : TreeValue → ℕ → Activity → ℕ → TreeValue

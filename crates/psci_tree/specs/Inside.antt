@@ -1,6 +1,6 @@
 -- How the domains in memory and the value of a tree belong together.
 use Rattle.std.specs.Prelude.{◌≡◌, List}
-use Rattle.psci_tree.specs.declared.state.CoreState.{CoreState}
+use Rattle.psci_state.specs.declared.cores.CoreState.{CoreState}
 use Rattle.psci_tree.specs.declared.domain.Domain.{Domain}
 use Rattle.psci_tree.specs.declared.way.Way.{Way}
 use Rattle.psci_tree.specs.Domains.{IsWhole}

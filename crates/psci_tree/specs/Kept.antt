@@ -2,7 +2,7 @@
 use Rattle.std.specs.Prelude.{◌≡◌, ℕ, ◌+◌, ◌-◌, ◌*◌, ◌^◌, ◌≤◌, min, List, [], ◌∷◌, length, map}
 use Rattle.std.specs.Prelude.{slice_index}
 use Rattle.std.specs.List.{All, sum_by, count_by, flat_map}
-use Rattle.psci_tree.specs.declared.state.CoreState.{CoreState}
+use Rattle.psci_state.specs.declared.cores.CoreState.{CoreState}
 use Rattle.psci_tree.specs.declared.kept.Kept.{Kept}
 use Rattle.psci_tree.specs.declared.domain.Domain.{Domain, out-Domain}
 use Rattle.psci_tree.specs.Recount.{asks, is_active, is_off, least}

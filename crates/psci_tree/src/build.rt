@@ -11,8 +11,8 @@ ghost use Rattle.psci_tree.specs.Kept.{AreKept, IsKept};
 
 use crate::domain::{Domain, kept_of};
 use crate::kept::Kept;
-use crate::state::NEVER_STARTED;
 use psci_board::{Board, Memory, Node};
+use psci_state::NEVER_STARTED;
 use std::alloc::Global;
 use std::mem::replace;
 

@@ -6,8 +6,8 @@ ghost use Rattle.psci_board.specs.Board.{HasNode, IsTree, height, place_above, s
 ghost use Rattle.psci_tree.specs.declared.standing.Standing.{Standing};
 ghost use Rattle.psci_tree.specs.Standing.{kept_standing};
 ghost use Rattle.psci_tree.specs.declared.domain.Domain.{Domain};
-ghost use Rattle.psci_tree.specs.declared.state.CoreState.{CoreState};
-ghost use Rattle.psci_tree.specs.declared.state.Activity.TheVariants.{Active};
+ghost use Rattle.psci_state.specs.declared.cores.CoreState.{CoreState};
+ghost use Rattle.psci_state.specs.declared.cores.Activity.TheVariants.{Active};
 ghost use Rattle.psci_tree.specs.Recount.{never_started};
 ghost use Rattle.psci_tree.specs.Domains.{HasShape, IsWhole, child_counts, leaves};
 ghost use Rattle.psci_tree.specs.Domains.{domains_down};
@@ -17,9 +17,9 @@ ghost use Rattle.psci_tree.specs.Way.{IsWayOf};
 use crate::domain::Domain;
 use crate::kept::Kept;
 use crate::standing::Standing;
-use crate::state::CoreState;
 use crate::way::Way;
 use psci_board::{Board, Core, MOST_ON_PATH, Node};
+use psci_state::CoreState;
 
 /// The domain of a node of the board, one step down for each level.
 pub fn domain_at<'a>(root: &'a Domain, board: &Board, node: Node) -> &'a Domain

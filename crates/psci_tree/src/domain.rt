@@ -4,8 +4,8 @@ ghost use Rattle.std.specs.Prelude.{◌≡◌, ℕ, ◌^◌, ◌<◌, ◌≤◌,
 ghost use Rattle.std.specs.Prelude.{slice_index_or};
 ghost use Rattle.std.specs.List.{count_by};
 ghost use Rattle.psci_tree.specs.declared.domain.Domain.{Domain};
-ghost use Rattle.psci_tree.specs.declared.state.CoreState.{CoreState};
-ghost use Rattle.psci_tree.specs.declared.state.Activity.TheVariants.{Active};
+ghost use Rattle.psci_state.specs.declared.cores.CoreState.{CoreState};
+ghost use Rattle.psci_state.specs.declared.cores.Activity.TheVariants.{Active};
 ghost use Rattle.psci_tree.specs.Recount.{is_off, never_started};
 ghost use Rattle.psci_tree.specs.Domains.{branches, leaves, cores_in, child_counts, IsWay};
 ghost use Rattle.psci_tree.specs.Domains.{index_by};
@@ -14,7 +14,7 @@ ghost use Rattle.psci_tree.specs.Standing.{kept_standing};
 
 use crate::kept::Kept;
 use crate::standing::Standing;
-use crate::state::{CoreState, NEVER_STARTED};
+use psci_state::{CoreState, NEVER_STARTED};
 
 /// A power domain. One without children is a core.
 #[derive(Drop)]

@@ -4,8 +4,8 @@ ghost use Rattle.std.specs.Prelude.{◌≡◌, ℕ, ◌+◌, ◌<◌, ◌^◌, �
 ghost use Rattle.psci_tree.specs.Recount.{never_started};
 ghost use Rattle.psci_tree.specs.Kept.{IsPart, Keeps, kept_activated, kept_together};
 
-use crate::state::CoreState;
 use psci_board::MOST_ON_PATH;
+use psci_state::CoreState;
 
 /// What is kept of several cores, so that they need not be counted again.
 #[derive(Clone, Copy)]

@@ -5,7 +5,7 @@ ghost use Rattle.std.specs.Prelude.{if◌then◌else◌, List, length, map, take
 ghost use Rattle.std.specs.List.{sum_by};
 ghost use Rattle.psci_board.specs.declared.node.Node.{Node};
 ghost use Rattle.psci_board.specs.Board.{HasNodeIn, size_below, place_above, below_in, span};
-ghost use Rattle.psci_tree.specs.declared.state.Activity.TheVariants.{Active, Suspended, Off};
+ghost use Rattle.psci_state.specs.declared.cores.Activity.TheVariants.{Active, Suspended, Off};
 ghost use Rattle.psci_tree.specs.Recount.{TreeValue, IsDomainTree, active, ask_at, state_at};
 ghost use Rattle.psci_tree.specs.Recount.{granted_at, is_active_at, is_off_at, known, known_at};
 ghost use Rattle.psci_tree.specs.Recount.{is_confirmed_at};

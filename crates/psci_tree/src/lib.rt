@@ -22,7 +22,6 @@ mod grants;
 mod kept;
 mod laws;
 mod standing;
-mod state;
 mod tree;
 mod way;
 
@@ -30,6 +29,6 @@ pub use laws::{
     law_asks, law_confirmed, law_cores, law_counts, law_granted, law_known, law_low,
     law_start_of_life, law_states,
 };
+pub use psci_state::Activity;
 pub use standing::Standing;
-pub use state::Activity;
 pub use tree::Tree;

@@ -5,10 +5,9 @@ use crate::descent::{activate_core, change_core, domain_at, standings_on, turn_o
 use crate::domain::Domain;
 use crate::grants::{clear_up, deepest_rows, fill_rows, write};
 use crate::standing::Standing;
-use crate::state::{Activity, Change, CoreState, NEVER_STARTED};
 use crate::way::{Way, ways_of};
 use psci_board::{Board, Core, MOST_ON_PATH, Memory, Node, law_sizes, law_spans};
-use psci_state::Ask;
+use psci_state::{Activity, Ask, Change, CoreState, NEVER_STARTED};
 use std::alloc::Global;
 use std::marker::Model;
 
@@ -59,7 +58,7 @@ impl Model for Tree {
 ghost use Rattle.std.specs.Prelude.{◌≡◌, ℕ, ◌+◌, ◌^◌, ◌<◌, ◌≤◌, map, length, unwrap_or, IfOk};
 ghost use Rattle.psci_board.specs.Board.{size_below, HasNodeIn, below_in};
 ghost use Rattle.psci_tree.specs.declared.domain.Domain.{Domain, out-Domain};
-ghost use Rattle.psci_tree.specs.declared.state.Activity.TheVariants.{Active, Suspended, Off};
+ghost use Rattle.psci_state.specs.declared.cores.Activity.TheVariants.{Active, Suspended, Off};
 ghost use Rattle.psci_tree.specs.Recount.{IsActivity, IsDomainTree, state_at};
 ghost use Rattle.psci_tree.specs.Recount.{known_at, low, known, active, off, granted_at};
 ghost use Rattle.psci_tree.specs.Recount.{confirmed_at, is_confirmed_at};

@@ -5,12 +5,12 @@ use Rattle.std.specs.Prelude.{nat_le}
 use Rattle.std.specs.List.{list_all}
 use Rattle.std.proofs.lemmas.Bool.{and_parts, eqb-true, leb-true}
 use Rattle.psci_board.specs.Board.{BoardValue, cores, height}
-use Rattle.psci_link.specs.psci_parts.declared.part.Part.{Part}
+use Rattle.psci_messages.specs.psci_parts.declared.part.Part.{Part}
 use Rattle.psci_link.specs.declared.frame.Frame.TheVariants.{Message}
-use Rattle.psci_link.specs.declared.kind.Kind.{Kind}
-use Rattle.psci_link.specs.declared.kind.Kind.TheVariants as kinds
+use Rattle.psci_messages.specs.declared.kind.Kind.{Kind}
+use Rattle.psci_messages.specs.declared.kind.Kind.TheVariants as kinds
 use Rattle.psci_link.specs.Frame.{IsOf, is_within}
-use Rattle.psci_link.specs.Message.{ArePartsOf, IsMessage, MessageValue, is_climbing}
+use Rattle.psci_messages.specs.Message.{ArePartsOf, IsMessage, MessageValue, is_climbing}
 use Rattle.psci_ctl.specs.psci_ctl_spec.Legal.{IsSendable}
 
 -- levels that count up and stay within the height are few

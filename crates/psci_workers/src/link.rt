@@ -6,7 +6,8 @@ ghost use Rattle.psci_link.specs.declared.frame.Frame.TheVariants as frames;
 
 use crate::platform::{Ending, Platform, Returned, fault_of};
 use psci_draws::Draws;
-use psci_link::{Frame, Message, decode};
+use psci_link::{Frame, decode};
+use psci_messages::Message;
 use psci_shared::{Named, Pass};
 use psci_shared_ctl::{CtlPass, Delivery};
 use psci_traffic::Bytes;

@@ -8,7 +8,7 @@ use Rattle.std.proofs.lemmas.Option.{get_or_from_slice_get, slice_get-get_or, sl
 use Rattle.psci_machine.specs.psci_board.Board.{BoardValue}
 use Rattle.psci_machine.specs.psci_ctl_spec.Legal.{IsOfBoard}
 use Rattle.psci_headline.specs.psci_fw_laws.Messages.{IsSound}
-use Rattle.psci_machine.specs.psci_link.Message.{MessageValue}
+use Rattle.psci_machine.specs.psci_messages.Message.{MessageValue}
 
 -- an item of a list from its other end is one of the list
 from_the_end : (xs : List MessageValue) (k : ℕ) (x : MessageValue)

@@ -2,7 +2,7 @@
 use Rattle.std.proofs.Common.{◌≡◌, ℕ, List, [], ◌∷◌, length}
 use Rattle.std.proofs.Common.{arith, ap, sym, ◌∙◌}
 use Rattle.psci_machine.specs.psci_board.Board.{cores}
-use Rattle.psci_machine.specs.psci_link.Message.{AckValue, MessageValue}
+use Rattle.psci_machine.specs.psci_messages.Message.{AckValue, MessageValue}
 use Rattle.psci_machine.specs.Seen.{machine_board}
 use Rattle.psci_world_spec.specs.declared.event.Event.TheVariants.{Deliver, Enter}
 use Rattle.psci_world_spec.specs.declared.said.Record.{Record}

@@ -4,7 +4,7 @@ use Rattle.std.proofs.Common.{◌∙◌, subst}
 use Rattle.std.proofs.lemmas.List.{reverse-append}
 use Rattle.psci_machine.specs.psci_board.Board.{BoardValue}
 use Rattle.psci_machine.specs.psci_fw_spec.Said.{listed}
-use Rattle.psci_machine.specs.psci_link.Message.{AckValue, MessageValue}
+use Rattle.psci_machine.specs.psci_messages.Message.{AckValue, MessageValue}
 use Rattle.psci_world_spec.specs.declared.event.Event.{Event}
 use Rattle.psci_world_spec.specs.declared.said.Record.{Record}
 use Rattle.psci_world_spec.specs.declared.said.Said.{Said}

@@ -1,8 +1,8 @@
 -- Firmware and power controller agree after every legal run.
 use Rattle.std.proofs.Common.{◌≡◌, ℕ, List, [], ◌∷◌, ◌++◌, Option, None, Some, option_map, refl}
 use Rattle.std.proofs.Common.{unwrap_or, arith, subst, sym}
-use Rattle.psci_ctl_spec.specs.psci_abi.Calls.{request_of}
-use Rattle.psci_ctl_spec.specs.psci_abi.declared.registers.Regs.{Regs}
+use Rattle.psci_world_spec.specs.psci_abi.Calls.{request_of}
+use Rattle.psci_world_spec.specs.psci_abi.declared.registers.Regs.{Regs}
 use Rattle.psci_board.specs.Board.{BoardValue}
 use Rattle.psci_ctl_spec.specs.declared.call.CtlCall.{CtlCall}
 use Rattle.psci_ctl_spec.specs.Changes as controlling
@@ -13,10 +13,10 @@ use Rattle.psci_ctl_spec.specs.History as controls
 use Rattle.psci_ctl_spec.specs.Legal as legal_controls
 use Rattle.psci_ctl_spec.specs.Replies.{last_start, reply}
 use Rattle.psci_ctl_spec.specs.Values as controlled
-use Rattle.psci_ctl_spec.specs.psci_link.declared.start.Start.{Start}
-use Rattle.psci_ctl_spec.specs.psci_link.Message.{AckValue, MessageValue}
-use Rattle.psci_ctl_spec.specs.psci_link.declared.taken.Taken.{Taken}
-use Rattle.psci_ctl_spec.specs.psci_link.declared.taken.Taken.TheVariants as takens
+use Rattle.psci_ctl_spec.specs.psci_messages.declared.start.Start.{Start}
+use Rattle.psci_ctl_spec.specs.psci_messages.Message.{AckValue, MessageValue}
+use Rattle.psci_ctl_spec.specs.psci_messages.declared.taken.Taken.{Taken}
+use Rattle.psci_ctl_spec.specs.psci_messages.declared.taken.Taken.TheVariants as takens
 use Rattle.psci_fw_laws.specs.psci_fw_spec.After.{change}
 use Rattle.psci_fw_laws.specs.psci_fw_spec.Effects.{function_effect}
 use Rattle.psci_fw_laws.specs.psci_fw_spec.Exchange as firmware

@@ -4,8 +4,8 @@ use Rattle.std.proofs.Common.{◌≡◌, ◌≤◌, ◌<◌, ℕ, zero, suc, pos
 use Rattle.std.proofs.Common.{◌+◌, List, [], ◌∷◌, None, Some, unwrap_or, refl, arith, subst}
 use Rattle.std.proofs.lemmas.Option.{same_Some}
 use Rattle.psci_board.specs.Board.{cores}
-use Rattle.psci_ctl_spec.specs.psci_link.declared.start.Cause.TheVariants as causes
-use Rattle.psci_ctl_spec.specs.psci_link.OnlyIf.{only_if}
+use Rattle.psci_ctl_spec.specs.psci_messages.declared.start.Cause.TheVariants as causes
+use Rattle.psci_ctl_spec.specs.psci_messages.OnlyIf.{only_if}
 use Rattle.psci_fw_laws.specs.psci_fw_spec.Lives.{in_life, start_of_life}
 use Rattle.psci_fw_laws.specs.psci_fw_spec.Phases as phases
 use Rattle.psci_fw_laws.specs.psci_fw_spec.Values.{updated}

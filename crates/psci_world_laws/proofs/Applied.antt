@@ -6,13 +6,13 @@ use Rattle.std.proofs.lemmas.Bool.{and_parts, eqb-true, false≢true}
 use Rattle.std.proofs.lemmas.Option.{same_Some}
 use Rattle.psci_board.specs.Board.{BoardValue, height, up}
 use Rattle.psci_ctl_spec.specs.psci_parts.declared.part.Part.{Part}
-use Rattle.psci_ctl_spec.specs.psci_link.declared.kind.Kind.{Kind}
-use Rattle.psci_ctl_spec.specs.psci_link.declared.kind.Kind.TheVariants as kinds
-use Rattle.psci_ctl_spec.specs.psci_link.Message.{AckValue, MessageValue}
+use Rattle.psci_ctl_spec.specs.psci_messages.declared.kind.Kind.{Kind}
+use Rattle.psci_ctl_spec.specs.psci_messages.declared.kind.Kind.TheVariants as kinds
+use Rattle.psci_ctl_spec.specs.psci_messages.Message.{AckValue, MessageValue}
 use Rattle.psci_ctl_spec.specs.declared.call.CtlCall.TheVariants as asked
 use Rattle.psci_ctl_spec.specs.declared.delivery.Delivery.TheVariants as deliveries
 use Rattle.psci_ctl_spec.specs.declared.reply.CtlReply.TheVariants as replied
-use Rattle.psci_ctl_spec.specs.psci_link.declared.start.Cause.TheVariants as causes
+use Rattle.psci_ctl_spec.specs.psci_messages.declared.start.Cause.TheVariants as causes
 use Rattle.psci_ctl_spec.specs.Effects.{Effect, Nothing, Starts, Deepens, Ends, Begins, effect_of}
 use Rattle.psci_ctl_spec.specs.Effects.{message_effect}
 use Rattle.psci_ctl_spec.specs.Exchange as controller

@@ -7,7 +7,7 @@ use Rattle.psci_board.specs.declared.limits.TheConstants.{MOST_CORES}
 use Rattle.psci_ctl_spec.specs.Exchange as controller
 use Rattle.psci_ctl_spec.specs.Legal as controls
 use Rattle.psci_fw_laws.specs.Messages.{IsSound}
-use Rattle.psci_ctl_spec.specs.psci_link.Message.{AckValue, MessageValue}
+use Rattle.psci_ctl_spec.specs.psci_messages.Message.{AckValue, MessageValue}
 use Rattle.psci_world_spec.specs.declared.event.Event.{Event}
 use Rattle.psci_world_spec.specs.declared.event.Event.TheVariants.{Call, Enter, Wake, Reset}
 use Rattle.psci_world_spec.specs.declared.event.Event.TheVariants.{Deliver, Take}

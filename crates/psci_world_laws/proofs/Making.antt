@@ -11,7 +11,7 @@ use Rattle.psci_ctl_spec.specs.declared.reply.CtlReply.TheVariants as replied
 use Rattle.psci_ctl_spec.specs.Changes.{after, change}
 use Rattle.psci_ctl_spec.specs.Effects.{effect_of, message_effect}
 use Rattle.psci_ctl_spec.specs.Exchange as controller
-use Rattle.psci_ctl_spec.specs.psci_link.declared.start.Start.{Start}
+use Rattle.psci_ctl_spec.specs.psci_messages.declared.start.Start.{Start}
 use Rattle.psci_ctl_spec.specs.History as controls
 use Rattle.psci_ctl_spec.specs.Replies.{ack_by, delivery_of, is_this_life, last_start, reply}
 use Rattle.psci_ctl_spec.specs.Values.{Values}
@@ -20,7 +20,7 @@ use Rattle.psci_fw_laws.specs.psci_fw_spec.declared.reply.FwReply.{FwReply}
 use Rattle.psci_fw_laws.specs.psci_fw_spec.declared.reply.FwReply.TheVariants as replies
 use Rattle.psci_fw_laws.specs.psci_fw_spec.Answer.{answer}
 use Rattle.psci_fw_laws.specs.psci_fw_spec.Said.{listed}
-use Rattle.psci_ctl_spec.specs.psci_link.Message.{AckValue, MessageValue}
+use Rattle.psci_ctl_spec.specs.psci_messages.Message.{AckValue, MessageValue}
 use Rattle.psci_world_spec.specs.declared.event.Event.{Event}
 use Rattle.psci_world_spec.specs.declared.event.Event.TheVariants.{Call, Enter, Wake, Reset}
 use Rattle.psci_world_spec.specs.declared.event.Event.TheVariants.{Deliver, Take}

@@ -2,13 +2,13 @@
 use Rattle.std.proofs.Common.{◌≡◌, ℕ, Bool, true, false, cond, Option, None, Some}
 use Rattle.std.proofs.Common.{refl, subst, ap, sym, ◌∙◌}
 use Rattle.std.specs.Ordering.{int_eq}
-use Rattle.psci_ctl_spec.specs.psci_abi.Codes.{success}
-use Rattle.psci_ctl_spec.specs.psci_abi.declared.code.Code.{Code}
-use Rattle.psci_ctl_spec.specs.psci_abi.declared.request.Request.{Request}
-use Rattle.psci_ctl_spec.specs.psci_abi.declared.request.Request.TheVariants as requests
+use Rattle.psci_world_spec.specs.psci_abi.Codes.{success}
+use Rattle.psci_world_spec.specs.psci_abi.declared.code.Code.{Code}
+use Rattle.psci_world_spec.specs.psci_abi.declared.request.Request.{Request}
+use Rattle.psci_world_spec.specs.psci_abi.declared.request.Request.TheVariants as requests
 use Rattle.psci_board.specs.Board.{BoardValue}
-use Rattle.psci_ctl_spec.specs.psci_link.declared.start.Start.{Start}
-use Rattle.psci_ctl_spec.specs.psci_link.Message.{MessageValue}
+use Rattle.psci_ctl_spec.specs.psci_messages.declared.start.Start.{Start}
+use Rattle.psci_ctl_spec.specs.psci_messages.Message.{MessageValue}
 use Rattle.psci_fw_laws.specs.psci_fw_spec.declared.mode.SuspendMode.{SuspendMode}
 use Rattle.psci_fw_laws.specs.psci_fw_spec.declared.outcome.Act.{Act}
 use Rattle.psci_fw_laws.specs.psci_fw_spec.declared.outcome.Act.TheVariants as acts

@@ -4,10 +4,10 @@ use Rattle.std.proofs.Common.{◌≡◌, ℕ, ◌<◌, ◌≤◌, ◌==◌, Bool
 use Rattle.std.proofs.Common.{refl, unwrap_or, arith, subst, ap, sym, ◌∙◌, ◌⊎◌, inl, inr}
 use Rattle.std.proofs.lemmas.Bool.{cases_eq, eqb-false, eqb-true}
 use Rattle.psci_board.specs.Board.{BoardValue, cores}
-use Rattle.psci_ctl_spec.specs.psci_link.declared.start.Start.{Start}
+use Rattle.psci_ctl_spec.specs.psci_messages.declared.start.Start.{Start}
 use Rattle.psci_ctl_spec.specs.Replies.{last_start, start_shown}
 use Rattle.psci_ctl_spec.specs.Values as controlled
-use Rattle.psci_ctl_spec.specs.psci_link.Message.{AckValue, MessageValue}
+use Rattle.psci_ctl_spec.specs.psci_messages.Message.{AckValue, MessageValue}
 use Rattle.psci_fw_laws.specs.psci_fw_spec.declared.outcome.Act.{Act}
 use Rattle.psci_fw_laws.specs.psci_fw_spec.declared.outcome.Act.TheVariants as acts
 use Rattle.psci_fw_laws.specs.psci_fw_spec.After.{change}

@@ -5,7 +5,7 @@ use Rattle.std.specs.Prelude.{nat_le, nat_lt}
 use Rattle.std.proofs.lemmas.Bool.{and_left, and_right, cases_eq, cond-false, le-ltb}
 use Rattle.std.proofs.lemmas.Bool.{lt-leb, lt-ltb, ne_eqb, or_from}
 use Rattle.psci_board.specs.Board.{BoardValue, cores}
-use Rattle.psci_ctl_spec.specs.psci_link.declared.start.Start.{Start}
+use Rattle.psci_ctl_spec.specs.psci_messages.declared.start.Start.{Start}
 use Rattle.psci_ctl_spec.specs.Follows as controlling
 use Rattle.psci_ctl_spec.specs.Replies.{last_start, start_shown}
 use Rattle.psci_ctl_spec.specs.Values as controlled

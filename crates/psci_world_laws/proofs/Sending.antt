@@ -1,14 +1,14 @@
 -- The messages of a legal run are those that the firmware's history says were sent.
 use Rattle.std.proofs.Common.{◌≡◌, ℕ, true, List, [], ◌∷◌, ◌++◌, Option, None, Some, refl}
 use Rattle.std.proofs.Common.{option_map, ap, sym, ◌∙◌, subst}
-use Rattle.psci_ctl_spec.specs.psci_abi.Calls.{request_of}
-use Rattle.psci_ctl_spec.specs.psci_abi.declared.registers.Regs.{Regs}
+use Rattle.psci_world_spec.specs.psci_abi.Calls.{request_of}
+use Rattle.psci_world_spec.specs.psci_abi.declared.registers.Regs.{Regs}
 use Rattle.psci_board.specs.Board.{BoardValue}
-use Rattle.psci_ctl_spec.specs.psci_link.declared.start.Start.{Start}
+use Rattle.psci_ctl_spec.specs.psci_messages.declared.start.Start.{Start}
 use Rattle.psci_ctl_spec.specs.Replies.{last_start}
-use Rattle.psci_ctl_spec.specs.psci_link.Message.{AckValue, MessageValue}
-use Rattle.psci_ctl_spec.specs.psci_link.declared.taken.Taken.{Taken}
-use Rattle.psci_ctl_spec.specs.psci_link.declared.taken.Taken.TheVariants as takens
+use Rattle.psci_ctl_spec.specs.psci_messages.Message.{AckValue, MessageValue}
+use Rattle.psci_ctl_spec.specs.psci_messages.declared.taken.Taken.{Taken}
+use Rattle.psci_ctl_spec.specs.psci_messages.declared.taken.Taken.TheVariants as takens
 use Rattle.psci_fw_laws.specs.psci_fw_spec.Answer.{answer}
 use Rattle.psci_fw_laws.specs.psci_fw_spec.Calls.{call_fault}
 use Rattle.psci_fw_laws.specs.psci_fw_spec.Entering.{enter_fault}

@@ -4,7 +4,7 @@ use Rattle.psci_board.specs.Board.{BoardValue}
 use Rattle.psci_ctl_spec.specs.Changes.{change}
 use Rattle.psci_ctl_spec.specs.Effects.{message_effect}
 use Rattle.psci_ctl_spec.specs.Replies.{ack_by}
-use Rattle.psci_ctl_spec.specs.psci_link.Message.{AckValue, MessageValue}
+use Rattle.psci_ctl_spec.specs.psci_messages.Message.{AckValue, MessageValue}
 use Rattle.psci_world_spec.specs.declared.event.Event.TheVariants.{Deliver}
 use Rattle.psci_world_spec.specs.declared.said.Record.{Record}
 use Rattle.psci_world_spec.specs.declared.said.Said.TheVariants.{Acked}

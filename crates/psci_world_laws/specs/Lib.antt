@@ -1,11 +1,11 @@
 pub mod Acknowledged
 pub mod Agreement
 pub mod Refusals
-pub use Rattle.psci_ctl_spec.specs.psci_abi
+pub use Rattle.psci_world_spec.specs.psci_abi
 pub use Rattle.psci_board.specs as psci_board
-pub use Rattle.psci_fw_laws.specs.psci_coord.psci_tree
-pub use Rattle.psci_fw_laws.specs.psci_coord
-pub use Rattle.psci_ctl_spec.specs.psci_link
+pub use Rattle.psci_fw_laws.specs.psci_claims.psci_state
+pub use Rattle.psci_fw_laws.specs.psci_claims
+pub use Rattle.psci_ctl_spec.specs.psci_messages
 pub use Rattle.psci_ctl_spec.specs as psci_ctl_spec
 pub use Rattle.psci_fw_laws.specs.psci_fw_spec
 pub use Rattle.psci_world_spec.specs as psci_world_spec

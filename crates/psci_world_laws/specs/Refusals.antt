@@ -1,7 +1,7 @@
 -- Refusals of the firmware, which no legal run has.
 use Rattle.std.specs.Prelude.{◌≡◌, ℕ, ◌<◌, List, None, Some}
 use Rattle.psci_board.specs.Board.{BoardValue, cores}
-use Rattle.psci_ctl_spec.specs.psci_link.declared.start.Start.{Start}
+use Rattle.psci_ctl_spec.specs.psci_messages.declared.start.Start.{Start}
 use Rattle.psci_ctl_spec.specs.Replies.{last_start}
 use Rattle.psci_fw_laws.specs.psci_fw_spec.Calls.{call_fault}
 use Rattle.psci_fw_laws.specs.psci_fw_spec.Entering.{enter_fault}

@@ -4,7 +4,7 @@ ghost use Rattle.std.specs.Prelude.{◌≡◌, ℕ, List, Some, slice_get};
 ghost use Rattle.psci_board.specs.Board.{BoardValue, IsBoard};
 ghost use Rattle.psci_ctl_spec.specs.Legal as controls;
 ghost use Rattle.psci_fw_laws.specs.psci_fw_spec.Sent.{sent_messages};
-ghost use Rattle.psci_ctl_spec.specs.psci_link.Message.{AckValue};
+ghost use Rattle.psci_ctl_spec.specs.psci_messages.Message.{AckValue};
 ghost use Rattle.psci_world_spec.specs.declared.said.Record.{Record};
 ghost use Rattle.psci_world_spec.specs.Histories.{acks, controller_history, firmware_history};
 ghost use Rattle.psci_world_spec.specs.Histories.{sent};

@@ -4,7 +4,7 @@ use Rattle.std.proofs.Common.{◌≡◌, ◌+◌, ◌++◌, ℕ, List, [], ◌�
 use Rattle.std.specs.List.{range_with_len}
 use Rattle.psci_fw_spec.specs.NodeHwState.{hw_code, node_hw}
 use Rattle.psci_fw_spec.specs.psci_board.Board.{BoardValue, height, nodes}
-use Rattle.psci_fw_spec.specs.psci_link.declared.kind.Kind.TheVariants.{Down, Start}
+use Rattle.psci_fw_spec.specs.psci_messages.declared.kind.Kind.TheVariants.{Down, Start}
 use Rattle.psci_world_spec.specs.declared.event.Event.{Event}
 use Rattle.psci_world_spec.specs.declared.event.Event.TheVariants.{Enter, Wake, Deliver, Take}
 use Rattle.psci_world_spec.specs.Histories.{firmware_values}

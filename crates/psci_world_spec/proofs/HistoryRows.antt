@@ -3,7 +3,7 @@ use Rattle.std.proofs.Common.{◌≡◌, List, [], ◌∷◌, map, refl}
 use Rattle.psci_ctl_spec.specs.declared.call.CtlCall.{CtlCall}
 use Rattle.psci_ctl_spec.specs.declared.call.CtlCall.TheVariants as asked
 use Rattle.psci_fw_spec.specs.psci_board.Board.{BoardValue}
-use Rattle.psci_fw_spec.specs.psci_link.declared.kind.Kind.TheVariants.{Start, Down}
+use Rattle.psci_fw_spec.specs.psci_messages.declared.kind.Kind.TheVariants.{Start, Down}
 use Rattle.psci_world_spec.specs.declared.event.Event.{Event}
 use Rattle.psci_world_spec.specs.declared.event.Event.TheVariants.{Enter, Reset, Wake, Deliver}
 use Rattle.psci_world_spec.specs.Histories.{controller_history, sent}

@@ -1,8 +1,8 @@
 -- Worked examples: messages that are lost, repeated, late or turned round, and many lives.
 use Rattle.std.proofs.Common.{[], ◌∷◌, pos, true, false, refl}
-use Rattle.psci_fw_spec.specs.psci_link.declared.start.Cause.TheVariants as causes
-use Rattle.psci_fw_spec.specs.psci_link.declared.kind.Kind.TheVariants.{Down, Start}
-use Rattle.psci_fw_spec.specs.psci_link.declared.kind.Kind.TheVariants.{Reset as Restart}
+use Rattle.psci_fw_spec.specs.psci_messages.declared.start.Cause.TheVariants as causes
+use Rattle.psci_fw_spec.specs.psci_messages.declared.kind.Kind.TheVariants.{Down, Start}
+use Rattle.psci_fw_spec.specs.psci_messages.declared.kind.Kind.TheVariants.{Reset as Restart}
 use Rattle.psci_world_spec.specs.declared.event.Event.TheVariants.{Enter, Wake, Reset, Deliver}
 use Rattle.psci_world_spec.specs.declared.event.Event.TheVariants.{Take}
 use Rattle.psci_world_spec.specs.declared.said.Said.TheVariants.{Ignored, Absent}

@@ -1,7 +1,7 @@
 -- Worked examples: cores that go off.
 use Rattle.std.proofs.Common.{[], ◌∷◌, pos, true, false, refl}
-use Rattle.psci_fw_spec.specs.psci_link.declared.start.Cause.TheVariants as causes
-use Rattle.psci_fw_spec.specs.psci_link.declared.kind.Kind.TheVariants.{Down, Start}
+use Rattle.psci_fw_spec.specs.psci_messages.declared.start.Cause.TheVariants as causes
+use Rattle.psci_fw_spec.specs.psci_messages.declared.kind.Kind.TheVariants.{Down, Start}
 use Rattle.psci_world_spec.specs.declared.event.Event.TheVariants.{Enter, Wake, Deliver, Take}
 use Rattle.psci_world_spec.specs.declared.said.Said.TheVariants.{Ignored, Absent}
 use Rattle.psci_world_spec.proofs.Scripts.{IsSaid, acked, board, call, computing, enters, nothing}

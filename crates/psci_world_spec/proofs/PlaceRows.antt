@@ -1,7 +1,7 @@
 -- Worked examples: what happens to a core at each place, and what is absent.
 use Rattle.std.proofs.Common.{[], ◌∷◌, pos, false, refl}
-use Rattle.psci_fw_spec.specs.psci_link.declared.start.Cause.TheVariants as causes
-use Rattle.psci_fw_spec.specs.psci_link.declared.kind.Kind.TheVariants.{Down, Off}
+use Rattle.psci_fw_spec.specs.psci_messages.declared.start.Cause.TheVariants as causes
+use Rattle.psci_fw_spec.specs.psci_messages.declared.kind.Kind.TheVariants.{Down, Off}
 use Rattle.psci_world_spec.specs.declared.event.Event.TheVariants.{Enter, Wake, Reset, Deliver}
 use Rattle.psci_world_spec.specs.declared.event.Event.TheVariants.{Take}
 use Rattle.psci_world_spec.specs.declared.place.Place.TheVariants.{Started, Running, Stopped}

@@ -2,13 +2,13 @@
 use Rattle.std.proofs.Common.{◌≡◌, ℕ, ℤ, Bool, List, [], ◌∷◌, length, map, reverse, Option, None}
 use Rattle.std.proofs.Common.{Some}
 use Rattle.std.specs.List.{range_with_len}
-use Rattle.psci_fw_spec.specs.psci_abi.declared.format.Format.TheVariants.{Original}
+use Rattle.psci_fw_spec.specs.psci_abi.psci_format.declared.format.Format.TheVariants.{Original}
 use Rattle.psci_fw_spec.specs.psci_board.Board.{BoardValue, core_of, node_of, up}
-use Rattle.psci_fw_spec.specs.psci_coord.psci_parts.declared.part.Part.{Part}
-use Rattle.psci_fw_spec.specs.psci_coord.Claim.{claims_of}
-use Rattle.psci_fw_spec.specs.psci_coord.LastCore.{last_core_check, refusal, shallow, shallow_at}
-use Rattle.psci_fw_spec.specs.psci_coord.View.{generation, is_all_off, is_idle, least_ask}
-use Rattle.psci_fw_spec.specs.psci_link.declared.start.Cause.{Cause}
+use Rattle.psci_fw_spec.specs.psci_claims.psci_parts.declared.part.Part.{Part}
+use Rattle.psci_fw_spec.specs.psci_claims.Claim.{claims_of}
+use Rattle.psci_fw_spec.specs.psci_claims.LastCore.{last_core_check, refusal, shallow, shallow_at}
+use Rattle.psci_fw_spec.specs.psci_claims.View.{generation, is_all_off, is_idle, least_ask}
+use Rattle.psci_fw_spec.specs.psci_messages.declared.start.Cause.{Cause}
 use Rattle.psci_ctl_spec.specs.Effects.{effect_of}
 use Rattle.psci_ctl_spec.specs.History as controls
 use Rattle.psci_ctl_spec.specs.Parts.{applied, is_stale}
@@ -23,9 +23,9 @@ use Rattle.psci_fw_spec.specs.CpuOn.{target_of}
 use Rattle.psci_fw_spec.specs.Entering.{enter_outcome}
 use Rattle.psci_fw_spec.specs.History as remembers
 use Rattle.psci_fw_spec.specs.Views.{view}
-use Rattle.psci_fw_spec.specs.psci_link.declared.kind.Kind.{Kind}
-use Rattle.psci_fw_spec.specs.psci_link.declared.taken.Taken.TheVariants as takens
-use Rattle.psci_fw_spec.specs.psci_link.Outstanding.{changes_since, last_message, outstanding}
+use Rattle.psci_fw_spec.specs.psci_messages.declared.kind.Kind.{Kind}
+use Rattle.psci_fw_spec.specs.psci_messages.declared.taken.Taken.TheVariants as takens
+use Rattle.psci_fw_spec.specs.psci_messages.Outstanding.{changes_since, last_message, outstanding}
 use Rattle.psci_world_spec.specs.declared.event.Event.{Event}
 use Rattle.psci_world_spec.specs.declared.event.Event.TheVariants.{Call}
 use Rattle.psci_world_spec.specs.declared.place.Place.{Place}

@@ -1,8 +1,8 @@
 -- Worked examples: SYSTEM_SUSPEND, SYSTEM_OFF and SYSTEM_RESET, and the lives after them.
 use Rattle.std.proofs.Common.{[], ◌∷◌, pos, negsuc, false, refl}
-use Rattle.psci_fw_spec.specs.psci_link.declared.start.Cause.TheVariants as causes
-use Rattle.psci_fw_spec.specs.psci_link.declared.kind.Kind.TheVariants.{Down, Start, Off}
-use Rattle.psci_fw_spec.specs.psci_link.declared.kind.Kind.TheVariants.{Reset as Restart}
+use Rattle.psci_fw_spec.specs.psci_messages.declared.start.Cause.TheVariants as causes
+use Rattle.psci_fw_spec.specs.psci_messages.declared.kind.Kind.TheVariants.{Down, Start, Off}
+use Rattle.psci_fw_spec.specs.psci_messages.declared.kind.Kind.TheVariants.{Reset as Restart}
 use Rattle.psci_world_spec.specs.declared.event.Event.TheVariants.{Enter, Wake, Deliver, Take}
 use Rattle.psci_world_spec.specs.declared.said.Said.TheVariants.{Ignored, Absent}
 use Rattle.psci_world_spec.proofs.Scripts.{IsSaid, acked, board, call, computing, enters, limited}

@@ -7,7 +7,7 @@ use Rattle.psci_ctl_spec.specs.declared.call.CtlCall.TheVariants as asked
 use Rattle.psci_ctl_spec.specs.declared.delivery.Delivery.TheVariants as deliveries
 use Rattle.psci_ctl_spec.specs.declared.kick.Kick.TheVariants as kicks
 use Rattle.psci_ctl_spec.specs.declared.reply.CtlReply.TheVariants as replied
-use Rattle.psci_fw_spec.specs.psci_link.declared.start.Start.{Start}
+use Rattle.psci_fw_spec.specs.psci_messages.declared.start.Start.{Start}
 use Rattle.psci_ctl_spec.specs.Exchange as controller
 use Rattle.psci_ctl_spec.specs.History as controls
 use Rattle.psci_ctl_spec.specs.Replies.{last_start}
@@ -20,8 +20,8 @@ use Rattle.psci_fw_spec.specs.Exchange as firmware
 use Rattle.psci_fw_spec.specs.History as remembers
 use Rattle.psci_fw_spec.specs.Said.{listed}
 use Rattle.psci_fw_spec.specs.Values as kept
-use Rattle.psci_fw_spec.specs.psci_link.declared.taken.Taken.{Taken}
-use Rattle.psci_fw_spec.specs.psci_link.Message.{AckValue, MessageValue}
+use Rattle.psci_fw_spec.specs.psci_messages.declared.taken.Taken.{Taken}
+use Rattle.psci_fw_spec.specs.psci_messages.Message.{AckValue, MessageValue}
 use Rattle.psci_world_spec.specs.declared.event.Event.{Event}
 use Rattle.psci_world_spec.specs.declared.event.Event.TheVariants.{Call, Enter, Wake, Reset}
 use Rattle.psci_world_spec.specs.declared.event.Event.TheVariants.{Deliver, Take}

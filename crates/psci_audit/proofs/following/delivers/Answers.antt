@@ -1,7 +1,7 @@
 -- A message that is delivered.
 use Rattle.std.proofs.Common.{◌≡◌, List, Some, subst}
 use Rattle.std.specs.Prelude.{slice_get}
-use Rattle.psci_world_spec.specs.psci_link.Message.{MessageValue}
+use Rattle.psci_world_spec.specs.psci_messages.Message.{MessageValue}
 use Rattle.psci_audit.proofs.Steps.{delivered, never_sent}
 use Rattle.psci_audit.proofs.following.delivers.Goals as goal
 

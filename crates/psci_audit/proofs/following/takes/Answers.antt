@@ -1,7 +1,7 @@
 -- An acknowledgement that is taken.
 use Rattle.std.proofs.Common.{◌≡◌, List, Some, subst}
 use Rattle.std.specs.Prelude.{slice_get}
-use Rattle.psci_world_spec.specs.psci_link.Message.{AckValue}
+use Rattle.psci_world_spec.specs.psci_messages.Message.{AckValue}
 use Rattle.psci_audit.proofs.Steps.{never_made, took}
 use Rattle.psci_audit.proofs.following.takes.Goals as goal
 

@@ -4,9 +4,9 @@ use Rattle.psci_board.specs.Board.{BoardValue}
 use Rattle.psci_tree.specs.declared.standing.Standing.{Standing}
 use Rattle.psci_tree.specs.Recount.{TreeValue}
 use Rattle.psci_tree.specs.Standing.{standing, on_path}
-use Rattle.psci_coord.specs.View.{domain_of}
+use Rattle.psci_claims.specs.View.{domain_of}
 use Rattle.psci_coord.specs.Wish.{wanted}
-use Rattle.psci_coord.specs.Looked.{view_of}
+use Rattle.psci_claims.specs.Looked.{view_of}
 use Rattle.psci_coord.proofs.Climbing.{climbed-none, climbed-more, climbed-ends}
 use Rattle.psci_coord.proofs.TreeView.{wanted-is, known-is, node-is}
 use Rattle.psci_coord.proofs.claim.climb.Goals as goal

@@ -1,5 +1,5 @@
 use Rattle.std.proofs.Common.{List, length, ap, sym, ◌∙◌, subst}
-use Rattle.psci_link.specs.declared.start.Cause.TheVariants as causes
+use Rattle.psci_messages.specs.declared.start.Cause.TheVariants as causes
 use Rattle.psci_ctl_spec.specs.Changes.{with_start}
 use Rattle.psci_ctl.specs.declared.row.CoreRow.{CoreRow}
 use Rattle.psci_ctl.specs.Rows.{HasSums, values_in}

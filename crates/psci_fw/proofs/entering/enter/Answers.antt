@@ -1,5 +1,5 @@
 use Rattle.std.proofs.Common.{◌≡◌, None, false, sym, subst, ap, ◌∙◌}
-use Rattle.psci_link.specs.Message.{AreClaims}
+use Rattle.psci_messages.specs.Message.{AreClaims}
 use Rattle.psci_fw_spec.specs.Changes.{with_arrival}
 use Rattle.psci_fw_spec.specs.Lives.{in_life}
 use Rattle.psci_fw_spec.specs.Values.{Values}

@@ -1,6 +1,6 @@
 -- What an answer depends on.
 use Rattle.std.proofs.Common.{ap, refl}
-use Rattle.psci_link.specs.Slots.{taken}
+use Rattle.psci_messages.specs.Slots.{taken}
 use Rattle.psci_fw_spec.proofs.Depending.{affinity_same, enter_same, mode_same, node_hw_same}
 use Rattle.psci_fw_spec.proofs.Depending.{off_same, on_same, reset_same, suspend_same, system_same}
 use Rattle.psci_fw_spec.proofs.answers.law_answers_depend.Goals as goal

@@ -1,7 +1,7 @@
 use Rattle.std.proofs.Common.{◌≤◌, ◌<◌, ℕ, List, arith, ◌∙◌, ap, sym, subst, length}
 use Rattle.std.proofs.lemmas.Option.{slice_get-get_or}
 use Rattle.psci_board.specs.Board.{height, size_below}
-use Rattle.psci_coord.specs.psci_parts.declared.part.Part.{Part}
+use Rattle.psci_claims.specs.psci_parts.declared.part.Part.{Part}
 use Rattle.psci_tree.specs.Recount.{granted_at, is_confirmed_at}
 use Rattle.psci_fw_state.proofs.Granting.{laid_all, laid_more, may_grant, on_path, on_board}
 use Rattle.psci_fw_state.proofs.Granting.{unconfirmed_all, unconfirmed_more}

@@ -4,7 +4,7 @@ use Rattle.std.proofs.Math.Nat.{min-le_left, min-le_right}
 use Rattle.std.proofs.lemmas.Option.{slice_get-get_or}
 use Rattle.psci_board.specs.Board.{HasNodeIn, height}
 use Rattle.psci_board.specs.declared.node.Node.{Node}
-use Rattle.psci_coord.specs.psci_parts.declared.part.Part.{Part}
+use Rattle.psci_claims.specs.psci_parts.declared.part.Part.{Part}
 use Rattle.psci_tree.specs.declared.standing.Standing.{Standing}
 use Rattle.psci_tree.specs.Recount.{granted_at, is_confirmed_at, known}
 use Rattle.psci_fw_spec.specs.Confirmed.{is_made_at}

@@ -1,8 +1,8 @@
 -- Each level adds the reason of its shallow domains.
 use Rattle.std.proofs.Common.{◌≡◌, ◌∙◌, ◌+◌, ℕ, ap, refl, arith}
 use Rattle.psci_board.specs.Board.{height}
-use Rattle.psci_coord.specs.Looked.{view_of}
-use Rattle.psci_coord.specs.LastCore.{refusal, shallow}
+use Rattle.psci_claims.specs.Looked.{view_of}
+use Rattle.psci_claims.specs.LastCore.{refusal, shallow}
 use Rattle.psci_osi.proofs.Gathered.{shallow_to, path-at, path-refusal-more}
 use Rattle.psci_osi.proofs.last_core.path_refusal.Goals as goal
 

@@ -2,7 +2,7 @@
 use Rattle.std.proofs.Common.{◌∙◌, ◌<◌, ap, sym, arith}
 use Rattle.std.specs.Prelude.{is_some}
 use Rattle.psci_world.specs.psci_board.Board.{cores}
-use Rattle.psci_world.specs.psci_world_spec.psci_link.Slots.{OfCore}
+use Rattle.psci_world.specs.psci_world_spec.psci_messages.Slots.{OfCore}
 use Rattle.psci_settle.specs.Settling.{is_waiting}
 use Rattle.psci_world.specs.psci_world_spec.Histories.{firmware_values}
 use Rattle.psci_settling.proofs.Waiting.{any_first, any_more, some_mapped}

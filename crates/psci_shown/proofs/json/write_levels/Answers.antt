@@ -3,9 +3,15 @@ use Rattle.std.proofs.Common.{◌≡◌, ℕ, ◌+◌, ◌++◌, ◌∙◌, ap, 
 use Rattle.std.specs.Prelude.{codes}
 use Rattle.psci_world.specs.psci_board.Board.{height}
 use Rattle.psci_run.specs.Joined.{comma}
+use Rattle.psci_run.proofs.Joins.{joined_after}
 use Rattle.psci_shown.specs.Json.{cores_text, domains_text}
 use Rattle.psci_shown.proofs.Texts.{joined_all, then_wrote, wrote3}
 use Rattle.psci_shown.proofs.json.write_levels.Goals as goal
+
+pub loop-level-preserved : goal.loop-level-preserved
+loop-level-preserved c =
+    joined_after comma (domains_text c.args.board.now) c.loop-level.level _ _ _ _
+    c.loop-level.invariant c.before-in-loop-level.ensures c.in_ok-write_domains.ensures
 
 pub returns : goal.returns
 returns c =

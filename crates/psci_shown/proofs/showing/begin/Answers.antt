@@ -50,20 +50,18 @@ returns-in_err-run-clause-err g c =
     (subst (λ (u : List ℕ). BoardRead (Err e) (take x.line u)) c.unread.ensures.bytes
     (c.in_err-run.ensures {u = tt}).err))
 
-pub returns-in_err-put-clause-err : goal.returns-in_err-put-clause-err
-returns-in_err-put-clause-err g c =
+pub returns-in-Err-clause-err : goal.returns-in-Err-clause-err
+returns-in-Err-clause-err g c = λ first before k.
     let s = progress_of g.S.Source.left g.K.Sink.taken c.args.progress.now in
     let t = progress_of g.S.Source.left g.K.Sink.taken c.next_line.new.self in
     let form = c.args.form in
     let f = finds_as c.in_ok-extent.field-0 (Some c.in-Some.extent) 1 s t c.in-Some.is
     (c.in_ok-extent.ensures {u = tt}).found in
-    if_err_so c.from_residual-in_err-put.result Memory _ c.from_residual-in_err-put.ensures
-    (λ first before k. still_stops form (shown_of_lines form) first before t c.put.new.self
-    (c.in_err-put.ensures {u = tt}).err
-    (goes_ahead form (shown_of_lines form) first before s t f.0 k))
+    still_stops form (shown_of_lines form) first before t c.put.new.self
+    (c.in-Err.ensures {u = tt}).err (goes_ahead form (shown_of_lines form) first before s t f.0 k)
 
-pub returns-clause-ok : goal.returns-clause-ok
-returns-clause-ok g c = λ first before k.
+pub returns-in-Ok-clause-ok : goal.returns-in-Ok-clause-ok
+returns-in-Ok-clause-ok g c = λ first before k.
     let s = progress_of g.S.Source.left g.K.Sink.taken c.args.progress.now in
     let t = progress_of g.S.Source.left g.K.Sink.taken c.next_line.new.self in
     let form = c.args.form in
@@ -81,5 +79,5 @@ returns-clause-ok g c = λ first before k.
     is.board) is.past
     (is.out ∙ ap (λ (u : List ℕ). heading form (board_text (take x.line u)) run.board)
     c.unread.ensures.bytes)
-    (ap (λ (a : Answered). a.waiting) (c.in_ok-put.ensures {u = tt}).ok
+    (ap (λ (a : Answered). a.waiting) (c.in-Ok.ensures {u = tt}).ok
     ∙ ap (λ (x : List ℕ). t.answered.waiting ++ x) c.deref.ensures.value))

@@ -2,7 +2,7 @@ use Rattle.std.proofs.Common.{◌∙◌, ◌≡◌, ◌∷◌, [], ℕ, List, ar
 use Rattle.std.proofs.Math.ListN.{set}
 use Rattle.psci_tree.specs.Domains.{leaves, IsWay, index_by}
 use Rattle.psci_tree.specs.Kept.{Keeps}
-use Rattle.psci_tree.specs.declared.state.CoreState.{CoreState}
+use Rattle.psci_state.specs.declared.cores.CoreState.{CoreState}
 use Rattle.psci_tree.specs.declared.domain.Domain.{Domain}
 use Rattle.psci_tree.proofs.Slices.{length_cores, size_few}
 use Rattle.psci_tree.proofs.Ways.{system_way}

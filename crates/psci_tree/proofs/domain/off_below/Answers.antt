@@ -3,7 +3,7 @@ use Rattle.std.proofs.lemmas.List.Sums.{count_by-le-length}
 use Rattle.psci_tree.specs.Domains.{cores_in}
 use Rattle.psci_tree.specs.Recount.{is_off}
 use Rattle.psci_tree.specs.declared.domain.Domain.{out-Domain}
-use Rattle.psci_tree.specs.declared.state.CoreState.{CoreState}
+use Rattle.psci_state.specs.declared.cores.CoreState.{CoreState}
 use Rattle.psci_tree.proofs.Below.{length_parts}
 use Rattle.psci_tree.proofs.Keeping.{off_in_next}
 use Rattle.psci_tree.proofs.domain.off_below.Goals as goal

@@ -2,7 +2,7 @@ use Rattle.std.proofs.Common.{refl}
 use Rattle.psci_tree.specs.Recount.{known_at}
 use Rattle.psci_tree.specs.Changes.{suspended, turned_off, made_pending}
 use Rattle.psci_tree.specs.Changes.{started, with_core_state, with_confirmed}
-use Rattle.psci_tree.specs.declared.state.Activity.TheVariants.{Active}
+use Rattle.psci_state.specs.declared.cores.Activity.TheVariants.{Active}
 use Rattle.psci_tree.proofs.Looked.{confirmed_with, confirmed_grant, confirmed_now}
 use Rattle.psci_tree.proofs.laws.law_confirmed.Goals as goal
 

@@ -1,5 +1,5 @@
 use Rattle.std.proofs.Common.{◌≤◌, length, ap, sym, subst, arith}
-use Rattle.psci_link.specs.Message.{MessageValue, most_applied}
+use Rattle.psci_messages.specs.Message.{MessageValue, most_applied}
 use Rattle.psci_ctl.specs.Seen.{seen}
 use Rattle.psci_ctl.proofs.Applying.{applied_few}
 use Rattle.psci_ctl.proofs.controller.Controller.carry_out.Goals as goal

@@ -13,7 +13,7 @@ use Rattle.std_alloc.proofs.SendSync.{quiet, lies}
 use Rattle.std_heap.proofs.Global.TheSendSync as handle
 use Rattle.psci_board.proofs.board.Board.TheSendSync as board
 use Rattle.psci_fw_state.proofs.row.CoreRow.TheSendSync as row
-use Rattle.psci_link.proofs.slots.Slots.TheSendSync as slots
+use Rattle.psci_messages.proofs.slots.Slots.TheSendSync as slots
 use Rattle.psci_tree.proofs.domain.Domain.TheLaws.TheKnot as knot
 use Rattle.psci_ffi.specs.Slot.{Kept, slot_owns}
 use Rattle.psci_ffi.specs.contracts.held.Held as Home

@@ -1,8 +1,8 @@
 use Rattle.std.proofs.Common.{◌≡◌, ◌<◌, true, false, length, sym, subst, ap, arith, ◌∙◌, map}
-use Rattle.psci_link.specs.declared.taken.Taken.TheVariants.{Used}
-use Rattle.psci_link.specs.Message.{AckValue}
-use Rattle.psci_link.specs.Slots.{message_in, slot_of, taken}
-use Rattle.psci_link.specs.Slots.Change.{Acknowledge}
+use Rattle.psci_messages.specs.declared.taken.Taken.TheVariants.{Used}
+use Rattle.psci_messages.specs.Message.{AckValue}
+use Rattle.psci_messages.specs.Slots.{message_in, slot_of, taken}
+use Rattle.psci_messages.specs.Slots.Change.{Acknowledge}
 use Rattle.psci_fw_spec.specs.declared.status.Status.TheVariants as statuses
 use Rattle.psci_fw_spec.specs.Changes.{turns_off}
 use Rattle.psci_fw_state.specs.Rows.{row_at}

@@ -1,5 +1,5 @@
 use Rattle.std.proofs.Common.{◌≡◌, None, ap, ◌∙◌, length, map}
-use Rattle.psci_link.specs.Slots.Change.{Clear}
+use Rattle.psci_messages.specs.Slots.Change.{Clear}
 use Rattle.std.proofs.lemmas.List.{length-set}
 use Rattle.psci_fw_state.specs.Rows.{row_at}
 use Rattle.psci_fw_state.specs.Seen.{StateValue}

@@ -1,5 +1,5 @@
 use Rattle.std.proofs.Common.{◌<◌, None, length, map}
-use Rattle.psci_link.specs.Slots.Change.{Clear}
+use Rattle.psci_messages.specs.Slots.Change.{Clear}
 use Rattle.psci_fw_spec.specs.declared.status.Status.TheVariants as statuses
 use Rattle.psci_fw_state.specs.Seen.{StateValue}
 use Rattle.psci_fw_state.proofs.Changed.{in_rows, row_set, within}

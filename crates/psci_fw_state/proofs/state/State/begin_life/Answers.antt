@@ -1,7 +1,7 @@
 use Rattle.std.proofs.Common.{◌≡◌, ◌<◌, length, sym, ap, ◌∙◌, map}
 use Rattle.std.proofs.lemmas.List.{with_items_is}
 use Rattle.psci_board.specs.Board.{size_below}
-use Rattle.psci_link.specs.Slots.Change.{ClearAll}
+use Rattle.psci_messages.specs.Slots.Change.{ClearAll}
 use Rattle.psci_fw_state.specs.Seen.{StateValue}
 use Rattle.psci_fw_state.proofs.Begun.{at_start, begun, some_below}
 use Rattle.psci_fw_state.proofs.state.State.begin_life.Goals as goal

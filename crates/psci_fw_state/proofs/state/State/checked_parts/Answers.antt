@@ -1,5 +1,5 @@
 use Rattle.std.proofs.Common.{ap, ◌∙◌}
-use Rattle.psci_coord.specs.LastCore.{last_core_check}
+use Rattle.psci_claims.specs.LastCore.{last_core_check}
 use Rattle.psci_fw_state.proofs.Viewed.{viewed}
 use Rattle.psci_fw_state.proofs.state.State.checked_parts.Goals as goal
 

@@ -1,6 +1,6 @@
 use Rattle.std.proofs.Common.{◌≡◌, length, ap, arith, ◌∙◌}
 use Rattle.psci_board.specs.Board.{height}
-use Rattle.psci_link.specs.Message.{MessageValue}
+use Rattle.psci_messages.specs.Message.{MessageValue}
 use Rattle.psci_fw_state.specs.Seen.{StateValue}
 use Rattle.psci_fw_state.proofs.state.State.claim.Goals as goal
 

@@ -1,8 +1,8 @@
 use Rattle.std.proofs.Common.{◌≡◌, ◌∙◌, ℕ, ap, sym, length, subst, map}
 use Rattle.psci_board.specs.Board.{cores}
-use Rattle.psci_link.specs.Message.{MessageValue}
-use Rattle.psci_link.specs.Slots.{Slot, SlotsValue, IsOfCores, message_in, slot_of, changed}
-use Rattle.psci_link.specs.Slots.Change.{Put}
+use Rattle.psci_messages.specs.Message.{MessageValue}
+use Rattle.psci_messages.specs.Slots.{Slot, SlotsValue, IsOfCores, message_in, slot_of, changed}
+use Rattle.psci_messages.specs.Slots.Change.{Put}
 use Rattle.psci_fw_spec.specs.Changes.{with_halt}
 use Rattle.psci_fw_state.specs.Seen.{StateValue, values_in}
 use Rattle.psci_fw_state.proofs.state.State.halt.Goals as goal

@@ -1,5 +1,5 @@
 use Rattle.std.proofs.Common.{ap, ◌∙◌}
-use Rattle.psci_coord.specs.Claim.{platform_claims}
+use Rattle.psci_claims.specs.Claim.{platform_claims}
 use Rattle.psci_fw_state.proofs.Viewed.{viewed}
 use Rattle.psci_fw_state.proofs.state.State.least_parts.Goals as goal
 

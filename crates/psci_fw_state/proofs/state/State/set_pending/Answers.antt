@@ -1,9 +1,9 @@
 use Rattle.std.proofs.Common.{◌≡◌, ◌<◌, Some, length, sym, subst, ap, arith, ◌∙◌, map}
 use Rattle.psci_board.specs.Board.{cores}
-use Rattle.psci_link.specs.declared.kind.Kind.TheVariants as kinds
-use Rattle.psci_link.specs.Message.{MessageValue}
-use Rattle.psci_link.specs.Slots.{IsOfCores, slot_of}
-use Rattle.psci_link.specs.Slots.Change.{Put}
+use Rattle.psci_messages.specs.declared.kind.Kind.TheVariants as kinds
+use Rattle.psci_messages.specs.Message.{MessageValue}
+use Rattle.psci_messages.specs.Slots.{IsOfCores, slot_of}
+use Rattle.psci_messages.specs.Slots.Change.{Put}
 use Rattle.psci_fw_spec.specs.declared.status.Status.TheVariants as statuses
 use Rattle.psci_fw_state.specs.Seen.{StateValue}
 use Rattle.psci_fw_state.proofs.Changed.{core_set, in_rows, row_set, within}

@@ -1,6 +1,6 @@
 use Rattle.std.proofs.Common.{sym, ◌∙◌, ap, Ok, rules}
 use Rattle.psci_board.specs.Board.{BoardValue}
-use Rattle.psci_coord.specs.Claim.{platform_claims}
+use Rattle.psci_claims.specs.Claim.{platform_claims}
 use Rattle.psci_fw_spec.specs.Views.{view}
 use Rattle.psci_fw_state.specs.Seen.{values_in}
 use Rattle.psci_fw_state.proofs.Viewed.{checked, platform_parts}

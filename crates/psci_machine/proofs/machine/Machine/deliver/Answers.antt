@@ -5,7 +5,7 @@ use Rattle.std.proofs.lemmas.Option.{slice_get-get_or}
 use Rattle.psci_ctl.specs.Seen.{seen}
 use Rattle.psci_ctl.specs.psci_ctl_spec.declared.call.CtlCall.TheVariants as calls
 use Rattle.psci_ctl.specs.psci_ctl_spec.Replies.{reply}
-use Rattle.psci_fw.specs.psci_link.Message.{MessageValue}
+use Rattle.psci_fw.specs.psci_messages.Message.{MessageValue}
 use Rattle.psci_world_spec.specs.Legal.{said_by}
 use Rattle.psci_machine.specs.Next.{if_there}
 use Rattle.psci_machine.specs.Seen.{machine_board}

@@ -5,13 +5,13 @@ use Rattle.psci_script.proofs.PartLines.{parts_all, parts_more}
 use Rattle.psci_shown.proofs.answer_text.PartsTextDisplay.fmt.Goals as goal
 
 pub loop-part-init : goal.loop-part-init
-loop-part-init g c = λ plain. c.in_ok-write.ensures.writes plain refl
+loop-part-init g c = λ plain. c.in_ok-write_str.ensures.writes plain refl
 
 pub loop-part-preserved : goal.loop-part-preserved
 loop-part-preserved g c = λ plain.
     let before = c.loop-part.invariant plain in
-    put_two g.W.Write.write_str_gives c.args.f.now c.loop-part.f c.write-in-loop-part.new.self _ _ _
-    before (c.in_ok-write-2.ensures.writes before.plain refl)
+    put_two g.W.Write.write_str_gives c.args.f.now c.loop-part.f c.write.new.self _ _ _
+    before (c.in_ok-write.ensures.writes before.plain refl)
     (parts_more c.args.self.now.0.now c.loop-part.part-index
     (record { level = 0; depth = 0; generation = 0 }) c.loop-part-test.true)
 

@@ -4,7 +4,7 @@ use Rattle.std.proofs.lemmas.List.{get_or_default}
 use Rattle.std.proofs.Math.ListN.{set, length-set}
 use Rattle.std.specs.Vec.{with_item}
 use Rattle.psci_tree.specs.Domains.{leaves, cores_in, branches, child_counts, IsWay, index_by}
-use Rattle.psci_tree.specs.declared.state.CoreState.{CoreState}
+use Rattle.psci_state.specs.declared.cores.CoreState.{CoreState}
 use Rattle.psci_tree.specs.declared.kept.Kept.{Kept}
 use Rattle.psci_tree.specs.Kept.{Keeps, AreKept, IsKept, recount}
 use Rattle.psci_tree.specs.declared.domain.Domain.{Domain}

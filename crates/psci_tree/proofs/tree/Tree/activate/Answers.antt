@@ -1,7 +1,7 @@
 use Rattle.std.proofs.Common.{◌<◌, sym, subst, ap, ◌∙◌}
 use Rattle.std.specs.Prelude.{unwrap_or}
 use Rattle.psci_board.specs.Board.{size_below}
-use Rattle.psci_tree.specs.declared.state.Activity.TheVariants.{Active}
+use Rattle.psci_state.specs.declared.cores.Activity.TheVariants.{Active}
 use Rattle.psci_tree.specs.Changes.{with_core_state}
 use Rattle.psci_tree.specs.Recount.{TreeValue, IsActivity, known_at}
 use Rattle.psci_tree.specs.Way.{IsWayOf}

@@ -6,7 +6,7 @@ use Rattle.psci_tree.specs.Recount.{TreeValue, IsDomainTree, granted_at}
 use Rattle.psci_tree.specs.Changes.{with_confirmed, depth_set}
 use Rattle.psci_tree.specs.Domains.{leaves}
 use Rattle.psci_tree.specs.Inside.{IsTied, IsHeld}
-use Rattle.psci_tree.specs.declared.state.CoreState.{CoreState}
+use Rattle.psci_state.specs.declared.cores.CoreState.{CoreState}
 use Rattle.psci_tree.proofs.Granted.{RowOf, row_of}
 use Rattle.psci_tree.proofs.Valid.{confirmed_valid}
 use Rattle.psci_tree.proofs.tree.Tree.confirm.Goals as goal

@@ -7,7 +7,7 @@ use Rattle.psci_tree.specs.Recount.{TreeValue, IsDomainTree, level_sizes}
 use Rattle.psci_tree.specs.Changes.{with_grant, depth_set, still_confirmed}
 use Rattle.psci_tree.specs.Domains.{leaves}
 use Rattle.psci_tree.specs.Inside.{IsTied, IsHeld}
-use Rattle.psci_tree.specs.declared.state.CoreState.{CoreState}
+use Rattle.psci_state.specs.declared.cores.CoreState.{CoreState}
 use Rattle.psci_tree.proofs.Granted.{RowOf, row_of}
 use Rattle.psci_tree.proofs.Valid.{grant_valid}
 use Rattle.psci_tree.proofs.tree.Tree.grant.Goals as goal

@@ -1,6 +1,6 @@
 use Rattle.std.proofs.Common.{◌≡◌, ◌∙◌, ap, sym, subst, map, get_or, replicate, ℕ, List}
 use Rattle.psci_board.specs.Board.{BoardValue, IsBoard}
-use Rattle.psci_tree.specs.declared.state.CoreState.{CoreState}
+use Rattle.psci_state.specs.declared.cores.CoreState.{CoreState}
 use Rattle.psci_tree.specs.declared.domain.Domain.{Domain}
 use Rattle.psci_tree.specs.Recount.{TreeValue, IsActivity, IsDomainTree, level_sizes, never_started}
 use Rattle.psci_tree.specs.Changes.{rows_with_depth, made_pending, start_of_life, all_off}

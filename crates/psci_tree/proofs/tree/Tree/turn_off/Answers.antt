@@ -2,7 +2,7 @@ use Rattle.std.proofs.Common.{◌≡◌, ◌∙◌, arith, ap, sym, subst, map, 
 use Rattle.std.specs.Vec.{with_items}
 use Rattle.std.proofs.lemmas.List.{with_items_is}
 use Rattle.psci_board.specs.Board.{size_below}
-use Rattle.psci_tree.specs.declared.state.CoreState.{CoreState}
+use Rattle.psci_state.specs.declared.cores.CoreState.{CoreState}
 use Rattle.psci_tree.specs.declared.domain.Domain.{Domain}
 use Rattle.psci_tree.specs.Recount.{TreeValue, IsDomainTree, never_started, level_sizes}
 use Rattle.psci_tree.specs.Changes.{all_off, rows_with_depth}
