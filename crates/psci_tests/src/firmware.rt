@@ -5,7 +5,7 @@ use psci_abi::Regs;
 use psci_board::{Board, Core, Node};
 use psci_board_text::ReadBoard;
 use psci_fw::{Cause, Firmware, FwFault, Hw, Start, Status};
-use psci_link::{Ack, Kind, Taken};
+use psci_messages::{Ack, Kind, Taken};
 use std::alloc::Global;
 use std::process::Abort;
 use std::test::Fail;
@@ -110,41 +110,46 @@ const BOTH_RUN: [Step; 3] = [
     Step::Enter(3, 1, 1, LAST_GOES),
 ];
 
-/// Tells a story of a board, from before the first entry on.
-fn tell(
-    rt: &impl Abort,
-    alloc: Global,
-    name: &str,
-    text: &str,
-    story: &[Step],
-) -> Result<(), Fail> {
-    tell_after(rt, alloc, name, text, &[], story)
+/// Steps that are taken of a new firmware, one after the other.
+#[derive(Clone, Copy)]
+struct Story {
+    name: &'static str,
+    /// The text of its board.
+    board: &'static str,
+    /// The steps that it begins with.
+    before: &'static [Step],
+    /// The steps that come then.
+    steps: &'static [Step],
 }
 
-/// Tells a story of the two clusters, in which both cores run at first.
-fn tell_both(rt: &impl Abort, alloc: Global, name: &str, story: &[Step]) -> Result<(), Fail> {
-    tell_after(rt, alloc, name, BOARD, &BOTH_RUN, story)
-}
+/// A story of the two clusters, from before the first entry on.
+const FIRST_ENTRY: Story = Story {
+    name: "",
+    board: BOARD,
+    before: &[],
+    steps: &[],
+};
 
-/// Tells a story of a board that begins with these steps. Nothing is returned of the firmware, so
-/// that what it answered is not carried along in the proof of a test.
-fn tell_after(
-    rt: &impl Abort,
-    alloc: Global,
-    name: &str,
-    text: &str,
-    before: &[Step],
-    story: &[Step],
-) -> Result<(), Fail> {
-    let board = Board::read(alloc, text)?;
-    let mut firmware = Firmware::new(alloc, &board)?;
-    for (number, step) in before.iter().chain(story).enumerate() {
-        assert!(rt;
-            is_answered(&mut firmware, *step),
-            "{name}, at step {number}"
-        );
+/// A story of the two clusters, in which both cores run at first.
+const BOTH_CORES: Story = Story {
+    before: &BOTH_RUN,
+    ..FIRST_ENTRY
+};
+
+/// Tells these stories.
+fn tell(rt: &impl Abort, alloc: Global, stories: &[Story]) -> Result<(), Fail> {
+    for story in stories {
+        assert_eq!(rt; first_unanswered(alloc, story)?, None, "{}", story.name);
     }
     Ok(())
+}
+
+/// The number of the first step of a story that does not get its answer.
+fn first_unanswered(alloc: Global, story: &Story) -> Result<Option<usize>, Fail> {
+    let board = Board::read(alloc, story.board)?;
+    let mut firmware = Firmware::new(alloc, &board)?;
+    let mut steps = story.before.iter().chain(story.steps);
+    Ok(steps.position(|step| !is_answered(&mut firmware, *step)))
 }
 
 /// Takes a step, and says whether it got its answer.

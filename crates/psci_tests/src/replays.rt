@@ -4,7 +4,6 @@
 use crate::devices::{Page, Script};
 use psci_bench::{ReplayFault, Replayed, ScriptFault, replay};
 use std::alloc::{AllocError, Global};
-use std::process::Abort;
 
 /// One core enters and asks for the version.
 pub const SCRIPT: &[u8] =
@@ -128,6 +127,7 @@ const CALLS: usize = 10_001;
 /// A script, how its devices behave, and what comes of it. Bytes come and go one by one.
 #[derive(Clone, Copy)]
 struct Replay {
+    name: &'static str,
     script: &'static [u8],
     /// Whether the script fails after its last byte.
     breaks: bool,
@@ -145,6 +145,7 @@ struct Replay {
 
 /// The script whose devices do all that is asked.
 const EASY: Replay = Replay {
+    name: "bytes come and go one by one",
     script: SCRIPT,
     breaks: false,
     read_pauses: 0,
@@ -156,7 +157,7 @@ const EASY: Replay = Replay {
 };
 
 /// Replays a script, and compares the answer and the bytes that were taken.
-fn expect(rt: &impl Abort, alloc: Global, name: &str, wanted: &Replay) {
+fn is_replayed(alloc: Global, wanted: &Replay) -> bool {
     let mut script = Script::new(wanted.script);
     script.breaks = wanted.breaks;
     script.pauses = wanted.read_pauses;
@@ -165,11 +166,11 @@ fn expect(rt: &impl Abort, alloc: Global, name: &str, wanted: &Replay) {
     page.room = wanted.room;
     page.breaks = wanted.full_fails;
     let ended = replay(alloc, &mut script, &mut page);
-    assert_eq!(rt; ended, wanted.answer, "{name}");
-    assert_eq!(rt; page.taken.as_slice(), wanted.text, "{name}");
+    ended == wanted.answer && page.taken.as_slice() == wanted.text
 }
 
 const FULL_PAGE: Replay = Replay {
+    name: "the page fails within a line",
     room: 10,
     answer: Err(ReplayFault::Write),
     text: b"1 enter 0x",
@@ -177,6 +178,7 @@ const FULL_PAGE: Replay = Replay {
 };
 
 const PAGE_THAT_TAKES_NOTHING: Replay = Replay {
+    name: "the page takes nothing",
     room: 0,
     full_fails: false,
     answer: Err(ReplayFault::Write),
@@ -185,6 +187,7 @@ const PAGE_THAT_TAKES_NOTHING: Replay = Replay {
 };
 
 const SCRIPT_FAILS: Replay = Replay {
+    name: "the script fails after a line",
     script: ENTRY,
     breaks: true,
     answer: Err(ReplayFault::Read),
@@ -193,12 +196,14 @@ const SCRIPT_FAILS: Replay = Replay {
 };
 
 const INTERRUPTED: Replay = Replay {
+    name: "interruptions are waited for",
     read_pauses: 999,
     write_pauses: 999,
     ..EASY
 };
 
 const READS_GIVEN_UP: Replay = Replay {
+    name: "reads are given up",
     read_pauses: 1000,
     answer: Err(ReplayFault::Read),
     text: b"",
@@ -206,6 +211,7 @@ const READS_GIVEN_UP: Replay = Replay {
 };
 
 const WRITES_GIVEN_UP: Replay = Replay {
+    name: "writes are given up",
     write_pauses: 1000,
     answer: Err(ReplayFault::Write),
     text: b"",
@@ -213,12 +219,14 @@ const WRITES_GIVEN_UP: Replay = Replay {
 };
 
 const NO_LAST_LINE_FEED: Replay = Replay {
+    name: "the last line needs no line feed",
     script: CUT,
     text: b"1 enter 0x40000000 0x0\n2 return -1\n",
     ..EASY
 };
 
 const STALE_MESSAGE: Replay = Replay {
+    name: "stale message",
     script: STALE,
     answer: Ok(Replayed {
         lines: 13,
@@ -229,6 +237,7 @@ const STALE_MESSAGE: Replay = Replay {
 };
 
 const TWO_LIVES: Replay = Replay {
+    name: "two lives",
     script: LIVES,
     answer: Ok(Replayed {
         lines: 16,
@@ -239,6 +248,7 @@ const TWO_LIVES: Replay = Replay {
 };
 
 const TWO_NUMBERS: Replay = Replay {
+    name: "delivery of two numbers",
     script: FIRST,
     answer: Err(ReplayFault::Script {
         line: 8,
@@ -249,6 +259,7 @@ const TWO_NUMBERS: Replay = Replay {
 };
 
 const FIVE_MESSAGES: Replay = Replay {
+    name: "five messages on 256 cores",
     script: MESSAGES,
     answer: Ok(Replayed {
         lines: 8,
@@ -258,31 +269,27 @@ const FIVE_MESSAGES: Replay = Replay {
     ..EASY
 };
 
+/// All of them.
+const REPLAYS: [Replay; 12] = [
+    EASY,
+    FULL_PAGE,
+    PAGE_THAT_TAKES_NOTHING,
+    SCRIPT_FAILS,
+    INTERRUPTED,
+    READS_GIVEN_UP,
+    WRITES_GIVEN_UP,
+    NO_LAST_LINE_FEED,
+    STALE_MESSAGE,
+    TWO_LIVES,
+    TWO_NUMBERS,
+    FIVE_MESSAGES,
+];
+
 #[test]
 fn scripts_are_replayed(rt: HostRuntime) {
-    let alloc = rt.alloc();
-    expect(&rt, alloc, "bytes come and go one by one", &EASY);
-    expect(&rt, alloc, "the page fails within a line", &FULL_PAGE);
-    expect(
-        &rt,
-        alloc,
-        "the page takes nothing",
-        &PAGE_THAT_TAKES_NOTHING,
-    );
-    expect(&rt, alloc, "the script fails after a line", &SCRIPT_FAILS);
-    expect(&rt, alloc, "interruptions are waited for", &INTERRUPTED);
-    expect(&rt, alloc, "reads are given up", &READS_GIVEN_UP);
-    expect(&rt, alloc, "writes are given up", &WRITES_GIVEN_UP);
-    expect(
-        &rt,
-        alloc,
-        "the last line needs no line feed",
-        &NO_LAST_LINE_FEED,
-    );
-    expect(&rt, alloc, "stale message", &STALE_MESSAGE);
-    expect(&rt, alloc, "two lives", &TWO_LIVES);
-    expect(&rt, alloc, "delivery of two numbers", &TWO_NUMBERS);
-    expect(&rt, alloc, "five messages on 256 cores", &FIVE_MESSAGES);
+    for wanted in &REPLAYS {
+        assert!(rt; is_replayed(rt.alloc(), wanted), "{}", wanted.name);
+    }
 }
 
 #[test]

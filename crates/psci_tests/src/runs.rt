@@ -5,11 +5,10 @@ use crate::answer::Answer;
 use psci_abi::Regs;
 use psci_board::{Board, Core};
 use psci_board_text::ReadBoard;
-use psci_link::{Ack, Kind, Taken};
 use psci_machine::Machine;
-use psci_world::{Cause, Event, Place, Said, Start, run};
+use psci_messages::{Ack, Kind, Taken};
+use psci_world::{Cause, Event, Place, Record, Said, Start, run};
 use std::alloc::Global;
-use std::process::Abort;
 use std::test::Fail;
 
 /// Two clusters of two cores, of which each may be started three times in each of two lives.
@@ -152,67 +151,131 @@ const NOTHING_HAPPENS: [(Event, Wanted); 3] = [
     (Event::Take(0), Wanted::Absent),
 ];
 
-/// Runs these events on the board, and compares the records.
-fn tell(rt: &impl Abort, alloc: Global, name: &str, story: &[(Event, Wanted)]) -> Result<(), Fail> {
+/// Events that happen on the board, one after the other, and what is said of each.
+struct Story {
+    name: &'static str,
+    events: &'static [(Event, Wanted)],
+}
+
+const STORIES: [Story; 5] = [
+    Story {
+        name: "starts and goes down",
+        events: &STARTS_AND_GOES_DOWN,
+    },
+    Story {
+        name: "wakes and is reset",
+        events: &WAKES_AND_IS_RESET,
+    },
+    Story {
+        name: "reset and off",
+        events: &RESET_AND_OFF,
+    },
+    Story {
+        name: "nothing happens",
+        events: &NOTHING_HAPPENS,
+    },
+    Story {
+        name: "no event",
+        events: &[],
+    },
+];
+
+/// The records of a run of these events.
+fn run_of(alloc: Global, story: &[(Event, Wanted)]) -> Result<Vec<Record>, Fail> {
     let board = Board::read(alloc, BOARD)?;
     let mut events = Vec::new(alloc);
     for (event, _) in story {
         events.push(*event)?;
     }
-    let records = run(alloc, &board, events.as_slice())?;
-    assert_eq!(rt; records.len(), story.len());
-    for (number, (record, (event, wanted))) in records.iter().zip(story).enumerate() {
-        let as_wanted = record.event == *event && is_said(&record.said, *wanted);
-        assert!(rt; as_wanted, "{name}, at event {number}");
+    Ok(run(alloc, &board, events.as_slice())?)
+}
+
+/// The number of the first record that is not as wanted, or else of the first one that is missing
+/// or is there too many.
+fn first_wrong(alloc: Global, story: &[(Event, Wanted)]) -> Result<Option<usize>, Fail> {
+    let records = run_of(alloc, story)?;
+    let wrong = first_other(records.as_slice(), story);
+    if wrong.is_none() && records.len() != story.len() {
+        return Ok(Some(records.len().min(story.len())));
     }
-    Ok(())
+    Ok(wrong)
+}
+
+/// The number of the first record that is not as wanted.
+fn first_other(records: &[Record], story: &[(Event, Wanted)]) -> Option<usize> {
+    records.iter().zip(story).position(|(record, (event, wanted))| {
+        record.event != *event || !is_said(&record.said, *wanted)
+    })
 }
 
 #[test]
 fn runs_have_known_records(rt: HostRuntime) -> Result<(), Fail> {
-    let alloc = rt.alloc();
-    tell(&rt, alloc, "starts and goes down", &STARTS_AND_GOES_DOWN)?;
-    tell(&rt, alloc, "wakes and is reset", &WAKES_AND_IS_RESET)?;
-    tell(&rt, alloc, "reset and off", &RESET_AND_OFF)?;
-    tell(&rt, alloc, "nothing happens", &NOTHING_HAPPENS)?;
-    tell(&rt, alloc, "no event", &[])
+    for story in &STORIES {
+        let wrong = first_wrong(rt.alloc(), story.events)?;
+        assert_eq!(rt; wrong, None, "{}", story.name);
+    }
+    Ok(())
 }
 
-/// What a machine says of events before which nothing was sent: a core wakes, and one is asked on.
-const SAID: [(Event, Wanted); 6] = [
-    (Event::Wake(3), Wanted::Kick(1, Cause::Wake)),
-    (Event::Wake(3), Wanted::Ignored),
-    (Event::Deliver(0), Wanted::Absent),
-    (Event::Take(0), Wanted::Absent),
-    (Event::Enter(0), Wanted::Fw(Answer::Goes(0x4000_0000, 0))),
-    (
+/// Something that happens to a machine before anything was sent or is asked of it, and the answer.
+#[derive(Clone, Copy)]
+enum Step {
+    /// The event happens, and this is said.
+    Happens(Event, Wanted),
+    /// Where a core is.
+    At(u16, Place),
+    /// The lives of the firmware and of the power controller.
+    Lives(Option<u32>, Option<u32>),
+}
+
+/// A core wakes, and one is asked on.
+const STEPS: [Step; 12] = [
+    Step::At(0, Place::Started),
+    Step::At(3, Place::Stopped),
+    Step::Lives(None, Some(1)),
+    Step::Happens(Event::Wake(3), Wanted::Kick(1, Cause::Wake)),
+    Step::Happens(Event::Wake(3), Wanted::Ignored),
+    Step::Happens(Event::Deliver(0), Wanted::Absent),
+    Step::Happens(Event::Take(0), Wanted::Absent),
+    Step::Happens(Event::Enter(0), Wanted::Fw(Answer::Goes(0x4000_0000, 0))),
+    Step::Happens(
         Event::Call(0, CPU_ON),
         Wanted::Sent(0, Answer::Asks(3, 1, 0)),
     ),
+    Step::At(0, Place::Running),
+    Step::At(3, Place::Started),
+    Step::Lives(Some(1), Some(1)),
 ];
 
-/// Where a core of the machine is, if the board has it.
-fn place(machine: &Machine, number: u16) -> Option<Place> {
-    (number < machine.controller().board().cores()).then(|| machine.place(Core { number }))
+/// Takes a step, and says whether it got its answer.
+fn is_answered(machine: &mut Machine, step: Step) -> bool {
+    match step {
+        Step::Happens(event, wanted) => is_said(&machine.step(event, &[], &[]), wanted),
+        Step::At(number, place) => is_at(machine, number, place),
+        Step::Lives(firmware, controller) => {
+            machine.firmware().life() == firmware && machine.controller().life() == controller
+        }
+    }
 }
 
-/// An event happens before which nothing was sent, and this is said.
-fn happens(machine: &mut Machine, event: Event, wanted: Wanted) -> bool {
-    is_said(&machine.step(event, &[], &[]), wanted)
+/// The board has the core, and it is there.
+fn is_at(machine: &Machine, number: u16, place: Place) -> bool {
+    number < machine.controller().board().cores() && machine.place(Core { number }) == place
+}
+
+/// Takes these steps, and says the number of the first one that did not get its answer.
+fn first_unanswered(alloc: Global, steps: &[Step]) -> Result<Option<usize>, Fail> {
+    let board = Board::read(alloc, BOARD)?;
+    let mut machine = Machine::new(alloc, &board)?;
+    Ok(
+        steps
+            .iter()
+            .position(|step| !is_answered(&mut machine, *step)),
+    )
 }
 
 #[test]
 fn machines_step(rt: HostRuntime) -> Result<(), Fail> {
-    let board = Board::read(rt.alloc(), BOARD)?;
-    let mut machine = Machine::new(rt.alloc(), &board)?;
-    assert_eq!(rt; place(&machine, 0), Some(Place::Started));
-    assert_eq!(rt; place(&machine, 3), Some(Place::Stopped));
-    assert_eq!(rt; machine.controller().life(), Some(1));
-    assert_eq!(rt; machine.firmware().life(), None);
-    for (number, (event, wanted)) in SAID.iter().enumerate() {
-        assert!(rt; happens(&mut machine, *event, *wanted), "at event {number}");
-    }
-    assert_eq!(rt; place(&machine, 0), Some(Place::Running));
-    assert_eq!(rt; place(&machine, 3), Some(Place::Started));
+    assert_eq!(rt; first_unanswered(rt.alloc(), &STEPS)?, None);
     Ok(())
 }

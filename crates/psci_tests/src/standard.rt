@@ -4,7 +4,6 @@ use crate::replays::{SCRIPT, TEXT, WHOLE};
 use psci_bench::{ReplayFault, Replayed, Std, replay};
 use std::alloc::Global;
 use std::io::{self, ErrorKind, Read, Write};
-use std::process::Abort;
 
 /// A script that comes after some interruptions, and ends or fails then.
 #[derive(Drop)]
@@ -59,70 +58,96 @@ impl Write for Writer {
     }
 }
 
-/// Replays the script between such a reader and such a writer, and compares the answer and the
-/// bytes that were taken.
-fn expect(
-    rt: &impl Abort,
-    alloc: Global,
-    (read_pauses, read_failure): (u32, Option<ErrorKind>),
-    (write_pauses, room, write_failure): (u32, usize, Option<ErrorKind>),
+/// How the devices behave between which the script is replayed, and what comes of it.
+#[derive(Clone, Copy)]
+struct Replay {
+    name: &'static str,
+    read_pauses: u32,
+    read_failure: Option<ErrorKind>,
+    write_pauses: u32,
+    room: usize,
+    write_failure: Option<ErrorKind>,
     answer: Result<Replayed, ReplayFault>,
-    text: &[u8],
-) {
-    let reader = Reader {
-        rest: SCRIPT,
-        pauses: read_pauses,
-        failure: read_failure,
-    };
-    let mut writer = Writer {
-        taken: Vec::new(alloc),
-        pauses: write_pauses,
-        room,
-        failure: write_failure,
-    };
-    let ended = replay(alloc, &mut Std::new(reader), &mut Std::new(&mut writer));
-    assert_eq!(rt; ended, answer);
-    assert_eq!(rt; writer.taken.as_slice(), text);
+    text: &'static [u8],
 }
+
+/// The devices interrupt as often as may be.
+const INTERRUPTED: Replay = Replay {
+    name: "interruptions are waited for",
+    read_pauses: 999,
+    read_failure: None,
+    write_pauses: 999,
+    room: 1000,
+    write_failure: None,
+    answer: Ok(WHOLE),
+    text: TEXT,
+};
+
+const READS_GIVEN_UP: Replay = Replay {
+    name: "reads are given up",
+    read_pauses: 1000,
+    write_pauses: 0,
+    answer: Err(ReplayFault::Read),
+    text: b"",
+    ..INTERRUPTED
+};
+
+const READ_FAILS: Replay = Replay {
+    name: "a read fails",
+    read_pauses: 0,
+    read_failure: Some(ErrorKind::BrokenPipe),
+    text: TEXT,
+    ..READS_GIVEN_UP
+};
+
+const WRITE_FAILS: Replay = Replay {
+    name: "a write fails",
+    read_pauses: 0,
+    write_pauses: 0,
+    room: 10,
+    write_failure: Some(ErrorKind::StorageFull),
+    answer: Err(ReplayFault::Write),
+    text: b"1 enter 0x",
+    ..INTERRUPTED
+};
+
+const NO_BYTE_WRITTEN: Replay = Replay {
+    name: "a write of no byte",
+    write_failure: None,
+    ..WRITE_FAILS
+};
 
 /// Interruptions are no failures up to 999; a failed read, a failed write and a write of no byte
 /// are.
+const REPLAYS: [Replay; 5] = [
+    INTERRUPTED,
+    READS_GIVEN_UP,
+    READ_FAILS,
+    WRITE_FAILS,
+    NO_BYTE_WRITTEN,
+];
+
+/// Replays the script between such a reader and such a writer, and compares the answer and the
+/// bytes that were taken.
+fn is_replayed(alloc: Global, wanted: &Replay) -> bool {
+    let reader = Reader {
+        rest: SCRIPT,
+        pauses: wanted.read_pauses,
+        failure: wanted.read_failure,
+    };
+    let mut writer = Writer {
+        taken: Vec::new(alloc),
+        pauses: wanted.write_pauses,
+        room: wanted.room,
+        failure: wanted.write_failure,
+    };
+    let ended = replay(alloc, &mut Std::new(reader), &mut Std::new(&mut writer));
+    ended == wanted.answer && writer.taken.as_slice() == wanted.text
+}
+
 #[test]
 fn standard_devices_are_waited_for_and_fail(rt: HostRuntime) {
-    let alloc = rt.alloc();
-    let broken = Some(ErrorKind::BrokenPipe);
-    let full = Some(ErrorKind::StorageFull);
-    expect(&rt, alloc, (999, None), (999, 1000, None), Ok(WHOLE), TEXT);
-    expect(
-        &rt,
-        alloc,
-        (1000, None),
-        (0, 1000, None),
-        Err(ReplayFault::Read),
-        b"",
-    );
-    expect(
-        &rt,
-        alloc,
-        (0, broken),
-        (0, 1000, None),
-        Err(ReplayFault::Read),
-        TEXT,
-    );
-    expect(
-        &rt,
-        alloc,
-        (0, None),
-        (0, 10, full),
-        Err(ReplayFault::Write),
-        b"1 enter 0x",
-    );
-    expect(
-        &rt,
-        alloc,
-        (0, None),
-        (0, 10, None),
-        Err(ReplayFault::Write),
-        b"1 enter 0x",
-    );
+    for wanted in &REPLAYS {
+        assert!(rt; is_replayed(rt.alloc(), wanted), "{}", wanted.name);
+    }
 }

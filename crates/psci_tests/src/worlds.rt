@@ -8,7 +8,6 @@ use psci_machine::Machine;
 use psci_settling::{Settled, settle};
 use psci_world::{Event, Place, World};
 use std::alloc::Global;
-use std::process::Abort;
 use std::test::Fail;
 
 /// Two clusters of two cores.
@@ -194,7 +193,7 @@ fn is_at(world: &World, number: u16, place: Place) -> bool {
 }
 
 /// Nothing is outstanding, and each domain is as deep as was granted.
-fn agrees(world: &World) -> bool {
+pub(crate) fn agrees(world: &World) -> bool {
     let board = world.board();
     for core in 0..board.cores() + 1 {
         if world.firmware().outstanding(core).is_some() {
@@ -212,25 +211,57 @@ fn agrees(world: &World) -> bool {
     true
 }
 
-/// Tells a story of the board, from before the first event on.
-fn tell(rt: &impl Abort, alloc: Global, name: &str, story: &[Step]) -> Result<(), Fail> {
+/// Steps that are taken from before the first event on, one after the other.
+struct Story {
+    name: &'static str,
+    steps: &'static [Step],
+}
+
+const STORIES: [Story; 6] = [
+    Story {
+        name: "read",
+        steps: &READ,
+    },
+    Story {
+        name: "new world",
+        steps: &NEW_WORLD,
+    },
+    Story {
+        name: "both clusters",
+        steps: &BOTH_CLUSTERS,
+    },
+    Story {
+        name: "outstanding start",
+        steps: &OUTSTANDING_START,
+    },
+    Story {
+        name: "halting",
+        steps: &HALTING,
+    },
+    Story {
+        name: "reset",
+        steps: &RESET,
+    },
+];
+
+/// Takes these steps, and says the number of the first one that did not get its answer.
+fn first_unanswered(alloc: Global, steps: &[Step]) -> Result<Option<usize>, Fail> {
     let board = Board::read(alloc, BOARD)?;
     let mut world = World::new(alloc, &board)?;
-    for (number, step) in story.iter().enumerate() {
-        assert!(rt; is_answered(&mut world, *step), "{name}, at step {number}");
-    }
-    Ok(())
+    Ok(
+        steps
+            .iter()
+            .position(|step| !is_answered(&mut world, *step)),
+    )
 }
 
 #[test]
 fn worlds_are_read_and_settle(rt: HostRuntime) -> Result<(), Fail> {
-    let alloc = rt.alloc();
-    tell(&rt, alloc, "read", &READ)?;
-    tell(&rt, alloc, "new world", &NEW_WORLD)?;
-    tell(&rt, alloc, "both clusters", &BOTH_CLUSTERS)?;
-    tell(&rt, alloc, "outstanding start", &OUTSTANDING_START)?;
-    tell(&rt, alloc, "halting", &HALTING)?;
-    tell(&rt, alloc, "reset", &RESET)
+    for story in &STORIES {
+        let wrong = first_unanswered(rt.alloc(), story.steps)?;
+        assert_eq!(rt; wrong, None, "{}", story.name);
+    }
+    Ok(())
 }
 
 /// Boards of each height, and the largest number of cores.

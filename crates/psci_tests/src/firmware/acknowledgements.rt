@@ -108,14 +108,46 @@ const CONFIRMED_IN_PART: [Step; 19] = [
     Step::Hardware(2, 0, Some(Hw::Off)),
 ];
 
+/// The stories of cores that stop.
+const STORIES: [Story; 7] = [
+    Story {
+        name: "off once acknowledged",
+        steps: &OFF_ONCE_ACKNOWLEDGED,
+        ..BOTH_CORES
+    },
+    Story {
+        name: "start acknowledged",
+        steps: &START_ACKNOWLEDGED,
+        ..FIRST_ENTRY
+    },
+    Story {
+        name: "woken from off",
+        steps: &WOKEN_FROM_OFF,
+        ..BOTH_CORES
+    },
+    Story {
+        name: "all parts",
+        steps: &ALL_PARTS,
+        ..BOTH_CORES
+    },
+    Story {
+        name: "partly applied",
+        steps: &PARTLY_APPLIED,
+        ..BOTH_CORES
+    },
+    Story {
+        name: "nothing applied",
+        steps: &NOTHING_APPLIED,
+        ..BOTH_CORES
+    },
+    Story {
+        name: "confirmed in part",
+        steps: &CONFIRMED_IN_PART,
+        ..FIRST_ENTRY
+    },
+];
+
 #[test]
 fn cores_are_off_once_acknowledged(rt: HostRuntime) -> Result<(), Fail> {
-    let alloc = rt.alloc();
-    tell_both(&rt, alloc, "off once acknowledged", &OFF_ONCE_ACKNOWLEDGED)?;
-    tell(&rt, alloc, "start acknowledged", BOARD, &START_ACKNOWLEDGED)?;
-    tell_both(&rt, alloc, "woken from off", &WOKEN_FROM_OFF)?;
-    tell_both(&rt, alloc, "all parts", &ALL_PARTS)?;
-    tell_both(&rt, alloc, "partly applied", &PARTLY_APPLIED)?;
-    tell_both(&rt, alloc, "nothing applied", &NOTHING_APPLIED)?;
-    tell(&rt, alloc, "confirmed in part", BOARD, &CONFIRMED_IN_PART)
+    tell(&rt, rt.alloc(), &STORIES)
 }

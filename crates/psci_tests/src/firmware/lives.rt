@@ -105,27 +105,47 @@ const LATER_LIFE: [Step; 11] = [
     Step::Enter(3, 3, 1, Answer::Goes(0x4000_2000, 7)),
 ];
 
+/// The stories of the whole system.
+const STORIES: [Story; 7] = [
+    Story {
+        name: "suspended",
+        steps: &SUSPENDED,
+        ..FIRST_ENTRY
+    },
+    Story {
+        name: "not alone",
+        steps: &NOT_ALONE,
+        ..BOTH_CORES
+    },
+    Story {
+        name: "at the start limit",
+        board: TWO_STARTS,
+        steps: &AT_THE_START_LIMIT,
+        ..FIRST_ENTRY
+    },
+    Story {
+        name: "halting",
+        steps: &HALTING,
+        ..BOTH_CORES
+    },
+    Story {
+        name: "pending in a halting life",
+        steps: &PENDING_IN_A_HALTING_LIFE,
+        ..FIRST_ENTRY
+    },
+    Story {
+        name: "new life",
+        steps: &NEW_LIFE,
+        ..BOTH_CORES
+    },
+    Story {
+        name: "later life",
+        steps: &LATER_LIFE,
+        ..FIRST_ENTRY
+    },
+];
+
 #[test]
 fn systems_are_suspended_and_lives_end(rt: HostRuntime) -> Result<(), Fail> {
-    let alloc = rt.alloc();
-    tell(&rt, alloc, "suspended", BOARD, &SUSPENDED)?;
-    tell_both(&rt, alloc, "not alone", &NOT_ALONE)?;
-    tell(
-        &rt,
-        alloc,
-        "at the start limit",
-        TWO_STARTS,
-        &AT_THE_START_LIMIT,
-    )?;
-    tell_both(&rt, alloc, "halting", &HALTING)?;
-    tell(
-        &rt,
-        alloc,
-        "pending in a halting life",
-        BOARD,
-        &PENDING_IN_A_HALTING_LIFE,
-    )?;
-    tell_both(&rt, alloc, "new life", &NEW_LIFE)?;
-    tell(&rt, alloc, "later life", BOARD, &LATER_LIFE)?;
-    Ok(())
+    tell(&rt, rt.alloc(), &STORIES)
 }

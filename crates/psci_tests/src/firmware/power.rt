@@ -86,14 +86,41 @@ const MODES: [Step; 10] = [
     Step::Call(0, PLATFORM_MODE, Answer::Returns(0)),
 ];
 
+/// The stories of suspended cores.
+const STORIES: [Story; 6] = [
+    Story {
+        name: "retained",
+        steps: &RETAINED,
+        ..BOTH_CORES
+    },
+    Story {
+        name: "later start",
+        steps: &LATER_START,
+        ..BOTH_CORES
+    },
+    Story {
+        name: "known start",
+        steps: &KNOWN_START,
+        ..FIRST_ENTRY
+    },
+    Story {
+        name: "faulty state",
+        steps: &FAULTY_STATE,
+        ..FIRST_ENTRY
+    },
+    Story {
+        name: "last core",
+        steps: &LAST_CORE,
+        ..FIRST_ENTRY
+    },
+    Story {
+        name: "modes",
+        steps: &MODES,
+        ..FIRST_ENTRY
+    },
+];
+
 #[test]
 fn cores_are_suspended_and_resume(rt: HostRuntime) -> Result<(), Fail> {
-    let alloc = rt.alloc();
-    tell_both(&rt, alloc, "retained", &RETAINED)?;
-    tell_both(&rt, alloc, "later start", &LATER_START)?;
-    tell(&rt, alloc, "known start", BOARD, &KNOWN_START)?;
-    tell(&rt, alloc, "faulty state", BOARD, &FAULTY_STATE)?;
-    tell(&rt, alloc, "last core", BOARD, &LAST_CORE)?;
-    tell(&rt, alloc, "modes", BOARD, &MODES)?;
-    Ok(())
+    tell(&rt, rt.alloc(), &STORIES)
 }

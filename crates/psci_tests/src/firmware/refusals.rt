@@ -77,22 +77,59 @@ const LAST_OF_ALL: [Step; 4] = [
     Step::EntryRefused(256, 65535, 1, FwFault::NoCore),
 ];
 
+/// The stories of refusals.
+const STORIES: [Story; 6] = [
+    Story {
+        name: "second core",
+        steps: &SECOND_CORE,
+        ..FIRST_ENTRY
+    },
+    Story {
+        name: "callers",
+        steps: &CALLERS,
+        ..FIRST_ENTRY
+    },
+    Story {
+        name: "starts",
+        steps: &STARTS,
+        ..FIRST_ENTRY
+    },
+    Story {
+        name: "parked",
+        steps: &PARKED,
+        ..FIRST_ENTRY
+    },
+    Story {
+        name: "last start",
+        board: TWO_STARTS,
+        steps: &LAST_START,
+        ..FIRST_ENTRY
+    },
+    Story {
+        name: "last of all",
+        board: LARGEST,
+        steps: &LAST_OF_ALL,
+        ..FIRST_ENTRY
+    },
+];
+
 #[test]
 fn starts_and_calls_are_refused_in_order(rt: HostRuntime) -> Result<(), Fail> {
-    let alloc = rt.alloc();
-    tell(&rt, alloc, "second core", BOARD, &SECOND_CORE)?;
-    tell(&rt, alloc, "callers", BOARD, &CALLERS)?;
-    tell(&rt, alloc, "starts", BOARD, &STARTS)?;
-    tell(&rt, alloc, "parked", BOARD, &PARKED)?;
-    tell(&rt, alloc, "last start", TWO_STARTS, &LAST_START)?;
-    tell(&rt, alloc, "last of all", LARGEST, &LAST_OF_ALL)?;
-    for (fault, text) in [
-        (FwFault::NoCore, "the board has no such core"),
-        (FwFault::NoLife, "there is no such life"),
-        (FwFault::NotRunning, "the calling core is not running"),
-        (FwFault::OldStart, "the start is not a new one of the core"),
-    ] {
-        let said = format!(in alloc; "{fault}")?;
+    tell(&rt, rt.alloc(), &STORIES)
+}
+
+/// The faults, and what they say.
+const FAULTS: [(FwFault, &str); 4] = [
+    (FwFault::NoCore, "the board has no such core"),
+    (FwFault::NoLife, "there is no such life"),
+    (FwFault::NotRunning, "the calling core is not running"),
+    (FwFault::OldStart, "the start is not a new one of the core"),
+];
+
+#[test]
+fn faults_are_shown(rt: HostRuntime) -> Result<(), Fail> {
+    for (fault, text) in FAULTS {
+        let said = format!(in rt.alloc(); "{fault}")?;
         assert_eq!(rt; said.as_str(), text);
     }
     Ok(())
