@@ -31,6 +31,8 @@ use storm_line::write_storm;
 use threads_line::run_threads;
 
 /// Replays the script on standard input in a world of its own.
+// Each command has a frame of its own, so that none lies on the stack beneath another.
+#[inline(never)]
 fn replay_standard(rt: &HostRuntime) -> Result<(), Failure>
     ensures { IfErr result IsOfReplay }
 {
@@ -79,6 +81,7 @@ fn unkept(error: &io::Error) -> Failure
 
 /// Makes a storm, keeps it where that is asked for, and writes on standard output what is asked of
 /// it.
+#[inline(never)]
 fn storm_standard(rt: &HostRuntime, request: StormRequest) -> Result<(), Failure>
     ensures ends { StormEnds result (board_of request.entry.board.now) }
 {

@@ -12,6 +12,7 @@ use psci_shown::{Form, Layout, show};
 const WIDTH: u16 = 80;
 
 /// Shows the script on standard input in a world of its own.
+#[inline(never)]
 pub fn show_standard(rt: &HostRuntime, request: ShowRequest) -> Result<(), Failure>
     ensures { IfErr result IsOfReplay }
 {

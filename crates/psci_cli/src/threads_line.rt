@@ -19,6 +19,7 @@ use std::thread::Threads;
 const MOST_CORES: u16 = 64;
 
 /// Starts the threads that are asked for, and writes the line of what they did.
+#[inline(never)]
 pub fn run_threads<R: Threads + Wait + Sync, W: Write>(
     rt: &R,
     alloc: Global,
