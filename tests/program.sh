@@ -68,12 +68,16 @@ little_memory() {
 
 # the stack that docs/COSTS.md names is enough
 little_stack() {
-    local words
+    local words run
     one_entry
     for words in replay --help; do
-        (ulimit -s 48 && exec env -i "$program" "$words" < "$work/script" > "$work/out" 2> "$work/err")
-        echo $? > "$work/got"
-        expect "$words on a stack of 48 KiB" 0
+        # the kernel begins the stack up to 8 KiB lower, each time by another amount
+        for run in {1..40}; do
+            (ulimit -s 48 && exec env -i "$program" "$words" < "$work/script" > "$work/out" 2> "$work/err")
+            echo $? > "$work/got"
+            [ "$(cat "$work/got")" = 0 ] || break
+        done
+        expect "$words on a stack of 48 KiB, run $run" 0
     done
 }
 
