@@ -1,6 +1,6 @@
 //! An event as a JSON object.
 
-ghost use Rattle.std.specs.Prelude.{◌≡◌, ◌≤◌, ◌++◌, [], OnOk, codes, length, reverse};
+ghost use Rattle.std.specs.Prelude.{◌≡◌, ◌≤◌, ◌++◌, [], OnOk, codes, length};
 ghost use Rattle.std.specs.Prelude.{string_bytes};
 ghost use Rattle.std.specs.Fmt.{decimal};
 ghost use Rattle.psci_world.specs.psci_board.Board.{cores, height};
@@ -8,51 +8,24 @@ ghost use Rattle.psci_world.specs.psci_world_spec.Places.{place};
 ghost use Rattle.psci_world.specs.psci_world_spec.declared.event.Event.TheVariants.{Call};
 ghost use Rattle.psci_show.specs.Columns.{core_state};
 ghost use Rattle.psci_run.specs.Joined.{comma, joined};
-ghost use Rattle.psci_run.specs.Run.{answered};
 ghost use Rattle.psci_shown.specs.Json as json;
 ghost use Rattle.psci_shown.specs.Json.{all_depths, cores_members, depths_members, event_members};
 ghost use Rattle.psci_shown.specs.Json.{event_object, level_depths, life_members};
-ghost use Rattle.psci_shown.specs.Json.{message_members, part_text, parts_text, words_members};
+ghost use Rattle.psci_shown.specs.Json.{words_members};
 
 use crate::answer_text::AnswerText;
-use crate::json::{before, kind_word, place_word, state_word, truth};
+use crate::json::{before, place_word, state_word, truth};
 use crate::lines::put;
+use crate::message_json::write_messages;
 use psci_run::Run;
 use psci_show::{AskedText, Depths, SaidText, is_told};
-use psci_world::{Ack, Core, Event, Kind, Node, Part, Record, Regs, Said, Sent};
+use psci_world::{Core, Event, Node, Record, Regs};
 use std::alloc::AllocError;
 use std::fmt;
-
-/// What a message and its acknowledgement have in common.
-#[derive(Clone, Copy)]
-struct NameText {
-    kind: Kind,
-    core: Core,
-    life: u32,
-    number: u32,
-}
 
 /// The life, if there is one.
 #[derive(Clone, Copy)]
 struct LifeText(Option<u32>);
-
-impl fmt::Display for NameText {
-    ghost use Rattle.std.specs.Prelude.{Some};
-    ghost use Rattle.psci_shown.specs.Json.{name_text};
-
-    ghost output = { λ name. Some (name_text name.kind name.core.number name.life name.number) };
-
-    fn fmt<W: fmt::Write>(&self, f: &mut fmt::Formatter<W>) -> fmt::Result {
-        let kind = kind_word(self.kind);
-        let core = self.core.number;
-        let life = self.life;
-        let number = self.number;
-        write!(
-            f,
-            "\"kind\": \"{kind}\", \"core\": {core}, \"life\": {life}, \"number\": {number}"
-        )
-    }
-}
 
 impl fmt::Display for LifeText {
     ghost use Rattle.std.specs.Prelude.{Some};
@@ -229,127 +202,6 @@ fn write_depths(out: &mut String, run: &Run) -> Result<(), AllocError>
     } else {
         write!(out, ", \"granted\": null")
     }
-}
-
-/// Writes a part of a message, behind this text: level, depth and generation.
-fn write_part(out: &mut String, between: &str, part: &Part) -> Result<(), AllocError>
-    ensures { OnOk result (string_bytes out.new
-        ≡ string_bytes out.old ++ (between.now ++ part_text part.now)) }
-{
-    let Part {
-        level,
-        depth,
-        generation,
-    } = part;
-    write!(out, "{between}[{level}, {depth}, {generation}]")
-}
-
-/// Writes the parts of a message.
-fn write_parts(out: &mut String, parts: &[Part]) -> Result<(), AllocError>
-    ensures { OnOk result (string_bytes out.new ≡ string_bytes out.old ++ parts_text parts.now) }
-{
-    let Some((first, rest)) = parts.split_first() else {
-        return Ok(());
-    };
-    write_part(out, "", first)?;
-    for part in rest {
-        write_part(out, ", ", part)?;
-    }
-    Ok(())
-}
-
-/// Writes a message that was sent.
-fn write_sent(out: &mut String, sent: &Sent) -> Result<(), AllocError>
-    ensures { OnOk result (string_bytes out.new
-        ≡ string_bytes out.old ++ (codes ", \"sent\": " ++ json.sent_text sent.now)) }
-{
-    let message = &sent.message;
-    let index = sent.index;
-    let name = NameText {
-        kind: message.kind,
-        core: message.core,
-        life: message.life,
-        number: message.number,
-    };
-    write!(
-        out,
-        ", \"sent\": {{\"index\": {index}, {name}, \"parts\": ["
-    )?;
-    write_parts(out, message.parts.as_slice())?;
-    write!(out, "]}}")
-}
-
-/// Writes the message that was sent, if one was.
-fn write_sent_in(out: &mut String, said: &Said) -> Result<(), AllocError>
-    ensures { OnOk result (string_bytes out.new
-        ≡ string_bytes out.old ++ (codes ", \"sent\": " ++ json.sent_in said.now)) }
-{
-    match said {
-        Said::Fw {
-            sent: Some(sent),
-            ..
-        } => write_sent(out, sent),
-        _ => write!(out, ", \"sent\": null"),
-    }
-}
-
-/// Writes an acknowledgement that was made, of the message of this number.
-fn write_made(out: &mut String, index: u64, message: u64, ack: &Ack) -> Result<(), AllocError>
-    ensures { OnOk result (string_bytes out.new
-        ≡ string_bytes out.old ++ json.ack_text index message ack.now) }
-{
-    let name = NameText {
-        kind: ack.kind,
-        core: ack.core,
-        life: ack.life,
-        number: ack.number,
-    };
-    let applied = ack.applied;
-    let stale = truth(ack.stale);
-    write!(
-        out,
-        "{{\"index\": {index}, \"message\": {message}, {name}, \"applied\": {applied}, \
-         \"stale\": {stale}}}"
-    )
-}
-
-/// Writes the acknowledgement that was made, if one was.
-fn write_made_in(out: &mut String, item: &Record) -> Result<(), AllocError>
-    ensures { OnOk result (string_bytes out.new
-        ≡ string_bytes out.old ++ json.made_in item.now.event item.now.said) }
-{
-    match (&item.event, &item.said) {
-        (Event::Deliver(message), Said::Acked { index, ack }) => {
-            write_made(out, *index, *message, ack)
-        }
-        _ => write!(out, "null"),
-    }
-}
-
-/// Writes the acknowledgement that was taken, if one was.
-fn write_taken_in(out: &mut String, run: &Run, item: &Record) -> Result<(), AllocError>
-    ensures { OnOk result (string_bytes out.new ≡ string_bytes out.old
-        ++ json.taken_in (reverse (answered run.now.past)) item.now.event item.now.said) }
-{
-    match (&item.event, &item.said) {
-        (Event::Take(index), Said::Taken(_)) => {
-            let message = run.message_of(*index).unwrap_or(0);
-            write!(out, "{{\"index\": {index}, \"message\": {message}}}")
-        }
-        _ => write!(out, "null"),
-    }
-}
-
-/// Writes what happened to messages and acknowledgements.
-fn write_messages(out: &mut String, run: &Run, item: &Record) -> Result<(), AllocError>
-    ensures { OnOk result (string_bytes out.new ≡ string_bytes out.old
-        ++ message_members (reverse (answered run.now.past)) item.now) }
-{
-    write_sent_in(out, &item.said)?;
-    write!(out, ", \"acknowledged\": ")?;
-    write_made_in(out, item)?;
-    write!(out, ", \"taken\": ")?;
-    write_taken_in(out, run, item)
 }
 
 /// Writes the life, and whether the firmware is in it and not halting.

@@ -10,6 +10,7 @@ mod form;
 mod json;
 mod legend;
 mod lines;
+mod message_json;
 mod showing;
 
 pub use form::{Form, Layout};

@@ -3,7 +3,7 @@ use Rattle.std.proofs.Common.{◌≡◌, ◌++◌, string_bytes, take}
 use Rattle.std.specs.Prelude.{flat_map}
 use Rattle.psci_run.specs.Joined.{comma}
 use Rattle.psci_shown.specs.Json.{part_text}
-use Rattle.psci_shown.proofs.event_json.write_parts.Given as goal
+use Rattle.psci_shown.proofs.message_json.write_parts.Given as goal
 
 abbrev pub invariant-loop-part : goal.invariant-loop-part
 invariant-loop-part l =

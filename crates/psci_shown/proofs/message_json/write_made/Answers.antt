@@ -5,7 +5,7 @@ use Rattle.std.specs.Fmt.{decimal}
 use Rattle.psci_world.specs.psci_world_spec.psci_messages.Message.{AckValue}
 use Rattle.psci_shown.specs.Json.{ack_text, name_text}
 use Rattle.psci_shown.proofs.Texts.{then_wrote}
-use Rattle.psci_shown.proofs.event_json.write_made.Goals as goal
+use Rattle.psci_shown.proofs.message_json.write_made.Goals as goal
 
 abbrev ack_by : ℕ → ℕ → List ℕ → ℕ → List ℕ → List ℕ
 ack_by index message name applied stale =

@@ -5,7 +5,7 @@ use Rattle.psci_world.specs.psci_world_spec.declared.event.Event.TheVariants.{De
 use Rattle.psci_world.specs.psci_world_spec.declared.said.Said.{Said}
 use Rattle.psci_shown.specs.Json.{ack_text, made_in}
 use Rattle.psci_shown.proofs.Texts.{then_wrote}
-use Rattle.psci_shown.proofs.event_json.write_made_in.Goals as goal
+use Rattle.psci_shown.proofs.message_json.write_made_in.Goals as goal
 
 pub returns-in-Deliver-Acked : goal.returns-in-Deliver-Acked
 returns-in-Deliver-Acked c =

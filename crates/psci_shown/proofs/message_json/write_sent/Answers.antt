@@ -4,7 +4,7 @@ use Rattle.std.specs.Prelude.{codes}
 use Rattle.psci_world.specs.psci_world_spec.psci_messages.Message.{MessageValue}
 use Rattle.psci_shown.specs.Json.{parts_text, start_by}
 use Rattle.psci_shown.proofs.Texts.{then_wrote, wrote3}
-use Rattle.psci_shown.proofs.event_json.write_sent.Goals as goal
+use Rattle.psci_shown.proofs.message_json.write_sent.Goals as goal
 
 pub returns : goal.returns
 returns c =

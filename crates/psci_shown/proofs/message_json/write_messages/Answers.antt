@@ -3,7 +3,7 @@ use Rattle.std.proofs.Common.{◌++◌, reverse, string_bytes}
 use Rattle.psci_run.specs.Run.{answered}
 use Rattle.psci_shown.specs.Json.{taken_in}
 use Rattle.psci_shown.proofs.Texts.{then_wrote, wrote5}
-use Rattle.psci_shown.proofs.event_json.write_messages.Goals as goal
+use Rattle.psci_shown.proofs.message_json.write_messages.Goals as goal
 
 pub returns : goal.returns
 returns c =
