@@ -36,7 +36,8 @@ first_states =
     state_line Running ++ (state_line Started ++ (state_line Standby ++ state_line Retention))
 
 abbrev pub last_states : List ℕ
-last_states = state_line PowerDown ++ (state_line GoingOff ++ (state_line Off ++ state_line Pending))
+last_states =
+    state_line PowerDown ++ (state_line GoingOff ++ (state_line Off ++ state_line Pending))
 
 -- those of the depths that are not 0
 abbrev pub depth_lines : List ℕ

@@ -110,8 +110,9 @@ fn write_words(out: &mut String, run: &Run, item: &Record) -> Result<(), AllocEr
 fn write_states(out: &mut String, run: &Run) -> Result<(), AllocError>
     ensures { OnOk result (string_bytes out.new
         ≡ string_bytes out.old ++ (codes ", \"cores\": ["
-        ++ (joined comma (λ c. codes "\"" ++ (json.state_word (core_state run.now.board run.now.past c)
-        ++ codes "\"")) (cores run.now.board) ++ codes "]"))) }
+        ++ (joined comma (λ c. codes "\""
+        ++ (json.state_word (core_state run.now.board run.now.past c) ++ codes "\""))
+        (cores run.now.board) ++ codes "]"))) }
 {
     write!(out, ", \"cores\": [")?;
     for number in 0..run.world().board().cores() {
