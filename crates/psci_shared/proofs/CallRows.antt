@@ -1,6 +1,6 @@
 -- Worked examples of what a pass is after a call: which reply fits which call, a call that was
 -- entered, one that was refused, and what was seen last of a core.
-use Rattle.std.proofs.Common.{◌≡◌, ℕ, ◌+◌, List, [], ◌∷◌, length, Bool, true, false, refl, ap}
+use Rattle.std.proofs.Common.{◌≡◌, ℕ, ◌+◌, ◌≤◌, List, [], ◌∷◌, length, Bool, true, false, refl, ap}
 use Rattle.std.proofs.Common.{arith}
 use Rattle.psci_fw.specs.psci_fw_spec.declared.call.FwCall.{FwCall}
 use Rattle.psci_fw.specs.psci_fw_spec.declared.call.FwCall.TheVariants.{Smc, Enter, Take}
@@ -12,11 +12,11 @@ use Rattle.psci_fw.specs.psci_fw_spec.declared.status.Status.TheVariants.{On, Of
 use Rattle.psci_messages.specs.declared.kind.Kind.TheVariants as kinds
 use Rattle.psci_messages.specs.declared.start.Cause.TheVariants.{Wake}
 use Rattle.psci_messages.specs.declared.taken.Taken.TheVariants as takens
-use Rattle.std.specs.Prelude.{None}
-use Rattle.psci_status.specs.Lists.{Item}
+use Rattle.std.specs.Prelude.{None, nat_lt, if◌then◌else◌}
+use Rattle.psci_status.specs.Lists.{Item, gains, row}
 use Rattle.psci_shared.specs.declared.entry.FwItem.{FwItem}
 use Rattle.psci_shared.specs.declared.fault.CallFault.TheVariants.{BookFull, Fw}
-use Rattle.psci_shared.specs.Gathers.{plain}
+use Rattle.psci_shared.specs.Gathers.{met}
 use Rattle.psci_shared.specs.Passes.{Fits, IsCalled, IsRefused, PassView, item}
 use Rattle.psci_shared.specs.Writing.{HasSeen}
 
@@ -84,12 +84,12 @@ abbrev new : FwItem
 new = item 7 enter (Fault NoLife)
 
 -- of core 2, which has seen more of core 1 by then
-entered_behind : IsCalled (pass 2 false (old ∷ []) [])
-    (pass 2 false (old ∷ new ∷ []) ([] ∷ ((0, Off) ∷ []) ∷ [])) enter (Fault NoLife)
-entered_behind = (7, refl)
+entered_behind : IsCalled (pass 2 false (old ∷ []) ([] ∷ ((0, Off) ∷ []) ∷ []))
+    (pass 2 false (old ∷ new ∷ []) ([] ∷ ((2, On) ∷ (0, Off) ∷ []) ∷ [])) enter (Fault NoLife)
+entered_behind = (7, [] ∷ ((2, On) ∷ []) ∷ [], refl)
 
 first_of_a_told_pass : IsCalled (pass 0 true [] []) (pass 0 true (new ∷ []) []) enter (Fault NoLife)
-first_of_a_told_pass = (7, refl)
+first_of_a_told_pass = (7, [], refl)
 
 -- the place of the first item
 abbrev first_place : List FwItem → ℕ
@@ -99,22 +99,40 @@ first_place (i ∷ is) = i.place
 entered_in_front : IsCalled (pass 2 false (old ∷ []) []) (pass 2 false (new ∷ old ∷ []) []) enter
     (Fault NoLife) → ⊥
 entered_in_front h =
-    let e : ◌≡◌ {A = ℕ} 7 3 = ap (λ (p : PassView). first_place p.items) h.1 in omega arith
+    let e : ◌≡◌ {A = ℕ} 7 3 = ap (λ (p : PassView). first_place p.items) h.2 in omega arith
 
 nothing_entered : IsCalled (pass 2 false (old ∷ []) []) (pass 2 false (old ∷ []) []) (ask 1) stops
     → ⊥
 nothing_entered h =
-    let e : ◌≡◌ {A = ℕ} 1 2 = ap (λ (p : PassView). length p.items) h.1 in omega arith
+    let e : ◌≡◌ {A = ℕ} 1 2 = ap (λ (p : PassView). length p.items) h.2 in omega arith
 
 entered_by_another_core : IsCalled (pass 2 false [] []) (pass 1 false (new ∷ []) []) enter
     (Fault NoLife) → ⊥
 entered_by_another_core h =
-    let e : ◌≡◌ {A = ℕ} 1 2 = ap (λ (p : PassView). p.core.number) h.1 in omega arith
+    let e : ◌≡◌ {A = ℕ} 1 2 = ap (λ (p : PassView). p.core.number) h.2 in omega arith
 
 entered_and_told : IsCalled (pass 2 false [] []) (pass 2 true (new ∷ []) []) enter (Fault NoLife)
     → ⊥
 entered_and_told h =
-    let e : true ≡ false = ap (λ (p : PassView). p.told_full) h.1 in absurd (cc)
+    let e : true ≡ false = ap (λ (p : PassView). p.told_full) h.2 in absurd (cc)
+
+-- what a pass had seen it has seen after a call
+length_if : (b : Bool) (i j : Item) → 1 ≤ length (if b then i ∷ j ∷ [] else j ∷ [])
+length_if true i j = omega arith
+length_if false i j = omega arith
+
+some_stay : (i : Item) (notes : List (List Item)) → 1 ≤ length (row (gains ((i ∷ []) ∷ []) notes) 0)
+some_stay i [] = omega arith
+some_stay i ([] ∷ notes) = omega arith
+some_stay i ((j ∷ js) ∷ notes) = length_if (nat_lt i.0 j.0) j i
+
+entered_and_forgotten : IsCalled (pass 2 false [] (((0, Off) ∷ []) ∷ []))
+    (pass 2 false (new ∷ []) ([] ∷ [])) enter (Fault NoLife) → ⊥
+entered_and_forgotten h =
+    let e : 0 ≡ length (row (gains (((0, Off) ∷ []) ∷ []) h.1) 0) =
+    ap (λ (p : PassView). length (row p.seen 0)) h.2 in
+    let some : 1 ≤ length (row (gains (((0, Off) ∷ []) ∷ []) h.1) 0) = some_stay (0, Off) h.1 in
+    omega arith
 
 -- what tells calls and replies apart
 abbrev word : FwCall → ℕ
@@ -139,11 +157,11 @@ last_reply (i ∷ is) = is_out i.reply
 another_call : IsCalled (pass 2 false [] []) (pass 2 false (new ∷ []) []) (ask 5) (Fault NoLife)
     → ⊥
 another_call h =
-    let e : ◌≡◌ {A = ℕ} 104 5 = ap (λ (p : PassView). last_word p.items) h.1 in omega arith
+    let e : ◌≡◌ {A = ℕ} 104 5 = ap (λ (p : PassView). last_word p.items) h.2 in omega arith
 
 another_reply : IsCalled (pass 2 false [] []) (pass 2 false (new ∷ []) []) enter stops → ⊥
 another_reply h =
-    let e : ◌≡◌ {A = ℕ} 3 1 = ap (λ (p : PassView). last_reply p.items) h.1 in omega arith
+    let e : ◌≡◌ {A = ℕ} 3 1 = ap (λ (p : PassView). last_reply p.items) h.2 in omega arith
 
 -- A call that was refused -------------------------------------------------------------------------
 
@@ -160,15 +178,15 @@ full_and_entered h =
 
 fault_is_entered : IsRefused (pass 1 false (old ∷ []) []) (pass 1 false (old ∷ new ∷ []) []) enter
     (Fw NoLife)
-fault_is_entered = (7, refl)
+fault_is_entered = (7, [], refl)
 
 fault_is_not_entered : IsRefused (pass 1 false [] []) (pass 1 false [] []) enter (Fw NoLife) → ⊥
 fault_is_not_entered h =
-    let e : ◌≡◌ {A = ℕ} 0 1 = ap (λ (p : PassView). length p.items) h.1 in omega arith
+    let e : ◌≡◌ {A = ℕ} 0 1 = ap (λ (p : PassView). length p.items) h.2 in omega arith
 
 fault_is_told : IsRefused (pass 1 false [] []) (pass 1 true [] []) enter (Fw NoLife) → ⊥
 fault_is_told h =
-    let e : ◌≡◌ {A = ℕ} 0 1 = ap (λ (p : PassView). length p.items) h.1 in omega arith
+    let e : ◌≡◌ {A = ℕ} 0 1 = ap (λ (p : PassView). length p.items) h.2 in omega arith
 
 -- What was seen last ------------------------------------------------------------------------------
 
@@ -198,7 +216,8 @@ other_core_has_seen h = let e : ◌≡◌ {A = ℕ} 3 2 = ap off_first h.1.1 in 
 nothing_was_seen : HasSeen rows 2 Off → ⊥
 nothing_was_seen h = let e : ◌≡◌ {A = ℕ} 0 1 = ap off_first h.1.1 in omega arith
 
--- a pass but for what it has seen: its core, its items and what it was told stay
-without_what_was_seen : plain (pass 2 true (old ∷ new ∷ []) rows)
-    ≡ pass 2 true (old ∷ new ∷ []) []
-without_what_was_seen = refl
+-- a pass that is told of a status more of core 1: its core, its items and what it was told stay
+told_of_core_1 : met ([] ∷ ((3, On) ∷ []) ∷ []) (pass 2 true (old ∷ new ∷ []) rows)
+    ≡ pass 2 true (old ∷ new ∷ [])
+    (((4, On) ∷ (1, Off) ∷ []) ∷ ((3, On) ∷ (2, Pending) ∷ []) ∷ [] ∷ [])
+told_of_core_1 = refl

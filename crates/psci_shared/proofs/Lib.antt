@@ -6,5 +6,7 @@ pub mod Histories
 pub mod OwnCalls
 pub mod Placed
 pub mod Places
+pub mod PollRows
+pub mod Polling
 pub mod WritingRows
 pub mod Written

@@ -158,17 +158,23 @@ before = pass (((0, Off) ∷ []) ∷ ((0, Off) ∷ []) ∷ [])
 
 pending_is_read : IsAffinity (Some (record { number = 0 })) before
     (pass (((1, Pending) ∷ (0, Off) ∷ []) ∷ ((0, Off) ∷ []) ∷ [])) (record { 0 = pos 2 })
-pending_is_read = (Pending, (1, refl, ((0, Off) ∷ [], refl)), refl)
+pending_is_read = (Pending, (1, refl, ((0, Off) ∷ [], refl), (omega arith, (tt, tt))), refl)
 
 -- the word holds what the pass has seen last
 nothing_new_is_read : IsAffinity (Some (record { number = 0 })) before before (record { 0 = pos 1 })
-nothing_new_is_read = (Off, (0, refl, ([], refl)), refl)
+nothing_new_is_read = (Off, (0, refl, ([], refl), (tt, tt)), refl)
 
 -- of core 1, of which it has seen less than of core 0
 pending_is_read_of_core_1 : IsAffinity (Some (record { number = 1 }))
     (pass (((2, On) ∷ []) ∷ ((0, Off) ∷ []) ∷ []))
     (pass (((2, On) ∷ []) ∷ ((1, Pending) ∷ (0, Off) ∷ []) ∷ [])) (record { 0 = pos 2 })
-pending_is_read_of_core_1 = (Pending, (1, refl, ((0, Off) ∷ [], refl)), refl)
+pending_is_read_of_core_1 =
+    (Pending, (1, refl, ((0, Off) ∷ [], refl), (omega arith, (tt, tt))), refl)
+
+-- the serials do not rise
+backwards_is_read : IsRead (pass (((1, Off) ∷ (3, On) ∷ []) ∷ []))
+    (pass (((1, Off) ∷ (3, On) ∷ []) ∷ [])) 0 Off → ⊥
+backwards_is_read h = let e : 3 < 1 = h.3.0 in omega arith
 
 -- the word names no core
 nobody_is_read : IsAffinity None before before (record { 0 = negsuc 1 })

@@ -1,8 +1,8 @@
 -- What is gathered.
-use Rattle.std.specs.Prelude.{◌<◌, ℕ, List, [], ◌∷◌, length, sum_by}
+use Rattle.std.specs.Prelude.{◌≡◌, ◌<◌, ℕ, List, [], ◌∷◌, length, map, sum_by}
 use Rattle.psci_fw.specs.psci_board.Board.{BoardValue}
 use Rattle.psci_fw.specs.psci_fw_spec.declared.status.Status.{Status}
-use Rattle.psci_status.specs.Lists.{row, Within}
+use Rattle.psci_status.specs.Lists.{Item, gains, row, Within}
 use Rattle.psci_shared.specs.declared.entry.FwEntry.{FwEntry}
 use Rattle.psci_shared.specs.declared.fault.GatherCause.{GatherCause}
 use Rattle.psci_shared.specs.declared.fault.GatherCause.TheVariants.{Astray, Missing}
@@ -19,9 +19,13 @@ abbrev pub IsCause : GatherCause → Type 0 → ℕ → ℕ → Type 0
 IsCause Astray Agree came made = Agree → ⊥
 IsCause Missing Agree came made = Agree × (came < made)
 
--- a pass but for what it has seen
-abbrev pub plain : PassView → PassView
-plain p = record p { seen = [] }
+-- a pass that was told of these: of each core it has seen what it had seen, and one item more at most
+abbrev pub met : List (List Item) → PassView → PassView
+met notes p = record p { seen = gains p.seen notes }
+
+-- so were all of them, and else nothing has changed
+abbrev pub AreMet : List PassView → List PassView → Type 0
+AreMet ps ps' = (notes : List (List Item)) × (ps' ≡ map (met notes) ps)
 
 -- what each pass has seen was written
 abbrev pub AllSeen : List (List Status) → List PassView → Type 0

@@ -1,8 +1,10 @@
 pub mod Agree
+pub mod Answered
 pub mod Books
 pub mod Gathers
 pub mod Inside
 pub mod Names
 pub mod Passes
 pub mod Places
+pub mod Polls
 pub mod Writing

@@ -1,7 +1,8 @@
 -- Passes as contracts see them.
-use Rattle.std.specs.Prelude.{◌≡◌, ℕ, List, [], ◌∷◌, ◌++◌, Bool, true, slice_set, Option, None, Some, pos}
+use Rattle.std.specs.Prelude.{◌≡◌, ◌≤◌, ◌<◌, ℕ, List, [], ◌∷◌, ◌++◌, Bool, true, slice_set, Option, None, Some, pos}
 use Rattle.psci_fw.specs.psci_abi.Codes.{invalid_parameters}
 use Rattle.psci_fw.specs.psci_abi.declared.code.Code.{Code}
+use Rattle.psci_fw.specs.psci_board.Board.{BoardValue, cores}
 use Rattle.psci_fw.specs.psci_board.declared.node.Core.{Core}
 use Rattle.psci_fw.specs.psci_fw_spec.declared.call.FwCall.{FwCall}
 use Rattle.psci_fw.specs.psci_fw_spec.declared.reply.FwReply.{FwReply}
@@ -9,10 +10,12 @@ use Rattle.psci_fw.specs.psci_fw_spec.declared.call.FwCall.TheVariants.{Smc, Ent
 use Rattle.psci_fw.specs.psci_fw_spec.declared.reply.FwReply.TheVariants.{Out, Taken, Fault}
 use Rattle.psci_fw.specs.psci_fw_spec.declared.status.Status.{Status}
 use Rattle.psci_fw.specs.psci_fw_spec.AffinityInfo.{status_code}
-use Rattle.psci_status.specs.Lists.{Item, row, gain, Begins}
+use Rattle.psci_status.specs.Lists.{Item, row, gain, gains, Begins, Rises}
 use Rattle.psci_shared.specs.declared.entry.FwItem.{FwItem}
 use Rattle.psci_shared.specs.declared.fault.CallFault.{CallFault}
 use Rattle.psci_shared.specs.declared.fault.CallFault.TheVariants.{BookFull, Fw}
+use Rattle.psci_shared.specs.declared.fault.PassFault.{PassFault}
+use Rattle.psci_shared.specs.declared.fault.PassFault.TheVariants.{NoCore, TooMany, Memory}
 
 -- a pass: its core, for how many items it has room, whether it was told that the book is full, its
 -- items, the first call first, and what it has seen of each core
@@ -35,13 +38,14 @@ called p i seen = record p { items = p.items ++ i ∷ []; seen = seen }
 abbrev pub told : PassView → PassView
 told p = record p { told_full = true }
 
--- a pass that read the status of a core: it has now seen one item more of it at most, and the last
--- is the status
+-- a pass that read the status of a core: it has now seen one item more of it at most, the last is
+-- the status, and serials rise
 abbrev pub IsRead : PassView → PassView → ℕ → Status → Type 0
 IsRead p p' core status =
     (serial : ℕ)
     × (p' ≡ record p { seen = slice_set p.seen core (gain (serial, status) (row p.seen core)) })
     × Begins (serial, status) (row p'.seen core)
+    × Rises (row p'.seen core)
 
 -- the reply is one to such a call: an acknowledgement is taken, and nothing else is
 abbrev pub Fits : FwCall → FwReply → Type 0
@@ -55,9 +59,12 @@ Fits (Take ack) (Taken taken) = Unit {0}
 Fits (Take ack) (Out outcome) = ⊥
 Fits (Take ack) (Fault fault) = ⊥
 
--- a call was entered: the pass has one item more
+-- a call was entered: the pass has one item more, and of each core it has seen what it had seen and
+-- one item more at most
 abbrev pub IsCalled : PassView → PassView → FwCall → FwReply → Type 0
-IsCalled p p' call reply = (place : ℕ) × (p' ≡ called p (item place call reply) p'.seen)
+IsCalled p p' call reply =
+    (place : ℕ) × (notes : List (List Item))
+    × (p' ≡ called p (item place call reply) (gains p.seen notes))
 
 -- a call was refused: by the firmware, and that was entered; or the book or the pass's list is full
 abbrev pub IsRefused : PassView → PassView → FwCall → CallFault → Type 0
@@ -70,3 +77,9 @@ IsAffinity None p p' code = (code ≡ invalid_parameters) × (p' ≡ p)
 IsAffinity (Some core) p p' code =
     (status : Status) × IsRead p p' core.number status
     × (code ≡ record { 0 = pos (status_code status) })
+
+-- why no pass is made for a core: NoCore exactly where the board has none
+abbrev pub IsNoPass : BoardValue → Core → PassFault → Type 0
+IsNoPass b core NoCore = cores b ≤ core.number
+IsNoPass b core TooMany = core.number < cores b
+IsNoPass b core Memory = core.number < cores b

@@ -2,7 +2,8 @@
 
 ghost use Rattle.std.specs.Prelude.{◌≡◌, ◌≤◌, ◌<◌, ◌+◌, length, map};
 ghost use Rattle.psci_status.specs.Seats.{table, table_of_writer, written};
-ghost use Rattle.psci_shared.specs.Gathers.{AllSeen, AllStand, items_of, plain};
+ghost use Rattle.psci_status.specs.Lists.{newest};
+ghost use Rattle.psci_shared.specs.Gathers.{AllSeen, AllStand, AreMet, items_of, met};
 
 use crate::book::FwBook;
 use crate::fault::GatherCause;
@@ -77,8 +78,9 @@ impl<N: Named> FwLocked<N> {
     pub(crate) fn meet(&mut self, words: &StatusWords, passes: &mut Vec<Pass<N>>)
         requires { table words.now ≡ N.table }
         ensures book { (self.new.book ≡ self.old.book) × (self.new.made ≡ self.old.made) }
-        ensures passes { map plain passes.new.items ≡ map plain passes.old.items }
+        ensures passes { AreMet passes.old.items passes.new.items }
         ensures stand { AllStand N.board self.new.book.entries passes.new.items }
+        ensures stood { AllStand N.board self.old.book.entries passes.old.items }
     {
         meet_all(words, &mut self.writer, passes.as_mut_slice());
     }
@@ -89,8 +91,9 @@ fn meet_all<N: Named>(words: &StatusWords, writer: &mut Writer, passes: &mut [Pa
     requires writer { table_of_writer writer.old ≡ N.table }
     ensures table { table_of_writer writer.new ≡ N.table }
     ensures log { written writer.new ≡ written writer.old }
-    ensures passes { map plain passes.new ≡ map plain passes.old }
+    ensures passes { passes.new ≡ map (met (map newest (written writer.old))) passes.old }
     ensures seen { AllSeen (written writer.new) passes.new }
+    ensures saw { AllSeen (written writer.old) passes.old }
 {
     let Some((first, rest)) = passes.split_first_mut() else {
         return;

@@ -28,7 +28,7 @@ pub use book::FwBook;
 pub use entry::{BookFull, FwEntry, FwItem};
 pub use fault::{CallFault, GatherCause, PassFault};
 pub use gather::{Books, GatherFault};
-pub use laws::law_own_calls;
+pub use laws::{law_own_calls, law_polls};
 pub use locked::FwLocked;
 pub use named::Named;
 pub use pass::Pass;

@@ -1,9 +1,11 @@
 //! What the lock guards.
 
-ghost use Rattle.std.specs.Prelude.{◌≡◌, ◌≤◌, ◌<◌, ◌+◌, ◌^◌, ℕ, length, IfOk, OnOk, OnErr};
+ghost use Rattle.std.specs.Prelude.{◌≡◌, ◌≤◌, ◌<◌, ◌+◌, ◌^◌, ℕ, List, length, IfOk, OnOk, OnErr};
 ghost use Rattle.psci_fw.specs.psci_board.Board.{cores};
+ghost use Rattle.psci_fw.specs.psci_fw_spec.Legal.{IsLegal};
+ghost use Rattle.psci_status.specs.Lists.{Item, gains};
 ghost use Rattle.psci_status.specs.Seats.{table, table_of_writer, written};
-ghost use Rattle.psci_shared.specs.Books.{answer_after, entered, entry};
+ghost use Rattle.psci_shared.specs.Books.{answer_after, entered, entry, history_of};
 ghost use Rattle.psci_shared.specs.Passes.{Fits, called, item, told};
 ghost use Rattle.psci_shared.specs.Writing.{AllLast, IsWritten, Stand};
 
@@ -35,6 +37,7 @@ pub struct FwLocked<N: Named> {
     ghost parts: { rest.parts + made ≡ 1001 },
     ghost table: { table_of_writer writer ≡ N.table },
     ghost words: { N.table.words ≡ cores N.board },
+    ghost room: { book.room ≡ N.room },
     ghost whole: { count ≡ cores N.board },
     ghost written: { IsWritten N.board (written writer) book.entries },
 }
@@ -55,14 +58,15 @@ impl<N: Named> FwLocked<N> {
         ensures fits { IfOk result (λ reply. Fits call reply) }
         ensures book { IfOk result (λ reply. self.new.book
             ≡ entered self.old.book (entry ticket pass.old.core call reply)) }
-        ensures pass { IfOk result (λ reply. pass.new ≡ called pass.old
-            (item (length self.old.book.entries) call reply) pass.new.seen) }
+        ensures legal { IsLegal N.board (history_of self.old.book.entries) }
+        ensures pass { IfOk result (λ reply. (notes : List (List Item)) × (pass.new
+            ≡ called pass.old (item (length self.old.book.entries) call reply)
+            (gains pass.old.seen notes))) }
         ensures stand { OnOk result (Stand N.board self.new.book.entries pass.new.seen) }
         ensures last { OnOk result (AllLast N.board self.new.book.entries pass.new.seen) }
         ensures told { OnErr result
             ((self.new.book ≡ self.old.book) × (pass.new ≡ told pass.old)) }
-        ensures full { OnErr result (pass.old.room ≡ self.old.book.room
-            → length self.old.book.entries ≡ self.old.book.room) }
+        ensures full { OnErr result (length self.old.book.entries ≡ N.room) }
         ensures made { self.new.made ≡ self.old.made }
     {
         let FwLocked {

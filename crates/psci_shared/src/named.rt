@@ -3,15 +3,19 @@
 use std::marker::Brand;
 use std::sync::ledger::Ledger;
 
-/// One firmware: its ledger, its board and its table of status words. A pass of another firmware
+/// One firmware: its ledger, its board, its table of status words and for how many entries its book
+/// has room. A pass of another firmware
 /// has another type.
 pub trait Named: Ledger {
+    ghost use Rattle.std.specs.Prelude.{ℕ};
     ghost use Rattle.psci_fw.specs.psci_board.Board.{BoardValue};
     ghost use Rattle.atomic_table.specs.Seated.{TableId};
 
     ghost board: { BoardValue };
 
     ghost table: { TableId };
+
+    ghost room: { ℕ };
 }
 
 impl Named for Brand {
@@ -20,4 +24,6 @@ impl Named for Brand {
     ghost board = { no_board };
 
     ghost table = { no_table };
+
+    ghost room = { 0 };
 }

@@ -36,7 +36,8 @@ impl<N: Named> Model for Pass<N> {
 
     ghost invariant = { λ p.
         (p.share.parts ≡ 1) × (p.share.amount ≡ vec_len p.items) × (vec_len p.items ≤ p.room)
-        × (p.room ≤ vec_capacity p.items) × (table_of_reader p.reader ≡ N.table) };
+        × (p.room ≤ vec_capacity p.items) × (table_of_reader p.reader ≡ N.table)
+        × (p.room ≡ N.room) };
 }
 
 ghost use Rattle.std.specs.Prelude.{◌≡◌, ◌≤◌, ◌<◌, [], false, vec_capacity};
@@ -55,6 +56,7 @@ impl<N: Named> Pass<N> {
         requires share { (share.parts ≡ 1) × (share.amount ≡ 0) }
         requires items { (items.items ≡ []) × (room ≤ vec_capacity items) }
         requires reader { table_of_reader reader ≡ N.table }
+        requires room { room ≡ N.room }
         ensures { result ≡ record {
           core = core;
           room = room;

@@ -1,7 +1,6 @@
 //! The firmware that threads share.
 
 ghost use Rattle.std.specs.Prelude.{◌≡◌, ◌≤◌, ◌+◌, ◌<◌, List, [], ◌∷◌, length, replicate};
-ghost use Rattle.std.specs.Prelude.{map};
 ghost use Rattle.std.specs.Prelude.{IfOk, IfErr, OnOk, OnErr, MatchResult};
 ghost use Rattle.std.specs.Fn.{FnOnceReturnsAt};
 ghost use Rattle.psci_fw.specs.psci_board.Board.{core_of, cores};
@@ -11,8 +10,11 @@ ghost use Rattle.psci_fw.specs.psci_fw_spec.declared.status.Status.TheVariants.{
 ghost use Rattle.psci_status.specs.Seats.{table, table_of_writer, written};
 ghost use Rattle.psci_shared.specs.declared.entry.FwEntry.{FwEntry};
 ghost use Rattle.psci_shared.specs.Agree.{Agree};
-ghost use Rattle.psci_shared.specs.Gathers.{AllStand, IsCause, items_of, plain};
-ghost use Rattle.psci_shared.specs.Passes.{Fits, IsAffinity, IsCalled, IsRefused, told};
+ghost use Rattle.psci_shared.specs.Answered.{IsAnswered, IsAnsweredFault, IsFull};
+ghost use Rattle.psci_shared.specs.Gathers.{AllStand, AreMet, IsCause, items_of};
+ghost use Rattle.psci_fw.specs.psci_fw_spec.Legal.{IsLegal};
+ghost use Rattle.psci_shared.specs.Books.{history_of};
+ghost use Rattle.psci_shared.specs.Passes.{Fits, IsAffinity, IsCalled, IsNoPass, IsRefused, told};
 ghost use Rattle.psci_shared.specs.Places.{AllPlaced};
 
 use crate::agreement::agree;
@@ -47,6 +49,7 @@ pub struct SharedFirmware<'t, N: Named> {
     ghost named: { board ≡ N.board },
     ghost table: { table words ≡ N.table },
     ghost count: { N.table.words ≡ cores N.board },
+    ghost whole: { room ≡ N.room },
 }
 
 impl<'t, N: Named> SharedFirmware<'t, N> {
@@ -67,6 +70,7 @@ impl<'t, N: Named> SharedFirmware<'t, N> {
         requires words { (table words ≡ N.table) × (N.table.words ≡ cores N.board) }
         requires writer { (table_of_writer writer ≡ N.table)
             × (written writer ≡ replicate (cores N.board) (Off ∷ [])) }
+        requires room { room ≡ N.room }
     {
         let book = FwBook::new(alloc, board, room)?;
         let board = board.copy(alloc)?;
@@ -81,9 +85,18 @@ impl<'t, N: Named> SharedFirmware<'t, N> {
         })
     }
 
+    /// How many entries there is room for, in the book and in the list of each pass.
+    pub fn room(&self) -> u32
+        ensures { result ≡ N.room }
+    {
+        self.room
+    }
+
     /// A pass for a core, before the firmware is shared. It takes the memory of all its calls here.
     pub fn pass(&mut self, core: Core) -> Result<Pass<N>, PassFault>
-        ensures { IfOk result (λ p. (p.core ≡ core) × (p.items ≡ [])) }
+        ensures ok { IfOk result (λ p. (p.core ≡ core) × (p.items ≡ []) × (p.room ≡ N.room)) }
+        ensures on_board { OnOk result (core.number < cores N.board) }
+        ensures err { IfErr result (λ fault. IsNoPass N.board core fault) }
     {
         if core.number >= self.board.cores() {
             return Err(PassFault::NoCore);
@@ -105,6 +118,9 @@ impl<'t, N: Named> SharedFirmware<'t, N> {
             IsCalled pass.old pass.new (calls.Smc regs) (replies.Out outcome)) }
         ensures err { IfErr result (λ fault.
             IsRefused pass.old pass.new (calls.Smc regs) fault) }
+        ensures answered { MatchResult result
+            (λ outcome. IsAnswered N.board pass.old pass.new (calls.Smc regs) (replies.Out outcome))
+            (λ fault. IsAnsweredFault N.board N.room pass.old pass.new (calls.Smc regs) fault) }
     {
         match self.call(rt, pass, FwCall::Smc(regs)) {
             Ok(FwReply::Out(outcome)) => Ok(outcome),
@@ -125,6 +141,9 @@ impl<'t, N: Named> SharedFirmware<'t, N> {
             IsCalled pass.old pass.new (calls.Enter start) (replies.Out outcome)) }
         ensures err { IfErr result (λ fault.
             IsRefused pass.old pass.new (calls.Enter start) fault) }
+        ensures answered { MatchResult result
+            (λ outcome. IsAnswered N.board pass.old pass.new (calls.Enter start) (replies.Out outcome))
+            (λ fault. IsAnsweredFault N.board N.room pass.old pass.new (calls.Enter start) fault) }
     {
         match self.call(rt, pass, FwCall::Enter(start)) {
             Ok(FwReply::Out(outcome)) => Ok(outcome),
@@ -138,6 +157,9 @@ impl<'t, N: Named> SharedFirmware<'t, N> {
     pub fn take<R: Wait>(&self, rt: &R, pass: &mut Pass<N>, ack: Ack) -> Result<Taken, BookFull>
         ensures ok { IfOk result (λ taken.
             IsCalled pass.old pass.new (calls.Take ack) (replies.Taken taken)) }
+        ensures answered { IfOk result (λ taken.
+            IsAnswered N.board pass.old pass.new (calls.Take ack) (replies.Taken taken)) }
+        ensures full { OnErr result (IsFull N.board N.room) }
         ensures err { OnErr result (pass.new ≡ told pass.old) }
     {
         match self.call(rt, pass, FwCall::Take(ack)) {
@@ -162,7 +184,8 @@ impl<'t, N: Named> SharedFirmware<'t, N> {
     /// meanwhile, too.
     pub fn look<R: Wait, T, F: FnOnce(&[FwEntry]) -> T>(&self, rt: &R, f: F) -> T
         requires { F.IsAlwaysCallable f }
-        ensures { (entries : List FwEntry) × FnOnceReturnsAt F.FnOnce f entries result }
+        ensures { (entries : List FwEntry) × IsLegal N.board (history_of entries)
+            × FnOnceReturnsAt F.FnOnce f entries result }
     {
         let locked = self.locked.lock(rt);
         f(locked.book.entries())
@@ -177,9 +200,12 @@ impl<'t, N: Named> SharedFirmware<'t, N> {
             × (length b.book.entries ≡ items_of b.passes.items)) }
         ensures placed { IfOk result (λ b. AllPlaced b.book b.passes.items) }
         ensures stand { IfOk result (λ b. AllStand N.board b.book.entries b.passes.items) }
+        ensures stood { MatchResult result
+            (λ b. AllStand N.board b.book.entries passes.items)
+            (λ f. AllStand N.board f.locked.book.entries passes.items) }
         ensures passes { MatchResult result
-            (λ b. map plain b.passes.items ≡ map plain passes.items)
-            (λ f. map plain f.passes.items ≡ map plain passes.items) }
+            (λ b. AreMet passes.items b.passes.items)
+            (λ f. AreMet passes.items f.passes.items) }
     {
         let SharedFirmware {
             locked,
@@ -218,6 +244,9 @@ impl<'t, N: Named> SharedFirmware<'t, N> {
     /// A call for the pass's core, under the lock.
     fn call<R: Wait>(&self, rt: &R, pass: &mut Pass<N>, call: FwCall) -> Result<FwReply, BookFull>
         ensures ok { IfOk result (λ reply. IsCalled pass.old pass.new call reply) }
+        ensures answered { IfOk result (λ reply.
+            IsAnswered N.board pass.old pass.new call reply) }
+        ensures full { OnErr result (IsFull N.board N.room) }
         ensures fits { IfOk result (λ reply. Fits call reply) }
         ensures err { OnErr result (pass.new ≡ told pass.old) }
     {
@@ -231,6 +260,7 @@ impl<'t, N: Named> SharedFirmware<'t, N> {
 #[tactic(auto, using(crate::proofs::Written::written_first))]
 fn locked_of<N: Named>(book: FwBook<N>, writer: Writer, count: u16, blank: Blank) -> FwLocked<N>
     requires book { book.entries ≡ [] }
+    requires room { book.room ≡ N.room }
     requires name { blank.name ≡ N.name }
     requires parts { (blank.parts ≡ N.parts) × (N.parts ≡ 1001) }
     requires cores { (count ≡ cores N.board) × (N.table.words ≡ cores N.board) }
@@ -256,9 +286,12 @@ fn new_pass<N: Named>(
     core: Core,
     room: u32,
 ) -> Result<Pass<N>, PassFault>
-    requires { table words.now ≡ N.table }
+    requires words { table words.now ≡ N.table }
+    requires core { core.number < cores N.board }
+    requires room { room ≡ N.room }
     ensures pass { IfOk result (λ p. (p.core ≡ core) × (p.items ≡ []) × (p.room ≡ room)) }
     ensures made { OnOk result (locked.new.made ≡ locked.old.made + 1) }
+    ensures err { IfErr result (λ fault. IsNoPass N.board core fault) }
 {
     if locked.made == MOST_PASSES {
         return Err(PassFault::TooMany);

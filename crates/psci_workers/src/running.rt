@@ -27,6 +27,8 @@ struct Plan<'a> {
     seed: u64,
     /// How many calls each core makes at most.
     count: u64,
+    /// How many entries there is room for.
+    room: u32,
 }
 
 /// What the firmware and the power controller of a run are made of.
@@ -67,7 +69,12 @@ pub fn run_cores<R: Threads + Wait + Sync, G: Gate + Sync>(
         firmware: Blank::new(1001),
         controller: Blank::new(1001),
     };
-    let plan = Plan { board, seed, count };
+    let plan = Plan {
+        board,
+        seed,
+        count,
+        room: room_of(board, count),
+    };
     let tickets = Tickets::new();
     run::<Brand, Brand, R, G>(rt, alloc, plan, gate, &tickets, makings)
 }
@@ -87,6 +94,7 @@ where
     R: Threads + Wait + Sync,
     G: Gate + Sync,
     requires boards { (plan.board.now ≡ N.board) × (plan.board.now ≡ M.board) }
+    requires room { plan.room ≡ N.room }
     requires names { (makings.firmware.name ≡ N.name) × (makings.controller.name ≡ M.name) }
     requires parts { (makings.firmware.parts ≡ N.parts) × (N.parts ≡ 1001) }
     requires others { (makings.controller.parts ≡ M.parts) × (M.parts ≡ 1001) }
@@ -100,8 +108,12 @@ where
         firmware,
         controller,
     } = makings;
-    let Plan { board, seed, count } = plan;
-    let room = room_of(board, count);
+    let Plan {
+        board,
+        seed,
+        count,
+        room,
+    } = plan;
     let mut firmware = SharedFirmware::<N>::new(
         alloc, board, words, writer, room, tickets, firmware,
     )?;

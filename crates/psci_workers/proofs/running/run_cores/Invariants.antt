@@ -3,7 +3,11 @@ use Rattle.psci_status.specs.Seats.{table}
 use Rattle.psci_workers.proofs.running.run_cores.Given as goal
 
 abbrev pub ghosts-run-N-Named : goal.ghosts-run-N-Named
-ghosts-run-N-Named g a = record { board = a.plan.board.now; table = table a.makings.words }
+ghosts-run-N-Named g a = record {
+  board = a.plan.board.now;
+  table = table a.makings.words;
+  room = a.plan.room;
+}
 
 abbrev pub ghosts-run-N-Ledger : goal.ghosts-run-N-Ledger
 ghosts-run-N-Ledger g a = record {
@@ -12,7 +16,7 @@ ghosts-run-N-Ledger g a = record {
 }
 
 abbrev pub ghosts-run-M-Named : goal.ghosts-run-M-Named
-ghosts-run-M-Named g a = record { board = a.plan.board.now; table = no_table }
+ghosts-run-M-Named g a = record { board = a.plan.board.now; table = no_table; room = 0 }
 
 abbrev pub ghosts-run-M-Ledger : goal.ghosts-run-M-Ledger
 ghosts-run-M-Ledger g a = record {

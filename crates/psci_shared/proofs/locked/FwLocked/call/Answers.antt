@@ -1,3 +1,6 @@
+use Rattle.std.proofs.Common.{rules, map}
+use Rattle.psci_status.specs.Lists.{newest}
+use Rattle.psci_status.specs.Seats.{written}
 use Rattle.psci_shared.proofs.Written.{few_written, written_on}
 use Rattle.psci_shared.proofs.locked.FwLocked.call.Goals as goal
 
@@ -10,3 +13,6 @@ pub invariant_of-self-in-Ok-clause-written : goal.invariant_of-self-in-Ok-clause
 invariant_of-self-in-Ok-clause-written g c =
     written_on _ _ _ _ _ _ _ _ c.in-Ok.ensures.ok c.life-before.ensures c.args.self.now.written
     c.write_all.ensures.log c.meet.ensures.log
+
+pub returns-in-Ok-clause-pass : goal.returns-in-Ok-clause-pass
+returns-in-Ok-clause-pass g c = (map newest (written c.write_all.new.writer), search rules)

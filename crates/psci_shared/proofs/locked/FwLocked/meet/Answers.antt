@@ -1,5 +1,6 @@
 use Rattle.std.proofs.Common.{◌≡◌, List, length, sym, subst, arith}
 use Rattle.psci_fw.specs.psci_fw_spec.declared.status.Status.{Status}
+use Rattle.psci_status.specs.Seats.{written}
 use Rattle.psci_shared.specs.Gathers.{AllSeen, AllStand}
 use Rattle.psci_shared.specs.Passes.{PassView}
 use Rattle.psci_shared.proofs.Written.{all_stands, taken}
@@ -15,3 +16,10 @@ returns-clause-stand g c =
     omega (arith, c.meet_all.auto.passes, c.as_mut_slice.ensures.len) in
     subst (λ (ps : List PassView). AllStand g.N.Named.board old.book.entries ps)
     (sym (taken passes _ _ len)) (all_stands _ _ old.book.entries _ old.written seen)
+
+pub returns-clause-stood : goal.returns-clause-stood
+returns-clause-stood g c =
+    let old = c.args.self.now in
+    all_stands _ _ old.book.entries _ old.written
+    (subst (λ (ps : List PassView). AllSeen (written old.writer) ps) c.as_mut_slice.ensures.value
+    c.meet_all.ensures.saw)

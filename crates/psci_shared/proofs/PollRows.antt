@@ -1,0 +1,75 @@
+-- Worked examples of a run of a pass: calls and polls, what it keeps of what it saw, and why no pass
+-- is made.
+use Rattle.std.proofs.Common.{◌≡◌, inl, inr, ℕ, ◌<◌, ◌≤◌, false, List, [], ◌∷◌, length, refl, ap, arith}
+use Rattle.psci_fw.specs.psci_abi.psci_format.declared.format.Format.TheVariants.{Original}
+use Rattle.psci_fw.specs.psci_board.Board.{BoardValue}
+use Rattle.psci_fw.specs.psci_fw_spec.declared.call.FwCall.{FwCall}
+use Rattle.psci_fw.specs.psci_fw_spec.declared.call.FwCall.TheVariants.{Enter}
+use Rattle.psci_fw.specs.psci_fw_spec.declared.fault.FwFault.TheVariants.{NoLife}
+use Rattle.psci_fw.specs.psci_fw_spec.declared.reply.FwReply.TheVariants.{Fault}
+use Rattle.psci_fw.specs.psci_fw_spec.declared.status.Status.TheVariants.{On, Off, Pending}
+use Rattle.psci_messages.specs.declared.start.Cause.TheVariants.{Wake}
+use Rattle.psci_status.specs.Lists.{Item}
+use Rattle.psci_shared.specs.declared.entry.FwItem.{FwItem}
+use Rattle.psci_shared.specs.declared.fault.PassFault.TheVariants.{NoCore, TooMany, Memory}
+use Rattle.psci_shared.specs.Passes.{IsNoPass, PassView, item}
+use Rattle.psci_shared.specs.Polls.{Goes, IsAmong}
+
+-- two cores
+abbrev board : BoardValue
+board = record {
+  levels = (2 ∷ []) ∷ [];
+  ranges = record { start = 0; end = 64 } ∷ [];
+  boot = 0;
+  starts = 9;
+  lives = 3;
+  format = Original;
+}
+
+abbrev pass : List FwItem → List (List Item) → PassView
+pass items seen =
+    record { core = record { number = 0 }; room = 4; told_full = false; items = items; seen = seen }
+
+abbrev enter : FwCall
+enter = Enter (record { life = 2; number = 4; cause = Wake })
+
+abbrev new : FwItem
+new = item 7 enter (Fault NoLife)
+
+-- one of these
+first_is_among : IsAmong (1, Pending) ((1, Pending) ∷ (0, Off) ∷ [])
+first_is_among = inl refl
+
+second_is_among : IsAmong (0, Off) ((1, Pending) ∷ (0, Off) ∷ [])
+second_is_among = inr (inl refl)
+
+-- another status by that serial
+other_is_not_among : IsAmong (0, On) ((0, Off) ∷ []) → ⊥
+other_is_not_among (inl is) = let e : On ≡ Off = ap (λ (i : Item). i.1) is in cc
+other_is_not_among (inr other) = other
+
+-- nothing; one call, in which it sees an item more; the call is forgotten
+nothing_done : Goes board (pass [] []) [] (pass [] [])
+nothing_done = refl
+
+one_call : Goes board (pass [] (((0, Off) ∷ []) ∷ []))
+    (pass (new ∷ []) (((1, On) ∷ (0, Off) ∷ []) ∷ []) ∷ [])
+    (pass (new ∷ []) (((1, On) ∷ (0, Off) ∷ []) ∷ []))
+one_call = (inl (enter, Fault NoLife, (7, ((1, On) ∷ []) ∷ [], refl)), refl)
+
+call_forgotten : Goes board (pass (new ∷ []) []) [] (pass [] []) → ⊥
+call_forgotten h =
+    let e : ◌≡◌ {A = ℕ} 0 1 = ap (λ (p : PassView). length p.items) h in omega arith
+
+-- no pass: of core 2, which the board has not; of core 1 for want of memory
+no_core_2 : IsNoPass board (record { number = 2 }) NoCore
+no_core_2 = omega arith
+
+no_memory_for_core_1 : IsNoPass board (record { number = 1 }) Memory
+no_memory_for_core_1 = omega arith
+
+core_1_is_there : IsNoPass board (record { number = 1 }) NoCore → ⊥
+core_1_is_there h = let e : 2 ≤ 1 = h in omega arith
+
+too_many_before_no_core : IsNoPass board (record { number = 2 }) TooMany → ⊥
+too_many_before_no_core h = let e : 2 < 2 = h in omega arith
