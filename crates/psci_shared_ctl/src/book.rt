@@ -89,6 +89,7 @@ impl<N: Named> CtlBook<N> {
         ensures len { result ≡ length self.now.entries }
         ensures within { length self.now.entries ≤ self.now.room }
         ensures small { length self.now.entries < 2 ^ 32 }
+        ensures legal { IsLegal N.board (history_of self.now.entries) }
     {
         self.entries.len() as u32
     }
