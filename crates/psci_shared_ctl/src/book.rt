@@ -112,8 +112,9 @@ impl<N: Named> CtlBook<N> {
     /// The last start of a core in this life, if there is a life and a start.
     pub fn started(&self, core: Core) -> Option<Start>
         requires { core.number < cores N.board }
-        ensures { result
+        ensures last { result
             ≡ last_start (values_of N.board (history_of self.now.entries)) core.number }
+        ensures legal { IsLegal N.board (history_of self.now.entries) }
     {
         self.controller.started(core)
     }
