@@ -132,7 +132,10 @@ impl Held {
     pub fn outstanding(&self, number: u16) -> Option<Message>
         ensures { result ≡ message_shown self.now.firmware.board (seen self.now.firmware) number }
     {
-        self.polled.firmware().outstanding(number).map(Message::copy)
+        self.polled
+            .firmware()
+            .outstanding(number)
+            .map(Message::copy)
     }
 
     /// `Firmware::granted`.

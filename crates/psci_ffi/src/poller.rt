@@ -2,9 +2,9 @@
 
 ghost use Rattle.std.specs.Prelude.{◌≡◌, None, Some, is_some, option_map};
 
-use crate::watch::Watch;
 use crate::place::{crosses, nowhere};
 use crate::poller_slot::PollerSlot;
+use crate::watch::Watch;
 use std::alloc::Global;
 use std::mem::{self, size_of};
 

@@ -3,8 +3,8 @@
 ghost use Rattle.std.specs.Prelude.{◌≡◌, None, Some};
 ghost use Rattle.psci_ffi.specs.PollerSlot.{IsFull, KeptWatch, kept_coded, slot_owns};
 
-use crate::watch::Watch;
 use crate::parts::Parts;
+use crate::watch::Watch;
 use std::alloc::Global;
 use std::marker::Model;
 

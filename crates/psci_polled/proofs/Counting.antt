@@ -73,6 +73,7 @@ later_life l l' n h =
   where
     one_more_time : (l n : ℕ) → (l + 1) * n ≡ l * n + n
     one_more_time l n = grind arith
+
     mul_le : (x y n : ℕ) → x ≤ y → x * n ≤ y * n
     mul_le x y n h = grind arith
 
@@ -255,12 +256,16 @@ grown b e h core false is few g =
   where
     w : ℕ
     w = weight b (life b h) (known b h core) (status b h core)
+
     w' : ℕ
     w' = weight b (life b (e ∷ h)) (known b (e ∷ h) core) (status b (e ∷ h) core)
+
     one : Bool → Status → List Status
     one opens s = one_more opens core s (statuses b h core)
+
     flag : life b (e ∷ h) ≡ life b h → not (life b (e ∷ h) == life b h) ≡ false
     flag same = ap (λ (l : ℕ). not (l == life b h)) same ∙ same_life (life b h)
+
     stayed : (life b (e ∷ h) ≡ life b h) × (status b (e ∷ h) core ≡ status b h core) × (w ≤ w')
         → length (one (not (life b (e ∷ h) == life b h)) (status b (e ∷ h) core)) ≤ w'
     stayed s =
@@ -272,6 +277,7 @@ grown b e h core false is few g =
         ≡ length (statuses b h core) = ap length k in
         let a = s.2 in
         omega (arith, l, few, a)
+
     changed : (life b (e ∷ h) ≡ life b h) × (w + 1 ≤ w')
         → length (one (not (life b (e ∷ h) == life b h)) (status b (e ∷ h) core)) ≤ w'
     changed c =
@@ -282,6 +288,7 @@ grown b e h core false is few g =
         length_added (status b (e ∷ h) core) (statuses b h core) in
         let a = c.1 in
         omega (arith, k, l, few, a)
+
     begun : w + 2 ≤ w'
         → length (one (not (life b (e ∷ h) == life b h)) (status b (e ∷ h) core)) ≤ w'
     begun a =

@@ -185,6 +185,7 @@ most_small b board =
   where
     few_lives : b.lives + 1 ≤ 65536
     few_lives = let h : b.lives ≤ 65535 = board.lives in omega arith
+
     few_starts : 3 * b.starts + 8 ≤ 12884901893
     few_starts = let h : b.starts < 2 ^ 32 = board.starts in omega arith
 
@@ -241,10 +242,13 @@ past_more b v v' written written' count c call reply adds past wide answered is 
   where
     h : List FwExchange
     h = past.history
+
     e : FwExchange
     e = record { core = c; call = call; reply = reply }
+
     next : v' ≡ values_of b (e ∷ h)
     next = valued b v v' c call reply h adds past.values is
+
     told : (core : ℕ) → core < cores b → row written' core ≡ statuses b (e ∷ h) core
     told core small =
         wrote core (subst (λ (n : ℕ). core < n) (sym wide) small)
@@ -262,17 +266,21 @@ nothing_more b v written past core small = by_life (v.life == 0) refl
   where
     h : List FwExchange
     h = past.history
+
     same : (l : ℕ) → not (l == l) ≡ false
     same l = grind (arith, nat_tests)
+
     some : (v.life == 0) ≡ false → life b h ≢ 0
     some is z =
         let e : (v.life == 0) ≡ true =
         ap (λ (l : ℕ). l == 0) (ap (λ (u : Values). u.life) past.values ∙ z) in cc
+
     told : (v.life == 0) ≡ false → added (v.status core) (row written core) ≡ row written core
     told is =
         ap (λ (u : Values). added (u.status core) (row written core)) past.values
         ∙ ap (λ (ss : List Status). added (status b h core) ss) (past.written core small)
         ∙ added_last b h core (some is) ∙ sym (past.written core small)
+
     by_life : (t : Bool) → (v.life == 0) ≡ t → row written core
         ≡ (if t then row written core
         else one_more (not (v.life == v.life)) core (v.status core) (row written core))

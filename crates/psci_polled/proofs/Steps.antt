@@ -50,7 +50,7 @@ polled_first b f table rows n first board is fresh wrote words count =
       legal = tt;
       values = fresh ∙ sym first;
       written = λ core small. ap (λ (l : List (List Status)). row l core) wrote
-      ∙ row_same (cores b) core small ∙ sym (first_statuses b core);
+          ∙ row_same (cores b) core small ∙ sym (first_statuses b core);
     }
 
 -- after a call

@@ -11,12 +11,7 @@ use psci_status::{Reader, StatusWords};
 
 /// What AFFINITY_INFO answers for a core, by one load of its status word: no lock is taken. It is
 /// INVALID_PARAMETERS exactly where the word names no core of the board.
-pub fn affinity_core(
-    words: &StatusWords,
-    board: &Board,
-    reader: &mut Reader,
-    word: u64,
-) -> Code
+pub fn affinity_core(words: &StatusWords, board: &Board, reader: &mut Reader, word: u64) -> Code
     requires words { (table words.now).words ≡ cores board.now }
     requires reader { table_of_reader reader.old ≡ table words.now }
     ensures answer { IsPolledAs (core_of board.now word) (seen reader.old) (seen reader.new) result }

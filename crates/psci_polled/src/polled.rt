@@ -71,12 +71,7 @@ impl PolledFirmware {
     }
 
     /// `Firmware::smc`, and what it changed is written.
-    pub fn smc(
-        &mut self,
-        words: &StatusWords,
-        core: Core,
-        regs: Regs,
-    ) -> Result<Outcome, FwFault>
+    pub fn smc(&mut self, words: &StatusWords, core: Core, regs: Regs) -> Result<Outcome, FwFault>
         requires { table words.now ≡ self.old.table }
         ensures answer { reply_of result ≡ answer self.old.firmware.board
             (seen self.old.firmware) core.number (calls.Smc regs) }
