@@ -53,6 +53,7 @@ use crate::watch::Watch;
 
 impl Held {
     /// A new firmware of this board.
+    #[inline(never)]
     pub fn new(alloc: Global, board: Board) -> Result<Held, Memory>
         ensures { IfOk result (λ f. IsNew board f) }
     {
