@@ -8,5 +8,6 @@ pub mod Placed
 pub mod Places
 pub mod PollRows
 pub mod Polling
+pub mod Stays
 pub mod WritingRows
 pub mod Written

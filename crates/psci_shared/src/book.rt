@@ -2,6 +2,7 @@
 
 use crate::entry::{BookFull, FwEntry};
 use crate::named::Named;
+use crate::writing::changed;
 use psci_fw::{Firmware, FwCall, FwFault, FwReply, Outcome, Status, law_values};
 use psci_status::{Board, Core, Memory};
 use std::alloc::Global;
@@ -29,16 +30,19 @@ impl<N: Named> Model for FwBook<N> {
         IsTied N.board N.parts b.firmware b.entries.items (vec_capacity b.entries) b.room };
 }
 
-ghost use Rattle.std.specs.Prelude.{◌≡◌, ◌≢◌, ◌<◌, ◌≤◌, ◌^◌, [], ◌∷◌, ◌++◌, length, IfOk, OnOk};
-ghost use Rattle.std.specs.Prelude.{OnErr};
+ghost use Rattle.std.specs.Prelude.{◌≡◌, ◌≢◌, ◌<◌, ◌≤◌, ◌^◌, List, [], ◌∷◌, ◌++◌, length, IfOk};
+ghost use Rattle.std.specs.Prelude.{OnOk, OnErr, option_map};
 ghost use Rattle.psci_fw.specs.Seen.{seen};
 ghost use Rattle.psci_fw.specs.psci_board.Board.{cores};
 ghost use Rattle.psci_fw.specs.psci_fw_spec.After.{after};
 ghost use Rattle.psci_fw.specs.psci_fw_spec.Answer.{answer, reply_of};
+ghost use Rattle.psci_fw.specs.psci_fw_spec.Exchange.{effect};
 ghost use Rattle.psci_fw.specs.psci_fw_spec.History.{life, status, values_of};
 ghost use Rattle.psci_fw.specs.psci_fw_spec.Legal.{IsLegal};
 ghost use Rattle.psci_shared.specs.Passes.{Fits};
-ghost use Rattle.psci_shared.specs.Books.{answer_after, entered, entry, history_of};
+ghost use Rattle.psci_shared.specs.declared.entry.FwEntry.{FwEntry};
+ghost use Rattle.psci_shared.specs.Books.{answer_after, entered, entry, exchange_of, history_of};
+ghost use Rattle.psci_shared.specs.Writing.{may_change};
 
 impl<N: Named> FwBook<N> {
     /// A firmware of this board that was asked nothing, and a book with room for so many entries.
@@ -116,6 +120,15 @@ impl<N: Named> FwBook<N> {
         ensures { N.parts ≡ 1001 }
     {
         let _room = self.room;
+    }
+
+    /// The core whose status the last call can have changed while its life went on, if there is one.
+    pub(crate) fn changed(&self) -> Option<Core>
+        ensures { (past : List FwEntry) (last : FwEntry) → self.now.entries ≡ past ++ last ∷ []
+            → option_map (λ core. core.number) result
+            ≡ may_change (effect N.board (exchange_of last)) }
+    {
+        self.entries.as_slice().last().and_then(changed)
     }
 
     /// The firmware's life, 0 before any core has entered.
