@@ -1,6 +1,7 @@
 pub mod AgreeRows
 pub mod BookRows
 pub mod CallRows
+pub mod ChangeRows
 pub mod Crossing
 pub mod Histories
 pub mod OwnCalls

@@ -1,4 +1,4 @@
-use Rattle.std.proofs.Common.{◌≡◌, ◌≢◌, ◌<◌, ℕ, arith, None, Some, ap}
+use Rattle.std.proofs.Common.{◌≡◌, ◌≢◌, arith, None}
 use Rattle.psci_fw.specs.psci_fw_spec.History.{life}
 use Rattle.psci_shared.specs.Books.{history_of}
 use Rattle.psci_shared.proofs.Stays.{none_is_no_core, others_written, one_written}
