@@ -56,7 +56,7 @@ more b h before core ss =
 same_life : (l : ℕ) → (l == l) ≡ true
 same_life l = grind (arith, nat_tests)
 
-begins_is : (l : ℕ) (a : Option Arrival) → begins l a ≡ not (life_after a l == l)
+pub begins_is : (l : ℕ) (a : Option Arrival) → begins l a ≡ not (life_after a l == l)
 begins_is l None = ap not (sym (same_life l))
 begins_is l (Some a) = refl
 

@@ -1,7 +1,10 @@
 -- What is written of the status of each core, and what a pass has seen of it.
-use Rattle.std.specs.Prelude.{◌≡◌, ◌<◌, ℕ, ◌==◌, Bool, not, if◌then◌else◌, List}
+use Rattle.std.specs.Prelude.{◌≡◌, ◌<◌, ℕ, ◌==◌, Bool, not, if◌then◌else◌, List, [], ◌∷◌, ◌++◌}
+use Rattle.std.specs.Prelude.{Option, None, Some}
 use Rattle.psci_fw.specs.psci_board.Board.{BoardValue, cores}
 use Rattle.psci_fw.specs.psci_fw_spec.declared.status.Status.{Status}
+use Rattle.psci_fw.specs.psci_fw_spec.Changes.{target}
+use Rattle.psci_fw.specs.psci_fw_spec.Effects.{Effect, AsksOn, Enters, Acknowledges}
 use Rattle.psci_fw.specs.psci_fw_spec.History.{life, status}
 use Rattle.psci_fw.specs.psci_fw_spec.Lives.{first_status}
 use Rattle.psci_fw.specs.psci_fw_spec.Statuses.{added, statuses}
@@ -41,3 +44,17 @@ written_after b entries before core written =
     if life b (history_of entries) == 0 then written
     else one_more (not (life b (history_of entries) == before)) core
     (status b (history_of entries) core) written
+
+-- the one core whose status this can change while its life goes on, if there is one: a core that was
+-- asked on, that entered and goes on, or whose message was acknowledged
+abbrev pub may_change : Effect → Option ℕ
+may_change (AsksOn caller asked) = Some (target asked)
+may_change (Enters core start) = Some core
+may_change (Acknowledges ack) = Some ack.core.number
+may_change effect = None
+
+-- all but the last call of these entries was written, and this was the life before the last call
+abbrev pub IsOneBehind : BoardValue → List (List Status) → List FwEntry → ℕ → Type 0
+IsOneBehind b log entries before =
+    (past : List FwEntry) × (last : FwEntry) × (entries ≡ past ++ last ∷ [])
+    × (before ≡ life b (history_of past)) × IsWritten b log past

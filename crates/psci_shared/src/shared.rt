@@ -265,7 +265,8 @@ impl<'t, N: Named> SharedFirmware<'t, N> {
         })
     }
 
-    /// A call for the pass's core, under the lock.
+    /// A call for the pass's core, under the lock. Where nobody holds it, it is taken at once.
+    #[inline(always)]
     fn call<R: Wait>(&self, rt: &R, pass: &mut Pass<N>, call: FwCall) -> Result<FwReply, BookFull>
         ensures ok { IfOk result (λ reply. IsCalled pass.old pass.new call reply) }
         ensures answered { IfOk result (λ reply.
@@ -274,7 +275,10 @@ impl<'t, N: Named> SharedFirmware<'t, N> {
         ensures fits { IfOk result (λ reply. Fits call reply) }
         ensures err { OnErr result (pass.new ≡ told pass.old) }
     {
-        let mut locked = self.locked.lock(rt);
+        let mut locked = match self.locked.try_lock() {
+            Some(locked) => locked,
+            None => self.locked.lock(rt),
+        };
         let ticket = self.tickets.draw();
         locked.call(&self.words, ticket, pass, call)
     }
