@@ -18,3 +18,4 @@ pub use polled::PolledFirmware;
 pub use psci_board::{Board, Core, Memory};
 pub use psci_fw::{Code, Firmware, FwFault, Outcome, Regs, Start, Status, Taken};
 pub use psci_status::{Reader, StatusWords};
+pub use writing::{asked_on, write_changed};

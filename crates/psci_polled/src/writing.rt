@@ -15,7 +15,7 @@ use psci_fw::{Act, Firmware, Outcome, Status};
 use psci_status::{StatusWords, Writer};
 
 /// The target of a CPU_ON that was accepted.
-pub(crate) fn asked_on(outcome: &Outcome) -> Option<Core>
+pub fn asked_on(outcome: &Outcome) -> Option<Core>
     ensures { result ≡ asked_by outcome.now }
 {
     match (outcome.act, &outcome.message) {
@@ -33,7 +33,7 @@ pub(crate) fn life_of(firmware: &Firmware) -> u32
 
 /// Writes the statuses after a call: of all cores where it began a life, else of the one core whose
 /// status it may have changed.
-pub(crate) fn write_changed(
+pub fn write_changed(
     words: &StatusWords,
     writer: &mut Writer,
     firmware: &Firmware,

@@ -3,7 +3,7 @@
 use crate::entry::{BookFull, FwEntry, FwItem, keep, same_outcome, same_reply};
 use crate::named::Named;
 use crate::writing::changed;
-use psci_fw::{Firmware, FwCall, FwFault, FwReply, Outcome, Status, law_values};
+use psci_fw::{Firmware, FwCall, FwFault, FwReply, Outcome, law_values};
 use psci_status::{Board, Core, Memory};
 use std::alloc::Global;
 use std::marker::{Model, PhantomData};
@@ -30,19 +30,17 @@ impl<N: Named> Model for FwBook<N> {
         IsTied N.board N.parts b.firmware b.entries.items (vec_capacity b.entries) b.room };
 }
 
-ghost use Rattle.std.specs.Prelude.{◌≡◌, ◌≢◌, ◌<◌, ◌≤◌, ◌+◌, ◌^◌, List, [], ◌∷◌, ◌++◌, length};
-ghost use Rattle.std.specs.Prelude.{IfOk, OnOk, OnErr, option_map, vec_len, vec_capacity};
+ghost use Rattle.std.specs.Prelude.{◌≡◌, ◌<◌, ◌≤◌, ◌+◌, ◌^◌, List, [], ◌∷◌, ◌++◌, length};
+ghost use Rattle.std.specs.Prelude.{IfOk, OnOk, OnErr, vec_len, vec_capacity};
 ghost use Rattle.psci_fw.specs.Seen.{seen};
-ghost use Rattle.psci_fw.specs.psci_board.Board.{cores};
 ghost use Rattle.psci_fw.specs.psci_fw_spec.After.{after};
 ghost use Rattle.psci_fw.specs.psci_fw_spec.Answer.{answer, reply_of};
-ghost use Rattle.psci_fw.specs.psci_fw_spec.Exchange.{effect};
-ghost use Rattle.psci_fw.specs.psci_fw_spec.History.{life, status, values_of};
+ghost use Rattle.psci_fw.specs.psci_fw_spec.History.{life, values_of};
 ghost use Rattle.psci_fw.specs.psci_fw_spec.Legal.{IsLegal};
 ghost use Rattle.psci_shared.specs.Passes.{Fits, item};
 ghost use Rattle.psci_shared.specs.declared.entry.FwEntry.{FwEntry};
-ghost use Rattle.psci_shared.specs.Books.{answer_after, entered, entry, exchange_of, history_of};
-ghost use Rattle.psci_shared.specs.Writing.{may_change};
+ghost use Rattle.psci_shared.specs.Books.{answer_after, entered, entry, history_of};
+ghost use Rattle.psci_shared.specs.Writing.{named_in};
 
 impl<N: Named> FwBook<N> {
     /// A firmware of this board that was asked nothing, and a book with room for so many entries.
@@ -172,13 +170,20 @@ impl<N: Named> FwBook<N> {
         let _room = self.room;
     }
 
-    /// The core whose status the last call can have changed while its life went on, if there is one.
+    /// The core that the last call may name, if there is one.
     pub(crate) fn changed(&self) -> Option<Core>
         ensures { (past : List FwEntry) (last : FwEntry) → self.now.entries ≡ past ++ last ∷ []
-            → option_map (λ core. core.number) result
-            ≡ may_change (effect N.board (exchange_of last)) }
+            → result ≡ named_in last }
     {
         self.entries.as_slice().last().and_then(changed)
+    }
+
+    /// The firmware, to look at.
+    pub(crate) fn firmware(&self) -> &Firmware
+        ensures board { result.now.board ≡ N.board }
+        ensures values { seen result.now ≡ values_of N.board (history_of self.now.entries) }
+    {
+        &self.firmware
     }
 
     /// The firmware's life, 0 before any core has entered.
@@ -187,16 +192,6 @@ impl<N: Named> FwBook<N> {
         ensures { result ≡ life N.board (history_of self.now.entries) }
     {
         self.firmware.life().unwrap_or(0)
-    }
-
-    /// The status of a core of the board, once a core has entered.
-    #[tactic(auto, unfolding(psci_fw_spec::specs::History::values_of, psci_fw_spec::specs::AffinityInfo::node_status))]
-    pub fn status(&self, core: Core) -> Status
-        requires { core.number < cores N.board }
-        ensures { life N.board (history_of self.now.entries) ≢ 0
-            → result ≡ status N.board (history_of self.now.entries) core.number }
-    {
-        self.firmware.status(core.node()).unwrap_or(Status::Off)
     }
 }
 
