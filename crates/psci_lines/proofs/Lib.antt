@@ -1,5 +1,5 @@
+pub mod Accounts
 pub mod Ahead
-pub mod Beginning
 mod DeviceRows
 pub mod Ends
 pub mod Finding
@@ -8,4 +8,4 @@ pub mod Known
 pub mod Moved
 pub mod Split
 pub mod Steps
-pub mod Transcripts
+pub mod Taking
