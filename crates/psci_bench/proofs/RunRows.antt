@@ -35,10 +35,10 @@ use Rattle.psci_world.proofs.world_spec.Scripts.{computing}
 use Rattle.psci_lines.specs.Answered.{Answered}
 use Rattle.psci_lines.specs.Progress.{Progress}
 use Rattle.psci_lines.specs.Run.{Follows}
-use Rattle.psci_bench.specs.ScriptRun.{AllSafe, IsSafeText, Prints, SaysRun, ScriptRun, WritesPart}
-use Rattle.psci_bench.specs.ScriptRun.{WritesRun, events_of, run_by, run_of, run_of_lines, run_on}
-use Rattle.psci_bench.specs.ScriptRun.{text_of, with_event}
-use Rattle.psci_bench.specs.UnderWay.{IsUnderWay, LineLeaves}
+use Rattle.psci_lines.specs.ScriptRun.{ScriptRun, events_of, run_by, run_of, run_of_lines, run_on}
+use Rattle.psci_lines.specs.ScriptRun.{with_event}
+use Rattle.psci_bench.specs.ScriptRun.{AllSafe, IsSafeText, Prints, SaysRun, WritesPart}
+use Rattle.psci_bench.specs.ScriptRun.{WritesRun, text_of}
 
 -- what an example unfolds to read a line that is written out
 unfoldable reading : Unit {0}
@@ -338,103 +338,3 @@ write_failed_otherwise (says, zero, to) =
     let e : ◌≡◌ {A = ℕ} 1 0 = ap length to in omega arith
 write_failed_otherwise (says, suc n, to) =
     let e : ◌≡◌ {A = ℕ} 55 49 = ap first_or_0 to in omega arith
-
--- Under way -------------------------------------------------------------------------------------
-
--- at most one record for each line
-a_record_too_many : (p : PresentValue) (count : ℕ) (first before : Option (List ℕ)) (s : Progress)
-    (k : IsUnderWay p count first before s) → count < length k.past → ⊥
-a_record_too_many p count first before s k more = omega (arith, more, k.few)
-
--- the present is that after these records
-other_messages : (p : PresentValue) (count : ℕ) (first before : Option (List ℕ)) (s : Progress)
-    (k : IsUnderWay p count first before s) → ¬ (p.messages ≡ reverse (sent k.past)) → ⊥
-other_messages p count first before s k differs = differs k.present.messages
-
--- and so many lines are answered by them, of those of this source
-lines_after : (p : PresentValue) (first before : Option (List ℕ)) (s : Progress)
-    (k : IsUnderWay p 7 first before s) (rest : List ℕ) → Follows s.block rest
-    → transcript (k.answered.whole ++ rest)
-    ≡ after_line (k.answered.written ++ s.answered.waiting)
-    (transcript_of_rest k.board k.past 7 (lines rest))
-lines_after p first before s k rest follows = k.answered.answers rest follows
-
-other_count : (p : PresentValue) (count : ℕ) (first before : Option (List ℕ)) (s : Progress)
-    (k : IsUnderWay p count first before s) → ¬ (s.answered.events ≡ length k.past) → ⊥
-other_count p count first before s k differs = differs k.answered.events
-
-from_the_source : (p : PresentValue) (count : ℕ) (first before : Option (List ℕ)) (s : Progress)
-    (k : IsUnderWay p count first before s)
-    → Consumes first s.left (k.answered.whole ++ s.block.unread)
-from_the_source p count first before s k = k.answered.from
-
-to_the_sink : (p : PresentValue) (count : ℕ) (first before : Option (List ℕ)) (s : Progress)
-    (k : IsUnderWay p count first before s) → Appends before s.taken k.answered.written
-to_the_sink p count first before s k = k.answered.to
-
--- A line ----------------------------------------------------------------------------------------
-
--- answers that wait: these bytes, and a count of all events
-abbrev answered : List ℕ → ℕ → Answered
-answered waiting events = record { waiting = waiting; events = events }
-
--- what is outside the grammar leaves nothing
-no_line : (b : BoardValue) (past : List Record) (p : PresentValue) (old new : Answered)
-    → LineLeaves None b past p old new → ⊥
-no_line b past p old new h = h
-
--- a blank line leaves all as it was
-blank_line : (b : BoardValue) (past : List Record) (p : PresentValue) (old : Answered)
-    → IsPresent b past p → LineLeaves (Some Blank) b past p old old
-blank_line b past p old is = (is, refl)
-
-blank_of_another_present : (b : BoardValue) (past : List Record) (p : PresentValue)
-    (old : Answered) → ¬ (IsPresent b past p) → LineLeaves (Some Blank) b past p old old → ⊥
-blank_of_another_present b past p old differs h = differs h.0
-
-blank_is_counted : (b : BoardValue) (past : List Record) (p : PresentValue)
-    → LineLeaves (Some Blank) b past p (answered [] 3) (answered [] 4) → ⊥
-blank_is_counted b past p h =
-    let e : ◌≡◌ {A = ℕ} 4 3 = ap (λ (a : Answered). a.events) h.1 in omega arith
-
-blank_is_answered : (b : BoardValue) (past : List Record) (p : PresentValue)
-    → LineLeaves (Some Blank) b past p (answered [] 3) (answered (55 ∷ []) 3) → ⊥
-blank_is_answered b past p h =
-    let e : ◌≡◌ {A = ℕ} 1 0 = ap (λ (a : Answered). length a.waiting) h.1 in omega arith
-
--- the message that is not there, and then the acknowledgement
-abbrev delivered : List Record
-delivered = record { event = Deliver 4; said = Absent } ∷ []
-
-abbrev taken : List Record
-taken = record { event = Take 2; said = Absent } ∷ delivered
-
-first_event : (b : BoardValue) (p : PresentValue) → IsPresent b delivered p
-    → LineLeaves (Some (Says (Deliver 4))) b [] p (answered (55 ∷ []) 0)
-    (answered (55 ∷ codes "1 absent\n") 1)
-unfolding answering
-first_event b p is = (is, refl)
-
--- an event has the number after those of the records, whatever was counted
-second_event : (b : BoardValue) (p : PresentValue) → IsPresent b taken p
-    → LineLeaves (Some (Says (Take 2))) b delivered p (answered [] 5)
-    (answered (codes "2 absent\n") 2)
-unfolding answering
-second_event b p is = (is, refl)
-
-event_without_a_record : (b : BoardValue) (p : PresentValue) (old new : Answered)
-    → ¬ (IsPresent b taken p) → LineLeaves (Some (Says (Take 2))) b delivered p old new → ⊥
-unfolding answering
-event_without_a_record b p old new differs h = differs h.0
-
-event_is_not_counted : (b : BoardValue) (p : PresentValue)
-    → LineLeaves (Some (Says (Take 2))) b delivered p (answered [] 1)
-    (answered (codes "2 absent\n") 1) → ⊥
-event_is_not_counted b p h =
-    let e : ◌≡◌ {A = ℕ} 1 2 = ap (λ (a : Answered). a.events) h.1 in omega arith
-
-event_is_not_answered : (b : BoardValue) (p : PresentValue)
-    → LineLeaves (Some (Says (Take 2))) b delivered p (answered [] 1) (answered [] 2) → ⊥
-unfolding answering
-event_is_not_answered b p h =
-    let e : ◌≡◌ {A = ℕ} 0 9 = ap (λ (a : Answered). length a.waiting) h.1 in omega arith

@@ -21,7 +21,7 @@ pub trait Teller<F: Copy>: Drop {
     ghost told: { F → Option ScriptRun → List ℕ → Type 0 };
 
     /// Tells what stands before the script; or is out of memory, and tells nothing.
-    fn open(form: F, answers: &mut Answers) -> Result<(), AllocError>
+    fn open(alloc: Global, form: F, answers: &mut Answers) -> Result<(), AllocError>
         requires { answers.old.waiting ≡ [] }
         ensures ok { OnOk result (told form None answers.new.waiting) }
         ensures events { answers.new.events ≡ answers.old.events }

@@ -51,6 +51,7 @@ fn tell_line<F: Copy, T: Teller<F>>(
 /// Tells what stands before the script.
 fn open<F: Copy, T: Teller<F>, S: Source, K: Sink>(
     progress: &mut Progress<'_, '_, S, K>,
+    alloc: Global,
     form: F,
 ) -> Result<(), ReplayFault>
     requires fresh { IsFresh S.left K.taken progress.old }
@@ -65,7 +66,7 @@ fn open<F: Copy, T: Teller<F>, S: Source, K: Sink>(
     ensures fault { IfErr result (λ fault. IsNoDevice fault) }
     ensures count { OnOk result (progress.new.answers.now.events ≡ 0) }
 {
-    T::open(form, progress.answers)?;
+    T::open(alloc, form, progress.answers)?;
     Ok(())
 }
 
@@ -172,7 +173,7 @@ fn run_lines<F: Copy, T: Teller<F>, S: Source, K: Sink>(
     ensures given_up { IfErr result (OnlyGivenUp S.failed S.interruptions K.failed
         K.interruptions progress.new.source.now progress.new.sink.now) }
 {
-    open::<F, T, S, K>(progress, form)?;
+    open::<F, T, S, K>(progress, alloc, form)?;
     let mut teller: T = begin(progress, alloc, form)?;
     tell_lines(progress, &mut teller)
 }

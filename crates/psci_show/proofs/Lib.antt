@@ -1,3 +1,0 @@
-mod AskedRows
-mod ColumnRows
-mod SaidRows
