@@ -1,5 +1,5 @@
--- Worked examples: the runs of known scripts, what a replay prints by its end, and what a line
--- leaves that is answered; and for each clause something that breaks it.
+-- Worked examples: the answer text of a run, and what a replay prints by its end; and for each clause
+-- something that breaks it.
 use Rattle.std.proofs.Common.{◌≡◌, ℕ, zero, suc, ◌<◌, List, [], ◌∷◌, ◌++◌, length, reverse}
 use Rattle.std.proofs.Common.{Option, None, Some, Ok, Err, Result, refl, ap, arith}
 use Rattle.std.specs.Prelude.{codes}
@@ -31,161 +31,18 @@ use Rattle.psci_script.specs.psci_board_text.Verdict.{board_of, verdict}
 use Rattle.psci_script.specs.Script.{after_line, transcript, transcript_of_rest}
 use Rattle.psci_world.specs.Safe.{AlwaysSafe}
 use Rattle.psci_world.specs.Seen.{IsPresent, PresentValue}
-use Rattle.psci_world.proofs.world_spec.Scripts.{computing}
 use Rattle.psci_lines.specs.Answered.{Answered}
 use Rattle.psci_lines.specs.Progress.{Progress}
 use Rattle.psci_lines.specs.Run.{Follows}
-use Rattle.psci_lines.specs.ScriptRun.{ScriptRun, events_of, run_by, run_of, run_of_lines, run_on}
-use Rattle.psci_lines.specs.ScriptRun.{with_event}
+use Rattle.psci_lines.specs.ScriptRun.{ScriptRun, run_of}
+use Rattle.psci_lines.proofs.ScriptRows.{answering, board, entered, text}
 use Rattle.psci_bench.specs.ScriptRun.{AllSafe, IsSafeText, Prints, SaysRun, WritesPart}
 use Rattle.psci_bench.specs.ScriptRun.{WritesRun, text_of}
-
--- what an example unfolds to read a line that is written out
-unfoldable reading : Unit {0}
-unfolding line_of event_at call_at alone_at register_at optional_register_at spaced_at hex_at
-    number_at literal_at
-reading = tt
-
--- what an example unfolds to answer a script that is written out
-unfoldable answering : Unit {0}
-unfolding transcript transcript_of_rest lines reading board_of verdict board_text tree_at member_at
-    list_at more_at at_most range_at computing digits
-answering = tt
-
--- lines, each with its line feed
-abbrev text : List (List ℕ) → List ℕ
-text [] = []
-text (l ∷ ls) = l ++ 10 ∷ text ls
-
--- two clusters of two cores
-abbrev board : List ℕ
-board = codes "board (2 2) exec 0x40000000-0x40100000 boot 0x40000000 starts 1000 lives 3"
 
 -- the first byte, or 0 of none
 abbrev first_or_0 : List ℕ → ℕ
 first_or_0 [] = 0
 first_or_0 (b ∷ bs) = b
-
--- Events ----------------------------------------------------------------------------------------
-
--- a fault ends the events, a blank line says none, and an event comes before those after it
-fault_says_nothing : with_event (Err faults.Line) (Enter 1 ∷ []) ≡ []
-fault_says_nothing = refl
-
-blank_says_nothing : with_event (Ok Blank) (Enter 1 ∷ []) ≡ Enter 1 ∷ []
-blank_says_nothing = refl
-
-event_comes_first : with_event (Ok (Says (Wake 2))) (Enter 1 ∷ []) ≡ Wake 2 ∷ Enter 1 ∷ []
-event_comes_first = refl
-
--- events around an empty line and a comment
-four_lines : events_of 1 (codes "enter 2" ∷ [] ∷ codes "# wake 3" ∷ codes "wake 1" ∷ [])
-    ≡ Enter 2 ∷ Wake 1 ∷ []
-unfolding events_of reading
-four_lines = refl
-
--- none of what follows a fault
-fault_between : events_of 4 (codes "take 2" ∷ codes "enter x" ∷ codes "enter 0" ∷ [])
-    ≡ Take 2 ∷ []
-unfolding events_of reading
-fault_between = refl
-
-no_lines : events_of 3 [] ≡ []
-unfolding events_of
-no_lines = refl
-
--- line 1,000,000 is the last one that may be there
-last_lines : events_of 999998 (codes "enter 1" ∷ codes "enter 2" ∷ codes "enter 3" ∷ [])
-    ≡ Enter 1 ∷ Enter 2 ∷ []
-unfolding events_of reading
-last_lines = refl
-
--- Runs ------------------------------------------------------------------------------------------
-
--- one core, and two groups of two clusters of one core
-abbrev one_core : List ℕ
-one_core = codes "1 exec 0x0-0x4 boot 0x0 starts 1 lives 1"
-
-abbrev tall : List ℕ
-tall = codes "((1 1) (1 1)) exec 0x40000000-0x40100000 boot 0x40000000 starts 9 lives 3"
-
--- the records of a run, if there is one, and its levels
-abbrev past_of : Option ScriptRun → Option (List Record)
-past_of None = None
-past_of (Some run) = Some run.past
-
-abbrev levels_of : Option ScriptRun → List (List ℕ)
-levels_of None = []
-levels_of (Some run) = run.board.levels
-
--- what is not there
-abbrev absent : Event → Record
-absent event = record { event = event; said = Absent }
-
--- a start at the boot address
-abbrev entered : ℕ → ℕ → Record
-entered c address = record { event = Enter c; said = Fw (acts.Enter address 0) None }
-
-no_board : run_on (Err Grammar) (codes "enter 0" ∷ []) ≡ None
-no_board = refl
-
--- a line after the board line is line 2, and those after it are counted on from there
-from_line_2 : (b : BoardValue) (ls : List (List ℕ)) → run_on (Ok b) ([] ∷ ls)
-    ≡ Some (record { board = b; past = run_from b [] (events_of 2 ls) })
-unfolding events_of reading
-from_line_2 b ls = refl
-
--- what is not there is absent, on every board; the newest record comes first
-two_absent : (b : BoardValue) → run_on (Ok b) (codes "deliver 4" ∷ codes "take 2" ∷ [])
-    ≡ Some (record {
-      board = b;
-      past = absent (Take 2) ∷ absent (Deliver 4) ∷ [];
-    })
-unfolding events_of answering
-two_absent b = refl
-
-faulty_first_line : run_by (Err faults.NoBoard) (codes "enter 0" ∷ []) ≡ None
-faulty_first_line = refl
-
-faulty_board : run_by (Ok (codes "(2 2)")) (codes "enter 0" ∷ []) ≡ None
-unfolding answering
-faulty_board = refl
-
--- the boot core enters once; core 1 is none
-run_of_one_core : past_of (run_by (Ok one_core)
-    (codes "enter 0" ∷ codes "enter 0" ∷ codes "enter 1" ∷ []))
-    ≡ Some (record { event = Enter 1; said = Absent } ∷ record { event = Enter 0; said = Ignored }
-    ∷ entered 0 0 ∷ [])
-unfolding events_of answering
-run_of_one_core = refl
-
-levels_of_one_core : levels_of (run_by (Ok one_core) []) ≡ (1 ∷ []) ∷ []
-unfolding events_of answering
-levels_of_one_core = refl
-
-nothing_at_all : run_of_lines [] ≡ None
-nothing_at_all = refl
-
-board_line_lacks : run_of_lines (codes "enter 0" ∷ board ∷ []) ≡ None
-unfolding answering
-board_line_lacks = refl
-
-levels_of_tall : levels_of (run_of_lines ((codes "board " ++ tall) ∷ []))
-    ≡ (1 ∷ 1 ∷ 1 ∷ 1 ∷ []) ∷ (2 ∷ 2 ∷ []) ∷ (2 ∷ []) ∷ []
-unfolding events_of answering
-levels_of_tall = refl
-
-empty_script : run_of [] ≡ None
-unfolding lines
-empty_script = refl
-
--- core 3 was not started, and there is no core 4; after the fault nothing happens
-run_of_a_script : past_of (run_of (text (board ∷ codes "enter 3" ∷ codes "enter 4" ∷
-    codes "enter 0" ∷ codes "call" ∷ codes "enter 3" ∷ [])))
-    ≡ Some (entered 0 0x40000000 ∷ record { event = Enter 4; said = Absent }
-    ∷ record { event = Enter 3; said = Ignored } ∷ [])
-unfolding events_of answering
-run_of_a_script = refl
 
 -- Texts -----------------------------------------------------------------------------------------
 

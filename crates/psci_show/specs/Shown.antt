@@ -18,11 +18,14 @@ number_text n =
     else (if nat_lt n 100 then codes "  "
     else (if nat_lt n 1000 then codes " " else []))) ++ decimal n
 
+-- what stands in JSON before the line of the event of this number
+abbrev pub object_start : ℕ → List ℕ
+object_start number = codes "{\"number\": " ++ (decimal number ++ codes ", \"line\": \"")
+
 -- what the row of the event of this number begins with, which this line says
 abbrev pub front : Form → ℕ → List ℕ → List ℕ
 front (Lines layout) number line = number_text number
-front Json number line =
-    codes "{\"number\": " ++ (decimal number ++ (codes ", \"line\": \"")) ++ line
+front Json number line = object_start number ++ line
 
 -- the row of a record, the newest of so many
 pub record IsRow (form : Form) (number : ℕ) (r : Record) (row : List ℕ) : Type 0 where

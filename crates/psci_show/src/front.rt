@@ -1,7 +1,7 @@
 //! What the row of an event begins with: its number, and in JSON its line.
 
 ghost use Rattle.std.specs.Prelude.{◌≡◌, ◌++◌, [], OnOk, length, string_bytes};
-ghost use Rattle.psci_show.specs.Shown.{front};
+ghost use Rattle.psci_show.specs.Shown.{front, object_start};
 
 use crate::form::Form;
 use crate::lines::put;
@@ -46,16 +46,25 @@ pub fn write_front(
     ensures out { OnOk result (out.new.items
         ≡ out.old.items ++ front form (length run.now.past) line.now) }
 {
-    let number = run.world().records().len();
     match form {
         Form::Lines(_) => {
-            write!(text, "{}", NumberText(number))?;
+            write!(text, "{}", NumberText(run.world().records().len()))?;
             put(out, text)
         }
         Form::Json => {
-            write!(text, "{{\"number\": {number}, \"line\": \"")?;
-            put(out, text)?;
+            write_start(out, text, run)?;
             out.extend_from_slice(line)
         }
     }
+}
+
+/// Writes what stands before the line of the newest event.
+fn write_start(out: &mut Vec<u8>, text: &mut String, run: &Run) -> Result<(), AllocError>
+    requires { string_bytes text.old ≡ [] }
+    ensures { OnOk result (out.new.items
+        ≡ out.old.items ++ object_start (length run.now.past)) }
+{
+    let number = run.world().records().len();
+    write!(text, "{{\"number\": {number}, \"line\": \"")?;
+    put(out, text)
 }

@@ -1,7 +1,5 @@
 //! Text in lines of a width.
 
-ghost use Rattle.std.specs.Prelude.{◌≤◌, length};
-
 use std::alloc::AllocError;
 
 /// Writes this many spaces.
@@ -18,9 +16,7 @@ fn word_end(at: u8, text: &[u8]) -> Option<usize> {
 }
 
 /// How long the word at the front is, which ends before this byte.
-fn word_length(at: u8, text: &[u8]) -> usize
-    ensures { result ≤ length text.now }
-{
+fn word_length(at: u8, text: &[u8]) -> usize {
     word_end(at, text).unwrap_or(text.len())
 }
 
@@ -39,7 +35,7 @@ pub fn write_wrapped(
         if *byte != at {
             out.push(*byte)?;
             column += 1;
-        } else if column + 1 + word_length(at, &text[index + 1..]) <= room {
+        } else if column.saturating_add(word_length(at, &text[index + 1..])) < room {
             out.push(b' ')?;
             column += 1;
         } else {
