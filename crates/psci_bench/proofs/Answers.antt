@@ -3,7 +3,6 @@ use Rattle.std.proofs.Common.{◌≡◌, ℕ, ◌+◌, List, [], ◌∷◌, ◌+
 use Rattle.std.proofs.Common.{append-nil, append_assoc, subst, Option, None, Some, Result, Ok, Err}
 use Rattle.std.proofs.Math.Seq.{take-append_seam}
 use Rattle.std.proofs.lemmas.List.{take-append-drop}
-use Rattle.std.specs.Prelude.{IfSome}
 use Rattle.std.specs.Io.KnownBytes.{Appends}
 use Rattle.psci_script.specs.psci_board.Board.{BoardValue}
 use Rattle.psci_script.specs.psci_board_text.Verdict.{board_of}
@@ -55,9 +54,11 @@ text_grows : (newer past : List Record)
 text_grows [] past = ([], sym (append-nil (text_of past)))
 text_grows (r ∷ newer) past =
     let grows = text_grows newer past in
-    let line : List ℕ = answer_line (length (newer ++ past) + 1) r.said in
-    (grows.0 ++ line, ap (λ (x : List ℕ). x ++ line) grows.1
-    ∙ append_assoc (text_of past) grows.0 line)
+    let line : List ℕ = answer_line (length (newer ++ past) + 1) r.said in (
+      grows.0 ++ line,
+      ap (λ (x : List ℕ). x ++ line) grows.1
+          ∙ append_assoc (text_of past) grows.0 line,
+    )
 
 front_text : (run later : Option ScriptRun) (x y : List ℕ) → GoesOn run later → AnswersRun run x
     → AnswersRun later y → (more : List ℕ) × (y ≡ x ++ more)

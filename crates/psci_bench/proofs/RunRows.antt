@@ -1,39 +1,22 @@
 -- Worked examples: the answer text of a run, and what a replay prints by its end; and for each clause
 -- something that breaks it.
-use Rattle.std.proofs.Common.{◌≡◌, ℕ, zero, suc, ◌<◌, List, [], ◌∷◌, ◌++◌, length, reverse}
+use Rattle.std.proofs.Common.{◌≡◌, ℕ, zero, suc, List, [], ◌∷◌, ◌++◌, length}
 use Rattle.std.proofs.Common.{Option, None, Some, Ok, Err, Result, refl, ap, arith}
 use Rattle.std.specs.Prelude.{codes}
 use Rattle.std.specs.Fmt.{digits}
-use Rattle.std.specs.Io.KnownBytes.{Appends, Consumes}
 use Rattle.psci_script.specs.psci_board.Board.{BoardValue}
 use Rattle.psci_script.specs.psci_board_text.declared.fault.BoardFault.TheVariants.{Grammar}
-use Rattle.psci_script.specs.psci_world_spec.psci_fw_spec.declared.outcome.Act.TheVariants as acts
-use Rattle.psci_script.specs.psci_world_spec.declared.event.Event.{Event}
-use Rattle.psci_script.specs.psci_world_spec.declared.event.Event.TheVariants.{Deliver, Enter}
 use Rattle.psci_script.specs.psci_world_spec.declared.event.Event.TheVariants.{Take, Wake}
-use Rattle.psci_script.specs.psci_world_spec.declared.said.Record.{Record}
-use Rattle.psci_script.specs.psci_world_spec.declared.said.Said.TheVariants.{Absent, Fw, Ignored}
-use Rattle.psci_script.specs.psci_world_spec.Histories.{sent}
-use Rattle.psci_script.specs.psci_world_spec.Legal.{IsLegalPast, run_from}
+use Rattle.psci_script.specs.psci_world_spec.declared.said.Said.TheVariants.{Absent, Ignored}
+use Rattle.psci_script.specs.psci_world_spec.Legal.{IsLegalPast}
 use Rattle.psci_script.specs.declared.fault.Replayed.{Replayed}
 use Rattle.psci_script.specs.declared.fault.ReplayFault.{ReplayFault}
 use Rattle.psci_script.specs.declared.fault.ReplayFault.TheVariants.{Script, Board, Read, Write}
 use Rattle.psci_script.specs.declared.fault.ReplayFault.TheVariants.{Memory}
 use Rattle.psci_script.specs.declared.fault.ScriptFault.TheVariants as faults
-use Rattle.psci_script.specs.declared.grammar.Line.TheVariants.{Blank, Event as Says}
-use Rattle.psci_script.specs.Line.{line_of, event_at, call_at, alone_at, register_at}
-use Rattle.psci_script.specs.Line.{optional_register_at}
 use Rattle.psci_script.specs.Lines.{lines}
-use Rattle.psci_script.specs.psci_text.Reading.{literal_at, number_at, hex_at, spaced_at}
-use Rattle.psci_script.specs.psci_board_text.Reading.{range_at, at_most, board_text}
-use Rattle.psci_script.specs.psci_board_text.Reading.{more_at, list_at, member_at, tree_at}
-use Rattle.psci_script.specs.psci_board_text.Verdict.{board_of, verdict}
-use Rattle.psci_script.specs.Script.{after_line, transcript, transcript_of_rest}
+use Rattle.psci_script.specs.Script.{transcript}
 use Rattle.psci_world.specs.Safe.{AlwaysSafe}
-use Rattle.psci_world.specs.Seen.{IsPresent, PresentValue}
-use Rattle.psci_lines.specs.Answered.{Answered}
-use Rattle.psci_lines.specs.Progress.{Progress}
-use Rattle.psci_lines.specs.Run.{Follows}
 use Rattle.psci_lines.specs.ScriptRun.{ScriptRun, run_of}
 use Rattle.psci_lines.proofs.ScriptRows.{answering, board, entered, text}
 use Rattle.psci_bench.specs.ScriptRun.{AllSafe, IsSafeText, Prints, SaysRun, WritesPart}

@@ -30,11 +30,7 @@ impl Teller<AnswerLines> for Answering {
     ghost told = { λ form run text. AnswersRun run text };
 
     /// Nothing stands before the answers.
-    fn open(
-        _alloc: Global,
-        _form: AnswerLines,
-        _answers: &mut Answers,
-    ) -> Result<(), AllocError> {
+    fn open(_alloc: Global, _form: AnswerLines, _answers: &mut Answers) -> Result<(), AllocError> {
         Ok(())
     }
 

@@ -15,8 +15,8 @@ use Rattle.psci_script.specs.declared.fault.ReplayFault.TheVariants.{Script}
 use Rattle.psci_script.specs.Line.{line_of}
 use Rattle.psci_script.specs.Lines.{lines}
 use Rattle.psci_script.specs.Script.{line_said, ok_or, transcript, transcript_of_line}
-use Rattle.psci_script.specs.Script.{transcript_of_lines, transcript_of_rest}
-use Rattle.psci_lines.specs.ScriptRun.{GoesOn, ScriptRun, events_of, run_of_lines, with_event}
+use Rattle.psci_script.specs.Script.{transcript_of_rest}
+use Rattle.psci_lines.specs.ScriptRun.{GoesOn, ScriptRun, events_of, with_event}
 use Rattle.psci_lines.specs.ScriptRun.{with_record}
 use Rattle.psci_lines.specs.Told.{Account, account, remaining}
 

@@ -1,7 +1,7 @@
 -- How a run ends.
 use Rattle.std.proofs.Common.{◌≡◌, ℕ, suc, ◌+◌, ◌<◌, ◌≤◌, true, false, List, [], ◌∷◌, ◌++◌, length}
 use Rattle.std.proofs.Common.{take, drop, refl, ap, sym, ◌∙◌, arith, append_assoc, append-nil, Bool}
-use Rattle.std.proofs.Common.{subst, Option, None, Some, Result, Ok, Err, inl, inr, cond, nat_lt}
+use Rattle.std.proofs.Common.{subst, Option, None, Some, Result, Ok, Err, inl, inr, cond}
 use Rattle.std.proofs.Math.Seq.{take-append-add, take-length}
 use Rattle.std.proofs.lemmas.List.{take-append-drop, length-take-le}
 use Rattle.std.specs.Io.KnownBytes.{Appends, Consumes, IsAtEnd}
@@ -13,12 +13,12 @@ use Rattle.psci_script.specs.declared.fault.ReplayFault.{ReplayFault}
 use Rattle.psci_script.specs.declared.fault.ReplayFault.TheVariants.{Script}
 use Rattle.psci_script.specs.declared.lines.Extent.{Extent}
 use Rattle.psci_script.specs.Lines.{lines, has_line_feed, AreWhole}
-use Rattle.psci_script.specs.Script.{board_line, line_said, ok_or, transcript, transcript_of_first}
+use Rattle.psci_script.specs.Script.{board_line, line_said, ok_or, transcript_of_first}
 use Rattle.psci_script.specs.psci_text.Reading.{literal_at}
 use Rattle.psci_lines.specs.Block.{ReadAhead}
 use Rattle.psci_lines.specs.Progress.{Progress, WriteFailed, IsLine, FaultyLine}
 use Rattle.psci_lines.specs.Run.{AreSound, Follows}
-use Rattle.psci_lines.specs.ScriptRun.{GoesOn, ScriptRun, run_by, run_of}
+use Rattle.psci_lines.specs.ScriptRun.{ScriptRun, run_by}
 use Rattle.psci_lines.specs.Told.{Account, CutShort, Ended, Goes, Unwritten, account, remaining}
 use Rattle.psci_lines.proofs.Known.{appends_more}
 use Rattle.psci_lines.proofs.Split.{lines_long, lines_some, lines_none, Longer}

@@ -13,7 +13,7 @@ use Rattle.psci_lines.specs.Run.{IsWithinBlock, is_write_fault}
 use Rattle.psci_lines.specs.ScriptRun.{GoesOn, ScriptRun, run_of, run_of_lines}
 use Rattle.psci_lines.specs.Told.{Account, CutShort, Ended, Runs, Tells, TellsAll, TellsLines}
 use Rattle.psci_lines.specs.Told.{TellsPart, Unwritten, account}
-use Rattle.psci_lines.proofs.Accounts.{account_is, goes_as, goes_self}
+use Rattle.psci_lines.proofs.Accounts.{goes_as, goes_self}
 use Rattle.psci_lines.proofs.Known.{appends_more}
 use Rattle.psci_lines.proofs.Split.{lines_none}
 

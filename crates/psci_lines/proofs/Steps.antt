@@ -4,7 +4,6 @@ use Rattle.std.proofs.Common.{arith, subst, Option, Some, None, Result, Ok, Err,
 use Rattle.std.proofs.Common.{IsErr, IsErrAnd, IfErr, inl, inr, false}
 use Rattle.std.proofs.lemmas.List.{length-take-le}
 use Rattle.psci_script.specs.psci_board.Board.{BoardValue}
-use Rattle.psci_script.specs.psci_board_text.Verdict.{board_of}
 use Rattle.psci_script.specs.declared.fault.Replayed.{Replayed}
 use Rattle.psci_script.specs.declared.fault.ScriptFault.{ScriptFault}
 use Rattle.psci_script.specs.declared.fault.ReplayFault.{ReplayFault}
@@ -15,7 +14,7 @@ use Rattle.psci_script.specs.declared.grammar.Line.{Line as LineSays}
 use Rattle.psci_script.specs.declared.grammar.Line.TheVariants.{Blank, Event as Says}
 use Rattle.psci_script.specs.declared.lines.Extent.{Extent}
 use Rattle.psci_script.specs.Line.{line_of}
-use Rattle.psci_script.specs.Script.{board_line, transcript_of_board, transcript_of_first}
+use Rattle.psci_script.specs.Script.{transcript_of_board, transcript_of_first}
 use Rattle.psci_lines.specs.Answered.{Answered}
 use Rattle.psci_lines.specs.Block.{ReadAhead}
 use Rattle.psci_lines.specs.Progress.{Ahead, Progress, progress, IsLine, IsLineFront, FailsLine}

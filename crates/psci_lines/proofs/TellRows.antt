@@ -1,9 +1,9 @@
 -- Worked examples: what is told of a run, line by line and in all; and for each clause something that
 -- breaks it.
-use Rattle.std.proofs.Common.{◌≡◌, ℕ, zero, suc, ◌+◌, ◌<◌, ◌≤◌, true, List, [], ◌∷◌, ◌++◌, length}
-use Rattle.std.proofs.Common.{take, ap, arith, Option, None, Some, Ok, Err, Result, refl}
+use Rattle.std.proofs.Common.{◌≡◌, ℕ, ◌+◌, ◌<◌, ◌≤◌, List, [], ◌∷◌, ◌++◌, length}
+use Rattle.std.proofs.Common.{ap, arith, Option, None, Some, Ok, Err, Result, refl}
 use Rattle.std.specs.Prelude.{codes}
-use Rattle.std.specs.Io.KnownBytes.{Appends, Consumes}
+use Rattle.std.specs.Io.KnownBytes.{Appends}
 use Rattle.psci_script.specs.psci_board.Board.{BoardValue}
 use Rattle.psci_script.specs.psci_world_spec.declared.event.Event.TheVariants.{Deliver}
 use Rattle.psci_script.specs.psci_world_spec.declared.said.Record.{Record}
@@ -13,12 +13,11 @@ use Rattle.psci_script.specs.declared.fault.ReplayFault.TheVariants.{Script, Rea
 use Rattle.psci_script.specs.declared.fault.ScriptFault.TheVariants as faults
 use Rattle.psci_script.specs.declared.grammar.Line.TheVariants.{Blank, Event as Says}
 use Rattle.psci_script.specs.Lines.{lines}
-use Rattle.psci_script.specs.Script.{transcript}
 use Rattle.psci_lines.specs.Answered.{Answered}
 use Rattle.psci_lines.specs.Progress.{Progress}
 use Rattle.psci_lines.specs.Run.{Follows}
-use Rattle.psci_lines.specs.ScriptRun.{GoesOn, ScriptRun, run_of, with_record}
-use Rattle.psci_lines.specs.Told.{CutShort, EventTold, Goes, IsUnderWay, LineTold, Tells, Unwritten}
+use Rattle.psci_lines.specs.ScriptRun.{GoesOn, ScriptRun, events_of, run_of, with_record}
+use Rattle.psci_lines.specs.Told.{EventTold, Goes, IsUnderWay, LineTold, Tells}
 use Rattle.psci_lines.specs.Told.{account, events_in, remaining}
 use Rattle.psci_lines.proofs.ScriptRows.{answering, board, text}
 
@@ -130,25 +129,29 @@ whole = Ok (record { lines = 3; events = 2 })
 abbrev seven : List ℕ
 seven = 55 ∷ []
 
+abbrev count_in : Result Replayed ReplayFault → ℕ
+count_in (Ok replayed) = replayed.events
+count_in (Err fault) = 0
+
 all_told : Tells tally whole (Some script) (Some []) (Some seven) (Some (55 ∷ 1 ∷ 2 ∷ []))
-unfolding answering
+unfolding events_of answering
 all_told = (refl, 1 ∷ 2 ∷ [], refl, refl)
 
 another_end : Tells tally (Ok (record { lines = 3; events = 1 })) (Some script) (Some [])
     (Some seven) (Some (55 ∷ 1 ∷ 2 ∷ [])) → ⊥
-unfolding answering
-another_end h = let e = h.0 in cc
+unfolding events_of answering
+another_end h = let e : ◌≡◌ {A = ℕ} 2 1 = ap count_in h.0 in omega arith
 
 one_event_is_missing : (after : List ℕ) → length after ≡ 1
     → Tells tally whole (Some script) (Some []) (Some []) (Some after) → ⊥
-unfolding answering
+unfolding events_of answering
 one_event_is_missing after short (end, told, is, to) =
     let e : length told ≡ 2 = is in
     let a : length after ≡ length told = ap length to in omega (arith, e, a, short)
 
 told_to_a_fault : Tells tally (Err (Script 2 faults.Line)) (Some (text (board ∷ codes "x" ∷ [])))
     (Some []) (Some seven) (Some seven)
-unfolding answering
+unfolding events_of answering
 told_to_a_fault = (refl, [], refl, refl)
 
 -- a source whose bytes are not known
@@ -157,7 +160,7 @@ told_of_unknown left before after = tt
 
 -- at a write fault a front part of what is told of a run from which the script's goes on
 front_part : Tells tally (Err Write) (Some script) (Some []) (Some seven) (Some (55 ∷ 1 ∷ []))
-unfolding answering
+unfolding events_of answering
 front_part = (run_of script, (refl, [], refl), 1 ∷ 2 ∷ [], refl, 1, refl)
 
 part_of_another_run : (before after : Option (List ℕ))

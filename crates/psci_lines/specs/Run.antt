@@ -1,10 +1,9 @@
 -- What a replay leaves when it ends, and what its lines answer.
 use Rattle.std.specs.Prelude.{◌≡◌, ℕ, Bool, true, false, List, [], ◌++◌, ◌+◌, length, take}
-use Rattle.std.specs.Prelude.{◌<◌, ◌≤◌, ◌⊎◌, Option, None, IfSome, Result, Ok, Err}
-use Rattle.std.specs.Io.KnownBytes.{Appends, Consumes, IsAtEnd}
+use Rattle.std.specs.Prelude.{◌≤◌, ◌⊎◌, Option, None, IfSome, Result, Ok, Err}
+use Rattle.std.specs.Io.KnownBytes.{Appends, Consumes}
 use Rattle.psci_script.specs.psci_board.Board.{BoardValue}
 use Rattle.psci_script.specs.psci_board_text.Verdict.{board_of}
-use Rattle.psci_script.specs.psci_world_spec.declared.said.Record.{Record}
 use Rattle.psci_script.specs.declared.fault.Replayed.{Replayed}
 use Rattle.psci_script.specs.declared.fault.ReplayFault.{ReplayFault}
 use Rattle.psci_script.specs.declared.fault.ReplayFault.TheVariants.{Script, Board, Read, Write}
@@ -14,8 +13,8 @@ use Rattle.psci_script.specs.declared.grammar.Line.{Line as LineSays}
 use Rattle.psci_lines.specs.Block.{ReadAhead}
 use Rattle.psci_lines.specs.Limits.{block_room}
 use Rattle.psci_script.specs.Lines.{lines, AreWhole}
-use Rattle.psci_lines.specs.Progress.{Progress, IsLineFront}
-use Rattle.psci_script.specs.Script.{after_line, transcript, transcript_of_rest, board_line}
+use Rattle.psci_lines.specs.Progress.{IsLineFront}
+use Rattle.psci_script.specs.Script.{transcript, board_line}
 
 -- what may follow the lines that were taken: anything, but after the end only what was read
 abbrev pub Follows : ReadAhead → List ℕ → Type 0

@@ -1,5 +1,5 @@
 -- What is told of a script on its way, line by line, and what is told in all.
-use Rattle.std.specs.Prelude.{◌≡◌, ℕ, Bool, true, List, [], ◌∷◌, ◌++◌, length, take, ◌<◌, ◌≤◌}
+use Rattle.std.specs.Prelude.{◌≡◌, ℕ, Bool, true, List, [], ◌++◌, length, take, ◌<◌, ◌≤◌}
 use Rattle.std.specs.Prelude.{Option, None, Some, IfSome, Result, Ok, Err, ◌+◌}
 use Rattle.std.specs.Io.KnownBytes.{Appends, Consumes, IsAtEnd}
 use Rattle.psci_script.specs.psci_world_spec.declared.event.Event.{Event}

@@ -1,8 +1,8 @@
 //! Scripts, told event by event.
 
 ghost use Rattle.std.specs.Prelude.{◌≡◌, ◌+◌, ◌-◌, ◌^◌, ◌<◌, ◌≤◌, ℕ, List, [], length, false, Option};
-ghost use Rattle.std.specs.Prelude.{None, Some, IfOk, IfErr, OnErr, OnOk};
-ghost use Rattle.psci_script.specs.Limits.{longest_line, most_lines};
+ghost use Rattle.std.specs.Prelude.{None, Some, IfOk, IfErr, OnOk};
+ghost use Rattle.psci_script.specs.Limits.{most_lines};
 ghost use Rattle.psci_script.specs.Line.{line_of};
 ghost use Rattle.psci_lines.specs.Progress.{IsFresh, IsLine, OnlyGivenUp};
 ghost use Rattle.psci_lines.specs.Progress.{SameDevices, StaySound, progress_of};

@@ -1,16 +1,14 @@
 -- Worked examples: how a row begins, and what a run is shown as; and for each clause something that
 -- breaks it.
 use Rattle.std.proofs.Common.{◌≡◌, ℕ, true, false, List, [], ◌∷◌, ◌++◌, length, ap, arith, refl}
-use Rattle.std.proofs.Common.{Option, None, Some}
+use Rattle.std.proofs.Common.{None, Some}
 use Rattle.std.specs.Prelude.{codes}
 use Rattle.std.specs.Fmt.{digits}
 use Rattle.psci_script.specs.psci_board.Board.{BoardValue}
-use Rattle.psci_world.specs.psci_world_spec.declared.event.Event.{Event}
 use Rattle.psci_world.specs.psci_world_spec.declared.event.Event.TheVariants.{Take, Wake}
 use Rattle.psci_world.specs.psci_world_spec.declared.said.Record.{Record}
 use Rattle.psci_world.specs.psci_world_spec.declared.said.Said.TheVariants.{Absent, Ignored}
 use Rattle.psci_script.specs.Line.{line_of}
-use Rattle.psci_script.specs.declared.grammar.Line.{Line as LineSays}
 use Rattle.psci_script.specs.declared.grammar.Line.TheVariants.{Event as Says}
 use Rattle.psci_lines.proofs.ScriptRows.{reading}
 use Rattle.psci_show.specs.declared.form.Form.{Form}
@@ -120,12 +118,18 @@ unfolding digits reading
 two_rows b = (
   first_row,
   second_row,
-  ([], first_row, (λ _. refl), record {
-    line = codes "wake 3";
-    says = refl;
-    more = codes "  a wake-up\n";
-    is = refl;
-  }, refl),
+  (
+    [],
+    first_row,
+    (λ _. refl),
+    record {
+      line = codes "wake 3";
+      says = refl;
+      more = codes "  a wake-up\n";
+      is = refl;
+    },
+    refl,
+  ),
   record { line = codes "take 7"; says = refl; more = codes "  an acknowledgement\n"; is = refl },
   refl,
 )

@@ -1,6 +1,6 @@
 -- What a run is shown as: a row for each event, in order. How a row begins is defined; what else it
 -- says of the event, its words and columns, is tested.
-use Rattle.std.specs.Prelude.{◌≡◌, ℕ, Bool, false, List, [], ◌∷◌, ◌++◌, codes, length, nat_lt}
+use Rattle.std.specs.Prelude.{◌≡◌, ℕ, false, List, [], ◌∷◌, ◌++◌, codes, length, nat_lt}
 use Rattle.std.specs.Prelude.{Option, None, Some, if◌then◌else◌}
 use Rattle.std.specs.Fmt.{decimal}
 use Rattle.psci_world.specs.Seen.{WorldValue}
@@ -55,7 +55,8 @@ IsShown Json None text = text ≡ []
 IsShown form (Some run) text = HasRows form run.past text
 
 -- the run of this world is shown in this form
-pub record IsShownOf (its : Form) (world : WorldValue) (form : Form) (run : ScriptRun) : Type 0 where
+pub record IsShownOf (its : Form) (world : WorldValue) (form : Form) (run : ScriptRun)
+    : Type 0 where
   pub form_is : its ≡ form
   pub board : world.board ≡ run.board
   pub past : world.past ≡ run.past

@@ -136,7 +136,12 @@ fn write_level(
 }
 
 /// Writes the depths of all levels, or the granted ones, behind this text.
-fn write_all(out: &mut String, before_all: &str, run: &Run, granted: bool) -> Result<(), AllocError> {
+fn write_all(
+    out: &mut String,
+    before_all: &str,
+    run: &Run,
+    granted: bool,
+) -> Result<(), AllocError> {
     write!(out, "{before_all}[")?;
     for level in 0..run.world().board().height() + 1 {
         write_level(out, before(level as usize), run, level, granted)?;

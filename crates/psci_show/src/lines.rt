@@ -1,7 +1,7 @@
 //! An event in lines: its number and its columns, and behind or below them what was asked and what
 //! was answered.
 
-ghost use Rattle.std.specs.Prelude.{◌≤◌, ◌<◌, ◌≡◌, ◌++◌, [], OnOk, string_bytes};
+ghost use Rattle.std.specs.Prelude.{◌≡◌, ◌≤◌, ◌++◌, [], OnOk, string_bytes};
 
 use crate::entries::write_entries;
 use crate::form::Layout;
@@ -91,8 +91,8 @@ fn write_above(
     write_wrapped(out, entries, b'\n', MARGIN, room)
 }
 
-/// Writes the newest event behind its number: its words stand beside its columns where these take half of the line at
-/// most.
+/// Writes the newest event behind its number: its words stand beside its columns where these take
+/// half of the line at most.
 pub fn write_lines(
     out: &mut Vec<u8>,
     text: &mut String,

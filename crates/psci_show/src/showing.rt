@@ -1,6 +1,7 @@
 //! Scripts, shown event by event.
 
-ghost use Rattle.std.specs.Prelude.{◌≡◌, ◌++◌, ℕ, List, [], false, length, IfErr, OnOk, string_bytes};
+ghost use Rattle.std.specs.Prelude.{◌≡◌, ◌++◌, ℕ, List, [], None, false, length, IfErr, OnOk};
+ghost use Rattle.std.specs.Prelude.{string_bytes};
 ghost use Rattle.psci_lines.specs.Progress.{OnlyGivenUp};
 ghost use Rattle.psci_lines.specs.Told.{Tells};
 ghost use Rattle.psci_show.specs.Shown.{IsHeading, IsShown, front};
@@ -62,7 +63,8 @@ impl Texts {
             Form::Json => {
                 write!(self.text, "{{\"board\": \"")?;
                 put(&mut self.out, &mut self.text)?;
-                self.out.extend_from_slice(literal(line, b"board ").unwrap_or(&[]))?;
+                self.out
+                    .extend_from_slice(literal(line, b"board ").unwrap_or(&[]))?;
                 write_board(&mut self.text, board)?;
                 put(&mut self.out, &mut self.text)
             }
@@ -146,7 +148,7 @@ impl Teller<Form> for Showing {
 /// Shows the script that comes from the source in this form, into the sink: its events happen one
 /// after another in the world of its board, and each is shown by the world after it.
 ///
-/// It ends as a replay of the script does, at the same line with the same fault. Where it ends well,
+/// It ends as a replay of the script does, at the same line with the same fault. Where it ends well
 /// or at a script or board fault, exactly what is shown of the script's run was written: a row for
 /// each event, in order. At a read fault it is that of all whole lines that were read, at a memory
 /// fault that of some whole lines at the front, and at a write fault a front part. A read or write

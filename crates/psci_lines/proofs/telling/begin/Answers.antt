@@ -1,12 +1,11 @@
 -- The first line is taken, or ends the script.
-use Rattle.std.proofs.Common.{◌≡◌, ℕ, List, take, ◌++◌, ◌∙◌, ap, subst, sym, Some, None, Ok, Err, refl}
+use Rattle.std.proofs.Common.{ℕ, List, take, ◌∙◌, subst, sym, Some, None, Ok, Err, refl}
 use Rattle.psci_script.specs.declared.fault.ReplayFault.{ReplayFault}
 use Rattle.psci_script.specs.declared.fault.ReplayFault.TheVariants.{Memory}
-use Rattle.psci_lines.specs.Answered.{Answered}
 use Rattle.psci_lines.specs.Block.{ReadAhead}
-use Rattle.psci_lines.specs.Progress.{Progress, progress, progress_of}
+use Rattle.psci_lines.specs.Progress.{progress, progress_of}
 use Rattle.psci_lines.specs.Run.{BoardRead}
-use Rattle.psci_lines.specs.Told.{EndsBy, Goes, IsUnderWay}
+use Rattle.psci_lines.specs.Told.{EndsBy, IsUnderWay}
 use Rattle.psci_lines.proofs.Ends.{ends_empty}
 use Rattle.psci_lines.proofs.Steps.{begun, board_not, finds_as, goes_not, if_err_so, memory_out}
 use Rattle.psci_lines.proofs.Steps.{room_of, same_answers}

@@ -1,9 +1,9 @@
 -- What stands before the script waits.
-use Rattle.std.proofs.Common.{◌≡◌, ℕ, List, [], ◌++◌, ◌∙◌, ap, subst, sym, None}
+use Rattle.std.proofs.Common.{◌∙◌, ap, subst, sym, None}
 use Rattle.psci_script.specs.declared.fault.ReplayFault.TheVariants.{Memory}
 use Rattle.psci_lines.specs.Answered.{Answered}
 use Rattle.psci_lines.specs.Block.{ReadAhead}
-use Rattle.psci_lines.specs.Progress.{Progress, progress, progress_of}
+use Rattle.psci_lines.specs.Progress.{Progress, progress}
 use Rattle.psci_lines.specs.Told.{EndsBy, Goes}
 use Rattle.psci_lines.proofs.Steps.{if_err_so, not_opened, opened}
 use Rattle.psci_lines.proofs.telling.open.Goals as goal
