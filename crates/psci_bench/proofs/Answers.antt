@@ -1,5 +1,6 @@
 -- What was told of a run is its answer text, or a front part of it.
-use Rattle.std.proofs.Common.{◌≡◌, ℕ, ◌+◌, List, [], ◌∷◌, ◌++◌, length, take, drop, refl, ap, sym, ◌∙◌}
+use Rattle.std.proofs.Common.{◌≡◌, ℕ, ◌+◌, List, [], ◌∷◌, ◌++◌, length, take, drop, refl, ap, sym}
+use Rattle.std.proofs.Common.{◌∙◌}
 use Rattle.std.proofs.Common.{append-nil, append_assoc, subst, Option, None, Some, Result, Ok, Err}
 use Rattle.std.proofs.Math.Seq.{take-append_seam}
 use Rattle.std.proofs.lemmas.List.{take-append-drop}
@@ -105,7 +106,8 @@ answers_part : (first before after : Option (List ℕ)) → TellsPart AnswersRun
     → AnswersPart first before after
 answers_part None before after k = tt
 answers_part (Some bytes) before after k =
-    let front = front_text k.0 (run_of bytes) k.2 (transcript bytes).text k.1 k.3 (answers bytes) in (
+    let front =
+    front_text k.0 (run_of bytes) k.2 (transcript bytes).text k.1 k.3 (answers bytes) in (
       length (take k.4 k.2),
       subst (λ (x : List ℕ). Appends before after x)
           (seam k.4 k.2 front.0 (transcript bytes).text front.1) k.5,

@@ -1,5 +1,5 @@
--- Worked examples: the answer text of a run, and what a replay prints by its end; and for each clause
--- something that breaks it.
+-- Worked examples: the answer text of a run, and what a replay prints by its end; and for each
+-- clause something that breaks it.
 use Rattle.std.proofs.Common.{◌≡◌, ℕ, zero, suc, List, [], ◌∷◌, ◌++◌, length}
 use Rattle.std.proofs.Common.{Option, None, Some, Ok, Err, Result, refl, ap, arith}
 use Rattle.std.specs.Prelude.{codes}
@@ -14,7 +14,6 @@ use Rattle.psci_script.specs.declared.fault.ReplayFault.{ReplayFault}
 use Rattle.psci_script.specs.declared.fault.ReplayFault.TheVariants.{Script, Board, Read, Write}
 use Rattle.psci_script.specs.declared.fault.ReplayFault.TheVariants.{Memory}
 use Rattle.psci_script.specs.declared.fault.ScriptFault.TheVariants as faults
-use Rattle.psci_script.specs.Lines.{lines}
 use Rattle.psci_script.specs.Script.{transcript}
 use Rattle.psci_world.specs.Safe.{AlwaysSafe}
 use Rattle.psci_lines.specs.ScriptRun.{ScriptRun, run_of}

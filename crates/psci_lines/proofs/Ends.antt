@@ -105,7 +105,8 @@ any_front (b ∷ bs) rest h = lines_some b (bs ++ rest)
 
 -- a line at fault, by the front of it that was read
 faulty_line : (run : Option ScriptRun) (n : ℕ) (l : List ℕ) (ls : List (List ℕ))
-    (fault : ScriptFault) → line_said (n + 1) l ≡ Err fault → (run ≡ None → board_line l ≡ Err fault)
+    (fault : ScriptFault) → line_said (n + 1) l ≡ Err fault
+    → (run ≡ None → board_line l ≡ Err fault)
     → (run ≡ None → n ≡ 0)
     → remaining run n (l ∷ ls) ≡ record { run = run; end = Err (Script (n + 1) fault) }
 faulty_line None n l ls fault e f z =

@@ -169,7 +169,7 @@ run_of_a_script : past_of (run_of (text (board ∷ codes "enter 3" ∷ codes "en
 unfolding events_of answering
 run_of_a_script = refl
 
--- One run goes on from another ----------------------------------------------------------------------
+-- One run goes on from another -----------------------------------------------------------------
 
 abbrev run : BoardValue → List Record → ScriptRun
 run b past = record { board = b; past = past }

@@ -1,5 +1,6 @@
 -- One step of a script, by what was answered.
-use Rattle.std.proofs.Common.{◌≡◌, ℕ, ◌+◌, ◌<◌, ◌≤◌, List, [], ◌∷◌, ◌++◌, length, take, refl, sym, ap}
+use Rattle.std.proofs.Common.{◌≡◌, ℕ, ◌+◌, ◌<◌, ◌≤◌, List, [], ◌∷◌, ◌++◌, length, take, refl, sym}
+use Rattle.std.proofs.Common.{ap}
 use Rattle.std.proofs.Common.{arith, subst, Option, Some, None, Result, Ok, Err, ◌∙◌}
 use Rattle.std.proofs.Common.{IsErr, IsErrAnd, IfErr, inl, inr, false}
 use Rattle.std.proofs.lemmas.List.{length-take-le}

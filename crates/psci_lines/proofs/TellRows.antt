@@ -1,5 +1,5 @@
--- Worked examples: what is told of a run, line by line and in all; and for each clause something that
--- breaks it.
+-- Worked examples: what is told of a run, line by line and in all; and for each clause something
+-- that breaks it.
 use Rattle.std.proofs.Common.{◌≡◌, ℕ, ◌+◌, ◌<◌, ◌≤◌, List, [], ◌∷◌, ◌++◌, length}
 use Rattle.std.proofs.Common.{ap, arith, Option, None, Some, Ok, Err, Result, refl}
 use Rattle.std.specs.Prelude.{codes}
@@ -84,7 +84,7 @@ event_is_not_told : (b : BoardValue)
     → EventTold tally (before_any b) (Deliver 4) (waits [] 0) (waits [] 1) → ⊥
 event_is_not_told b h = let e : ◌≡◌ {A = ℕ} 0 1 = h.more [] refl in omega arith
 
--- Under way -----------------------------------------------------------------------------------------
+-- Under way ------------------------------------------------------------------------------------
 
 a_record_too_many : (is_at : ScriptRun → Type 0) (count : ℕ) (first before : Option (List ℕ))
     (s : Progress) (k : IsUnderWay is_at tally count first before s)
@@ -114,7 +114,7 @@ to_the_sink : (run : Option ScriptRun) (count : ℕ) (first before : Option (Lis
     (k : Goes tally run count first before s) → Appends before s.taken k.written
 to_the_sink run count first before s k = k.to
 
--- What is told in all -------------------------------------------------------------------------------
+-- What is told in all --------------------------------------------------------------------------
 
 -- a script of two events, and the same without its last line
 abbrev script : List ℕ

@@ -64,8 +64,8 @@ LineTold is_at told (Some Blank) run old new = is_at run × (new ≡ old)
 LineTold is_at told (Some (Says event)) run old new =
     is_at (with_record run event) × EventTold told run event old new
 
--- So many lines were taken, and this run of theirs was told: whatever follows comes out as the lines
--- that remain.
+-- So many lines were taken, and this run of theirs was told: whatever follows comes out as the
+-- lines that remain.
 pub record Goes (told : Telling) (run : Option ScriptRun) (count : ℕ)
     (first before : Option (List ℕ)) (s : Progress) : Type 0 where
   -- the bytes of the lines that were taken

@@ -1,6 +1,7 @@
 //! Scripts, told event by event.
 
-ghost use Rattle.std.specs.Prelude.{◌≡◌, ◌+◌, ◌-◌, ◌^◌, ◌<◌, ◌≤◌, ℕ, List, [], length, false, Option};
+ghost use Rattle.std.specs.Prelude.{◌≡◌, ◌+◌, ◌-◌, ◌^◌, ◌<◌, ◌≤◌, ℕ, List, [], length, false};
+ghost use Rattle.std.specs.Prelude.{Option};
 ghost use Rattle.std.specs.Prelude.{None, Some, IfOk, IfErr, OnOk};
 ghost use Rattle.psci_script.specs.Limits.{most_lines};
 ghost use Rattle.psci_script.specs.Line.{line_of};

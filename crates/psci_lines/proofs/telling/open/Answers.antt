@@ -27,7 +27,8 @@ returns-clause-ok g c =
     let before = g.K.Sink.taken c.args.progress.now.sink.now in
     let is = c.in_ok-open.ensures {u = tt} in
     subst (λ (y : ReadAhead). Goes told None 0 first before
-    (progress y first c.open.new.answers before)) (sym (ap (λ (s : Progress). s.block) c.requires.fresh))
+    (progress y first c.open.new.answers before))
+    (sym (ap (λ (s : Progress). s.block) c.requires.fresh))
     (opened told first before c.open.new.answers is.ok
     (is.events ∙ ap (λ (s : Progress). s.answered.events) c.requires.fresh))
 

@@ -43,7 +43,12 @@ lines-preserved g c =
     (l.lines + 1) _ _ c.in-Some.is (c.in_ok-extent.ensures {u = tt}).found in
     record {
       few = f.2;
-      count = omega (arith, l.invariant.count, f.0.events, (c.in_ok-take_line.ensures {u = tt}).count);
+      count = omega (
+        arith,
+        l.invariant.count,
+        f.0.events,
+        (c.in_ok-take_line.ensures {u = tt}).count,
+      );
       devices = same_more l.invariant.devices (same_more c.next_line.ensures.devices
           c.take_line.ensures.devices);
       sound = sound_more _ _ l.invariant.sound (sound_more _ _
