@@ -77,7 +77,7 @@ fourth (a ∷ b ∷ c ∷ d ∷ rest) = d
 fourth other = 0
 
 row_of_another_number : IsRow plain 7 wake (codes "   8  R.. a wake-up\n") → ⊥
-unfolding digits
+unfolding digits fourth
 row_of_another_number k = let e : ◌≡◌ {A = ℕ} 56 55 = ap fourth k.is in omega arith
 
 row_of_another_event : (text : List ℕ) (k : IsRow Json 7 wake text)

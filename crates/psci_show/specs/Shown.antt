@@ -48,10 +48,14 @@ HasRows form (r ∷ past) text =
     (before : List ℕ) × (row : List ℕ) × HasRows form past before
     × IsRow form (length (r ∷ past)) r row × (text ≡ before ++ row)
 
--- what a run is shown as; before there is a board, JSON has nothing
+-- what stands before the script is read: in lines the legend, where it is asked for
+abbrev pub IsOpening : Form → List ℕ → Type 0
+IsOpening (Lines layout) text = layout.legend ≡ false → text ≡ []
+IsOpening Json text = text ≡ []
+
+-- what a run is shown as, and what is shown before there is a board
 abbrev pub IsShown : Form → Option ScriptRun → List ℕ → Type 0
-IsShown (Lines layout) None text = layout.legend ≡ false → text ≡ []
-IsShown Json None text = text ≡ []
+IsShown form None text = IsOpening form text
 IsShown form (Some run) text = HasRows form run.past text
 
 -- the run of this world is shown in this form
