@@ -16,7 +16,10 @@ shown() {
         answers "show $words < $script"
     done << 'END'
 late-acknowledgement.txt examples/late-acknowledgement
+half-of-the-line.txt examples/late-acknowledgement --width 72
+more-than-half.txt examples/late-acknowledgement --width 71
 wake-overtakes-down.txt examples/wake-overtakes-down
+message-delivered-twice.txt examples/message-delivered-twice
 os-initiated-refusals.txt examples/os-initiated-refusals
 linux-boot.txt examples/linux/boot
 three-levels-wide.txt examples/three-levels --width 120 --legend
@@ -33,6 +36,7 @@ retention-colored.txt tests/scripts/suspend/retention-woken-and-reset --color al
 one-level-colored.txt tests/scripts/suspend/one-level-sleeps-and-wakes --color always
 retention.json tests/scripts/suspend/retention-woken-and-reset --json
 extended-in-the-next-life.json tests/scripts/suspend/extended-in-the-next-life --json
+message-delivered-twice.json examples/message-delivered-twice --json
 suspend-mode-pending-core.json tests/scripts/os-initiated/suspend-mode-pending-core --json
 END
     if has_python tests/words-shown; then
@@ -68,6 +72,8 @@ shown_ends() {
     printf '%s\nenter 0\nenter 1 2\n' "$board" > "$work/script"
     show < "$work/script"
     expect "show at a faulty line" 3 "line 3: script fault 2"
+    echo "   1  R  0   core 0 enters -> enters at 0x0 with context 0x0" > "$work/lines"
+    answers "show before a faulty line"
     show < /dev/null
     expect "show of an empty script" 3 "line 1: script fault 1"
 }
