@@ -4,7 +4,7 @@
  * memory and keeps no book. Each call takes a test-and-set lock for each level that it may change, as TF-A does,
  * from the lowest up.
  *
- *   lock PAIRS      the pairs of all threads together; prints thousands of pairs a second */
+ *   lock [PAIRS [THREADS]]   the pairs of all threads together, and the most threads; prints thousands of pairs a second */
 #include <pthread.h>
 #include <stdint.h>
 #include <stdio.h>
@@ -138,7 +138,9 @@ int main(int argc, char **argv)
 {
 	unsigned long pairs = argc > 1 ? strtoul(argv[1], NULL, 10) : 1000000;
 
-	for (int count = 1; count <= 4; count *= 2) {
+	int most = argc > 2 ? atoi(argv[2]) : CORES;
+
+	for (int count = 1; count <= most && count <= CORES; count *= 2) {
 		pthread_t threads[CORES];
 		struct timespec a, b;
 
