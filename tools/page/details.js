@@ -1,0 +1,118 @@
+// The picked event in words: what was asked and answered, where its messages went, and what every
+// core and power domain is then.
+
+// how many events are listed before and after the picked one
+const LISTED = 12;
+
+/** An element with a class and a text. */
+function element(name, kind, text = "") {
+  const made = document.createElement(name);
+  if (kind) made.className = kind;
+  made.textContent = text;
+  return made;
+}
+
+/** What is said of a core or domain, by the name, as `show` says it; nothing of what is off as granted. */
+function entryOf(run, node, event) {
+  const look = run.look(node, event), isGranted = look.depth === look.granted;
+  if (look.state < 0) return look.depth === 3 && isGranted ? null : `${node.name}: ${marked(look)}`;
+  if (look.state === OFF) return isGranted ? null : `${node.name}: ${marked(look)}`;
+  return `${node.name}: ${STATES[look.state].letter}${isGranted ? "" : ` ${marked(look)}`}`;
+}
+
+/** The same in whole words. */
+function meaningOf(run, node, event) {
+  const look = run.look(node, event), words = [];
+  if (look.state >= 0) words.push(STATES[look.state].meaning);
+  words.push(`depth ${look.depth} (${DEPTHS[look.depth].name})`);
+  if (look.depth !== look.granted) words.push(`granted ${look.granted} (${DEPTHS[look.granted].name})`);
+  return words.join(", ");
+}
+
+class Details {
+  constructor(view) {
+    this.view = view;
+    this.places = Object.fromEntries(["number", "when", "asked", "said", "answer", "line", "way", "changed", "values", "entries",
+      "events"].map((id) => [id, document.getElementById(id)]));
+  }
+
+  show() {
+    const { run, event } = this.view, texts = run.texts(event), { places } = this;
+    if (document.activeElement !== places.number) places.number.value = run.numbers[event];
+    const life = run.lives[event] ? `life ${run.lives[event]}${run.live[event] ? "" : ", the firmware is not in it or halting"}` : "no life";
+    places.when.textContent = `${run.times ? `${timeText(run.times[event], 1)}, ` : ""}${life}`;
+    places.asked.textContent = texts.asked;
+    places.said.textContent = texts.said;
+    places.said.className = run.outcomes[event] === FINE ? "" : "wrong";
+    places.answer.textContent = `${run.numbers[event]} ${texts.answer}`;
+    places.line.textContent = texts.line;
+    this.showWay();
+    this.showValues();
+    this.showEvents();
+  }
+
+  /** Where the message of the event, and its acknowledgement, came from and went. */
+  showWay() {
+    const { run, event } = this.view, { message, ack } = messagesOf(run, event), { way } = this.places;
+    way.replaceChildren();
+    if (message) {
+      way.append(`${messageName(message)}: `, this.link("sent", message.event));
+      for (const at of message.deliveries) way.append(", ", this.link("delivered", at));
+      if (!message.deliveries.length) way.append(", never delivered");
+    }
+    const acks = ack ? [ack] : [...(message?.deliveries ?? [])].map((at) => run.acked[at]).filter(Boolean);
+    for (const it of acks) {
+      way.append(element("br"), `acknowledgement ${it.index}: `, this.link("made", it.event));
+      for (const at of it.takes) way.append(", ", this.link("taken", at));
+      if (!it.takes.length) way.append(", never taken");
+    }
+  }
+
+  /** A link to an event. */
+  link(word, event) {
+    if (event < 0) return `${word} before this window`;
+    const made = element("a", "", `${word} at ${this.view.run.numbers[event]}`);
+    made.href = `#e=${this.view.run.numbers[event]}`;
+    return made;
+  }
+
+  showValues() {
+    const { run, event } = this.view, { changed, values, entries } = this.places;
+    const isChanged = (node) => run.changes(node, event);
+    const nodes = [...run.nodes].filter((node) => entryOf(run, node, event) || isChanged(node));
+    changed.textContent = event === 0 ? "" : run.nodes.filter(isChanged).map((node) => node.name).join(", ") || "nothing";
+    values.replaceChildren(...nodes.map((node) => {
+      const row = element("tr", isChanged(node) ? "changed" : "");
+      row.append(element("th", "", node.name), this.letter(node), element("td", "", meaningOf(run, node, event)));
+      row.addEventListener("click", () => this.view.pickCore(node));
+      return row;
+    }));
+    entries.textContent = run.nodes.map((node) => entryOf(run, node, event)).filter(Boolean).join("; ") || "all off";
+  }
+
+  /** The letter of a core on its color, or the depth of a domain. */
+  letter(node) {
+    const { run, event, palette } = this.view, look = run.look(node, event), made = element("td", "letter");
+    if (look.state >= 0) {
+      made.textContent = STATES[look.state].letter + (look.depth === look.granted ? "" : "!");
+      made.style.borderBottomColor = palette.states[look.state];
+    } else {
+      made.textContent = marked(look);
+      made.style.borderBottomColor = palette.depths[look.depth];
+    }
+    return made;
+  }
+
+  /** The events around, to be clicked. */
+  showEvents() {
+    const { run, event, view } = { ...this.view, view: this.view };
+    const first = Math.max(Math.min(event - LISTED, run.count - 2 * LISTED - 1), 0), rows = [];
+    for (let at = first; at < Math.min(first + 2 * LISTED + 1, run.count); at++) {
+      const { asked, said } = run.texts(at), row = element("li", at === event ? "picked" : "");
+      row.append(element("b", "", `${run.numbers[at]}`), ` ${asked} → `, element("span", run.outcomes[at] === FINE ? "" : "wrong", said));
+      row.addEventListener("click", () => view.pick(at));
+      rows.push(row);
+    }
+    this.places.events.replaceChildren(...rows);
+  }
+}
