@@ -71,8 +71,8 @@ class Controls {
   /** Follows a message: from where it is sent to its delivery, and on to where its answer is taken. */
   follow() {
     const { run, event } = this.view, { message, ack } = messagesOf(run, event);
-    const ways = [...(message ? [message.event, ...message.deliveries] : []), ...(ack ? ack.takes : [])];
-    if (message) for (const at of message.deliveries) ways.push(...(run.acked[at]?.takes ?? []));
+    const ways = [...(message ? [message.event, ...message.comings] : []), ...(ack ? ack.comings : [])];
+    if (message) for (const at of message.comings) ways.push(...(run.acked[at]?.comings ?? []));
     const ordered = [...new Set(ways)].filter((at) => at >= 0).sort((a, b) => a - b);
     if (ordered.length) this.view.pick(ordered.find((at) => at > event) ?? ordered[0]);
   }

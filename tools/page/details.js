@@ -1,6 +1,8 @@
 // The picked event in words: what was asked and answered, where its messages went, and what every
 // core and power domain is then.
 
+// a board of more cores has a letter for each, and only some of them in whole words
+const LARGE_BOARD = 16;
 // how many events are listed before and after the picked one
 const LISTED = 12;
 
@@ -32,7 +34,7 @@ function meaningOf(run, node, event) {
 class Details {
   constructor(view) {
     this.view = view;
-    this.places = Object.fromEntries(["number", "when", "asked", "said", "answer", "line", "way", "changed", "values", "entries",
+    this.places = Object.fromEntries(["number", "when", "asked", "said", "answer", "line", "way", "changed", "letters", "values", "entries",
       "events"].map((id) => [id, document.getElementById(id)]));
   }
 
@@ -47,6 +49,7 @@ class Details {
     places.answer.textContent = `${run.numbers[event]} ${texts.answer}`;
     places.line.textContent = texts.line;
     this.showWay();
+    this.showLetters();
     this.showValues();
     this.showEvents();
   }
@@ -57,14 +60,14 @@ class Details {
     way.replaceChildren();
     if (message) {
       way.append(`${messageName(message)}: `, this.link("sent", message.event));
-      for (const at of message.deliveries) way.append(", ", this.link("delivered", at));
-      if (!message.deliveries.length) way.append(", never delivered");
+      for (const at of message.comings) way.append(", ", this.link("delivered", at));
+      if (!message.comings.length) way.append(", never delivered");
     }
-    const acks = ack ? [ack] : [...(message?.deliveries ?? [])].map((at) => run.acked[at]).filter(Boolean);
+    const acks = ack ? [ack] : [...(message?.comings ?? [])].map((at) => run.acked[at]).filter(Boolean);
     for (const it of acks) {
       way.append(element("br"), `acknowledgement ${it.index}: `, this.link("made", it.event));
-      for (const at of it.takes) way.append(", ", this.link("taken", at));
-      if (!it.takes.length) way.append(", never taken");
+      for (const at of it.comings) way.append(", ", this.link("taken", at));
+      if (!it.comings.length) way.append(", never taken");
     }
   }
 
@@ -79,7 +82,7 @@ class Details {
   showValues() {
     const { run, event } = this.view, { changed, values, entries } = this.places;
     const isChanged = (node) => run.changes(node, event);
-    const nodes = [...run.nodes].filter((node) => entryOf(run, node, event) || isChanged(node));
+    const nodes = run.nodes.filter((node) => isChanged(node) || this.isTold(node));
     changed.textContent = event === 0 ? "" : run.nodes.filter(isChanged).map((node) => node.name).join(", ") || "nothing";
     values.replaceChildren(...nodes.map((node) => {
       const row = element("tr", isChanged(node) ? "changed" : "");
@@ -88,6 +91,32 @@ class Details {
       return row;
     }));
     entries.textContent = run.nodes.map((node) => entryOf(run, node, event)).filter(Boolean).join("; ") || "all off";
+  }
+
+  /** Whether a node that did not change is told in whole words. */
+  isTold(node) {
+    const { run, event, pickedCore } = this.view;
+    if (!entryOf(run, node, event)) return false;
+    if (run.cores.length <= LARGE_BOARD || node.level === run.nodes[run.nodes.length - 1].level) return true;
+    return node.level === 0 && (node.index === pickedCore || node.index === run.coreOf(event));
+  }
+
+  /** A letter for each core, cluster by cluster. */
+  showLetters() {
+    const { run, event, palette } = this.view, { letters } = this.places;
+    letters.hidden = run.cores.length <= LARGE_BOARD;
+    if (letters.hidden) return;
+    letters.replaceChildren(...run.nodes.filter((node) => node.level === 1).map((cluster) => {
+      const made = element("span", "cluster");
+      for (const node of run.cores.filter((it) => cluster.cores.includes(it.index))) {
+        const look = run.look(node, event), letter = element("i", look.depth === look.granted ? "" : "changing", STATES[look.state].letter);
+        letter.style.borderBottomColor = palette.states[look.state];
+        letter.title = `${node.name}: ${meaningOf(run, node, event)}`;
+        letter.addEventListener("click", () => this.view.pickCore(node));
+        made.append(letter);
+      }
+      return made;
+    }));
   }
 
   /** The letter of a core on its color, or the depth of a domain. */

@@ -138,7 +138,7 @@ class Labels {
   /** What each core calls or enters, where it happens. */
   marks() {
     const { run, palette, context, scale } = this;
-    if (this.last - this.first > 3000) return;
+    if (scale.step < 3) return;
     const rows = new Map(this.rows.visible().filter((row) => row.type === "core").map((row) => [row.node.index, row]));
     for (let event = this.first; event <= this.last; event++) {
       const row = run.kinds[event] < 4 && rows.get(run.objects[event]);

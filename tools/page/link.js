@@ -28,50 +28,63 @@ class Link {
     this.picked();
   }
 
-  /** What is on its way in the part that is seen. */
+  isSeen(event) {
+    return event >= this.first && event <= this.last;
+  }
+
+  /** What is sent, or comes, in the part that is seen. */
   inSight(all) {
     const found = [];
     for (const it of all.values()) {
-      if (it.event <= this.last && Math.max(it.end, it.event) >= this.first) found.push(it);
+      if (it.event <= this.last && it.end >= this.first && (this.isSeen(it.event) || it.comings.some((at) => this.isSeen(at)))) found.push(it);
     }
     return found;
   }
 
   message(message, color = null) {
-    const begin = message.event < 0 ? -20 : this.scale.x(message.event);
-    for (const event of message.deliveries) {
-      const outcome = this.run.outcomes[event], isWrong = outcome === STALE || outcome === IGNORED;
-      this.arrow(begin, this.top, this.scale.x(event), this.bottom, color ?? (isWrong ? this.palette.wrong : this.palette.message), isWrong);
-    }
-    if (!message.deliveries.length) this.lost(begin, this.top, 1);
+    const { palette } = this;
+    this.way(message, this.top, this.bottom, color ?? palette.message, color ?? palette.wrong);
   }
 
   ack(ack, color = null) {
-    const begin = ack.event < 0 ? -20 : this.scale.x(ack.event);
-    for (const event of ack.takes) {
-      const isWrong = this.run.outcomes[event] === OLD;
-      this.arrow(begin, this.bottom, this.scale.x(event), this.top, color ?? (isWrong ? this.palette.wrong : this.palette.ack), isWrong);
+    const { palette } = this;
+    this.way(ack, this.bottom, this.top, color ?? palette.ack, color ?? palette.wrong);
+  }
+
+  /** The arrows of a message or an acknowledgement that begin or end in sight. */
+  way(it, from, to, color, wrong) {
+    const begin = it.event < 0 ? -20 : this.scale.x(it.event);
+    for (const event of it.comings) {
+      if (!this.isSeen(it.event) && !this.isSeen(event)) continue;
+      const isWrong = [STALE, IGNORED, OLD].includes(this.run.outcomes[event]);
+      this.arrow(begin, from, this.scale.x(event), to, isWrong ? wrong : color, isWrong);
     }
-    if (!ack.takes.length) this.lost(begin, this.bottom, -1);
+    if (!it.comings.length) this.lost(begin, from, Math.sign(to - from));
   }
 
   /** An arrow; dashed where what comes is out of date. */
   arrow(x0, y0, x1, y1, color, isDashed) {
-    const { context } = this, up = y1 > y0 ? 1 : -1;
+    const { context } = this;
     context.strokeStyle = context.fillStyle = color;
     context.lineWidth = 1.5;
     context.setLineDash(isDashed ? [5, 3] : []);
     context.beginPath();
-    context.moveTo(x0, y0);
-    context.lineTo(x1, y1);
+    context.moveTo(...this.cut(x0, y0, x1, y1));
+    context.lineTo(...this.cut(x1, y1, x0, y0));
     context.stroke();
     context.setLineDash([]);
     const angle = Math.atan2(y1 - y0, x1 - x0), size = Math.min(8, Math.max(this.scale.step * 0.6, 3));
     context.beginPath();
     context.moveTo(x1, y1);
     context.lineTo(x1 - size * Math.cos(angle - 0.4), y1 - size * Math.sin(angle - 0.4));
-    context.lineTo(x1 - size * Math.cos(angle + 0.4), y1 - size * Math.sin(angle + 0.4) - up * 0);
+    context.lineTo(x1 - size * Math.cos(angle + 0.4), y1 - size * Math.sin(angle + 0.4));
     context.fill();
+  }
+
+  /** The end of a line, or where it leaves the part that is seen. */
+  cut(x, y, otherX, otherY) {
+    const seen = Math.min(Math.max(x, -40), this.scale.width + 40);
+    return [seen, seen === x ? y : otherY + (y - otherY) * (seen - otherX) / (x - otherX)];
   }
 
   /** What never comes ends open. */
@@ -122,7 +135,7 @@ class Link {
       context.fillStyle = palette.ack;
       context.fillRect(x, this.bottom - half * delivered[x] / most, 1, half * delivered[x] / most);
       context.fillStyle = palette.wrong;
-      if (wrong[x]) context.fillRect(x, this.bottom + 3, 1, 5);
+      context.fillRect(x, this.bottom + 3, 1, 9 * wrong[x] / most);
     }
   }
 

@@ -42,15 +42,16 @@ class Minimap {
     const context = this.image.getContext("2d");
     context.scale(ratio, ratio);
     const most = run.awake.reduce((a, b) => Math.max(a, b), 1), columns = Math.max(Math.floor(width), 1);
-    const highs = new Uint16Array(columns), lows = new Uint16Array(columns).fill(65535), wrong = new Uint8Array(columns);
+    const highs = new Uint16Array(columns), lows = new Uint16Array(columns).fill(65535), wrong = new Uint16Array(columns);
     for (let event = 0; event < run.count; event++) {
       const from = Math.floor(scale.places[event] / end * columns), to = Math.floor(scale.places[event + 1] / end * columns);
       for (let x = from; x <= Math.min(Math.max(to - 1, from), columns - 1); x++) {
         highs[x] = Math.max(highs[x], run.awake[event]);
         lows[x] = Math.min(lows[x], run.awake[event]);
-        if (run.outcomes[event] !== FINE) wrong[x] = 1;
+        if (run.outcomes[event] !== FINE) wrong[x]++;
       }
     }
+    const worst = wrong.reduce((a, b) => Math.max(a, b), 1);
     const base = height - 2, room = height - 9;
     for (let x = 0; x < columns; x++) {
       context.globalAlpha = 0.45;
@@ -59,7 +60,7 @@ class Minimap {
       context.globalAlpha = 1;
       if (lows[x] < 65535) context.fillRect(x, base - room * lows[x] / most, 1, room * lows[x] / most);
       context.fillStyle = palette.wrong;
-      if (wrong[x]) context.fillRect(x, 0, 1, 4);
+      if (wrong[x]) context.fillRect(x, 0, 1, 1 + 5 * wrong[x] / worst);
     }
   }
 

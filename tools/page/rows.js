@@ -2,6 +2,8 @@
 // along is folded, until a click unfolds it.
 
 const LINK_HEIGHT = 92, TITLE_HEIGHT = 20, GROUP_HEIGHT = 18, IDLE_HEIGHT = 15;
+// how high the row of a core is, so that its name is legible and no room is wasted
+const LEAST_HEIGHT = 9, MOST_HEIGHT = 46;
 // a board of at most this many cores is shown whole
 const SMALL_BOARD = 8;
 
@@ -99,7 +101,7 @@ class Rows {
     const domains = this.rows.filter((row) => row.type === "domain").length;
     const fixed = this.rows.reduce((sum, row) => sum + (this.fixedHeight(row) ?? 0), 0);
     const fitting = (this.height - fixed) / Math.max(cores + 0.6 * domains, 1);
-    const core = Math.round(Math.min(Math.max(fitting, 13), 46) * this.scaleHeight);
+    const core = Math.round(Math.min(Math.max(fitting, LEAST_HEIGHT), MOST_HEIGHT) * this.scaleHeight);
     let y = 0;
     for (const row of this.rows) {
       row.height = this.fixedHeight(row) ?? (row.type === "core" ? Math.max(core, 5) : Math.max(Math.round(core * 0.6), 5));

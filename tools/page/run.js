@@ -83,38 +83,38 @@ class Run {
 
   message(index) {
     if (!this.messages.has(index)) {
-      this.messages.set(index, { index, event: -1, deliveries: [], end: -1 });
+      this.messages.set(index, { index, event: -1, comings: [], end: -1 });
     }
     return this.messages.get(index);
   }
 
   ack(index) {
-    if (!this.acks.has(index)) this.acks.set(index, { index, event: -1, takes: [], end: -1 });
+    if (!this.acks.has(index)) this.acks.set(index, { index, event: -1, comings: [], end: -1 });
     return this.acks.get(index);
   }
 
   readSent(reader, event) {
     const message = this.message(reader.number());
     const [kind, core, parts] = [reader.byte(), reader.number(), reader.byte()];
-    this.sent[event] = Object.assign(message, { event, kind, core, parts });
+    this.sent[event] = Object.assign(message, { event, end: event, kind, core, parts });
   }
 
   readAck(reader, event) {
     const ack = this.ack(reader.number());
     const [message, applied, stale] = [reader.number(), reader.byte(), reader.byte()];
-    this.acked[event] = Object.assign(ack, { event, message, applied, stale });
+    this.acked[event] = Object.assign(ack, { event, end: event, message, applied, stale });
   }
 
   readTaken(reader, event) {
     const ack = this.taken[event] = this.ack(reader.number());
     ack.message = reader.number();
-    ack.takes.push(event);
+    ack.comings.push(event);
     ack.end = event;
   }
 
   delivered(event) {
     const message = this.message(this.objects[event]);
-    message.deliveries.push(event);
+    message.comings.push(event);
     message.end = event;
   }
 

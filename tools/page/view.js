@@ -1,6 +1,8 @@
 // The page as a whole: what is seen of a run, which event is picked, and when it is drawn anew.
 
 const AXIS_HEIGHT = 26;
+// how wide an event is, in pixels, where a link leads to it
+const NAMED_STEP = 24;
 
 class View {
   constructor(run) {
@@ -99,7 +101,17 @@ class View {
   /** The event that the address names, or the first. */
   follow() {
     const named = /^#e=(\d+)$/.exec(location.hash);
-    this.pick(named ? this.run.eventOf(Number(named[1])) : 0);
+    if (!named) this.pick(0);
+    else this.lookAt(this.run.eventOf(Number(named[1])));
+  }
+
+  /** Picks an event, and shows some events around it if there are more than can be told apart. */
+  lookAt(event) {
+    if (this.scale.step < NAMED_STEP && !this.scale.byClock) {
+      const half = this.scale.width / NAMED_STEP / 2;
+      this.scale.show(event - half, event + half);
+    }
+    this.pick(event);
   }
 
   /** Words beside the pointer. */

@@ -7,7 +7,7 @@ class Stream:
     """Bytes that are compressed as they come."""
 
     def __init__(self):
-        self.deflate, self.waiting, self.done = zlib.compressobj(9), bytearray(), bytearray()
+        self.deflate, self.waiting, self.done = zlib.compressobj(6), bytearray(), bytearray()
 
     def byte(self, value):
         self.waiting.append(value)

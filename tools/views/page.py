@@ -7,6 +7,7 @@ import html
 import json
 import os
 import re
+from itertools import chain
 
 from .packing import Stream
 from .shown import STATES
@@ -36,9 +37,14 @@ class Packed:
 
     def __init__(self, window, clock):
         self.window, self.board, self.clock = window, window.board, clock
-        self.cores = [node for node in window.nodes if node[0] == 0]
+        # the places of what is shown among all cores, and among all nodes
+        self.cores = [index for level, index in window.nodes if level == 0]
+        self.nodes = [self.board.nodes.index(node) for node in window.nodes]
+        # what the cells of a row are made of, and the cells of the last row
+        self.picks = {"cores": self.states, "depths": self.depths, "granted": self.depths}
+        self.values, self.last = {}, None
         self.events, self.changes, self.texts, self.times = (Stream() for _ in range(4))
-        self.count, self.number, self.time, self.values = 0, 0, 0, None
+        self.count, self.number, self.time = 0, 0, 0
 
     def read(self, run):
         """Takes all rows of the window."""
@@ -84,28 +90,35 @@ class Packed:
 
     def put_changes(self, row):
         """Each cell that is not as in the row before: how far behind the last, and its value."""
-        if self.values is not None and row.is_like(self.last):
-            self.changes.number(0)
-            self.last = row
-            return
-        values, before, found, at = self.cells(row), self.values, [], 0
-        if before != values:
-            found = [(cell, value) for cell, value in enumerate(values)
-                     if before is None or before[cell] != value]
+        found, first, last = [], 0, self.last
+        for name, pick in self.picks.items():
+            new = getattr(row, name)
+            if last is None:
+                self.values[name] = pick(new)
+                found += enumerate(self.values[name], first)
+            elif new is not getattr(last, name):
+                old, self.values[name] = self.values[name], pick(new)
+                found += [(first + at, value) for at, (before, value)
+                          in enumerate(zip(old, self.values[name])) if before != value]
+            first += len(self.values[name])
         self.changes.number(len(found))
+        at = 0
         for cell, value in found:
             self.changes.number(cell - at)
             self.changes.byte(value)
             at = cell
-        self.values, self.last = values, row
+        self.last = row
 
-    def cells(self, row):
-        """The states of the cores, the depths of all nodes, and the granted ones."""
-        granted = row.granted
-        return bytes([CODES[row.cores[index]] for _, index in self.cores]
-                     + [row.depths[level][index] for level, index in self.window.nodes]
-                     + [granted[level][index] if granted else UNKNOWN
-                        for level, index in self.window.nodes])
+    def states(self, cores):
+        """The codes of the states of the cores that are shown."""
+        return bytes(CODES[cores[index]] for index in self.cores)
+
+    def depths(self, levels):
+        """The depths of what is shown, or the granted ones."""
+        if levels is None:
+            return bytes([UNKNOWN] * len(self.nodes))
+        flat = list(chain.from_iterable(levels))
+        return bytes(map(flat.__getitem__, self.nodes))
 
     def head(self):
         """What the page has to know first."""

@@ -19,6 +19,14 @@ STATES = {
 # what stands in a line before the states, the places, the depths, the granted depths, and behind
 MARKS = (', "cores": ', ', "places": ', ', "depths": ', ', "granted": ', ', "sent": ')
 
+# reads the value at the beginning of a text, faster than json.loads
+read_value = json.JSONDecoder().raw_decode
+
+
+def read_json(text):
+    """The value that a text begins with."""
+    return read_value(text)[0]
+
 
 class NotShown(Exception):
     """Standard input is no run as `show --json` writes it."""
@@ -59,7 +67,7 @@ class Row:
         at = [text.find(mark) for mark in MARKS]
         if min(at) < 0:
             raise NotShown
-        head, tail = json.loads(text[:at[0]] + "}"), json.loads("{" + text[at[4] + 2:])
+        head, tail = read_json(text[:at[0]] + "}"), read_json("{" + text[at[4] + 2:])
         self.text = text
         self.number, self.line, self.event = head["number"], head["line"], head["event"]
         self.asked, self.answer, self.said = head["asked"], head["answer"], head["said"]
@@ -75,7 +83,7 @@ class Row:
         """A list of this row, which is that of the last row where nothing in it changed."""
         if last and last.lists[at] == self.lists[at]:
             return getattr(last, name)
-        return json.loads(self.lists[at])
+        return read_json(self.lists[at])
 
     @property
     def words(self):
