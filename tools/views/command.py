@@ -41,6 +41,9 @@ def run(main, name):
         main()
         sys.stdout.flush()
     except Refused as fault:
+        # the program is heard to its end, and has no write fault to tell of
+        for _ in sys.stdin:
+            pass
         end(name, fault, 2)
     except clock.BadClock as fault:
         end(name, fault, 3)
