@@ -47,10 +47,12 @@ class Browser:
         os.close(theirs_out)
         self.out, self.input = os.fdopen(ours_out, "wb"), os.fdopen(ours_in, "rb")
         self.waiting, self.session = b"", None
-        target = self.ask("Target.getTargets")["targetInfos"][0]["targetId"]
+        target = next(it["targetId"] for it in self.ask("Target.getTargets")["targetInfos"]
+                      if it["type"] == "page")
         self.session = self.ask("Target.attachToTarget", targetId=target, flatten=True)["sessionId"]
         self.ask("Page.enable")
         self.ask("Runtime.enable")
+        self.size(width, height)
 
     def ask(self, method, **params):
         """What the browser answers to an order."""

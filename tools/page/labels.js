@@ -79,7 +79,7 @@ class Labels {
     for (const row of this.rows.visible()) {
       const y = this.y(row), middle = y + row.height / 2 + 4;
       const isPicked = this.view.pickedCore !== null && row.type === "core" && row.node.index === this.view.pickedCore;
-      this.font(Math.min(12, Math.max(row.height - 1, 8)), row.type === "title" || isPicked ? "600" : "");
+      this.font(row.type === "idle" ? 10 : Math.min(12, Math.max(row.height - 1, 8)), row.type === "title" || isPicked ? "600" : "");
       if (row.type === "title") this.text(row.text, 8, middle, palette.ink);
       else if (row.type === "group") this.text(`${row.isOpen ? "▾" : "▸"} ${row.node.name}`, 8, middle, palette.ink, this.gutter - 14);
       else if (row.type === "idle") this.text(`▸ ${row.text}`, row.cluster ? 24 : 8, middle - 1, palette.faint, this.gutter - 28);

@@ -1,7 +1,7 @@
 // The rows from top to bottom: the cores by clusters, the link, the power domains. What is idle all
 // along is folded, until a click unfolds it.
 
-const LINK_HEIGHT = 92, TITLE_HEIGHT = 20, GROUP_HEIGHT = 18, IDLE_HEIGHT = 15;
+const LINK_HEIGHT = 92, TITLE_HEIGHT = 20, GROUP_HEIGHT = 18, IDLE_HEIGHT = 12;
 // how high the row of a core is, so that its name is legible and no room is wasted
 const LEAST_HEIGHT = 9, MOST_HEIGHT = 46;
 // a board of at most this many cores is shown whole

@@ -6,21 +6,31 @@ const NAMED_STEP = 24;
 
 class View {
   constructor(run) {
-    this.run = run;
     this.canvas = document.getElementById("time");
-    this.event = 0;
-    this.pickedCore = null;
+    this.tip = document.getElementById("tip");
     this.isWaiting = false;
     this.setTheme(matchMedia("(prefers-color-scheme: dark)").matches ? "dark" : "light");
-    this.scale = new Scale(run);
-    this.rows = new Rows(run);
     this.search = new Search(this);
     this.details = new Details(this);
     this.minimap = new Minimap(document.getElementById("minimap"), this);
-    this.tip = document.getElementById("tip");
-    document.getElementById("clock").hidden = !run.times;
+    this.show(run);
+    new Controls(this);
     new ResizeObserver(() => this.resize()).observe(this.canvas.parentElement);
+    addEventListener("hashchange", () => this.follow());
+  }
+
+  /** Shows this run in place of another, from its first event. */
+  show(run) {
+    this.run = run;
+    this.event = 0;
+    this.pickedCore = null;
+    this.scale = new Scale(run);
+    this.rows = new Rows(run);
+    this.minimap.key = null;
+    document.getElementById("board").textContent = run.head.board;
+    document.getElementById("clock").hidden = !run.times;
     this.resize();
+    this.search.look();
   }
 
   // ---- its size and theme
@@ -68,8 +78,12 @@ class View {
     this.details.show();
     this.search.tell();
     history.replaceState(null, "", `#e=${this.run.numbers[this.event]}`);
+    this.picked(this.run.numbers[this.event]);
     this.redraw();
   }
+
+  /** Hears which event was picked; the editor of scripts does. */
+  picked() {}
 
   /** The next event or the one before; of the same core, if that is asked. */
   step(way, isOfCore = false) {
@@ -179,16 +193,11 @@ class View {
   }
 }
 
-/** Opens the run that the page carries. */
+/** Opens the run that the page carries, at the event that its address names. */
 async function opened(packed) {
-  const begun = performance.now();
   nameStates(packed.head.states);
-  document.getElementById("board").textContent = packed.head.board;
-  const run = await unpacked(packed), view = new View(run);
-  new Controls(view);
-  addEventListener("hashchange", () => view.follow());
+  const view = new View(await unpacked(packed));
   view.follow();
+  window.psci = { view };
   document.documentElement.dataset.ready = "yes";
-  window.psci = { view, opening: performance.now() - begun };
-  return view;
 }

@@ -138,12 +138,13 @@ def text_of(name):
         return file.read()
 
 
-def assembled(title, data, name="page", more=()):
-    """A page of tools/page/ with its style, its scripts and its data in it."""
-    scripts = "\n".join(text_of(f"{script}.js") for script in (*SCRIPTS, *more))
-    places = {"title": html.escape(title), "style": text_of("page.css"), "script": scripts,
+def assembled(title, data, start="opened", editor=False):
+    """The page of tools/page/ with its style, its scripts and its data in it, and how it starts."""
+    scripts = [text_of(f"{script}.js") for script in (*SCRIPTS, *["editor"] * editor)]
+    places = {"title": html.escape(title), "style": text_of("page.css"), "start": start,
+              "script": "\n".join(scripts), "editor": text_of("editor.html") if editor else "",
               "data": json.dumps(data, separators=(",", ":")).replace("<", "\\u003c")}
-    return re.sub(r"\{\{(\w+)\}\}", lambda match: places[match[1]], text_of(f"{name}.html"))
+    return re.sub(r"\{\{(\w+)\}\}", lambda match: places[match[1]], text_of("page.html"))
 
 
 def write(window, run, out, clock):

@@ -33,6 +33,10 @@ def add_words(parser):
                         help="these cores and what is above them, as 0-3,8, and the events of these")
 
 
+# the words of a window that leaves nothing out
+WHOLE = argparse.Namespace(first=1, last=LARGEST, cores=None)
+
+
 class Window:
     """What a view looks at."""
 
@@ -42,10 +46,6 @@ class Window:
         self.nodes = [node for node in board.nodes if self.has_node(node)]
         # the core of each message, and of the message of each acknowledgement
         self.messages, self.replies = {}, {}
-
-    @property
-    def is_whole(self):
-        return self.first == 1 and self.last == LARGEST and self.cores is None
 
     def has_node(self, node):
         return self.cores is None or not self.cores.isdisjoint(self.board.cores_of(node))
