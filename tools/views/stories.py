@@ -30,7 +30,7 @@ def script(path, title=None, story=""):
 
 def peers():
     """The stories of docs/PEERS.md, each with its script."""
-    chapters = re.findall(r"^### (\d+\. .*): `([a-z-]+)`\n\n(.*?)\n\n", text_of(f"{TOP}/docs/PEERS.md"),
+    chapters = re.findall(r"^### (\d+\. [^\n]*): `([a-z-]+)`\n\n(.*?)\n\n", text_of(f"{TOP}/docs/PEERS.md"),
                           re.M | re.S)
     return [script(f"{TOP}/examples/peers/{name}.psci", title, plain(story))
             for title, name, story in chapters]
