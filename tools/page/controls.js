@@ -64,6 +64,7 @@ class Controls {
 
   help() {
     const page = document.getElementById("helping");
+    document.getElementById("legend").replaceChildren(...legendRows(this.view.palette));
     if (page.open) page.close();
     else page.showModal();
   }

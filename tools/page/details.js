@@ -31,6 +31,16 @@ function meaningOf(run, node, event) {
   return words.join(", ");
 }
 
+/** What the letters and colors of states mean. */
+function legendRows(palette) {
+  return STATES.map(({ letter, meaning }, code) => {
+    const row = element("tr"), sign = element("th", "letter", letter);
+    sign.style.borderBottomColor = palette.states[code];
+    row.append(sign, element("td", "", `the core ${meaning}`));
+    return row;
+  });
+}
+
 class Details {
   constructor(view) {
     this.view = view;
@@ -83,7 +93,7 @@ class Details {
     const { run, event } = this.view, { changed, values, entries } = this.places;
     const isChanged = (node) => run.changes(node, event);
     const nodes = run.nodes.filter((node) => isChanged(node) || this.isTold(node));
-    changed.textContent = event === 0 ? "" : run.nodes.filter(isChanged).map((node) => node.name).join(", ") || "nothing";
+    changed.textContent = event === 0 ? "it is the first event here" : run.nodes.filter(isChanged).map((node) => node.name).join(", ") || "nothing";
     values.replaceChildren(...nodes.map((node) => {
       const row = element("tr", isChanged(node) ? "changed" : "");
       row.append(element("th", "", node.name), this.letter(node), element("td", "", meaningOf(run, node, event)));

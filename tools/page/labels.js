@@ -81,8 +81,8 @@ class Labels {
       const isPicked = this.view.pickedCore !== null && row.type === "core" && row.node.index === this.view.pickedCore;
       this.font(row.type === "idle" ? 10 : Math.min(12, Math.max(row.height - 1, 8)), row.type === "title" || isPicked ? "600" : "");
       if (row.type === "title") this.text(row.text, 8, middle, palette.ink);
-      else if (row.type === "group") this.text(`${row.isOpen ? "▾" : "▸"} ${row.node.name}`, 8, middle, palette.ink, this.gutter - 14);
-      else if (row.type === "idle") this.text(`▸ ${row.text}`, row.cluster ? 24 : 8, middle - 1, palette.faint, this.gutter - 28);
+      else if (row.type === "group") this.text(`${row.isOpen ? "▾" : "▸"} ${row.text}`, 8, middle, palette.ink, this.gutter - 14);
+      else if (row.type === "idle") this.text(`▸ ${row.text}`, 8, middle - 1, palette.faint, this.gutter - 14);
       else if (row.type === "link") this.linkNames(y);
       else this.text(row.node.name, row.type === "core" ? 24 : 8, middle, isPicked ? palette.pick : palette.ink, this.gutter - 30);
     }

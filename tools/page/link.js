@@ -1,7 +1,7 @@
 // Messages from the firmware to the power controller, and acknowledgements back: arrows, or where
 // there are too many of them how many are sent and come.
 
-const LINK_TOP = 22, LINK_BOTTOM = 72, MOST_ARROWS = 1500, MOST_NAMES = 60;
+const LINK_TOP = 22, LINK_BOTTOM = 72, MOST_ARROWS = 500, MOST_NAMES = 60;
 
 class Link {
   constructor(view, context, y) {

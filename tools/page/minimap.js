@@ -79,7 +79,7 @@ class Minimap {
     context.setTransform(ratio, 0, 0, ratio, 0, 0);
     context.font = `11px ${FONT}`;
     context.fillStyle = palette.faint;
-    context.fillText("whole run", 8, 14);
+    context.fillText("all", 8, 14);
     context.fillText(`${view.run.count} events`, 8, 28);
     this.drawSeen(context, height);
   }

@@ -1,7 +1,7 @@
 // The rows from top to bottom: the cores by clusters, the link, the power domains. What is idle all
 // along is folded, until a click unfolds it.
 
-const LINK_HEIGHT = 92, TITLE_HEIGHT = 20, GROUP_HEIGHT = 18, IDLE_HEIGHT = 12;
+const LINK_HEIGHT = 92, TITLE_HEIGHT = 20, GROUP_HEIGHT = 16, IDLE_HEIGHT = 12;
 // how high the row of a core is, so that its name is legible and no room is wasted
 const LEAST_HEIGHT = 9, MOST_HEIGHT = 46;
 // a board of at most this many cores is shown whole
@@ -60,25 +60,17 @@ class Rows {
     this.place();
   }
 
+  /** A cluster, and below it its cores: those that do something, all, or none. */
   addCluster(cluster, cores) {
     const shown = this.isIdleShown && this.shown.get(cluster) === "busy" ? "all" : this.shown.get(cluster);
-    this.rows.push({ type: "group", node: cluster, cores, isOpen: shown !== "none" });
-    if (shown === "none") return;
-    let waiting = [];
-    for (const node of cores) {
-      if (shown === "busy" && this.idle.has(node)) {
-        waiting.push(node);
-        continue;
-      }
-      this.addIdle(waiting, cluster);
-      waiting = [];
-      this.rows.push({ type: "core", node });
-    }
-    this.addIdle(waiting, cluster);
+    const busy = cores.filter((node) => !this.idle.has(node)), seen = { busy, all: cores, none: [] }[shown];
+    const text = shown === "busy" && busy.length < cores.length ? `${cluster.name}, ${cores.length - busy.length} idle` : cluster.name;
+    this.rows.push({ type: "group", node: cluster, cores, text, isOpen: seen.length > 0, isWhole: seen.length === cores.length });
+    for (const node of seen) this.rows.push({ type: "core", node });
   }
 
-  addIdle(nodes, cluster = null) {
-    if (nodes.length) this.rows.push({ type: "idle", nodes, cluster, text: `${rangeName(nodes)}: idle` });
+  addIdle(nodes) {
+    if (nodes.length) this.rows.push({ type: "idle", nodes, text: `${rangeName(nodes)}: idle` });
   }
 
   addDomains() {
@@ -104,7 +96,7 @@ class Rows {
     const core = Math.round(Math.min(Math.max(fitting, LEAST_HEIGHT), MOST_HEIGHT) * this.scaleHeight);
     let y = 0;
     for (const row of this.rows) {
-      row.height = this.fixedHeight(row) ?? (row.type === "core" ? Math.max(core, 5) : Math.max(Math.round(core * 0.6), 5));
+      row.height = this.fixedHeight(row) ?? (row.type === "core" ? Math.max(core, 5) : Math.max(Math.round(core * 0.6), LEAST_HEIGHT));
       row.y = y;
       y += row.height;
     }
@@ -148,9 +140,8 @@ class Rows {
 
   /** Folds or unfolds what a click on a name means. */
   toggle(row) {
-    if (row.type === "group") this.shown.set(row.node, row.isOpen ? "none" : "busy");
+    if (row.type === "group") this.shown.set(row.node, row.isWhole ? "none" : row.isOpen ? "all" : "busy");
     else if (row.type !== "idle") return false;
-    else if (row.cluster) this.shown.set(row.cluster, "all");
     else if (row.nodes.every((node) => this.shown.has(node))) row.nodes.forEach((node) => this.shown.set(node, "all"));
     else this.isIdleShown = true;
     this.build();
