@@ -10,7 +10,6 @@ has_browser() {
 # by_python NAME: tests/NAME over the program, with a folder of its own
 by_python() {
     has_python "tests/$1" || return
-    mkdir -p "$work/$1"
     if timeout 300 "tests/$1" "$program" "$work/$1" > "$work/out" 2>&1; then pass; else
         fail "tests/$1"
         tail -n 20 "$work/out"
