@@ -140,13 +140,16 @@ class Labels {
     const { run, palette, context, scale } = this;
     if (scale.step < 3) return;
     const rows = new Map(this.rows.visible().filter((row) => row.type === "core").map((row) => [row.node.index, row]));
-    for (let event = this.first; event <= this.last; event++) {
+    // from the last one back, since words have room up to the next mark in their row
+    const ends = new Map();
+    for (let event = this.last; event >= this.first; event--) {
       const row = run.kinds[event] < 4 && rows.get(run.objects[event]);
       if (!row) continue;
       const x = scale.x(event), y = this.y(row), isWrong = run.outcomes[event] === REFUSED || run.outcomes[event] === IGNORED;
       context.fillStyle = isWrong ? palette.wrong : palette.message;
       context.fillRect(Math.round(x), y, scale.step > 20 ? 2 : 1, row.height - 1);
-      const room = scale.x(event + 1) - x - 6;
+      const room = (ends.get(row) ?? scale.width) - x - 6;
+      ends.set(row, x);
       if (room > 44 && row.height >= 26) this.markWords(event, row, x, room, isWrong);
     }
   }

@@ -38,7 +38,7 @@ class View {
   resize() {
     const { clientWidth, clientHeight } = this.canvas.parentElement;
     this.ratio = devicePixelRatio || 1;
-    this.gutter = clientWidth < 640 ? 104 : 168;
+    this.gutter = clientWidth < 640 ? 112 : 168;
     this.canvas.width = Math.round(clientWidth * this.ratio);
     this.canvas.height = Math.round(clientHeight * this.ratio);
     this.scale.resize(clientWidth - this.gutter);
