@@ -6,27 +6,30 @@ _psci() {
     local at
     for ((at = 1; at < COMP_CWORD; at++)); do
         case ${COMP_WORDS[at]} in
-            replay | storm | threads | show | draw | prove | help) command=${COMP_WORDS[at]}; break ;;
+            replay | storm | threads | show | draw | try | prove | help) command=${COMP_WORDS[at]}; break ;;
         esac
     done
     COMPREPLY=()
     case $before in
-        --keep) mapfile -t COMPREPLY < <(compgen -f -- "$word"); return ;;
+        --keep | --clock) mapfile -t COMPREPLY < <(compgen -f -- "$word"); return ;;
         --color) mapfile -t COMPREPLY < <(compgen -W "auto always never" -- "$word"); return ;;
-        --board | --seed | --seeds | --count | --width) return ;;
+        --board | --seed | --seeds | --count | --width | --from | --to | --cores | --port) return ;;
         \< | \>) mapfile -t COMPREPLY < <(compgen -f -- "$word"); return ;;
     esac
     case $command in
         "") mapfile -t COMPREPLY < <(compgen -W \
-            "replay storm threads show draw prove help --unproved --help --version" -- "$word") ;;
+            "replay storm threads show draw try prove help --unproved --help --version" -- "$word") ;;
         storm) mapfile -t COMPREPLY < <(compgen -W \
             "--board --seed --seeds --count --counts --keep --help" -- "$word") ;;
         threads) mapfile -t COMPREPLY < <(compgen -W "--board --seed --count --help" -- "$word") ;;
         show) mapfile -t COMPREPLY < <(compgen -W \
-            "--json --legend --width --color --help" -- "$word") ;;
+            "--json --legend --width --color --from --to --cores --changes --trace --vcd --clock --help" \
+            -- "$word") ;;
+        draw) mapfile -t COMPREPLY < <(compgen -W "--page --from --to --cores --clock --help" -- "$word") ;;
+        try) mapfile -t COMPREPLY < <(compgen -W "--port --help" -- "$word") ;;
         help) mapfile -t COMPREPLY < <(compgen -W "replay storm threads show" -- "$word") ;;
         prove) mapfile -t COMPREPLY < <(compgen -W "all" -- "$word") ;;
-        replay | draw) mapfile -t COMPREPLY < <(compgen -W "--help" -- "$word") ;;
+        replay) mapfile -t COMPREPLY < <(compgen -W "--help" -- "$word") ;;
     esac
 }
 

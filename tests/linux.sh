@@ -27,6 +27,7 @@ traces() {
         [ ! -f "$name.words" ] || mapfile -t words < "$name.words"
         tools/trace-to-script "${words[@]}" < "$file" > "$work/script"
         if cmp -s "$name.psci" "$work/script"; then pass; else fail "the script of $file"; fi
+        [ ! -f "$name.clock" ] || traced_clock "$name" "${words[@]}"
         tools/trace-to-script --answers "${words[@]}" < "$file" > "$work/lines"
         if cmp -s "$name.answers" "$work/lines"; then pass; else fail "the answers of $file"; fi
         run replay < "$work/script"
@@ -38,6 +39,15 @@ traces() {
     long_trace debian-trace 5:1:0 2548:1:0 2555:0:-1
     long_trace qemus-own 5:1:0 6:0:-1 7:0:-1 19:1:0 26:0:-1 27:0:-1 28:0:-1 31:0:-1
     faulty_traces
+}
+
+# traced_clock NAME WORD..: a trace with times: the clock of its script, with a time for each event
+traced_clock() {
+    tools/trace-to-script --clock "$work/clock" "${@:2}" < "$1.txt" > "$work/script"
+    if cmp -s "$1.clock" "$work/clock"; then pass; else fail "the clock of $1"; fi
+    run show --json < "$work/script"
+    tools/show --vcd --clock "$work/clock" < "$work/out" | sed -n 's/^#//p' | head -n -1 > "$work/times"
+    if uniq "$1.clock" | cmp -s - "$work/times"; then pass; else fail "the times of $1 in VCD"; fi
 }
 
 # long_trace NAME EVENT:OURS:THEIRS..: a trace of Linux on other firmware, with all that differs
@@ -56,10 +66,10 @@ long_trace() {
 # lines that are no lines of a trace
 faulty_traces() {
     local line
-    for line in "0 0x84000000 -> 1" "0 0x84000000 0x0 0x0 0x0 -> on" "enter 0" "# delivered 0" \
+    for line in $'@5 0 0x84000000 0x0 0x0 0x0 -> 65537\n@4 0 0x84000000 0x0 0x0 0x0 -> 65537' "0 0x84000000 -> 1" "0 0x84000000 0x0 0x0 0x0 -> on" "enter 0" "# delivered 0" \
         "0 0xc4000003 0x9 0x0 0x0 -> 0"; do
         if ! echo "$line" | tools/trace-to-script --acknowledged > "$work/out" 2> "$work/err" &&
-            grep -q '^line 1: ' "$work/err"; then pass; else fail "the trace '$line'"; fi
+            grep -q '^line [12]: ' "$work/err"; then pass; else fail "the trace '$line'"; fi
     done
 }
 

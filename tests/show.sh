@@ -140,6 +140,9 @@ options() {
         grep -oE -- '--[a-z]+' | sort -u
 }
 
+# the long options that the help of each view names
+view_options() { for tool in show draw try; do "tools/$tool" --help; done | grep -oE -- '--[a-z]+' | sort -u; }
+
 # bash completes commands and options, and the manual page has every option
 completed() {
     local option line wanted
@@ -151,16 +154,18 @@ completed() {
         answers "completion of $line"
     done << 'EOF'
 ./psci s|storm show
-./psci t|threads
+./psci t|threads try
 ./psci threads --|--board --seed --count --help
 ./psci storm --se|--seed --seeds
 ./psci storm --seed 1 --co|--count --counts
 ./psci show --color a|auto always
-./psci draw --|--help
+./psci draw --|--page --from --to --cores --clock --help
+./psci show --c|--color --cores --changes --clock
+./psci tr|try
 EOF
-    for option in $(options) --seeds --unproved; do
+    for option in $(options) $(view_options) --seeds --unproved; do
         if grep -q -- "$option" completions/psci.bash &&
-            sed 's/\\-/-/g' docs/psci.1 | grep -q -- "$option"; then pass; else
+            sed 's/\\-/-/g' docs/psci.1 | grep -- "$option" > "$work/none"; then pass; else
             fail "$option is not in completions/psci.bash, or not in docs/psci.1"
         fi
     done

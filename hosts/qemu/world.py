@@ -17,12 +17,14 @@ SUSPENDS = (0x84000001, 0xC4000001, 0x8400000E, 0xC400000E)
 
 
 class Replay:
-    """A running replay, and the record of what it was told and said."""
+    """A running replay, and the record of what it was told and said, and when."""
 
     def __init__(self, program, board, record=None):
         self.process = subprocess.Popen([program, "replay"], stdin=subprocess.PIPE,
                                         stdout=subprocess.PIPE, text=True, bufsize=1)
-        self.files = [open(name, "w") for name in (record, f"{record}.out")] if record else []
+        names = (record, f"{record}.out", f"{record}.clock") if record else ()
+        self.files = [open(name, "w") for name in names]
+        self.begun = time.monotonic_ns()
         self.put(f"board {board}")
 
     def put(self, line):
@@ -32,6 +34,8 @@ class Replay:
 
     def say(self, event):
         """The answer of an event, without its count."""
+        if self.files:
+            self.files[2].write(f"{time.monotonic_ns() - self.begun}\n")
         self.put(event)
         line = self.process.stdout.readline()
         if not line:

@@ -1,0 +1,60 @@
+"""What the commands of views have in common: their options, what they read, how they fail."""
+import os
+import sys
+
+from . import clock, shown, window
+
+
+def add_words(parser):
+    """The options of a window, and the clock."""
+    window.add_words(parser)
+    parser.add_argument("--clock", metavar="FILE", help="when each event happened, in nanoseconds")
+
+
+def opened(words):
+    """The run that comes from standard input, the window of it, and its clock."""
+    run = shown.Run(sys.stdin)
+    if run.board is None:
+        # the program has told why there is nothing
+        sys.exit(0)
+    highest = max(words.cores or [0])
+    if highest >= run.board.cores:
+        raise Refused(f"there is no core {highest}: the board has {run.board.cores}")
+    return run, window.Window(run.board, words), clock.Clock(words.clock and clock.read(words.clock))
+
+
+def screen_lines():
+    """How many lines a screen has; 24 where there is none."""
+    try:
+        return max(os.get_terminal_size(sys.stdout.fileno()).lines - 1, 10)
+    except OSError:
+        return 24
+
+
+class Refused(Exception):
+    """What the words of the command ask for cannot be had, and why."""
+
+
+def run(main, name):
+    """Runs a command: what it cannot do is said in a line, with the statuses of the program."""
+    try:
+        main()
+        sys.stdout.flush()
+    except Refused as fault:
+        # the program is heard to its end, and has no write fault to tell of
+        for _ in sys.stdin:
+            pass
+        end(name, fault, 2)
+    except clock.BadClock as fault:
+        end(name, fault, 3)
+    except shown.NotShown:
+        end(name, "standard input is not what `./psci show --json` writes", 3)
+    except OSError:
+        # what is still to be written goes nowhere
+        os.dup2(os.open(os.devnull, os.O_WRONLY), sys.stdout.fileno())
+        end(name, "write fault", 4)
+
+
+def end(name, said, status):
+    print(f"psci {name}: {said}", file=sys.stderr)
+    sys.exit(status)

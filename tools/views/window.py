@@ -1,0 +1,85 @@
+"""A window of a run: the events from one number to another, and those of some cores."""
+import argparse
+import re
+
+LARGEST = 10 ** 9
+
+
+def number_from_one(text):
+    """The number of an event."""
+    if not re.fullmatch(r"[1-9][0-9]{0,8}", text):
+        raise argparse.ArgumentTypeError(f"'{text}' is no number of an event, which is 1 or more")
+    return int(text)
+
+
+def core_list(text):
+    """The cores of a list of numbers and ranges, as 0-3,8."""
+    cores = set()
+    for part in text.split(","):
+        match = re.fullmatch(r"(\d{1,3})(?:-(\d{1,3}))?", part)
+        if not match or int(match[2] or match[1]) < int(match[1]):
+            raise argparse.ArgumentTypeError(f"'{text}' is no list of cores, as 0-3,8")
+        cores |= set(range(int(match[1]), int(match[2] or match[1]) + 1))
+    return frozenset(cores)
+
+
+def add_words(parser):
+    """The options of a window."""
+    parser.add_argument("--from", dest="first", type=number_from_one, default=1, metavar="N",
+                        help="begins with event N")
+    parser.add_argument("--to", dest="last", type=number_from_one, default=LARGEST, metavar="N",
+                        help="ends with event N")
+    parser.add_argument("--cores", type=core_list, metavar="LIST",
+                        help="these cores and what is above them, as 0-3,8, and the events of these")
+
+
+# the words of a window that leaves nothing out
+WHOLE = argparse.Namespace(first=1, last=LARGEST, cores=None)
+
+
+class Window:
+    """What a view looks at."""
+
+    def __init__(self, board, words):
+        self.board, self.first, self.last = board, words.first, words.last
+        self.cores = words.cores
+        self.nodes = [node for node in board.nodes if self.has_node(node)]
+        # the core of each message, and of the message of each acknowledgement
+        self.messages, self.replies = {}, {}
+
+    def has_node(self, node):
+        return self.cores is None or not self.cores.isdisjoint(self.board.cores_of(node))
+
+    def rows(self, run):
+        """The rows inside, each with the row before it; what comes behind is only read."""
+        last = None
+        for row in run:
+            if row.number > self.last:
+                for _ in run.file:
+                    pass
+                return
+            is_of = self.is_of(row)
+            if row.number >= self.first and (is_of or self.shows_change(row, last)):
+                yield row, last
+            last = row
+
+    def is_of(self, row):
+        """Whether the event is one of these cores: its own, or one of a message of it."""
+        if self.cores is None:
+            return True
+        kind, number = row.event["kind"], row.event["number"]
+        if row.sent:
+            self.messages[row.sent["index"]] = row.sent["core"]
+        if row.acknowledged:
+            self.replies[row.acknowledged["index"]] = row.acknowledged["core"]
+        if row.sent and row.sent["core"] in self.cores:
+            return True
+        known = {"deliver": self.messages, "take": self.replies}.get(kind)
+        return (known.get(number) if known is not None else number) in self.cores
+
+    def shows_change(self, row, last):
+        """Whether something that is shown of these cores changed."""
+        if last is None:
+            return True
+        return not row.is_like(last) and any(row.look(node) != last.look(node)
+                                             for node in self.nodes)
