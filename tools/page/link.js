@@ -36,7 +36,9 @@ class Link {
   inSight(all) {
     const found = [];
     for (const it of all.values()) {
-      if (it.event <= this.last && it.end >= this.first && (this.isSeen(it.event) || it.comings.some((at) => this.isSeen(at)))) found.push(it);
+      if (it.event <= this.last && it.end >= this.first &&
+          (this.isSeen(it.event) || it.comings.some((at) => this.isSeen(at))))
+        found.push(it);
     }
     return found;
   }
@@ -73,7 +75,8 @@ class Link {
     context.lineTo(...this.cut(x1, y1, x0, y0));
     context.stroke();
     context.setLineDash([]);
-    const angle = Math.atan2(y1 - y0, x1 - x0), size = Math.min(8, Math.max(this.scale.step * 0.6, 3));
+    const angle = Math.atan2(y1 - y0, x1 - x0);
+    const size = Math.min(8, Math.max(this.scale.step * 0.6, 3));
     context.beginPath();
     context.moveTo(x1, y1);
     context.lineTo(x1 - size * Math.cos(angle - 0.4), y1 - size * Math.sin(angle - 0.4));
@@ -127,7 +130,8 @@ class Link {
       if (run.kinds[event] === 4) delivered[x]++;
       if (run.outcomes[event] >= IGNORED && run.kinds[event] >= 4) wrong[x]++;
     }
-    const most = Math.max(sent.reduce((a, b) => Math.max(a, b), 1), delivered.reduce((a, b) => Math.max(a, b), 1));
+    const most = Math.max(
+        sent.reduce((a, b) => Math.max(a, b), 1), delivered.reduce((a, b) => Math.max(a, b), 1));
     const half = (this.bottom - this.top) / 2 - 3;
     for (let x = 0; x < width; x++) {
       context.fillStyle = palette.message;
