@@ -22,6 +22,9 @@ static struct cpu {
 } cpus[CORES];
 
 static struct psci_place firmware;
+
+/* Each core's own way to ask for the status of a core, without the lock. */
+static struct psci_poller pollers[CORES];
 static atomic_flag taken = ATOMIC_FLAG_INIT;
 
 /* The mailbox: frames to the power controller, in the order in which they were made. */
@@ -75,10 +78,26 @@ static void obey(unsigned core, const struct psci_answer *answer) {
     }
 }
 
+/* AFFINITY_INFO of a core, which is asked in a row by who waits for it. */
+static bool is_poll(const uint64_t *x) {
+    return ((uint32_t)x[0] == 0x84000004 || (uint32_t)x[0] == 0xc4000004) && (uint32_t)x[2] == 0;
+}
+
+/* It is answered by one load: who holds the lock is not waited for. */
+static void on_poll(unsigned core) {
+    uint64_t *x = cpus[core].x;
+    x[0] = register_of(psci_poll(&pollers[core], x[0] & 0x40000000 ? x[1] : (uint32_t)x[1]), x[0]);
+    printf("core %u polls 0x%" PRIx64 "\n", core, x[0]);
+}
+
 /* The exception: a core of the normal world made an SMC with these registers. */
 static void on_smc(unsigned core) {
     const uint64_t *x = cpus[core].x;
     struct psci_answer answer;
+    if (is_poll(x)) {
+        on_poll(core);
+        return;
+    }
     lock();
     psci_smc(&firmware, core, x[0], x[1], x[2], x[3], &answer);
     post(&answer.message);
@@ -214,9 +233,13 @@ int main(void) {
     uint32_t opened = psci_open(&firmware, (const uint8_t *)board, strlen(board));
     if (opened != PSCI_OPENED)
         fail("no firmware", opened);
+    for (unsigned core = 0; core < CORES; core++)
+        if (psci_open_poller(&firmware, &pollers[core]) != PSCI_OPENED)
+            fail("no poller", core);
     begin_life();
     smc(0, 0x84000000, 0, 0, 0);                   /* PSCI_VERSION */
     smc(0, 0xc4000003, 0x101, 0x40001000, 7);      /* CPU_ON of core 3 */
+    smc(0, 0xc4000004, 0x101, 0, 0);               /* AFFINITY_INFO of it: ON_PENDING */
     serve();
     smc(3, 0xc4000001, 2, 0, 0);                   /* CPU_SUSPEND: retention of the core */
     serve();
@@ -238,5 +261,7 @@ int main(void) {
     smc(0, 0x84000008, 0, 0, 0);                   /* SYSTEM_OFF */
     serve();
     psci_close(&firmware);
+    for (unsigned core = 0; core < CORES; core++)
+        psci_close_poller(&pollers[core]);
     return 0;
 }

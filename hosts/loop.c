@@ -1,6 +1,7 @@
 /* loop SCRIPT ANSWERS: plays the firmware's side of a script. Calls, entries and acknowledgements
  * go to the library; what the power controller says is taken from the answers that the program
- * gave. Writes the answer lines: the program's, where the library answers as the program does. */
+ * gave. Writes the answer lines: the program's, where the library answers as the program does. After
+ * each event every core is polled, and has to be what the firmware says. */
 #include "pool.h"
 #include "psci.h"
 
@@ -16,9 +17,11 @@ enum place { STOPPED, STARTED, RUNNING };
 static struct core {
     enum place place;
     uint32_t number, cause;
+    uint64_t affinity;
 } cores[MOST_CORES];
 
 static struct psci_place place;
+static struct psci_poller poller;
 static unsigned many_cores;
 static uint32_t life, lives;
 static uint8_t messages[MOST_FRAMES][PSCI_FRAME_LEN], acks[MOST_FRAMES][PSCI_FRAME_LEN];
@@ -41,33 +44,62 @@ static uint32_t life_of(const uint8_t *frame) { return number_at(frame + 4, 4); 
 static uint32_t number_of(const uint8_t *frame) { return number_at(frame + 8, 4); }
 
 /* The boot core is started, and every other is stopped. */
+static void start(unsigned core, uint32_t number, uint32_t cause) {
+    cores[core].place = STARTED;
+    cores[core].number = number;
+    cores[core].cause = cause;
+}
+
+static void stop_all(void) {
+    for (unsigned core = 0; core < many_cores; core++)
+        cores[core].place = STOPPED;
+}
+
 static void begin_life(void) {
-    memset(cores, 0, sizeof cores);
-    cores[0] = (struct core){STARTED, 1, PSCI_BOOT};
+    stop_all();
+    start(0, 1, PSCI_BOOT);
     life++;
 }
 
-static void start(unsigned core, uint32_t number, uint32_t cause) {
-    cores[core] = (struct core){STARTED, number, cause};
+/* Each number of the tree is a cluster of so many cores. Within the inner brackets clusters count
+ * anew for each group. */
+static void read_cores(const char *tree) {
+    uint64_t group = 0, cluster = 0;
+    for (int depth = 0; *tree && strncmp(tree, " exec", 5) != 0; tree++) {
+        if (*tree == '(' && ++depth == 2)
+            cluster = 0;
+        if (*tree == ')' && depth-- == 2)
+            group++;
+        if (*tree < '0' || *tree > '9')
+            continue;
+        uint64_t many = strtoul(tree, (char **)&tree, 10);
+        for (uint64_t core = 0; core < many; core++)
+            cores[many_cores++].affinity = group << 16 | cluster << 8 | core;
+        cluster++;
+        tree--;
+    }
 }
 
-/* Cores are counted as the tree has numbers that are no lists. */
-static unsigned count_cores(const char *tree) {
-    unsigned count = 0;
-    for (; *tree && strncmp(tree, " exec", 5) != 0; tree++)
-        if (*tree >= '0' && *tree <= '9')
-            count += strtoul(tree, (char **)&tree, 10), tree--;
-    return count;
+/* What is polled of each core is what the firmware says of it, OFF before any has entered. */
+static void poll_all(void) {
+    for (unsigned core = 0; core < many_cores; core++) {
+        uint32_t said = psci_status(&place, 0, core);
+        if (psci_poll(&poller, cores[core].affinity) != (said == PSCI_NO_LIFE ? 1 : (int32_t)said))
+            fail("a poll is not what the firmware says");
+    }
 }
 
 static void open_board(const char *text) {
-    many_cores = count_cores(text);
+    read_cores(text);
     lives = strtoul(strstr(text, " lives ") + 7, NULL, 10);
     size_t size = pool_size(many_cores);
     pool_give(malloc(size), size);
     if (psci_open(&place, (const uint8_t *)text, strlen(text)) != PSCI_OPENED)
         fail("the board did not open");
+    if (psci_open_poller(&place, &poller) != PSCI_OPENED)
+        fail("the poller did not open");
     begin_life();
+    poll_all();
 }
 
 /* The message of an answer: it is kept, and follows the answer in its line. */
@@ -143,7 +175,7 @@ static void carried_out(const uint8_t *message, unsigned applied) {
     if (message[2] == 4 && life < lives) {
         begin_life();
     } else if (message[2] >= 3) {
-        memset(cores, 0, sizeof cores);
+        stop_all();
     }
 }
 
@@ -190,6 +222,7 @@ static void event(char *line, const char *said) {
     else
         kick(number, *line == 'w' ? PSCI_WAKE : PSCI_RESET, said);
     putchar('\n');
+    poll_all();
 }
 
 int main(int count, char **words) {
@@ -211,5 +244,6 @@ int main(int count, char **words) {
         }
     }
     psci_close(&place);
+    psci_close_poller(&poller);
     return 0;
 }

@@ -19,7 +19,7 @@ build_archive() {
 
 # build_c NAME SOURCE: a C program over the archive and the pool
 build_c() {
-    cc -std=c11 -O2 -Wall -Wextra -Werror -Iinclude -Ihosts -o "$work/$1" "$2" \
+    cc -std=c11 -O2 -pthread -Wall -Wextra -Werror -Iinclude -Ihosts -o "$work/$1" "$2" \
         hosts/pool.c "$archive" > "$work/err" 2>&1 || { fail "$2"; head -n 20 "$work/err"; false; }
 }
 

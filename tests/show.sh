@@ -4,31 +4,63 @@
 # show WORD..: shows the script on standard input
 show() { run show "$@"; }
 
-# the stored examples in words, as wide as asked, and the legend
+# the stored texts of tests/shown/: what is written of a script, in words, in color and as JSON; and
+# each text that psci_show has stands in one of them
 shown() {
-    local file name
-    for file in examples/{late-acknowledgement,wake-overtakes-down,os-initiated-refusals}.psci \
-        tests/scripts/calls/hw-standby.psci; do
-        name=$(basename "$file" .psci)
-        show < "$file"
-        cp "tests/shown/$name.txt" "$work/lines"
-        expect "show $name" 0
-        answers "show $name"
-    done
-    show --width 120 --legend < examples/three-levels.psci
-    cp tests/shown/three-levels-wide.txt "$work/lines"
-    expect "show --width 120 --legend" 0
-    answers "show --width 120 --legend"
-    show --width 60 < examples/three-levels.psci
-    cp tests/shown/three-levels-narrow.txt "$work/lines"
-    expect "show --width 60" 0
-    answers "show --width 60"
+    local name script words
+    while read -r name script words; do
+        # shellcheck disable=SC2086
+        show $words < "$script.psci"
+        cp "tests/shown/$name" "$work/lines"
+        expect "show $words < $script" 0
+        answers "show $words < $script"
+    done << 'END'
+late-acknowledgement.txt examples/late-acknowledgement
+half-of-the-line.txt examples/late-acknowledgement --width 72
+more-than-half.txt examples/late-acknowledgement --width 71
+wake-overtakes-down.txt examples/wake-overtakes-down
+message-delivered-twice.txt examples/message-delivered-twice
+os-initiated-refusals.txt examples/os-initiated-refusals
+linux-boot.txt examples/linux/boot
+three-levels-wide.txt examples/three-levels --width 120 --legend
+three-levels-narrow.txt examples/three-levels --width 60
+cpu-on-refusals.txt tests/scripts/calls/cpu-on-refusals
+hw-standby.txt tests/scripts/calls/hw-standby
+hw-start-of-life.txt tests/scripts/calls/hw-start-of-life
+start-delivered-three-times.txt tests/scripts/calls/start-delivered-three-times
+unknown-function.txt tests/scripts/calls/unknown-function-stopped-core-no-core
+nothing-after-system-off.txt tests/scripts/system/nothing-after-system-off --width 40
+system-reset2.txt tests/scripts/system/system-reset2
+two-starts-a-life.txt tests/scripts/lives/two-starts-a-life
+retention-colored.txt tests/scripts/suspend/retention-woken-and-reset --color always
+one-level-colored.txt tests/scripts/suspend/one-level-sleeps-and-wakes --color always
+retention.json tests/scripts/suspend/retention-woken-and-reset --json
+extended-in-the-next-life.json tests/scripts/suspend/extended-in-the-next-life --json
+message-delivered-twice.json examples/message-delivered-twice --json
+suspend-mode-pending-core.json tests/scripts/os-initiated/suspend-mode-pending-core --json
+END
+    if has_python tests/words-shown; then
+        if tests/words-shown > "$work/out"; then pass; else
+            fail "tests/words-shown"
+            head -n 20 "$work/out"
+        fi
+    fi
+    shown_colors
+    shown_ends
+}
+
+# color changes nothing but colors
+shown_colors() {
     show --color always < examples/late-acknowledgement.psci
     sed 's/\x1b\[[0-9]*m//g' "$work/out" > "$work/plain"
     if ! cmp -s "$work/plain" "$work/out"; then pass; else fail "show --color always without a color"; fi
     cp "$work/plain" "$work/out"
     cp tests/shown/late-acknowledgement.txt "$work/lines"
     answers "show --color always"
+}
+
+# how narrow a line may be, and how a script ends
+shown_ends() {
     show --width 40 < examples/three-levels.psci
     cp "$work/out" "$work/lines"
     show --width 7 < examples/three-levels.psci
@@ -40,6 +72,8 @@ shown() {
     printf '%s\nenter 0\nenter 1 2\n' "$board" > "$work/script"
     show < "$work/script"
     expect "show at a faulty line" 3 "line 3: script fault 2"
+    echo "   1  R  0   core 0 enters -> enters at 0x0 with context 0x0" > "$work/lines"
+    answers "show before a faulty line"
     show < /dev/null
     expect "show of an empty script" 3 "line 1: script fault 1"
 }

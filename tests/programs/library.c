@@ -5,6 +5,8 @@
 #include "pool.h"
 #include "psci.h"
 
+#include <pthread.h>
+#include <stdatomic.h>
 #include <stdio.h>
 #include <stdlib.h>
 #include <string.h>
@@ -47,11 +49,14 @@ static void on_painted(void (*call)(void)) {
 static struct { uint64_t before; struct psci_place it; uint64_t after; } place;
 static struct { uint64_t before; struct psci_answer it; uint64_t after; } answer;
 static struct { uint64_t before; struct psci_frame it; unsigned char after[8]; } frame;
+static struct { uint64_t before; struct psci_poller it; uint64_t after; } poller;
 static const char *text;
 static uint16_t core;
 static uint64_t x[4];
 static uint32_t life, number, cause, code;
 static size_t length;
+static uint64_t affinity;
+static int32_t polled;
 
 static void do_open(void) {
     code = psci_open(&place.it, (const uint8_t *)text, strlen(text));
@@ -61,6 +66,9 @@ static void do_smc(void) { psci_smc(&place.it, core, x[0], x[1], x[2], x[3], &an
 static void do_enter(void) { psci_enter(&place.it, core, life, number, cause, &answer.it); }
 static void do_take(void) { code = psci_take(&place.it, frame.it.bytes, length); }
 static void do_outstanding(void) { psci_outstanding(&place.it, core, &frame.it); }
+static void do_open_poller(void) { code = psci_open_poller(&place.it, &poller.it); }
+static void do_close_poller(void) { psci_close_poller(&poller.it); }
+static void do_poll(void) { polled = psci_poll(&poller.it, affinity); }
 static void do_read(void) {
     psci_life(&place.it);
     psci_halting(&place.it);
@@ -73,10 +81,13 @@ static void do_read(void) {
 
 static void make(void (*call)(void)) {
     place.before = place.after = answer.before = answer.after = frame.before = 0x1122334455667788;
+    poller.before = poller.after = 0x1122334455667788;
     memset(frame.after, PAINT, sizeof frame.after);
     on_painted(call);
     want("what stands round a place", 1, place.before == 0x1122334455667788
         && place.after == 0x1122334455667788);
+    want("what stands round a poller", 1, poller.before == 0x1122334455667788
+        && poller.after == 0x1122334455667788);
     want("what stands round an answer", 1, answer.before == 0x1122334455667788
         && answer.after == 0x1122334455667788);
     want("what stands round a frame", 1, frame.before == 0x1122334455667788
@@ -110,6 +121,17 @@ static uint32_t take_changed(size_t at, uint8_t byte, size_t bytes) {
     length = bytes;
     make(do_take);
     return code;
+}
+
+static uint32_t open_poller(void) {
+    make(do_open_poller);
+    return code;
+}
+
+static int32_t poll_core(uint64_t word) {
+    affinity = word;
+    make(do_poll);
+    return polled;
 }
 
 /* The tests ---------------------------------------------------------------------------------- */
@@ -222,6 +244,99 @@ static void refusals(void) {
     want("old", PSCI_OLD, take_changed(12, 1, PSCI_FRAME_LEN));
 }
 
+/* A poller tells of the firmware that it was opened for, until it is opened anew or closed. */
+static void pollers(void) {
+    want("no firmware to poll", PSCI_NO_FIRMWARE, open_poller());
+    want("an empty poller", PSCI_NO_FIRMWARE, poll_core(0));
+    want("opened", PSCI_OPENED, open_text(small));
+    want("a poller", PSCI_OPENED, open_poller());
+    want("before any has entered", 1, poll_core(0));
+    want("no core", (uint32_t)-2, (uint32_t)poll_core(0x002));
+    want("no core, above", (uint32_t)-2, (uint32_t)poll_core(0x100000000));
+    enter(0, 1, 1, PSCI_BOOT);
+    want("the core that entered", 0, poll_core(0));
+    want("another one", 1, poll_core(0x101));
+    smc(0, 0xc4000003, 0x101, 0x40001000, 7);
+    want("asked on", 2, poll_core(0x101));
+    want("its neighbour", 1, poll_core(0x100));
+    enter(3, 1, 1, PSCI_ON);
+    want("entered", 0, poll_core(0x101));
+    smc(3, 0x84000002, 0, 0, 0);
+    want("going off", 0, poll_core(0x101));
+    want("used", PSCI_USED, take_changed(12, 2, PSCI_FRAME_LEN));
+    want("off", 1, poll_core(0x101));
+    smc(0, 0xc4000003, 0x001, 0x40001000, 7);
+    enter(3, 2, 1, PSCI_WAKE);
+    want("the boot core of the next life", 2, poll_core(0));
+    want("a core of the last life", 1, poll_core(0x001));
+    make(do_close);
+    want("its firmware was closed", 2, poll_core(0));
+    want("opened anew", PSCI_OPENED, open_text(small));
+    want("the firmware of before", 2, poll_core(0));
+    want("a poller of the new one", PSCI_OPENED, open_poller());
+    want("the new one", 1, poll_core(0));
+    make(do_close_poller);
+    want("closed", PSCI_NO_FIRMWARE, poll_core(0));
+    make(do_close_poller);
+    make(do_close);
+}
+
+/* Pollers are opened until memory lacks: the next one stays empty. Closed, they give it all back. */
+static void many_pollers(void) {
+    enum { MOST = 4096 };
+    static struct psci_poller many[MOST];
+    size_t opened = 0;
+    want("opened", PSCI_OPENED, open_text(small));
+    while (opened < MOST && psci_open_poller(&place.it, &many[opened]) == PSCI_OPENED)
+        opened++;
+    want("some are opened, and then memory lacks", 1, opened > 0 && opened < MOST);
+    want("no memory for it", PSCI_NO_MEMORY, psci_open_poller(&place.it, &many[opened]));
+    want("it is empty", PSCI_NO_FIRMWARE, psci_poll(&many[opened], 0));
+    want("no memory to open it anew", PSCI_NO_MEMORY, psci_open_poller(&place.it, &many[0]));
+    want("the one that was there", 1, psci_poll(&many[0], 0));
+    for (size_t i = 0; i < opened; i++)
+        psci_close_poller(&many[i]);
+    for (int i = 0; i < 1000; i++)
+        want("a poller again and again", PSCI_OPENED, open_poller());
+    make(do_close_poller);
+    make(do_close);
+}
+
+/* One thread polls while another calls: each poll is a status, and both of the last are told. */
+static atomic_bool done;
+static atomic_uint seen_by_polls;
+
+static void *keep_polling(void *its) {
+    while (!done) {
+        int32_t status = psci_poll(its, 0x101);
+        atomic_fetch_or(&seen_by_polls, status < 0 || status > 2 ? 8u : 1u << status);
+    }
+    return NULL;
+}
+
+static void polled_by_a_thread(void) {
+    struct psci_poller its = {0};
+    pthread_t thread;
+    want("opened", PSCI_OPENED, open_text("(2 2) exec 0x40000000-0x40100000 boot 0x40000000 "
+                                          "starts 1000000 lives 3"));
+    enter(0, 1, 1, PSCI_BOOT);
+    want("a poller", PSCI_OPENED, psci_open_poller(&place.it, &its));
+    if (pthread_create(&thread, NULL, keep_polling, &its))
+        return;
+    for (uint32_t start = 1; seen_by_polls != 7 && start < 1000000; start++) {
+        smc(0, 0xc4000003, 0x101, 0x40001000, 7);
+        enter(3, 1, start, PSCI_ON);
+        smc(3, 0x84000002, 0, 0, 0);
+        take_changed(12, 2, PSCI_FRAME_LEN);
+    }
+    done = true;
+    pthread_join(thread, NULL);
+    want("each status was polled, and nothing else", 7, seen_by_polls);
+    want("off in the end", 1, (uint32_t)psci_poll(&its, 0x101));
+    psci_close_poller(&its);
+    make(do_close);
+}
+
 /* The last core of the largest board comes and goes in each way. */
 static void largest_board(void) {
     want("opened", PSCI_OPENED, open_text(large));
@@ -258,6 +373,12 @@ int main(void) {
     faulty_texts();
     want("the firmware that was there", 1, psci_life(&place.it));
     make(do_close);
+    pool_give(memory, size);
+    pollers();
+    pool_give(memory, pool_size(4));
+    many_pollers();
+    pool_give(memory, size);
+    polled_by_a_thread();
     pool_give(memory, size);
     largest_board();
     printf("stack %zu\n", most_stack);

@@ -1,4 +1,5 @@
-/* The turns of main.rt.in through the C library: the words are the same. */
+/* The turns of main.rt.in through the C library: the words are the same. `poll` asks for the status of
+ * a core without the lock, `version` is PSCI_VERSION. */
 #include "pool.h"
 #include "psci.h"
 
@@ -10,6 +11,7 @@ enum { ENTRY = 0x40001000 };
 
 static struct psci_place firmware;
 static struct psci_answer answer;
+static struct psci_poller poller;
 
 /* A core calls: whether it was not refused. */
 static bool call(uint16_t core, uint64_t x0, uint64_t x1, uint64_t x2) {
@@ -57,6 +59,13 @@ static uint32_t ask(uint16_t last, uint64_t x0, uint64_t x1, uint64_t x2, uint32
     return done;
 }
 
+static uint32_t poll_core(uint64_t word, uint32_t turns) {
+    uint32_t done = 0;
+    for (uint32_t turn = 0; turn < turns; turn++)
+        done += psci_poll(&poller, word) == 0;
+    return done;
+}
+
 static uint32_t measured(uint16_t last, unsigned height, uint64_t word, const char *what,
                          uint32_t turns) {
     uint64_t state = height == 2 ? 0x02010333 : 0x03013333;
@@ -75,6 +84,10 @@ static uint32_t measured(uint16_t last, unsigned height, uint64_t word, const ch
     down(0, 1);
     if (strcmp(what, "core") == 0)
         return ask(last, 0xc4000004, word, 0, turns);
+    if (strcmp(what, "poll") == 0)
+        return poll_core(word, turns);
+    if (strcmp(what, "version") == 0)
+        return ask(last, 0x84000000, 0, 0, turns);
     if (strcmp(what, "system") == 0)
         return ask(last, 0xc4000004, 0, height, turns);
     return suspend(last, state, turns);
@@ -102,6 +115,8 @@ int main(int count, char **words) {
     int length = snprintf(text, sizeof text,
         "%s exec 0x40000000-0x40100000 boot 0x40000000 starts 4294967295 lives 3", words[1]);
     if (psci_open(&firmware, (const uint8_t *)text, (size_t)length) != PSCI_OPENED)
+        return 1;
+    if (psci_open_poller(&firmware, &poller) != PSCI_OPENED)
         return 1;
     uint16_t cores = cores_of(words[1]);
     unsigned height = height_of(words[1]);

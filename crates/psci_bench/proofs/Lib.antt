@@ -1,3 +1,3 @@
+pub mod Answers
 mod RunRows
 pub mod ScriptRuns
-pub mod UnderWay

@@ -1,191 +1,30 @@
--- Worked examples: the runs of known scripts, what a replay prints by its end, and what a line
--- leaves that is answered; and for each clause something that breaks it.
-use Rattle.std.proofs.Common.{◌≡◌, ℕ, zero, suc, ◌<◌, List, [], ◌∷◌, ◌++◌, length, reverse}
+-- Worked examples: the answer text of a run, and what a replay prints by its end; and for each
+-- clause something that breaks it.
+use Rattle.std.proofs.Common.{◌≡◌, ℕ, zero, suc, List, [], ◌∷◌, ◌++◌, length}
 use Rattle.std.proofs.Common.{Option, None, Some, Ok, Err, Result, refl, ap, arith}
 use Rattle.std.specs.Prelude.{codes}
 use Rattle.std.specs.Fmt.{digits}
-use Rattle.std.specs.Io.KnownBytes.{Appends, Consumes}
 use Rattle.psci_script.specs.psci_board.Board.{BoardValue}
 use Rattle.psci_script.specs.psci_board_text.declared.fault.BoardFault.TheVariants.{Grammar}
-use Rattle.psci_script.specs.psci_world_spec.psci_fw_spec.declared.outcome.Act.TheVariants as acts
-use Rattle.psci_script.specs.psci_world_spec.declared.event.Event.{Event}
-use Rattle.psci_script.specs.psci_world_spec.declared.event.Event.TheVariants.{Deliver, Enter}
 use Rattle.psci_script.specs.psci_world_spec.declared.event.Event.TheVariants.{Take, Wake}
-use Rattle.psci_script.specs.psci_world_spec.declared.said.Record.{Record}
-use Rattle.psci_script.specs.psci_world_spec.declared.said.Said.TheVariants.{Absent, Fw, Ignored}
-use Rattle.psci_script.specs.psci_world_spec.Histories.{sent}
-use Rattle.psci_script.specs.psci_world_spec.Legal.{IsLegalPast, run_from}
+use Rattle.psci_script.specs.psci_world_spec.declared.said.Said.TheVariants.{Absent, Ignored}
+use Rattle.psci_script.specs.psci_world_spec.Legal.{IsLegalPast}
 use Rattle.psci_script.specs.declared.fault.Replayed.{Replayed}
 use Rattle.psci_script.specs.declared.fault.ReplayFault.{ReplayFault}
 use Rattle.psci_script.specs.declared.fault.ReplayFault.TheVariants.{Script, Board, Read, Write}
 use Rattle.psci_script.specs.declared.fault.ReplayFault.TheVariants.{Memory}
 use Rattle.psci_script.specs.declared.fault.ScriptFault.TheVariants as faults
-use Rattle.psci_script.specs.declared.grammar.Line.TheVariants.{Blank, Event as Says}
-use Rattle.psci_script.specs.Line.{line_of, event_at, call_at, alone_at, register_at}
-use Rattle.psci_script.specs.Line.{optional_register_at}
-use Rattle.psci_script.specs.Lines.{lines}
-use Rattle.psci_script.specs.psci_text.Reading.{literal_at, number_at, hex_at, spaced_at}
-use Rattle.psci_script.specs.psci_board_text.Reading.{range_at, at_most, board_text}
-use Rattle.psci_script.specs.psci_board_text.Reading.{more_at, list_at, member_at, tree_at}
-use Rattle.psci_script.specs.psci_board_text.Verdict.{board_of, verdict}
-use Rattle.psci_script.specs.Script.{after_line, transcript, transcript_of_rest}
+use Rattle.psci_script.specs.Script.{transcript}
 use Rattle.psci_world.specs.Safe.{AlwaysSafe}
-use Rattle.psci_world.specs.Seen.{IsPresent, PresentValue}
-use Rattle.psci_world.proofs.world_spec.Scripts.{computing}
-use Rattle.psci_lines.specs.Answered.{Answered}
-use Rattle.psci_lines.specs.Progress.{Progress}
-use Rattle.psci_lines.specs.Run.{Follows}
-use Rattle.psci_bench.specs.ScriptRun.{AllSafe, IsSafeText, Prints, SaysRun, ScriptRun, WritesPart}
-use Rattle.psci_bench.specs.ScriptRun.{WritesRun, events_of, run_by, run_of, run_of_lines, run_on}
-use Rattle.psci_bench.specs.ScriptRun.{text_of, with_event}
-use Rattle.psci_bench.specs.UnderWay.{IsUnderWay, LineLeaves}
-
--- what an example unfolds to read a line that is written out
-unfoldable reading : Unit {0}
-unfolding line_of event_at call_at alone_at register_at optional_register_at spaced_at hex_at
-    number_at literal_at
-reading = tt
-
--- what an example unfolds to answer a script that is written out
-unfoldable answering : Unit {0}
-unfolding transcript transcript_of_rest lines reading board_of verdict board_text tree_at member_at
-    list_at more_at at_most range_at computing digits
-answering = tt
-
--- lines, each with its line feed
-abbrev text : List (List ℕ) → List ℕ
-text [] = []
-text (l ∷ ls) = l ++ 10 ∷ text ls
-
--- two clusters of two cores
-abbrev board : List ℕ
-board = codes "board (2 2) exec 0x40000000-0x40100000 boot 0x40000000 starts 1000 lives 3"
+use Rattle.psci_lines.specs.ScriptRun.{ScriptRun, run_of}
+use Rattle.psci_lines.proofs.ScriptRows.{answering, board, entered, text}
+use Rattle.psci_bench.specs.ScriptRun.{AllSafe, IsSafeText, Prints, SaysRun, WritesPart}
+use Rattle.psci_bench.specs.ScriptRun.{WritesRun, text_of}
 
 -- the first byte, or 0 of none
 abbrev first_or_0 : List ℕ → ℕ
 first_or_0 [] = 0
 first_or_0 (b ∷ bs) = b
-
--- Events ----------------------------------------------------------------------------------------
-
--- a fault ends the events, a blank line says none, and an event comes before those after it
-fault_says_nothing : with_event (Err faults.Line) (Enter 1 ∷ []) ≡ []
-fault_says_nothing = refl
-
-blank_says_nothing : with_event (Ok Blank) (Enter 1 ∷ []) ≡ Enter 1 ∷ []
-blank_says_nothing = refl
-
-event_comes_first : with_event (Ok (Says (Wake 2))) (Enter 1 ∷ []) ≡ Wake 2 ∷ Enter 1 ∷ []
-event_comes_first = refl
-
--- events around an empty line and a comment
-four_lines : events_of 1 (codes "enter 2" ∷ [] ∷ codes "# wake 3" ∷ codes "wake 1" ∷ [])
-    ≡ Enter 2 ∷ Wake 1 ∷ []
-unfolding events_of reading
-four_lines = refl
-
--- none of what follows a fault
-fault_between : events_of 4 (codes "take 2" ∷ codes "enter x" ∷ codes "enter 0" ∷ [])
-    ≡ Take 2 ∷ []
-unfolding events_of reading
-fault_between = refl
-
-no_lines : events_of 3 [] ≡ []
-unfolding events_of
-no_lines = refl
-
--- line 1,000,000 is the last one that may be there
-last_lines : events_of 999998 (codes "enter 1" ∷ codes "enter 2" ∷ codes "enter 3" ∷ [])
-    ≡ Enter 1 ∷ Enter 2 ∷ []
-unfolding events_of reading
-last_lines = refl
-
--- Runs ------------------------------------------------------------------------------------------
-
--- one core, and two groups of two clusters of one core
-abbrev one_core : List ℕ
-one_core = codes "1 exec 0x0-0x4 boot 0x0 starts 1 lives 1"
-
-abbrev tall : List ℕ
-tall = codes "((1 1) (1 1)) exec 0x40000000-0x40100000 boot 0x40000000 starts 9 lives 3"
-
--- the records of a run, if there is one, and its levels
-abbrev past_of : Option ScriptRun → Option (List Record)
-past_of None = None
-past_of (Some run) = Some run.past
-
-abbrev levels_of : Option ScriptRun → List (List ℕ)
-levels_of None = []
-levels_of (Some run) = run.board.levels
-
--- what is not there
-abbrev absent : Event → Record
-absent event = record { event = event; said = Absent }
-
--- a start at the boot address
-abbrev entered : ℕ → ℕ → Record
-entered c address = record { event = Enter c; said = Fw (acts.Enter address 0) None }
-
-no_board : run_on (Err Grammar) (codes "enter 0" ∷ []) ≡ None
-no_board = refl
-
--- a line after the board line is line 2, and those after it are counted on from there
-from_line_2 : (b : BoardValue) (ls : List (List ℕ)) → run_on (Ok b) ([] ∷ ls)
-    ≡ Some (record { board = b; past = run_from b [] (events_of 2 ls) })
-unfolding events_of reading
-from_line_2 b ls = refl
-
--- what is not there is absent, on every board; the newest record comes first
-two_absent : (b : BoardValue) → run_on (Ok b) (codes "deliver 4" ∷ codes "take 2" ∷ [])
-    ≡ Some (record {
-      board = b;
-      past = absent (Take 2) ∷ absent (Deliver 4) ∷ [];
-    })
-unfolding events_of answering
-two_absent b = refl
-
-faulty_first_line : run_by (Err faults.NoBoard) (codes "enter 0" ∷ []) ≡ None
-faulty_first_line = refl
-
-faulty_board : run_by (Ok (codes "(2 2)")) (codes "enter 0" ∷ []) ≡ None
-unfolding answering
-faulty_board = refl
-
--- the boot core enters once; core 1 is none
-run_of_one_core : past_of (run_by (Ok one_core)
-    (codes "enter 0" ∷ codes "enter 0" ∷ codes "enter 1" ∷ []))
-    ≡ Some (record { event = Enter 1; said = Absent } ∷ record { event = Enter 0; said = Ignored }
-    ∷ entered 0 0 ∷ [])
-unfolding events_of answering
-run_of_one_core = refl
-
-levels_of_one_core : levels_of (run_by (Ok one_core) []) ≡ (1 ∷ []) ∷ []
-unfolding events_of answering
-levels_of_one_core = refl
-
-nothing_at_all : run_of_lines [] ≡ None
-nothing_at_all = refl
-
-board_line_lacks : run_of_lines (codes "enter 0" ∷ board ∷ []) ≡ None
-unfolding answering
-board_line_lacks = refl
-
-levels_of_tall : levels_of (run_of_lines ((codes "board " ++ tall) ∷ []))
-    ≡ (1 ∷ 1 ∷ 1 ∷ 1 ∷ []) ∷ (2 ∷ 2 ∷ []) ∷ (2 ∷ []) ∷ []
-unfolding events_of answering
-levels_of_tall = refl
-
-empty_script : run_of [] ≡ None
-unfolding lines
-empty_script = refl
-
--- core 3 was not started, and there is no core 4; after the fault nothing happens
-run_of_a_script : past_of (run_of (text (board ∷ codes "enter 3" ∷ codes "enter 4" ∷
-    codes "enter 0" ∷ codes "call" ∷ codes "enter 3" ∷ [])))
-    ≡ Some (entered 0 0x40000000 ∷ record { event = Enter 4; said = Absent }
-    ∷ record { event = Enter 3; said = Ignored } ∷ [])
-unfolding events_of answering
-run_of_a_script = refl
 
 -- Texts -----------------------------------------------------------------------------------------
 
@@ -338,103 +177,3 @@ write_failed_otherwise (says, zero, to) =
     let e : ◌≡◌ {A = ℕ} 1 0 = ap length to in omega arith
 write_failed_otherwise (says, suc n, to) =
     let e : ◌≡◌ {A = ℕ} 55 49 = ap first_or_0 to in omega arith
-
--- Under way -------------------------------------------------------------------------------------
-
--- at most one record for each line
-a_record_too_many : (p : PresentValue) (count : ℕ) (first before : Option (List ℕ)) (s : Progress)
-    (k : IsUnderWay p count first before s) → count < length k.past → ⊥
-a_record_too_many p count first before s k more = omega (arith, more, k.few)
-
--- the present is that after these records
-other_messages : (p : PresentValue) (count : ℕ) (first before : Option (List ℕ)) (s : Progress)
-    (k : IsUnderWay p count first before s) → ¬ (p.messages ≡ reverse (sent k.past)) → ⊥
-other_messages p count first before s k differs = differs k.present.messages
-
--- and so many lines are answered by them, of those of this source
-lines_after : (p : PresentValue) (first before : Option (List ℕ)) (s : Progress)
-    (k : IsUnderWay p 7 first before s) (rest : List ℕ) → Follows s.block rest
-    → transcript (k.answered.whole ++ rest)
-    ≡ after_line (k.answered.written ++ s.answered.waiting)
-    (transcript_of_rest k.board k.past 7 (lines rest))
-lines_after p first before s k rest follows = k.answered.answers rest follows
-
-other_count : (p : PresentValue) (count : ℕ) (first before : Option (List ℕ)) (s : Progress)
-    (k : IsUnderWay p count first before s) → ¬ (s.answered.events ≡ length k.past) → ⊥
-other_count p count first before s k differs = differs k.answered.events
-
-from_the_source : (p : PresentValue) (count : ℕ) (first before : Option (List ℕ)) (s : Progress)
-    (k : IsUnderWay p count first before s)
-    → Consumes first s.left (k.answered.whole ++ s.block.unread)
-from_the_source p count first before s k = k.answered.from
-
-to_the_sink : (p : PresentValue) (count : ℕ) (first before : Option (List ℕ)) (s : Progress)
-    (k : IsUnderWay p count first before s) → Appends before s.taken k.answered.written
-to_the_sink p count first before s k = k.answered.to
-
--- A line ----------------------------------------------------------------------------------------
-
--- answers that wait: these bytes, and a count of all events
-abbrev answered : List ℕ → ℕ → Answered
-answered waiting events = record { waiting = waiting; events = events }
-
--- what is outside the grammar leaves nothing
-no_line : (b : BoardValue) (past : List Record) (p : PresentValue) (old new : Answered)
-    → LineLeaves None b past p old new → ⊥
-no_line b past p old new h = h
-
--- a blank line leaves all as it was
-blank_line : (b : BoardValue) (past : List Record) (p : PresentValue) (old : Answered)
-    → IsPresent b past p → LineLeaves (Some Blank) b past p old old
-blank_line b past p old is = (is, refl)
-
-blank_of_another_present : (b : BoardValue) (past : List Record) (p : PresentValue)
-    (old : Answered) → ¬ (IsPresent b past p) → LineLeaves (Some Blank) b past p old old → ⊥
-blank_of_another_present b past p old differs h = differs h.0
-
-blank_is_counted : (b : BoardValue) (past : List Record) (p : PresentValue)
-    → LineLeaves (Some Blank) b past p (answered [] 3) (answered [] 4) → ⊥
-blank_is_counted b past p h =
-    let e : ◌≡◌ {A = ℕ} 4 3 = ap (λ (a : Answered). a.events) h.1 in omega arith
-
-blank_is_answered : (b : BoardValue) (past : List Record) (p : PresentValue)
-    → LineLeaves (Some Blank) b past p (answered [] 3) (answered (55 ∷ []) 3) → ⊥
-blank_is_answered b past p h =
-    let e : ◌≡◌ {A = ℕ} 1 0 = ap (λ (a : Answered). length a.waiting) h.1 in omega arith
-
--- the message that is not there, and then the acknowledgement
-abbrev delivered : List Record
-delivered = record { event = Deliver 4; said = Absent } ∷ []
-
-abbrev taken : List Record
-taken = record { event = Take 2; said = Absent } ∷ delivered
-
-first_event : (b : BoardValue) (p : PresentValue) → IsPresent b delivered p
-    → LineLeaves (Some (Says (Deliver 4))) b [] p (answered (55 ∷ []) 0)
-    (answered (55 ∷ codes "1 absent\n") 1)
-unfolding answering
-first_event b p is = (is, refl)
-
--- an event has the number after those of the records, whatever was counted
-second_event : (b : BoardValue) (p : PresentValue) → IsPresent b taken p
-    → LineLeaves (Some (Says (Take 2))) b delivered p (answered [] 5)
-    (answered (codes "2 absent\n") 2)
-unfolding answering
-second_event b p is = (is, refl)
-
-event_without_a_record : (b : BoardValue) (p : PresentValue) (old new : Answered)
-    → ¬ (IsPresent b taken p) → LineLeaves (Some (Says (Take 2))) b delivered p old new → ⊥
-unfolding answering
-event_without_a_record b p old new differs h = differs h.0
-
-event_is_not_counted : (b : BoardValue) (p : PresentValue)
-    → LineLeaves (Some (Says (Take 2))) b delivered p (answered [] 1)
-    (answered (codes "2 absent\n") 1) → ⊥
-event_is_not_counted b p h =
-    let e : ◌≡◌ {A = ℕ} 1 2 = ap (λ (a : Answered). a.events) h.1 in omega arith
-
-event_is_not_answered : (b : BoardValue) (p : PresentValue)
-    → LineLeaves (Some (Says (Take 2))) b delivered p (answered [] 1) (answered [] 2) → ⊥
-unfolding answering
-event_is_not_answered b p h =
-    let e : ◌≡◌ {A = ℕ} 0 9 = ap (λ (a : Answered). length a.waiting) h.1 in omega arith

@@ -22,8 +22,8 @@ use Rattle.psci_script.specs.Script.{board_line, line_said, transcript, transcri
 use Rattle.psci_script.specs.Script.{transcript_of_first, transcript_of_line, transcript_of_lines}
 use Rattle.psci_script.specs.Script.{Transcript, transcript_of_rest}
 use Rattle.psci_lines.specs.Run.{WritesAnswers, AnswersPart, Replays}
-use Rattle.psci_bench.specs.ScriptRun.{AllSafe, Prints, SaysRun, WritesPart, WritesRun, events_of}
-use Rattle.psci_bench.specs.ScriptRun.{run_by, run_of_lines, run_on, text_of, with_event}
+use Rattle.psci_lines.specs.ScriptRun.{events_of, run_by, run_of_lines, run_on, with_event}
+use Rattle.psci_bench.specs.ScriptRun.{AllSafe, Prints, SaysRun, WritesPart, WritesRun, text_of}
 use Rattle.psci_script.specs.Text.{answer_line}
 
 -- what a line says is answered as its event happens, and then the lines after it
@@ -41,7 +41,7 @@ line_text b past number (Ok (Says event)) rest events h =
     (rest (legal_record b past event ∷ past)).text)
     ∙ h (legal_record b past event ∷ past)
 
-rest_text : (b : BoardValue) (past : List Record) (count : ℕ) (ls : List (List ℕ))
+pub rest_text : (b : BoardValue) (past : List Record) (count : ℕ) (ls : List (List ℕ))
     → text_of past ++ (transcript_of_rest b past count ls).text
     ≡ text_of (run_from b past (events_of count ls))
 unfolding transcript_of_rest events_of run_from

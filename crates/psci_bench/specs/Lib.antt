@@ -1,2 +1,1 @@
 pub mod ScriptRun
-pub mod UnderWay

@@ -1,63 +1,27 @@
--- The run of a script: what its answer lines say of the world.
+-- What the answer lines of a script's run say of the world.
 use Rattle.std.specs.Prelude.{◌≡◌, ℕ, ◌+◌, List, [], ◌∷◌, ◌++◌, length, Option, None, Some, Result}
 use Rattle.std.specs.Prelude.{Ok, Err, IfSome, take}
 use Rattle.std.specs.Io.KnownBytes.{Appends}
-use Rattle.psci_script.specs.psci_board.Board.{BoardValue}
-use Rattle.psci_script.specs.psci_board_text.Verdict.{board_of}
-use Rattle.psci_script.specs.psci_board_text.declared.fault.BoardFault.{BoardFault}
 use Rattle.psci_world.specs.Safe.{AlwaysSafe}
-use Rattle.psci_script.specs.psci_world_spec.declared.event.Event.{Event}
 use Rattle.psci_script.specs.psci_world_spec.declared.said.Record.{Record}
-use Rattle.psci_script.specs.psci_world_spec.Legal.{IsLegalPast, run_from}
+use Rattle.psci_script.specs.psci_world_spec.Legal.{IsLegalPast}
 use Rattle.psci_script.specs.declared.fault.Replayed.{Replayed}
 use Rattle.psci_script.specs.declared.fault.ReplayFault.{ReplayFault}
 use Rattle.psci_script.specs.declared.fault.ReplayFault.TheVariants.{Script, Board, Read, Write}
 use Rattle.psci_script.specs.declared.fault.ReplayFault.TheVariants.{Memory}
-use Rattle.psci_script.specs.declared.fault.ScriptFault.{ScriptFault}
-use Rattle.psci_script.specs.declared.grammar.Line.{Line as LineSays}
-use Rattle.psci_script.specs.declared.grammar.Line.TheVariants.{Blank, Event as Says}
-use Rattle.psci_script.specs.Lines.{lines}
-use Rattle.psci_script.specs.Script.{board_line, line_said, transcript}
+use Rattle.psci_script.specs.Script.{transcript}
 use Rattle.psci_script.specs.Text.{answer_line}
-
--- The run of a script: its board, and the records of its events, the newest first.
-pub record ScriptRun : Type 0 where
-  pub board : BoardValue
-  pub past : List Record
-
--- what a line says, before the events that the lines after it say
-abbrev pub with_event : Result LineSays ScriptFault → List Event → List Event
-with_event (Err fault) rest = []
-with_event (Ok Blank) rest = rest
-with_event (Ok (Says event)) rest = event ∷ rest
-
--- the events that the lines after the first so many ones say, up to the first fault
-unfoldable pub events_of : ℕ → List (List ℕ) → List Event
-events_of count [] = []
-events_of count (l ∷ ls) = with_event (line_said (count + 1) l) (events_of (count + 1) ls)
-
--- the run of these lines in the world of a board
-abbrev pub run_on : Result BoardValue BoardFault → List (List ℕ) → Option ScriptRun
-run_on (Err fault) ls = None
-run_on (Ok b) ls = Some (record { board = b; past = run_from b [] (events_of 1 ls) })
-
--- the same, by the board text of the first line
-abbrev pub run_by : Result (List ℕ) ScriptFault → List (List ℕ) → Option ScriptRun
-run_by (Err fault) ls = None
-run_by (Ok text) ls = run_on (board_of text) ls
-
-abbrev pub run_of_lines : List (List ℕ) → Option ScriptRun
-run_of_lines [] = None
-run_of_lines (l ∷ ls) = run_by (board_line l) ls
-
--- the run of the bytes of a script, if it has a board
-abbrev pub run_of : List ℕ → Option ScriptRun
-run_of bytes = run_of_lines (lines bytes)
+use Rattle.psci_lines.specs.ScriptRun.{ScriptRun, run_of}
 
 -- the answer lines of records, the oldest first
 abbrev pub text_of : List Record → List ℕ
 text_of [] = []
 text_of (r ∷ past) = text_of past ++ answer_line (length past + 1) r.said
+
+-- what is told of a run in a replay: its answer lines, and nothing before there is a board
+abbrev pub AnswersRun : Option ScriptRun → List ℕ → Type 0
+AnswersRun None text = text ≡ []
+AnswersRun (Some run) text = text ≡ text_of run.past
 
 -- The answer text of a script is that of its run, which is legal, and safe at every moment.
 pub record IsSafeText (answers : List ℕ) (run : ScriptRun) : Type 0 where

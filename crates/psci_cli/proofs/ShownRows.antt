@@ -1,7 +1,7 @@
 -- The forms in which scripts are shown.
 use Rattle.std.proofs.Common.{◌≡◌, true, false, None, Some, refl}
 use Rattle.psci_command.specs.declared.requests.Color.TheVariants.{Always, Auto, Never}
-use Rattle.psci_shown.specs.declared.form.Form.TheVariants.{Json, Lines}
+use Rattle.psci_show.specs.declared.form.Form.TheVariants.{Json, Lines}
 use Rattle.psci_cli.specs.Shown.{form_of}
 
 plain : form_of (record { json = false; legend = false; width = None; color = Auto })

@@ -3,8 +3,8 @@ use Rattle.std.specs.Prelude.{Bool, true, false, if◌then◌else◌, unwrap_or}
 use Rattle.psci_command.specs.declared.requests.Color.{Color}
 use Rattle.psci_command.specs.declared.requests.Color.TheVariants.{Always}
 use Rattle.psci_command.specs.declared.requests.ShowRequest.{ShowRequest}
-use Rattle.psci_shown.specs.declared.form.Form.{Form}
-use Rattle.psci_shown.specs.declared.form.Form.TheVariants.{Json, Lines}
+use Rattle.psci_show.specs.declared.form.Form.{Form}
+use Rattle.psci_show.specs.declared.form.Form.TheVariants.{Json, Lines}
 
 -- there are colors: whether there is a terminal is not known, so only where they are always wanted
 abbrev pub is_colored : Color → Bool

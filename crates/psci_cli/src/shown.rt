@@ -6,7 +6,7 @@ ghost use Rattle.psci_cli.specs.Shown.{form_of};
 
 use psci_bench::Std;
 use psci_command::{Color, Failure, ShowRequest};
-use psci_shown::{Form, Layout, show};
+use psci_show::{Form, Layout, show};
 
 /// The columns of a line, where they are not given: the kit has nothing that asks a terminal.
 const WIDTH: u16 = 80;

@@ -20,7 +20,7 @@ use Rattle.std_heap.specs.contracts.GlobalAllocator.TheImpl.{ghosts, dict}
 use Rattle.std_heap.proofs.Global.TheLaws as heap
 use Rattle.psci_ffi.specs.contracts.held.Held as Inner
 use Rattle.psci_ffi.proofs.held.Held.TheLaws as inner
-use Rattle.psci_ffi.specs.contracts.slot.parts.Parts as Parts
+use Rattle.psci_ffi.specs.contracts.parts.Parts as Parts
 use Rattle.psci_ffi.specs.contracts.slot.Slot as Slot
 
 abbrev pub E : Bx

@@ -1,3 +1,5 @@
 pub mod AsBox
+pub mod AsPollerBox
 mod CodeRows
+pub mod Crossing
 pub mod Taking

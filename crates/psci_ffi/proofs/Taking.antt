@@ -3,7 +3,8 @@ use Rattle.std.proofs.Common.{◌≡◌, ◌∙◌, ap, ℕ}
 use mathlib.Core.Path.{subst}
 use Rattle.std.specs.Prelude.{Result, Ok, Err}
 use Rattle.psci_board.specs.Board.{BoardValue}
-use Rattle.psci_fw.specs.Seen.{FirmwareValue, seen}
+use Rattle.psci_fw.specs.Seen.{seen}
+use Rattle.psci_polled.specs.Polled.{IsWrittenFrom, PolledView}
 use Rattle.psci_fw_spec.specs.declared.call.FwCall.TheVariants as calls
 use Rattle.psci_fw_spec.specs.declared.reply.FwReply.{FwReply}
 use Rattle.psci_fw_spec.specs.declared.reply.FwReply.TheVariants as replies
@@ -57,17 +58,23 @@ unfolding answer
 taken-by b v a t said = ap reply_taken said
 
 -- an acknowledgement that the firmware took, and that was read
-pub is-taken : (f g : FirmwareValue) (ack a : AckValue) (t : Taken) (code : ℕ)
+pub is-taken : (f g : PolledView) (ack a : AckValue) (t : Taken) (code : ℕ)
     → ack ≡ a → code ≡ taken_code t
-    → replies.Taken t ≡ answer f.board (seen f) 0 (calls.Take ack)
-    → seen g ≡ after f.board 0 (calls.Take ack) (replies.Taken t) (seen f)
-    → g.board ≡ f.board → IsTaken a code f g
-is-taken f g ack a t code same number said left board =
-    let taken = taken-by f.board (seen f) ack t said ∙ ap (taken_by (seen f)) same in
+    → replies.Taken t ≡ answer f.firmware.board (seen f.firmware) 0 (calls.Take ack)
+    → seen g.firmware
+    ≡ after f.firmware.board 0 (calls.Take ack) (replies.Taken t) (seen f.firmware)
+    → g.firmware.board ≡ f.firmware.board → g.table ≡ f.table → IsWrittenFrom f g
+    → IsTaken a code f g
+is-taken f g ack a t code same number said left board kept wrote =
+    let b = f.firmware.board in
+    let v = seen f.firmware in
+    let taken = taken-by b v ack t said ∙ ap (taken_by v) same in
     record {
       answer = number ∙ ap taken_code taken;
       after = left
-          ∙ (ap (λ x. after f.board 0 (calls.Take x) (replies.Taken t) (seen f)) same
-          ∙ ap (λ r. after f.board 0 (calls.Take a) (replies.Taken r) (seen f)) taken);
+          ∙ (ap (λ x. after b 0 (calls.Take x) (replies.Taken t) v) same
+          ∙ ap (λ r. after b 0 (calls.Take a) (replies.Taken r) v) taken);
       board = board;
+      table = kept;
+      written = wrote;
     }

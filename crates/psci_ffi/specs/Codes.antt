@@ -35,6 +35,10 @@ opened_said code =
 abbrev pub no_firmware : ℕ
 no_firmware = 16
 
+-- memory lacks
+abbrev pub no_memory : ℕ
+no_memory = 8
+
 -- why the firmware refuses a call
 abbrev pub refusal : FwFault → ℕ
 refusal NoCore = 17

@@ -12,39 +12,39 @@ use Rattle.psci_ffi.specs.Slot.{Kept}
 -- the life, 0 before any core has entered
 abbrev pub life_read : Kept → ℕ
 life_read None = 0
-life_read (Some f) = (seen f).life
+life_read (Some f) = (seen f.firmware).life
 
 -- whether the life is halting
 abbrev pub halting_read : Kept → Bool
 halting_read None = false
-halting_read (Some f) = (seen f).halting
+halting_read (Some f) = (seen f.firmware).halting
 
 -- the status of a core or power domain
 abbrev pub status_read : Kept → Node → ℕ
 status_read None node = no_firmware
-status_read (Some f) node = status_code (status_shown f node)
+status_read (Some f) node = status_code (status_shown f.firmware node)
 
 -- the granted depth of a power domain
 abbrev pub granted_read : Kept → Node → ℕ
 granted_read None node = 0
-granted_read (Some f) node = (seen f).granted node.level node.place
+granted_read (Some f) node = (seen f.firmware).granted node.level node.place
 
 -- the hardware state of a core or power domain
 abbrev pub hw_read : Kept → Node → ℕ
 hw_read None node = no_firmware
-hw_read (Some f) node = hw_number (hw_shown f node)
+hw_read (Some f) node = hw_number (hw_shown f.firmware node)
 
 -- the known start of a core
 abbrev pub known_read : Kept → ℕ → ℕ
 known_read None core = 0
-known_read (Some f) core = (seen f).known core
+known_read (Some f) core = (seen f.firmware).known core
 
 -- whether a core may call a function
 abbrev pub running_read : Kept → ℕ → Bool
 running_read None core = false
-running_read (Some f) core = is_running ((seen f).phase core)
+running_read (Some f) core = is_running ((seen f.firmware).phase core)
 
 -- the outstanding message of a core, or of the system at the number of cores
 abbrev pub outstanding_read : Kept → ℕ → SomeFrame
 outstanding_read None number = no_frame
-outstanding_read (Some f) number = frame_shown (message_shown f.board (seen f) number)
+outstanding_read (Some f) number = frame_shown (message_shown f.firmware.board (seen f.firmware) number)

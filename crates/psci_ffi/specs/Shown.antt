@@ -1,16 +1,17 @@
 -- What C is told, and what a call leaves in a place.
 use Rattle.std.specs.Prelude.{◌≡◌, ℕ, true, false, pos, Option, None, Some}
-use Rattle.std.specs.Prelude.{Result, Ok, Err, IsOk, IsSomeAnd, option_map, replicate}
-use Rattle.psci_board.specs.Board.{BoardValue}
+use Rattle.std.specs.Prelude.{[], ◌∷◌, Result, Ok, Err, IsOk, IsSomeAnd, option_map, replicate}
+use Rattle.psci_board.specs.Board.{BoardValue, cores}
 use Rattle.psci_board_text.specs.declared.fault.BoardFault.{BoardFault}
 use Rattle.psci_board_text.specs.declared.fault.BoardFault.TheVariants.{Memory}
-use Rattle.psci_fw.specs.Seen.{FirmwareValue, seen}
+use Rattle.psci_fw.specs.Seen.{seen}
 use Rattle.psci_fw_spec.specs.declared.call.FwCall.{FwCall}
 use Rattle.psci_fw_spec.specs.declared.call.FwCall.TheVariants as calls
 use Rattle.psci_fw_spec.specs.declared.outcome.Act.{Act}
 use Rattle.psci_fw_spec.specs.declared.outcome.Act.TheVariants.{Return, Stop, Enter, Resume}
 use Rattle.psci_fw_spec.specs.declared.reply.FwReply.{FwReply}
 use Rattle.psci_fw_spec.specs.declared.reply.FwReply.TheVariants.{Out, Taken, Fault}
+use Rattle.psci_fw_spec.specs.declared.status.Status.TheVariants.{Off}
 use Rattle.psci_fw_spec.specs.After.{after}
 use Rattle.psci_fw_spec.specs.Answer.{answer}
 use Rattle.psci_fw_spec.specs.Lives.{start_of_life}
@@ -20,6 +21,7 @@ use Rattle.psci_messages.specs.Message.{MessageValue}
 use Rattle.psci_ffi.specs.declared.answer.Answer.{Answer}
 use Rattle.psci_ffi.specs.declared.answer.SomeFrame.{SomeFrame}
 use Rattle.psci_ffi.specs.Codes.{cause_said, no_cause, no_firmware, refusal}
+use Rattle.psci_polled.specs.Polled.{IsWrittenFrom, PolledView}
 use Rattle.psci_ffi.specs.Slot.{Kept}
 
 -- Answers --------------------------------------------------------------------------------------
@@ -69,12 +71,15 @@ start_called life number cause =
 abbrev pub answered : Kept → ℕ → Option FwCall → Answer
 answered k c None = refused no_cause
 answered None c (Some call) = refused no_firmware
-answered (Some f) c (Some call) = shown (answer f.board (seen f) c call)
+answered (Some f) c (Some call) = shown (answer f.firmware.board (seen f.firmware) c call)
 
--- the firmware after a call is this
-pub record IsNext (f : FirmwareValue) (c : ℕ) (call : FwCall) (g : FirmwareValue) : Type 0 where
-  pub board : g.board ≡ f.board
-  pub values : seen g ≡ after f.board c call (answer f.board (seen f) c call) (seen f)
+-- the firmware after a call is this, and what the call changed of the statuses is written
+pub record IsNext (f : PolledView) (c : ℕ) (call : FwCall) (g : PolledView) : Type 0 where
+  pub board : g.firmware.board ≡ f.firmware.board
+  pub values : seen g.firmware ≡ after f.firmware.board c call
+      (answer f.firmware.board (seen f.firmware) c call) (seen f.firmware)
+  pub table : g.table ≡ f.table
+  pub written : IsWrittenFrom f g
 
 -- what a call leaves in a place
 abbrev pub IsAfter : Kept → ℕ → Option FwCall → Kept → Type 0
@@ -93,14 +98,15 @@ abbrev pub IsSameRefused : Kept → ℕ → Option FwCall → Kept → Type 0
 IsSameRefused k c None left = left ≡ k
 IsSameRefused None c (Some call) left = left ≡ None
 IsSameRefused (Some f) c (Some call) left =
-    IsSameIf (answer f.board (seen f) c call) (Some f) left
+    IsSameIf (answer f.firmware.board (seen f.firmware) c call) (Some f) left
 
 -- Opening --------------------------------------------------------------------------------------
 
--- the firmware of this board, before any core has entered
-pub record IsNew (b : BoardValue) (f : FirmwareValue) : Type 0 where
-  pub board : f.board ≡ b
-  pub values : seen f ≡ start_of_life b 0
+-- the firmware of this board, before any core has entered: OFF was written of each core
+pub record IsNew (b : BoardValue) (f : PolledView) : Type 0 where
+  pub board : f.firmware.board ≡ b
+  pub values : seen f.firmware ≡ start_of_life b 0
+  pub written : f.written ≡ replicate (cores b) (Off ∷ [])
 
 -- the place has the new firmware of the board of this text
 abbrev pub IsOpened : Result BoardValue BoardFault → Kept → Type 0

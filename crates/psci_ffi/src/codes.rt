@@ -11,6 +11,9 @@ use psci_link::FrameFault;
 /// There is no firmware in the place.
 pub const NO_FIRMWARE: u32 = 16;
 
+/// Memory lacks.
+pub const NO_MEMORY: u32 = 8;
+
 /// A start has no such cause.
 pub const NO_CAUSE: u32 = 21;
 

@@ -1,76 +1,96 @@
-//! What is in a place: a firmware, with the board that frames are read on.
+//! What is in a place: a firmware with its status words, and the board that frames are read on.
 
+use crate::common::Common;
 use psci_board::{Board, Core, Memory, Node};
-use psci_fw::{Cause, Firmware, FwFault, Hw, Outcome, Regs, Start, Status};
+use psci_fw::{Cause, FwFault, Hw, Outcome, Regs, Start, Status, Taken};
 use psci_link::{Frame, decode};
-use psci_messages::Message;
+use psci_messages::{Ack, Message};
+use psci_polled::{PolledFirmware, Reader};
 use std::alloc::Global;
 use std::marker::Model;
+use std::sync::Arc;
 
-/// A firmware and its board. Contracts see the firmware.
+/// A firmware, and what it shares with those who poll. Contracts see the firmware, the table of its
+/// status words and what was written of each core.
 #[derive(Drop)]
 pub struct Held {
-    board: Board,
-    firmware: Firmware,
+    common: Arc<Common>,
+    polled: PolledFirmware,
 }
 
 impl Model for Held {
     ghost use Rattle.std.specs.Prelude.{◌≡◌};
-    ghost use Rattle.psci_fw.specs.Seen.{FirmwareValue};
+    ghost use Rattle.std.specs.Arc.{arc_value};
+    ghost use Rattle.psci_polled.specs.Polled.{PolledView};
+    ghost use Rattle.psci_status.specs.Seats.{table};
 
-    ghost Value = { FirmwareValue };
+    ghost Value = { PolledView };
 
-    ghost view = { λ h. h.firmware };
+    ghost view = { λ h. h.polled };
 
-    ghost invariant = { λ h. h.board ≡ h.firmware.board };
+    ghost invariant = { λ h. ((arc_value h.common).board ≡ h.polled.firmware.board)
+        × (table (arc_value h.common).words ≡ h.polled.table) };
 }
 
-ghost use Rattle.std.specs.Prelude.{◌≡◌, IfOk, OnErr, option_map};
+ghost use Rattle.std.specs.Prelude.{◌≡◌, ℕ, IfOk, OnErr, option_map};
 ghost use Rattle.psci_fw.specs.Seen.{hw_shown, life_shown, seen, status_shown};
 ghost use Rattle.psci_fw_spec.specs.After.{after};
 ghost use Rattle.psci_fw_spec.specs.Answer.{answer, reply_of};
-ghost use Rattle.psci_fw_spec.specs.Lives.{start_of_life};
 ghost use Rattle.psci_fw_spec.specs.Phases.{is_running};
 ghost use Rattle.psci_fw_spec.specs.declared.call.FwCall.TheVariants as calls;
+ghost use Rattle.psci_fw_spec.specs.declared.reply.FwReply.TheVariants as replies;
 ghost use Rattle.psci_fw_state.specs.Seen.{message_shown};
 ghost use Rattle.psci_messages.specs.Message.{AckValue, MessageValue};
+ghost use Rattle.psci_polled.specs.Polled.{IsWrittenFrom};
+ghost use Rattle.psci_status.specs.Seats.{table, table_of_reader, seen as seen_by};
+ghost use Rattle.psci_status.specs.Lists.{newest};
 ghost use Rattle.psci_ffi.specs.Frames.{IsAcknowledged, IsFaulty, IsMisplaced};
+ghost use Rattle.psci_ffi.specs.Shown.{IsNew};
+ghost use Rattle.psci_ffi.specs.Watching.{IsWatchOf};
 
 use crate::codes::{NOT_AN_ACK, frame_code, taken_code};
+use crate::watch::Watch;
 
 impl Held {
     /// A new firmware of this board.
+    #[inline(never)]
     pub fn new(alloc: Global, board: Board) -> Result<Held, Memory>
-        ensures board { IfOk result (λ f. f.board ≡ board) }
-        ensures values { IfOk result (λ f. seen f ≡ start_of_life board 0) }
+        ensures { IfOk result (λ f. IsNew board f) }
     {
-        let firmware = Firmware::new(alloc, &board)?;
-        Ok(Held { board, firmware })
+        let (polled, words) = PolledFirmware::new(alloc, &board)?;
+        let common = Arc::new(alloc, Common { board, words })?;
+        Ok(Held { common, polled })
     }
 
     /// `Firmware::smc`.
     pub fn smc(&mut self, core: Core, regs: Regs) -> Result<Outcome, FwFault>
         ensures answer { reply_of result
-            ≡ answer self.old.board (seen self.old) core.number (calls.Smc regs) }
-        ensures after { seen self.new
-            ≡ after self.old.board core.number (calls.Smc regs) (reply_of result) (seen self.old) }
-        ensures board { self.new.board ≡ self.old.board }
+            ≡ answer self.old.firmware.board (seen self.old.firmware) core.number (calls.Smc regs) }
+        ensures after { seen self.new.firmware
+            ≡ after self.old.firmware.board core.number (calls.Smc regs) (reply_of result) (seen self.old.firmware) }
+        ensures board { self.new.firmware.board ≡ self.old.firmware.board }
+        ensures table { self.new.table ≡ self.old.table }
+        ensures written { IsWrittenFrom self.old self.new }
         ensures refused { OnErr result (self.new ≡ self.old) }
     {
-        self.firmware.smc(core, regs)
+        let Held { common, polled } = self;
+        polled.smc(&common.words, core, regs)
     }
 
     /// `Firmware::enter`.
     pub fn enter(&mut self, core: Core, start: Start) -> Result<Outcome, FwFault>
         ensures answer { reply_of result
-            ≡ answer self.old.board (seen self.old) core.number (calls.Enter start) }
-        ensures after { seen self.new
-            ≡ after self.old.board core.number (calls.Enter start) (reply_of result)
-            (seen self.old) }
-        ensures board { self.new.board ≡ self.old.board }
+            ≡ answer self.old.firmware.board (seen self.old.firmware) core.number (calls.Enter start) }
+        ensures after { seen self.new.firmware
+            ≡ after self.old.firmware.board core.number (calls.Enter start) (reply_of result)
+            (seen self.old.firmware) }
+        ensures board { self.new.firmware.board ≡ self.old.firmware.board }
+        ensures table { self.new.table ≡ self.old.table }
+        ensures written { IsWrittenFrom self.old self.new }
         ensures refused { OnErr result (self.new ≡ self.old) }
     {
-        self.firmware.enter(core, start)
+        let Held { common, polled } = self;
+        polled.enter(&common.words, core, start)
     }
 
     /// `Firmware::take` of the acknowledgement that these bytes are, and the code of what became
@@ -81,66 +101,94 @@ impl Held {
             → IsMisplaced m bytes.now result self.old self.new }
         ensures ack { (a : AckValue) → IsAcknowledged a bytes.now result self.old self.new }
     {
-        match decode(bytes, &self.board) {
+        match decode(bytes, &self.common.board) {
             Err(fault) => frame_code(fault),
             Ok(Frame::Message(_)) => NOT_AN_ACK,
-            Ok(Frame::Ack(ack)) => taken_code(self.firmware.take(ack)),
+            Ok(Frame::Ack(ack)) => taken_code(self.take_ack(ack)),
         }
+    }
+
+    /// `Firmware::take`.
+    fn take_ack(&mut self, ack: Ack) -> Taken
+        ensures answer { (c : ℕ) → replies.Taken result ≡ answer self.old.firmware.board
+            (seen self.old.firmware) c (calls.Take ack) }
+        ensures after { (c : ℕ) → seen self.new.firmware ≡ after self.old.firmware.board c
+            (calls.Take ack) (replies.Taken result) (seen self.old.firmware) }
+        ensures board { self.new.firmware.board ≡ self.old.firmware.board }
+        ensures table { self.new.table ≡ self.old.table }
+        ensures written { IsWrittenFrom self.old self.new }
+    {
+        let Held { common, polled } = self;
+        polled.take(&common.words, ack)
     }
 
     /// `Firmware::status`.
     pub fn status(&self, node: Node) -> Option<Status>
-        ensures { result ≡ status_shown self.now node }
+        ensures { result ≡ status_shown self.now.firmware node }
     {
-        self.firmware.status(node)
+        self.polled.firmware().status(node)
     }
 
     /// `Firmware::outstanding`, copied.
     pub fn outstanding(&self, number: u16) -> Option<Message>
-        ensures { result ≡ message_shown self.now.board (seen self.now) number }
+        ensures { result ≡ message_shown self.now.firmware.board (seen self.now.firmware) number }
     {
-        self.firmware.outstanding(number).map(Message::copy)
+        self.polled
+            .firmware()
+            .outstanding(number)
+            .map(Message::copy)
     }
 
     /// `Firmware::granted`.
     pub fn granted(&self, node: Node) -> u8
-        ensures { result ≡ (seen self.now).granted node.level node.place }
+        ensures { result ≡ (seen self.now.firmware).granted node.level node.place }
     {
-        self.firmware.granted(node)
+        self.polled.firmware().granted(node)
     }
 
     /// `Firmware::hw`.
     pub fn hw(&self, node: Node) -> Option<Hw>
-        ensures { result ≡ hw_shown self.now node }
+        ensures { result ≡ hw_shown self.now.firmware node }
     {
-        self.firmware.hw(node)
+        self.polled.firmware().hw(node)
     }
 
     /// `Firmware::known`.
     pub fn known(&self, core: Core) -> u32
-        ensures { result ≡ (seen self.now).known core.number }
+        ensures { result ≡ (seen self.now.firmware).known core.number }
     {
-        self.firmware.known(core)
+        self.polled.firmware().known(core)
     }
 
     /// `Firmware::running`.
     pub fn running(&self, core: Core) -> bool
-        ensures { result ≡ is_running ((seen self.now).phase core.number) }
+        ensures { result ≡ is_running ((seen self.now.firmware).phase core.number) }
     {
-        self.firmware.running(core)
+        self.polled.firmware().running(core)
     }
 
     /// `Firmware::life`.
     pub fn life(&self) -> Option<u32>
-        ensures { result ≡ life_shown (seen self.now).life }
+        ensures { result ≡ life_shown (seen self.now.firmware).life }
     {
-        self.firmware.life()
+        self.polled.firmware().life()
     }
 
     /// `Firmware::halting`.
     pub fn halting(&self) -> bool
-        ensures { result ≡ (seen self.now).halting }
+        ensures { result ≡ (seen self.now.firmware).halting }
     {
-        self.firmware.halting()
+        self.polled.firmware().halting()
+    }
+
+    /// One who polls. It has seen the last status of each core.
+    pub fn watch(&mut self) -> Result<Watch, Memory>
+        ensures watch { IfOk result (λ w. IsWatchOf self.old w) }
+        ensures same { self.new ≡ self.old }
+    {
+        let Held { common, polled } = self;
+        let shared = Arc::try_clone(common)?;
+        let reader = polled.reader(&common.words);
+        Ok(Watch::of(shared, reader))
     }
 }

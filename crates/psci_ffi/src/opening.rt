@@ -1,7 +1,7 @@
 //! Making a firmware, and letting it go.
 
 ghost use Rattle.std.specs.Prelude.{◌≡◌, None};
-ghost use Rattle.psci_board_text.specs.Verdict.{board_of};
+ghost use Rattle.psci_board_text.specs.Verdict.{Answers, board_of};
 ghost use Rattle.psci_ffi.specs.Codes.{opened_said};
 ghost use Rattle.psci_ffi.specs.Shown.{Opens};
 
@@ -35,7 +35,7 @@ pub extern "C" fn psci_close(alloc: Global, place: &mut Place)
 fn open(alloc: Global, place: &mut Place, text: &[u8]) -> Result<(), BoardFault>
     ensures { Opens result (board_of text.now) place.old.slot.kept place.new.slot.kept }
 {
-    let board = Board::read_bytes(alloc, text)?;
+    let board = read(alloc, text)?;
     let held = Held::new(alloc, board)?;
     let Ok(boxed) = Box::new(alloc, held) else {
         return Err(BoardFault::Memory);
@@ -43,4 +43,13 @@ fn open(alloc: Global, place: &mut Place, text: &[u8]) -> Result<(), BoardFault>
     drop(place.take(alloc));
     place.put(boxed);
     Ok(())
+}
+
+/// The board of a text. It has a frame of its own, which is gone from the stack when the firmware is
+/// made.
+#[inline(never)]
+fn read(alloc: Global, text: &[u8]) -> Result<Board, BoardFault>
+    ensures { Answers result (board_of text.now) }
+{
+    Board::read_bytes(alloc, text)
 }

@@ -52,7 +52,7 @@ impl Place {
 }
 
 /// A pointer to nothing.
-fn nowhere() -> *mut u8 {
+pub fn nowhere() -> *mut u8 {
     null_mut()
 }
 
@@ -61,4 +61,4 @@ pub fn law_crosses(place: &Place) {
     crosses(place);
 }
 
-fn crosses<T: Send>(_value: &T) {}
+pub fn crosses<T: Send>(_value: &T) {}

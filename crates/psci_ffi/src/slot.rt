@@ -3,10 +3,8 @@
 ghost use Rattle.std.specs.Prelude.{◌≡◌, None, Some};
 ghost use Rattle.psci_ffi.specs.Slot.{IsFull, Kept, kept_coded, slot_owns};
 
-mod parts;
-
 use crate::held::Held;
-use parts::Parts;
+use crate::parts::Parts;
 use std::alloc::Global;
 use std::marker::Model;
 

@@ -1,11 +1,13 @@
+pub mod Accounts
 pub mod Ahead
-pub mod Beginning
 mod DeviceRows
 pub mod Ends
 pub mod Finding
 pub mod Finish
 pub mod Known
 pub mod Moved
+pub mod ScriptRows
 pub mod Split
 pub mod Steps
-pub mod Transcripts
+pub mod Taking
+mod TellRows

@@ -4,3 +4,5 @@ pub mod Device
 pub mod Limits
 pub mod Progress
 pub mod Run
+pub mod ScriptRun
+pub mod Told

@@ -68,7 +68,21 @@ impl Answers {
         Ok(())
     }
 
-    /// Adds a text that is no answer line, or changes nothing.
+    /// Adds the text of the next event, or changes nothing.
+    pub fn add_text(&mut self, text: &[u8]) -> Result<(), AllocError>
+        requires { self.old.events < 2 ^ 64 - 1 }
+        ensures ok { OnOk result (self.new ≡ record {
+          waiting = self.old.waiting ++ text.now;
+          events = self.old.events + 1;
+        }) }
+        ensures err { OnErr result (self.new ≡ self.old) }
+    {
+        self.waiting.extend_from_slice(text)?;
+        self.events += 1;
+        Ok(())
+    }
+
+    /// Adds a text that is of no event, or changes nothing.
     pub fn put(&mut self, text: &[u8]) -> Result<(), AllocError>
         ensures ok { OnOk result (self.new ≡ record self.old {
           waiting = self.old.waiting ++ text.now;

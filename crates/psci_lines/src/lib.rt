@@ -5,6 +5,7 @@
 //! - A *source* and a *sink* are the devices that a script comes from and its answers go to.
 //! - A *block* is the bytes that were read and not yet taken.
 //! - A *progress* is a script on its way: its devices, its block and its answers.
+//! - A *teller* makes the events of a script happen, and tells what came of them.
 #![tactic(auto)]
 
 mod answers;
@@ -14,6 +15,8 @@ mod device;
 mod limits;
 mod progress;
 mod standard;
+mod teller;
+mod telling;
 mod transfer;
 
 pub use answers::Answers;
@@ -22,3 +25,5 @@ pub use board_line::read_board;
 pub use device::{Io, Sink, Source};
 pub use progress::Progress;
 pub use standard::Std;
+pub use teller::Teller;
+pub use telling::tell;

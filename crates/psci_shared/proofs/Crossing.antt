@@ -102,7 +102,10 @@ module _ (N : RattleType) (named : Named.Ghosts N.Denot) (ledger : Ledger.Ghosts
             search (tickets.the_sync, sendable),
             (
               board.the_sync,
-              (search (heap.crosses, sendable), (plain_sync _ _ _ _ _, tt)),
+              (
+                search (heap.crosses, sendable),
+                (plain_sync _ _ _ _ _, (plain_sync _ _ _ _ _, tt)),
+              ),
             ),
           ),
         ),

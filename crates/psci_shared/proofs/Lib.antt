@@ -1,6 +1,7 @@
 pub mod AgreeRows
 pub mod BookRows
 pub mod CallRows
+pub mod ChangeRows
 pub mod Crossing
 pub mod Histories
 pub mod OwnCalls
@@ -8,5 +9,6 @@ pub mod Placed
 pub mod Places
 pub mod PollRows
 pub mod Polling
+pub mod Stays
 pub mod WritingRows
 pub mod Written

@@ -1,6 +1,6 @@
 -- Worked examples of a run of a pass: calls and polls, what it keeps of what it saw, and why no pass
 -- is made.
-use Rattle.std.proofs.Common.{◌≡◌, inl, inr, ℕ, ◌<◌, ◌≤◌, false, List, [], ◌∷◌, length, refl, ap, arith}
+use Rattle.std.proofs.Common.{◌≡◌, inl, inr, ℕ, ◌<◌, ◌≤◌, true, false, List, [], ◌∷◌, length, refl, ap, arith}
 use Rattle.psci_fw.specs.psci_abi.psci_format.declared.format.Format.TheVariants.{Original}
 use Rattle.psci_fw.specs.psci_board.Board.{BoardValue}
 use Rattle.psci_fw.specs.psci_fw_spec.declared.call.FwCall.{FwCall}
@@ -12,7 +12,7 @@ use Rattle.psci_messages.specs.declared.start.Cause.TheVariants.{Wake}
 use Rattle.psci_status.specs.Lists.{Item}
 use Rattle.psci_shared.specs.declared.entry.FwItem.{FwItem}
 use Rattle.psci_shared.specs.declared.fault.PassFault.TheVariants.{NoCore, TooMany, Memory}
-use Rattle.psci_shared.specs.Passes.{IsNoPass, PassView, item}
+use Rattle.psci_shared.specs.Passes.{IsFirst, IsNoPass, PassView, item, told}
 use Rattle.psci_shared.specs.Polls.{Goes, IsAmong}
 
 -- two cores
@@ -62,14 +62,50 @@ call_forgotten h =
     let e : ◌≡◌ {A = ℕ} 0 1 = ap (λ (p : PassView). length p.items) h in omega arith
 
 -- no pass: of core 2, which the board has not; of core 1 for want of memory
-no_core_2 : IsNoPass board (record { number = 2 }) NoCore
+no_core_2 : IsNoPass board 3 (record { number = 2 }) NoCore
 no_core_2 = omega arith
 
-no_memory_for_core_1 : IsNoPass board (record { number = 1 }) Memory
-no_memory_for_core_1 = omega arith
+no_core_2_of_1000 : IsNoPass board 1000 (record { number = 2 }) NoCore
+no_core_2_of_1000 = omega arith
 
-core_1_is_there : IsNoPass board (record { number = 1 }) NoCore → ⊥
+no_memory_for_core_1 : IsNoPass board 999 (record { number = 1 }) Memory
+no_memory_for_core_1 = (omega arith, omega arith)
+
+core_1_is_there : IsNoPass board 3 (record { number = 1 }) NoCore → ⊥
 core_1_is_there h = let e : 2 ≤ 1 = h in omega arith
 
-too_many_before_no_core : IsNoPass board (record { number = 2 }) TooMany → ⊥
-too_many_before_no_core h = let e : 2 < 2 = h in omega arith
+too_many_for_core_0 : IsNoPass board 1000 (record { number = 0 }) TooMany
+too_many_for_core_0 = (omega arith, refl)
+
+not_too_many_at_999 : IsNoPass board 999 (record { number = 0 }) TooMany → ⊥
+not_too_many_at_999 h = let e : ◌≡◌ {A = ℕ} 999 1000 = h.1 in omega arith
+
+too_many_before_no_core : IsNoPass board 1000 (record { number = 2 }) TooMany → ⊥
+too_many_before_no_core h = let e : 2 < 2 = h.0 in omega arith
+
+too_many_before_memory : IsNoPass board 1000 (record { number = 1 }) Memory → ⊥
+too_many_before_memory h = let e : 1000 < 1000 = h.1 in omega arith
+
+no_core_before_memory : IsNoPass board 3 (record { number = 2 }) Memory → ⊥
+no_core_before_memory h = let e : 2 < 2 = h.0 in omega arith
+
+-- a new pass of core 1: it has no item, was told nothing and has room for four
+first_of_core_1 : IsFirst (record { number = 1 }) 4
+    (record { core = record { number = 1 }; room = 4; told_full = false; items = []; seen = [] })
+first_of_core_1 = refl
+
+first_of_another_core : IsFirst (record { number = 0 }) 4
+    (record { core = record { number = 1 }; room = 4; told_full = false; items = []; seen = [] })
+    → ⊥
+first_of_another_core h =
+    let e : ◌≡◌ {A = ℕ} 1 0 = ap (λ (p : PassView). p.core.number) h in omega arith
+
+first_has_no_item : IsFirst (record { number = 0 }) 4 (pass (new ∷ []) []) → ⊥
+first_has_no_item h =
+    let e : ◌≡◌ {A = ℕ} 1 0 = ap (λ (p : PassView). length p.items) h in omega arith
+
+first_has_other_room : IsFirst (record { number = 0 }) 5 (pass [] []) → ⊥
+first_has_other_room h = let e : ◌≡◌ {A = ℕ} 4 5 = ap (λ (p : PassView). p.room) h in omega arith
+
+first_was_told : IsFirst (record { number = 0 }) 4 (told (pass [] [])) → ⊥
+first_was_told h = let e : true ≡ false = ap (λ (p : PassView). p.told_full) h in cc

@@ -19,7 +19,8 @@ use Rattle.psci_status.specs.Lists.{Item, gain, row}
 use Rattle.psci_shared.specs.declared.entry.FwEntry.{FwEntry}
 use Rattle.psci_shared.specs.Books.{entry, history_of}
 use Rattle.psci_shared.specs.Passes.{IsAffinity, IsRead, PassView}
-use Rattle.psci_shared.specs.Writing.{AllLast, IsWritten, Stand, one_more, written_after}
+use Rattle.psci_polled.specs.Writing.{one_more}
+use Rattle.psci_shared.specs.Writing.{AllLast, IsWritten, Stand, written_after}
 
 -- two cores
 abbrev board : BoardValue

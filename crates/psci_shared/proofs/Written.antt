@@ -2,36 +2,26 @@
 use Rattle.std.proofs.Common.{◌≡◌, ℕ, zero, suc, ◌+◌, ◌*◌, ◌^◌, ◌<◌, ◌≤◌, List, [], ◌∷◌, ◌++◌}
 use Rattle.std.proofs.Common.{length, reverse, take, replicate, Bool, true, false, refl, sym, ap}
 use Rattle.std.proofs.Common.{◌∙◌, subst, arith}
-use Rattle.std.specs.Prelude.{◌==◌, not, if◌then◌else◌, Option, None, Some}
-use Rattle.std.proofs.lemmas.Bool.Decides.{nat_tests}
+use Rattle.std.specs.Prelude.{◌==◌, not, if◌then◌else◌}
 use Rattle.std.proofs.lemmas.List.{length-reverse, length-map}
 use Rattle.psci_fw.specs.psci_board.Board.{BoardValue, cores}
 use Rattle.psci_fw.specs.psci_fw_spec.declared.status.Status.{Status}
 use Rattle.psci_fw.specs.psci_fw_spec.declared.status.Status.TheVariants.{Off}
-use Rattle.psci_fw.specs.psci_fw_spec.AffinityInfo.{status_code}
-use Rattle.psci_fw.specs.psci_fw_spec.Exchange.{FwExchange, effect}
-use Rattle.psci_fw.specs.psci_fw_spec.History.{begins, life, life_after, status}
+use Rattle.psci_fw.specs.psci_fw_spec.Exchange.{FwExchange}
+use Rattle.psci_fw.specs.psci_fw_spec.History.{life, status}
 use Rattle.psci_fw.specs.psci_fw_spec.Lives.{first_status}
-use Rattle.psci_fw.specs.psci_fw_spec.Said.{Arrival, arrived}
 use Rattle.psci_fw.specs.psci_fw_spec.Statuses.{added, statuses}
 use Rattle.psci_status.specs.Lists.{Item, IsLast, Within, row}
 use Rattle.psci_shared.specs.declared.entry.FwEntry.{FwEntry}
 use Rattle.psci_shared.specs.Books.{BookView, entered, exchange_of, history_of}
 use Rattle.psci_shared.specs.Gathers.{AllSeen, AllStand}
 use Rattle.psci_shared.specs.Passes.{PassView}
-use Rattle.psci_shared.specs.Writing.{AllLast, IsWritten, Stand, one_more, written_after}
+use Rattle.psci_polled.specs.Writing.{one_more}
+use Rattle.psci_polled.proofs.Last.{length_added, more, statuses_more}
+use Rattle.psci_shared.specs.Writing.{AllLast, IsWritten, Stand, written_after}
 use Rattle.psci_shared.proofs.Histories.{history_more, history_none}
 
 -- How long the lists are ----------------------------------------------------------------------
-
-length_if : (x : Bool) (s t : Status) (ts : List Status)
-    → length (if x then t ∷ ts else s ∷ t ∷ ts) ≤ length (t ∷ ts) + 1
-length_if true s t ts = omega arith
-length_if false s t ts = omega arith
-
-pub length_added : (s : Status) (ss : List Status) → length (added s ss) ≤ length ss + 1
-length_added s [] = omega arith
-length_added s (t ∷ ts) = length_if (status_code s == status_code t) s t ts
 
 pub length_one_more : (opens : Bool) (core : ℕ) (s : Status) (ss : List Status)
     → length (one_more opens core s ss) ≤ length ss + 2
@@ -46,27 +36,6 @@ length_one_more false core s ss =
     omega arith
 
 -- One call more -------------------------------------------------------------------------------
-
--- what is written of a core after a history, by the life before its last call and what was written
--- then
-abbrev more : BoardValue → List FwExchange → ℕ → ℕ → List Status → List Status
-more b h before core ss =
-    if life b h == 0 then ss else one_more (not (life b h == before)) core (status b h core) ss
-
-same_life : (l : ℕ) → (l == l) ≡ true
-same_life l = grind (arith, nat_tests)
-
-begins_is : (l : ℕ) (a : Option Arrival) → begins l a ≡ not (life_after a l == l)
-begins_is l None = ap not (sym (same_life l))
-begins_is l (Some a) = refl
-
-statuses_more : (b : BoardValue) (e : FwExchange) (h : List FwExchange) (core : ℕ)
-    → more b (e ∷ h) (life b h) core (statuses b h core) ≡ statuses b (e ∷ h) core
-unfolding statuses
-statuses_more b e h core =
-    ap (λ (x : Bool). if life b (e ∷ h) == 0 then statuses b h core
-    else one_more x core (status b (e ∷ h) core) (statuses b h core))
-    (sym (begins_is (life b h) (arrived (effect b e))))
 
 length_if_more : (x opens : Bool) (core : ℕ) (s : Status) (ss : List Status)
     → length (if x then ss else one_more opens core s ss) ≤ length ss + 2

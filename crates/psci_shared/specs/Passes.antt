@@ -1,5 +1,5 @@
 -- Passes as contracts see them.
-use Rattle.std.specs.Prelude.{◌≡◌, ◌≤◌, ◌<◌, ℕ, List, [], ◌∷◌, ◌++◌, Bool, true, slice_set, Option, None, Some, pos}
+use Rattle.std.specs.Prelude.{◌≡◌, ◌≤◌, ◌<◌, ℕ, List, [], ◌∷◌, ◌++◌, Bool, true, false, slice_set, Option, None, Some, pos}
 use Rattle.psci_fw.specs.psci_abi.Codes.{invalid_parameters}
 use Rattle.psci_fw.specs.psci_abi.declared.code.Code.{Code}
 use Rattle.psci_fw.specs.psci_board.Board.{BoardValue, cores}
@@ -78,8 +78,19 @@ IsAffinity (Some core) p p' code =
     (status : Status) × IsRead p p' core.number status
     × (code ≡ record { 0 = pos (status_code status) })
 
--- why no pass is made for a core: NoCore exactly where the board has none
-abbrev pub IsNoPass : BoardValue → Core → PassFault → Type 0
-IsNoPass b core NoCore = cores b ≤ core.number
-IsNoPass b core TooMany = core.number < cores b
-IsNoPass b core Memory = core.number < cores b
+-- a new pass for a core: it was not called by yet, nor told anything
+abbrev pub IsFirst : Core → ℕ → PassView → Type 0
+IsFirst core room p = p ≡ record {
+  core = core;
+  room = room;
+  told_full = false;
+  items = [];
+  seen = p.seen;
+}
+
+-- why no pass is made for a core once so many were made: the board has no such core; or they are
+-- 1,000; or else memory lacks
+abbrev pub IsNoPass : BoardValue → ℕ → Core → PassFault → Type 0
+IsNoPass b made core NoCore = cores b ≤ core.number
+IsNoPass b made core TooMany = (core.number < cores b) × (made ≡ 1000)
+IsNoPass b made core Memory = (core.number < cores b) × (made < 1000)

@@ -1,18 +1,20 @@
 -- What is written of the status of each core, and what a pass has seen of it.
-use Rattle.std.specs.Prelude.{◌≡◌, ◌<◌, ℕ, ◌==◌, Bool, not, if◌then◌else◌, List}
+use Rattle.std.specs.Prelude.{◌≡◌, ◌<◌, ℕ, ◌==◌, not, if◌then◌else◌, List, [], ◌∷◌, ◌++◌, Option}
+use Rattle.std.specs.Prelude.{None, Some}
 use Rattle.psci_fw.specs.psci_board.Board.{BoardValue, cores}
+use Rattle.psci_fw.specs.psci_board.declared.node.Core.{Core}
+use Rattle.psci_fw.specs.psci_fw_spec.declared.call.FwCall.{FwCall}
+use Rattle.psci_fw.specs.psci_fw_spec.declared.call.FwCall.TheVariants.{Smc, Enter, Take}
+use Rattle.psci_fw.specs.psci_fw_spec.declared.reply.FwReply.{FwReply}
+use Rattle.psci_fw.specs.psci_fw_spec.declared.reply.FwReply.TheVariants.{Out, Taken}
 use Rattle.psci_fw.specs.psci_fw_spec.declared.status.Status.{Status}
 use Rattle.psci_fw.specs.psci_fw_spec.History.{life, status}
-use Rattle.psci_fw.specs.psci_fw_spec.Lives.{first_status}
-use Rattle.psci_fw.specs.psci_fw_spec.Statuses.{added, statuses}
+use Rattle.psci_fw.specs.psci_fw_spec.Statuses.{statuses}
+use Rattle.psci_polled.specs.Naming.{asked_by}
+use Rattle.psci_polled.specs.Writing.{one_more}
 use Rattle.psci_status.specs.Lists.{Begins, Item, IsLast, Within, row}
 use Rattle.psci_shared.specs.declared.entry.FwEntry.{FwEntry}
 use Rattle.psci_shared.specs.Books.{history_of}
-
--- one call more: where it opened a life, first the status of the core at the life's start
-abbrev pub one_more : Bool → ℕ → Status → List Status → List Status
-one_more opens core status written =
-    added status (if opens then added (first_status core) written else written)
 
 -- what is written of each core are its statuses after these entries
 abbrev pub IsWritten : BoardValue → List (List Status) → List FwEntry → Type 0
@@ -41,3 +43,21 @@ written_after b entries before core written =
     if life b (history_of entries) == 0 then written
     else one_more (not (life b (history_of entries) == before)) core
     (status b (history_of entries) core) written
+
+-- the core that a call may name, by its reply: the target of an accepted CPU_ON, a core that enters,
+-- or that of an acknowledgement
+abbrev pub named_by : Core → FwCall → FwReply → Option Core
+named_by core (Smc regs) (Out o) = asked_by o
+named_by core (Enter start) (Out o) = Some core
+named_by core (Take ack) (Taken taken) = Some ack.core
+named_by core call reply = None
+
+-- the core that the call of an entry may name
+abbrev pub named_in : FwEntry → Option Core
+named_in e = named_by e.core e.call e.reply
+
+-- all but the last call of these entries was written, and this was the life before the last call
+abbrev pub IsOneBehind : BoardValue → List (List Status) → List FwEntry → ℕ → Type 0
+IsOneBehind b log entries before =
+    (past : List FwEntry) × (last : FwEntry) × (entries ≡ past ++ last ∷ [])
+    × (before ≡ life b (history_of past)) × IsWritten b log past

@@ -1,8 +1,9 @@
 //! The firmware with all that it was asked and answered.
 
-use crate::entry::{BookFull, FwEntry};
+use crate::entry::{BookFull, FwEntry, FwItem, keep, same_outcome, same_reply};
 use crate::named::Named;
-use psci_fw::{Firmware, FwCall, FwFault, FwReply, Outcome, Status, law_values};
+use crate::writing::changed;
+use psci_fw::{Firmware, FwCall, FwFault, FwReply, Outcome, law_values};
 use psci_status::{Board, Core, Memory};
 use std::alloc::Global;
 use std::marker::{Model, PhantomData};
@@ -29,16 +30,17 @@ impl<N: Named> Model for FwBook<N> {
         IsTied N.board N.parts b.firmware b.entries.items (vec_capacity b.entries) b.room };
 }
 
-ghost use Rattle.std.specs.Prelude.{◌≡◌, ◌≢◌, ◌<◌, ◌≤◌, ◌^◌, [], ◌∷◌, ◌++◌, length, IfOk, OnOk};
-ghost use Rattle.std.specs.Prelude.{OnErr};
+ghost use Rattle.std.specs.Prelude.{◌≡◌, ◌<◌, ◌≤◌, ◌+◌, ◌^◌, List, [], ◌∷◌, ◌++◌, length};
+ghost use Rattle.std.specs.Prelude.{IfOk, OnOk, OnErr, vec_len, vec_capacity};
 ghost use Rattle.psci_fw.specs.Seen.{seen};
-ghost use Rattle.psci_fw.specs.psci_board.Board.{cores};
 ghost use Rattle.psci_fw.specs.psci_fw_spec.After.{after};
 ghost use Rattle.psci_fw.specs.psci_fw_spec.Answer.{answer, reply_of};
-ghost use Rattle.psci_fw.specs.psci_fw_spec.History.{life, status, values_of};
+ghost use Rattle.psci_fw.specs.psci_fw_spec.History.{life, values_of};
 ghost use Rattle.psci_fw.specs.psci_fw_spec.Legal.{IsLegal};
-ghost use Rattle.psci_shared.specs.Passes.{Fits};
+ghost use Rattle.psci_shared.specs.Passes.{Fits, item};
+ghost use Rattle.psci_shared.specs.declared.entry.FwEntry.{FwEntry};
 ghost use Rattle.psci_shared.specs.Books.{answer_after, entered, entry, history_of};
+ghost use Rattle.psci_shared.specs.Writing.{named_in};
 
 impl<N: Named> FwBook<N> {
     /// A firmware of this board that was asked nothing, and a book with room for so many entries.
@@ -61,7 +63,6 @@ impl<N: Named> FwBook<N> {
     }
 
     /// Carries out a call of this core and enters it, unless the book is full.
-    #[tactic(auto, using(crate::proofs::Histories::history_more))]
     pub fn step(&mut self, ticket: u64, core: Core, call: FwCall) -> Result<FwReply, BookFull>
         ensures reply { IfOk result (λ reply. reply
             ≡ answer_after N.board self.old.entries core.number call) }
@@ -72,18 +73,69 @@ impl<N: Named> FwBook<N> {
         ensures full { OnErr result
             ((length self.old.entries ≡ self.old.room) × (self.new ≡ self.old)) }
     {
+        match self.carry_out(ticket, core, call) {
+            Ok(()) => Ok(self.last_reply()),
+            Err(BookFull) => Err(BookFull),
+        }
+    }
+
+    /// The same, with the reply in the entry alone.
+    #[inline(always)]
+    #[tactic(auto, using(crate::proofs::Histories::history_more))]
+    pub(crate) fn carry_out(
+        &mut self,
+        ticket: u64,
+        core: Core,
+        call: FwCall,
+    ) -> Result<(), BookFull>
+        ensures fits { OnOk result
+            (Fits call (answer_after N.board self.old.entries core.number call)) }
+        ensures ok { OnOk result (self.new ≡ entered self.old
+            (entry ticket core call (answer_after N.board self.old.entries core.number call))) }
+        ensures room { OnOk result (length self.old.entries < self.old.room) }
+        ensures full { OnErr result
+            ((length self.old.entries ≡ self.old.room) × (self.new ≡ self.old)) }
+    {
         if self.entries.len() == self.room as usize {
             return Err(BookFull);
         }
         law_values();
-        let reply = ask(&mut self.firmware, core, &call);
-        self.entries.push_reserved(FwEntry {
-            ticket,
-            core,
+        let FwBook {
+            firmware,
+            entries,
+            room: _,
+            of: _,
+        } = self;
+        ask(firmware, entries, ticket, core, call);
+        Ok(())
+    }
+
+    /// The reply of the last entry.
+    #[inline(always)]
+    pub(crate) fn last_reply(&self) -> FwReply
+        requires { 0 < length self.now.entries }
+        ensures { (past : List FwEntry) (last : FwEntry) → self.now.entries ≡ past ++ last ∷ []
+            → result ≡ last.reply }
+    {
+        same_reply(&self.entries[self.entries.len() - 1].reply)
+    }
+
+    /// The last call goes into the list of a pass, with this place.
+    #[inline(always)]
+    pub(crate) fn keep_last(&self, items: &mut Vec<FwItem>, place: u32, call: FwCall)
+        requires some { 0 < length self.now.entries }
+        requires room { vec_len items.old < vec_capacity items.old }
+        ensures items { (past : List FwEntry) (last : FwEntry) → self.now.entries ≡ past ++ last ∷ []
+            → items.new.items ≡ items.old.items ++ item place call last.reply ∷ [] }
+        ensures len { vec_len items.new ≡ vec_len items.old + 1 }
+        ensures capacity { vec_capacity items.new ≡ vec_capacity items.old }
+    {
+        keep(
+            items,
+            place,
             call,
-            reply: reply.copy(),
-        });
-        Ok(reply)
+            &self.entries[self.entries.len() - 1].reply,
+        );
     }
 
     /// How many entries there are.
@@ -118,6 +170,22 @@ impl<N: Named> FwBook<N> {
         let _room = self.room;
     }
 
+    /// The core that the last call may name, if there is one.
+    pub(crate) fn changed(&self) -> Option<Core>
+        ensures { (past : List FwEntry) (last : FwEntry) → self.now.entries ≡ past ++ last ∷ []
+            → result ≡ named_in last }
+    {
+        self.entries.as_slice().last().and_then(changed)
+    }
+
+    /// The firmware, to look at.
+    pub(crate) fn firmware(&self) -> &Firmware
+        ensures board { result.now.board ≡ N.board }
+        ensures values { seen result.now ≡ values_of N.board (history_of self.now.entries) }
+    {
+        &self.firmware
+    }
+
     /// The firmware's life, 0 before any core has entered.
     #[tactic(auto, unfolding(psci_fw_spec::specs::History::values_of))]
     pub fn life(&self) -> u32
@@ -125,40 +193,71 @@ impl<N: Named> FwBook<N> {
     {
         self.firmware.life().unwrap_or(0)
     }
-
-    /// The status of a core of the board, once a core has entered.
-    #[tactic(auto, unfolding(psci_fw_spec::specs::History::values_of, psci_fw_spec::specs::AffinityInfo::node_status))]
-    pub fn status(&self, core: Core) -> Status
-        requires { core.number < cores N.board }
-        ensures { life N.board (history_of self.now.entries) ≢ 0
-            → result ≡ status N.board (history_of self.now.entries) core.number }
-    {
-        self.firmware.status(core.node()).unwrap_or(Status::Off)
-    }
 }
 
-/// The firmware's reply to a call of this core.
-fn ask(firmware: &mut Firmware, core: Core, call: &FwCall) -> FwReply
-    ensures reply { result
-        ≡ answer firmware.old.board (seen firmware.old) core.number call.now }
-    ensures fits { Fits call.now result }
-    ensures after { seen firmware.new
-        ≡ after firmware.old.board core.number call.now result (seen firmware.old) }
+/// The firmware's reply to a call of this core is entered. Each kind of reply is written to its place
+/// where it is found, so that none of them is moved on the way.
+#[inline(always)]
+fn ask(firmware: &mut Firmware, entries: &mut Vec<FwEntry>, ticket: u64, core: Core, call: FwCall)
+    requires room { vec_len entries.old < vec_capacity entries.old }
+    ensures entries { entries.new.items ≡ entries.old.items ++ entry ticket core call
+        (answer firmware.old.board (seen firmware.old) core.number call) ∷ [] }
+    ensures len { vec_len entries.new ≡ vec_len entries.old + 1 }
+    ensures capacity { vec_capacity entries.new ≡ vec_capacity entries.old }
+    ensures fits { Fits call (answer firmware.old.board (seen firmware.old) core.number call) }
+    ensures after { seen firmware.new ≡ after firmware.old.board core.number call
+        (answer firmware.old.board (seen firmware.old) core.number call) (seen firmware.old) }
     ensures board { firmware.new.board ≡ firmware.old.board }
 {
     match call {
-        FwCall::Smc(regs) => reply_of(firmware.smc(core, *regs)),
-        FwCall::Enter(start) => reply_of(firmware.enter(core, *start)),
-        FwCall::Take(ack) => FwReply::Taken(firmware.take(ack.copy())),
+        FwCall::Smc(regs) => {
+            let answered = firmware.smc(core, regs);
+            record(entries, ticket, core, call, &answered);
+        }
+        FwCall::Enter(start) => {
+            let answered = firmware.enter(core, start);
+            record(entries, ticket, core, call, &answered);
+        }
+        FwCall::Take(ack) => {
+            let reply = FwReply::Taken(firmware.take(ack.copy()));
+            let call = FwCall::Take(ack);
+            entries.push_reserved(FwEntry {
+                ticket,
+                core,
+                call,
+                reply,
+            });
+        }
     }
 }
 
-/// An outcome or a refusal, as a reply.
-fn reply_of(answered: Result<Outcome, FwFault>) -> FwReply
-    ensures { result ≡ reply_of answered }
+/// Enters an outcome or a refusal.
+#[inline(always)]
+fn record(
+    entries: &mut Vec<FwEntry>,
+    ticket: u64,
+    core: Core,
+    call: FwCall,
+    answered: &Result<Outcome, FwFault>,
+)
+    requires room { vec_len entries.old < vec_capacity entries.old }
+    ensures entries { entries.new.items
+        ≡ entries.old.items ++ entry ticket core call (reply_of answered.now) ∷ [] }
+    ensures len { vec_len entries.new ≡ vec_len entries.old + 1 }
+    ensures capacity { vec_capacity entries.new ≡ vec_capacity entries.old }
 {
     match answered {
-        Ok(outcome) => FwReply::Out(outcome),
-        Err(fault) => FwReply::Fault(fault),
+        Ok(outcome) => entries.push_reserved(FwEntry {
+            ticket,
+            core,
+            call,
+            reply: FwReply::Out(same_outcome(outcome)),
+        }),
+        Err(fault) => entries.push_reserved(FwEntry {
+            ticket,
+            core,
+            call,
+            reply: FwReply::Fault(*fault),
+        }),
     }
 }

@@ -10,7 +10,7 @@ ghost use Rattle.psci_shared.specs.Passes.{Fits, called, item, told};
 ghost use Rattle.psci_shared.specs.Writing.{AllLast, IsWritten, Stand};
 
 use crate::book::FwBook;
-use crate::entry::{BookFull, FwItem};
+use crate::entry::BookFull;
 use crate::named::Named;
 use crate::pass::Pass;
 use crate::writing::write_all;
@@ -45,6 +45,7 @@ pub struct FwLocked<N: Named> {
 impl<N: Named> FwLocked<N> {
     /// Carries out a call for the pass's core, and enters it, unless the book or the pass's list is
     /// full. An entered call leaves the pass with the last status of each core.
+    #[inline(always)]
     pub fn call(
         &mut self,
         words: &StatusWords,
@@ -84,17 +85,13 @@ impl<N: Named> FwLocked<N> {
             return Err(BookFull);
         }
         let before = book.life();
-        match book.step(ticket, pass.core, call.copy()) {
-            Ok(reply) => {
+        match book.carry_out(ticket, pass.core, call.copy()) {
+            Ok(()) => {
                 total.add(&mut pass.share, 1);
-                pass.items.push_reserved(FwItem {
-                    place,
-                    call,
-                    reply: reply.copy(),
-                });
+                book.keep_last(&mut pass.items, place, call);
                 write_all(words, writer, book, before, *count);
                 words.meet(writer, &mut pass.reader);
-                Ok(reply)
+                Ok(book.last_reply())
             }
             Err(BookFull) => {
                 pass.told_full = true;

@@ -1,7 +1,7 @@
 //! The firmware that threads share.
 
 ghost use Rattle.std.specs.Prelude.{◌≡◌, ◌≤◌, ◌+◌, ◌<◌, List, [], ◌∷◌, length, replicate};
-ghost use Rattle.std.specs.Prelude.{IfOk, IfErr, OnOk, OnErr, MatchResult};
+ghost use Rattle.std.specs.Prelude.{IfOk, IfErr, OnOk, OnErr, MatchResult, IfSome, OnSome};
 ghost use Rattle.std.specs.Fn.{FnOnceReturnsAt};
 ghost use Rattle.psci_fw.specs.psci_board.Board.{core_of, cores};
 ghost use Rattle.psci_fw.specs.psci_fw_spec.declared.call.FwCall.TheVariants as calls;
@@ -14,7 +14,8 @@ ghost use Rattle.psci_shared.specs.Answered.{IsAnswered, IsAnsweredFault, IsFull
 ghost use Rattle.psci_shared.specs.Gathers.{AllStand, AreMet, IsCause, items_of};
 ghost use Rattle.psci_fw.specs.psci_fw_spec.Legal.{IsLegal};
 ghost use Rattle.psci_shared.specs.Books.{history_of};
-ghost use Rattle.psci_shared.specs.Passes.{Fits, IsAffinity, IsCalled, IsNoPass, IsRefused, told};
+ghost use Rattle.psci_shared.specs.Passes.{Fits, IsAffinity, IsCalled, IsFirst, IsNoPass};
+ghost use Rattle.psci_shared.specs.Passes.{IsRefused, told};
 ghost use Rattle.psci_shared.specs.Places.{AllPlaced};
 
 use crate::agreement::agree;
@@ -46,10 +47,13 @@ pub struct SharedFirmware<'t, N: Named> {
     board: Board,
     alloc: Global,
     room: u32,
+    /// How many passes were made.
+    made: u32,
     ghost named: { board ≡ N.board },
     ghost table: { table words ≡ N.table },
     ghost count: { N.table.words ≡ cores N.board },
     ghost whole: { room ≡ N.room },
+    ghost few: { made ≤ 1000 },
 }
 
 impl<'t, N: Named> SharedFirmware<'t, N> {
@@ -71,6 +75,7 @@ impl<'t, N: Named> SharedFirmware<'t, N> {
         requires writer { (table_of_writer writer ≡ N.table)
             × (written writer ≡ replicate (cores N.board) (Off ∷ [])) }
         requires room { room ≡ N.room }
+        ensures { IfOk result (λ f. f.made ≡ 0) }
     {
         let book = FwBook::new(alloc, board, room)?;
         let board = board.copy(alloc)?;
@@ -82,6 +87,7 @@ impl<'t, N: Named> SharedFirmware<'t, N> {
             board,
             alloc,
             room,
+            made: 0,
         })
     }
 
@@ -92,11 +98,20 @@ impl<'t, N: Named> SharedFirmware<'t, N> {
         self.room
     }
 
+    /// How many passes were made.
+    pub fn made(&self) -> u32
+        ensures { result ≡ self.now.made }
+    {
+        self.made
+    }
+
     /// A pass for a core, before the firmware is shared. It takes the memory of all its calls here.
     pub fn pass(&mut self, core: Core) -> Result<Pass<N>, PassFault>
-        ensures ok { IfOk result (λ p. (p.core ≡ core) × (p.items ≡ []) × (p.room ≡ N.room)) }
+        ensures ok { IfOk result (λ p. IsFirst core N.room p) }
+        ensures made { OnOk result (self.new.made ≡ self.old.made + 1) }
         ensures on_board { OnOk result (core.number < cores N.board) }
-        ensures err { IfErr result (λ fault. IsNoPass N.board core fault) }
+        ensures err { IfErr result (λ fault. IsNoPass N.board self.old.made core fault) }
+        ensures same { OnErr result (self.new.made ≡ self.old.made) }
     {
         if core.number >= self.board.cores() {
             return Err(PassFault::NoCore);
@@ -108,8 +123,16 @@ impl<'t, N: Named> SharedFirmware<'t, N> {
             board: _,
             alloc,
             room,
+            made,
         } = self;
-        new_pass(*alloc, words, locked.get_mut(), core, *room)
+        if *made == MOST_PASSES {
+            return Err(PassFault::TooMany);
+        }
+        let Some(pass) = new_pass(*alloc, words, locked.get_mut(), core, *room) else {
+            return Err(PassFault::Memory);
+        };
+        *made += 1;
+        Ok(pass)
     }
 
     /// A secure monitor call of the pass's core.
@@ -214,6 +237,7 @@ impl<'t, N: Named> SharedFirmware<'t, N> {
             board: _,
             alloc: _,
             room: _,
+            made: _,
         } = self;
         let mut passes = passes;
         let mut locked = locked.into_inner();
@@ -241,7 +265,8 @@ impl<'t, N: Named> SharedFirmware<'t, N> {
         })
     }
 
-    /// A call for the pass's core, under the lock.
+    /// A call for the pass's core, under the lock. Where nobody holds it, it is taken at once.
+    #[inline(always)]
     fn call<R: Wait>(&self, rt: &R, pass: &mut Pass<N>, call: FwCall) -> Result<FwReply, BookFull>
         ensures ok { IfOk result (λ reply. IsCalled pass.old pass.new call reply) }
         ensures answered { IfOk result (λ reply.
@@ -250,7 +275,10 @@ impl<'t, N: Named> SharedFirmware<'t, N> {
         ensures fits { IfOk result (λ reply. Fits call reply) }
         ensures err { OnErr result (pass.new ≡ told pass.old) }
     {
-        let mut locked = self.locked.lock(rt);
+        let mut locked = match self.locked.try_lock() {
+            Some(locked) => locked,
+            None => self.locked.lock(rt),
+        };
         let ticket = self.tickets.draw();
         locked.call(&self.words, ticket, pass, call)
     }
@@ -278,27 +306,24 @@ fn locked_of<N: Named>(book: FwBook<N>, writer: Writer, count: u16, blank: Blank
     }
 }
 
-/// One pass more.
+/// One pass more, where there is memory for it and a part of the ledger. There always is such a part
+/// while fewer than 1,000 passes were made, which the count beside the lock says as well.
 fn new_pass<N: Named>(
     alloc: Global,
     words: &StatusWords,
     locked: &mut FwLocked<N>,
     core: Core,
     room: u32,
-) -> Result<Pass<N>, PassFault>
+) -> Option<Pass<N>>
     requires words { table words.now ≡ N.table }
-    requires core { core.number < cores N.board }
     requires room { room ≡ N.room }
-    ensures pass { IfOk result (λ p. (p.core ≡ core) × (p.items ≡ []) × (p.room ≡ room)) }
-    ensures made { OnOk result (locked.new.made ≡ locked.old.made + 1) }
-    ensures err { IfErr result (λ fault. IsNoPass N.board core fault) }
+    ensures pass { IfSome result (λ p. IsFirst core N.room p) }
+    ensures made { OnSome result (locked.new.made ≡ locked.old.made + 1) }
 {
     if locked.made == MOST_PASSES {
-        return Err(PassFault::TooMany);
+        return None;
     }
-    let Ok(items) = Vec::with_capacity(alloc, room as usize) else {
-        return Err(PassFault::Memory);
-    };
+    let items = Vec::with_capacity(alloc, room as usize).ok()?;
     let FwLocked {
         book: _,
         made,
@@ -310,5 +335,5 @@ fn new_pass<N: Named>(
     let share = rest.split_off(1, 0);
     *made += 1;
     let reader = words.reader(writer);
-    Ok(Pass::of(core, room, items, share, reader))
+    Some(Pass::of(core, room, items, share, reader))
 }

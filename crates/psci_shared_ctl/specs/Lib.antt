@@ -1,4 +1,5 @@
 pub mod Agree
+pub mod Answered
 pub mod Books
 pub mod Gathers
 pub mod Inside

@@ -1,9 +1,11 @@
 -- Passes as contracts see them.
-use Rattle.std.specs.Prelude.{◌≡◌, ℕ, List, [], ◌∷◌, ◌++◌, Bool, true}
+use Rattle.std.specs.Prelude.{◌≡◌, ◌<◌, ℕ, List, [], ◌∷◌, ◌++◌, Bool, true, false}
 use Rattle.psci_ctl.specs.psci_ctl_spec.declared.call.CtlCall.{CtlCall}
 use Rattle.psci_ctl.specs.psci_ctl_spec.declared.call.CtlCall.TheVariants.{Deliver, Wake, Reset}
 use Rattle.psci_ctl.specs.psci_ctl_spec.declared.reply.CtlReply.{CtlReply}
 use Rattle.psci_ctl.specs.psci_ctl_spec.declared.reply.CtlReply.TheVariants.{Delivery, Kick}
+use Rattle.psci_shared.specs.declared.fault.PassFault.{PassFault}
+use Rattle.psci_shared.specs.declared.fault.PassFault.TheVariants.{NoCore, TooMany, Memory}
 use Rattle.psci_shared_ctl.specs.declared.entry.CtlItem.{CtlItem}
 
 -- a pass: for how many items it has room, whether it was told that the book is full, and its items,
@@ -12,6 +14,10 @@ pub record PassView : Type 0 where
   pub room : ℕ
   pub told_full : Bool
   pub items : List CtlItem
+
+-- a new pass: it was not called by yet, nor told anything
+abbrev pub first : ℕ → PassView
+first room = record { room = room; told_full = false; items = [] }
 
 -- an item
 abbrev pub item : ℕ → CtlCall → CtlReply → CtlItem
@@ -37,3 +43,9 @@ Fits (Reset c) (Delivery d) = ⊥
 -- a call was entered: the pass has one item more
 abbrev pub IsCalled : PassView → PassView → CtlCall → CtlReply → Type 0
 IsCalled p p' call reply = (place : ℕ) × (p' ≡ called p (item place call reply))
+
+-- why no pass is made once so many were made: they are 1,000; or else memory lacks
+abbrev pub IsNoPass : ℕ → PassFault → Type 0
+IsNoPass made NoCore = ⊥
+IsNoPass made TooMany = made ≡ 1000
+IsNoPass made Memory = made < 1000

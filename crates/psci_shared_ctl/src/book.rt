@@ -89,6 +89,7 @@ impl<N: Named> CtlBook<N> {
         ensures len { result ≡ length self.now.entries }
         ensures within { length self.now.entries ≤ self.now.room }
         ensures small { length self.now.entries < 2 ^ 32 }
+        ensures legal { IsLegal N.board (history_of self.now.entries) }
     {
         self.entries.len() as u32
     }
@@ -111,8 +112,9 @@ impl<N: Named> CtlBook<N> {
     /// The last start of a core in this life, if there is a life and a start.
     pub fn started(&self, core: Core) -> Option<Start>
         requires { core.number < cores N.board }
-        ensures { result
+        ensures last { result
             ≡ last_start (values_of N.board (history_of self.now.entries)) core.number }
+        ensures legal { IsLegal N.board (history_of self.now.entries) }
     {
         self.controller.started(core)
     }

@@ -1,7 +1,7 @@
 //! What the lock guards.
 
 ghost use Rattle.std.specs.Prelude.{◌≡◌, ◌≤◌, ◌+◌, length, IfOk, OnErr};
-ghost use Rattle.psci_ctl.specs.psci_ctl_spec.Legal.{IsCall, legal_reply};
+ghost use Rattle.psci_ctl.specs.psci_ctl_spec.Legal.{IsCall, IsLegal, legal_reply};
 ghost use Rattle.psci_shared_ctl.specs.Books.{entered, entry, history_of};
 ghost use Rattle.psci_shared_ctl.specs.Passes.{Fits, called, item, told};
 
@@ -26,6 +26,7 @@ pub struct CtlLocked<N: Named> {
     ghost nothing_left: { rest.amount ≡ 0 },
     ghost few: { made ≤ 1000 },
     ghost parts: { rest.parts + made ≡ 1001 },
+    ghost room: { book.room ≡ N.room },
 }
 
 impl<N: Named> CtlLocked<N> {
@@ -42,12 +43,12 @@ impl<N: Named> CtlLocked<N> {
         ensures fits { IfOk result (λ reply. Fits call reply) }
         ensures book { IfOk result (λ reply. self.new.book
             ≡ entered self.old.book (entry ticket call reply)) }
+        ensures legal { IsLegal N.board (history_of self.old.book.entries) }
         ensures pass { IfOk result (λ reply. pass.new
             ≡ called pass.old (item (length self.old.book.entries) call reply)) }
         ensures told { OnErr result
             ((self.new.book ≡ self.old.book) × (pass.new ≡ told pass.old)) }
-        ensures full { OnErr result (pass.old.room ≡ self.old.book.room
-            → length self.old.book.entries ≡ self.old.book.room) }
+        ensures full { OnErr result (length self.old.book.entries ≡ N.room) }
         ensures made { self.new.made ≡ self.old.made }
     {
         let CtlLocked {

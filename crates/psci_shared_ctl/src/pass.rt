@@ -28,21 +28,19 @@ impl<N: Named> Model for CtlPass<N> {
 
     ghost invariant = { λ p.
         (p.share.parts ≡ 1) × (p.share.amount ≡ vec_len p.items) × (vec_len p.items ≤ p.room)
-        × (p.room ≤ vec_capacity p.items) };
+        × (p.room ≤ vec_capacity p.items) × (p.room ≡ N.room) };
 }
 
-ghost use Rattle.std.specs.Prelude.{◌≡◌, ◌≤◌, [], false, vec_capacity};
+ghost use Rattle.std.specs.Prelude.{◌≡◌, ◌≤◌, [], vec_capacity};
+ghost use Rattle.psci_shared_ctl.specs.Passes.{first};
 
 impl<N: Named> CtlPass<N> {
     /// A pass that was not called by yet.
     pub(crate) fn of(room: u32, items: Vec<CtlItem>, share: Share<N>) -> CtlPass<N>
         requires share { (share.parts ≡ 1) × (share.amount ≡ 0) }
         requires items { (items.items ≡ []) × (room ≤ vec_capacity items) }
-        ensures { result ≡ record {
-          room = room;
-          told_full = false;
-          items = [];
-        } }
+        requires room { room ≡ N.room }
+        ensures { result ≡ first room }
     {
         CtlPass {
             room,

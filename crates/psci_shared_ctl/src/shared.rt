@@ -1,14 +1,19 @@
 //! The power controller that threads share.
 
 ghost use Rattle.std.specs.Prelude.{◌≡◌, ◌≤◌, ◌+◌, ◌<◌, [], length, IfOk, IfErr, OnOk, OnErr};
-ghost use Rattle.std.specs.Prelude.{MatchResult};
+ghost use Rattle.std.specs.Prelude.{List, MatchResult, IfSome, OnSome};
 ghost use Rattle.psci_board.specs.Board.{cores};
 ghost use Rattle.psci_ctl.specs.psci_ctl_spec.declared.call.CtlCall.TheVariants as calls;
 ghost use Rattle.psci_ctl.specs.psci_ctl_spec.declared.reply.CtlReply.TheVariants as replies;
-ghost use Rattle.psci_ctl.specs.psci_ctl_spec.Legal.{IsCall, IsSendable};
+ghost use Rattle.psci_ctl.specs.psci_ctl_spec.History.{values_of};
+ghost use Rattle.psci_ctl.specs.psci_ctl_spec.Legal.{IsCall, IsLegal, IsSendable};
+ghost use Rattle.psci_ctl.specs.psci_ctl_spec.Replies.{last_start};
+ghost use Rattle.psci_shared_ctl.specs.declared.entry.CtlEntry.{CtlEntry};
 ghost use Rattle.psci_shared_ctl.specs.Agree.{Agree};
 ghost use Rattle.psci_shared_ctl.specs.Gathers.{IsCause, items_of};
-ghost use Rattle.psci_shared_ctl.specs.Passes.{Fits, IsCalled, told};
+ghost use Rattle.psci_shared_ctl.specs.Answered.{IsAnswered, IsFull};
+ghost use Rattle.psci_shared_ctl.specs.Books.{history_of};
+ghost use Rattle.psci_shared_ctl.specs.Passes.{Fits, IsCalled, IsNoPass, first, told};
 ghost use Rattle.psci_shared_ctl.specs.Places.{AllPlaced};
 
 use crate::agreement::agree;
@@ -32,6 +37,10 @@ pub struct SharedController<'t, N: Named> {
     tickets: &'t Tickets,
     alloc: Global,
     room: u32,
+    /// How many passes were made.
+    made: u32,
+    ghost whole: { room ≡ N.room },
+    ghost few: { made ≤ 1000 },
 }
 
 impl<'t, N: Named> SharedController<'t, N> {
@@ -46,6 +55,8 @@ impl<'t, N: Named> SharedController<'t, N> {
         requires board { board.now ≡ N.board }
         requires name { blank.name ≡ N.name }
         requires parts { (blank.parts ≡ N.parts) × (N.parts ≡ 1001) }
+        requires room { room ≡ N.room }
+        ensures { IfOk result (λ c. c.made ≡ 0) }
     {
         let book = CtlBook::new(alloc, board, room)?;
         let locked = locked_of(book, blank);
@@ -54,20 +65,46 @@ impl<'t, N: Named> SharedController<'t, N> {
             tickets,
             alloc,
             room,
+            made: 0,
         })
+    }
+
+    /// How many entries there is room for, in the book and in the list of each pass.
+    pub fn room(&self) -> u32
+        ensures { result ≡ N.room }
+    {
+        self.room
+    }
+
+    /// How many passes were made.
+    pub fn made(&self) -> u32
+        ensures { result ≡ self.now.made }
+    {
+        self.made
     }
 
     /// A pass, before the power controller is shared. It takes the memory of all its calls here.
     pub fn pass(&mut self) -> Result<CtlPass<N>, PassFault>
-        ensures { IfOk result (λ p. p.items ≡ []) }
+        ensures ok { IfOk result (λ p. p ≡ first N.room) }
+        ensures made { OnOk result (self.new.made ≡ self.old.made + 1) }
+        ensures err { IfErr result (λ fault. IsNoPass self.old.made fault) }
+        ensures same { OnErr result (self.new.made ≡ self.old.made) }
     {
         let SharedController {
             locked,
             tickets: _,
             alloc,
             room,
+            made,
         } = self;
-        new_pass(*alloc, locked.get_mut(), *room)
+        if *made == MOST_PASSES {
+            return Err(PassFault::TooMany);
+        }
+        let Some(pass) = new_pass(*alloc, locked.get_mut(), *room) else {
+            return Err(PassFault::Memory);
+        };
+        *made += 1;
+        Ok(pass)
     }
 
     /// A message that can be sent on this board is delivered.
@@ -80,6 +117,9 @@ impl<'t, N: Named> SharedController<'t, N> {
         requires { IsSendable N.board message.now }
         ensures ok { IfOk result (λ delivery. IsCalled pass.old pass.new
             (calls.Deliver message.now) (replies.Delivery delivery)) }
+        ensures answered { IfOk result (λ delivery. IsAnswered N.board pass.old pass.new
+            (calls.Deliver message.now) (replies.Delivery delivery)) }
+        ensures full { OnErr result (IsFull N.board N.room) }
         ensures err { OnErr result (pass.new ≡ told pass.old) }
     {
         match self.call(rt, pass, CtlCall::Deliver(message.copy())) {
@@ -100,6 +140,9 @@ impl<'t, N: Named> SharedController<'t, N> {
         requires { core.number < cores N.board }
         ensures ok { IfOk result (λ kick. IsCalled pass.old pass.new
             (calls.Wake core halted) (replies.Kick kick)) }
+        ensures answered { IfOk result (λ kick. IsAnswered N.board pass.old pass.new
+            (calls.Wake core halted) (replies.Kick kick)) }
+        ensures full { OnErr result (IsFull N.board N.room) }
         ensures err { OnErr result (pass.new ≡ told pass.old) }
     {
         match self.call(rt, pass, CtlCall::Wake(core, halted)) {
@@ -119,6 +162,9 @@ impl<'t, N: Named> SharedController<'t, N> {
         requires { core.number < cores N.board }
         ensures ok { IfOk result (λ kick. IsCalled pass.old pass.new
             (calls.Reset core) (replies.Kick kick)) }
+        ensures answered { IfOk result (λ kick. IsAnswered N.board pass.old pass.new
+            (calls.Reset core) (replies.Kick kick)) }
+        ensures full { OnErr result (IsFull N.board N.room) }
         ensures err { OnErr result (pass.new ≡ told pass.old) }
     {
         match self.call(rt, pass, CtlCall::Reset(core)) {
@@ -131,6 +177,8 @@ impl<'t, N: Named> SharedController<'t, N> {
     /// The last start of a core in this life, if there is a life and a start. Nothing is entered.
     pub fn started<R: Wait>(&self, rt: &R, core: Core) -> Option<Start>
         requires { core.number < cores N.board }
+        ensures { (entries : List CtlEntry) × IsLegal N.board (history_of entries)
+            × (result ≡ last_start (values_of N.board (history_of entries)) core.number) }
     {
         let locked = self.locked.lock(rt);
         locked.book.started(core)
@@ -179,6 +227,8 @@ impl<'t, N: Named> SharedController<'t, N> {
     ) -> Result<CtlReply, BookFull>
         requires { IsCall N.board call }
         ensures ok { IfOk result (λ reply. IsCalled pass.old pass.new call reply) }
+        ensures answered { IfOk result (λ reply. IsAnswered N.board pass.old pass.new call reply) }
+        ensures full { OnErr result (IsFull N.board N.room) }
         ensures fits { IfOk result (λ reply. Fits call reply) }
         ensures err { OnErr result (pass.new ≡ told pass.old) }
     {
@@ -194,6 +244,7 @@ impl<'t, N: Named> SharedController<'t, N> {
             tickets: _,
             alloc: _,
             room: _,
+            made: _,
         } = self;
         locked.into_inner()
     }
@@ -202,6 +253,7 @@ impl<'t, N: Named> SharedController<'t, N> {
 /// What the lock of a new power controller guards.
 fn locked_of<N: Named>(book: CtlBook<N>, blank: Blank) -> CtlLocked<N>
     requires book { book.entries ≡ [] }
+    requires room { book.room ≡ N.room }
     requires name { blank.name ≡ N.name }
     requires parts { (blank.parts ≡ N.parts) × (N.parts ≡ 1001) }
 {
@@ -214,21 +266,17 @@ fn locked_of<N: Named>(book: CtlBook<N>, blank: Blank) -> CtlLocked<N>
     }
 }
 
-/// One pass more.
-fn new_pass<N: Named>(
-    alloc: Global,
-    locked: &mut CtlLocked<N>,
-    room: u32,
-) -> Result<CtlPass<N>, PassFault>
-    ensures pass { IfOk result (λ p. (p.items ≡ []) × (p.room ≡ room)) }
-    ensures made { OnOk result (locked.new.made ≡ locked.old.made + 1) }
+/// One pass more, where there is memory for it and a part of the ledger. There always is such a part
+/// while fewer than 1,000 passes were made, which the count beside the lock says as well.
+fn new_pass<N: Named>(alloc: Global, locked: &mut CtlLocked<N>, room: u32) -> Option<CtlPass<N>>
+    requires { room ≡ N.room }
+    ensures pass { IfSome result (λ p. p ≡ first room) }
+    ensures made { OnSome result (locked.new.made ≡ locked.old.made + 1) }
 {
     if locked.made == MOST_PASSES {
-        return Err(PassFault::TooMany);
+        return None;
     }
-    let Ok(items) = Vec::with_capacity(alloc, room as usize) else {
-        return Err(PassFault::Memory);
-    };
+    let items = Vec::with_capacity(alloc, room as usize).ok()?;
     let CtlLocked {
         book: _,
         made,
@@ -237,5 +285,5 @@ fn new_pass<N: Named>(
     } = locked;
     let share = rest.split_off(1, 0);
     *made += 1;
-    Ok(CtlPass::of(room, items, share))
+    Some(CtlPass::of(room, items, share))
 }

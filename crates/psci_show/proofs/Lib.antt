@@ -1,3 +1,2 @@
-mod AskedRows
-mod ColumnRows
-mod SaidRows
+pub mod Rows
+mod ShownRows

@@ -1,3 +1,1 @@
-pub mod Columns
-pub mod Names
-pub mod Words
+pub mod Shown

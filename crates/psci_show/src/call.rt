@@ -49,11 +49,6 @@ pub struct CallText<'a> {
 }
 
 impl fmt::Display for FunctionText {
-    ghost use Rattle.std.specs.Prelude.{Some};
-    ghost use Rattle.psci_show.specs.Words.{function_text};
-
-    ghost output = { λ text. Some (function_text text.0) };
-
     fn fmt<W: fmt::Write>(&self, f: &mut fmt::Formatter<W>) -> fmt::Result {
         let alone = Regs {
             x0: self.0,
@@ -72,11 +67,6 @@ impl fmt::Display for FunctionText {
 }
 
 impl fmt::Display for EntryText {
-    ghost use Rattle.std.specs.Prelude.{Some};
-    ghost use Rattle.psci_show.specs.Words.{entry_text};
-
-    ghost output = { λ text. Some (entry_text text.entry text.context) };
-
     fn fmt<W: fmt::Write>(&self, f: &mut fmt::Formatter<W>) -> fmt::Result {
         let EntryText { entry, context } = *self;
         if context == 0 {
@@ -88,15 +78,6 @@ impl fmt::Display for EntryText {
 }
 
 impl fmt::Display for StateText<'_> {
-    ghost use Rattle.std.specs.Prelude.{Some};
-    ghost use Rattle.psci_world.specs.psci_board.Board.{height};
-    ghost use Rattle.psci_state.specs.PowerState.{ask_of};
-    ghost use Rattle.psci_show.specs.Words.{ask_text};
-
-    ghost output = { λ text. Some (ask_text (height text.board.now)
-        (ask_of text.board.now.format (height text.board.now) text.state) text.state
-        text.back.entry text.back.context) };
-
     fn fmt<W: fmt::Write>(&self, f: &mut fmt::Formatter<W>) -> fmt::Result {
         let StateText { board, state, back } = *self;
         let height = board.height();
@@ -114,13 +95,6 @@ impl fmt::Display for StateText<'_> {
 }
 
 impl fmt::Display for ModeText {
-    ghost use Rattle.std.specs.Prelude.{◌++◌, Some, codes};
-    ghost use Rattle.psci_show.specs.Names.{mode_name};
-    ghost use Rattle.psci_show.specs.Words.{hexadecimal, name_or};
-
-    ghost output = { λ text. Some (name_or (mode_name text.0)
-        (codes "unknown mode " ++ hexadecimal text.0)) };
-
     fn fmt<W: fmt::Write>(&self, f: &mut fmt::Formatter<W>) -> fmt::Result {
         match mode_name(self.0) {
             Some(name) => write!(f, "{name}"),
@@ -130,11 +104,6 @@ impl fmt::Display for ModeText {
 }
 
 impl fmt::Display for ArgumentsText<'_> {
-    ghost use Rattle.std.specs.Prelude.{Some};
-    ghost use Rattle.psci_show.specs.Words.{arguments_text};
-
-    ghost output = { λ text. Some (arguments_text text.board.now text.request) };
-
     fn fmt<W: fmt::Write>(&self, f: &mut fmt::Formatter<W>) -> fmt::Result {
         let board = self.board;
         match self.request {
@@ -183,11 +152,6 @@ impl fmt::Display for ArgumentsText<'_> {
 }
 
 impl fmt::Display for CallText<'_> {
-    ghost use Rattle.std.specs.Prelude.{Some};
-    ghost use Rattle.psci_show.specs.Words.{call_text};
-
-    ghost output = { λ text. Some (call_text text.board.now text.core text.regs) };
-
     fn fmt<W: fmt::Write>(&self, f: &mut fmt::Formatter<W>) -> fmt::Result {
         let function = FunctionText(self.regs.x0);
         let arguments = ArgumentsText {

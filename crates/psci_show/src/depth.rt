@@ -1,8 +1,6 @@
 //! How deep a power domain is, as its column has it.
 
-ghost use Rattle.std.specs.Prelude.{◌≡◌};
 ghost use Rattle.psci_world.specs.psci_board.Board.{HasNode};
-ghost use Rattle.psci_show.specs.Columns.{depths_of};
 
 use crate::state::is_told;
 use psci_world::{Node, World};
@@ -21,7 +19,6 @@ impl Depths {
     /// Those of a power domain after the world's records, if there is a life.
     pub fn of(world: &World, node: Node) -> Option<Depths>
         requires { HasNode world.now.board node }
-        ensures { result ≡ depths_of world.now.board world.now.past node }
     {
         world.controller().life()?;
         let depth = world.controller().depth(node);
@@ -35,11 +32,6 @@ impl Depths {
 }
 
 impl fmt::Display for Depths {
-    ghost use Rattle.std.specs.Prelude.{Some};
-    ghost use Rattle.psci_show.specs.Columns.{depths_text};
-
-    ghost output = { λ depths. Some (depths_text depths) };
-
     fn fmt<W: fmt::Write>(&self, f: &mut fmt::Formatter<W>) -> fmt::Result {
         let mark = if self.depth == self.granted { " " } else { "!" };
         write!(f, "{}{mark}", self.depth)

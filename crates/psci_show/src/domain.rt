@@ -1,7 +1,5 @@
 //! Power domains and their depths, in words.
 
-ghost use Rattle.std.specs.Prelude.{◌≡◌};
-
 use crate::names::{depth_name, level_name};
 use psci_world::{Board, Node};
 use std::fmt;
@@ -46,11 +44,6 @@ struct ShareText {
 }
 
 impl fmt::Display for NodeText<'_> {
-    ghost use Rattle.std.specs.Prelude.{Some};
-    ghost use Rattle.psci_show.specs.Words.{node_text};
-
-    ghost output = { λ text. Some (node_text text.board.now text.node) };
-
     fn fmt<W: fmt::Write>(&self, f: &mut fmt::Formatter<W>) -> fmt::Result {
         let name = level_name(self.board.height(), self.node.level);
         if self.node.level == 0 || self.board.nodes(self.node.level) > 1 {
@@ -62,13 +55,6 @@ impl fmt::Display for NodeText<'_> {
 }
 
 impl fmt::Display for TargetText<'_> {
-    ghost use Rattle.std.specs.Prelude.{Some};
-    ghost use Rattle.psci_world.specs.psci_board.Board.{node_of};
-    ghost use Rattle.psci_show.specs.Words.{target_text};
-
-    ghost output = { λ text. Some (target_text text.board.now
-        (node_of text.board.now text.word text.level) text.word text.level) };
-
     fn fmt<W: fmt::Write>(&self, f: &mut fmt::Formatter<W>) -> fmt::Result {
         let TargetText { board, word, level } = *self;
         match board.node_of(word, level) {
@@ -79,12 +65,6 @@ impl fmt::Display for TargetText<'_> {
 }
 
 impl fmt::Display for ShareText {
-    ghost use Rattle.std.specs.Prelude.{Some};
-    ghost use Rattle.psci_show.specs.Words.{share_text};
-
-    ghost output = { λ text. Some (share_text text.height text.level text.below text.depth
-        text.above) };
-
     fn fmt<W: fmt::Write>(&self, f: &mut fmt::Formatter<W>) -> fmt::Result {
         let level = level_name(self.height, self.level);
         let depth = depth_name(self.depth);
@@ -106,15 +86,7 @@ impl fmt::Display for ShareText {
 
 impl SharesText {
     /// What is said of one level.
-    fn share(self, level: u32, below: u8, depth: u8, above: u8) -> ShareText
-        ensures { result ≡ record {
-          height = self.height;
-          level = level;
-          below = below;
-          depth = depth;
-          above = above;
-        } }
-    {
+    fn share(self, level: u32, below: u8, depth: u8, above: u8) -> ShareText {
         ShareText {
             height: self.height,
             level,
@@ -126,11 +98,6 @@ impl SharesText {
 }
 
 impl fmt::Display for SharesText {
-    ghost use Rattle.std.specs.Prelude.{Some};
-    ghost use Rattle.psci_show.specs.Words.{shares_text};
-
-    ghost output = { λ text. Some (shares_text text.height text.depths) };
-
     fn fmt<W: fmt::Write>(&self, f: &mut fmt::Formatter<W>) -> fmt::Result {
         let [core, first, second, third] = self.depths;
         write!(

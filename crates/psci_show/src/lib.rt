@@ -1,26 +1,37 @@
-//! What a run says in words: each event as it was asked, and its answer.
+//! A run as people and programs read it: scripts in, and a row for each event out.
 //!
+//! - A *run* is a world with the sleep of each core, and of each acknowledgement the number of its
+//!   message: what its words need.
+//! - The *row* of an event begins with its *front*, its number. Contracts say that each event has
+//!   its row, in order; what else stands in it is tested, text for text.
 //! - The *names* stand in one table: of functions, of what they return, of levels, depths and kinds
-//!   of messages.
-//! - The *words* of a record are made of them.
-//! - The *columns* are the state of each core and the depths of each power domain.
-//! - A *sleep* is what a suspended core asked of itself, in the life in which it did.
+//!   of messages. The *words* of a record are made of them.
+//! - The *columns* are the state of each core and the depths of each power domain, in a row or as
+//!   *entries* by names. A *sleep* is what a suspended core asked of itself.
+//! - A *wrapped* text stands in lines of a width.
 #![tactic(auto)]
 
+mod answer_text;
 mod call;
 mod depth;
 mod domain;
+mod entries;
+mod event_json;
+mod form;
+mod front;
+mod json;
+mod legend;
+mod lines;
 mod message;
+mod message_json;
 mod names;
+mod row;
+mod run;
+mod showing;
 mod sleep;
 mod state;
 mod words;
+mod wrap;
 
-pub use depth::Depths;
-pub use domain::NodeText;
-pub use names::{
-    code_name, depth_name, function_name, kind_name, level_name, mode_name, returned_name,
-};
-pub use sleep::{Sleep, note};
-pub use state::{CoreState, is_told};
-pub use words::{AskedText, SaidText, Words};
+pub use form::{Form, Layout};
+pub use showing::show;

@@ -1,8 +1,5 @@
 //! Messages, in words.
 
-ghost use Rattle.std.specs.Prelude.{◌≡◌, Some};
-ghost use Rattle.psci_show.specs.Words as words;
-
 use crate::domain::SharesText;
 use crate::names::kind_name;
 use psci_world::Message;
@@ -35,9 +32,7 @@ struct AsksText<'a> {
 }
 
 /// Whether a message of this kind is of a core, and not of the system.
-fn is_of_core(kind: Kind) -> bool
-    ensures { result ≡ words.is_of_core kind }
-{
+fn is_of_core(kind: Kind) -> bool {
     match kind {
         Kind::Down | Kind::Start => true,
         Kind::Off | Kind::Reset => false,
@@ -45,16 +40,12 @@ fn is_of_core(kind: Kind) -> bool
 }
 
 /// The depth that the parts ask of a level, 0 where they ask none.
-pub fn depth_at(parts: &[Part], level: usize) -> u8
-    ensures { result ≡ words.depth_at parts.now level }
-{
+pub fn depth_at(parts: &[Part], level: usize) -> u8 {
     parts.get(level).map(|part| part.depth).unwrap_or(0)
 }
 
 /// The depths that the parts ask of the levels from 0 to 3.
-fn depths_of(parts: &[Part]) -> [u8; 4]
-    ensures { result ≡ words.depths_of parts.now }
-{
+fn depths_of(parts: &[Part]) -> [u8; 4] {
     [
         depth_at(parts, 0),
         depth_at(parts, 1),
@@ -64,12 +55,6 @@ fn depths_of(parts: &[Part]) -> [u8; 4]
 }
 
 impl fmt::Display for MessageText<'_> {
-    ghost use Rattle.std.specs.Prelude.{Some, option_map};
-    ghost use Rattle.psci_show.specs.Words.{message_text};
-
-    ghost output = { λ text. Some (message_text text.number
-        (option_map (λ message. message.now) text.message)) };
-
     fn fmt<W: fmt::Write>(&self, f: &mut fmt::Formatter<W>) -> fmt::Result {
         let number = self.number;
         let Some(message) = self.message else {
@@ -85,12 +70,6 @@ impl fmt::Display for MessageText<'_> {
 }
 
 impl fmt::Display for AsksText<'_> {
-    ghost use Rattle.std.specs.Prelude.{Some};
-    ghost use Rattle.psci_show.specs.Words.{asks_text};
-
-    ghost output = { λ text. Some (asks_text text.height text.message.now
-        text.message.now.kind) };
-
     fn fmt<W: fmt::Write>(&self, f: &mut fmt::Formatter<W>) -> fmt::Result {
         let AsksText { height, message } = *self;
         match message.kind {
@@ -105,11 +84,6 @@ impl fmt::Display for AsksText<'_> {
 }
 
 impl fmt::Display for SentText<'_> {
-    ghost use Rattle.std.specs.Prelude.{Some};
-    ghost use Rattle.psci_show.specs.Words.{sent_text};
-
-    ghost output = { λ text. Some (sent_text text.height text.sent.now) };
-
     fn fmt<W: fmt::Write>(&self, f: &mut fmt::Formatter<W>) -> fmt::Result {
         let message = &self.sent.message;
         let kind = kind_name(message.kind);

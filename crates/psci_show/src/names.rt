@@ -1,14 +1,9 @@
 //! The one table of names.
 
-ghost use Rattle.std.specs.Prelude.{◌≡◌, option_map};
-ghost use Rattle.psci_show.specs.Names as names;
-
 use psci_world_spec::{Kind, Request};
 
 /// The name of a function, as the standard has it, or none of an unknown one.
-pub fn function_name(request: Request) -> Option<&'static str>
-    ensures { option_map (λ name. name.now) result ≡ names.function_name request }
-{
+pub fn function_name(request: Request) -> Option<&'static str> {
     match request {
         Request::Version => Some("PSCI_VERSION"),
         Request::CpuSuspend { .. } => Some("CPU_SUSPEND"),
@@ -28,9 +23,7 @@ pub fn function_name(request: Request) -> Option<&'static str>
 }
 
 /// The name of a return code that is no value of a function.
-pub fn code_name(code: i32) -> Option<&'static str>
-    ensures { option_map (λ name. name.now) result ≡ names.code_name code }
-{
+pub fn code_name(code: i32) -> Option<&'static str> {
     match code {
         0 => Some("SUCCESS"),
         -1 => Some("NOT_SUPPORTED"),
@@ -47,9 +40,7 @@ pub fn code_name(code: i32) -> Option<&'static str>
 }
 
 /// The status of a power domain.
-fn status_name(code: i32) -> Option<&'static str>
-    ensures { option_map (λ name. name.now) result ≡ names.status_name code }
-{
+fn status_name(code: i32) -> Option<&'static str> {
     match code {
         0 => Some("ON"),
         1 => Some("OFF"),
@@ -59,9 +50,7 @@ fn status_name(code: i32) -> Option<&'static str>
 }
 
 /// The state of the hardware of a power domain.
-fn hw_name(code: i32) -> Option<&'static str>
-    ensures { option_map (λ name. name.now) result ≡ names.hw_name code }
-{
+fn hw_name(code: i32) -> Option<&'static str> {
     match code {
         0 => Some("HW_ON"),
         1 => Some("HW_OFF"),
@@ -71,9 +60,7 @@ fn hw_name(code: i32) -> Option<&'static str>
 }
 
 /// The flags of a function that is there.
-fn flags_name(code: i32) -> Option<&'static str>
-    ensures { option_map (λ name. name.now) result ≡ names.flags_name code }
-{
+fn flags_name(code: i32) -> Option<&'static str> {
     match code {
         0 => Some("there, no flags"),
         1 => Some("there, flags 1"),
@@ -83,9 +70,7 @@ fn flags_name(code: i32) -> Option<&'static str>
 }
 
 /// What a function returned, by name: a value of its own, or a code.
-pub fn returned_name(request: Request, code: i32) -> Option<&'static str>
-    ensures { option_map (λ name. name.now) result ≡ names.returned_name request code }
-{
+pub fn returned_name(request: Request, code: i32) -> Option<&'static str> {
     match request {
         Request::Version if code == 0x1_0001 => Some("version 1.1"),
         Request::MigrateInfoType if code == 2 => Some("2, nothing to migrate"),
@@ -97,9 +82,7 @@ pub fn returned_name(request: Request, code: i32) -> Option<&'static str>
 }
 
 /// A mode of PSCI_SET_SUSPEND_MODE, if there is one of this number.
-pub fn mode_name(mode: u32) -> Option<&'static str>
-    ensures { option_map (λ name. name.now) result ≡ names.mode_name mode }
-{
+pub fn mode_name(mode: u32) -> Option<&'static str> {
     match mode {
         0 => Some("platform-coordinated"),
         1 => Some("OS-initiated"),
@@ -108,9 +91,7 @@ pub fn mode_name(mode: u32) -> Option<&'static str>
 }
 
 /// A depth that is not 0.
-pub fn depth_name(depth: u8) -> &'static str
-    ensures { result.now ≡ names.depth_name depth }
-{
+pub fn depth_name(depth: u8) -> &'static str {
     match depth {
         1 => "standby",
         2 => "retention",
@@ -119,9 +100,7 @@ pub fn depth_name(depth: u8) -> &'static str
 }
 
 /// A level of a board of this height.
-pub fn level_name(height: u32, level: u32) -> &'static str
-    ensures { result.now ≡ names.level_name height level }
-{
+pub fn level_name(height: u32, level: u32) -> &'static str {
     match level {
         0 => "core",
         1 => "cluster",
@@ -131,9 +110,7 @@ pub fn level_name(height: u32, level: u32) -> &'static str
 }
 
 /// What a message is.
-pub fn kind_name(kind: Kind) -> &'static str
-    ensures { result.now ≡ names.kind_name kind }
-{
+pub fn kind_name(kind: Kind) -> &'static str {
     match kind {
         Kind::Down => "Down",
         Kind::Start => "Start",

@@ -1,10 +1,5 @@
 //! Which cores are suspended, and how deep.
 
-ghost use Rattle.std.specs.Prelude.{◌≡◌, ◌<◌, ◌==◌, ℕ, length};
-ghost use Rattle.std.specs.Prelude.{if◌then◌else◌, option_map};
-ghost use Rattle.psci_show.specs.Columns as columns;
-ghost use Rattle.psci_show.specs.Columns.{sleep_after, sleep_in};
-
 use crate::message::depth_at;
 use psci_world_spec::{Act, Event, Record, Request, Said, Sent, read};
 
@@ -18,11 +13,7 @@ pub struct Sleep {
 }
 
 /// The sleep of each core after this record, by those before it. Before any record no core has one.
-pub fn note(sleeps: &mut [Option<Sleep>], item: &Record)
-    ensures length { length sleeps.new ≡ length sleeps.old }
-    ensures each { (c : ℕ) → c < length sleeps.old
-        → sleep_in sleeps.new c ≡ sleep_after c item.now (sleep_in sleeps.old c) }
-{
+pub fn note(sleeps: &mut [Option<Sleep>], item: &Record) {
     let Said::Fw { act, sent } = &item.said else {
         return;
     };
@@ -36,11 +27,7 @@ pub fn note(sleeps: &mut [Option<Sleep>], item: &Record)
 }
 
 /// Sets the sleep of the core of this number, if there is one.
-fn set(sleeps: &mut [Option<Sleep>], core: u64, sleep: Option<Sleep>)
-    ensures length { length sleeps.new ≡ length sleeps.old }
-    ensures each { (c : ℕ) → c < length sleeps.old
-        → sleep_in sleeps.new c ≡ (if c == core then sleep else sleep_in sleeps.old c) }
-{
+fn set(sleeps: &mut [Option<Sleep>], core: u64, sleep: Option<Sleep>) {
     let place = core as usize;
     if place < sleeps.len() {
         sleeps[place] = sleep;
@@ -48,9 +35,7 @@ fn set(sleeps: &mut [Option<Sleep>], core: u64, sleep: Option<Sleep>)
 }
 
 /// Whether a function suspends its caller.
-fn is_suspend(request: Request) -> bool
-    ensures { result ≡ columns.is_suspend request }
-{
+fn is_suspend(request: Request) -> bool {
     matches!(
         request,
         Request::CpuSuspend { .. } | Request::SystemSuspend { .. }
@@ -58,9 +43,7 @@ fn is_suspend(request: Request) -> bool
 }
 
 /// The sleep that a call leaves.
-fn sleep_by(request: Request, act: &Act, sent: Option<&Sent>) -> Option<Sleep>
-    ensures { result ≡ columns.sleep_by request act.now (option_map (λ s. s.now) sent.entry) }
-{
+fn sleep_by(request: Request, act: &Act, sent: Option<&Sent>) -> Option<Sleep> {
     let Act::Stop = act else {
         return None;
     };

@@ -1,12 +1,7 @@
 //! What a core does, as its column has it.
 
-ghost use Rattle.std.specs.Prelude.{◌≡◌, ◌<◌, true, Some};
-ghost use Rattle.psci_world.specs.psci_world_spec.psci_fw_spec.declared.status.Status.{Status};
+ghost use Rattle.std.specs.Prelude.{◌<◌};
 ghost use Rattle.psci_world.specs.psci_board.Board.{cores};
-ghost use Rattle.psci_world.specs.psci_world_spec.Histories.{controller_values, firmware_values};
-ghost use Rattle.psci_show.specs.Columns as columns;
-ghost use Rattle.psci_show.specs.Columns.{asleep, core_state, core_status, letter_of, sleep_of};
-ghost use Rattle.psci_show.specs.Columns.{state_by, stopped_state};
 
 use crate::sleep::Sleep;
 use psci_world::{Core, Place, Status, World};
@@ -35,9 +30,7 @@ pub enum CoreState {
 impl CoreState {
     /// The state of a core after the world's records, of which this is its sleep.
     pub fn of(world: &World, core: Core, sleep: Option<Sleep>) -> CoreState
-        requires core { core.number < cores world.now.board }
-        requires sleep { sleep ≡ sleep_of world.now.past core.number }
-        ensures { result ≡ core_state world.now.board world.now.past core.number }
+        requires { core.number < cores world.now.board }
     {
         match world.place(core) {
             Place::Started => CoreState::Started,
@@ -49,11 +42,7 @@ impl CoreState {
 
     /// The state of a core that stopped.
     fn stopped(world: &World, core: Core, sleep: Option<Sleep>) -> CoreState
-        requires core { core.number < cores world.now.board }
-        requires told { columns.is_told (firmware_values world.now.board world.now.past).life
-            (controller_values world.now.board world.now.past).life ≡ true }
-        ensures { result ≡ stopped_state sleep (firmware_values world.now.board world.now.past).life
-            (core_status world.now.board world.now.past core.number) }
+        requires { core.number < cores world.now.board }
     {
         let firmware = world.firmware();
         match sleep {
@@ -63,9 +52,7 @@ impl CoreState {
     }
 
     /// The state of a core that suspended to this depth.
-    fn asleep(depth: u8) -> CoreState
-        ensures { result ≡ asleep depth }
-    {
+    fn asleep(depth: u8) -> CoreState {
         match depth {
             1 => CoreState::Standby,
             2 => CoreState::Retention,
@@ -74,9 +61,7 @@ impl CoreState {
     }
 
     /// The state of a core that stopped and is not suspended, by its status.
-    fn by(status: Option<Status>) -> CoreState
-        ensures { (s : Status) → status ≡ Some s → result ≡ state_by s }
-    {
+    fn by(status: Option<Status>) -> CoreState {
         match status {
             Some(Status::On) => CoreState::GoingOff,
             Some(Status::Pending) => CoreState::Pending,
@@ -85,9 +70,7 @@ impl CoreState {
     }
 
     /// Its letter.
-    pub fn letter(self) -> &'static str
-        ensures { result.now ≡ letter_of self }
-    {
+    pub fn letter(self) -> &'static str {
         match self {
             CoreState::Running => "R",
             CoreState::Started => "S",
@@ -102,10 +85,7 @@ impl CoreState {
 }
 
 /// Whether the firmware has learned of the power controller's life, if there is one.
-pub fn is_told(world: &World) -> bool
-    ensures { result ≡ columns.is_told (firmware_values world.now.board world.now.past).life
-        (controller_values world.now.board world.now.past).life }
-{
+pub fn is_told(world: &World) -> bool {
     match (world.firmware().life(), world.controller().life()) {
         (Some(life), Some(present)) => life == present,
         _ => false,

@@ -1,8 +1,5 @@
 //! Events and their answers, in words.
 
-ghost use Rattle.std.specs.Prelude.{◌≡◌, ℕ, Some, option_map, slice_get};
-ghost use Rattle.psci_show.specs.Words as words;
-
 use crate::call::CallText;
 use crate::message::{MessageText, SentText};
 use crate::names::returned_name;
@@ -83,23 +80,17 @@ pub struct SaidText<'a> {
 }
 
 /// The item of this number, if there is one.
-fn message_at(messages: &[Message], number: u64) -> Option<&Message>
-    ensures { option_map (λ message. message.now) result ≡ slice_get messages.now number }
-{
+fn message_at(messages: &[Message], number: u64) -> Option<&Message> {
     messages.get(usize::try_from(number).ok()?)
 }
 
 /// The number of the message of the acknowledgement of this number, if there is one.
-fn answered_at(answered: &[u64], number: u64) -> Option<u64>
-    ensures { result ≡ slice_get answered.now number }
-{
+fn answered_at(answered: &[u64], number: u64) -> Option<u64> {
     answered.get(usize::try_from(number).ok()?).copied()
 }
 
 /// The function that an event calls.
-fn request_in(event: &Event) -> Request
-    ensures { result ≡ words.request_in event.now }
-{
+fn request_in(event: &Event) -> Request {
     match event {
         Event::Call(_, regs) => read(*regs),
         Event::Enter(_) | Event::Wake(_) | Event::Reset(_) | Event::Deliver(_) | Event::Take(_) =>
@@ -108,9 +99,7 @@ fn request_in(event: &Event) -> Request
 }
 
 /// How many parts the message has that an event delivers.
-fn parts_in(messages: &[Message], event: &Event) -> usize
-    ensures { result ≡ words.parts_in messages.now event.now }
-{
+fn parts_in(messages: &[Message], event: &Event) -> usize {
     let Event::Deliver(number) = event else {
         return 0;
     };
@@ -121,9 +110,7 @@ fn parts_in(messages: &[Message], event: &Event) -> usize
 }
 
 /// What became of an acknowledgement.
-fn taken_words(taken: Taken) -> &'static str
-    ensures { result.now ≡ words.taken_text taken }
-{
+fn taken_words(taken: Taken) -> &'static str {
     match taken {
         Taken::Used => "used",
         Taken::Old => "old: nothing waits for it",
@@ -131,11 +118,6 @@ fn taken_words(taken: Taken) -> &'static str
 }
 
 impl fmt::Display for OfText<'_> {
-    ghost use Rattle.std.specs.Prelude.{Some};
-    ghost use Rattle.psci_show.specs.Words.{of_text};
-
-    ghost output = { λ text. Some (of_text text.messages.now text.number) };
-
     fn fmt<W: fmt::Write>(&self, f: &mut fmt::Formatter<W>) -> fmt::Result {
         let Some(number) = self.number else {
             return Ok(());
@@ -146,12 +128,6 @@ impl fmt::Display for OfText<'_> {
 }
 
 impl fmt::Display for AskedText<'_> {
-    ghost use Rattle.std.specs.Prelude.{Some};
-    ghost use Rattle.psci_show.specs.Words.{asked_text};
-
-    ghost output = { λ text. Some (asked_text text.board.now text.messages.now text.answered.now
-        text.event) };
-
     fn fmt<W: fmt::Write>(&self, f: &mut fmt::Formatter<W>) -> fmt::Result {
         match self.event {
             Event::Call(core, regs) => {
@@ -178,11 +154,6 @@ impl fmt::Display for AskedText<'_> {
 }
 
 impl fmt::Display for ReturnedText {
-    ghost use Rattle.std.specs.Prelude.{Some};
-    ghost use Rattle.psci_show.specs.Words.{returned_text};
-
-    ghost output = { λ text. Some (returned_text text.request text.code) };
-
     fn fmt<W: fmt::Write>(&self, f: &mut fmt::Formatter<W>) -> fmt::Result {
         match returned_name(self.request, self.code.0) {
             Some(name) => f.write_str(name),
@@ -192,11 +163,6 @@ impl fmt::Display for ReturnedText {
 }
 
 impl fmt::Display for ActText {
-    ghost use Rattle.std.specs.Prelude.{Some};
-    ghost use Rattle.psci_show.specs.Words.{act_text};
-
-    ghost output = { λ text. Some (act_text text.request text.act) };
-
     fn fmt<W: fmt::Write>(&self, f: &mut fmt::Formatter<W>) -> fmt::Result {
         let request = self.request;
         match self.act {
@@ -211,12 +177,6 @@ impl fmt::Display for ActText {
 }
 
 impl fmt::Display for WithText<'_> {
-    ghost use Rattle.std.specs.Prelude.{Some, option_map};
-    ghost use Rattle.psci_show.specs.Words.{with_text};
-
-    ghost output = { λ text. Some (with_text text.height
-        (option_map (λ sent. sent.now) text.sent)) };
-
     fn fmt<W: fmt::Write>(&self, f: &mut fmt::Formatter<W>) -> fmt::Result {
         let height = self.height;
         match self.sent {
@@ -227,11 +187,6 @@ impl fmt::Display for WithText<'_> {
 }
 
 impl fmt::Display for AppliedText {
-    ghost use Rattle.std.specs.Prelude.{Some};
-    ghost use Rattle.psci_show.specs.Words.{applied_text};
-
-    ghost output = { λ text. Some (applied_text text.parts text.applied) };
-
     fn fmt<W: fmt::Write>(&self, f: &mut fmt::Formatter<W>) -> fmt::Result {
         let AppliedText { parts, applied } = *self;
         if parts > 0 {
@@ -245,12 +200,6 @@ impl fmt::Display for AppliedText {
 }
 
 impl fmt::Display for SaidText<'_> {
-    ghost use Rattle.std.specs.Prelude.{Some};
-    ghost use Rattle.psci_show.specs.Words.{said_text};
-
-    ghost output = { λ text. Some (said_text text.board.now text.messages.now
-        text.item.now.event text.item.now.said) };
-
     fn fmt<W: fmt::Write>(&self, f: &mut fmt::Formatter<W>) -> fmt::Result {
         match &self.item.said {
             Said::Fw { act, sent } => {
@@ -281,12 +230,6 @@ impl fmt::Display for SaidText<'_> {
 }
 
 impl fmt::Display for Words<'_> {
-    ghost use Rattle.std.specs.Prelude.{Some};
-    ghost use Rattle.psci_show.specs.Words.{words_text};
-
-    ghost output = { λ words. Some (words_text words.board.now words.messages.now
-        words.answered.now words.item.now) };
-
     fn fmt<W: fmt::Write>(&self, f: &mut fmt::Formatter<W>) -> fmt::Result {
         let asked = AskedText {
             board: self.board,

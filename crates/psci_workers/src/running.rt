@@ -94,7 +94,7 @@ where
     R: Threads + Wait + Sync,
     G: Gate + Sync,
     requires boards { (plan.board.now ≡ N.board) × (plan.board.now ≡ M.board) }
-    requires room { plan.room ≡ N.room }
+    requires room { (plan.room ≡ N.room) × (plan.room ≡ M.room) }
     requires names { (makings.firmware.name ≡ N.name) × (makings.controller.name ≡ M.name) }
     requires parts { (makings.firmware.parts ≡ N.parts) × (N.parts ≡ 1001) }
     requires others { (makings.controller.parts ≡ M.parts) × (M.parts ≡ 1001) }

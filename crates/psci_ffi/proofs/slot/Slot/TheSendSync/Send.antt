@@ -11,16 +11,13 @@ use Rattle.std.specs.Global.{Global}
 use Rattle.std.proofs.Crossing as heap
 use Rattle.std_alloc.proofs.SendSync.{quiet, lies}
 use Rattle.std_heap.proofs.Global.TheSendSync as handle
-use Rattle.psci_board.proofs.board.Board.TheSendSync as board
-use Rattle.psci_fw_state.proofs.row.CoreRow.TheSendSync as row
-use Rattle.psci_messages.proofs.slots.Slots.TheSendSync as slots
-use Rattle.psci_tree.proofs.domain.Domain.TheLaws.TheKnot as knot
+use Rattle.psci_ffi.proofs.Crossing.{held}
 use Rattle.psci_ffi.specs.Slot.{Kept, slot_owns}
 use Rattle.psci_ffi.specs.contracts.held.Held as Home
 use Rattle.psci_ffi.specs.contracts.slot.Slot.{the_row, the_type}
 
 home : IsSend Home.the_row
-home = search (sendable, heap.crosses, knot.crosses, board.the_send, slots.the_send, row.the_send) depth 40 fits 20000
+home = held
 
 keyless : (a : Global) (p : Ptr) (k : Kept) → Keyless (slot_owns a p k)
 keyless a p None = tt

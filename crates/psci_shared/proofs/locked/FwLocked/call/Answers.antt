@@ -1,6 +1,7 @@
-use Rattle.std.proofs.Common.{rules, map}
+use Rattle.std.proofs.Common.{rules, map, ap}
 use Rattle.psci_status.specs.Lists.{newest}
 use Rattle.psci_status.specs.Seats.{written}
+use Rattle.psci_shared.specs.Books.{BookView}
 use Rattle.psci_shared.proofs.Written.{few_written, written_on}
 use Rattle.psci_shared.proofs.locked.FwLocked.call.Goals as goal
 
@@ -8,6 +9,16 @@ pub write_all-requires-clause-few : goal.write_all-requires-clause-few
 write_all-requires-clause-few g c =
     let old = c.args.self.now in
     few_written _ _ old.book.entries old.written c.len-place.ensures.small
+
+pub write_all-requires-clause-behind : goal.write_all-requires-clause-behind
+write_all-requires-clause-behind g c =
+    let old = c.args.self.now in (
+      old.book.entries,
+      _,
+      ap (λ (k : BookView). k.entries) c.in-Ok.ensures.ok,
+      c.life-before.ensures,
+      old.written,
+    )
 
 pub invariant_of-self-in-Ok-clause-written : goal.invariant_of-self-in-Ok-clause-written
 invariant_of-self-in-Ok-clause-written g c =

@@ -1,0 +1,5 @@
+pub mod Counting
+pub mod Last
+pub mod Staying
+pub mod Past
+pub mod Steps

@@ -1,0 +1,99 @@
+-- What the calls of a polled firmware have to show, over plain values.
+use Rattle.std.proofs.Common.{◌≡◌, ◌≢◌, ℕ, ◌<◌, List, Bool, false, refl, sym, ap, ◌∙◌, subst, replicate, [], ◌∷◌}
+use Rattle.std.proofs.Common.{Option, zero, suc, arith}
+use Rattle.atomic_table.specs.Seated.{TableId}
+use Rattle.psci_board.specs.Board.{BoardValue, IsBoard, cores}
+use Rattle.psci_board.specs.declared.node.Core.{Core}
+use Rattle.psci_fw.specs.Seen.{FirmwareValue, seen}
+use Rattle.psci_fw_spec.specs.declared.call.FwCall.{FwCall}
+use Rattle.psci_fw_spec.specs.declared.reply.FwReply.{FwReply}
+use Rattle.psci_fw_spec.specs.declared.status.Status.{Status}
+use Rattle.psci_fw_spec.specs.declared.status.Status.TheVariants.{Off}
+use Rattle.psci_fw_spec.specs.After.{after}
+use Rattle.psci_fw_spec.specs.Answer.{answer}
+use Rattle.psci_fw_spec.specs.Effects.{effect_of}
+use Rattle.psci_fw_spec.specs.History.{values_of}
+use Rattle.psci_fw_spec.specs.Lives.{start_of_life}
+use Rattle.psci_fw_spec.specs.Statuses.{added, statuses}
+use Rattle.psci_fw_spec.specs.Values.{Values}
+use Rattle.psci_status.specs.Lists.{row}
+use Rattle.psci_polled.specs.Naming.{is_named, names}
+use Rattle.psci_polled.specs.Polled.{IsPast, IsPolled, PolledView}
+use Rattle.psci_polled.specs.Writing.{written_then}
+use Rattle.psci_polled.proofs.Past.{More, added_nothing, nothing_more, past_more}
+
+-- before any call
+first_statuses : (b : BoardValue) (core : ℕ) → statuses b [] core ≡ Off ∷ []
+unfolding statuses
+first_statuses b core = refl
+
+row_same : (n c : ℕ) → c < n → row (replicate n (Off ∷ [])) c ≡ Off ∷ []
+row_same zero c h = absurd (omega arith)
+row_same (suc n) zero h = refl
+row_same (suc n) (suc c) h = row_same n c (omega arith)
+
+pub polled_first : (b : BoardValue) (f : FirmwareValue) (table : TableId)
+    (rows : List (List Status)) (n : ℕ) → values_of b [] ≡ start_of_life b 0 → IsBoard b
+    → f.board ≡ b → seen f ≡ start_of_life b 0 → rows ≡ replicate (cores b) (Off ∷ [])
+    → table.words ≡ cores b → n ≡ cores b → IsPolled f table rows n
+polled_first b f table rows n first board is fresh wrote words count =
+    record {
+      board = subst IsBoard (sym is) board;
+      past = subst (λ (x : BoardValue). IsPast x (seen f) rows) (sym is) past;
+      words = words ∙ ap cores (sym is);
+      count = count ∙ ap cores (sym is);
+    }
+  where
+    past : IsPast b (seen f) rows
+    past = record {
+      history = [];
+      legal = tt;
+      values = fresh ∙ sym first;
+      written = λ core small. ap (λ (l : List (List Status)). row l core) wrote
+          ∙ row_same (cores b) core small ∙ sym (first_statuses b core);
+    }
+
+-- after a call
+pub polled_next : (f f' : FirmwareValue) (table table' : TableId) (rows rows' : List (List Status))
+    (n c before : ℕ) (call : FwCall) (reply : FwReply) → More → IsPolled f table rows n
+    → reply ≡ answer f.board (seen f) c call → seen f' ≡ after f.board c call reply (seen f)
+    → f'.board ≡ f.board → table' ≡ table → before ≡ (seen f).life
+    → ((core : ℕ) → core < n
+    → row rows' core ≡ written_then before (seen f') core (row rows core))
+    → IsPolled f' table' rows' n
+polled_next f f' table table' rows rows' n c before call reply more p answered is same kept was wrote =
+    record {
+      board = subst IsBoard (sym same) p.board;
+      past = subst (λ (x : BoardValue). IsPast x (seen f') rows') (sym same)
+          (past_more f.board (seen f) (seen f') rows rows' n c call reply more p.past p.count answered
+          is (subst (λ (l : ℕ). (core : ℕ) → core < n
+          → row rows' core ≡ written_then l (seen f') core (row rows core)) was wrote));
+      words = ap (λ (t : TableId). t.words) kept ∙ p.words ∙ ap cores (sym same);
+      count = p.count ∙ ap cores (sym same);
+    }
+
+-- whose status does not change
+pub others_stay : (f f' : FirmwareValue) (table : TableId) (rows : List (List Status))
+    (n c before : ℕ) (call : FwCall) (reply : FwReply) (changed : Option Core) → More
+    → IsPolled f table rows n → seen f' ≡ after f.board c call reply (seen f)
+    → before ≡ (seen f).life
+    → ((core : ℕ) → is_named changed core ≡ false → names (effect_of f.board c call reply) core ≡ false)
+    → (core : ℕ) → core < n → is_named changed core ≡ false → (seen f').life ≡ before
+    → (seen f').life ≢ 0 → added ((seen f').status core) (row rows core) ≡ row rows core
+others_stay f f' table rows n c before call reply changed more p is was named core small other same
+    some =
+    added_nothing f.board (seen f) (seen f') rows n c call reply more p.past p.count is core small
+    (named core other) (same ∙ was) some
+
+-- a refused call
+pub written_still : (p : PolledView) (f f' : FirmwareValue) (table : TableId)
+    (rows : List (List Status)) (n : ℕ) → IsPolled f table rows n
+    → record { firmware = f; table = table; written = rows } ≡ p → f' ≡ f
+    → (core : ℕ) → core < cores p.firmware.board
+    → row rows core ≡ written_then (seen p.firmware).life (seen f') core (row p.written core)
+written_still p f f' table rows n is was same =
+    subst (λ (x : PolledView). (core : ℕ) → core < cores x.firmware.board
+    → row rows core ≡ written_then (seen x.firmware).life (seen f') core (row x.written core)) was
+    (subst (λ (g : FirmwareValue). (core : ℕ) → core < cores f.board
+    → row rows core ≡ written_then (seen f).life (seen g) core (row rows core)) (sym same)
+    (nothing_more f.board (seen f) rows is.past))

@@ -1,4 +1,0 @@
-mod RowRows
-mod RunRows
-pub mod Joins
-pub mod Runs

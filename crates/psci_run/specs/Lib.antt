@@ -1,4 +1,0 @@
-pub mod Columns
-pub mod Joined
-pub mod Run
-pub mod Wrap

@@ -1,0 +1,144 @@
+-- Worked examples: how a row begins, and what a run is shown as; and for each clause something that
+-- breaks it.
+use Rattle.std.proofs.Common.{◌≡◌, ℕ, true, false, List, [], ◌∷◌, ◌++◌, length, ap, arith, refl}
+use Rattle.std.proofs.Common.{None, Some}
+use Rattle.std.specs.Prelude.{codes}
+use Rattle.std.specs.Fmt.{digits}
+use Rattle.psci_script.specs.psci_board.Board.{BoardValue}
+use Rattle.psci_world.specs.psci_world_spec.declared.event.Event.TheVariants.{Take, Wake}
+use Rattle.psci_world.specs.psci_world_spec.declared.said.Record.{Record}
+use Rattle.psci_world.specs.psci_world_spec.declared.said.Said.TheVariants.{Absent, Ignored}
+use Rattle.psci_script.specs.Line.{line_of}
+use Rattle.psci_script.specs.declared.grammar.Line.TheVariants.{Event as Says}
+use Rattle.psci_lines.proofs.ScriptRows.{reading}
+use Rattle.psci_show.specs.declared.form.Form.{Form}
+use Rattle.psci_show.specs.declared.form.Form.TheVariants.{Lines, Json}
+use Rattle.psci_show.specs.Shown.{HasRows, IsHeading, IsRow, IsShown, front, number_text}
+
+-- lines of 80 columns, with a legend and without
+abbrev with_legend : Form
+with_legend = Lines (record { width = 80; color = false; legend = true })
+
+abbrev plain : Form
+plain = Lines (record { width = 80; color = false; legend = false })
+
+abbrev wake : Record
+wake = record { event = Wake 3; said = Ignored }
+
+abbrev take : Record
+take = record { event = Take 7; said = Absent }
+
+-- The front ---------------------------------------------------------------------------------------
+
+of_one_digit : number_text 9 ≡ codes "   9"
+unfolding digits
+of_one_digit = refl
+
+of_two_digits : number_text 10 ≡ codes "  10"
+unfolding digits
+of_two_digits = refl
+
+of_three_digits : number_text 999 ≡ codes " 999"
+unfolding digits
+of_three_digits = refl
+
+still_in_three : number_text 100 ≡ codes " 100"
+unfolding digits
+still_in_three = refl
+
+of_four_digits : number_text 1000 ≡ codes "1000"
+unfolding digits
+of_four_digits = refl
+
+of_five_digits : number_text 12345 ≡ codes "12345"
+unfolding digits
+of_five_digits = refl
+
+front_of_a_row : front plain 7 (codes "wake 3") ≡ codes "   7"
+unfolding digits
+front_of_a_row = refl
+
+front_in_json : front Json 7 (codes "wake 3") ≡ codes "{\"number\": 7, \"line\": \"wake 3"
+unfolding digits
+front_in_json = refl
+
+-- A row -------------------------------------------------------------------------------------------
+
+row : IsRow plain 7 wake (codes "   7  R.. a wake-up\n")
+unfolding digits reading
+row = record { line = codes "wake 3"; says = refl; more = codes "  R.. a wake-up\n"; is = refl }
+
+row_in_json : IsRow Json 7 wake (codes "{\"number\": 7, \"line\": \"wake 3\"}\n")
+unfolding digits reading
+row_in_json = record { line = codes "wake 3"; says = refl; more = codes "\"}\n"; is = refl }
+
+fourth : List ℕ → ℕ
+fourth (a ∷ b ∷ c ∷ d ∷ rest) = d
+fourth other = 0
+
+row_of_another_number : IsRow plain 7 wake (codes "   8  R.. a wake-up\n") → ⊥
+unfolding digits fourth
+row_of_another_number k = let e : ◌≡◌ {A = ℕ} 56 55 = ap fourth k.is in omega arith
+
+row_of_another_event : (text : List ℕ) (k : IsRow Json 7 wake text)
+    → ¬ (line_of k.line ≡ Some (Says (Wake 3))) → ⊥
+row_of_another_event text k differs = differs k.says
+
+-- Before all rows ---------------------------------------------------------------------------------
+
+no_heading : IsHeading plain []
+no_heading = λ _. refl
+
+any_legend : IsHeading with_legend (codes "  R  the core runs\n")
+any_legend = λ no. absurd (cc)
+
+legend_unasked : IsHeading plain (codes "R") → ⊥
+legend_unasked h = let e : ◌≡◌ {A = ℕ} 1 0 = ap length (h refl) in omega arith
+
+-- A run -------------------------------------------------------------------------------------------
+
+nothing_yet : IsShown plain None []
+nothing_yet = λ _. refl
+
+json_before_the_board : IsShown Json None (codes "{") → ⊥
+json_before_the_board h = let e : ◌≡◌ {A = ℕ} 1 0 = ap length h in omega arith
+
+no_event : (b : BoardValue) → IsShown plain (Some (record { board = b; past = [] })) []
+no_event b = λ _. refl
+
+abbrev first_row : List ℕ
+first_row = codes "   1  a wake-up\n"
+
+abbrev second_row : List ℕ
+second_row = codes "   2  an acknowledgement\n"
+
+two_rows : (b : BoardValue)
+    → IsShown plain (Some (record { board = b; past = take ∷ wake ∷ [] })) (first_row ++ second_row)
+unfolding digits reading
+two_rows b = (
+  first_row,
+  second_row,
+  (
+    [],
+    first_row,
+    (λ _. refl),
+    record {
+      line = codes "wake 3";
+      says = refl;
+      more = codes "  a wake-up\n";
+      is = refl;
+    },
+    refl,
+  ),
+  record { line = codes "take 7"; says = refl; more = codes "  an acknowledgement\n"; is = refl },
+  refl,
+)
+
+row_is_missing : HasRows plain (wake ∷ []) [] → ⊥
+unfolding digits
+row_is_missing h = no_row h.0 h.1 h.4 (ap length h.3.is) where
+  no_row : (before row : List ℕ) → (let none : List ℕ = [] in none ≡ before ++ row)
+      → length row ≡ length (front plain 1 h.3.line ++ h.3.more) → ⊥
+  no_row [] [] e f = absurd (cc)
+  no_row [] (x ∷ row) e f = absurd (cc)
+  no_row (x ∷ before) row e f = absurd (cc)

@@ -1,0 +1,66 @@
+-- What a run is shown as: a row for each event, in order. How a row begins is defined; what else it
+-- says of the event, its words and columns, is tested.
+use Rattle.std.specs.Prelude.{◌≡◌, ℕ, false, List, [], ◌∷◌, ◌++◌, codes, length, nat_lt}
+use Rattle.std.specs.Prelude.{Option, None, Some, if◌then◌else◌}
+use Rattle.std.specs.Fmt.{decimal}
+use Rattle.psci_world.specs.Seen.{WorldValue}
+use Rattle.psci_world.specs.psci_world_spec.declared.said.Record.{Record}
+use Rattle.psci_script.specs.Line.{line_of}
+use Rattle.psci_script.specs.declared.grammar.Line.TheVariants.{Event as Says}
+use Rattle.psci_lines.specs.ScriptRun.{ScriptRun}
+use Rattle.psci_show.specs.declared.form.Form.{Form}
+use Rattle.psci_show.specs.declared.form.Form.TheVariants.{Lines, Json}
+
+-- a number in four places, or more where it needs them
+abbrev pub number_text : ℕ → List ℕ
+number_text n =
+    (if nat_lt n 10 then codes "   "
+    else (if nat_lt n 100 then codes "  "
+    else (if nat_lt n 1000 then codes " " else []))) ++ decimal n
+
+-- what stands in JSON before the line of the event of this number
+abbrev pub object_start : ℕ → List ℕ
+object_start number = codes "{\"number\": " ++ (decimal number ++ codes ", \"line\": \"")
+
+-- what the row of the event of this number begins with, which this line says
+abbrev pub front : Form → ℕ → List ℕ → List ℕ
+front (Lines layout) number line = number_text number
+front Json number line = object_start number ++ line
+
+-- the row of a record, the newest of so many
+pub record IsRow (form : Form) (number : ℕ) (r : Record) (row : List ℕ) : Type 0 where
+  -- a line that says the event
+  pub line : List ℕ
+  pub says : line_of line ≡ Some (Says r.event)
+  -- its words and columns
+  pub more : List ℕ
+  pub is : row ≡ front form number line ++ more
+
+-- what stands before all rows: nothing in lines that do not begin with what their letters mean
+abbrev pub IsHeading : Form → List ℕ → Type 0
+IsHeading (Lines layout) text = layout.legend ≡ false → text ≡ []
+IsHeading Json text = Unit {0}
+
+-- a row for each record, in order, behind what stands before all rows
+abbrev pub HasRows : Form → List Record → List ℕ → Type 0
+HasRows form [] text = IsHeading form text
+HasRows form (r ∷ past) text =
+    (before : List ℕ) × (row : List ℕ) × HasRows form past before
+    × IsRow form (length (r ∷ past)) r row × (text ≡ before ++ row)
+
+-- what stands before the script is read: in lines the legend, where it is asked for
+abbrev pub IsOpening : Form → List ℕ → Type 0
+IsOpening (Lines layout) text = layout.legend ≡ false → text ≡ []
+IsOpening Json text = text ≡ []
+
+-- what a run is shown as, and what is shown before there is a board
+abbrev pub IsShown : Form → Option ScriptRun → List ℕ → Type 0
+IsShown form None text = IsOpening form text
+IsShown form (Some run) text = HasRows form run.past text
+
+-- the run of this world is shown in this form
+pub record IsShownOf (its : Form) (world : WorldValue) (form : Form) (run : ScriptRun)
+    : Type 0 where
+  pub form_is : its ≡ form
+  pub board : world.board ≡ run.board
+  pub past : world.past ≡ run.past

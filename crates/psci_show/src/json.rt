@@ -1,0 +1,105 @@
+//! A board as a JSON object, and the words that JSON has for states and kinds.
+
+ghost use Rattle.std.specs.Prelude.{◌≤◌};
+ghost use Rattle.psci_world.specs.psci_board.Board.{height};
+
+use crate::domain::NodeText;
+use crate::state::CoreState;
+use psci_world::{Board, Kind, Node, Place};
+use std::alloc::AllocError;
+
+/// The word of a state.
+pub fn state_word(state: CoreState) -> &'static str {
+    match state {
+        CoreState::Running => "running",
+        CoreState::Started => "started",
+        CoreState::Standby => "standby",
+        CoreState::Retention => "retention",
+        CoreState::PowerDown => "power-down",
+        CoreState::GoingOff => "going off",
+        CoreState::Off => "off",
+        CoreState::Pending => "pending",
+    }
+}
+
+/// The word of a place.
+pub fn place_word(place: Place) -> &'static str {
+    match place {
+        Place::Started => "started",
+        Place::Running => "running",
+        Place::Stopped => "stopped",
+    }
+}
+
+/// The word of a kind of message.
+pub fn kind_word(kind: Kind) -> &'static str {
+    match kind {
+        Kind::Down => "down",
+        Kind::Start => "start",
+        Kind::Off => "off",
+        Kind::Reset => "reset",
+    }
+}
+
+/// The word of a truth.
+pub fn truth(holds: bool) -> &'static str {
+    if holds { "true" } else { "false" }
+}
+
+/// What stands before the item of this number in a list.
+pub fn before(number: usize) -> &'static str {
+    if number == 0 { "" } else { ", " }
+}
+
+/// Writes the numbers of the cores below a power domain.
+fn write_span(out: &mut String, board: &Board, node: Node) -> Result<(), AllocError> {
+    let Some(span) = board.cores_below(node) else {
+        return Ok(());
+    };
+    for number in 0..span.count {
+        let between = before(number as usize);
+        let core = u32::from(span.first) + u32::from(number);
+        write!(out, "{between}{core}")?;
+    }
+    Ok(())
+}
+
+/// Writes a power domain, behind this text.
+fn write_domain(
+    out: &mut String,
+    between: &str,
+    board: &Board,
+    node: Node,
+) -> Result<(), AllocError> {
+    let name = NodeText { board, node };
+    write!(out, "{between}{{\"name\": \"{name}\", \"cores\": [")?;
+    write_span(out, board, node)?;
+    write!(out, "]}}")
+}
+
+/// Writes the power domains of a level, behind this text.
+fn write_domains(
+    out: &mut String,
+    between: &str,
+    board: &Board,
+    level: u32,
+) -> Result<(), AllocError>
+    requires { level ≤ height board.now }
+{
+    write!(out, "{between}[")?;
+    for place in 0..board.nodes(level) {
+        let node = Node { level, place };
+        write_domain(out, before(place as usize), board, node)?;
+    }
+    write!(out, "]")
+}
+
+/// Writes the object of a board, behind its text.
+pub fn write_board(text: &mut String, board: &Board) -> Result<(), AllocError> {
+    let cores = board.cores();
+    write!(text, "\", \"cores\": {cores}, \"domains\": [")?;
+    for level in 0..board.height() + 1 {
+        write_domains(text, before(level as usize), board, level)?;
+    }
+    writeln!(text, "]}}")
+}
