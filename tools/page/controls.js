@@ -12,7 +12,8 @@ class Controls {
     canvas.addEventListener("pointercancel", (it) => this.pointers.delete(it.pointerId));
     canvas.addEventListener("pointerleave", () => view.hover(null));
     document.addEventListener("keydown", (it) => this.key(it));
-    for (const [id, act] of Object.entries(this.buttons())) document.getElementById(id).addEventListener("click", act);
+    for (const [id, act] of Object.entries(this.buttons()))
+      document.getElementById(id).addEventListener("click", act);
     const number = document.getElementById("number");
     number.addEventListener("change", () => view.pick(view.run.eventOf(Number(number.value))));
   }
@@ -65,15 +66,19 @@ class Controls {
   help() {
     const page = document.getElementById("helping");
     document.getElementById("legend").replaceChildren(...legendRows(this.view.palette));
-    if (page.open) page.close();
-    else page.showModal();
+    if (page.open)
+      page.close();
+    else
+      page.showModal();
   }
 
-  /** Follows a message: from where it is sent to its delivery, and on to where its answer is taken. */
+  /** Follows a message: from where it is sent to its delivery, and to where its answer is taken. */
   follow() {
     const { run, event } = this.view, { message, ack } = messagesOf(run, event);
-    const ways = [...(message ? [message.event, ...message.comings] : []), ...(ack ? ack.comings : [])];
-    if (message) for (const at of message.comings) ways.push(...(run.acked[at]?.comings ?? []));
+    const ways =
+        [...(message ? [message.event, ...message.comings] : []), ...(ack ? ack.comings : [])];
+    if (message)
+      for (const at of message.comings) ways.push(...(run.acked[at]?.comings ?? []));
     const ordered = [...new Set(ways)].filter((at) => at >= 0).sort((a, b) => a - b);
     if (ordered.length) this.view.pick(ordered.find((at) => at > event) ?? ordered[0]);
   }
@@ -82,16 +87,23 @@ class Controls {
 
   place(event) {
     const box = this.view.canvas.getBoundingClientRect();
-    return { x: event.clientX - box.left - this.view.gutter, y: event.clientY - box.top - AXIS_HEIGHT };
+    return {
+      x: event.clientX - box.left - this.view.gutter,
+      y: event.clientY - box.top - AXIS_HEIGHT
+    };
   }
 
   wheel(event) {
     event.preventDefault();
     const { view } = this, { x } = this.place(event), unit = event.deltaMode ? 24 : 1;
     const [across, down] = [event.deltaX * unit, event.deltaY * unit];
-    if (event.shiftKey || Math.abs(across) > Math.abs(down)) this.pan(across || down);
-    else if (!event.ctrlKey && !event.metaKey && (x < 0 || event.altKey)) this.scroll(down);
-    else this.zoom(Math.exp(Math.max(Math.min(down, 240), -240) / 300), Math.min(Math.max(x, 0), view.scale.width));
+    if (event.shiftKey || Math.abs(across) > Math.abs(down))
+      this.pan(across || down);
+    else if (!event.ctrlKey && !event.metaKey && (x < 0 || event.altKey))
+      this.scroll(down);
+    else
+      this.zoom(Math.exp(Math.max(Math.min(down, 240), -240) / 300),
+          Math.min(Math.max(x, 0), view.scale.width));
   }
 
   press(event) {
@@ -106,7 +118,8 @@ class Controls {
       this.view.hover(now);
       return;
     }
-    if (this.pointers.size === 2) this.pinch(event.pointerId, now);
+    if (this.pointers.size === 2)
+      this.pinch(event.pointerId, now);
     else {
       this.pan(before.x - now.x);
       this.scroll(before.y - now.y);
@@ -131,8 +144,10 @@ class Controls {
   click({ x, y }) {
     const { view } = this, row = view.rows.rowAt(y);
     if (x < 0) {
-      if (row && view.rows.toggle(row)) view.redraw();
-      else if (row?.node) view.pickCore(row.node);
+      if (row && view.rows.toggle(row))
+        view.redraw();
+      else if (row?.node)
+        view.pickCore(row.node);
     } else {
       view.pick(view.nearest(x, row), false);
     }
@@ -141,7 +156,9 @@ class Controls {
   // ---- keys
 
   key(event) {
-    if (event.target.matches?.("input, textarea, select") || event.ctrlKey || event.metaKey || event.altKey) return;
+    if (event.target.matches?.("input, textarea, select") || event.ctrlKey || event.metaKey ||
+        event.altKey)
+      return;
     const act = this.keys()[event.key];
     if (!act) return;
     event.preventDefault();
@@ -159,18 +176,29 @@ class Controls {
       PageUp: () => this.pan(-far),
       Home: () => view.pick(0),
       End: () => view.pick(view.run.count - 1),
-      "+": () => this.zoom(0.5), "=": () => this.zoom(0.5), w: () => this.zoom(0.7),
-      "-": () => this.zoom(2), s: () => this.zoom(1 / 0.7),
-      a: () => this.pan(-far / 5), d: () => this.pan(far / 5),
+      "+": () => this.zoom(0.5),
+      "=": () => this.zoom(0.5),
+      w: () => this.zoom(0.7),
+      "-": () => this.zoom(2),
+      s: () => this.zoom(1 / 0.7),
+      a: () => this.pan(-far / 5),
+      d: () => this.pan(far / 5),
       0: () => this.whole(),
-      n: () => search.step(1), N: () => search.step(-1),
+      n: () => search.step(1),
+      N: () => search.step(-1),
       "/": () => search.field.focus(),
       m: () => this.follow(),
       f: () => this.fold(),
       t: () => view.toggleClock(),
       l: () => view.toggleTheme(),
-      "[": () => { view.rows.resizeRows(1 / 1.25); view.redraw(); },
-      "]": () => { view.rows.resizeRows(1.25); view.redraw(); },
+      "[": () => {
+        view.rows.resizeRows(1 / 1.25);
+        view.redraw();
+      },
+      "]": () => {
+        view.rows.resizeRows(1.25);
+        view.redraw();
+      },
       "?": () => this.help(),
     };
   }

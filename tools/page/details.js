@@ -14,7 +14,7 @@ function element(name, kind, text = "") {
   return made;
 }
 
-/** What is said of a core or domain, by the name, as `show` says it; nothing of what is off as granted. */
+/** What `show` says of a core or domain, by its name; nothing of what is off as granted. */
 function entryOf(run, node, event) {
   const look = run.look(node, event), isGranted = look.depth === look.granted;
   if (look.state < 0) return look.depth === 3 && isGranted ? null : `${node.name}: ${marked(look)}`;
@@ -27,7 +27,8 @@ function meaningOf(run, node, event) {
   const look = run.look(node, event), words = [];
   if (look.state >= 0) words.push(STATES[look.state].meaning);
   words.push(`depth ${look.depth} (${DEPTHS[look.depth].name})`);
-  if (look.depth !== look.granted) words.push(`granted ${look.granted} (${DEPTHS[look.granted].name})`);
+  if (look.depth !== look.granted)
+    words.push(`granted ${look.granted} (${DEPTHS[look.granted].name})`);
   return words.join(", ");
 }
 
@@ -44,15 +45,16 @@ function legendRows(palette) {
 class Details {
   constructor(view) {
     this.view = view;
-    this.places = Object.fromEntries(["number", "when", "asked", "said", "answer", "line", "way", "changed", "letters", "values", "entries",
-      "events"].map((id) => [id, document.getElementById(id)]));
+    this.places = Object.fromEntries([
+      "number", "when", "asked", "said", "answer", "line", "way", "changed", "letters", "values",
+      "entries", "events"
+    ].map((id) => [id, document.getElementById(id)]));
   }
 
   show() {
     const { run, event } = this.view, texts = run.texts(event), { places } = this;
     if (document.activeElement !== places.number) places.number.value = run.numbers[event];
-    const life = run.lives[event] ? `life ${run.lives[event]}${run.live[event] ? "" : ", the firmware is not in it or halting"}` : "no life";
-    places.when.textContent = `${run.times ? `${timeText(run.times[event], 1)}, ` : ""}${life}`;
+    places.when.textContent = this.when();
     places.asked.textContent = texts.asked;
     places.said.textContent = texts.said;
     places.said.className = run.outcomes[event] === FINE ? "" : "wrong";
@@ -64,16 +66,28 @@ class Details {
     this.showEvents();
   }
 
+  /** The time of the event, if there is a clock, and its life. */
+  when() {
+    const { run, event } = this.view, words = [];
+    if (run.times) words.push(timeText(run.times[event], 1));
+    words.push(run.lives[event] ? `life ${run.lives[event]}` : "no life");
+    if (!run.live[event]) words.push("the firmware is not in it, or halting");
+    return words.join(", ");
+  }
+
   /** Where the message of the event, and its acknowledgement, came from and went. */
   showWay() {
-    const { run, event } = this.view, { message, ack } = messagesOf(run, event), { way } = this.places;
+    const { run, event } = this.view;
+    const { message, ack } = messagesOf(run, event);
+    const { way } = this.places;
     way.replaceChildren();
     if (message) {
       way.append(`${messageName(message)}: `, this.link("sent", message.event));
       for (const at of message.comings) way.append(", ", this.link("delivered", at));
       if (!message.comings.length) way.append(", never delivered");
     }
-    const acks = ack ? [ack] : [...(message?.comings ?? [])].map((at) => run.acked[at]).filter(Boolean);
+    const made = (message?.comings ?? []).map((at) => run.acked[at]).filter(Boolean);
+    const acks = ack ? [ack] : made;
     for (const it of acks) {
       way.append(element("br"), `acknowledgement ${it.index}: `, this.link("made", it.event));
       for (const at of it.comings) way.append(", ", this.link("taken", at));
@@ -93,21 +107,26 @@ class Details {
     const { run, event } = this.view, { changed, values, entries } = this.places;
     const isChanged = (node) => run.changes(node, event);
     const nodes = run.nodes.filter((node) => isChanged(node) || this.isTold(node));
-    changed.textContent = event === 0 ? "it is the first event here" : run.nodes.filter(isChanged).map((node) => node.name).join(", ") || "nothing";
+    changed.textContent = event === 0 ?
+        "it is the first event here" :
+        run.nodes.filter(isChanged).map((node) => node.name).join(", ") || "nothing";
     values.replaceChildren(...nodes.map((node) => {
       const row = element("tr", isChanged(node) ? "changed" : "");
-      row.append(element("th", "", node.name), this.letter(node), element("td", "", meaningOf(run, node, event)));
+      row.append(element("th", "", node.name), this.letter(node),
+          element("td", "", meaningOf(run, node, event)));
       row.addEventListener("click", () => this.view.pickCore(node));
       return row;
     }));
-    entries.textContent = run.nodes.map((node) => entryOf(run, node, event)).filter(Boolean).join("; ") || "all off";
+    entries.textContent =
+        run.nodes.map((node) => entryOf(run, node, event)).filter(Boolean).join("; ") || "all off";
   }
 
   /** Whether a node that did not change is told in whole words. */
   isTold(node) {
     const { run, event, pickedCore } = this.view;
     if (!entryOf(run, node, event)) return false;
-    if (run.cores.length <= LARGE_BOARD || node.level === run.nodes[run.nodes.length - 1].level) return true;
+    if (run.cores.length <= LARGE_BOARD || node.level === run.nodes[run.nodes.length - 1].level)
+      return true;
     return node.level === 0 && (node.index === pickedCore || node.index === run.coreOf(event));
   }
 
@@ -119,7 +138,9 @@ class Details {
     letters.replaceChildren(...run.nodes.filter((node) => node.level === 1).map((cluster) => {
       const made = element("span", "cluster");
       for (const node of run.cores.filter((it) => cluster.cores.includes(it.index))) {
-        const look = run.look(node, event), letter = element("i", look.depth === look.granted ? "" : "changing", STATES[look.state].letter);
+        const look = run.look(node, event);
+        const letter =
+            element("i", look.depth === look.granted ? "" : "changing", STATES[look.state].letter);
         letter.style.borderBottomColor = palette.states[look.state];
         letter.title = `${node.name}: ${meaningOf(run, node, event)}`;
         letter.addEventListener("click", () => this.view.pickCore(node));
@@ -131,7 +152,9 @@ class Details {
 
   /** The letter of a core on its color, or the depth of a domain. */
   letter(node) {
-    const { run, event, palette } = this.view, look = run.look(node, event), made = element("td", "letter");
+    const { run, event, palette } = this.view;
+    const look = run.look(node, event);
+    const made = element("td", "letter");
     if (look.state >= 0) {
       made.textContent = STATES[look.state].letter + (look.depth === look.granted ? "" : "!");
       made.style.borderBottomColor = palette.states[look.state];
@@ -144,11 +167,12 @@ class Details {
 
   /** The events around, to be clicked. */
   showEvents() {
-    const { run, event, view } = { ...this.view, view: this.view };
+    const { view } = this, { run, event } = view;
     const first = Math.max(Math.min(event - LISTED, run.count - 2 * LISTED - 1), 0), rows = [];
     for (let at = first; at < Math.min(first + 2 * LISTED + 1, run.count); at++) {
       const { asked, said } = run.texts(at), row = element("li", at === event ? "picked" : "");
-      row.append(element("b", "", `${run.numbers[at]}`), ` ${asked} → `, element("span", run.outcomes[at] === FINE ? "" : "wrong", said));
+      row.append(element("b", "", `${run.numbers[at]}`), ` ${asked} → `,
+          element("span", run.outcomes[at] === FINE ? "" : "wrong", said));
       row.addEventListener("click", () => view.pick(at));
       rows.push(row);
     }

@@ -6,12 +6,14 @@ const QUIET = 120;
 /** The lines of a script, each with the number of the event that it is, if it is one. */
 function eventLines(script) {
   let count = 0;
-  return script.split("\n").map((line, at) => (at > 0 && line && !line.startsWith("#") ? ++count : 0));
+  return script.split("\n").map(
+      (line, at) => (at > 0 && line && !line.startsWith("#") ? ++count : 0));
 }
 
 class Editor {
   constructor(groups) {
-    this.places = Object.fromEntries(["scripts", "story", "script", "numbers", "marks", "fault"].map((id) => [id, document.getElementById(id)]));
+    this.places = Object.fromEntries(["scripts", "story", "script", "numbers", "marks",
+      "fault"].map((id) => [id, document.getElementById(id)]));
     this.scripts = groups.flatMap((group) => group.scripts);
     this.fill(groups);
     this.asked = 0;
@@ -58,9 +60,13 @@ class Editor {
     let answer;
     try {
       const said = await fetch("/run", { method: "POST", body: script });
-      answer = said.ok ? await said.json() : { run: null, fault: { line: null, text: await said.text() } };
+      answer = said.ok ? await said.json() :
+                         { run: null, fault: { line: null, text: await said.text() } };
     } catch {
-      answer = { run: null, fault: { line: null, text: "the server does not answer: was it ended?" } };
+      answer = {
+        run: null,
+        fault: { line: null, text: "the server does not answer: was it ended?" }
+      };
     }
     // an answer to an older script says nothing any more
     if (asked === this.asked) await this.answered(answer);
@@ -73,8 +79,10 @@ class Editor {
       nameStates(run.head.states);
       const shown = await unpacked(run), event = this.isNew ? 0 : this.view?.event ?? 0;
       this.isNew = false;
-      if (this.view) this.view.show(shown);
-      else this.view = new View(shown);
+      if (this.view)
+        this.view.show(shown);
+      else
+        this.view = new View(shown);
       this.view.picked = (number) => this.markEvent(number);
       this.view.pick(Math.min(event, shown.count - 1));
       window.psci = { view: this.view };
@@ -93,27 +101,31 @@ class Editor {
       const made = element("span", fault?.line === at + 1 ? "faulty" : "", line || " ");
       return [made, "\n"];
     }));
-    this.places.fault.textContent = fault ? `${fault.line ? `line ${fault.line}: ` : ""}${fault.text}` : "";
+    this.places.fault.textContent =
+        fault ? `${fault.line ? `line ${fault.line}: ` : ""}${fault.text}` : "";
     this.scrolled();
   }
 
   /** Marks the line of the picked event. */
   markEvent(number) {
     const at = eventLines(this.places.script.value).indexOf(number);
-    for (const [place, made] of [...this.places.marks.querySelectorAll("span")].entries()) made.classList.toggle("event", place === at);
+    for (const [place, made] of [...this.places.marks.querySelectorAll("span")].entries())
+      made.classList.toggle("event", place === at);
   }
 
   /** Picks the event of the line that the cursor is in. */
   pickLine() {
-    const { script } = this.places, before = script.value.slice(0, script.selectionStart).split("\n").length - 1;
+    const { script } = this.places;
+    const before = script.value.slice(0, script.selectionStart).split("\n").length - 1;
     const number = eventLines(script.value)[before];
-    if (number && this.view && number <= this.view.run.numbers[this.view.run.count - 1]) this.view.pick(this.view.run.eventOf(number));
+    if (number && this.view && number <= this.view.run.numbers[this.view.run.count - 1])
+      this.view.pick(this.view.run.eventOf(number));
   }
 
   scrolled() {
     const { script, marks, numbers } = this.places;
-    marks.style.transform = `translate(${-script.scrollLeft}px, ${-script.scrollTop}px)`;
-    numbers.style.transform = `translateY(${-script.scrollTop}px)`;
+    marks.style.transform = `translate(${- script.scrollLeft}px, ${- script.scrollTop}px)`;
+    numbers.style.transform = `translateY(${- script.scrollTop}px)`;
   }
 }
 

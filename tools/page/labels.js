@@ -8,8 +8,10 @@ function fitted(context, text, width) {
   let [low, high] = [0, text.length];
   while (low < high) {
     const middle = (low + high + 1) >> 1;
-    if (context.measureText(`${text.slice(0, middle)}…`).width <= width) low = middle;
-    else high = middle - 1;
+    if (context.measureText(`${text.slice(0, middle)}…`).width <= width)
+      low = middle;
+    else
+      high = middle - 1;
   }
   return low > 1 ? `${text.slice(0, low)}…` : "";
 }
@@ -23,7 +25,14 @@ function callWords(run, event) {
 
 class Labels {
   constructor(view, context) {
-    Object.assign(this, { view, context, run: view.run, scale: view.scale, rows: view.rows, palette: view.palette });
+    Object.assign(this, {
+      view,
+      context,
+      run: view.run,
+      scale: view.scale,
+      rows: view.rows,
+      palette: view.palette
+    });
     this.gutter = view.gutter;
     this.first = this.scale.eventAt(0);
     this.last = this.scale.eventAt(this.scale.width);
@@ -48,7 +57,8 @@ class Labels {
     this.font(11);
     context.strokeStyle = palette.line;
     const step = scale.tick(90);
-    for (let place = Math.ceil(scale.left / step) * step; place <= scale.left + scale.width * scale.perPixel; place += step) {
+    for (let place = Math.ceil(scale.left / step) * step;
+         place <= scale.left + scale.width * scale.perPixel; place += step) {
       if (!scale.byClock && place >= run.count) break;
       const x = (place - scale.left) / scale.perPixel;
       context.beginPath();
@@ -66,7 +76,8 @@ class Labels {
     const { found } = this.view.search;
     this.context.fillStyle = this.palette.found;
     let before = -9;
-    for (let at = lastAtMost(found, this.first - 1, 0, found.length) + 1; at < found.length && found[at] <= this.last; at++) {
+    for (let at = lastAtMost(found, this.first - 1, 0, found.length) + 1;
+         at < found.length && found[at] <= this.last; at++) {
       const x = Math.round(this.scale.x(found[at]));
       if (x > before + 1) this.context.fillRect(x - 1, height - 6, 3, 6);
       before = x;
@@ -78,13 +89,22 @@ class Labels {
     const { context, palette } = this;
     for (const row of this.rows.visible()) {
       const y = this.y(row), middle = y + row.height / 2 + 4;
-      const isPicked = this.view.pickedCore !== null && row.type === "core" && row.node.index === this.view.pickedCore;
-      this.font(row.type === "idle" ? 10 : Math.min(12, Math.max(row.height - 1, 8)), row.type === "title" || isPicked ? "600" : "");
-      if (row.type === "title") this.text(row.text, 8, middle, palette.ink);
-      else if (row.type === "group") this.text(`${row.isOpen ? "▾" : "▸"} ${row.text}`, 8, middle, palette.ink, this.gutter - 14);
-      else if (row.type === "idle") this.text(`▸ ${row.text}`, 8, middle - 1, palette.faint, this.gutter - 14);
-      else if (row.type === "link") this.linkNames(y);
-      else this.text(row.node.name, row.type === "core" ? 24 : 8, middle, isPicked ? palette.pick : palette.ink, this.gutter - 30);
+      const isPicked = this.view.pickedCore !== null && row.type === "core" &&
+          row.node.index === this.view.pickedCore;
+      this.font(row.type === "idle" ? 10 : Math.min(12, Math.max(row.height - 1, 8)),
+          row.type === "title" || isPicked ? "600" : "");
+      if (row.type === "title")
+        this.text(row.text, 8, middle, palette.ink);
+      else if (row.type === "group")
+        this.text(
+            `${row.isOpen ? "▾" : "▸"} ${row.text}`, 8, middle, palette.ink, this.gutter - 14);
+      else if (row.type === "idle")
+        this.text(`▸ ${row.text}`, 8, middle - 1, palette.faint, this.gutter - 14);
+      else if (row.type === "link")
+        this.linkNames(y);
+      else
+        this.text(row.node.name, row.type === "core" ? 24 : 8, middle,
+            isPicked ? palette.pick : palette.ink, this.gutter - 30);
     }
     context.fillStyle = palette.line;
     context.fillRect(this.gutter - 1, 0, 1, this.rows.height);
@@ -100,28 +120,34 @@ class Labels {
   states() {
     if (this.last - this.first > 600) return;
     for (const row of this.rows.visible()) {
-      if (row.type === "core" && row.height >= 12) this.stateWords(row);
-      else if (row.type === "domain" && row.height >= 11) this.depthWords(row);
+      if (row.type === "core" && row.height >= 12)
+        this.stateWords(row);
+      else if (row.type === "domain" && row.height >= 11)
+        this.depthWords(row);
     }
   }
 
   eachSpan(history, least, tell) {
-    for (let at = Math.max(lastAtMost(history.events, this.first, 0, history.length), 0); at < history.length; at++) {
+    for (let at = Math.max(lastAtMost(history.events, this.first, 0, history.length), 0);
+         at < history.length; at++) {
       if (history.events[at] > this.last) break;
       const end = at + 1 < history.length ? history.events[at + 1] : this.run.count;
-      const x = Math.max(this.scale.x(history.events[at]), 0), width = Math.min(this.scale.x(end), this.scale.width) - x;
+      const x = Math.max(this.scale.x(history.events[at]), 0);
+      const width = Math.min(this.scale.x(end), this.scale.width) - x;
       if (width >= least) tell(history.values[at], x, width);
     }
   }
 
   stateWords(row) {
-    const { palette } = this, bottom = this.y(row) + row.height - (row.height >= STRIP_FROM + 2 ? 8 : 4);
+    const { palette } = this;
+    const bottom = this.y(row) + row.height - (row.height >= STRIP_FROM + 2 ? 8 : 4);
     this.font(row.height > 20 ? 11 : 9);
     this.eachSpan(this.run.cells[this.run.coreAt.get(row.node.index)], 9, (code, x, width) => {
       const state = STATES[code], high = (row.height - 7) * state.height >= 10;
       const ink = high ? (code === RUNNING || code === 3 ? "#ffffff" : "#14181c") : palette.ink;
       const y = high ? bottom : bottom - row.height * state.height;
-      this.text(width > 76 ? state.name : state.letter, x + 4, y, palette.theme === "dark" && high ? "#14181c" : ink, width - 5);
+      this.text(width > 76 ? state.name : state.letter, x + 4, y,
+          palette.theme === "dark" && high ? "#14181c" : ink, width - 5);
     });
   }
 
@@ -131,7 +157,8 @@ class Labels {
     this.eachSpan(this.run.looks[row.node.at], 12, (value, x, width) => {
       const depth = value & 3, word = width > 76 ? DEPTHS[depth].name : `${depth}`;
       const ink = depth === 0 || depth === 1 ? palette.ink : palette.ground;
-      this.text(word + (value > 3 ? "!" : ""), x + 4, this.y(row) + row.height / 2 + 3, ink, width - 5);
+      this.text(
+          word + (value > 3 ? "!" : ""), x + 4, this.y(row) + row.height / 2 + 3, ink, width - 5);
     });
   }
 
@@ -139,13 +166,17 @@ class Labels {
   marks() {
     const { run, palette, context, scale } = this;
     if (scale.step < 3) return;
-    const rows = new Map(this.rows.visible().filter((row) => row.type === "core").map((row) => [row.node.index, row]));
+    const rows = new Map(this.rows.visible()
+                             .filter((row) => row.type === "core")
+                             .map((row) => [row.node.index, row]));
     // from the last one back, since words have room up to the next mark in their row
     const ends = new Map();
     for (let event = this.last; event >= this.first; event--) {
       const row = run.kinds[event] < 4 && rows.get(run.objects[event]);
       if (!row) continue;
-      const x = scale.x(event), y = this.y(row), isWrong = run.outcomes[event] === REFUSED || run.outcomes[event] === IGNORED;
+      const x = scale.x(event);
+      const y = this.y(row);
+      const isWrong = run.outcomes[event] === REFUSED || run.outcomes[event] === IGNORED;
       context.fillStyle = isWrong ? palette.wrong : palette.message;
       context.fillRect(Math.round(x), y, scale.step > 20 ? 2 : 1, row.height - 1);
       const room = (ends.get(row) ?? scale.width) - x - 6;
@@ -158,10 +189,13 @@ class Labels {
     const [asked, said] = callWords(this.run, event), y = this.y(row);
     const code = this.run.cells[this.run.coreAt.get(row.node.index)].at(event);
     const isLow = STATES[code].height < 0.6;
-    const ink = isLow ? this.palette.ink : this.palette.theme === "dark" || code !== RUNNING ? "#14181c" : "#ffffff";
+    const ink = isLow                                     ? this.palette.ink :
+        this.palette.theme === "dark" || code !== RUNNING ? "#14181c" :
+                                                            "#ffffff";
     this.font(10);
     this.text(asked, x + 5, y + 11, ink, room);
-    if (row.height >= 38) this.text(said, x + 5, y + 22, isWrong && isLow ? this.palette.wrong : ink, room);
+    if (row.height >= 38)
+      this.text(said, x + 5, y + 22, isWrong && isLow ? this.palette.wrong : ink, room);
   }
 
   /** The picked event: a line through all rows. */

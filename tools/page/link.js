@@ -1,7 +1,9 @@
 // Messages from the firmware to the power controller, and acknowledgements back: arrows, or where
 // there are too many of them how many are sent and come.
 
-const LINK_TOP = 22, LINK_BOTTOM = 72, MOST_ARROWS = 500, MOST_NAMES = 60;
+const LINK_TOP = 22, LINK_BOTTOM = 72, MOST_ARROWS = 400, MOST_NAMES = 60;
+// how wide an event has to be, in pixels, for dashes and heads to be told apart
+const LEAST_STEP = 2;
 
 class Link {
   constructor(view, context, y) {
@@ -18,7 +20,8 @@ class Link {
     this.context.fillRect(0, this.top, end, 1.5);
     this.context.fillRect(0, this.bottom, end, 1.5);
     const messages = this.inSight(this.run.messages), acks = this.inSight(this.run.acks);
-    if (messages.length + acks.length > MOST_ARROWS) {
+    const arrows = [...messages, ...acks].reduce((sum, it) => sum + it.comings.length, 0);
+    if (arrows > MOST_ARROWS) {
       this.density();
     } else {
       messages.forEach((message) => this.message(message));
@@ -36,7 +39,9 @@ class Link {
   inSight(all) {
     const found = [];
     for (const it of all.values()) {
-      if (it.event <= this.last && it.end >= this.first && (this.isSeen(it.event) || it.comings.some((at) => this.isSeen(at)))) found.push(it);
+      if (it.event <= this.last && it.end >= this.first &&
+          (this.isSeen(it.event) || it.comings.some((at) => this.isSeen(at))))
+        found.push(it);
     }
     return found;
   }
@@ -67,13 +72,15 @@ class Link {
     const { context } = this;
     context.strokeStyle = context.fillStyle = color;
     context.lineWidth = 1.5;
-    context.setLineDash(isDashed ? [5, 3] : []);
+    context.setLineDash(isDashed && this.scale.step >= LEAST_STEP ? [5, 3] : []);
     context.beginPath();
     context.moveTo(...this.cut(x0, y0, x1, y1));
     context.lineTo(...this.cut(x1, y1, x0, y0));
     context.stroke();
     context.setLineDash([]);
-    const angle = Math.atan2(y1 - y0, x1 - x0), size = Math.min(8, Math.max(this.scale.step * 0.6, 3));
+    if (this.scale.step < LEAST_STEP) return;
+    const angle = Math.atan2(y1 - y0, x1 - x0);
+    const size = Math.min(8, Math.max(this.scale.step * 0.6, 3));
     context.beginPath();
     context.moveTo(x1, y1);
     context.lineTo(x1 - size * Math.cos(angle - 0.4), y1 - size * Math.sin(angle - 0.4));
@@ -119,7 +126,7 @@ class Link {
 
   /** How many messages are sent, above, and how many are delivered, below, in each column. */
   density() {
-    const { run, scale, context, palette } = this, width = Math.ceil(scale.width) + 1;
+    const { run, scale, palette } = this, width = Math.ceil(scale.width) + 1;
     const [sent, delivered, wrong] = [0, 0, 0].map(() => new Uint16Array(width));
     for (let event = this.first; event <= this.last; event++) {
       const x = Math.min(Math.max(Math.floor(scale.x(event)), 0), width - 1);
@@ -127,16 +134,18 @@ class Link {
       if (run.kinds[event] === 4) delivered[x]++;
       if (run.outcomes[event] >= IGNORED && run.kinds[event] >= 4) wrong[x]++;
     }
-    const most = Math.max(sent.reduce((a, b) => Math.max(a, b), 1), delivered.reduce((a, b) => Math.max(a, b), 1));
+    const most = Math.max(
+        sent.reduce((a, b) => Math.max(a, b), 1), delivered.reduce((a, b) => Math.max(a, b), 1));
     const half = (this.bottom - this.top) / 2 - 3;
-    for (let x = 0; x < width; x++) {
-      context.fillStyle = palette.message;
-      context.fillRect(x, this.top + 2, 1, half * sent[x] / most);
-      context.fillStyle = palette.ack;
-      context.fillRect(x, this.bottom - half * delivered[x] / most, 1, half * delivered[x] / most);
-      context.fillStyle = palette.wrong;
-      context.fillRect(x, this.bottom + 3, 1, 9 * wrong[x] / most);
-    }
+    this.bars(sent, palette.message, this.top + 2, half / most);
+    this.bars(delivered, palette.ack, this.bottom, -half / most);
+    this.bars(wrong, palette.wrong, this.bottom + 3, 9 / most);
+  }
+
+  /** A bar in each column, from this line down, or up. */
+  bars(counts, color, y, unit) {
+    this.context.fillStyle = color;
+    counts.forEach((count, x) => count && this.context.fillRect(x, y, 1, unit * count));
   }
 
   /** The messages of the picked event, over all others. */

@@ -9,7 +9,9 @@ class Minimap {
     this.drag = null;
     canvas.addEventListener("pointerdown", (it) => this.press(it));
     canvas.addEventListener("pointermove", (it) => this.move(it));
-    canvas.addEventListener("pointerup", () => { this.drag = null; });
+    canvas.addEventListener("pointerup", () => {
+      this.drag = null;
+    });
   }
 
   /** The place in the run that is under the pointer. */
@@ -41,10 +43,14 @@ class Minimap {
     this.image = new OffscreenCanvas(width * ratio, height * ratio);
     const context = this.image.getContext("2d");
     context.scale(ratio, ratio);
-    const most = run.awake.reduce((a, b) => Math.max(a, b), 1), columns = Math.max(Math.floor(width), 1);
-    const highs = new Uint16Array(columns), lows = new Uint16Array(columns).fill(65535), wrong = new Uint16Array(columns);
+    const most = run.awake.reduce((a, b) => Math.max(a, b), 1);
+    const columns = Math.max(Math.floor(width), 1);
+    const highs = new Uint16Array(columns);
+    const lows = new Uint16Array(columns).fill(65535);
+    const wrong = new Uint16Array(columns);
     for (let event = 0; event < run.count; event++) {
-      const from = Math.floor(scale.places[event] / end * columns), to = Math.floor(scale.places[event + 1] / end * columns);
+      const from = Math.floor(scale.places[event] / end * columns);
+      const to = Math.floor(scale.places[event + 1] / end * columns);
       for (let x = from; x <= Math.min(Math.max(to - 1, from), columns - 1); x++) {
         highs[x] = Math.max(highs[x], run.awake[event]);
         lows[x] = Math.min(lows[x], run.awake[event]);
@@ -58,7 +64,8 @@ class Minimap {
       context.fillStyle = palette.states[RUNNING];
       context.fillRect(x, base - room * highs[x] / most, 1, room * highs[x] / most);
       context.globalAlpha = 1;
-      if (lows[x] < 65535) context.fillRect(x, base - room * lows[x] / most, 1, room * lows[x] / most);
+      if (lows[x] < 65535)
+        context.fillRect(x, base - room * lows[x] / most, 1, room * lows[x] / most);
       context.fillStyle = palette.wrong;
       if (wrong[x]) context.fillRect(x, 0, 1, 1 + 5 * wrong[x] / worst);
     }
@@ -95,7 +102,8 @@ class Minimap {
       if (at !== before) context.fillRect(at, height - 6, 1, 6);
       before = at;
     }
-    const left = x(scale.left), wide = Math.max(x(scale.left + scale.perPixel * scale.width) - left, 3);
+    const left = x(scale.left);
+    const wide = Math.max(x(scale.left + scale.perPixel * scale.width) - left, 3);
     context.fillStyle = palette.shadow;
     context.fillRect(left, 0, wide, height);
     context.strokeStyle = palette.message;

@@ -20,8 +20,10 @@ class Pixels {
     y1 = Math.min(y1, this.height);
     for (let y = Math.max(y0, 0); y < y1; y++) {
       const row = y * this.width;
-      if (x1 - x0 > 4) this.colors.fill(color, row + x0, row + x1);
-      else for (let x = x0; x < x1; x++) this.colors[row + x] = color;
+      if (x1 - x0 > 4)
+        this.colors.fill(color, row + x0, row + x1);
+      else
+        for (let x = x0; x < x1; x++) this.colors[row + x] = color;
     }
   }
 }
@@ -48,19 +50,30 @@ function eachStretch(history, scale, ratio, tell) {
 
 class Painter {
   constructor(view) {
-    Object.assign(this, { run: view.run, scale: view.scale, rows: view.rows, palette: view.palette, ratio: view.ratio });
+    Object.assign(this, {
+      run: view.run,
+      scale: view.scale,
+      rows: view.rows,
+      palette: view.palette,
+      ratio: view.ratio
+    });
   }
 
   /** All bands in sight. */
   painted(context) {
     const { scale, rows, ratio } = this;
-    const pixels = new Pixels(context, Math.ceil(scale.width * ratio), Math.ceil(rows.height * ratio));
+    const pixels =
+        new Pixels(context, Math.ceil(scale.width * ratio), Math.ceil(rows.height * ratio));
     pixels.colors.fill(this.palette.pixels.ground);
     for (const row of rows.visible()) {
-      const y = Math.round((row.y - rows.top) * ratio), end = Math.round((row.y + row.height - rows.top) * ratio);
-      if (row.type === "core") this.paintCore(pixels, row.node, y + ratio, end - ratio);
-      else if (row.type === "domain") this.paintDomain(pixels, row.node, y + ratio, end - ratio);
-      else if (row.type === "group") this.paintAwake(pixels, row, y + 2 * ratio, end - ratio);
+      const y = Math.round((row.y - rows.top) * ratio);
+      const end = Math.round((row.y + row.height - rows.top) * ratio);
+      if (row.type === "core")
+        this.paintCore(pixels, row.node, y + ratio, end - ratio);
+      else if (row.type === "domain")
+        this.paintDomain(pixels, row.node, y + ratio, end - ratio);
+      else if (row.type === "group")
+        this.paintAwake(pixels, row, y + 2 * ratio, end - ratio);
     }
     return pixels.image;
   }
@@ -70,10 +83,13 @@ class Painter {
     const hasStrip = end - y >= STRIP_FROM * this.ratio;
     const bottom = Math.round(hasStrip ? end - (STRIP_HEIGHT + 1) * this.ratio : end);
     pixels.box(0, Math.round(y), pixels.width, bottom, band);
-    const tops = STATES.map((state) => bottom - Math.max(Math.round((bottom - y) * state.height), Math.round(this.ratio)));
-    eachStretch(this.run.cells[this.run.coreAt.get(node.index)], this.scale, this.ratio, (x0, x1, mask) => {
-      for (const code of BY_HEIGHT) if (mask >> code & 1) pixels.box(x0, tops[code], x1, bottom, states[code]);
-    });
+    const tops = STATES.map((state) => bottom -
+            Math.max(Math.round((bottom - y) * state.height), Math.round(this.ratio)));
+    eachStretch(
+        this.run.cells[this.run.coreAt.get(node.index)], this.scale, this.ratio, (x0, x1, mask) => {
+          for (const code of BY_HEIGHT)
+            if (mask >> code & 1) pixels.box(x0, tops[code], x1, bottom, states[code]);
+        });
     if (hasStrip) this.paintStrip(pixels, node, bottom + Math.round(this.ratio), Math.round(end));
   }
 
@@ -86,15 +102,19 @@ class Painter {
     });
   }
 
-  /** The depths of a domain, which hang down the deeper it is; an amber line below: about to change. */
+  /** The depths of a domain, which hang down the deeper it is; an amber line: about to change. */
   paintDomain(pixels, node, y, end) {
     const { depths, band, amber } = this.palette.pixels;
-    const top = Math.round(y), bottom = Math.round(end), line = Math.max(Math.round(2 * this.ratio), 1);
+    const top = Math.round(y);
+    const bottom = Math.round(end);
+    const line = Math.max(Math.round(2 * this.ratio), 1);
     pixels.box(0, top, pixels.width, bottom, band);
     eachStretch(this.run.looks[node.at], this.scale, this.ratio, (x0, x1, mask) => {
       const found = mask | mask >> 4;
       for (let depth = 3; depth >= 0; depth--) {
-        if (found >> depth & 1) pixels.box(x0, top, x1, top + Math.round((bottom - top) * DEPTH_PARTS[depth]), depths[depth]);
+        if (found >> depth & 1)
+          pixels.box(
+              x0, top, x1, top + Math.round((bottom - top) * DEPTH_PARTS[depth]), depths[depth]);
       }
       if (mask >> 4) pixels.box(x0, bottom - line, x1, bottom, amber);
     });
@@ -107,12 +127,15 @@ class Painter {
     pixels.box(0, bottom - 1, pixels.width, bottom, line);
     const counts = new Uint16Array(pixels.width);
     for (const node of row.cores) {
-      eachStretch(this.run.cells[this.run.coreAt.get(node.index)], this.scale, this.ratio, (x0, x1, mask) => {
-        if (mask >> RUNNING & 1) for (let x = x0; x < x1; x++) counts[x]++;
-      });
+      eachStretch(this.run.cells[this.run.coreAt.get(node.index)], this.scale, this.ratio,
+          (x0, x1, mask) => {
+            if (mask >> RUNNING & 1)
+              for (let x = x0; x < x1; x++) counts[x]++;
+          });
     }
     for (let x = 0; x < counts.length; x++) {
-      if (counts[x]) pixels.box(x, Math.round(bottom - counts[x] * step), x + 1, bottom, states[RUNNING]);
+      if (counts[x])
+        pixels.box(x, Math.round(bottom - counts[x] * step), x + 1, bottom, states[RUNNING]);
     }
   }
 }

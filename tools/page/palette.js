@@ -25,12 +25,34 @@ const DEPTHS = [
   { name: "power-down", light: "#2f4459", dark: "#c3d4e4" },
 ];
 const THEMES = {
-  light: { ground: "#ffffff", band: "#f4f6f8", ink: "#1b1f23", faint: "#6a737d", line: "#d0d7de",
-    amber: "#e69f00", message: "#1f5fa8", ack: "#00735c", wrong: "#c62828", pick: "#b3007a", found: "#e69f00",
-    shadow: "rgba(31,95,168,.14)" },
-  dark: { ground: "#14181c", band: "#1b2025", ink: "#e6edf3", faint: "#98a3ae", line: "#343c44",
-    amber: "#ffb52e", message: "#79b8ff", ack: "#4fd1b0", wrong: "#ff7b72", pick: "#ff7ad9", found: "#ffb52e",
-    shadow: "rgba(121,184,255,.18)" },
+  light: {
+    ground: "#ffffff",
+    band: "#f4f6f8",
+    ink: "#1b1f23",
+    faint: "#6a737d",
+    line: "#d0d7de",
+    amber: "#e69f00",
+    message: "#1f5fa8",
+    ack: "#00735c",
+    wrong: "#c62828",
+    pick: "#b3007a",
+    found: "#e69f00",
+    shadow: "rgba(31,95,168,.14)"
+  },
+  dark: {
+    ground: "#14181c",
+    band: "#1b2025",
+    ink: "#e6edf3",
+    faint: "#98a3ae",
+    line: "#343c44",
+    amber: "#ffb52e",
+    message: "#79b8ff",
+    ack: "#4fd1b0",
+    wrong: "#ff7b72",
+    pick: "#ff7ad9",
+    found: "#ffb52e",
+    shadow: "rgba(121,184,255,.18)"
+  },
 };
 
 /** Takes the names, letters and meanings of states, as the page has them. */
@@ -51,8 +73,12 @@ function paletteOf(theme) {
   colors.states = STATES.map((state) => state[theme]);
   colors.depths = DEPTHS.map((depth) => depth[theme]);
   colors.pixels = {
-    ground: pixelOf(colors.ground), band: pixelOf(colors.band), line: pixelOf(colors.line),
-    amber: pixelOf(colors.amber), states: colors.states.map(pixelOf), depths: colors.depths.map(pixelOf),
+    ground: pixelOf(colors.ground),
+    band: pixelOf(colors.band),
+    line: pixelOf(colors.line),
+    amber: pixelOf(colors.amber),
+    states: colors.states.map(pixelOf),
+    depths: colors.depths.map(pixelOf),
   };
   return colors;
 }

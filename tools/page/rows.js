@@ -17,7 +17,8 @@ class Rows {
   constructor(run) {
     this.run = run;
     this.clusters = run.nodes.filter((node) => node.level === 1);
-    this.domains = run.nodes.filter((node) => node.level > 0).sort((a, b) => b.level - a.level || a.index - b.index);
+    this.domains = run.nodes.filter((node) => node.level > 0)
+                       .sort((a, b) => b.level - a.level || a.index - b.index);
     this.idle = this.findIdle();
     // how much of each cluster is shown: its busy cores, all, or none
     this.shown = new Map(this.clusters.map((node) => [node, "busy"]));
@@ -31,7 +32,8 @@ class Rows {
   /** The cores that do nothing all along, and the domains that nothing happens to. */
   findIdle() {
     const { run } = this, idle = new Set(), busy = new Set();
-    for (let event = 0; event < run.count; event++) if (run.kinds[event] < 4) busy.add(run.objects[event]);
+    for (let event = 0; event < run.count; event++)
+      if (run.kinds[event] < 4) busy.add(run.objects[event]);
     for (const node of run.nodes) {
       const at = run.coreAt.get(node.index);
       const moves = node.level === 0 && (busy.has(node.index) || run.cells[at].length > 1);
@@ -45,7 +47,8 @@ class Rows {
     let waiting = [];
     for (const cluster of this.clusters) {
       const cores = this.run.cores.filter((node) => cluster.cores.includes(node.index));
-      if (!this.isIdleShown && this.shown.get(cluster) === "busy" && cores.every((node) => this.idle.has(node))) {
+      if (!this.isIdleShown && this.shown.get(cluster) === "busy" &&
+          cores.every((node) => this.idle.has(node))) {
         waiting.push(cluster);
         continue;
       }
@@ -54,7 +57,8 @@ class Rows {
       this.addCluster(cluster, cores);
     }
     this.addIdle(waiting);
-    this.rows.push({ type: "title", text: "Link", height: TITLE_HEIGHT }, { type: "link", height: LINK_HEIGHT });
+    this.rows.push({ type: "title", text: "Link", height: TITLE_HEIGHT },
+        { type: "link", height: LINK_HEIGHT });
     this.rows.push({ type: "title", text: "Power domains", height: TITLE_HEIGHT });
     this.addDomains();
     this.place();
@@ -62,10 +66,21 @@ class Rows {
 
   /** A cluster, and below it its cores: those that do something, all, or none. */
   addCluster(cluster, cores) {
-    const shown = this.isIdleShown && this.shown.get(cluster) === "busy" ? "all" : this.shown.get(cluster);
-    const busy = cores.filter((node) => !this.idle.has(node)), seen = { busy, all: cores, none: [] }[shown];
-    const text = shown === "busy" && busy.length < cores.length ? `${cluster.name}, ${cores.length - busy.length} idle` : cluster.name;
-    this.rows.push({ type: "group", node: cluster, cores, text, isOpen: seen.length > 0, isWhole: seen.length === cores.length });
+    const shown =
+        this.isIdleShown && this.shown.get(cluster) === "busy" ? "all" : this.shown.get(cluster);
+    const busy = cores.filter((node) => !this.idle.has(node));
+    const seen = { busy, all: cores, none: [] }[shown];
+    const text = shown === "busy" && busy.length < cores.length ?
+        `${cluster.name}, ${cores.length - busy.length} idle` :
+        cluster.name;
+    this.rows.push({
+      type: "group",
+      node: cluster,
+      cores,
+      text,
+      isOpen: seen.length > 0,
+      isWhole: seen.length === cores.length
+    });
     for (const node of seen) this.rows.push({ type: "core", node });
   }
 
@@ -93,10 +108,13 @@ class Rows {
     const domains = this.rows.filter((row) => row.type === "domain").length;
     const fixed = this.rows.reduce((sum, row) => sum + (this.fixedHeight(row) ?? 0), 0);
     const fitting = (this.height - fixed) / Math.max(cores + 0.6 * domains, 1);
-    const core = Math.round(Math.min(Math.max(fitting, LEAST_HEIGHT), MOST_HEIGHT) * this.scaleHeight);
+    const core =
+        Math.round(Math.min(Math.max(fitting, LEAST_HEIGHT), MOST_HEIGHT) * this.scaleHeight);
     let y = 0;
     for (const row of this.rows) {
-      row.height = this.fixedHeight(row) ?? (row.type === "core" ? Math.max(core, 5) : Math.max(Math.round(core * 0.6), LEAST_HEIGHT));
+      row.height = this.fixedHeight(row) ??
+          (row.type === "core" ? Math.max(core, 5) :
+                                 Math.max(Math.round(core * 0.6), LEAST_HEIGHT));
       row.y = y;
       y += row.height;
     }
@@ -105,7 +123,10 @@ class Rows {
   }
 
   fixedHeight(row) {
-    return { title: TITLE_HEIGHT, link: LINK_HEIGHT, group: GROUP_HEIGHT, idle: IDLE_HEIGHT }[row.type];
+    return { title: TITLE_HEIGHT,
+      link: LINK_HEIGHT,
+      group: GROUP_HEIGHT,
+      idle: IDLE_HEIGHT }[row.type];
   }
 
   resize(height) {
@@ -119,7 +140,8 @@ class Rows {
 
   /** The rows in sight. */
   visible() {
-    return this.rows.filter((row) => row.y + row.height > this.top && row.y < this.top + this.height);
+    return this.rows.filter(
+        (row) => row.y + row.height > this.top && row.y < this.top + this.height);
   }
 
   rowAt(y) {
@@ -140,10 +162,14 @@ class Rows {
 
   /** Folds or unfolds what a click on a name means. */
   toggle(row) {
-    if (row.type === "group") this.shown.set(row.node, row.isWhole ? "none" : row.isOpen ? "all" : "busy");
-    else if (row.type !== "idle") return false;
-    else if (row.nodes.every((node) => this.shown.has(node))) row.nodes.forEach((node) => this.shown.set(node, "all"));
-    else this.isIdleShown = true;
+    if (row.type === "group")
+      this.shown.set(row.node, row.isWhole ? "none" : row.isOpen ? "all" : "busy");
+    else if (row.type !== "idle")
+      return false;
+    else if (row.nodes.every((node) => this.shown.has(node)))
+      row.nodes.forEach((node) => this.shown.set(node, "all"));
+    else
+      this.isIdleShown = true;
     this.build();
     return true;
   }

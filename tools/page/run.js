@@ -12,8 +12,10 @@ function lastAtMost(values, value, begin, end) {
   let low = begin, high = end;
   while (low < high) {
     const middle = (low + high) >> 1;
-    if (values[middle] <= value) low = middle + 1;
-    else high = middle;
+    if (values[middle] <= value)
+      low = middle + 1;
+    else
+      high = middle;
   }
   return low - 1;
 }
@@ -41,7 +43,9 @@ class Run {
     this.nodes = head.nodes;
     this.count = head.count;
     this.cores = this.nodes.filter((node) => node.level === 0);
-    this.nodes.forEach((node, at) => { node.at = at; });
+    this.nodes.forEach((node, at) => {
+      node.at = at;
+    });
     this.coreAt = new Map(this.cores.map((node, at) => [node.index, at]));
     this.lines = texts.split("\n");
     this.readEvents(events);
@@ -121,7 +125,8 @@ class Run {
   /** Values before the first event, and then what each event changed, as they come. */
   readChanges(reader) {
     const cells = this.cores.length + 2 * this.nodes.length;
-    const places = new Numbers(Uint16Array, 4 * this.count), values = new Numbers(Uint8Array, 4 * this.count);
+    const places = new Numbers(Uint16Array, 4 * this.count);
+    const values = new Numbers(Uint8Array, 4 * this.count);
     this.changeStart = new Uint32Array(this.count + 1);
     const counts = new Uint32Array(cells + 1);
     for (let event = 0; event < this.count; event++) {
@@ -140,7 +145,8 @@ class Run {
 
   sortByCell(counts, values) {
     for (let cell = 1; cell < counts.length; cell++) counts[cell] += counts[cell - 1];
-    const events = new Uint32Array(this.changeStart[this.count]), sorted = new Uint8Array(events.length);
+    const events = new Uint32Array(this.changeStart[this.count]);
+    const sorted = new Uint8Array(events.length);
     const next = counts.slice();
     for (let event = 0; event < this.count; event++) {
       for (let at = this.changeStart[event]; at < this.changeStart[event + 1]; at++) {
@@ -171,7 +177,7 @@ class Run {
     const events = [], values = [];
     for (let d = 0, g = 0; d < depth.length || g < granted.length;) {
       const event = Math.min(d < depth.length ? depth.events[d] : Infinity,
-        g < granted.length ? granted.events[g] : Infinity);
+          g < granted.length ? granted.events[g] : Infinity);
       while (d < depth.length && depth.events[d] <= event) d++;
       while (g < granted.length && granted.events[g] <= event) g++;
       const is = d ? depth.values[d - 1] : 0, may = g ? granted.values[g - 1] : 0;
@@ -211,8 +217,11 @@ class Run {
     const core = node.level === 0 ? this.coreAt.get(node.index) : -1;
     const depth = this.cells[this.cores.length + node.at].at(event);
     const granted = this.cells[this.cores.length + this.nodes.length + node.at].at(event);
-    return { state: core < 0 ? -1 : this.cells[core].at(event), depth,
-      granted: granted === UNKNOWN ? depth : granted };
+    return {
+      state: core < 0 ? -1 : this.cells[core].at(event),
+      depth,
+      granted: granted === UNKNOWN ? depth : granted
+    };
   }
 
   /** Whether an event changed what is shown of a node. */

@@ -15,7 +15,8 @@ class Scale {
     for (let event = 0; event <= count; event++) {
       this.places[event] = this.byClock ? times[Math.min(event, count - 1)] - times[0] : event;
     }
-    if (this.byClock) this.places[count] += Math.max(this.places[count] / Math.max(count - 1, 1), 1);
+    if (this.byClock)
+      this.places[count] += Math.max(this.places[count] / Math.max(count - 1, 1), 1);
     this.end = this.places[count];
     this.whole();
   }
@@ -28,7 +29,8 @@ class Scale {
   }
 
   resize(width) {
-    const isWhole = this.left === 0 && Math.abs(this.perPixel * this.width - this.end) < 1e-6 * this.end;
+    const isWhole =
+        this.left === 0 && Math.abs(this.perPixel * this.width - this.end) < 1e-6 * this.end;
     this.width = Math.max(width, 1);
     if (isWhole) this.whole();
     this.clamp();
@@ -82,7 +84,8 @@ class Scale {
 
   limit() {
     const least = this.byClock ? 0.01 : 1 / 280;
-    this.perPixel = Math.min(Math.max(this.perPixel, least), Math.max(this.end / this.width, least));
+    this.perPixel =
+        Math.min(Math.max(this.perPixel, least), Math.max(this.end / this.width, least));
   }
 
   clamp() {

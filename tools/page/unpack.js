@@ -14,7 +14,7 @@ class Reader {
   /** A number of seven bits a byte, the lowest first. */
   number() {
     let value = 0;
-    for (let unit = 1; ; unit *= 128) {
+    for (let unit = 1;; unit *= 128) {
       const byte = this.bytes[this.at++];
       value += (byte & 127) * unit;
       if (byte < 128) return value;
@@ -57,7 +57,7 @@ async function unpacked(packed) {
   const { head, streams } = packed;
   const names = ["events", "changes", "texts", "times"];
   const [events, changes, texts, times] =
-    await Promise.all(names.map((name) => inflated(streams[name])));
-  return new Run(head, new Reader(events), new Reader(changes),
-    new TextDecoder().decode(texts), new Reader(times));
+      await Promise.all(names.map((name) => inflated(streams[name])));
+  return new Run(head, new Reader(events), new Reader(changes), new TextDecoder().decode(texts),
+      new Reader(times));
 }

@@ -115,8 +115,10 @@ class View {
   /** The event that the address names, or the first. */
   follow() {
     const named = /^#e=(\d+)$/.exec(location.hash);
-    if (!named) this.pick(0);
-    else this.lookAt(this.run.eventOf(Number(named[1])));
+    if (!named)
+      this.pick(0);
+    else
+      this.lookAt(this.run.eventOf(Number(named[1])));
   }
 
   /** Picks an event, and shows some events around it if there are more than can be told apart. */
@@ -132,12 +134,19 @@ class View {
   hover(place) {
     this.tip.hidden = !place || place.x < 0 || place.y < 0;
     if (this.tip.hidden) return;
-    const row = this.rows.rowAt(place.y), event = this.nearest(place.x, row), { asked, said } = this.run.texts(event);
-    const state = row?.node && row.type !== "group" ? `\n${row.node.name}: ${meaningOf(this.run, row.node, event)}` : "";
+    const row = this.rows.rowAt(place.y);
+    const event = this.nearest(place.x, row);
+    const { asked, said } = this.run.texts(event);
+    const state = row?.node && row.type !== "group" ?
+        `\n${row.node.name}: ${meaningOf(this.run, row.node, event)}` :
+        "";
     this.tip.textContent = `${this.run.numbers[event]}  ${asked} → ${said}${state}`;
-    const left = Math.min(place.x + this.gutter + 14, this.canvas.clientWidth - this.tip.offsetWidth - 4);
+    const left =
+        Math.min(place.x + this.gutter + 14, this.canvas.clientWidth - this.tip.offsetWidth - 4);
     this.tip.style.left = `${Math.max(left, 4)}px`;
-    this.tip.style.top = `${Math.min(place.y + AXIS_HEIGHT + 18, this.canvas.clientHeight - this.tip.offsetHeight - 4)}px`;
+    this.tip.style.top = `${
+        Math.min(
+            place.y + AXIS_HEIGHT + 18, this.canvas.clientHeight - this.tip.offsetHeight - 4)}px`;
   }
 
   // ---- drawing
@@ -152,12 +161,15 @@ class View {
   }
 
   draw() {
-    const begun = performance.now(), { canvas, ratio, gutter } = this, context = canvas.getContext("2d");
+    const begun = performance.now();
+    const { canvas, ratio, gutter } = this;
+    const context = canvas.getContext("2d");
     const width = canvas.width / ratio, height = canvas.height / ratio;
     context.setTransform(1, 0, 0, 1, 0, 0);
     context.fillStyle = this.palette.ground;
     context.fillRect(0, 0, canvas.width, canvas.height);
-    context.putImageData(new Painter(this).painted(context), Math.round(gutter * ratio), Math.round(AXIS_HEIGHT * ratio));
+    context.putImageData(new Painter(this).painted(context), Math.round(gutter * ratio),
+        Math.round(AXIS_HEIGHT * ratio));
     context.setTransform(ratio, 0, 0, ratio, 0, 0);
     this.drawOver(context, width, height);
     this.minimap.draw();

@@ -1,2 +1,1 @@
-"""Views of a run: what tools/show, tools/draw and tools/try make of the rows that `./psci show --json`
-writes."""
+"""Views of a run: what tools/show, tools/draw and tools/try make of what `show --json` writes."""

@@ -20,7 +20,8 @@ def opened(words):
     highest = max(words.cores or [0])
     if highest >= run.board.cores:
         raise Refused(f"there is no core {highest}: the board has {run.board.cores}")
-    return run, window.Window(run.board, words), clock.Clock(words.clock and clock.read(words.clock))
+    times = clock.read(words.clock) if words.clock else None
+    return run, window.Window(run.board, words), clock.Clock(times)
 
 
 def screen_lines():

@@ -15,6 +15,11 @@ def words_of(kind):
     return {int(number): f"{name}: {where}" for number, name, where in found}
 
 
+def fault(text, line=None):
+    """A fault of a line, or of none, as the page has it."""
+    return {"line": line, "text": text}
+
+
 def fault_of(said, status):
     """The fault that the program told of: its line if it has one, and its words."""
     if status == 0:
@@ -22,5 +27,5 @@ def fault_of(said, status):
     match = re.search(r"line (\d+): (script|board) fault (\d+)", said)
     if match:
         words = words_of(match[2]).get(int(match[3]), said.strip())
-        return {"line": int(match[1]), "text": f"{match[2]} fault {match[3]}, {words}"}
-    return {"line": None, "text": said.strip() or f"the program ended with status {status}"}
+        return fault(f"{match[2]} fault {match[3]}, {words}", int(match[1]))
+    return fault(said.strip() or f"the program ended with status {status}")

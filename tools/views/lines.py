@@ -104,8 +104,9 @@ class Lines:
         """The names of the columns, in two lines."""
         if not self.beside:
             return "   n  asked -> answered, and below it what changed\n"
-        names, numbers = f"{'':{MARGIN}}{'core':{len(self.levels[0])}.{len(self.levels[0])}}", "   n  "
-        numbers += "".join(str(index % 10) for _, index in self.levels[0])
+        cores = self.levels[0]
+        names = " " * MARGIN + f"{'core':{len(cores)}.{len(cores)}}"
+        numbers = "   n  " + "".join(str(index % 10) for _, index in cores)
         for level in self.levels:
             name = self.board.name(level[0]).split(" ")[0]
             names += f"  {name:{3 * len(level) - 1}.{3 * len(level) - 1}}"

@@ -16,6 +16,9 @@ from . import clock, faults, page, shown, stories, window
 # the longest script in bytes and in lines, the seconds of a run, its bytes of memory and of output
 MOST_BYTES, MOST_LINES, SECONDS = 128 * 1024, 5000, 5
 MEMORY, MOST_OUTPUT = 1 << 30, 64 << 20
+# what the page may do: run its own scripts, and ask this server
+POLICY = ("default-src 'none'; style-src 'unsafe-inline'; script-src 'unsafe-inline'; "
+          "connect-src 'self'; frame-ancestors 'none'")
 # runs at one time
 AT_ONCE = threading.Semaphore(2)
 
@@ -28,16 +31,18 @@ def limit():
 
 
 def run_of(program, script):
-    """The run of a script as the page has it, and the fault that ended it: of a line, or of none."""
+    """The run of a script as the page has it, and the fault that ended it, of a line or of none."""
     if script.count("\n") > MOST_LINES:
-        return None, {"line": MOST_LINES + 1, "text": f"here a script has at most {MOST_LINES} lines"}
+        return None, faults.fault(f"here a script has at most {MOST_LINES} lines", MOST_LINES + 1)
     try:
         with AT_ONCE:
-            ran = subprocess.run([program, "show", "--json"], input=script.encode(), timeout=SECONDS,
-                                 capture_output=True, check=False, preexec_fn=limit)
+            ran = subprocess.run([program, "show", "--json"], input=script.encode(),
+                                 timeout=SECONDS, capture_output=True, check=False,
+                                 preexec_fn=limit)
     except subprocess.TimeoutExpired:
-        return None, {"line": None, "text": f"the run took more than {SECONDS} seconds"}
-    return packed(ran.stdout[:MOST_OUTPUT].decode()), faults.fault_of(ran.stderr.decode(), ran.returncode)
+        return None, faults.fault(f"the run took more than {SECONDS} seconds")
+    fault = faults.fault_of(ran.stderr.decode(), ran.returncode)
+    return packed(ran.stdout[:MOST_OUTPUT].decode()), fault
 
 
 def packed(text):
@@ -84,8 +89,8 @@ class Page(BaseHTTPRequestHandler):
     def is_ours(self):
         """Whether this comes from the page itself; if not, it is refused."""
         hosts = [f"{name}:{self.server.server_port}" for name in ("127.0.0.1", "localhost")]
-        origin = self.headers.get("Origin")
-        if self.headers.get("Host") in hosts and origin in (None, *(f"http://{it}" for it in hosts)):
+        origins = [None, *(f"http://{host}" for host in hosts)]
+        if self.headers.get("Host") in hosts and self.headers.get("Origin") in origins:
             return True
         self.answer(403, "text/plain", b"only the page itself may ask\n")
         return False
@@ -96,8 +101,7 @@ class Page(BaseHTTPRequestHandler):
         self.send_header("Content-Length", str(len(body)))
         self.send_header("Cache-Control", "no-store")
         self.send_header("X-Content-Type-Options", "nosniff")
-        self.send_header("Content-Security-Policy", "default-src 'none'; style-src 'unsafe-inline'; "
-                         "script-src 'unsafe-inline'; connect-src 'self'; frame-ancestors 'none'")
+        self.send_header("Content-Security-Policy", POLICY)
         self.end_headers()
         self.wfile.write(body)
 

@@ -30,14 +30,13 @@ def script(path, title=None, story=""):
 
 def peers():
     """The stories of docs/PEERS.md, each with its script."""
-    chapters = re.findall(r"^### (\d+\. [^\n]*): `([a-z-]+)`\n\n(.*?)\n\n", text_of(f"{TOP}/docs/PEERS.md"),
-                          re.M | re.S)
+    text = text_of(f"{TOP}/docs/PEERS.md")
+    chapters = re.findall(r"^### (\d+\. [^\n]*): `([a-z-]+)`\n\n(.*?)\n\n", text, re.M | re.S)
     return [script(f"{TOP}/examples/peers/{name}.psci", title, plain(story))
             for title, name, story in chapters]
 
 
 def plain(text):
     """The points of a story as lines, without their marks."""
-    text = re.sub(r"\n  +", " ", text)
-    return re.sub(r"\[([^\]]*)\]\([^)]*\)", r"\1", text).replace("`", "").replace("- ", "", 1).replace(
-        "\n- ", "\n")
+    lines = [line.removeprefix("- ") for line in re.sub(r"\n  +", " ", text).splitlines()]
+    return re.sub(r"\[([^\]]*)\]\([^)]*\)", r"\1", "\n".join(lines)).replace("`", "")

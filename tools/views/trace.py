@@ -1,9 +1,9 @@
 """A run as a JSON trace, in the format that Perfetto and the viewer of Chromium open.
 
-Three processes: the cores, with a track each, the power domains above them, and the link. Each event
-of the run stands once, in order, as a slice with `args.event`: on the track of its core, or of the
-power controller or the firmware for what the link brings. A core's states and a domain's depths are
-slices around them, and flows lead from a message to its delivery, and on to where its
+Three processes: the cores, with a track each, the power domains above them, and the link. Each
+event of the run stands once, in order, as a slice with `args.event`: on the track of its core, or of
+the power controller or the firmware for what the link brings. A core's states and a domain's depths
+are slices around them, and flows lead from a message to its delivery, and on to where its
 acknowledgement is taken.
 """
 import json
@@ -127,5 +127,5 @@ def write(window, run, out, clock):
 
 
 def length(trace, row, following):
-    """How long the slice of an event is: half of the time to the next one, a microsecond at most."""
+    """How long the slice of an event is: half the time to the next one, a microsecond at most."""
     return min((trace.time(following.number) - trace.time(row.number)) / 2, 1)

@@ -30,7 +30,7 @@ def add_words(parser):
     parser.add_argument("--to", dest="last", type=number_from_one, default=LARGEST, metavar="N",
                         help="ends with event N")
     parser.add_argument("--cores", type=core_list, metavar="LIST",
-                        help="these cores and what is above them, as 0-3,8, and the events of these")
+                        help="these cores, as 0-3,8, what is above them, and the events of these")
 
 
 # the words of a window that leaves nothing out
