@@ -1,6 +1,6 @@
 -- Worked examples: one who polls a firmware, what C gets of it, and what a call and an
 -- acknowledgement leave.
-use Rattle.std.proofs.Common.{◌≡◌, inl, inr, ℕ, zero, suc, ◌<◌, ℤ, pos, negsuc, List, [], ◌∷◌, map}
+use Rattle.std.proofs.Common.{◌≡◌, inl, inr, ℕ, zero, suc, ◌<◌, ℤ, pos, negsuc, List, [], ◌∷◌}
 use Rattle.std.proofs.Common.{length, false, refl, sym, ap, ◌∙◌, subst, arith, None, Some}
 use Rattle.atomic_table.specs.Seated.{TableId}
 use Rattle.psci_abi.specs.declared.code.Code.{Code}
@@ -21,7 +21,7 @@ use Rattle.psci_fw_spec.specs.Values.{Values}
 use Rattle.psci_messages.specs.declared.kind.Kind.TheVariants as kinds
 use Rattle.psci_messages.specs.declared.start.Cause.TheVariants as causes
 use Rattle.psci_messages.specs.Message.{AckValue}
-use Rattle.psci_status.specs.Lists.{Item, newest, row}
+use Rattle.psci_status.specs.Lists.{Item, row}
 use Rattle.psci_polled.specs.Polled.{IsWrittenFrom, PolledView}
 use Rattle.psci_polled.specs.Writing.{written_then}
 use Rattle.psci_polled.proofs.Calls.{Step, board, boots, computing, enters, history, off, on}

@@ -1,14 +1,13 @@
 -- Calls for worked examples, on a board of two clusters of two cores: each is answered with the one
 -- legal reply.
-use Rattle.std.proofs.Common.{ℕ, Bool, false, List, [], ◌∷◌}
+use Rattle.std.proofs.Common.{ℕ, false, List, [], ◌∷◌}
 use Rattle.psci_abi.specs.psci_format.declared.format.Format.TheVariants.{Original}
 use Rattle.psci_board.specs.Board.{BoardValue, core_of, node_of, up}
 use Rattle.psci_fw_spec.specs.psci_claims.Claim.{claims_of}
 use Rattle.psci_fw_spec.specs.psci_claims.View.{generation, is_all_off, is_idle, least_ask}
 use Rattle.psci_messages.specs.declared.kind.Kind.{Kind}
-use Rattle.psci_messages.specs.declared.kind.Kind.TheVariants as kinds
 use Rattle.psci_messages.specs.declared.start.Cause.{Cause}
-use Rattle.psci_messages.specs.declared.start.Cause.TheVariants.{Boot, On, Wake}
+use Rattle.psci_messages.specs.declared.start.Cause.TheVariants.{Boot}
 use Rattle.psci_messages.specs.Outstanding.{changes_since, last_message, outstanding}
 use Rattle.psci_fw_spec.specs.declared.call.FwCall.{FwCall}
 use Rattle.psci_fw_spec.specs.declared.call.FwCall.TheVariants.{Smc, Enter, Take}

@@ -1,7 +1,6 @@
 -- Worked examples: which core's status a call may change, by its effect and by its outcome.
 use Rattle.std.proofs.Common.{◌≡◌, ℕ, pos, negsuc, true, false, List, [], ◌∷◌, map, None, Some, refl}
 use Rattle.std.specs.Prelude.{Bool, Option}
-use Rattle.psci_board.specs.declared.node.Core.{Core}
 use Rattle.psci_messages.specs.declared.kind.Kind.{Kind}
 use Rattle.psci_messages.specs.declared.kind.Kind.TheVariants as kinds
 use Rattle.psci_messages.specs.declared.start.Cause.TheVariants.{Boot, Wake}
@@ -9,7 +8,6 @@ use Rattle.psci_messages.specs.declared.start.Cause.TheVariants as causes
 use Rattle.psci_messages.specs.declared.start.Start.{Start}
 use Rattle.psci_messages.specs.Message.{AckValue, MessageValue}
 use Rattle.psci_fw_spec.specs.declared.mode.SuspendMode.TheVariants.{OsInitiated}
-use Rattle.psci_fw_spec.specs.declared.outcome.Act.{Act}
 use Rattle.psci_fw_spec.specs.declared.outcome.Act.TheVariants as acts
 use Rattle.psci_fw_spec.specs.Changes.{PowerOn}
 use Rattle.psci_fw_spec.specs.Effects.{Effect, Nothing, GoesOn, SetsMode, AsksOn, Rests, Halts}

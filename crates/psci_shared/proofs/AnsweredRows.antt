@@ -1,6 +1,6 @@
 -- Worked examples of how a call through a pass was answered, and of a book that is full.
-use Rattle.std.proofs.Common.{◌≡◌, inl, inr, ℕ, zero, suc, ◌<◌, ◌++◌, List, [], ◌∷◌, length, pos}
-use Rattle.std.proofs.Common.{Bool, false, true, refl, ap, arith, None, Some, subst}
+use Rattle.std.proofs.Common.{◌≡◌, inl, inr, ℕ, zero, suc, ◌<◌, List, [], ◌∷◌, length, pos}
+use Rattle.std.proofs.Common.{false, refl, ap, arith, None, Some, subst}
 use Rattle.psci_fw.specs.psci_abi.psci_format.declared.format.Format.TheVariants.{Original}
 use Rattle.psci_fw.specs.psci_board.Board.{BoardValue, core_of}
 use Rattle.psci_fw.specs.psci_fw_spec.After.{after}
@@ -13,7 +13,7 @@ use Rattle.psci_fw.specs.psci_fw_spec.Legal.{IsLegal}
 use Rattle.psci_fw.specs.psci_fw_spec.Statuses.{statuses}
 use Rattle.psci_fw.specs.psci_fw_spec.declared.call.FwCall.{FwCall}
 use Rattle.psci_fw.specs.psci_fw_spec.declared.call.FwCall.TheVariants.{Smc, Enter, Take}
-use Rattle.psci_fw.specs.psci_fw_spec.declared.fault.FwFault.TheVariants.{NoLife, NotRunning, OldStart}
+use Rattle.psci_fw.specs.psci_fw_spec.declared.fault.FwFault.TheVariants.{NoLife, NotRunning}
 use Rattle.psci_fw.specs.psci_fw_spec.declared.outcome.Act.TheVariants as acts
 use Rattle.psci_fw.specs.psci_fw_spec.declared.reply.FwReply.{FwReply}
 use Rattle.psci_fw.specs.psci_fw_spec.declared.reply.FwReply.TheVariants.{Out, Taken, Fault}
@@ -66,11 +66,11 @@ abbrev accepted : FwReply
 accepted = Out (record {
   act = acts.Return (record { 0 = pos 0 });
   message = Some (record {
-      kind = kinds.Start;
-      core = record { number = 1 };
-      life = 1;
-      number = 0;
-      parts = [];
+    kind = kinds.Start;
+    core = record { number = 1 };
+    life = 1;
+    number = 0;
+    parts = [];
   });
 })
 

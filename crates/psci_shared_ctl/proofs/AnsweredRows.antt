@@ -1,11 +1,11 @@
 -- Worked examples of how a call through a pass was answered, of a book that is full, of a new pass
 -- and of why none is made.
-use Rattle.std.proofs.Common.{◌≡◌, ℕ, ◌<◌, List, [], ◌∷◌, length, true, false, refl, ap, arith, subst}
+use Rattle.std.proofs.Common.{◌≡◌, ℕ, ◌<◌, List, [], ◌∷◌, length, false, refl, ap, arith, subst}
 use Rattle.psci_board.specs.Board.{BoardValue}
 use Rattle.psci_ctl.specs.psci_ctl_spec.psci_format.declared.format.Format.TheVariants.{Original}
 use Rattle.psci_ctl.specs.psci_ctl_spec.Effects.{effect_of}
 use Rattle.psci_ctl.specs.psci_ctl_spec.History.{values_of}
-use Rattle.psci_ctl.specs.psci_ctl_spec.Legal.{IsLegal, IsSendable}
+use Rattle.psci_ctl.specs.psci_ctl_spec.Legal.{IsLegal}
 use Rattle.psci_ctl.specs.psci_ctl_spec.Replies.{delivery_of, reply, reset_of, wake_of}
 use Rattle.psci_ctl.specs.psci_ctl_spec.declared.call.CtlCall.{CtlCall}
 use Rattle.psci_ctl.specs.psci_ctl_spec.declared.call.CtlCall.TheVariants.{Deliver, Reset, Wake}
