@@ -300,15 +300,20 @@ nothing_changes = wrote both both both_rows both_rows refl refl refl refl
 target_is_forgotten : NotWrote booted asked booted_rows booted_rows
 unfolding computing
 target_is_forgotten f f' is was now h =
-    let e : ◌≡◌ {A = ℕ} 1 2 = long booted asked booted_rows booted_rows 3 (omega arith) f f' is was
-    now h in omega arith
+    let small : 3 < cores f.board = subst (λ (b : BoardValue). 3 < cores b) (sym is) (omega arith) in
+    let e : ◌≡◌ {A = ℕ} 1 2 = ap length (h 3 small)
+    ∙ ap (λ (u : Values). length (written_then u.life (seen f') 3 (Off ∷ []))) was
+    ∙ ap (λ (u : Values). length (written_then 1 u 3 (Off ∷ []))) now in
+    omega arith
 
 start_is_forgotten : NotWrote none booted first_rows
     ((On ∷ Off ∷ []) ∷ (Off ∷ []) ∷ (Off ∷ []) ∷ (Off ∷ []) ∷ [])
 unfolding computing
 start_is_forgotten f f' is was now h =
-    let e : ◌≡◌ {A = ℕ} 2 3 = long none booted first_rows
-    ((On ∷ Off ∷ []) ∷ (Off ∷ []) ∷ (Off ∷ []) ∷ (Off ∷ []) ∷ []) 0 (omega arith) f f' is was now h in
+    let small : 0 < cores f.board = subst (λ (b : BoardValue). 0 < cores b) (sym is) (omega arith) in
+    let e : ◌≡◌ {A = ℕ} 2 3 = ap length (h 0 small)
+    ∙ ap (λ (u : Values). length (written_then u.life (seen f') 0 (Off ∷ []))) was
+    ∙ ap (λ (u : Values). length (written_then 0 u 0 (Off ∷ []))) now in
     omega arith
 
 new_life_is_forgotten : NotWrote both anew both_rows
