@@ -8,7 +8,7 @@ use Rattle.psci_audit.specs.declared.fault.AuditFault.TheVariants as audits
 use Rattle.psci_workers.specs.psci_shared.declared.entry.FwEntry.{FwEntry}
 use Rattle.psci_workers.specs.psci_shared_ctl.declared.entry.CtlEntry.{CtlEntry}
 use Rattle.psci_threads.specs.Runs.{IsAudited, IsFound}
-use Rattle.psci_threads.specs.declared.fault.BenchFault.TheVariants.{Gate, Memory, Audit, Gather}
+use Rattle.psci_threads.specs.declared.fault.BenchFault.TheVariants.{Gate, Memory, Threads, Audit, Gather}
 use Rattle.psci_threads.specs.declared.running.Threaded.{Threaded}
 
 -- Numbers ---------------------------------------------------------------------------------------
@@ -99,6 +99,10 @@ audit_without_memory b = ([], [], tt)
 run_without_memory : (b : BoardValue) → IsFound b Memory
 unfolding IsFound
 run_without_memory b = tt
+
+no_threads : (b : BoardValue) → IsFound b Threads
+unfolding IsFound
+no_threads b = tt
 
 gate_said_no : (b : BoardValue) → IsFound b Gate
 unfolding IsFound
