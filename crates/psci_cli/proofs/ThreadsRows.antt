@@ -7,7 +7,8 @@ use Rattle.psci_command.specs.psci_board_text.declared.fault.BoardFault.{BoardFa
 use Rattle.psci_command.specs.psci_board_text.declared.fault.BoardFault.TheVariants as boards
 use Rattle.psci_command.specs.psci_failure.declared.exit.AuditFailure.TheVariants as failures
 use Rattle.psci_command.specs.psci_failure.declared.exit.Failure.TheVariants.{Audit, Gate, Gather}
-use Rattle.psci_command.specs.psci_failure.declared.exit.Failure.TheVariants.{Replay, Threads, TooManyCores}
+use Rattle.psci_command.specs.psci_failure.declared.exit.Failure.TheVariants.{Replay, TooManyCores}
+use Rattle.psci_command.specs.psci_failure.declared.exit.Failure.TheVariants.{Threads}
 use Rattle.psci_command.specs.psci_failure.declared.exit.Failure.TheVariants.{Board as GivenBoard}
 use Rattle.psci_command.specs.psci_script.declared.fault.ReplayFault.TheVariants.{Memory, Read}
 use Rattle.psci_command.specs.psci_script.declared.fault.ReplayFault.TheVariants.{Write}

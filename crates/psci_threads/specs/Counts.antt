@@ -2,20 +2,20 @@
 use Rattle.std.specs.Prelude.{ℕ, Bool, true, false, ◌==◌, List, count_by}
 use Rattle.psci_workers.specs.psci_fw.psci_board.declared.node.Core.{Core}
 use Rattle.psci_workers.specs.psci_fw.psci_fw_spec.declared.call.FwCall.{FwCall}
-use Rattle.psci_workers.specs.psci_fw.psci_fw_spec.declared.call.FwCall.TheVariants.{Smc, Enter, Take}
+use Rattle.psci_workers.specs.psci_fw.psci_fw_spec.declared.call.FwCall.TheVariants as asks
 use Rattle.psci_workers.specs.psci_shared.declared.entry.FwEntry.{FwEntry}
 
 -- the core has called
 abbrev pub calls : FwCall → ℕ → ℕ → Bool
-calls (Smc regs) by core = by == core
-calls (Enter start) by core = false
-calls (Take ack) by core = false
+calls (asks.Smc regs) by core = by == core
+calls (asks.Enter start) by core = false
+calls (asks.Take ack) by core = false
 
 -- the core has called or entered; an acknowledgement is taken by no core
 abbrev pub acts : FwCall → ℕ → ℕ → Bool
-acts (Smc regs) by core = by == core
-acts (Enter start) by core = by == core
-acts (Take ack) by core = false
+acts (asks.Smc regs) by core = by == core
+acts (asks.Enter start) by core = by == core
+acts (asks.Take ack) by core = false
 
 abbrev pub is_call_by : Core → FwEntry → Bool
 is_call_by core e = calls e.call e.core.number core.number

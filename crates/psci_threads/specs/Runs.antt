@@ -6,7 +6,8 @@ use Rattle.psci_audit.specs.Told.{Tells}
 use Rattle.psci_workers.specs.psci_shared.declared.entry.FwEntry.{FwEntry}
 use Rattle.psci_workers.specs.psci_shared_ctl.declared.entry.CtlEntry.{CtlEntry}
 use Rattle.psci_threads.specs.declared.fault.BenchFault.{BenchFault}
-use Rattle.psci_threads.specs.declared.fault.BenchFault.TheVariants.{Gate, Memory, Threads, Audit, Gather}
+use Rattle.psci_threads.specs.declared.fault.BenchFault.TheVariants.{Gate, Memory, Threads}
+use Rattle.psci_threads.specs.declared.fault.BenchFault.TheVariants.{Audit, Gather}
 use Rattle.psci_threads.specs.declared.running.Threaded.{Threaded}
 
 -- The numbers are those of the entries of each book and of the merged list, which is legal. The
