@@ -83,7 +83,7 @@ fn threads_standard<R: Threads + Wait + Sync>(
     }
     match write_threads(&mut rt.stdout(), &threaded, request.counts) {
         Ok(()) => Ok(()),
-        Err(_) => Err(Failure::Replay(ReplayFault::Write)),
+        Err(_error) => Err(Failure::Replay(ReplayFault::Write)),
     }
 }
 

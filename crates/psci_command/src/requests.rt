@@ -131,11 +131,12 @@ fn threads_in<'a>(matches: &ArgMatches<'a>) -> Option<ThreadsRequest<'a>>
     ensures { IsThreadsOf (rows_of (found_of matches.now)) result }
 {
     let Draw { board, seed, count } = draw_in(matches)?;
+    let counts = flag_in(matches, "counts");
     Some(ThreadsRequest {
         board,
         seed,
         count,
-        counts: flag_in(matches, "counts"),
+        counts,
         keep: text_in(matches, "keep"),
     })
 }
