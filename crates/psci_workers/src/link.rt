@@ -30,7 +30,8 @@ pub(crate) struct Link<N: Named, M: Named> {
     asked: CtlPass<M>,
     draws: Draws,
     carried: Vec<Carried>,
-    /// The core of each frame that was lost, the first first. What is outstanding of it is sent again.
+    /// The core of each frame that was lost, the first first. What is outstanding of it is sent
+    /// again.
     lost: Vec<Core>,
     /// How often in a row frames of each core were lost.
     losses: Vec<u32>,
