@@ -21,7 +21,8 @@ _psci() {
             "replay storm threads show draw try prove help --unproved --help --version" -- "$word") ;;
         storm) mapfile -t COMPREPLY < <(compgen -W \
             "--board --seed --seeds --count --counts --keep --help" -- "$word") ;;
-        threads) mapfile -t COMPREPLY < <(compgen -W "--board --seed --count --help" -- "$word") ;;
+        threads) mapfile -t COMPREPLY < <(compgen -W \
+            "--board --seed --count --counts --keep --help" -- "$word") ;;
         show) mapfile -t COMPREPLY < <(compgen -W \
             "--json --legend --width --color --from --to --cores --changes --trace --vcd --clock --help" \
             -- "$word") ;;

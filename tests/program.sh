@@ -463,6 +463,92 @@ core_threads() {
     done
 }
 
+# threads with counts: their line comes first, and then a line for each core, in order, which has made
+# all its calls and looked at others
+thread_counts() {
+    local cores tree
+    for tree in "1" "(2 2)" "(16 16 16 16)"; do
+        run threads --board "$tree exec 0x0-0x1000 boot 0x0 starts 1000 lives 3" --seed 1 --count 40 --counts
+        expect "threads on $tree with counts" 0
+        cores=$(tr -c '0-9' '\n' <<< "$tree" | awk '{ sum += $1 } END { print sum }')
+        if awk -v cores="$cores" 'NR == 1 { firmware = $3; next }
+            $0 !~ /^core [0-9]+ calls 40 entries [0-9]+ polls [0-9]+$/ { bad = 1 }
+            $2 != NR - 2 || $6 <= 40 || $8 < 37 { bad = 1 }
+            { entries += $6 }
+            END { exit bad || NR != cores + 1 || entries > firmware }' "$work/out"; then pass; else
+            fail "threads on $tree: their counts"
+            head -n 5 "$work/out"
+        fi
+    done
+}
+
+# a run of threads that is kept in a file: a script with an event for each entry, so many of each kind as
+# its line and counts say, whose replay answers each event as a run does that was audited
+kept_threads() {
+    local seed
+    for seed in 1 2 3 4; do
+        run threads --seed "$seed" --count 100 --counts --keep "$work/kept"
+        expect "threads that are kept" 0
+        cp "$work/out" "$work/told"
+        run replay < "$work/kept"
+        expect "kept threads, replayed" 0
+        # what a firmware is asked it answers, and what a core enters by, it enters
+        if awk '
+            FNR == NR { if (FNR == 1) { firmware = $3; controller = $5 } else { calls[$2] = $4; made[$2] = $6 }; next }
+            $1 == "board" { next }
+            { $1 ~ /^(call|enter|take)$/ ? asked++ : controlled++ }
+            $1 == "call" { calls[$2]-- } $1 ~ /^(call|enter)$/ { made[$2]-- }
+            END { for (core in calls) if (calls[core] || made[core]) bad = 1
+                exit bad || asked != firmware || controlled != controller }' "$work/told" "$work/kept" &&
+            paste -d ' ' <(awk '{ print $1 }' "$work/kept" | tail -n +2) "$work/out" | awk '
+                $1 == "call" && $3 !~ /^(return|stop)$/ { bad = 1 }
+                $1 == "enter" && $3 !~ /^(enter|resume|stop)$/ { bad = 1 }
+                $1 == "take" && $3 !~ /^(used|old)$/ { bad = 1 }
+                $1 ~ /^(wake|reset)$/ && $3 !~ /^(started|ignored)$/ { bad = 1 }
+                $1 == "deliver" && $3 !~ /^(ack|ignored)$/ { bad = 1 }
+                END { exit bad }'; then pass; else
+            fail "kept threads of seed $seed: not their entries"
+        fi
+        run show < "$work/kept"
+        expect "kept threads, shown" 0
+    done
+    run threads --seed 1 --count 1 --keep "$work/none/kept"
+    expect "threads kept in a folder that there is not" 4 "write fault"
+    if has_full "threads kept on a full device"; then
+        run threads --seed 1 --count 1 --keep /dev/full
+        expect "threads kept on a full device" 4 "write fault"
+    fi
+}
+
+# threads that can't be made are a fault of its own, and soon: for a user who may have no process more,
+# and where memory has no room for their stacks
+no_threads() {
+    local folder size
+    local -a limited=(prlimit --nproc=1)
+    command -v prlimit > /dev/null || { skip "threads that can't be made" prlimit; return; }
+    if [ "$(id -u)" = 0 ]; then
+        # the limit does not hold for root
+        command -v setpriv > /dev/null || { skip "threads that can't be made" setpriv; return; }
+        limited=(setpriv --reuid 65534 --regid 65534 --clear-groups prlimit --nproc=1)
+    fi
+    folder=$(mktemp -d)
+    chmod 755 "$folder"
+    cp "$program" "$folder/psci_cli"
+    timeout 60 "${limited[@]}" "$folder/psci_cli" threads --seed 1 --count 50 > "$work/out" 2> "$work/err"
+    echo $? > "$work/got"
+    expect "threads where no process may be made" 5 "out of threads"
+    rm -rf "$folder"
+    : > "$work/lines"
+    for size in 8192 6144; do
+        (ulimit -v "$size" && exec timeout 60 "$program" threads --seed 1 --count 50 > "$work/out" 2> "$work/err")
+        echo $? > "$work/got"
+        if [ "$(cat "$work/got")" = 5 ] && grep -qxE 'out of (threads|memory)' "$work/err"; then pass; else
+            fail "threads in $size KiB of memory (status $(cat "$work/got")): $(cat "$work/err")"
+        fi
+        answers "threads in $size KiB of memory"
+    done
+}
+
 has_parallel() { command -v parallel > /dev/null || { skip "$1" parallel; false; }; }
 
 # storms of several seeds: each has its line, in order, also where two jobs make them side by side;

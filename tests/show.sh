@@ -155,7 +155,7 @@ completed() {
     done << 'EOF'
 ./psci s|storm show
 ./psci t|threads try
-./psci threads --|--board --seed --count --help
+./psci threads --|--board --seed --count --counts --keep --help
 ./psci storm --se|--seed --seeds
 ./psci storm --seed 1 --co|--count --counts
 ./psci show --color a|auto always

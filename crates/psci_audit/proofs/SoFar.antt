@@ -252,6 +252,18 @@ ended b all w fs cs n m is none same =
     let end = whole b all (merged fs cs) w.past n is.so_far (no_entries fs cs none) in
     (end.0, end.1 ∙ same)
 
+-- the records tell the whole list, and the world is on the board of the first one
+pub told : (b : BoardValue) (fs gs : List FwEntry) (cs ds : List CtlEntry) (w : WorldValue) (n : ℕ)
+    → IsBetween b (merged fs cs) w gs ds n → length gs + length ds ≡ 0
+    → Tells b w.past (history_of fs cs)
+told b fs gs cs ds w n is none =
+    let so = is.so_far in
+    let same : reverse so.done ≡ merged fs cs =
+    sym (append-nil (reverse so.done))
+    ∙ ap (λ (l : List Entry). reverse so.done ++ l) (sym (no_entries gs ds none)) ∙ so.parts in
+    let back : so.done ≡ history_of fs cs = sym (reverse-reverse so.done) ∙ ap reverse same in
+    subst (λ (l : List Entry). Tells b w.past l) back so.tells
+
 -- a list that is judged legal is the list of a safe run
 pub safe : (w b : BoardValue) (fs gs : List FwEntry) (cs ds : List CtlEntry)
     (r : Result ℕ AuditFault) → w ≡ b → fs ≡ gs → cs ≡ ds → IsBoard w

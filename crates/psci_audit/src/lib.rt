@@ -14,7 +14,8 @@ mod tickets;
 mod trace;
 
 pub use fault::AuditFault;
-pub use merging::audit;
-pub use psci_shared::FwEntry;
+pub use merging::{Retold, audit, retell};
+pub use psci_shared::{FwCall, FwEntry};
 pub use psci_shared_ctl::CtlEntry;
+pub use psci_world::World;
 pub use trace::Trace;

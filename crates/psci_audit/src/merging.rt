@@ -4,7 +4,7 @@ ghost use Rattle.std.specs.Prelude.{◌≡◌, ◌<◌, [], IfErr, IfOk, IsTrue,
 ghost use Rattle.psci_audit.specs.Merged.{IsFault, IsFirstIllegal, IsFollowed, IsJudged, IsSound};
 ghost use Rattle.psci_audit.specs.Merged.{history_of, is_asked_first, merged};
 ghost use Rattle.psci_audit_spec.specs.Legal.{IsLegal};
-ghost use Rattle.psci_audit_spec.specs.Told.{IsListOfSafe};
+ghost use Rattle.psci_audit_spec.specs.Told.{IsListOfSafe, Tells};
 
 use crate::fault::AuditFault;
 use crate::following::{follow_controller, follow_firmware};
@@ -16,11 +16,39 @@ use psci_shared_ctl::CtlEntry;
 use psci_world::{Board, Memory, World};
 use std::alloc::Global;
 
+/// A trace that was found legal, told once more as a run of a world.
+#[derive(Drop)]
+pub struct Retold {
+    /// The world, whose records tell the merged list.
+    pub world: World,
+    /// How many entries the trace has.
+    pub audited: u64,
+}
+
 /// How many entries a trace has, if its tickets fit and the merged list is legal. Then that is the
 /// list of a legal run of the world, which was safe at every moment.
 pub fn audit(alloc: Global, board: &Board, trace: &Trace) -> Result<u64, AuditFault>
     ensures ok { IfOk result
         (λ n. IsSound board.now trace.now.firmware.items trace.now.controller.items n) }
+    ensures safe { OnOk result (IsListOfSafe board.now
+        (history_of trace.now.firmware.items trace.now.controller.items)) }
+    ensures fault { IfErr result
+        (λ f. IsFault board.now trace.now.firmware.items trace.now.controller.items f) }
+{
+    match retell(alloc, board, trace) {
+        Ok(Retold { world: _, audited }) => Ok(audited),
+        Err(fault) => Err(fault),
+    }
+}
+
+/// The world in which a trace happened, if its tickets fit and the merged list is legal: a record for
+/// each entry of that list, in order, with the same reply.
+pub fn retell(alloc: Global, board: &Board, trace: &Trace) -> Result<Retold, AuditFault>
+    ensures ok { IfOk result
+        (λ r. IsSound board.now trace.now.firmware.items trace.now.controller.items r.audited) }
+    ensures board { IfOk result (λ r. r.world.board ≡ board.now) }
+    ensures told { IfOk result (λ r. Tells board.now r.world.past
+        (history_of trace.now.firmware.items trace.now.controller.items)) }
     ensures safe { OnOk result (IsListOfSafe board.now
         (history_of trace.now.firmware.items trace.now.controller.items)) }
     ensures fault { IfErr result
@@ -36,7 +64,10 @@ pub fn audit(alloc: Global, board: &Board, trace: &Trace) -> Result<u64, AuditFa
         return Err(AuditFault::Memory);
     };
     world.law();
-    follow_all(&mut world, firmware, controller)
+    match follow_all(&mut world, firmware, controller) {
+        Ok(audited) => Ok(Retold { world, audited }),
+        Err(fault) => Err(fault),
+    }
 }
 
 /// How many entries there are, if the merged list is legal in a world without records.
@@ -46,7 +77,10 @@ fn follow_all(
     controller: &[CtlEntry],
 ) -> Result<u64, AuditFault>
     requires { world.old.past ≡ [] }
-    ensures { IsJudged world.old.board (merged firmware.now controller.now) result }
+    ensures judged { IsJudged world.old.board (merged firmware.now controller.now) result }
+    ensures board { OnOk result (world.new.board ≡ world.old.board) }
+    ensures told { OnOk result (Tells world.old.board world.new.past
+        (history_of firmware.now controller.now)) }
 {
     let total = firmware.len() + controller.len();
     let mut asked = firmware;

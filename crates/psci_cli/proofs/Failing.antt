@@ -15,6 +15,8 @@ failed s faults.Gate f =
     record { started = s; fault = faults.Gate; is_told = refl; is_found = f }
 failed s faults.Gather f =
     record { started = s; fault = faults.Gather; is_told = refl; is_found = f }
+failed s faults.Threads f =
+    record { started = s; fault = faults.Threads; is_told = refl; is_found = f }
 failed s faults.Memory f =
     record { started = s; fault = faults.Memory; is_told = refl; is_found = f }
 failed s (faults.Audit found.Ticket) f =

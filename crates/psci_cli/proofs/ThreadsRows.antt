@@ -8,6 +8,7 @@ use Rattle.psci_command.specs.psci_board_text.declared.fault.BoardFault.TheVaria
 use Rattle.psci_command.specs.psci_failure.declared.exit.AuditFailure.TheVariants as failures
 use Rattle.psci_command.specs.psci_failure.declared.exit.Failure.TheVariants.{Audit, Gate, Gather}
 use Rattle.psci_command.specs.psci_failure.declared.exit.Failure.TheVariants.{Replay, TooManyCores}
+use Rattle.psci_command.specs.psci_failure.declared.exit.Failure.TheVariants.{Threads}
 use Rattle.psci_command.specs.psci_failure.declared.exit.Failure.TheVariants.{Board as GivenBoard}
 use Rattle.psci_command.specs.psci_script.declared.fault.ReplayFault.TheVariants.{Memory, Read}
 use Rattle.psci_command.specs.psci_script.declared.fault.ReplayFault.TheVariants.{Write}
@@ -15,7 +16,8 @@ use Rattle.psci_threads.specs.declared.fault.BenchFault.{BenchFault}
 use Rattle.psci_threads.specs.declared.fault.BenchFault.TheVariants as faults
 use Rattle.psci_audit.specs.declared.fault.AuditFault.TheVariants as found
 use Rattle.psci_cli.specs.Threading.{IsTooLarge, ThreadsEnds, failure_at}
-use Rattle.psci_cli.specs.ThreadsText.{threads_text}
+use Rattle.psci_cli.specs.Ends.{IsUnkept}
+use Rattle.psci_cli.specs.ThreadsText.{core_text, threads_text}
 
 no_call : threads_text 0 0 0 ≡ codes "threads firmware 0 controller 0 audited 0"
 unfolding digits
@@ -25,9 +27,16 @@ line : threads_text 1207 93 1300 ≡ codes "threads firmware 1207 controller 93 
 unfolding digits
 line = refl
 
+core : core_text 3 10000 16041 25873 ≡ codes "core 3 calls 10000 entries 16041 polls 25873"
+unfolding digits
+core = refl
+
 -- each fault of a run has a failure of its own, but for the two wants of memory
 gate : failure_at faults.Gate ≡ Gate
 gate = refl
+
+no_threads : failure_at faults.Threads ≡ Threads
+no_threads = refl
 
 gather : failure_at faults.Gather ≡ Gather
 gather = refl
@@ -53,7 +62,7 @@ faulty_is_not_large : ThreadsEnds (Err TooManyCores) (Err boards.BadBoot) → �
 faulty_is_not_large h = let said = h.is_said in cc
 
 faulty_is_not_run : ThreadsEnds (Err Gate) (Err boards.BadBoot) → ⊥
-faulty_is_not_run (inl h) = let write = h.1 in cc
+faulty_is_not_run (inl h) = let said = h.0.is_said in cc
 faulty_is_not_run (inr h) = let said = h.started.is_said in cc
 
 -- 64 cores are not too many, and 65 are
@@ -79,17 +88,22 @@ too_many_not_run b is h =
 
 -- the line that can't be written
 not_written : (b : BoardValue) → cores b ≡ 4 → ThreadsEnds (Err (Replay Write)) (Ok b)
-not_written b is = inl (record { board = b; is_said = refl; few = omega (arith, is) }, refl)
+not_written b is = inl (record { board = b; is_said = refl; few = omega (arith, is) }, inl refl)
 
 -- nothing is read
 no_read_at : (fault : BenchFault) → Replay Read ≡ failure_at fault → ⊥
 no_read_at faults.Gate e = cc
+no_read_at faults.Threads e = cc
 no_read_at faults.Gather e = cc
 no_read_at faults.Memory e = cc
 no_read_at (faults.Audit found.Ticket) e = cc
 no_read_at (faults.Audit (found.Illegal place)) e = cc
 no_read_at (faults.Audit found.Memory) e = cc
 
+unread : IsUnkept (Replay Read) → ⊥
+unread (inl e) = cc
+unread (inr e) = cc
+
 not_read : (b : BoardValue) → ThreadsEnds (Err (Replay Read)) (Ok b) → ⊥
-not_read b (inl h) = let write = h.1 in cc
+not_read b (inl h) = unread h.1
 not_read b (inr h) = no_read_at h.fault h.is_told

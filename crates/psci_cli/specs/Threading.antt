@@ -7,8 +7,10 @@ use Rattle.psci_command.specs.psci_failure.declared.exit.AuditFailure.TheVariant
 use Rattle.psci_command.specs.psci_failure.declared.exit.Failure.{Failure}
 use Rattle.psci_command.specs.psci_failure.declared.exit.Failure.TheVariants.{Audit, Gate, Gather}
 use Rattle.psci_command.specs.psci_failure.declared.exit.Failure.TheVariants.{Replay, TooManyCores}
+use Rattle.psci_command.specs.psci_failure.declared.exit.Failure.TheVariants.{Threads}
 use Rattle.psci_command.specs.psci_failure.declared.exit.Failure.TheVariants.{Board as GivenBoard}
-use Rattle.psci_command.specs.psci_script.declared.fault.ReplayFault.TheVariants.{Memory, Write}
+use Rattle.psci_command.specs.psci_script.declared.fault.ReplayFault.TheVariants.{Memory}
+use Rattle.psci_cli.specs.Ends.{IsUnkept}
 use Rattle.psci_threads.specs.Runs.{IsAudited, IsFound}
 use Rattle.psci_threads.specs.declared.fault.BenchFault.{BenchFault}
 use Rattle.psci_threads.specs.declared.fault.BenchFault.TheVariants as faults
@@ -25,6 +27,7 @@ failure_found found.Memory = Replay Memory
 -- the same at a fault of a run of threads
 abbrev pub failure_at : BenchFault → Failure
 failure_at faults.Gate = Gate
+failure_at faults.Threads = Threads
 failure_at faults.Gather = Gather
 failure_at faults.Memory = Replay Memory
 failure_at (faults.Audit fault) = failure_found fault
@@ -57,11 +60,11 @@ IsThreaded (Err (GivenBoard fault)) said = Answers (Err fault) said
 IsThreaded (Err TooManyCores) said = IsTooLarge said
 IsThreaded (Err failure) said = IsFailed failure said
 
--- How threads for the board of a text end: with their line, or where that can't be written; or they
--- had no audited end.
+-- How threads for the board of a text end: with their line, or where that can't be written, or the
+-- run can't be kept; or they had no audited end.
 abbrev pub ThreadsEnds : Result Unit Failure → Result BoardValue BoardFault → Type 0
 ThreadsEnds (Ok done) said = IsStarted said
 ThreadsEnds (Err (GivenBoard fault)) said = Answers (Err fault) said
 ThreadsEnds (Err TooManyCores) said = IsTooLarge said
 ThreadsEnds (Err failure) said =
-    (IsStarted said × (failure ≡ Replay Write)) ⊎ IsFailed failure said
+    (IsStarted said × IsUnkept failure) ⊎ IsFailed failure said

@@ -1,14 +1,17 @@
-//! Threads for the cores of a board, and the line that says what came of them.
+//! Threads for the cores of a board, the line that says what came of them, and what each core did.
 
-ghost use Rattle.std.specs.Prelude.{◌≡◌, ◌++◌, ◌∷◌, [], OnOk};
+ghost use Rattle.std.specs.Prelude.{◌≡◌, OnOk};
 ghost use Rattle.std.specs.Io.KnownBytes.{Appends};
 ghost use Rattle.psci_command.specs.psci_board_text.Verdict.{board_of};
-ghost use Rattle.psci_cli.specs.Threading.{IsThreaded, ThreadsEnds, failure_at};
-ghost use Rattle.psci_cli.specs.ThreadsText.{threads_text};
+ghost use Rattle.psci_cli.specs.Threading.{IsThreaded, failure_at};
+ghost use Rattle.psci_cli.specs.ThreadsText.{cores_text, threads_output};
 
 use psci_bench::ReplayFault;
 use psci_command::{AuditFailure, Board, Failure, ReadBoard, ThreadsRequest};
-use psci_threads::{AuditFault, BenchFault, OpenGate, Threaded, threads};
+use psci_threads::{
+    AuditFault, BenchFault, Core, FwEntry, OpenGate, Polled, Threaded, calls_of, entries_of,
+    threads,
+};
 use std::alloc::Global;
 use std::fmt;
 use std::io::{self, Write};
@@ -18,25 +21,8 @@ use std::thread::Threads;
 /// The most cores that threads are started for.
 const MOST_CORES: u16 = 64;
 
-/// Starts the threads that are asked for, and writes the line of what they did.
-#[inline(never)]
-pub fn run_threads<R: Threads + Wait + Sync, W: Write>(
-    rt: &R,
-    alloc: Global,
-    to: &mut W,
-    request: ThreadsRequest,
-) -> Result<(), Failure>
-    ensures ends { ThreadsEnds result (board_of request.entry.board.now) }
-{
-    let threaded = threaded(rt, alloc, request)?;
-    match write_threads(to, &threaded) {
-        Ok(()) => Ok(()),
-        Err(_) => Err(Failure::Replay(ReplayFault::Write)),
-    }
-}
-
 /// What the threads that are asked for did, with a gate that is always open.
-fn threaded<R: Threads + Wait + Sync>(
+pub fn threaded<R: Threads + Wait + Sync>(
     rt: &R,
     alloc: Global,
     request: ThreadsRequest,
@@ -61,6 +47,7 @@ fn failure_at(fault: BenchFault) -> Failure
         BenchFault::Gate => Failure::Gate,
         BenchFault::Gather => Failure::Gather,
         BenchFault::Memory => Failure::Replay(ReplayFault::Memory),
+        BenchFault::Threads => Failure::Threads,
         BenchFault::Audit(found) => match found {
             AuditFault::Memory => Failure::Replay(ReplayFault::Memory),
             AuditFault::Ticket => Failure::Audit(AuditFailure::Ticket),
@@ -69,18 +56,44 @@ fn failure_at(fault: BenchFault) -> Failure
     }
 }
 
-/// Writes the line of threads.
-fn write_threads<W: Write>(to: &mut W, threaded: &Threaded) -> io::Result<()>
+/// Writes the line of threads, and where the counts are asked for, what each core did.
+pub fn write_threads<W: Write>(to: &mut W, threaded: &Threaded, counts: bool) -> io::Result<()>
     ensures { OnOk result (Appends (W.contents to.old) (W.contents to.new)
-        (threads_text threaded.now.firmware threaded.now.controller threaded.now.audited
-        ++ 10 ∷ [])) }
+        (threads_output counts threaded.now)) }
 {
     let line = ThreadsLine {
         firmware: threaded.firmware,
         controller: threaded.controller,
         audited: threaded.audited,
     };
-    writeln!(to, "{line}")
+    writeln!(to, "{line}")?;
+    if counts {
+        write_cores(
+            to,
+            threaded.trace.firmware.as_slice(),
+            threaded.polls.as_slice(),
+        )?;
+    }
+    Ok(())
+}
+
+/// Writes a line for each core: how many calls and entries the firmware's book has of it, and how
+/// often its thread has read a status without the lock.
+fn write_cores<W: Write>(to: &mut W, entries: &[FwEntry], polls: &[Polled]) -> io::Result<()>
+    ensures { OnOk result (Appends (W.contents to.old) (W.contents to.new)
+        (cores_text entries.now polls.now)) }
+{
+    for polled in polls {
+        let Core { number } = polled.core;
+        let calls = calls_of(entries, polled.core);
+        let made = entries_of(entries, polled.core);
+        let polls = polled.polls;
+        writeln!(
+            to,
+            "core {number} calls {calls} entries {made} polls {polls}"
+        )?;
+    }
+    Ok(())
 }
 
 /// The numbers of the line of threads.

@@ -125,17 +125,50 @@ none_without_count = inr (inr refl)
 -- The threads of some matches -------------------------------------------------------------------
 
 abbrev pub threads : ℕ → ℕ → ThreadsRequest
-threads seed count =
-    record { board = record { ref_ptr = (0, 0); now = standard_board }; seed = seed; count = count }
+threads seed count = record {
+  board = record { ref_ptr = (0, 0); now = standard_board };
+  seed = seed;
+  count = count;
+  counts = false;
+  keep = None;
+}
 
 pub threads_of_rows : IsThreadsOf rows (Some (threads 7 5))
-threads_of_rows = (refl, (spelled (codes "7") refl, refl), (spelled (codes "5") refl, refl))
+threads_of_rows =
+    ((refl, (spelled (codes "7") refl, refl), (spelled (codes "5") refl, refl)), λ e. cc, refl)
 
 threads_of_other_count : IsThreadsOf rows (Some (threads 7 6)) → ⊥
-threads_of_other_count h = let same = h.2.1 in absurd (omega arith)
+threads_of_other_count h = let same = h.0.2.1 in absurd (omega arith)
 
 threads_on_other_board : IsThreadsOf rows_of_board (Some (threads 7 5)) → ⊥
-threads_on_other_board h = let same = h.0 in cc
+threads_on_other_board h = let same = h.0.0 in cc
+
+threads_with_counts : IsThreadsOf rows_with_counts
+    (Some (record (threads 7 5) { counts = true }))
+threads_with_counts =
+    ((refl, (spelled (codes "7") refl, refl), (spelled (codes "5") refl, refl)), refl, refl)
+
+threads_without_counts : IsThreadsOf rows (Some (record (threads 7 5) { counts = true })) → ⊥
+threads_without_counts h = let text = h.1 in cc
+
+threads_counts_left_out : IsThreadsOf rows_with_counts (Some (threads 7 5)) → ⊥
+threads_counts_left_out h = h.1 refl
+
+-- a file to keep the run in, which is kept in that one and in no other
+abbrev pub kept_threads : Text → ThreadsRequest
+kept_threads path = record (threads 7 5) {
+  keep = Some (record { ref_ptr = (0, 0); now = path });
+}
+
+threads_of_file : IsThreadsOf rows_with_file (Some (kept_threads (codes "a b")))
+threads_of_file =
+    ((refl, (spelled (codes "7") refl, refl), (spelled (codes "5") refl, refl)), λ e. cc, refl)
+
+threads_of_other_file : IsThreadsOf rows_with_file (Some (kept_threads (codes "a"))) → ⊥
+threads_of_other_file h = let same = h.2 in cc
+
+threads_file_left_out : IsThreadsOf rows_with_file (Some (threads 7 5)) → ⊥
+threads_file_left_out h = let same = h.2 in cc
 
 no_threads_of_rows : IsThreadsOf rows None → ⊥
 no_threads_of_rows (inl no_board) = cc

@@ -1,4 +1,4 @@
--- What known command lines of `threads` are answered: its options are some of those of a storm.
+-- What known command lines of `threads` are answered: its options are those of a storm.
 use Rattle.std.proofs.Common.{◌≡◌, List, [], ◌∷◌, Some, refl}
 use Rattle.std.specs.Prelude.{codes}
 use Rattle.clap.proofs.OnLiterals.{clap_on_literals}
@@ -6,12 +6,13 @@ use Rattle.clap.specs.Words.{Row, Text, fault_of, subcommand_of}
 use Rattle.clap.specs.declared.error.kind.ErrorKind.{ErrorKind}
 use Rattle.clap.specs.declared.error.kind.ErrorKind.TheVariants.{ArgumentConflict, DisplayHelp}
 use Rattle.clap.specs.declared.error.kind.ErrorKind.TheVariants.{MissingRequiredArgument}
+use Rattle.clap.specs.declared.error.kind.ErrorKind.TheVariants.{InvalidValue, TooManyValues}
 use Rattle.clap.specs.declared.error.kind.ErrorKind.TheVariants.{UnknownArgument, ValueValidation}
 use Rattle.psci_command.specs.Commands.{IsThreadsOf}
 use Rattle.psci_command.specs.Program.{Words, program}
 use Rattle.psci_command.proofs.AskedRows.{threads}
 use Rattle.psci_command.proofs.StormCommandRows.{board, board_row, count, count_row, seed, seed_row}
-use Rattle.psci_command.proofs.StormCommandRows.{standard_row}
+use Rattle.psci_command.proofs.StormCommandRows.{counts_row, keep_row, no_counts, standard_row}
 use Rattle.psci_command.proofs.ValueRows.{spelled}
 
 -- `psci_cli threads` and these words
@@ -29,20 +30,21 @@ abbrev IsRefused : List Text → ErrorKind → Type 0
 IsRefused words kind = (colors : Words) → fault_of (program colors) (threads_with words) ≡ kind ∷ []
 
 abbrev pub plain_rows : List Row
-plain_rows = seed_row (codes "7") ∷ count_row (codes "5") ∷ standard_row ∷ []
+plain_rows = seed_row (codes "7") ∷ count_row (codes "5") ∷ standard_row ∷ no_counts ∷ []
 
 pub plain_threads : IsTaken (seed (codes "7") (count (codes "5") [])) plain_rows
 unfolding clap_on_literals
 plain_threads = record { fault = λ colors. refl; met = λ colors. refl }
 
 pub plain_asked : IsThreadsOf plain_rows (Some (threads 7 5))
-plain_asked = (refl, (spelled (codes "7") refl, refl), (spelled (codes "5") refl, refl))
+plain_asked =
+    ((refl, (spelled (codes "7") refl, refl), (spelled (codes "5") refl, refl)), λ e. cc, refl)
 
 -- the largest numbers, on another board
 largest : IsTaken
     (board (codes "4") (seed (codes "18446744073709551615") (count (codes "10000") [])))
     (board_row (codes "4") ∷ seed_row (codes "18446744073709551615") ∷ count_row (codes "10000")
-    ∷ [])
+    ∷ no_counts ∷ [])
 unfolding clap_on_literals
 largest = record { fault = λ colors. refl; met = λ colors. refl }
 
@@ -70,11 +72,33 @@ two_counts : IsRefused (seed (codes "0") (count (codes "0") (count (codes "0") [
 unfolding clap_on_literals
 two_counts colors = refl
 
--- an option that a storm alone has
-counts_of_a_storm : IsRefused (seed (codes "0") (count (codes "0") (codes "--counts" ∷ [])))
+-- with the counts, and with a file to keep the run in
+with_counts : IsTaken (seed (codes "7") (codes "--counts" ∷ count (codes "5") []))
+    (seed_row (codes "7") ∷ counts_row ∷ count_row (codes "5") ∷ standard_row ∷ [])
+unfolding clap_on_literals
+with_counts = record { fault = λ colors. refl; met = λ colors. refl }
+
+with_file : IsTaken (seed (codes "7") (codes "--keep" ∷ codes "a b" ∷ count (codes "5") []))
+    (seed_row (codes "7") ∷ keep_row (codes "a b") ∷ count_row (codes "5") ∷ standard_row
+    ∷ no_counts ∷ [])
+unfolding clap_on_literals
+with_file = record { fault = λ colors. refl; met = λ colors. refl }
+
+-- an option that there is not
+other_option : IsRefused (seed (codes "0") (count (codes "0") (codes "--json" ∷ [])))
     UnknownArgument
 unfolding clap_on_literals
-counts_of_a_storm colors = refl
+other_option colors = refl
+
+-- a flag has no value, and a file has to be named
+counts_with_a_value : IsRefused (seed (codes "0") (count (codes "0") (codes "--counts=x" ∷ [])))
+    TooManyValues
+unfolding clap_on_literals
+counts_with_a_value colors = refl
+
+no_file : IsRefused (seed (codes "0") (count (codes "0") (codes "--keep" ∷ []))) InvalidValue
+unfolding clap_on_literals
+no_file colors = refl
 
 help : IsRefused (codes "--help" ∷ []) DisplayHelp
 unfolding clap_on_literals

@@ -40,6 +40,8 @@ IsStormOf rows None = LacksDraw rows
 -- the same of the command `threads`
 abbrev pub IsThreadsOf : List Row → Option ThreadsRequest → Type 0
 IsThreadsOf rows (Some threads) = HasDraw rows threads.board.now threads.seed threads.count
+    × IsFlagIn (one_of (codes "counts") rows) threads.counts
+    × (option_map (λ s. s.now) threads.keep ≡ first_of (codes "keep") rows)
 IsThreadsOf rows None = LacksDraw rows
 
 -- what the matches of the command `show` ask for, or none where they have no word for colors

@@ -9,6 +9,7 @@ use Rattle.psci_failure.specs.psci_script.declared.fault.ReplayFault.TheVariants
 use Rattle.psci_failure.specs.declared.exit.Failure.{Failure}
 use Rattle.psci_failure.specs.declared.exit.Failure.TheVariants.{CommandLine, Replay, TooManyCores}
 use Rattle.psci_failure.specs.declared.exit.Failure.TheVariants.{Audit, Gate, Gather}
+use Rattle.psci_failure.specs.declared.exit.Failure.TheVariants.{Threads as NoThreads}
 use Rattle.psci_failure.specs.declared.exit.Failure.TheVariants.{Board as GivenBoard}
 use Rattle.psci_command.specs.declared.requests.Request.{Request}
 use Rattle.psci_command.specs.declared.requests.Request.TheVariants.{Show, Storm, Threads, Nothing}
@@ -55,6 +56,7 @@ IsHeardBy app words (Err CommandLine) = HasFault (fault_of app words)
 IsHeardBy app words (Err (GivenBoard fault)) = ⊥
 IsHeardBy app words (Err TooManyCores) = ⊥
 IsHeardBy app words (Err (Replay fault)) = IsMute app words fault
+IsHeardBy app words (Err NoThreads) = ⊥
 IsHeardBy app words (Err Gate) = ⊥
 IsHeardBy app words (Err Gather) = ⊥
 IsHeardBy app words (Err (Audit found)) = ⊥

@@ -49,10 +49,11 @@ storm_shape = record (new_shape (codes "storm")) {
       ∷ text_rule (codes "keep") ∷ [];
 }
 
--- `threads [--board TEXT] --seed N --count N`
+-- `threads [--board TEXT] --seed N --count N [--counts] [--keep FILE]`
 abbrev pub threads_shape : Shape
 threads_shape = record (new_shape (codes "threads")) {
-  rules = board_rule ∷ seed_rule ∷ count_rule ∷ [];
+  rules = board_rule ∷ seed_rule ∷ count_rule ∷ flag_rule (codes "counts")
+      ∷ text_rule (codes "keep") ∷ [];
 }
 
 -- `--width COLUMNS`: any number of 16 bits, which may be left out

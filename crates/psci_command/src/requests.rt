@@ -32,6 +32,10 @@ pub struct ThreadsRequest<'a> {
     pub seed: u64,
     /// How many calls each core makes, at most 10,000.
     pub count: u64,
+    /// Whether what each core did is to be counted.
+    pub counts: bool,
+    /// The file that the run is to be kept in, if it is.
+    pub keep: Option<&'a str>,
 }
 
 /// A script that is to be shown, as the command line asks for it.
@@ -127,7 +131,14 @@ fn threads_in<'a>(matches: &ArgMatches<'a>) -> Option<ThreadsRequest<'a>>
     ensures { IsThreadsOf (rows_of (found_of matches.now)) result }
 {
     let Draw { board, seed, count } = draw_in(matches)?;
-    Some(ThreadsRequest { board, seed, count })
+    let counts = flag_in(matches, "counts");
+    Some(ThreadsRequest {
+        board,
+        seed,
+        count,
+        counts,
+        keep: text_in(matches, "keep"),
+    })
 }
 
 /// What these matches of the command `show` ask for, or none where they have no word for colors.

@@ -8,7 +8,7 @@ use Rattle.psci_script.specs.declared.fault.ReplayFault.TheVariants.{Memory}
 use Rattle.psci_script.specs.declared.fault.ScriptFault.TheVariants as scripts
 use Rattle.psci_failure.specs.declared.exit.AuditFailure.TheVariants.{Ticket, Illegal}
 use Rattle.psci_failure.specs.declared.exit.Failure.TheVariants.{CommandLine, Replay, TooManyCores}
-use Rattle.psci_failure.specs.declared.exit.Failure.TheVariants.{Audit, Gate, Gather}
+use Rattle.psci_failure.specs.declared.exit.Failure.TheVariants.{Audit, Gate, Gather, Threads}
 use Rattle.psci_failure.specs.declared.exit.Failure.TheVariants.{Board as GivenBoard}
 use Rattle.psci_failure.specs.Exit.{IsOfReplay, ended_status, failure_report, given_board_report}
 use Rattle.psci_failure.specs.Exit.{report, status_of}
@@ -184,6 +184,13 @@ too_many_cores_for_threads_status = refl
 
 too_many_cores_for_threads_text : failure_report TooManyCores ≡ codes "too many cores"
 too_many_cores_for_threads_text = refl
+
+-- threads that can't be made: 5
+no_threads_status : status_of Threads ≡ 5
+no_threads_status = refl
+
+no_threads_text : failure_report Threads ≡ codes "out of threads"
+no_threads_text = refl
 
 -- what threads did: 6, and where the audit has found an entry illegal, its place
 gate_status : status_of Gate ≡ 6

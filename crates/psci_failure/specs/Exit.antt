@@ -6,7 +6,7 @@ use Rattle.psci_script.specs.psci_board_text.declared.fault.BoardFault.TheVarian
 use Rattle.psci_failure.specs.declared.exit.Failure.{Failure}
 use Rattle.psci_failure.specs.declared.exit.AuditFailure.TheVariants.{Ticket, Illegal}
 use Rattle.psci_failure.specs.declared.exit.Failure.TheVariants.{CommandLine, Replay, TooManyCores}
-use Rattle.psci_failure.specs.declared.exit.Failure.TheVariants.{Audit, Gate, Gather}
+use Rattle.psci_failure.specs.declared.exit.Failure.TheVariants.{Audit, Gate, Gather, Threads}
 use Rattle.psci_failure.specs.declared.exit.Failure.TheVariants.{Board as GivenBoard}
 use Rattle.psci_script.specs.declared.fault.ScriptFault.{ScriptFault}
 use Rattle.psci_script.specs.declared.fault.ScriptFault.TheVariants as scripts
@@ -56,6 +56,7 @@ status_of CommandLine = 2
 status_of (GivenBoard fault) = given_board_status fault
 status_of TooManyCores = 2
 status_of (Replay fault) = replay_status fault
+status_of Threads = 5
 status_of Gate = 6
 status_of Gather = 6
 status_of (Audit found) = 6
@@ -95,6 +96,7 @@ failure_report CommandLine = []
 failure_report (GivenBoard fault) = given_board_report fault
 failure_report TooManyCores = codes "too many cores"
 failure_report (Replay fault) = report fault
+failure_report Threads = codes "out of threads"
 failure_report Gate = codes "gate limit"
 failure_report Gather = codes "gather fault"
 failure_report (Audit Ticket) = codes "audit fault 1"

@@ -22,6 +22,8 @@ pub enum Failure {
     /// The replay ended with this fault, or help or the line of a storm or of threads could not be
     /// written for want of it.
     Replay(ReplayFault),
+    /// A core's thread, or that of the link, could not be made.
+    Threads,
     /// The gate was shut at a call of a core's thread.
     Gate,
     /// What the threads took down of their calls does not agree with the books.
@@ -41,7 +43,7 @@ pub enum AuditFailure {
 
 impl Failure {
     /// The exit status: 2 for the command line and the board in it, 3 for the script, 4 for reading
-    /// or writing, 5 for memory, 6 for what threads did.
+    /// or writing, 5 for memory or threads, 6 for what threads did.
     pub fn status(self) -> u8
         ensures { result ≡ status_of self }
     {
@@ -53,6 +55,7 @@ impl Failure {
                 ReplayFault::Memory | ReplayFault::Board(BoardFault::Memory) => 5,
                 ReplayFault::Script { .. } | ReplayFault::Board(_) => 3,
             },
+            Failure::Threads => 5,
             Failure::Gate | Failure::Gather | Failure::Audit(_) => 6,
         }
     }
@@ -139,6 +142,7 @@ impl fmt::Display for FailureReport {
             Failure::Board(fault) => write!(f, "{}", BoardReport(fault)),
             Failure::TooManyCores => write!(f, "too many cores"),
             Failure::Replay(fault) => write!(f, "{}", Report(fault)),
+            Failure::Threads => write!(f, "out of threads"),
             Failure::Gate => write!(f, "gate limit"),
             Failure::Gather => write!(f, "gather fault"),
             Failure::Audit(AuditFailure::Ticket) => write!(f, "audit fault 1"),

@@ -8,4 +8,5 @@ mod laws;
 mod script;
 
 pub use laws::law_kept_lines;
+pub use psci_world_spec::Record;
 pub use script::write_script;

@@ -1,1 +1,2 @@
+mod CountRows
 mod RunRows

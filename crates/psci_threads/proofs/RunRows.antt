@@ -1,27 +1,53 @@
 -- Worked examples: runs of threads with the numbers of their books, runs with other ones, and the
 -- faults that a run ends by.
-use Rattle.std.proofs.Common.{◌≡◌, ◌<◌, List, [], ◌∷◌, length, ap, arith, subst, sym}
+use Rattle.std.proofs.Common.{◌≡◌, ◌<◌, List, [], ◌∷◌, length, ap, ap₂, arith, subst, sym}
 use Rattle.std.proofs.Common.{◌∙◌}
 use Rattle.psci_audit.specs.psci_board.Board.{BoardValue}
-use Rattle.psci_audit.specs.Merged.{IsFault, IsSound, TicketsFit, merged}
+use Rattle.psci_audit.specs.Entries.{Entry}
+use Rattle.psci_audit.specs.Merged.{IsFault, IsSound, TicketsFit, history_of, merged}
+use Rattle.psci_audit.specs.Told.{Record, Tells}
 use Rattle.psci_audit.specs.declared.fault.AuditFault.TheVariants as audits
 use Rattle.psci_workers.specs.psci_shared.declared.entry.FwEntry.{FwEntry}
 use Rattle.psci_workers.specs.psci_shared_ctl.declared.entry.CtlEntry.{CtlEntry}
 use Rattle.psci_threads.specs.Runs.{IsAudited, IsFound}
-use Rattle.psci_threads.specs.declared.fault.BenchFault.TheVariants.{Gate, Memory, Audit, Gather}
+use Rattle.psci_threads.specs.declared.fault.BenchFault.TheVariants.{Gate, Memory, Threads}
+use Rattle.psci_threads.specs.declared.fault.BenchFault.TheVariants.{Audit, Gather}
 use Rattle.psci_threads.specs.declared.running.Threaded.{Threaded}
 
 -- Numbers ---------------------------------------------------------------------------------------
 
+-- the records of a run's world tell the entries of its books
+abbrev HasTold : BoardValue → Threaded → Type 0
+HasTold b t =
+    Tells b t.world.past (history_of t.trace.firmware.items t.trace.controller.items)
+
 -- a run in which nothing was asked
 nothing_asked : (b : BoardValue) (t : Threaded) → t.trace.firmware.items ≡ []
     → t.trace.controller.items ≡ [] → t.firmware ≡ 0 → t.controller ≡ 0
-    → IsSound b t.trace.firmware.items t.trace.controller.items 0 → t.audited ≡ 0 → IsAudited b t
-nothing_asked b t fs cs firmware controller is audited = record {
+    → IsSound b t.trace.firmware.items t.trace.controller.items 0 → t.audited ≡ 0
+    → t.world.board ≡ b → HasTold b t → IsAudited b t
+nothing_asked b t fs cs firmware controller is audited board told = record {
   firmware = firmware ∙ sym (ap length fs);
   controller = controller ∙ sym (ap length cs);
   sound = subst (λ n. IsSound b t.trace.firmware.items t.trace.controller.items n) (sym audited) is;
+  board = board;
+  told = told;
 }
+
+-- the world is on this board, and its records tell the merged list
+on_another_board : (b : BoardValue) (t : Threaded) → ¬ (t.world.board ≡ b) → IsAudited b t → ⊥
+on_another_board b t differs is = differs is.board
+
+told_otherwise : (b : BoardValue) (t : Threaded) → ¬ (HasTold b t) → IsAudited b t → ⊥
+told_otherwise b t differs is = differs is.told
+
+no_record : (b : BoardValue) (t : Threaded) (f : FwEntry) → t.trace.firmware.items ≡ f ∷ []
+    → t.trace.controller.items ≡ [] → t.world.past ≡ [] → IsAudited b t → ⊥
+unfolding merged
+no_record b t f fs cs past is =
+    subst (λ (h : List Entry). Tells b [] h) (ap₂ history_of fs cs)
+    (subst (λ (p : List Record). Tells b p
+    (history_of t.trace.firmware.items t.trace.controller.items)) past is.told)
 
 -- two entries of the firmware and one of the power controller: each number is of its own book
 two_of_the_firmware : (b : BoardValue) (t : Threaded) (f g : FwEntry) (c : CtlEntry)
@@ -99,6 +125,10 @@ audit_without_memory b = ([], [], tt)
 run_without_memory : (b : BoardValue) → IsFound b Memory
 unfolding IsFound
 run_without_memory b = tt
+
+no_threads : (b : BoardValue) → IsFound b Threads
+unfolding IsFound
+no_threads b = tt
 
 gate_said_no : (b : BoardValue) → IsFound b Gate
 unfolding IsFound

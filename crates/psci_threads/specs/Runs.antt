@@ -1,18 +1,23 @@
 -- What a run of threads answers.
 use Rattle.std.specs.Prelude.{◌≡◌, ℕ, List, length}
 use Rattle.psci_audit.specs.psci_board.Board.{BoardValue}
-use Rattle.psci_audit.specs.Merged.{IsFault, IsSound}
+use Rattle.psci_audit.specs.Merged.{IsFault, IsSound, history_of}
+use Rattle.psci_audit.specs.Told.{Tells}
 use Rattle.psci_workers.specs.psci_shared.declared.entry.FwEntry.{FwEntry}
 use Rattle.psci_workers.specs.psci_shared_ctl.declared.entry.CtlEntry.{CtlEntry}
 use Rattle.psci_threads.specs.declared.fault.BenchFault.{BenchFault}
-use Rattle.psci_threads.specs.declared.fault.BenchFault.TheVariants.{Gate, Memory, Audit, Gather}
+use Rattle.psci_threads.specs.declared.fault.BenchFault.TheVariants.{Gate, Memory, Threads}
+use Rattle.psci_threads.specs.declared.fault.BenchFault.TheVariants.{Audit, Gather}
 use Rattle.psci_threads.specs.declared.running.Threaded.{Threaded}
 
--- The numbers are those of the entries of each book and of the merged list, which is legal.
+-- The numbers are those of the entries of each book and of the merged list, which is legal. The
+-- world is on the board, and its records tell that list: one for each entry, with the same reply.
 pub record IsAudited (b : BoardValue) (t : Threaded) : Type 0 where
   pub firmware : t.firmware ≡ length t.trace.firmware.items
   pub controller : t.controller ≡ length t.trace.controller.items
   pub sound : IsSound b t.trace.firmware.items t.trace.controller.items t.audited
+  pub board : t.world.board ≡ b
+  pub told : Tells b t.world.past (history_of t.trace.firmware.items t.trace.controller.items)
 
 -- the audit found this fault in some trace
 unfoldable pub IsFound : BoardValue → BenchFault → Type 0
@@ -20,4 +25,5 @@ IsFound b (Audit fault) =
     (fs : List FwEntry) × (cs : List CtlEntry) × IsFault b fs cs fault
 IsFound b Gate = Unit {0}
 IsFound b Memory = Unit {0}
+IsFound b Threads = Unit {0}
 IsFound b Gather = Unit {0}

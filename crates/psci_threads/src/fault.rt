@@ -17,6 +17,9 @@ pub enum BenchFault {
     /// Memory ran out.
     #[error("out of memory")]
     Memory,
+    /// A thread could not be made.
+    #[error("a thread could not be made")]
+    Threads,
     /// The trace is not that of one legal run.
     #[error("the audit refuses the trace: {0}")]
     Audit(AuditFault),
@@ -33,6 +36,7 @@ pub(crate) fn fault_of(cut: Cut) -> BenchFault
     match cut {
         Cut::Gate => BenchFault::Gate,
         Cut::Memory => BenchFault::Memory,
+        Cut::Threads => BenchFault::Threads,
         Cut::Gather => BenchFault::Gather,
     }
 }

@@ -7,8 +7,8 @@ ghost use Rattle.psci_audit.specs.Told.{IsListOfSafe};
 ghost use Rattle.psci_threads.specs.Runs.{IsAudited, IsFound};
 
 use crate::fault::{BenchFault, fault_of};
-use psci_audit::{Trace, audit};
-use psci_workers::{Board, Gate, Gathered, run_cores};
+use psci_audit::{Retold, Trace, World, retell};
+use psci_workers::{Board, Gate, Gathered, Polled, run_cores};
 use std::alloc::Global;
 use std::sync::Wait;
 use std::thread::Threads;
@@ -24,6 +24,10 @@ pub struct Threaded {
     pub controller: u64,
     /// How many entries the audit found to be one legal run.
     pub audited: u64,
+    /// The run as a world has it: its records tell the entries of both books, in order.
+    pub world: World,
+    /// How often each core's thread has read a status without the lock, core by core.
+    pub polls: Vec<Polled>,
 }
 
 /// Runs a thread for each core, which makes so many calls at most, and one for the link; then audits
@@ -48,13 +52,14 @@ pub fn threads<R: Threads + Wait + Sync, G: Gate + Sync>(
             Gathered {
                 firmware,
                 controller,
+                polls,
             },
         ) => {
             let trace = Trace {
                 firmware,
                 controller,
             };
-            audited(alloc, board, trace)
+            audited(alloc, board, trace, polls)
         }
         Err(cut) => Err(fault_of(cut)),
     }
@@ -62,18 +67,25 @@ pub fn threads<R: Threads + Wait + Sync, G: Gate + Sync>(
 
 /// What the audit says of a trace.
 #[tactic(auto, unfolding(crate::specs::Runs::IsFound))]
-fn audited(alloc: Global, board: &Board, trace: Trace) -> Result<Threaded, BenchFault>
+fn audited(
+    alloc: Global,
+    board: &Board,
+    trace: Trace,
+    polls: Vec<Polled>,
+) -> Result<Threaded, BenchFault>
     ensures ok { IfOk result (λ t. IsAudited board.now t) }
     ensures safe { IfOk result (λ t. IsListOfSafe board.now
         (history_of t.trace.firmware.items t.trace.controller.items)) }
     ensures fault { IfErr result (λ f. IsFound board.now f) }
 {
-    match audit(alloc, board, &trace) {
-        Ok(audited) => Ok(Threaded {
+    match retell(alloc, board, &trace) {
+        Ok(Retold { world, audited }) => Ok(Threaded {
             firmware: trace.firmware.len() as u64,
             controller: trace.controller.len() as u64,
             trace,
             audited,
+            world,
+            polls,
         }),
         Err(fault) => Err(BenchFault::Audit(fault)),
     }

@@ -1,10 +1,11 @@
 //! Boards, and runs on them.
 
+use crate::lossy::{Travel, travelled};
 use crate::meeting::Meeting;
 use crate::serving::serve;
 use psci_board::Board;
 use psci_board_text::ReadBoard;
-use psci_threads::{BenchFault, Gate, OpenGate, Threaded, threads};
+use psci_threads::{BenchFault, Gate, OpenGate, Threaded, calls_of, threads};
 use psci_world::World;
 use std::alloc::Global;
 use std::sync::Wait;
@@ -49,7 +50,45 @@ pub(crate) fn ran<R: Threads + Wait + Sync, G: Gate + Sync>(
     threads(rt, alloc, &board, seed, count, gate)
 }
 
+/// Whether each core of a run has made so many calls, and looked at others.
+fn is_done(run: &Threaded, count: u64) -> bool {
+    let entries = run.trace.firmware.as_slice();
+    run.polls.iter().all(|it| calls_of(entries, it.core) == count
+        && it.polls >= count.saturating_sub(3))
+}
+
+/// Whether runs of so many seeds were each audited whole, each core made so many calls, and frames
+/// were lost, came again and overtook others at least so often in all of them.
+pub(crate) fn travels<R: Threads + Wait + Sync>(
+    rt: &R,
+    alloc: Global,
+    text: &str,
+    seeds: u64,
+    count: u64,
+    floor: Travel,
+) -> Result<bool, BenchFault> {
+    let mut all = Travel::none();
+    for seed in 0..seeds {
+        let run = ran(rt, alloc, text, seed.wrapping_add(1), count, &OpenGate)?;
+        if !is_whole(&run) || !is_done(&run, count) {
+            return Ok(false);
+        }
+        let Ok(travel) = travelled(alloc, &run.trace) else {
+            return Err(BenchFault::Memory);
+        };
+        all = all.with(travel);
+    }
+    Ok(all.is_above(floor))
+}
+
 /// Whether all entries of a run were audited.
+fn is_whole(run: &Threaded) -> bool {
+    let firmware = run.trace.firmware.len() as u64;
+    let controller = run.trace.controller.len() as u64;
+    run.audited == firmware.wrapping_add(controller)
+}
+
+/// Whether all entries of a run were audited, and each core has made its calls.
 pub(crate) fn is_audited<R: Threads + Wait + Sync>(
     rt: &R,
     alloc: Global,
@@ -58,7 +97,7 @@ pub(crate) fn is_audited<R: Threads + Wait + Sync>(
     count: u64,
 ) -> Result<bool, BenchFault> {
     let run = ran(rt, alloc, text, seed, count, &OpenGate)?;
-    Ok(run.audited == run.trace.firmware.len() as u64 + run.trace.controller.len() as u64)
+    Ok(is_whole(&run) && is_done(&run, count))
 }
 
 /// Whether cores 0 and 1 come to meet, each in its second call.

@@ -1,6 +1,7 @@
 //! Tests of core threads over a lossy link, and of what their audit refuses. They start threads, and
 //! end the same whatever the schedule.
 //!
+//! - A *travel* is what became of the frames of runs: how many were lost, came again or overtook.
 //! - A *meeting* is a gate that lets the second calls of cores 0 and 1 go on together alone.
 //! - A *server* is one core of a body that has no threads: it serves its cores one after another.
 #![tactic(auto)]
@@ -12,23 +13,37 @@ mod counted;
 #[cfg(test)]
 mod forged;
 #[cfg(test)]
+mod lossy;
+#[cfg(test)]
 mod meeting;
 #[cfg(test)]
 mod serving;
 
 #[cfg(test)]
 mod tests {
-    use crate::boards::{BOARD, LARGE, ONE, TALL, is_audited, met, served};
+    use crate::boards::{BOARD, LARGE, ONE, TALL, is_audited, met, served, travels};
     use crate::counted::is_counted;
     use crate::forged::{is_illegal_at, is_ticket_twice, judged};
+    use crate::lossy::Travel;
     use psci_threads::{AuditFault, BenchFault};
     use std::test::*;
 
+    /// A third of what twenty runs have together, or less.
+    const FLOOR: Travel = Travel {
+        never_delivered: 200,
+        delivered_again: 250,
+        messages_overtaken: 200,
+        acks_lost: 300,
+        acks_repeated: 40,
+        acks_overtaken: 50,
+        acks_old: 400,
+        acks_used: 300,
+        resets: 50,
+    };
+
     #[test]
     fn seeds_are_audited(rt: HostRuntime) -> Result<(), Fail> {
-        for seed in 1..21u64 {
-            assert_eq!(rt; is_audited(&rt, rt.alloc(), BOARD, seed, 200), Ok(true));
-        }
+        assert_eq!(rt; travels(&rt, rt.alloc(), BOARD, 20, 200, FLOOR), Ok(true));
         Ok(())
     }
 

@@ -1,13 +1,21 @@
 //! The queues of frames, and who is still at work.
 
 use crossbeam_queue::SegQueue;
+use psci_board::Core;
 use psci_link::{FRAME_LEN, Frame, encode};
 use std::alloc::{AllocError, Global};
 use std::sync::Wait;
 use std::sync::atomic::{AtomicBool, AtomicU32, Ordering};
+use std::thread;
 
 /// The bytes of a frame.
 pub type Bytes = [u8; FRAME_LEN];
+
+/// A thread that has come waits so many turns at most for the others.
+const TURNS: u32 = 4_000_000;
+
+/// So many workers at most step down at one moment.
+const AT_ONCE: u32 = 1000;
 
 /// The queues of frames to the link, and what all threads of a run count together.
 #[derive(Drop)]
@@ -16,41 +24,44 @@ pub struct Wire {
     messages: SegQueue<Bytes>,
     /// From the power controller to the firmware.
     acks: SegQueue<Bytes>,
-    /// Frames that were sent and have not arrived for the last time.
-    under_way: AtomicU32,
-    /// Workers that are busy.
-    busy: AtomicU32,
+    /// For each core, whether it is off and has calls to make.
+    waiting: Vec<AtomicBool>,
+    /// Workers whose core runs, sleeps or was asked on, and has calls to make.
+    up: AtomicU32,
     /// Workers that have not ended.
     at_work: AtomicU32,
+    /// Threads that have come to the start.
+    come: AtomicU32,
     /// Whether the run is to end before all calls are made.
     is_over: AtomicBool,
 }
 
 impl Wire {
-    /// Queues without frames, and so many workers, of which one is busy: that of the boot core.
+    /// Queues without frames, and so many workers, of which one is up: that of the boot core. All
+    /// others wait.
     pub fn new(alloc: Global, workers: u16) -> Result<Wire, AllocError> {
+        let mut waiting = Vec::with_capacity(alloc, usize::from(workers))?;
+        for number in 0..workers {
+            waiting.push(AtomicBool::new(number > 0))?;
+        }
         Ok(Wire {
             messages: SegQueue::new(alloc)?,
             acks: SegQueue::new(alloc)?,
-            under_way: AtomicU32::new(0),
-            busy: AtomicU32::new(1),
+            waiting,
+            up: AtomicU32::new(1),
             at_work: AtomicU32::new(u32::from(workers)),
+            come: AtomicU32::new(0),
             is_over: AtomicBool::new(false),
         })
     }
 
     /// Sends a frame; false if memory ran out.
     pub fn send<R: Wait>(&self, rt: &R, frame: &Frame) -> bool {
-        let _before = self.under_way.fetch_add(1, Ordering::SeqCst);
         let queue = match frame {
             Frame::Message(_) => &self.messages,
             Frame::Ack(_) => &self.acks,
         };
-        if queue.push(rt, encode(frame)).is_err() {
-            self.arrived();
-            return false;
-        }
-        true
+        queue.push(rt, encode(frame)).is_ok()
     }
 
     /// The next frame of either queue, if there is one.
@@ -61,24 +72,71 @@ impl Wire {
         }
     }
 
-    /// A frame has arrived for the last time.
-    pub fn arrived(&self) {
-        let _before = self.under_way.fetch_sub(1, Ordering::SeqCst);
+    /// Comes to the start, where each thread waits for all the others; false if one of them doesn't
+    /// come, as where it can't be made.
+    pub fn starts_with_all(&self) -> bool {
+        let _before = self.come.fetch_add(1, Ordering::SeqCst);
+        let all = self.waiting.len() as u64 + 1;
+        for _ in 0..TURNS {
+            if self.is_over() {
+                return false;
+            }
+            if u64::from(self.come.load(Ordering::SeqCst)) >= all {
+                return true;
+            }
+            thread::yield_now();
+        }
+        self.give_up();
+        false
     }
 
-    /// A worker is busy from now on, or no longer.
-    pub fn set_busy(&self, is_busy: bool) {
-        let _before = if is_busy {
-            self.busy.fetch_add(1, Ordering::SeqCst)
-        } else {
-            self.busy.fetch_sub(1, Ordering::SeqCst)
-        };
+    /// A core waits to be asked on from now on, or no longer.
+    pub fn set_waiting(&self, core: Core, is_waiting: bool) {
+        if let Some(place) = self.waiting.get(usize::from(core.number)) {
+            place.store(is_waiting, Ordering::SeqCst);
+        }
     }
 
-    /// Whether no core that waits can be asked on any more. A busy worker sends before it is no
-    /// longer busy, so this looks at the frames last.
+    /// Whether a core waits to be asked on.
+    pub fn is_waiting(&self, core: Core) -> bool {
+        match self.waiting.get(usize::from(core.number)) {
+            Some(place) => place.load(Ordering::SeqCst),
+            None => false,
+        }
+    }
+
+    /// One worker more is up.
+    pub fn step_up(&self) {
+        let _before = self.up.fetch_add(1, Ordering::SeqCst);
+    }
+
+    /// A worker is no longer up, whoever is.
+    pub fn step_out(&self) {
+        let _before = self.up.fetch_sub(1, Ordering::SeqCst);
+    }
+
+    /// A worker is no longer up if another one is, which can ask the others on; else it stays up, and
+    /// the answer is false.
+    pub fn step_down(&self) -> bool {
+        let mut up = self.up.load(Ordering::SeqCst);
+        for _ in 0..AT_ONCE {
+            if up < 2 {
+                return false;
+            }
+            match self
+                .up
+                .compare_exchange(up, up - 1, Ordering::SeqCst, Ordering::SeqCst)
+            {
+                Ok(_) => return true,
+                Err(now) => up = now,
+            }
+        }
+        false
+    }
+
+    /// Whether nobody can ask a core on any more that waits.
     pub fn is_still(&self) -> bool {
-        self.busy.load(Ordering::SeqCst) == 0 && self.under_way.load(Ordering::SeqCst) == 0
+        self.up.load(Ordering::SeqCst) == 0
     }
 
     /// A worker has ended.

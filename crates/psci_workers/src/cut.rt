@@ -10,6 +10,8 @@ pub enum Cut {
     Gate,
     /// Memory ran out.
     Memory,
+    /// A thread could not be made.
+    Threads,
     /// The passes do not agree with the books.
     Gather,
 }

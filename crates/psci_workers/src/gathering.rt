@@ -4,7 +4,7 @@ ghost use Rattle.std.specs.Prelude.{◌≡◌, IfOk};
 
 use crate::cut::Cut;
 use crate::platform::Returned;
-use psci_shared::{FwEntry, Named, SharedFirmware};
+use psci_shared::{Core, FwEntry, Named, SharedFirmware};
 use psci_shared_ctl::{CtlEntry, SharedController};
 use std::alloc::{AllocError, Global};
 
@@ -15,6 +15,17 @@ pub struct Gathered {
     pub firmware: Vec<FwEntry>,
     /// What the power controller was asked, with its replies.
     pub controller: Vec<CtlEntry>,
+    /// How often each core's thread has read a status without the lock, core by core.
+    pub polls: Vec<Polled>,
+}
+
+/// How often a core's thread has read the status of a core without the lock.
+#[derive(Clone, Copy, Debug, PartialEq, Eq)]
+pub struct Polled {
+    /// The core whose thread it is.
+    pub core: Core,
+    /// How often.
+    pub polls: u64,
 }
 
 /// The entries of a run whose threads handed these back, or the first fault of a thread.
@@ -26,12 +37,16 @@ pub(crate) fn gather<N: Named, M: Named>(
 ) -> Result<Gathered, Cut> {
     let mut passes = Vec::new(alloc);
     let mut asked = Vec::new(alloc);
+    let mut polls = Vec::new(alloc);
     for thread in returned {
         if let Some(fault) = thread.fault {
             return Err(fault);
         }
         passes.push(thread.pass)?;
         asked.push(thread.asked)?;
+        if let Some(polled) = thread.polled {
+            polls.push(polled)?;
+        }
     }
     let Ok(books) = firmware.gather(passes) else {
         return Err(Cut::Gather);
@@ -42,6 +57,7 @@ pub(crate) fn gather<N: Named, M: Named>(
     Ok(Gathered {
         firmware: copied(alloc, books.book.entries())?,
         controller: copied_controls(alloc, others.book.entries())?,
+        polls,
     })
 }
 

@@ -7,15 +7,18 @@
 //! - A *turn* is one look of a thread that waits; after it the thread gives the processor away.
 #![tactic(auto)]
 
+mod arriving;
+mod calling;
 mod cut;
 mod gathering;
 mod link;
+mod outstanding;
 mod platform;
 mod running;
 mod worker;
 
 pub use cut::Cut;
-pub use gathering::Gathered;
+pub use gathering::{Gathered, Polled};
 pub use psci_shared::{Board, Core, Memory};
 pub use psci_traffic::{Gate, OpenGate};
 pub use running::run_cores;

@@ -4,25 +4,24 @@ ghost use Rattle.std.specs.Prelude.{◌≡◌, ◌<◌, length};
 ghost use Rattle.psci_link.specs.Frame.{IsOf};
 ghost use Rattle.psci_link.specs.declared.frame.Frame.TheVariants as frames;
 
+use crate::cut::Cut;
+use crate::outstanding::outstanding;
 use crate::platform::{Ending, Platform, Returned, fault_of};
 use psci_draws::Draws;
-use psci_link::{Frame, decode};
+use psci_link::{Frame, decode, encode};
 use psci_messages::Message;
-use psci_shared::{Named, Pass};
+use psci_shared::{Core, Named, Pass};
 use psci_shared_ctl::{CtlPass, Delivery};
 use psci_traffic::Bytes;
-use std::alloc::Global;
+use std::alloc::{AllocError, Global};
 use std::sync::Wait;
 use std::thread;
 
-/// A frame is lost so often in a row at most. After each loss it is sent again.
+/// Frames of a core are lost so often in a row at most.
 const LOSSES: u32 = 10;
 
 /// The link draws the next frame among so many.
 const CHOICE: u32 = 4;
-
-/// The link waits so many turns in a row at most for a frame.
-const TURNS: u32 = 100_000_000;
 
 /// What the link thread has.
 #[derive(Drop)]
@@ -31,61 +30,85 @@ pub(crate) struct Link<N: Named, M: Named> {
     asked: CtlPass<M>,
     draws: Draws,
     carried: Vec<Carried>,
+    /// The core of each frame that was lost, the first first. What is outstanding of it is sent
+    /// again.
+    lost: Vec<Core>,
+    /// How often in a row frames of each core were lost.
+    losses: Vec<u32>,
 }
 
 /// A frame that the link carries.
 #[derive(Drop)]
 struct Carried {
     bytes: Bytes,
-    /// How often in a row it was lost.
-    losses: u32,
     /// Whether it is to arrive twice yet.
     twice: bool,
 }
 
 impl<N: Named, M: Named> Link<N, M> {
-    /// A link that carries nothing.
-    pub(crate) fn new(alloc: Global, pass: Pass<N>, asked: CtlPass<M>, seed: u64) -> Link<N, M> {
-        Link {
+    /// A link of so many cores, that carries nothing.
+    pub(crate) fn new(
+        alloc: Global,
+        pass: Pass<N>,
+        asked: CtlPass<M>,
+        cores: u16,
+        seed: u64,
+    ) -> Result<Link<N, M>, AllocError> {
+        let mut losses = Vec::with_capacity(alloc, usize::from(cores))?;
+        for _ in 0..cores {
+            losses.push(0)?;
+        }
+        Ok(Link {
             pass,
             asked,
             draws: Draws::of_thread(seed, 0),
             carried: Vec::new(alloc),
-        }
+            lost: Vec::new(alloc),
+            losses,
+        })
     }
 
     /// Carries frames until all workers have ended and the last frame has arrived.
     pub(crate) fn run<R: Wait>(self, rt: &R, platform: &Platform<'_, N, M>) -> Returned<N, M> {
         let mut link = self;
         let ended = link.work(rt, platform);
-        if fault_of(ended).is_some() {
+        if ended.is_err() {
             platform.wire.give_up();
         }
+        link.handed_back(fault_of(ended))
+    }
+
+    /// What the thread hands back that ends by this fault, or without one.
+    pub(crate) fn handed_back(self, fault: Option<Cut>) -> Returned<N, M> {
         let Link {
             pass,
             asked,
             draws: _,
             carried: _,
-        } = link;
+            lost: _,
+            losses: _,
+        } = self;
         Returned {
             pass,
             asked,
-            fault: fault_of(ended),
+            polled: None,
+            fault,
         }
     }
 
     fn work<R: Wait>(&mut self, rt: &R, platform: &Platform<'_, N, M>) -> Result<(), Ending> {
-        let mut turns = 0;
         for _ in rt.forever() {
+            if platform.wire.is_over() {
+                return Ok(());
+            }
             let all_ended = platform.wire.is_left();
             self.fetch(rt, platform)?;
+            self.send_again(rt, platform)?;
             if !self.carried.is_empty() {
-                turns = 0;
                 self.carry(rt, platform)?;
-            } else if all_ended || turns >= TURNS {
+            } else if all_ended && self.lost.is_empty() {
                 return Ok(());
             } else {
-                turns += 1;
                 thread::yield_now();
             }
         }
@@ -99,16 +122,29 @@ impl<N: Named, M: Named> Link<N, M> {
                 return Ok(());
             };
             let twice = self.draws.one_in(8);
-            let carried = Carried {
-                bytes,
-                losses: 0,
-                twice,
-            };
-            if self.carried.push(carried).is_err() {
-                return Err(Ending::Memory);
-            }
+            self.carried.push(Carried { bytes, twice })?;
         }
         unreachable!()
+    }
+
+    /// The message that is outstanding of the first core of which a frame was lost is sent again, if
+    /// there is one; after a while, or at once where nothing else is carried.
+    fn send_again<R: Wait>(&mut self, rt: &R, platform: &Platform<'_, N, M>) -> Result<(), Ending> {
+        if self.lost.is_empty() || (!self.carried.is_empty() && !self.draws.one_in(4)) {
+            return Ok(());
+        }
+        let core = self.lost.remove(0);
+        let message = platform
+            .firmware
+            .look(rt, |entries| outstanding(entries, core));
+        if let Some(message) = message {
+            let bytes = encode(&Frame::Message(message));
+            self.carried.push(Carried {
+                bytes,
+                twice: false,
+            })?;
+        }
+        Ok(())
     }
 
     /// One of the first frames, whichever is drawn, is lost or arrives.
@@ -117,25 +153,17 @@ impl<N: Named, M: Named> Link<N, M> {
     {
         let drawn = self.draws.below(CHOICE) as usize;
         let place = drawn.min(self.carried.len() - 1);
-        let is_lost = self.draws.one_in(3);
-        let frame = &mut self.carried[place];
-        if is_lost && frame.losses < LOSSES {
-            frame.losses += 1;
-            return Ok(());
+        let carried = &mut self.carried[place];
+        let bytes = carried.bytes;
+        if carried.twice {
+            carried.twice = false;
+        } else {
+            self.carried.remove(place);
         }
-        let bytes = frame.bytes;
-        if frame.twice {
-            frame.losses = 0;
-            frame.twice = false;
-            return self.arrive(rt, platform, &bytes);
-        }
-        self.carried.remove(place);
-        let arrived = self.arrive(rt, platform, &bytes);
-        platform.wire.arrived();
-        arrived
+        self.arrive(rt, platform, &bytes)
     }
 
-    /// A frame arrives, and is read.
+    /// A frame is read.
     fn arrive<R: Wait>(
         &mut self,
         rt: &R,
@@ -148,8 +176,42 @@ impl<N: Named, M: Named> Link<N, M> {
         self.receive(rt, platform, &frame)
     }
 
-    /// The power controller has a message, or the firmware an acknowledgement.
+    /// A frame is received, or was lost on its way.
     fn receive<R: Wait>(
+        &mut self,
+        rt: &R,
+        platform: &Platform<'_, N, M>,
+        frame: &Frame,
+    ) -> Result<(), Ending>
+        requires { IsOf M.board frame.now }
+    {
+        let core = match frame {
+            Frame::Message(message) => message.core,
+            Frame::Ack(ack) => ack.core,
+        };
+        if self.loses(core) {
+            self.lost.push(core)?;
+            return Ok(());
+        }
+        self.hand_on(rt, platform, frame)
+    }
+
+    /// Whether a frame of this core is lost: one in three is, and not too many in a row.
+    fn loses(&mut self, core: Core) -> bool {
+        let is_lost = self.draws.one_in(3);
+        let Some(losses) = self.losses.get_mut(usize::from(core.number)) else {
+            return false;
+        };
+        if is_lost && *losses < LOSSES {
+            *losses += 1;
+            return true;
+        }
+        *losses = 0;
+        false
+    }
+
+    /// The power controller has a message, or the firmware an acknowledgement.
+    fn hand_on<R: Wait>(
         &mut self,
         rt: &R,
         platform: &Platform<'_, N, M>,

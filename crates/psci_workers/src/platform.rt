@@ -3,9 +3,11 @@
 ghost use Rattle.std.specs.Prelude.{◌≡◌};
 
 use crate::cut::Cut;
+use crate::gathering::Polled;
 use psci_shared::{Board, Named, Pass, SharedFirmware};
 use psci_shared_ctl::{CtlPass, SharedController};
 use psci_traffic::Wire;
+use std::alloc::{AllocError, AllocFailed};
 
 /// What all threads of a run share.
 #[derive(Drop)]
@@ -22,7 +24,8 @@ pub(crate) struct Platform<'a, N: Named, M: Named> {
 /// Why a thread ends before its work is done.
 #[derive(Clone, Copy, Debug, PartialEq, Eq)]
 pub(crate) enum Ending {
-    /// A book is full, nothing more can come, or another thread has given up.
+    /// A book is full, nothing more can come, it has waited too long, or another thread has given
+    /// up.
     Early,
     /// The gate said no.
     Gate,
@@ -30,11 +33,25 @@ pub(crate) enum Ending {
     Memory,
 }
 
+impl From<AllocError> for Ending {
+    fn from(_fault: AllocError) -> Ending {
+        Ending::Memory
+    }
+}
+
+impl<T: Drop> From<AllocFailed<T>> for Ending {
+    fn from(_fault: AllocFailed<T>) -> Ending {
+        Ending::Memory
+    }
+}
+
 /// What a thread hands back.
 #[derive(Drop)]
 pub(crate) struct Returned<N: Named, M: Named> {
     pub(crate) pass: Pass<N>,
     pub(crate) asked: CtlPass<M>,
+    /// How often a core's thread has read a status without the lock.
+    pub(crate) polled: Option<Polled>,
     pub(crate) fault: Option<Cut>,
 }
 

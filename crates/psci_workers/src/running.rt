@@ -138,14 +138,24 @@ fn done<N: Named, M: Named, R: Wait, G: Gate>(
     gate: &G,
     job: Job<N, M>,
 ) -> Returned<N, M> {
+    if !platform.wire.starts_with_all() {
+        return left(job);
+    }
     match job {
         Job::Core(worker) => worker.run(rt, platform, gate),
         Job::Link(link) => link.run(rt, platform),
     }
 }
 
-/// A worker for each core, and the link last: where no thread can be made the jobs are done one
-/// after another, and the link then finds that all workers have ended.
+/// What a thread hands back that has not done its job, since not all threads could be made.
+fn left<N: Named, M: Named>(job: Job<N, M>) -> Returned<N, M> {
+    match job {
+        Job::Core(worker) => worker.handed_back(Some(Cut::Threads)),
+        Job::Link(link) => link.handed_back(Some(Cut::Threads)),
+    }
+}
+
+/// A worker for each core, and the link.
 fn jobs_of<N: Named, M: Named>(
     alloc: Global,
     board: &Board,
@@ -164,16 +174,16 @@ fn jobs_of<N: Named, M: Named>(
     }
     let pass = firmware.pass(Core { number: 0 })?;
     let asked = controller.pass()?;
-    jobs.push(Job::Link(Link::new(alloc, pass, asked, seed)))?;
+    jobs.push(Job::Link(Link::new(alloc, pass, asked, board.cores(), seed)?))?;
     Ok(jobs)
 }
 
 /// So many entries a run has room for in the lists of all its passes. Each of these is as long as a
 /// book.
-const ROOM: u64 = 4_000_000;
+const ROOM: u64 = 100_000_000;
 
-/// How many entries a call of a core may lead to, with its entries, messages and acknowledgements.
-const ENTRIES: u64 = 8;
+/// How many entries of one book a call of a core leads to at most, on the average of a run.
+const ENTRIES: u64 = 4;
 
 /// How many entries a book has room for.
 fn room_of(board: &Board, count: u64) -> u32 {

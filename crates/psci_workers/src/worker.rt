@@ -3,40 +3,40 @@
 ghost use Rattle.std.specs.Prelude.{◌<◌};
 ghost use Rattle.psci_fw.specs.psci_board.Board.{cores};
 
+use crate::cut::Cut;
+use crate::gathering::Polled;
 use crate::platform::{Ending, Platform, Returned, fault_of};
-use psci_abi::Request;
-use psci_draws::{Draws, registers};
-use psci_fw::{Act, Outcome, Start};
+use psci_draws::Draws;
+use psci_fw::{Act, Outcome};
 use psci_link::Frame;
 use psci_shared::{CallFault, Core, Named, Pass};
-use psci_shared_ctl::{CtlPass, Kick};
-use psci_traffic::{Gate, request_of};
+use psci_shared_ctl::CtlPass;
+use psci_traffic::Gate;
 use std::sync::Wait;
-use std::thread;
 
-/// A worker waits so many turns at most for its core to run.
-const TURNS: u32 = 1_000_000;
-
-/// An off core has a wake-up event of its own after so many turns at most.
-const OFF_TURNS: u32 = 4096;
+/// A worker waits so many turns in a row at most.
+pub(crate) const TURNS: u32 = 4_000_000;
 
 /// What a core's thread has.
 #[derive(Drop)]
 pub(crate) struct Worker<N: Named, M: Named> {
-    pass: Pass<N>,
-    asked: CtlPass<M>,
-    core: Core,
-    draws: Draws,
-    state: State,
+    pub(crate) pass: Pass<N>,
+    pub(crate) asked: CtlPass<M>,
+    pub(crate) core: Core,
+    pub(crate) draws: Draws,
+    pub(crate) state: State,
     /// The number of the start by which the core entered last, 0 before it entered.
-    entered: u32,
-    is_busy: bool,
+    pub(crate) entered: u32,
+    /// Whether it counts among those that are up.
+    pub(crate) is_up: bool,
+    /// How often it has read the status of a core without the lock.
+    pub(crate) polls: u64,
     ghost on_board: { core.number < cores M.board },
 }
 
 /// What a worker knows of its core.
 #[derive(Clone, Copy, Debug, PartialEq, Eq)]
-enum State {
+pub(crate) enum State {
     /// It runs.
     Running,
     /// It suspends, and wakes by itself.
@@ -57,11 +57,12 @@ impl<N: Named, M: Named> Worker<N, M> {
             draws: Draws::of_thread(seed, u64::from(core.number) + 1),
             state: State::Off,
             entered: 0,
-            is_busy: core.number == 0,
+            is_up: core.number == 0,
+            polls: 0,
         }
     }
 
-    /// Makes the core's calls, as many as it can.
+    /// Makes the core's calls. A worker that has to stop before it has made them ends the run.
     pub(crate) fn run<R: Wait, G: Gate>(
         self,
         rt: &R,
@@ -70,24 +71,34 @@ impl<N: Named, M: Named> Worker<N, M> {
     ) -> Returned<N, M> {
         let mut worker = self;
         let ended = worker.work(rt, platform, gate);
-        worker.set_busy(platform, false);
-        if fault_of(ended).is_some() {
+        if ended.is_err() {
             platform.wire.give_up();
         }
+        platform.wire.set_waiting(worker.core, false);
+        if worker.is_up {
+            platform.wire.step_out();
+        }
         platform.wire.leave();
+        worker.handed_back(fault_of(ended))
+    }
+
+    /// What the thread hands back that ends by this fault, or without one.
+    pub(crate) fn handed_back(self, fault: Option<Cut>) -> Returned<N, M> {
         let Worker {
             pass,
             asked,
-            core: _,
+            core,
             draws: _,
             state: _,
             entered: _,
-            is_busy: _,
-        } = worker;
+            is_up: _,
+            polls,
+        } = self;
         Returned {
             pass,
             asked,
-            fault: fault_of(ended),
+            polled: Some(Polled { core, polls }),
+            fault,
         }
     }
 
@@ -105,132 +116,32 @@ impl<N: Named, M: Named> Worker<N, M> {
         Ok(())
     }
 
-    /// Whether the core may go off for good: the boot core only late, so that it asks others on.
-    fn may_go_off(&self, platform: &Platform<'_, N, M>, call: u64) -> bool {
-        self.core.number > 0 || call > platform.count - platform.count / 4
+    /// Whether the core may go off before this call: only in the first three quarters of its calls,
+    /// and only if it can be started twice yet.
+    pub(crate) fn may_go_off(&self, platform: &Platform<'_, N, M>, call: u64) -> bool {
+        let is_early = call < platform.count - platform.count / 4;
+        call > 1 && is_early && self.has_starts(platform)
     }
 
-    /// A running core is reset, once in many calls.
-    fn reset_now_and_then<R: Wait>(
-        &mut self,
-        rt: &R,
-        platform: &Platform<'_, N, M>,
-        call: u64,
-    ) -> Result<(), Ending> {
-        let may_reset = call > 1 && self.may_go_off(platform, call);
-        if self.state != State::Running || !may_reset || !self.draws.one_in(64) {
-            return Ok(());
-        }
-        match platform.controller.reset(rt, &mut self.asked, self.core) {
-            Ok(Kick::Started(start)) => self.enter(rt, platform, start),
-            Ok(Kick::Ignored) => Ok(()),
-            Err(_) => Err(Ending::Early),
-        }
+    /// Whether the core can be started twice yet: once to no avail, and once since it is asked on.
+    pub(crate) fn has_starts(&self, platform: &Platform<'_, N, M>) -> bool {
+        platform.board.start_limit().saturating_sub(self.entered) >= 2
     }
 
-    /// Brings the core to run: it enters each time it is started.
-    fn arrive<R: Wait>(
-        &mut self,
-        rt: &R,
-        platform: &Platform<'_, N, M>,
-        call: u64,
-    ) -> Result<(), Ending> {
-        let wakes_at = self.draws.below(OFF_TURNS);
-        for turn in 0..TURNS {
-            if platform.wire.is_over() {
-                return Err(Ending::Early);
-            }
-            if self.state == State::Running {
-                return Ok(());
-            }
-            let may_wake = call > 1 && (self.state == State::Asleep || turn == wakes_at);
-            let still = platform.wire.is_still();
-            match self.start(rt, platform, call, may_wake)? {
-                Some(start) => self.enter(rt, platform, start)?,
-                None if still => return Err(Ending::Early),
-                None => thread::yield_now(),
-            }
-        }
-        Err(Ending::Early)
-    }
-
-    /// The start that the core has not entered by: the last one, or else, where it may wake, one of
-    /// its own.
-    fn start<R: Wait>(
-        &mut self,
-        rt: &R,
-        platform: &Platform<'_, N, M>,
-        call: u64,
-        may_wake: bool,
-    ) -> Result<Option<Start>, Ending> {
-        match platform.controller.started(rt, self.core) {
-            Some(start) if start.number > self.entered => Ok(Some(start)),
-            _ if may_wake => self.wake(rt, platform, call),
-            _ => Ok(None),
-        }
-    }
-
-    /// The start by a wake-up event, or now and then by a reset of a sleeping core.
-    fn wake<R: Wait>(
-        &mut self,
-        rt: &R,
-        platform: &Platform<'_, N, M>,
-        call: u64,
-    ) -> Result<Option<Start>, Ending> {
-        let may_reset = self.state == State::Asleep && self.may_go_off(platform, call);
-        let kicked = if may_reset && self.draws.one_in(16) {
-            platform.controller.reset(rt, &mut self.asked, self.core)
+    /// The core waits to be asked on, if another one is up that can do so.
+    pub(crate) fn step_down(&mut self, platform: &Platform<'_, N, M>) -> bool {
+        platform.wire.set_waiting(self.core, true);
+        let is_down = platform.wire.step_down();
+        if is_down {
+            self.is_up = false;
         } else {
-            platform
-                .controller
-                .wake(rt, &mut self.asked, self.core, self.entered)
-        };
-        match kicked {
-            Ok(Kick::Started(start)) => Ok(Some(start)),
-            // An off core was asked on in between. A sleeping one was started as often as may be.
-            Ok(Kick::Ignored) if self.state == State::Off => Ok(None),
-            _ => Err(Ending::Early),
+            platform.wire.set_waiting(self.core, false);
         }
-    }
-
-    /// The core enters by its start. Where it does not go on from there, it is off.
-    fn enter<R: Wait>(
-        &mut self,
-        rt: &R,
-        platform: &Platform<'_, N, M>,
-        start: Start,
-    ) -> Result<(), Ending> {
-        let entered = platform.firmware.enter(rt, &mut self.pass, start);
-        self.entered = start.number;
-        self.go_on(rt, platform, entered, State::Off)
-    }
-
-    /// The core calls, if the gate lets it.
-    fn call<R: Wait, G: Gate>(
-        &mut self,
-        rt: &R,
-        platform: &Platform<'_, N, M>,
-        gate: &G,
-        call: u64,
-    ) -> Result<(), Ending> {
-        if !gate.may(self.core, call) {
-            return Err(Ending::Gate);
-        }
-        let off = self.may_go_off(platform, call);
-        let request = request_of(&mut self.draws, platform.board, self.core, call, off);
-        let answered = platform
-            .firmware
-            .smc(rt, &mut self.pass, registers(request, true));
-        gate.done(self.core, call);
-        let stopped = match request {
-            Request::CpuOff => State::Off,
-            _ => State::Asleep,
-        };
-        self.go_on(rt, platform, answered, stopped)
+        is_down
     }
 
     /// Sends the message of an outcome. Where the outcome is a stop, the core has stopped so.
-    fn go_on<R: Wait>(
+    pub(crate) fn go_on<R: Wait>(
         &mut self,
         rt: &R,
         platform: &Platform<'_, N, M>,
@@ -245,20 +156,10 @@ impl<N: Named, M: Named> Worker<N, M> {
         {
             return Err(Ending::Memory);
         }
-        let state = match act {
+        self.state = match act {
             Act::Stop => stopped,
             _ => State::Running,
         };
-        self.state = state;
-        self.set_busy(platform, state != State::Off);
         Ok(())
-    }
-
-    /// The worker is busy from now on, or not.
-    fn set_busy(&mut self, platform: &Platform<'_, N, M>, is_busy: bool) {
-        if self.is_busy != is_busy {
-            self.is_busy = is_busy;
-            platform.wire.set_busy(is_busy);
-        }
     }
 }

@@ -3,6 +3,7 @@ use Rattle.std.proofs.Common.{refl, ap, sym, ◌∙◌, arith}
 use Rattle.psci_audit.specs.Merged.{merged}
 use Rattle.psci_audit.proofs.Apart.{parts}
 use Rattle.psci_audit.proofs.SoFar.{after_asked, after_controlled, begin, ended, stops_asked}
+use Rattle.psci_audit.proofs.SoFar.{told}
 use Rattle.psci_audit.proofs.SoFar.{stops_controlled}
 use Rattle.psci_audit.proofs.merging.follow_all.Goals as goal
 use Rattle.psci_audit.proofs.merging.follow_all.Goals.{then-is_asked_first+in-len1-up+in_default-fault_of}
@@ -52,8 +53,8 @@ loop-place-preserved c =
           record { between = after.0; left = after.1 }
     ]
 
-pub returns-in-Some : goal.returns-in-Some
-returns-in-Some c =
+pub returns-in-Some-clause-judged : goal.returns-in-Some-clause-judged
+returns-in-Some-clause-judged c =
     stops_asked c.args.world.now.board (merged c.args.firmware.now c.args.controller.now)
     c.loop-place.world c.follow_firmware.new.world c.loop-place.asked.now
     c.loop-place.controlled.now c.loop-place.place c.entry-item.result c.follow_firmware.result
@@ -62,8 +63,8 @@ returns-in-Some c =
     (sym c.is_asked_first.ensures ∙ c.if-is_asked_first.true) c.follow_firmware.ensures.step
     c.in-Some.ensures
 
-pub returns-in-Some-fault_of : goal.returns-in-Some-fault_of
-returns-in-Some-fault_of c =
+pub returns-in-Some-fault_of-clause-judged : goal.returns-in-Some-fault_of-clause-judged
+returns-in-Some-fault_of-clause-judged c =
     stops_controlled c.args.world.now.board (merged c.args.firmware.now c.args.controller.now)
     c.loop-place.world c.follow_controller.new.world c.loop-place.asked.now
     c.loop-place.controlled.now c.loop-place.place c.entry-item-else-is_asked_first.result
@@ -73,10 +74,19 @@ returns-in-Some-fault_of c =
     (sym c.is_asked_first.ensures ∙ c.if-is_asked_first.false) c.follow_controller.ensures.step
     c.in-Some-fault_of.ensures
 
-pub returns : goal.returns
-returns c =
+pub returns-clause-judged : goal.returns-clause-judged
+returns-clause-judged c =
     ended c.args.world.now.board (merged c.args.firmware.now c.args.controller.now)
     c.loop-place.world c.loop-place.asked.now c.loop-place.controlled.now c.loop-place.place _
     c.loop-place.invariant.between
     (omega (arith, c.loop-place.invariant.left, c.loop-place-test.false))
     (omega (arith, c.loop-place.invariant.left, c.loop-place-test.false, c.loop-place.auto))
+
+pub returns-clause-board : goal.returns-clause-board
+returns-clause-board c = c.loop-place.invariant.between.board
+
+pub returns-clause-told : goal.returns-clause-told
+returns-clause-told c =
+    told c.args.world.now.board c.args.firmware.now c.loop-place.asked.now c.args.controller.now
+    c.loop-place.controlled.now c.loop-place.world _ c.loop-place.invariant.between
+    (omega (arith, c.loop-place.invariant.left, c.loop-place-test.false))

@@ -11,5 +11,8 @@ returns-in_err-board c =
     (subst (IsDrawOf rows) c.in_err-board.was c.draw_in.ensures)
 
 pub returns : goal.returns
-returns c =
-    subst (IsDrawOf (rows_of (found_of c.args.matches.now))) c.in_ok-board.was c.draw_in.ensures
+returns c = (
+  subst (IsDrawOf (rows_of (found_of c.args.matches.now))) c.in_ok-board.was c.draw_in.ensures,
+  c.flag_in.ensures,
+  c.text_in.ensures,
+)

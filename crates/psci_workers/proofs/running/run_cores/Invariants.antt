@@ -16,11 +16,7 @@ ghosts-run-N-Ledger g a = record {
 }
 
 abbrev pub ghosts-run-M-Named : goal.ghosts-run-M-Named
-ghosts-run-M-Named g a = record {
-  board = a.plan.board.now;
-  table = no_table;
-  room = a.plan.room;
-}
+ghosts-run-M-Named g a = record { board = a.plan.board.now; table = no_table; room = a.plan.room }
 
 abbrev pub ghosts-run-M-Ledger : goal.ghosts-run-M-Ledger
 ghosts-run-M-Ledger g a = record {

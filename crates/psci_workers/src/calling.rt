@@ -1,0 +1,137 @@
+//! The calls of a core: it looks at another core, and then calls.
+
+ghost use Rattle.std.specs.Prelude.{◌<◌};
+
+use crate::platform::{Ending, Platform};
+use crate::worker::{State, TURNS, Worker};
+use psci_abi::Request;
+use psci_draws::{affinity, registers};
+use psci_fw::{Act, Code, Outcome};
+use psci_shared::{CallFault, Core, Named};
+use psci_traffic::{Gate, request_of};
+use std::sync::Wait;
+use std::thread;
+
+/// What AFFINITY_INFO answers of a core that is off.
+pub(crate) const OFF: Code = Code(1);
+
+/// What CPU_ON answers that was accepted.
+const SUCCESS: Code = Code(0);
+
+impl<N: Named, M: Named> Worker<N, M> {
+    /// The core calls, if the gate lets it. A core that is asked on counts among those that are up,
+    /// from before the call on.
+    pub(crate) fn call<R: Wait, G: Gate>(
+        &mut self,
+        rt: &R,
+        platform: &Platform<'_, N, M>,
+        gate: &G,
+        call: u64,
+    ) -> Result<(), Ending> {
+        if !gate.may(self.core, call) {
+            return Err(Ending::Gate);
+        }
+        let request = self.next_request(platform, call)?;
+        let asks_on = matches!(request, Request::CpuOn { .. });
+        if asks_on {
+            platform.wire.step_up();
+        }
+        let answered = platform
+            .firmware
+            .smc(rt, &mut self.pass, registers(request, true));
+        gate.done(self.core, call);
+        if asks_on && !is_accepted(&answered) {
+            platform.wire.step_out();
+        }
+        let stopped = match request {
+            Request::CpuOff => State::Off,
+            _ => State::Asleep,
+        };
+        self.go_on(rt, platform, answered, stopped)
+    }
+
+    /// What the core calls. It looks at another core before, and mostly asks it on if it waits.
+    fn next_request(
+        &mut self,
+        platform: &Platform<'_, N, M>,
+        call: u64,
+    ) -> Result<Request, Ending> {
+        let board = platform.board;
+        if call < 2 {
+            return Ok(request_of(&mut self.draws, board, self.core, call, false));
+        }
+        if call == platform.count.saturating_sub(1) {
+            return self.last_request(platform);
+        }
+        if let Some(core) = self.look_at_another(platform)
+            && !self.draws.one_in(4)
+        {
+            return Ok(self.asks_on(platform, core));
+        }
+        let may_go_off = self.may_go_off(platform, call);
+        match request_of(&mut self.draws, board, self.core, call, may_go_off) {
+            Request::CpuOff if !self.step_down(platform) => Ok(Request::Version),
+            request => Ok(request),
+        }
+    }
+
+    /// The last call: if no other core is up, it asks one on that waits, once that is off.
+    fn last_request(&mut self, platform: &Platform<'_, N, M>) -> Result<Request, Ending> {
+        for _ in 0..TURNS {
+            if platform.wire.is_over() {
+                return Err(Ending::Early);
+            }
+            if platform.wire.step_down() {
+                self.is_up = false;
+                return Ok(Request::Version);
+            }
+            let Some(core) = first_waiting(platform) else {
+                return Ok(Request::Version);
+            };
+            if self.poll(platform, core) == OFF {
+                return Ok(self.asks_on(platform, core));
+            }
+            thread::yield_now();
+        }
+        Err(Ending::Early)
+    }
+
+    /// A core is asked on.
+    fn asks_on(&mut self, platform: &Platform<'_, N, M>, core: Core) -> Request {
+        Request::CpuOn {
+            target: affinity(platform.board, core.number),
+            entry: platform.board.boot(),
+            context: self.draws.word(),
+        }
+    }
+
+    /// Looks at any core without the lock: which one, if it is another one that is off and waits.
+    fn look_at_another(&mut self, platform: &Platform<'_, N, M>) -> Option<Core> {
+        let number = self.draws.core(platform.board.cores());
+        let core = platform.board.core(number)?;
+        let is_off = self.poll(platform, core) == OFF;
+        (is_off && core != self.core && platform.wire.is_waiting(core)).then_some(core)
+    }
+
+    /// The status of a core, without the lock.
+    pub(crate) fn poll(&mut self, platform: &Platform<'_, N, M>, core: Core) -> Code {
+        self.polls = self.polls.saturating_add(1);
+        let word = affinity(platform.board, core.number);
+        platform.firmware.affinity_core(&mut self.pass, word)
+    }
+}
+
+/// The first core that waits to be asked on.
+fn first_waiting<N: Named, M: Named>(platform: &Platform<'_, N, M>) -> Option<Core> {
+    (0..platform.board.cores())
+        .map(|number| Core { number })
+        .find(|core| platform.wire.is_waiting(*core))
+}
+
+/// Whether a call was answered SUCCESS.
+fn is_accepted(answered: &Result<Outcome, CallFault>) -> bool {
+    match answered {
+        Ok(Outcome { act, message: _ }) => *act == Act::Return(SUCCESS),
+        Err(_) => false,
+    }
+}
