@@ -1,10 +1,5 @@
 -- Why what is in a place may go to another core, layer by layer.
-use denote.Param.Send.{IsSend, IsSync, sendable, view_send, recorded_send, struct_send}
-use denote.Param.Send.{recorded_sync, struct_sync, plain_send, plain_sync}
-use denote.Struct.Declared.{shape}
-use Rattle.std.specs.contracts.alloc.Global as Heap
-use Rattle.std.specs.contracts.impls.GlobalAllocator.TheImpl.{ghosts}
-use Rattle.std.specs.contracts.sync.Arc as Arc
+use denote.Param.Send.{IsSend, IsSync, sendable}
 use Rattle.std.proofs.Crossing as heap
 use Rattle.psci_board.proofs.board.Board.TheSendSync as board
 use Rattle.psci_fw.specs.contracts.firmware.Firmware as Firmware

@@ -1,8 +1,8 @@
 -- How many statuses a core can have had. A status is weighed by the life and the known start that it
 -- came with; each that is added weighs more than the last one.
-use Rattle.std.proofs.Common.{◌≡◌, ◌≢◌, inl, inr, ⊎_elim, ℕ, suc, ◌+◌, ◌*◌, ◌<◌, ◌≤◌, List, [], ◌∷◌}
+use Rattle.std.proofs.Common.{◌≡◌, ◌≢◌, inl, inr, ⊎_elim, ℕ, ◌+◌, ◌*◌, ◌<◌, ◌≤◌, List, [], ◌∷◌}
 use Rattle.std.proofs.Common.{length, Bool, true, false, refl, sym, ap, ◌∙◌, subst, arith}
-use Rattle.std.specs.Prelude.{◌⊎◌, ◌==◌, ◌&&◌, not, if◌then◌else◌, nat_lt}
+use Rattle.std.specs.Prelude.{◌⊎◌, ◌==◌, ◌&&◌, not, if◌then◌else◌}
 use Rattle.std.proofs.lemmas.Bool.{eqb-true}
 use Rattle.std.proofs.lemmas.Bool.Decides.{nat_tests}
 use Rattle.psci_board.specs.Board.{BoardValue, IsBoard}
@@ -13,21 +13,21 @@ use Rattle.psci_messages.specs.Message.{AckValue}
 use Rattle.psci_fw_spec.specs.declared.status.Status.{Status}
 use Rattle.psci_fw_spec.specs.declared.status.Status.TheVariants.{On, Off, Pending}
 use Rattle.psci_fw_spec.specs.After.{change}
-use Rattle.psci_fw_spec.specs.Changes.{PowerOn, target, turns_off, with_arrival}
+use Rattle.psci_fw_spec.specs.Changes.{target, turns_off}
 use Rattle.psci_fw_spec.specs.Effects.{Effect, Nothing, GoesOn, SetsMode, AsksOn, Rests, Halts}
 use Rattle.psci_fw_spec.specs.Effects.{Stops, Enters, Parks, StopsAtOnce, Acknowledges}
 use Rattle.psci_fw_spec.specs.Exchange.{FwExchange, effect}
 use Rattle.psci_fw_spec.specs.History.{known, life, status, values_of}
 use Rattle.psci_fw_spec.specs.Invariant.{AreValues, agrees}
 use Rattle.psci_fw_spec.specs.Legal.{IsLegal}
-use Rattle.psci_fw_spec.specs.Lives.{first_status, in_life, start_of_life}
+use Rattle.psci_fw_spec.specs.Lives.{first_status, start_of_life}
 use Rattle.psci_fw_spec.specs.Phases.{Phase, is_away}
 use Rattle.psci_fw_spec.specs.Phases as phases
 use Rattle.psci_fw_spec.specs.Sent.{sent_messages}
 use Rattle.psci_fw_spec.specs.Statuses.{added, statuses}
 use Rattle.psci_fw_spec.specs.Values.{Values, updated}
 use Rattle.psci_polled.specs.Writing.{most_statuses, one_more}
-use Rattle.psci_polled.proofs.Last.{added_last, length_added, more, statuses_more}
+use Rattle.psci_polled.proofs.Last.{added_last, length_added, statuses_more}
 
 -- in one start a core is ON, goes OFF, and is asked on again, in this order
 abbrev rank : Status → ℕ

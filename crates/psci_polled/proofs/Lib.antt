@@ -1,5 +1,10 @@
+pub mod Calls
 pub mod Counting
 pub mod Last
-pub mod Staying
+mod NamingRows
 pub mod Past
+mod PollRows
+mod PolledRows
+pub mod Staying
 pub mod Steps
+mod WritingRows

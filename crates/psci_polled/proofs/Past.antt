@@ -11,12 +11,10 @@ use Rattle.psci_abi.specs.declared.registers.Regs.{Regs}
 use Rattle.psci_abi.specs.declared.request.Request.{Request}
 use Rattle.psci_abi.specs.declared.request.Request.TheVariants as requests
 use Rattle.psci_board.specs.Board.{BoardValue, IsBoard, cores}
-use Rattle.psci_board.specs.declared.node.Core.{Core}
 use Rattle.psci_messages.specs.declared.start.Start.{Start}
 use Rattle.psci_messages.specs.declared.taken.Taken.{Taken}
 use Rattle.psci_messages.specs.declared.taken.Taken.TheVariants as takens
 use Rattle.psci_messages.specs.Message.{AckValue, MessageValue}
-use Rattle.psci_fw.specs.Seen.{FirmwareValue, seen}
 use Rattle.psci_fw_spec.specs.declared.call.FwCall.{FwCall}
 use Rattle.psci_fw_spec.specs.declared.call.FwCall.TheVariants.{Smc, Enter, Take}
 use Rattle.psci_fw_spec.specs.declared.mode.SuspendMode.{SuspendMode}
@@ -30,9 +28,9 @@ use Rattle.psci_fw_spec.specs.After.{after}
 use Rattle.psci_fw_spec.specs.Answer.{answer}
 use Rattle.psci_fw_spec.specs.Effects.{GoesOn, effect_of, enter_effect, function_effect, mode_effect}
 use Rattle.psci_fw_spec.specs.Effects.{return_effect, sent_effect, stop_effect}
-use Rattle.psci_fw_spec.specs.Exchange.{FwExchange, effect}
+use Rattle.psci_fw_spec.specs.Exchange.{FwExchange}
 use Rattle.psci_fw_spec.specs.History.{life, status, values_of}
-use Rattle.psci_fw_spec.specs.Legal.{IsLegal, legal_reply}
+use Rattle.psci_fw_spec.specs.Legal.{IsLegal}
 use Rattle.psci_fw_spec.specs.Statuses.{added, statuses}
 use Rattle.psci_fw_spec.specs.SuspendMode.{mode_of}
 use Rattle.psci_fw_spec.specs.Values.{Values}

@@ -1,21 +1,19 @@
 -- Where a call leaves the life, every status stays but of the core that it names.
-use Rattle.std.proofs.Common.{◌≡◌, ℕ, List, ◌∷◌, Bool, true, false, refl, sym, ap, ◌∙◌, subst}
+use Rattle.std.proofs.Common.{◌≡◌, ℕ, List, ◌∷◌, Bool, false, refl, ap, ◌∙◌}
 use Rattle.std.proofs.Common.{Option, None, Some, arith}
 use Rattle.std.specs.Prelude.{◌==◌, ◌&&◌, not, if◌then◌else◌, unwrap_or, nat_lt}
 use Rattle.std.specs.Option.{option_or}
 use Rattle.std.proofs.lemmas.Bool.Decides.{nat_tests}
 use Rattle.psci_board.specs.Board.{BoardValue}
 use Rattle.psci_messages.specs.declared.kind.Kind.TheVariants.{Down}
-use Rattle.psci_messages.specs.Message.{AckValue}
 use Rattle.psci_messages.specs.OnlyIf.{only_if}
 use Rattle.psci_messages.specs.Slots.{is_kind}
 use Rattle.psci_fw_spec.specs.declared.status.Status.{Status}
 use Rattle.psci_fw_spec.specs.declared.status.Status.TheVariants.{On, Off, Pending}
-use Rattle.psci_fw_spec.specs.Changes.{target}
 use Rattle.psci_fw_spec.specs.Effects.{Effect, Nothing, GoesOn, SetsMode, AsksOn, Rests, Halts}
 use Rattle.psci_fw_spec.specs.Effects.{Stops, Enters, Parks, StopsAtOnce, Acknowledges}
 use Rattle.psci_fw_spec.specs.Exchange.{FwExchange, effect}
-use Rattle.psci_fw_spec.specs.History.{begins, is_gone, life, phase, says_off, says_status, status}
+use Rattle.psci_fw_spec.specs.History.{begins, life, phase, says_status, status}
 use Rattle.psci_fw_spec.specs.Lives.{first_status}
 use Rattle.psci_fw_spec.specs.Phases.{is_away}
 use Rattle.psci_fw_spec.specs.Said.{arrived}

@@ -1,5 +1,5 @@
 -- What the calls of a polled firmware have to show, over plain values.
-use Rattle.std.proofs.Common.{◌≡◌, ◌≢◌, ℕ, ◌<◌, List, Bool, false, refl, sym, ap, ◌∙◌, subst, replicate, [], ◌∷◌}
+use Rattle.std.proofs.Common.{◌≡◌, ◌≢◌, ℕ, ◌<◌, List, false, refl, sym, ap, ◌∙◌, subst, replicate, [], ◌∷◌}
 use Rattle.std.proofs.Common.{Option, zero, suc, arith}
 use Rattle.atomic_table.specs.Seated.{TableId}
 use Rattle.psci_board.specs.Board.{BoardValue, IsBoard, cores}
@@ -15,7 +15,6 @@ use Rattle.psci_fw_spec.specs.Effects.{effect_of}
 use Rattle.psci_fw_spec.specs.History.{values_of}
 use Rattle.psci_fw_spec.specs.Lives.{start_of_life}
 use Rattle.psci_fw_spec.specs.Statuses.{added, statuses}
-use Rattle.psci_fw_spec.specs.Values.{Values}
 use Rattle.psci_status.specs.Lists.{row}
 use Rattle.psci_polled.specs.Naming.{is_named, names}
 use Rattle.psci_polled.specs.Polled.{IsPast, IsPolled, PolledView}

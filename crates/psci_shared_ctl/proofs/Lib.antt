@@ -1,4 +1,5 @@
 pub mod AgreeRows
+mod AnsweredRows
 mod BookRows
 pub mod CallRows
 pub mod Histories

@@ -29,6 +29,7 @@ fn tell_of_starts<N: Named, R: Wait>(
     tickets: &Tickets,
     blank: Blank,
 ) -> Option<bool>
+    requires room { N.room ≡ 2 }
     requires board { board.now ≡ N.board }
     requires name { blank.name ≡ N.name }
     requires parts { (blank.parts ≡ N.parts) × (N.parts ≡ 1001) }
@@ -94,6 +95,7 @@ fn tell_of_threads<N: Named + Send + Sync, R: Threads + Wait + Sync>(
     tickets: &Tickets,
     blank: Blank,
 ) -> Option<bool>
+    requires room { N.room ≡ 4 }
     requires board { board.now ≡ N.board }
     requires name { blank.name ≡ N.name }
     requires parts { (blank.parts ≡ N.parts) × (N.parts ≡ 1001) }

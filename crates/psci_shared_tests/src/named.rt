@@ -51,6 +51,7 @@ pub(crate) fn told<R: Threads + Wait + Sync>(rt: &R, alloc: Global, story: Story
         rt,
         alloc,
         story,
+        room_of(story),
         &board,
         words,
         writer,
@@ -59,16 +60,27 @@ pub(crate) fn told<R: Threads + Wait + Sync>(rt: &R, alloc: Global, story: Story
     )
 }
 
+/// For how many entries the story's book has room.
+fn room_of(story: Story) -> u32 {
+    match story {
+        Story::FullBooks => 1,
+        Story::TooMany => 0,
+        _ => 100,
+    }
+}
+
 fn tell<N: Named + Send + Sync, R: Threads + Wait + Sync>(
     rt: &R,
     alloc: Global,
     story: Story,
+    room: u32,
     board: &Board,
     words: StatusWords,
     writer: Writer,
     tickets: &Tickets,
     blank: Blank,
 ) -> Option<bool>
+    requires room { room ≡ N.room }
     requires board { board.now ≡ N.board }
     requires name { blank.name ≡ N.name }
     requires parts { (blank.parts ≡ N.parts) × (N.parts ≡ 1001) }
@@ -76,11 +88,6 @@ fn tell<N: Named + Send + Sync, R: Threads + Wait + Sync>(
     requires writer { (table_of_writer writer ≡ N.table)
         × (written writer ≡ replicate (cores N.board) (Off ∷ [])) }
 {
-    let room = match story {
-        Story::FullBooks => 1,
-        Story::TooMany => 0,
-        _ => 100,
-    };
     let shared = SharedFirmware::<N>::new(alloc, board, words, writer, room, tickets, blank).ok()?;
     match story {
         Story::ThreeCalls => three_calls(rt, alloc, shared, true),

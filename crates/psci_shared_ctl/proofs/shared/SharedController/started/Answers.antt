@@ -1,4 +1,3 @@
-use Rattle.std.proofs.Common.{◌≡◌, ℕ, sym, subst}
 use Rattle.psci_shared_ctl.proofs.shared.SharedController.started.Goals as goal
 
 pub returns : goal.returns
