@@ -193,9 +193,9 @@ class Labels {
         this.palette.theme === "dark" || code !== RUNNING ? "#14181c" :
                                                             "#ffffff";
     this.font(10);
-    this.text(asked, x + 5, y + 11, ink, room);
+    this.text(asked, x + 5, y + 9, ink, room);
     if (row.height >= 38)
-      this.text(said, x + 5, y + 22, isWrong && isLow ? this.palette.wrong : ink, room);
+      this.text(said, x + 5, y + 19, isWrong && isLow ? this.palette.wrong : ink, room);
   }
 
   /** The picked event: a line through all rows. */
