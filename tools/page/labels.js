@@ -181,7 +181,7 @@ class Labels {
       context.fillRect(Math.round(x), y, scale.step > 20 ? 2 : 1, row.height - 1);
       const room = (ends.get(row) ?? scale.width) - x - 6;
       ends.set(row, x);
-      if (room > 44 && row.height >= 26) this.markWords(event, row, x, room, isWrong);
+      if (room > 44 && row.height >= 34) this.markWords(event, row, x, room, isWrong);
     }
   }
 
