@@ -72,7 +72,7 @@ shown_ends() {
     printf '%s\nenter 0\nenter 1 2\n' "$board" > "$work/script"
     show < "$work/script"
     expect "show at a faulty line" 3 "line 3: script fault 2"
-    echo "   1  R  0   core 0 enters -> enters at 0x0 with context 0x0" > "$work/lines"
+    echo "   1  R  0   0   core 0 enters -> enters at 0x0 with context 0x0" > "$work/lines"
     answers "show before a faulty line"
     show < /dev/null
     expect "show of an empty script" 3 "line 1: script fault 1"

@@ -181,7 +181,7 @@ class Labels {
       context.fillRect(Math.round(x), y, scale.step > 20 ? 2 : 1, row.height - 1);
       const room = (ends.get(row) ?? scale.width) - x - 6;
       ends.set(row, x);
-      if (room > 44 && row.height >= 26) this.markWords(event, row, x, room, isWrong);
+      if (room > 44 && row.height >= 34) this.markWords(event, row, x, room, isWrong);
     }
   }
 
@@ -193,9 +193,9 @@ class Labels {
         this.palette.theme === "dark" || code !== RUNNING ? "#14181c" :
                                                             "#ffffff";
     this.font(10);
-    this.text(asked, x + 5, y + 11, ink, room);
+    this.text(asked, x + 5, y + 9, ink, room);
     if (row.height >= 38)
-      this.text(said, x + 5, y + 22, isWrong && isLow ? this.palette.wrong : ink, room);
+      this.text(said, x + 5, y + 19, isWrong && isLow ? this.palette.wrong : ink, room);
   }
 
   /** The picked event: a line through all rows. */

@@ -19,14 +19,14 @@ class Link {
     this.context.fillStyle = this.palette.faint;
     this.context.fillRect(0, this.top, end, 1.5);
     this.context.fillRect(0, this.bottom, end, 1.5);
-    const messages = this.inSight(this.run.messages), acks = this.inSight(this.run.acks);
-    const arrows = [...messages, ...acks].reduce((sum, it) => sum + it.comings.length, 0);
-    if (arrows > MOST_ARROWS) {
+    const { comings } = this.run;
+    if (comings[this.last + 1] - comings[this.first] > MOST_ARROWS) {
       this.density();
     } else {
+      const { messages, acks } = this.inSight();
       messages.forEach((message) => this.message(message));
       acks.forEach((ack) => this.ack(ack));
-      if (messages.length <= MOST_NAMES) this.names(messages);
+      if (messages.size <= MOST_NAMES) this.names([...messages]);
     }
     this.picked();
   }
@@ -35,15 +35,17 @@ class Link {
     return event >= this.first && event <= this.last;
   }
 
-  /** What is sent, or comes, in the part that is seen. */
-  inSight(all) {
-    const found = [];
-    for (const it of all.values()) {
-      if (it.event <= this.last && it.end >= this.first &&
-          (this.isSeen(it.event) || it.comings.some((at) => this.isSeen(at))))
-        found.push(it);
+  /** What is made, or comes, in the part that is seen. */
+  inSight() {
+    const { run } = this, messages = new Set(), acks = new Set();
+    for (let event = this.first; event <= this.last; event++) {
+      if (run.sends[event]) messages.add(run.sent[event]);
+      if (run.kinds[event] < 4 || run.outcomes[event] === ABSENT) continue;
+      if (run.kinds[event] === 4) messages.add(run.messages.get(run.objects[event]));
+      if (run.acked[event]) acks.add(run.acked[event]);
+      if (run.taken[event]) acks.add(run.taken[event]);
     }
-    return found;
+    return { messages, acks };
   }
 
   message(message, color = null) {
@@ -130,7 +132,7 @@ class Link {
     const [sent, delivered, wrong] = [0, 0, 0].map(() => new Uint16Array(width));
     for (let event = this.first; event <= this.last; event++) {
       const x = Math.min(Math.max(Math.floor(scale.x(event)), 0), width - 1);
-      if (run.sent[event]) sent[x]++;
+      sent[x] += run.sends[event];
       if (run.kinds[event] === 4) delivered[x]++;
       if (run.outcomes[event] >= IGNORED && run.kinds[event] >= 4) wrong[x]++;
     }

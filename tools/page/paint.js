@@ -37,6 +37,10 @@ function eachStretch(history, scale, ratio, tell) {
   let at = Math.max(lastAtMost(events, scale.eventAt(0), 0, length), 0);
   let begin = Math.max(column(events[at]), 0), mask = 1 << values[at];
   for (at++; begin < end; at++) {
+    while (at % BLOCK === 0 && at + BLOCK <= length && column(events[at + BLOCK - 1]) === begin) {
+      mask |= history.block(at);
+      at += BLOCK;
+    }
     const next = at < length ? Math.min(column(events[at]), end) : end;
     if (next > begin) {
       tell(begin, begin + 1, mask);

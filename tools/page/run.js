@@ -20,6 +20,9 @@ function lastAtMost(values, value, begin, end) {
   return low - 1;
 }
 
+// so many values of a history in a row are gathered, to be painted at once
+const BLOCK = 64;
+
 /** The values of a cell one after the other: from which event on each holds. */
 class History {
   constructor(events, values) {
@@ -29,6 +32,20 @@ class History {
 
   get length() {
     return this.events.length;
+  }
+
+  /** The values of a block, a bit for each; it begins at this place, a multiple of its length. */
+  block(at) {
+    this.blocks ??= this.gathered();
+    return this.blocks[at / BLOCK];
+  }
+
+  gathered() {
+    const blocks = new Uint8Array(Math.floor(this.length / BLOCK));
+    for (let at = 0; at < blocks.length * BLOCK; at++) {
+      blocks[Math.floor(at / BLOCK)] |= 1 << this.values[at];
+    }
+    return blocks;
   }
 
   at(event) {
@@ -63,11 +80,14 @@ class Run {
     this.outcomes = new Uint8Array(count);
     this.lives = new Uint32Array(count);
     this.live = new Uint8Array(count);
+    this.sends = new Uint8Array(count);
     this.sent = new Array(count);
     this.acked = new Array(count);
     this.taken = new Array(count);
     this.messages = new Map();
     this.acks = new Map();
+    // how many deliveries and takes there are before each event
+    this.comings = new Uint32Array(count + 1);
     let number = 0;
     for (let event = 0; event < count; event++) {
       const flags = reader.byte();
@@ -76,6 +96,7 @@ class Run {
       this.kinds[event] = flags & 7;
       this.live[event] = flags >> 6 & 1;
       this.objects[event] = reader.number();
+      this.comings[event + 1] = this.comings[event] + (this.kinds[event] > 3);
       this.outcomes[event] = reader.byte();
       this.lives[event] = reader.number();
       if (flags & 8) this.readSent(reader, event);
@@ -87,39 +108,37 @@ class Run {
 
   message(index) {
     if (!this.messages.has(index)) {
-      this.messages.set(index, { index, event: -1, comings: [], end: -1 });
+      this.messages.set(index, { index, event: -1, comings: [] });
     }
     return this.messages.get(index);
   }
 
   ack(index) {
-    if (!this.acks.has(index)) this.acks.set(index, { index, event: -1, comings: [], end: -1 });
+    if (!this.acks.has(index)) this.acks.set(index, { index, event: -1, comings: [] });
     return this.acks.get(index);
   }
 
   readSent(reader, event) {
     const message = this.message(reader.number());
-    const [kind, core, parts] = [reader.byte(), reader.number(), reader.byte()];
-    this.sent[event] = Object.assign(message, { event, end: event, kind, core, parts });
+    const [kind, core] = [reader.byte(), reader.number()];
+    this.sends[event] = 1;
+    this.sent[event] = Object.assign(message, { event, kind, core });
   }
 
   readAck(reader, event) {
     const ack = this.ack(reader.number());
-    const [message, applied, stale] = [reader.number(), reader.byte(), reader.byte()];
-    this.acked[event] = Object.assign(ack, { event, end: event, message, applied, stale });
+    this.acked[event] = Object.assign(ack, { event, message: reader.number() });
   }
 
   readTaken(reader, event) {
     const ack = this.taken[event] = this.ack(reader.number());
     ack.message = reader.number();
     ack.comings.push(event);
-    ack.end = event;
   }
 
   delivered(event) {
     const message = this.message(this.objects[event]);
     message.comings.push(event);
-    message.end = event;
   }
 
   /** Values before the first event, and then what each event changed, as they come. */

@@ -78,12 +78,9 @@ class Packed:
             events.number(sent["index"])
             events.byte(MESSAGE_KINDS.index(sent["kind"]))
             events.number(sent["core"])
-            events.byte(len(sent["parts"]))
         if ack:
             events.number(ack["index"])
             events.number(ack["message"])
-            events.byte(ack["applied"])
-            events.byte(ack["stale"])
         if taken:
             events.number(taken["index"])
             events.number(taken["message"])
