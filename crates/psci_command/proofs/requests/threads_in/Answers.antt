@@ -13,6 +13,6 @@ returns-in_err-board c =
 pub returns : goal.returns
 returns c = (
   subst (IsDrawOf (rows_of (found_of c.args.matches.now))) c.in_ok-board.was c.draw_in.ensures,
-  c.flag_in.ensures,
+  c.flag_in-counts.ensures,
   c.text_in.ensures,
 )
