@@ -5,7 +5,7 @@ use Rattle.std.proofs.Common.{◌∙◌}
 use Rattle.psci_audit.specs.psci_board.Board.{BoardValue}
 use Rattle.psci_audit.specs.Entries.{Entry}
 use Rattle.psci_audit.specs.Merged.{IsFault, IsSound, TicketsFit, history_of, merged}
-use Rattle.psci_audit.specs.Told.{Record, Tells}
+use Rattle.psci_audit.specs.Told.{Tells}
 use Rattle.psci_audit.specs.declared.fault.AuditFault.TheVariants as audits
 use Rattle.psci_workers.specs.psci_shared.declared.entry.FwEntry.{FwEntry}
 use Rattle.psci_workers.specs.psci_shared_ctl.declared.entry.CtlEntry.{CtlEntry}
@@ -46,7 +46,7 @@ no_record : (b : BoardValue) (t : Threaded) (f : FwEntry) → t.trace.firmware.i
 unfolding merged
 no_record b t f fs cs past is =
     subst (λ (h : List Entry). Tells b [] h) (ap₂ history_of fs cs)
-    (subst (λ (p : List Record). Tells b p
+    (subst (λ p. Tells b p
     (history_of t.trace.firmware.items t.trace.controller.items)) past is.told)
 
 -- two entries of the firmware and one of the power controller: each number is of its own book
