@@ -14,6 +14,7 @@ pub mod Living
 pub mod Lower
 pub mod Made
 pub mod Moments
+pub mod NewLife
 pub mod Older
 pub mod Parts
 pub mod Resting

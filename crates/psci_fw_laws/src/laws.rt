@@ -8,10 +8,17 @@ ghost use Rattle.psci_claims.specs.psci_parts.declared.part.Part.{Part};
 ghost use Rattle.psci_claims.specs.View.{generation};
 ghost use Rattle.psci_messages.specs.declared.kind.Kind.TheVariants.{Down};
 ghost use Rattle.psci_messages.specs.Message.{MessageValue};
+ghost use Rattle.psci_messages.specs.declared.start.Start.{Start};
+ghost use Rattle.psci_fw_spec.specs.declared.call.FwCall.TheVariants.{Enter};
+ghost use Rattle.psci_fw_spec.specs.declared.outcome.Outcome.{Outcome};
+ghost use Rattle.psci_fw_spec.specs.declared.reply.FwReply.TheVariants.{Out};
+ghost use Rattle.psci_fw_spec.specs.After.{after};
+ghost use Rattle.psci_fw_spec.specs.Answer.{answer};
 ghost use Rattle.psci_fw_spec.specs.Exchange.{FwExchange};
 ghost use Rattle.psci_fw_spec.specs.History.{values_of};
 ghost use Rattle.psci_fw_spec.specs.Invariant.{is_expected};
 ghost use Rattle.psci_fw_spec.specs.Legal.{IsLegal};
+ghost use Rattle.psci_fw_spec.specs.Lives.{start_of_life};
 ghost use Rattle.psci_fw_spec.specs.Phases.{Pending, Running};
 ghost use Rattle.psci_fw_spec.specs.Sent.{sent_messages};
 ghost use Rattle.psci_fw_spec.specs.Values.{Values};
@@ -172,3 +179,15 @@ pub fn law_known_below()
     law_paths();
     law_spans();
 }
+
+/// A firmware that was made anew and one that was kept are the same from the first entry of a later
+/// life on: such an entry is answered alike, and leaves the same values, whatever was before it. So
+/// a port may make the firmware anew at each reset of the system, while the power controller counts
+/// the lives on.
+pub fn law_new_life()
+    ensures answer { (b : BoardValue) (v : Values) (c : ℕ) (s : Start) → v.life < s.life
+        → answer b v c (Enter s) ≡ answer b (start_of_life b 0) c (Enter s) }
+    ensures after { (b : BoardValue) (v : Values) (c : ℕ) (s : Start) (o : Outcome)
+        → v.life < s.life
+        → after b c (Enter s) (Out o) v ≡ after b c (Enter s) (Out o) (start_of_life b 0) }
+{}

@@ -14,6 +14,6 @@ mod laws;
 pub use kept::law_kept;
 pub use laws::{
     law_asked, law_claimed, law_entered, law_granted, law_known_below, law_live, law_messages,
-    law_numbers, law_openings, law_outstanding,
+    law_new_life, law_numbers, law_openings, law_outstanding,
 };
 pub use psci_fw_spec::{law_caller, law_invariant, law_power_on, law_values};

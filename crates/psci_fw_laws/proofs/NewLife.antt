@@ -1,0 +1,55 @@
+-- The entry that begins a life, whatever was kept before.
+use Rattle.std.proofs.Common.{◌≡◌, ◌<◌, ◌==◌, ℕ, false, Option, None, Some, arith, ap, refl}
+use Rattle.std.specs.Prelude.{nat_lt}
+use Rattle.psci_board.specs.Board.{BoardValue}
+use Rattle.psci_messages.specs.declared.start.Start.{Start}
+use Rattle.psci_messages.specs.Message.{MessageValue}
+use Rattle.psci_fw_spec.specs.declared.call.FwCall.TheVariants.{Enter}
+use Rattle.psci_fw_spec.specs.declared.outcome.Act.{Act}
+use Rattle.psci_fw_spec.specs.declared.outcome.Act.TheVariants as acts
+use Rattle.psci_fw_spec.specs.declared.outcome.Outcome.{Outcome}
+use Rattle.psci_fw_spec.specs.declared.reply.FwReply.TheVariants.{Out}
+use Rattle.psci_fw_spec.specs.After.{after, change}
+use Rattle.psci_fw_spec.specs.Answer.{answer}
+use Rattle.psci_fw_spec.specs.Changes.{with_arrival, with_claims, with_phase, with_running}
+use Rattle.psci_fw_spec.specs.Effects.{enter_effect}
+use Rattle.psci_fw_spec.specs.Entering.{enter_outcome}
+use Rattle.psci_fw_spec.specs.Lives.{start_of_life}
+use Rattle.psci_fw_spec.specs.Phases.{Away}
+use Rattle.psci_fw_spec.specs.Values.{Values}
+
+-- a later life is another one, and no earlier one
+another : (life later : ℕ) → life < later → (later == life) ≡ false
+another life later e = grind arith
+
+no_earlier : (life later : ℕ) → life < later → nat_lt later life ≡ false
+no_earlier life later e = grind arith
+
+pub answered : (b : BoardValue) (v : Values) (c : ℕ) (s : Start) → v.life < s.life
+    → answer b v c (Enter s) ≡ answer b (start_of_life b 0) c (Enter s)
+unfolding answer enter_outcome
+answered b v c s e =
+    rw (
+      another v.life s.life e,
+      another 0 s.life (omega (arith, e)),
+      no_earlier v.life s.life e,
+      no_earlier 0 s.life (omega (arith, e)),
+    ) refl
+
+arrived : (b : BoardValue) (v : Values) (c : ℕ) (s : Start) → v.life < s.life
+    → with_arrival b c s v ≡ with_arrival b c s (start_of_life b 0)
+arrived b v c s e = rw (another v.life s.life e, another 0 s.life (omega (arith, e))) refl
+
+left : (b : BoardValue) (v : Values) (c : ℕ) (s : Start) (act : Act) (m : Option MessageValue)
+    → with_arrival b c s v ≡ with_arrival b c s (start_of_life b 0)
+    → change b (enter_effect c s act m) v ≡ change b (enter_effect c s act m) (start_of_life b 0)
+left b v c s acts.Stop (Some m) e = ap (λ w. with_claims b m (with_phase c Away w)) e
+left b v c s acts.Stop None e = ap (with_phase c Away) e
+left b v c s (acts.Return code) m e = ap (with_running c) e
+left b v c s (acts.Enter address context) m e = ap (with_running c) e
+left b v c s acts.Resume m e = ap (with_running c) e
+
+pub left_after : (b : BoardValue) (v : Values) (c : ℕ) (s : Start) (o : Outcome) → v.life < s.life
+    → after b c (Enter s) (Out o) v ≡ after b c (Enter s) (Out o) (start_of_life b 0)
+unfolding after
+left_after b v c s o e = left b v c s o.act o.message (arrived b v c s e)
