@@ -6,8 +6,8 @@ use Rattle.std.proofs.Math.Seq.{take-append_seam}
 use Rattle.std.proofs.lemmas.List.{take-append-drop}
 use Rattle.std.specs.Io.KnownBytes.{Appends}
 use Rattle.psci_script.specs.psci_board.Board.{BoardValue}
-use Rattle.psci_script.specs.psci_board_text.Verdict.{board_of}
-use Rattle.psci_script.specs.psci_board_text.declared.fault.BoardFault.{BoardFault}
+use Rattle.psci_script.specs.psci_board.Verdict.{board_of}
+use Rattle.psci_script.specs.psci_board.declared.fault.BoardFault.{BoardFault}
 use Rattle.psci_script.specs.psci_world_spec.declared.said.Record.{Record}
 use Rattle.psci_script.specs.declared.fault.Replayed.{Replayed}
 use Rattle.psci_script.specs.declared.fault.ReplayFault.{ReplayFault}

@@ -5,7 +5,7 @@ use Rattle.std.proofs.Common.{Option, None, Some, Ok, Err, Result, refl, ap, ari
 use Rattle.std.specs.Prelude.{codes}
 use Rattle.std.specs.Fmt.{digits}
 use Rattle.psci_script.specs.psci_board.Board.{BoardValue}
-use Rattle.psci_script.specs.psci_board_text.declared.fault.BoardFault.TheVariants.{Grammar}
+use Rattle.psci_script.specs.psci_board.declared.fault.BoardFault.TheVariants.{Grammar}
 use Rattle.psci_script.specs.psci_world_spec.declared.event.Event.TheVariants.{Take, Wake}
 use Rattle.psci_script.specs.psci_world_spec.declared.said.Said.TheVariants.{Absent, Ignored}
 use Rattle.psci_script.specs.psci_world_spec.Legal.{IsLegalPast}
@@ -15,7 +15,7 @@ use Rattle.psci_script.specs.declared.fault.ReplayFault.TheVariants.{Script, Boa
 use Rattle.psci_script.specs.declared.fault.ReplayFault.TheVariants.{Memory}
 use Rattle.psci_script.specs.declared.fault.ScriptFault.TheVariants as faults
 use Rattle.psci_script.specs.Script.{transcript}
-use Rattle.psci_world.specs.Safe.{AlwaysSafe}
+use Rattle.psci_present.specs.Safe.{AlwaysSafe}
 use Rattle.psci_lines.specs.ScriptRun.{ScriptRun, run_of}
 use Rattle.psci_lines.proofs.ScriptRows.{answering, board, entered, text}
 use Rattle.psci_bench.specs.ScriptRun.{AllSafe, IsSafeText, Prints, SaysRun, WritesPart}

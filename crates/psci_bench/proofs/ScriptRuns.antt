@@ -4,9 +4,9 @@ use Rattle.std.proofs.Common.{Option, None, Some}
 use Rattle.std.specs.Prelude.{IfSome, Result}
 use Rattle.std.proofs.lemmas.List.{append-nil, append_assoc}
 use Rattle.psci_script.specs.psci_board.Board.{BoardValue, IsBoard}
-use Rattle.psci_script.specs.psci_board_text.Verdict.{board_of}
-use Rattle.psci_script.specs.psci_board_text.declared.fault.BoardFault.{BoardFault}
-use Rattle.psci_world.specs.Safe.{AlwaysSafe}
+use Rattle.psci_script.specs.psci_board.Verdict.{board_of}
+use Rattle.psci_script.specs.psci_board.declared.fault.BoardFault.{BoardFault}
+use Rattle.psci_present.specs.Safe.{AlwaysSafe}
 use Rattle.psci_script.specs.psci_world_spec.declared.event.Event.{Event}
 use Rattle.psci_script.specs.psci_world_spec.declared.said.Record.{Record}
 use Rattle.psci_script.specs.psci_world_spec.Legal.{IsLegalPast, legal, legal_record, run_from}

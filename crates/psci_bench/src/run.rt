@@ -7,8 +7,8 @@ ghost use Rattle.psci_bench.specs.ScriptRun.{Prints};
 
 use crate::laws::law_safe_scripts;
 use psci_lines::{Answers, Sink, Source, Teller, tell};
+use psci_present::{Memory, Present};
 use psci_script::{Board, Event, ReplayFault, Replayed};
-use psci_world::{Memory, Present};
 use std::alloc::{AllocError, Global};
 
 /// The one form that a replay tells in: an answer line for each event.
@@ -22,7 +22,7 @@ struct Answering {
 }
 
 impl Teller<AnswerLines> for Answering {
-    ghost use Rattle.psci_world.specs.Seen.{IsPresent};
+    ghost use Rattle.psci_present.specs.Seen.{IsPresent};
     ghost use Rattle.psci_bench.specs.ScriptRun.{AnswersRun};
 
     ghost is_at = { λ answering form run. IsPresent run.board run.past answering.present };

@@ -1,7 +1,7 @@
 -- How the program ends at each fault of a run of threads.
 use Rattle.std.proofs.Common.{refl, Result, Ok, Err}
 use Rattle.psci_command.specs.psci_board.Board.{BoardValue}
-use Rattle.psci_command.specs.psci_board_text.declared.fault.BoardFault.{BoardFault}
+use Rattle.psci_command.specs.psci_board.declared.fault.BoardFault.{BoardFault}
 use Rattle.psci_threads.specs.Runs.{IsFound}
 use Rattle.psci_threads.specs.declared.fault.BenchFault.{BenchFault}
 use Rattle.psci_threads.specs.declared.fault.BenchFault.TheVariants as faults

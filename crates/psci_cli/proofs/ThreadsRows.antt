@@ -3,8 +3,8 @@ use Rattle.std.proofs.Common.{◌≡◌, Result, Ok, Err, refl, inl, inr, ap, ar
 use Rattle.std.specs.Fmt.{digits}
 use Rattle.std.specs.Prelude.{codes}
 use Rattle.psci_command.specs.psci_board.Board.{BoardValue, cores}
-use Rattle.psci_command.specs.psci_board_text.declared.fault.BoardFault.{BoardFault}
-use Rattle.psci_command.specs.psci_board_text.declared.fault.BoardFault.TheVariants as boards
+use Rattle.psci_command.specs.psci_board.declared.fault.BoardFault.{BoardFault}
+use Rattle.psci_command.specs.psci_board.declared.fault.BoardFault.TheVariants as boards
 use Rattle.psci_command.specs.psci_failure.declared.exit.AuditFailure.TheVariants as failures
 use Rattle.psci_command.specs.psci_failure.declared.exit.Failure.TheVariants.{Audit, Gate, Gather}
 use Rattle.psci_command.specs.psci_failure.declared.exit.Failure.TheVariants.{Replay, TooManyCores}

@@ -1,8 +1,8 @@
 -- How the commands end.
 use Rattle.std.specs.Prelude.{◌≡◌, ◌⊎◌, ℕ, Result, Ok, Err, IsOk}
 use Rattle.psci_command.specs.psci_board.Board.{BoardValue}
-use Rattle.psci_command.specs.psci_board_text.Verdict.{Answers}
-use Rattle.psci_command.specs.psci_board_text.declared.fault.BoardFault.{BoardFault}
+use Rattle.psci_command.specs.psci_board.Verdict.{Answers}
+use Rattle.psci_command.specs.psci_board.declared.fault.BoardFault.{BoardFault}
 use Rattle.psci_command.specs.psci_failure.declared.exit.Failure.{Failure}
 use Rattle.psci_command.specs.psci_failure.declared.exit.Failure.TheVariants.{Replay}
 use Rattle.psci_command.specs.psci_failure.declared.exit.Failure.TheVariants.{Board as GivenBoard}

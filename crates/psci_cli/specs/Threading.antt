@@ -1,8 +1,8 @@
 -- How threads end, by what the board text says.
 use Rattle.std.specs.Prelude.{◌≡◌, ◌⊎◌, ◌≤◌, ◌<◌, Result, Ok, Err}
 use Rattle.psci_command.specs.psci_board.Board.{BoardValue, cores}
-use Rattle.psci_command.specs.psci_board_text.Verdict.{Answers}
-use Rattle.psci_command.specs.psci_board_text.declared.fault.BoardFault.{BoardFault}
+use Rattle.psci_command.specs.psci_board.Verdict.{Answers}
+use Rattle.psci_command.specs.psci_board.declared.fault.BoardFault.{BoardFault}
 use Rattle.psci_command.specs.psci_failure.declared.exit.AuditFailure.TheVariants as failures
 use Rattle.psci_command.specs.psci_failure.declared.exit.Failure.{Failure}
 use Rattle.psci_command.specs.psci_failure.declared.exit.Failure.TheVariants.{Audit, Gate, Gather}

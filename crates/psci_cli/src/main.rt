@@ -9,14 +9,14 @@ mod threads_line;
 
 ghost use Rattle.std.specs.Prelude.{IfErr};
 ghost use Rattle.psci_command.specs.psci_failure.Exit.{IsOfReplay};
-ghost use Rattle.psci_command.specs.psci_board_text.Verdict.{board_of};
+ghost use Rattle.psci_command.specs.psci_board.Verdict.{board_of};
 ghost use Rattle.psci_cli.specs.Ends.{IsStormed, StormEnds};
 ghost use Rattle.psci_cli.specs.Threading.{ThreadsEnds};
 
 use keeping::keep;
 use psci_bench::{ReplayFault, Std, replay};
 use psci_command::{
-    Board, Failure, ReadBoard, Request, StormRequest, ThreadsRequest, asked, end, words,
+    Board, Failure, Request, StormRequest, ThreadsRequest, asked, end, words,
 };
 use psci_storm::{StormedWorld, storm_world};
 use shown::show_standard;

@@ -19,6 +19,6 @@ pub use grammar::{Line, read_line};
 pub use laws::law_event_lines;
 pub use limits::{LONGEST_LINE, MOST_LINES};
 pub use lines::{Extent, Front, cut, last_line};
-pub use psci_board_text::{BoardFault, ReadBoard, law_boards};
+pub use psci_board::{BoardFault, law_boards};
 pub use psci_text::literal;
 pub use psci_world_spec::{Act, Board, Code, Event, Said};

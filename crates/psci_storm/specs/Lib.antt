@@ -1,4 +1,4 @@
 pub mod Storm
 pub use Rattle.psci_tally.specs.Counts
 pub use Rattle.psci_world.specs.psci_world_spec.declared.said.Record
-pub use Rattle.psci_settling.specs.declared.settling.Settled
+pub use Rattle.psci_world.specs.declared.settling.Settled

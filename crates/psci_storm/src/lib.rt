@@ -11,5 +11,5 @@ mod seen;
 
 pub use blowing::{blow, storm, storm_world};
 pub use outcome::{Storm, StormedWorld};
-pub use psci_settling::Settled;
 pub use psci_tally::write_counts;
+pub use psci_world::Settled;

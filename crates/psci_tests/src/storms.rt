@@ -2,7 +2,6 @@
 
 use crate::worlds::agrees;
 use psci_board::Board;
-use psci_board_text::ReadBoard;
 use psci_storm::{Settled, Storm, blow, storm};
 use psci_tally::{Answer, TALLIES, Tally, count};
 use psci_world::World;

@@ -1,5 +1,5 @@
 use Rattle.std.proofs.Common.{Err, rules, subst, sym}
-use Rattle.psci_command.specs.psci_board_text.Verdict.{board_of}
+use Rattle.psci_command.specs.psci_board.Verdict.{board_of}
 use Rattle.psci_cli.specs.Threading.{IsThreaded}
 use Rattle.psci_cli.proofs.Failing.{failed}
 use Rattle.psci_cli.proofs.threads_line.threaded.Goals as goal
