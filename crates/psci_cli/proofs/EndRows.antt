@@ -8,8 +8,8 @@ use Rattle.psci_command.specs.psci_script.declared.fault.ReplayFault.TheVariants
 use Rattle.psci_command.specs.psci_script.declared.fault.ReplayFault.TheVariants.{Script, Write}
 use Rattle.psci_command.specs.psci_script.declared.fault.ScriptFault.TheVariants as scripts
 use Rattle.psci_cli.specs.Ends.{IsStormed, IsUnkept, StormEnds}
-use Rattle.psci_storm.specs.Storm.{IsStorm}
-use Rattle.psci_storm.specs.declared.outcome.StormedWorld.{StormedWorld}
+use Rattle.psci_bench.specs.psci_storm.Storm.{IsStorm}
+use Rattle.psci_bench.specs.psci_storm.declared.outcome.StormedWorld.{StormedWorld}
 
 -- a storm that was made is one of so many events on the board that the text says
 storm_made : (s : StormedWorld) → IsStorm s.world.board 3 s.world.past s.storm

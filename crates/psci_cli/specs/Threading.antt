@@ -11,12 +11,12 @@ use Rattle.psci_command.specs.psci_failure.declared.exit.Failure.TheVariants.{Th
 use Rattle.psci_command.specs.psci_failure.declared.exit.Failure.TheVariants.{Board as GivenBoard}
 use Rattle.psci_command.specs.psci_script.declared.fault.ReplayFault.TheVariants.{Memory}
 use Rattle.psci_cli.specs.Ends.{IsUnkept}
-use Rattle.psci_threads.specs.Runs.{IsAudited, IsFound}
-use Rattle.psci_threads.specs.declared.fault.BenchFault.{BenchFault}
-use Rattle.psci_threads.specs.declared.fault.BenchFault.TheVariants as faults
-use Rattle.psci_threads.specs.declared.running.Threaded.{Threaded}
-use Rattle.psci_audit.specs.declared.fault.AuditFault.{AuditFault}
-use Rattle.psci_audit.specs.declared.fault.AuditFault.TheVariants as found
+use Rattle.psci_bench.specs.psci_threads.Runs.{IsAudited, IsFound}
+use Rattle.psci_bench.specs.psci_threads.declared.fault.BenchFault.{BenchFault}
+use Rattle.psci_bench.specs.psci_threads.declared.fault.BenchFault.TheVariants as faults
+use Rattle.psci_bench.specs.psci_threads.declared.running.Threaded.{Threaded}
+use Rattle.psci_bench.specs.psci_audit.declared.fault.AuditFault.{AuditFault}
+use Rattle.psci_bench.specs.psci_audit.declared.fault.AuditFault.TheVariants as found
 
 -- how the program ends at what an audit has found
 abbrev pub failure_found : AuditFault → Failure

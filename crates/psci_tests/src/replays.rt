@@ -2,7 +2,7 @@
 //! event, and whole: many messages, many cores and many events.
 
 use crate::devices::{Page, Script};
-use psci_bench::{ReplayFault, Replayed, ScriptFault, replay};
+use psci_answers::{ReplayFault, Replayed, ScriptFault, replay};
 use std::alloc::{AllocError, Global};
 
 /// One core enters and asks for the version.

@@ -1,6 +1,6 @@
 //! What holds of the definitions alone.
 
-ghost use Rattle.psci_bench.specs.ScriptRun.{AllSafe};
+ghost use Rattle.psci_answers.specs.ScriptRun.{AllSafe};
 
 use psci_present::{law_runs, law_safe};
 use psci_script::law_boards;

@@ -18,8 +18,8 @@ use Rattle.psci_script.specs.Script.{transcript}
 use Rattle.psci_present.specs.Safe.{AlwaysSafe}
 use Rattle.psci_lines.specs.ScriptRun.{ScriptRun, run_of}
 use Rattle.psci_lines.proofs.ScriptRows.{answering, board, entered, text}
-use Rattle.psci_bench.specs.ScriptRun.{AllSafe, IsSafeText, Prints, SaysRun, WritesPart}
-use Rattle.psci_bench.specs.ScriptRun.{WritesRun, text_of}
+use Rattle.psci_answers.specs.ScriptRun.{AllSafe, IsSafeText, Prints, SaysRun, WritesPart}
+use Rattle.psci_answers.specs.ScriptRun.{WritesRun, text_of}
 
 -- the first byte, or 0 of none
 abbrev first_or_0 : List ℕ → ℕ

@@ -21,8 +21,8 @@ use Rattle.psci_script.specs.Text.{answer_line}
 use Rattle.psci_lines.specs.Run.{AnswersLines, AnswersPart, Replays, WritesAnswers}
 use Rattle.psci_lines.specs.ScriptRun.{GoesOn, ScriptRun, run_by, run_of, run_of_lines, run_on}
 use Rattle.psci_lines.specs.Told.{Tells, TellsAll, TellsLines, TellsPart}
-use Rattle.psci_bench.specs.ScriptRun.{AnswersRun, text_of}
-use Rattle.psci_bench.proofs.ScriptRuns.{rest_text}
+use Rattle.psci_answers.specs.ScriptRun.{AnswersRun, text_of}
+use Rattle.psci_answers.proofs.ScriptRuns.{rest_text}
 
 -- The answer text of a script is that of its run --------------------------------------------------
 

@@ -23,7 +23,7 @@ use Rattle.psci_script.specs.Script.{transcript_of_first, transcript_of_line, tr
 use Rattle.psci_script.specs.Script.{Transcript, transcript_of_rest}
 use Rattle.psci_lines.specs.Run.{WritesAnswers, AnswersPart, Replays}
 use Rattle.psci_lines.specs.ScriptRun.{events_of, run_by, run_of_lines, run_on, with_event}
-use Rattle.psci_bench.specs.ScriptRun.{AllSafe, Prints, SaysRun, WritesPart, WritesRun, text_of}
+use Rattle.psci_answers.specs.ScriptRun.{AllSafe, Prints, SaysRun, WritesPart, WritesRun, text_of}
 use Rattle.psci_script.specs.Text.{answer_line}
 
 -- what a line says is answered as its event happens, and then the lines after it

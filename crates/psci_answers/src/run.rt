@@ -3,7 +3,7 @@
 ghost use Rattle.std.specs.Prelude.{◌≡◌, false, OnOk, IfErr};
 ghost use Rattle.psci_lines.specs.Progress.{OnlyGivenUp};
 ghost use Rattle.psci_lines.specs.Run.{Replays};
-ghost use Rattle.psci_bench.specs.ScriptRun.{Prints};
+ghost use Rattle.psci_answers.specs.ScriptRun.{Prints};
 
 use crate::laws::law_safe_scripts;
 use psci_lines::{Answers, Sink, Source, Teller, tell};
@@ -23,7 +23,7 @@ struct Answering {
 
 impl Teller<AnswerLines> for Answering {
     ghost use Rattle.psci_present.specs.Seen.{IsPresent};
-    ghost use Rattle.psci_bench.specs.ScriptRun.{AnswersRun};
+    ghost use Rattle.psci_answers.specs.ScriptRun.{AnswersRun};
 
     ghost is_at = { λ answering form run. IsPresent run.board run.past answering.present };
 
