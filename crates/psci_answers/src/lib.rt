@@ -1,6 +1,6 @@
 //! Scripts of events, replayed in a world, and answered. What an event is, and what is said of it,
-//! are those of `psci_world_spec`; the lines of a script and its answer text are those of `psci_script`,
-//! and their way in and out is that of `psci_lines`.
+//! are those of `psci_world_spec`; the lines of a script and its answer text are those of
+//! `psci_script`, and their way in and out is that of `psci_lines`.
 #![tactic(auto)]
 
 mod laws;

@@ -101,8 +101,22 @@ all_ranges rs h = take_all 4 rs (within 4 (length rs) (left_false _ _ h))
 same_board : {a b : List (List ℕ)} {c d : List AddressRange} (boot starts lives : ℕ)
     (format : Format) → a ≡ b → c ≡ d
     → ◌≡◌ {A = BoardValue}
-    (record { levels = a; ranges = c; boot = boot; starts = starts; lives = lives; format = format })
-    (record { levels = b; ranges = d; boot = boot; starts = starts; lives = lives; format = format })
+    (record {
+      levels = a;
+      ranges = c;
+      boot = boot;
+      starts = starts;
+      lives = lives;
+      format = format;
+    })
+    (record {
+      levels = b;
+      ranges = d;
+      boot = boot;
+      starts = starts;
+      lives = lives;
+      format = format;
+    })
 same_board boot starts lives format p q = cc
 
 decided_by : (t : BoardText) → IsFull t.tree

@@ -38,7 +38,8 @@ pub neighbours : first_faults (
     codes "(17 (1)) exec 0x0-0x10 boot 0x0 starts 1 lives 1" ∷
     (codes "(16 16 16 16 16 16 16 16 16 16 16 16 16 16 16 17)"
     ++ codes " exec 0x0-0x10 boot 0x0 starts 1 lives 1") ∷
-    (codes "(" ++ (widest_list ++ codes " (1)) exec 0x10-0x10 0x0-0x10 boot 0x0 starts 1 lives 1")) ∷
+    (codes "(" ++ (widest_list ++ codes " (1)) exec 0x10-0x10 0x0-0x10 boot 0x0 starts 1 lives 1"))
+    ∷
     codes "16 exec 0x10-0x10 0x0-0x10 boot 0x1 starts 1 lives 1" ∷
     codes "16 exec 0x0-0x10 boot 0x1 starts 0 lives 1" ∷
     codes "16 exec 0x0-0x10 boot 0x1 starts 1 lives 0" ∷

@@ -1,5 +1,6 @@
 -- What is kept of a tree decides what is said of it, and is the tree where no fault is said.
-use Rattle.std.proofs.Common.{◌≡◌, ℕ, ◌+◌, ◌<◌, ◌≤◌, Bool, true, false, cond, min, List, [], ◌∷◌, length}
+use Rattle.std.proofs.Common.{◌≡◌, ℕ, ◌+◌, ◌<◌, ◌≤◌, Bool, true, false, cond, min, List, [], ◌∷◌}
+use Rattle.std.proofs.Common.{length}
 use Rattle.std.proofs.Common.{take, map, sum, refl, ap, sym, ◌∙◌, arith, lit<, lit≤}
 use Rattle.std.specs.Prelude.{◌||◌, ◌&&◌, nat_lt, ◌==◌, flat_map}
 use Rattle.std.specs.List.{list_any, list_all, AllPass}
@@ -73,7 +74,8 @@ within most n h = grind (arith, nat_tests)
 
 pub kept_whole : (ns : List ℕ) → list_any is_out_of_width ns ≡ false → sum ns ≤ MOST_CORES
     → take MOST_CORES (map capped ns) ≡ ns
-kept_whole ns h few = rw (all_capped ns h) (take_all MOST_CORES ns (omega (arith, fewer_than_sum ns h)))
+kept_whole ns h few =
+    rw (all_capped ns h) (take_all MOST_CORES ns (omega (arith, fewer_than_sum ns h)))
 
 any_size : (ms : List Member)
     → list_any is_out_of_width (map size ms) ≡ list_any (λ m. is_out_of_width (size m)) ms
@@ -154,7 +156,8 @@ wide_kept (One n) full = refl
 wide_kept (Members ms) full = wide_by ms full (list_any is_group ms) refl
 
 few_kept : (n : ℕ) → nat_lt MOST_CORES n ≡ nat_lt MOST_CORES (min n (MOST_CORES + 1))
-few_kept n = same_tests (nat_lt MOST_CORES n) (nat_lt MOST_CORES (min n (MOST_CORES + 1))) (λ h. grind (arith, nat_tests))
+few_kept n = same_tests (nat_lt MOST_CORES n) (nat_lt MOST_CORES (min n (MOST_CORES + 1)))
+    (λ h. grind (arith, nat_tests))
     (λ h. grind (arith, nat_tests))
 
 pub total_kept : (t : TreeText)
@@ -252,7 +255,8 @@ tree_by ms false e h few = (
   one_level (length ms) h.outer,
 )
 
-pub is_tree : (t : TreeText) → is_too_wide t ≡ false → sum (clusters t) ≤ MOST_CORES → IsTree (levels_of t)
+pub is_tree : (t : TreeText) → is_too_wide t ≡ false → sum (clusters t) ≤ MOST_CORES
+    → IsTree (levels_of t)
 is_tree (One n) wide few = one_level n (left_false _ _ wide)
 is_tree (Members ms) wide few = tree_by ms (list_any is_group ms) refl
     (narrow ms (list_any is_group ms) refl wide) few

@@ -41,7 +41,8 @@ fours_read = refl
 
 -- Cores and nodes -------------------------------------------------------------------------------
 
-pub sizes : map (nodes by_sixteens) (0 ∷ 1 ∷ 2 ∷ []) ∷ map (nodes by_fours) (0 ∷ 1 ∷ 2 ∷ 3 ∷ []) ∷ []
+pub sizes : map (nodes by_sixteens) (0 ∷ 1 ∷ 2 ∷ []) ∷ map (nodes by_fours) (0 ∷ 1 ∷ 2 ∷ 3 ∷ [])
+    ∷ []
     ≡ (256 ∷ 16 ∷ 1 ∷ []) ∷ (256 ∷ 16 ∷ 4 ∷ 1 ∷ []) ∷ []
 sizes = refl
 

@@ -3,7 +3,8 @@
 //! - A *core* is a processing element; cores are numbered from 0 as the board text has them.
 //! - A *node* is a power domain: a core (level 0), a cluster (level 1), up to the system, the one
 //!   node of the highest level. The *height* of the board is that level, 1 to 3.
-//! - The `place` of a node is its index among the nodes of its level, from left to right and from 0.
+//! - The `place` of a node is its index among the nodes of its level, from left to right and from
+//!   0.
 //! - The *path* of a core is the core and the nodes above it, up to the system.
 //! - An *affinity word* names a core or a node by one field of 8 bits per level (MPIDR_EL1).
 //! - An *entry point* may be entered where it is word aligned and lies in an executable range.

@@ -28,7 +28,8 @@ use Rattle.psci_world_laws.specs.psci_fw_spec.Said.{listed}
 use Rattle.psci_world_laws.specs.psci_fw_spec.Values.{Values}
 use Rattle.psci_world_laws.specs.psci_messages.declared.kind.Kind.{Kind}
 use Rattle.psci_world_laws.specs.psci_messages.declared.kind.Kind.TheVariants as kinds
-use Rattle.psci_world_laws.specs.psci_messages.Message.{AckValue, AreClaims, ArePartsOf, MessageValue}
+use Rattle.psci_world_laws.specs.psci_messages.Message.{AckValue, AreClaims, ArePartsOf}
+use Rattle.psci_world_laws.specs.psci_messages.Message.{MessageValue}
 use Rattle.psci_world_laws.specs.psci_messages.Message.{is_climbing}
 use Rattle.psci_world_laws.specs.psci_messages.OnlyIf.{only_if}
 use Rattle.psci_world_laws.specs.psci_messages.Slots.{OfCore, answers, is_kind, slot_of}

@@ -1,5 +1,5 @@
--- What an effect leaves of a domain's confirmed claim: it was confirmed before, or a life has begun,
--- or an acknowledgement confirms it.
+-- What an effect leaves of a domain's confirmed claim: it was confirmed before, or a life has
+-- begun, or an acknowledgement confirms it.
 use Rattle.std.proofs.Common.{◌≡◌, ℕ, ◌*◌, ◌<◌, ◌≤◌, ◌⊎◌, inl, inr, Bool, true, false, not, ◌==◌}
 use Rattle.std.proofs.Common.{◌&&◌, cond, Option, None, Some, refl, arith, ap, sym, ◌∙◌, subst}
 use Rattle.std.specs.Prelude.{slice_get}
@@ -76,7 +76,8 @@ unasked false before depth e = (e, refl)
 
 -- Entries -------------------------------------------------------------------------------------
 
-pub no_sum : (b : BoardValue) (level place : ℕ) → KnownLaws b → known_below b (λ c. 0) level place ≡ 0
+pub no_sum : (b : BoardValue) (level place : ℕ) → KnownLaws b
+    → known_below b (λ c. 0) level place ≡ 0
 no_sum b level place laws =
     let few = laws.most (λ c. 0) level place 0 (λ c. omega arith) in
     omega (arith, few)

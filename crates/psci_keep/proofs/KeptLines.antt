@@ -65,7 +65,8 @@ register n = Hexadecimal (digits 16 false n)
 
 hex_of : (n : ℕ) → n < 2 ^ 64 → IsRegisterText (register n)
 hex_of n small =
-    let numeral = digits_is_IsNumeral 16 false (omega arith) (omega arith) n (omega (arith, small)) in
+    let numeral =
+    digits_is_IsNumeral 16 false (omega arith) (omega arith) n (omega (arith, small)) in
     record {
       some = numeral.0.0;
       most = most_digits n small;

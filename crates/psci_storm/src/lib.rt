@@ -1,7 +1,7 @@
 //! Storms: events that are drawn from a seed happen in a world, and then it settles.
 //!
-//! What is drawn, and what of the world decides it, is said in `psci_draws`. The same seed draws the
-//! same events on every machine.
+//! What is drawn, and what of the world decides it, is said in `psci_draws`. The same seed draws
+//! the same events on every machine.
 #![tactic(auto)]
 
 mod blowing;

@@ -100,7 +100,8 @@ forgets_a_record b r rounds is =
     absurd (omega (arith, no))
 
 -- it says another number of rounds than it settled in
-says_more_rounds : (b : BoardValue) (before after : List Record) (is : ComesToRest b before after (Quiet 3))
+says_more_rounds : (b : BoardValue) (before after : List Record)
+    (is : ComesToRest b before after (Quiet 3))
     → is.rounds ≡ 2 → ⊥
 says_more_rounds b before after is two = no is.rounds is.quiet two
   where
@@ -126,7 +127,8 @@ adds_a_wake_up said [] more all =
     let no : 1 ≡ 0 = ap (length {A = Record}) more in omega (arith, no)
 adds_a_wake_up said (r ∷ added) more all =
     let same : Wake 1 ≡ r.event = ap newest_event more in
-    let no : false ≡ true = ap (λ e. is_settling e && list_all (λ r. is_settling r.event) added) same
+    let no : false ≡ true =
+    ap (λ e. is_settling e && list_all (λ r. is_settling r.event) added) same
     ∙ all in absurd (cc)
 
 rests_by_a_wake_up : (said : Said) (s : Settled)
