@@ -38,6 +38,7 @@ abbrev pub run_by : Result (List ℕ) ScriptFault → List (List ℕ) → Option
 run_by (Err fault) ls = None
 run_by (Ok text) ls = run_on (board_of text) ls
 
+-- the run of the lines of a script, of which the first is its board line
 abbrev pub run_of_lines : List (List ℕ) → Option ScriptRun
 run_of_lines [] = None
 run_of_lines (l ∷ ls) = run_by (board_line l) ls

@@ -2,7 +2,6 @@
 use Rattle.std.specs.Prelude.{◌≡◌, ℕ, ◌+◌, ◌-◌, ◌*◌, ◌^◌, ◌<◌, ◌≤◌, min, List, [], ◌∷◌, length, map}
 use Rattle.std.specs.Prelude.{slice_index, slice_index_or, sum}
 use Rattle.std.specs.List.{All, sum_by, count_by, flat_map}
-use Rattle.psci_board.specs.Board.{IsTree}
 use Rattle.psci_state.specs.declared.cores.CoreState.{CoreState}
 use Rattle.psci_tree.specs.declared.kept.Kept.{Kept}
 use Rattle.psci_tree.specs.declared.domain.Domain.{Domain, out-Domain}
@@ -67,7 +66,6 @@ pub record IsKept (n : Domain) : Type 0 where
 
 -- a row of all domains of one level of a tree, each of which is to be a child of the next
 pub record IsRow (levels : List (List ℕ)) (below : ℕ) (row : List Domain) : Type 0 where
-  pub tree : IsTree levels
   pub level : below < length levels
   pub kept : AreKept row
   pub few : length (cores_in row) < 2 ^ 16

@@ -3,7 +3,7 @@
 ghost use Rattle.std.specs.Prelude.{◌≡◌, map, length, sum, replicate};
 ghost use Rattle.std.specs.Prelude.{slice_index_or, [], IfOk};
 ghost use Rattle.std.specs.List.{flat_map};
-ghost use Rattle.psci_board.specs.Board.{size_below};
+ghost use Rattle.psci_board.specs.Board.{IsBoard, size_below};
 ghost use Rattle.psci_tree.specs.declared.domain.Domain.{Domain};
 ghost use Rattle.psci_tree.specs.Recount.{never_started};
 ghost use Rattle.psci_tree.specs.Domains.{IsWhole, branches, child_count, leaves, cores_in};
@@ -58,7 +58,8 @@ fn parents_of(
     below: u32,
     row: Vec<Domain>,
 ) -> Result<Vec<Domain>, Memory>
-    requires { IsRow board.now.levels below row.items }
+    requires board { IsBoard board.now }
+    requires row { IsRow board.now.levels below row.items }
     ensures children { IfOk result (λ parents. flat_map branches parents.items ≡ row.items) }
     ensures counts { IfOk result (λ parents.
         map child_count parents.items ≡ slice_index_or board.now.levels below []) }

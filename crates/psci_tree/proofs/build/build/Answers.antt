@@ -55,8 +55,11 @@ loop-below-init c =
       off = c.in_ok-row.ensures.off ∙ ap (λ n. replicate n never_started) c.cores.ensures.cores;
     }
 
-pub parents_of-requires : goal.parents_of-requires
-parents_of-requires c =
+pub parents_of-requires-clause-board : goal.parents_of-requires-clause-board
+parents_of-requires-clause-board c = c.cores.ensures.board
+
+pub parents_of-requires-clause-row : goal.parents_of-requires-clause-row
+parents_of-requires-clause-row c =
     let row : List Domain = c.loop-below.row.items in
     let levels : List (List ℕ) = c.args.board.now.levels in
     let tree : IsTree levels = c.cores.ensures.board.tree in
@@ -66,7 +69,6 @@ parents_of-requires c =
     ap length c.loop-below.invariant.off ∙ length-replicate n never_started in
     let fits : at < length levels =
     omega (arith, c.loop-below-test.true, c.height-below-end.ensures.height) in record {
-      tree = tree;
       level = fits;
       kept = c.loop-below.invariant.kept;
       few = omega (arith, all, c.cores.ensures.cores, c.cores.type_inv);
