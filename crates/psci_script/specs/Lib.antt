@@ -1,4 +1,5 @@
 pub mod EventText
+pub mod Kept
 pub mod Limits
 pub mod Line
 pub mod Lines

@@ -1,6 +1,6 @@
 //! Scripts replayed between a reader and a writer of the standard library.
 
-use crate::replays::{SCRIPT, TEXT, WHOLE};
+use crate::scripts::{SCRIPT, TEXT, WHOLE};
 use psci_answers::{ReplayFault, Replayed, Std, replay};
 use std::alloc::Global;
 use std::io::{self, ErrorKind, Read, Write};

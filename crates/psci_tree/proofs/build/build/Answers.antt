@@ -1,6 +1,5 @@
 use Rattle.std.proofs.Common.{◌≡◌, ◌<◌, ◌≤◌, ◌+◌, ◌∙◌, suc, [], arith, subst}
 use Rattle.std.proofs.Common.{List, ℕ, map, get_or, length, take, drop, ap, sym, sum, replicate}
-use Rattle.std.proofs.Common.{◌^◌}
 use Rattle.std.specs.List.{AllPass}
 use Rattle.std.proofs.lemmas.List.{length-map, take_more, length-replicate, drop_all}
 use Rattle.std.proofs.lemmas.List.Concat.{flat_map_single}
