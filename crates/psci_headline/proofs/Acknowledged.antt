@@ -1,5 +1,5 @@
 -- A claim that an acknowledgement confirms was carried out as the acknowledgement was made.
-use Rattle.std.proofs.Common.{◌≡◌, ℕ, suc, ◌+◌, ◌<◌, inr, true}
+use Rattle.std.proofs.Common.{◌≡◌, ℕ, suc, ◌<◌, inr, true}
 use Rattle.std.proofs.Common.{◌==◌, List, [], ◌∷◌, ◌++◌, take, Option, None, Some}
 use Rattle.std.proofs.Common.{subst, ap, sym, ◌∙◌}
 use Rattle.std.specs.Prelude.{slice_get}
@@ -21,7 +21,7 @@ use Rattle.psci_world_laws.specs.psci_fw_spec.Values.{Values}
 use Rattle.psci_world_laws.specs.psci_messages.declared.kind.Kind.TheVariants as kinds
 use Rattle.psci_world_laws.specs.psci_messages.Message.{AckValue}
 use Rattle.psci_world_laws.specs.psci_messages.Message.{MessageValue}
-use Rattle.psci_world_laws.specs.psci_messages.Slots.{OfCore, answers, is_kind, slot_of}
+use Rattle.psci_world_laws.specs.psci_messages.Slots.{OfCore, is_kind, slot_of}
 use Rattle.psci_world_laws.specs.psci_fw_laws.Allowed.{IsAwaited}
 use Rattle.psci_world_laws.specs.psci_fw_laws.Granted.{NonePending}
 use Rattle.psci_world_laws.specs.psci_fw_laws.Kept.{Holds}
