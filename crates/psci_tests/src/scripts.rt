@@ -42,6 +42,7 @@ pub const STALE: &[u8] =
       deliver 2\n\
       take 2\n";
 
+/// The answers to it.
 pub const STALE_TEXT: &[u8] = b"1 enter 0x40000000 0x0\n\
       2 return 0 #0 start 3 life 1 number 0\n\
       3 return 2\n\
@@ -74,6 +75,7 @@ pub const LIVES: &[u8] =
       call 0 0xc4000004 0x101 0\n\
       take 1\n";
 
+/// The answers to it.
 pub const LIVES_TEXT: &[u8] = b"1 enter 0x40000000 0x0\n\
       2 return 0 #0 start 3 life 1 number 0\n\
       3 return 2\n\
@@ -101,6 +103,7 @@ pub const FIRST: &[u8] =
       enter 0\n\
       deliver 0 0\n";
 
+/// The answers to it.
 pub const FIRST_TEXT: &[u8] =
     b"1 absent\n2 absent\n3 absent\n4 ignored\n5 started 2\n6 enter 0x40000000 0x0\n";
 
@@ -115,6 +118,7 @@ pub const MESSAGES: &[u8] = b"board (16 16 16 16 16 16 16 16 16 16 16 16 16 16 1
       call 0 0xc4000003 0xf0f 0x40001000 7\n\
       call 0 0xc4000004 0xf0f 0\n";
 
+/// The answers to it.
 pub const MESSAGE_TEXT: &[u8] = b"1 enter 0x40000000 0x0\n\
       2 return 0 #0 start 1 life 1 number 0\n\
       3 return 0 #1 start 2 life 1 number 0\n\
