@@ -1,7 +1,7 @@
 -- Worked examples of boards at height 3, of messages, replies and calls of the other numbers, in
 -- life 2, and of what is no renumbering and no such call.
 use Rattle.std.proofs.Common.{◌≡◌, ◌<◌, ◌+◌, ◌==◌, ℕ, zero, suc, true, false}
-use Rattle.std.proofs.Common.{[], ◌∷◌, Option, None, Some, map, refl, ap, arith}
+use Rattle.std.proofs.Common.{[], ◌∷◌, Option, None, Some, if◌then◌else◌, map, refl, ap, arith}
 use Rattle.std.proofs.Common.{inl, inr}
 use Rattle.psci_abi.specs.declared.registers.Regs.{Regs}
 use Rattle.psci_abi.specs.declared.request.Request.{Request}

@@ -1,6 +1,6 @@
 -- Worked examples of values of the other numbers, of a halting life 2.
 use Rattle.std.proofs.Common.{◌≡◌, ◌+◌, ◌*◌, ◌==◌, ◌&&◌, ◌||◌, true, false}
-use Rattle.std.proofs.Common.{ℕ, [], ◌∷◌, Option, None, Some, if◌then◌else◌, map, refl}
+use Rattle.std.proofs.Common.{[], ◌∷◌, Option, None, Some, if◌then◌else◌, map, refl}
 use Rattle.psci_messages.specs.Message.{MessageValue}
 use Rattle.psci_messages.specs.Slots.{Slot, OfCore, OfSystem}
 use Rattle.psci_fw_spec.specs.declared.mode.SuspendMode.TheVariants.{OsInitiated}
