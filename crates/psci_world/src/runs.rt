@@ -10,7 +10,7 @@ use std::alloc::Global;
 
 /// The records of the run of these events on this board, the oldest first: the one legal run, safe
 /// at every moment.
-#[tactic(auto, unfolding(psci_present::specs::psci_world_spec::Legal::run_from))]
+#[tactic(auto, unfolding(psci_world_spec::specs::Legal::run_from))]
 pub fn run(alloc: Global, board: &Board, events: &[Event]) -> Result<Vec<Record>, Memory>
     ensures records { IfOk result (λ records. records.items
         ≡ reverse (run_from board.now [] events.now)) }

@@ -1,4 +1,4 @@
-use Rattle.std.proofs.Common.{◌≡◌, ◌+◌, ◌-◌, drop, subst, arith, rules}
+use Rattle.std.proofs.Common.{◌≡◌, ◌+◌, ◌-◌, drop, subst, arith}
 use Rattle.psci_script.proofs.HexDigits.{IsUnderWay, all_done, never_none, none_yet, one_left}
 use Rattle.psci_script.proofs.HexDigits.{one_more, put_before}
 use Rattle.psci_script.proofs.digits.write_hexadecimal_digits.Goals as goal
