@@ -55,6 +55,7 @@ abbrev pub RiseAfter : Option ℕ → List ℕ → Type 0
 RiseAfter last [] = Unit {0}
 RiseAfter last (ticket ∷ tickets) = IsAfter last ticket × RiseAfter (Some ticket) tickets
 
+-- a ticket is one of these
 abbrev pub IsIn : ℕ → List ℕ → Type 0
 IsIn ticket [] = ⊥
 IsIn ticket (other ∷ others) = (ticket ≡ other) ⊎ IsIn ticket others
@@ -63,9 +64,11 @@ IsIn ticket (other ∷ others) = (ticket ≡ other) ⊎ IsIn ticket others
 abbrev pub AreApart : List ℕ → List ℕ → Type 0
 AreApart ones others = (ticket : ℕ) → IsIn ticket ones → IsIn ticket others → ⊥
 
+-- the tickets of the firmware's book
 abbrev pub tickets_of : List FwEntry → List ℕ
 tickets_of entries = map (λ (e : FwEntry). e.ticket) entries
 
+-- and those of the power controller's
 abbrev pub tickets_by : List CtlEntry → List ℕ
 tickets_by entries = map (λ (e : CtlEntry). e.ticket) entries
 

@@ -58,10 +58,11 @@ unfoldable pub controller_history : List Entry → List CtlExchange
 controller_history [] = []
 controller_history (e ∷ past) = controlled_in e ++ controller_history past
 
--- the values of the firmware, and of the power controller, after these entries
+-- the values of the firmware after these entries
 abbrev pub firmware_values : BoardValue → List Entry → kept.Values
 firmware_values b past = remembers.values_of b (firmware_history past)
 
+-- the values of the power controller after these entries
 abbrev pub controller_values : BoardValue → List Entry → controlled.Values
 controller_values b past = controls.values_of b (controller_history past)
 
@@ -73,6 +74,7 @@ message_in (replies.Out o) = o.message
 message_in (replies.Taken taken) = None
 message_in (replies.Fault fault) = None
 
+-- the message that was sent with an entry: the firmware alone sends any
 abbrev pub sent_by : Entry → Option MessageValue
 sent_by (Asked e) = message_in e.reply
 sent_by (Controlled e) = None
@@ -88,6 +90,7 @@ ack_in (replied.Delivery (deliveries.Applied ack)) = Some ack
 ack_in (replied.Delivery deliveries.Ignored) = None
 ack_in (replied.Kick kick) = None
 
+-- the acknowledgement that an entry is: the power controller alone makes any
 abbrev pub made_by : Entry → Option AckValue
 made_by (Asked e) = None
 made_by (Controlled e) = ack_in e.reply
@@ -105,6 +108,7 @@ left_at c core (replies.Out o) = if c == core then Some (place_after o.act) else
 left_at c core (replies.Taken taken) = None
 left_at c core (replies.Fault fault) = None
 
+-- where an entry of the firmware says that a core is
 abbrev pub place_by : ℕ → Entry → Option Place
 place_by c (Asked e) = left_at c e.core e.reply
 place_by c (Controlled e) = None

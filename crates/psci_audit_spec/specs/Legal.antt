@@ -83,6 +83,7 @@ MayControl b n (asks.Reset core) r =
 
 -- Lists ----------------------------------------------------------------------------------------
 
+-- an entry may be made now: a call that may be asked, with what it may be answered
 abbrev pub MayBe : BoardValue → Now → Entry → Type 0
 MayBe b n (Asked e) = MayAsk b n e.core e.call e.reply
 MayBe b n (Controlled e) = MayControl b n e.call e.reply

@@ -31,10 +31,11 @@ use Rattle.psci_world_spec.specs.Places.{place}
 use Rattle.psci_headline.specs.Safe.{AlwaysSafe}
 use Rattle.psci_audit_spec.specs.Entries.{Entry, Asked, Controlled}
 
--- a call of the firmware, and one of the power controller
+-- a call of the firmware, with its reply
 abbrev pub asked : ℕ → FwCall → FwReply → FwExchange
 asked c call reply = record { core = c; call = call; reply = reply }
 
+-- a call of the power controller, with its reply
 abbrev pub controlled : CtlCall → CtlReply → CtlExchange
 controlled call reply = record { call = call; reply = reply }
 

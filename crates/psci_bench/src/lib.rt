@@ -1,12 +1,17 @@
-//! Scripts of events, replayed in a world, and answered. What an event is, and what is said of it,
-//! are those of `psci_world`; the lines of a script and its answer text are those of `psci_script`,
-//! and their way in and out is that of `psci_lines`.
+//! Whole runs, each from the crate that makes it:
+//!
+//! - `psci_answers` replays a script, and answers each of its events.
+//! - `psci_storm` draws events from a seed, and settles their world.
+//! - `psci_threads` runs a thread for each core over a lossy link.
+//! - `psci_audit` finds whether what threads did is one legal run.
 #![tactic(auto)]
 
-mod laws;
-mod run;
-
-pub use laws::law_safe_scripts;
-pub use psci_lines::{Io, Sink, Source, Std};
-pub use psci_script::{ReplayFault, Replayed, ScriptFault, law_event_lines};
-pub use run::replay;
+pub use psci_answers::{
+    Io, ReplayFault, Replayed, ScriptFault, Sink, Source, Std, law_event_lines, law_safe_scripts,
+    replay,
+};
+pub use psci_audit::{AuditFault, CtlEntry, FwEntry, Retold, Trace, World, audit, retell};
+pub use psci_storm::{Settled, Storm, StormedWorld, storm, storm_world, write_counts};
+pub use psci_threads::{
+    BenchFault, Core, Gate, OpenGate, Polled, Threaded, calls_of, entries_of, threads,
+};

@@ -1,11 +1,20 @@
 pub mod AffinityRows
+pub mod AnswerRows
 pub mod BoardRows
 pub mod Children
+pub mod Decided
+pub mod FaultRows
 pub mod Fields
 pub mod FirstCores
+pub mod FormatRows
+pub mod Fronts
 pub mod Groups
+pub mod Kept
+pub mod KeptTree
+pub mod LargestRows
 pub mod Levels
 mod LimitRows
+pub mod More
 pub mod Named
 pub mod NamedDown
 pub mod Parents
@@ -13,6 +22,15 @@ pub mod Parts
 pub mod Paths
 pub mod Ranges
 pub mod Readers
+pub mod Rows
+pub mod Said
 pub mod Search
 pub mod SpanRows
 pub mod Spans
+pub mod Spelled
+pub mod SpelledFormat
+pub mod SpelledRanges
+pub mod SpelledRows
+pub mod SpelledText
+pub mod SpelledTree
+pub mod VerdictRows

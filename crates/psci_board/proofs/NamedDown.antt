@@ -1,6 +1,7 @@
 -- The place that a word names, from the highest level down.
 use Rattle.std.proofs.Common.{◌≡◌, ℕ, zero, suc, ◌+◌, ◌*◌, ◌/◌, ◌%◌, ◌^◌, ◌<◌, ◌≤◌, List, [], ◌∷◌}
-use Rattle.std.proofs.Common.{sum, take, length, drop, get_or, ap, subst, refl, sym, ◌∙◌, arith, Some, None}
+use Rattle.std.proofs.Common.{sum, take, length, drop, get_or, ap, subst, refl, sym, ◌∙◌, arith}
+use Rattle.std.proofs.Common.{Some, None}
 use Rattle.std.proofs.lemmas.Nat.{pow-add}
 use Rattle.std.proofs.Math.Nat.{div-one, div-div-eq-div-mul}
 use Rattle.std.specs.Int.{w64, to_le_bytes}
@@ -108,7 +109,8 @@ highest levels k e =
     ∙ ap (λ (ws : List (List ℕ)). get_or levels k [] ∷ ws) (drop_all (suc k) levels next)
 
 -- nor is one on a level between
-pub none_above : (levels : List (List ℕ)) (word low k : ℕ) → IsTree levels → low ≤ k → k ≤ length levels
+pub none_above : (levels : List (List ℕ)) (word low k : ℕ) → IsTree levels → low ≤ k
+    → k ≤ length levels
     → index_named (drop k levels) (word / 2 ^ (8 * k)) ≡ None
     → index_named (drop low levels) (word / 2 ^ (8 * low)) ≡ None
 none_above levels word zero k t l h e =
@@ -126,7 +128,8 @@ pub named_highest : (levels : List (List ℕ)) (word k : ℕ) → IsTree levels 
 named_highest levels word k t e h =
     let cut : drop k levels ≡ get_or levels k [] ∷ [] = highest levels k e in
     ap (λ ls. index_named ls (word / 2 ^ (8 * k))) cut
-    ∙ named_top (get_or levels k []) (word / 2 ^ (8 * k)) (subst IsTree cut (IsTree-drop k levels t)) h
+    ∙ named_top (get_or levels k []) (word / 2 ^ (8 * k))
+    (subst IsTree cut (IsTree-drop k levels t)) h
 
 pub none_highest : (levels : List (List ℕ)) (word low k : ℕ) → IsTree levels → low ≤ k
     → k + 1 ≡ length levels → sum (get_or levels k []) ≤ word / 2 ^ (8 * k)
@@ -135,4 +138,5 @@ none_highest levels word low k t l e h =
     let cut : drop k levels ≡ get_or levels k [] ∷ [] = highest levels k e in
     none_above levels word low k t l (omega (arith, e))
     (ap (λ ls. index_named ls (word / 2 ^ (8 * k))) cut
-    ∙ named_past (get_or levels k []) (word / 2 ^ (8 * k)) (subst IsTree cut (IsTree-drop k levels t)) h)
+    ∙ named_past (get_or levels k []) (word / 2 ^ (8 * k))
+    (subst IsTree cut (IsTree-drop k levels t)) h)

@@ -1,15 +1,15 @@
 -- How commands end, and how they do not.
 use Rattle.std.proofs.Common.{◌≡◌, ℕ, Ok, Err, refl, inl, inr}
 use Rattle.psci_command.specs.psci_board.Board.{BoardValue}
-use Rattle.psci_command.specs.psci_board_text.declared.fault.BoardFault.TheVariants as boards
+use Rattle.psci_command.specs.psci_board.declared.fault.BoardFault.TheVariants as boards
 use Rattle.psci_command.specs.psci_failure.declared.exit.Failure.TheVariants.{CommandLine, Replay}
 use Rattle.psci_command.specs.psci_failure.declared.exit.Failure.TheVariants.{Board as GivenBoard}
 use Rattle.psci_command.specs.psci_script.declared.fault.ReplayFault.TheVariants.{Memory, Read}
 use Rattle.psci_command.specs.psci_script.declared.fault.ReplayFault.TheVariants.{Script, Write}
 use Rattle.psci_command.specs.psci_script.declared.fault.ScriptFault.TheVariants as scripts
 use Rattle.psci_cli.specs.Ends.{IsStormed, IsUnkept, StormEnds}
-use Rattle.psci_storm.specs.Storm.{IsStorm}
-use Rattle.psci_storm.specs.declared.outcome.StormedWorld.{StormedWorld}
+use Rattle.psci_bench.specs.psci_storm.Storm.{IsStorm}
+use Rattle.psci_bench.specs.psci_storm.declared.outcome.StormedWorld.{StormedWorld}
 
 -- a storm that was made is one of so many events on the board that the text says
 storm_made : (s : StormedWorld) → IsStorm s.world.board 3 s.world.past s.storm

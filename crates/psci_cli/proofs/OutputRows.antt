@@ -2,9 +2,9 @@
 use Rattle.std.proofs.Common.{◌≡◌, List, [], ◌∷◌, ◌++◌, true, false, refl}
 use Rattle.std.specs.Fmt.{digits}
 use Rattle.std.specs.Prelude.{codes}
-use Rattle.psci_storm.specs.Counts.{counts_text}
-use Rattle.psci_storm.specs.Record.{Record}
-use Rattle.psci_storm.specs.Settled.TheVariants.{Quiet}
+use Rattle.psci_bench.specs.psci_storm.Counts.{counts_text}
+use Rattle.psci_bench.specs.psci_storm.Record.{Record}
+use Rattle.psci_bench.specs.psci_storm.Settled.TheVariants.{Quiet}
 use Rattle.psci_cli.specs.StormText.{storm_output}
 
 pub line_alone : (records : List Record)

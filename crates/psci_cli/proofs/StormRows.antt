@@ -2,7 +2,7 @@
 use Rattle.std.proofs.Common.{◌≡◌, refl}
 use Rattle.std.specs.Prelude.{codes}
 use Rattle.std.specs.Fmt.{digits}
-use Rattle.psci_storm.specs.Settled.TheVariants.{Halting, Quiet}
+use Rattle.psci_bench.specs.psci_storm.Settled.TheVariants.{Halting, Quiet}
 use Rattle.psci_cli.specs.StormText.{storm_text}
 
 pub no_event : storm_text (record { events = 1; sent = 0; settled = Quiet 0 })

@@ -3,8 +3,8 @@ use Rattle.std.proofs.Common.{◌≡◌, Result, Ok, Err, refl, inl, inr, ap, ar
 use Rattle.std.specs.Fmt.{digits}
 use Rattle.std.specs.Prelude.{codes}
 use Rattle.psci_command.specs.psci_board.Board.{BoardValue, cores}
-use Rattle.psci_command.specs.psci_board_text.declared.fault.BoardFault.{BoardFault}
-use Rattle.psci_command.specs.psci_board_text.declared.fault.BoardFault.TheVariants as boards
+use Rattle.psci_command.specs.psci_board.declared.fault.BoardFault.{BoardFault}
+use Rattle.psci_command.specs.psci_board.declared.fault.BoardFault.TheVariants as boards
 use Rattle.psci_command.specs.psci_failure.declared.exit.AuditFailure.TheVariants as failures
 use Rattle.psci_command.specs.psci_failure.declared.exit.Failure.TheVariants.{Audit, Gate, Gather}
 use Rattle.psci_command.specs.psci_failure.declared.exit.Failure.TheVariants.{Replay, TooManyCores}
@@ -12,9 +12,9 @@ use Rattle.psci_command.specs.psci_failure.declared.exit.Failure.TheVariants.{Th
 use Rattle.psci_command.specs.psci_failure.declared.exit.Failure.TheVariants.{Board as GivenBoard}
 use Rattle.psci_command.specs.psci_script.declared.fault.ReplayFault.TheVariants.{Memory, Read}
 use Rattle.psci_command.specs.psci_script.declared.fault.ReplayFault.TheVariants.{Write}
-use Rattle.psci_threads.specs.declared.fault.BenchFault.{BenchFault}
-use Rattle.psci_threads.specs.declared.fault.BenchFault.TheVariants as faults
-use Rattle.psci_audit.specs.declared.fault.AuditFault.TheVariants as found
+use Rattle.psci_bench.specs.psci_threads.declared.fault.BenchFault.{BenchFault}
+use Rattle.psci_bench.specs.psci_threads.declared.fault.BenchFault.TheVariants as faults
+use Rattle.psci_bench.specs.psci_audit.declared.fault.AuditFault.TheVariants as found
 use Rattle.psci_cli.specs.Threading.{IsTooLarge, ThreadsEnds, failure_at}
 use Rattle.psci_cli.specs.Ends.{IsUnkept}
 use Rattle.psci_cli.specs.ThreadsText.{core_text, threads_text}

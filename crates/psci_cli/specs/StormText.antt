@@ -1,11 +1,11 @@
 -- The line of a storm, and its counts.
 use Rattle.std.specs.Prelude.{ℕ, Bool, List, [], ◌∷◌, ◌++◌, codes, if◌then◌else◌}
 use Rattle.std.specs.Fmt.{decimal}
-use Rattle.psci_storm.specs.Counts.{counts_text}
-use Rattle.psci_storm.specs.Record.{Record}
-use Rattle.psci_storm.specs.declared.outcome.Storm.{Storm}
-use Rattle.psci_storm.specs.Settled.{Settled}
-use Rattle.psci_storm.specs.Settled.TheVariants.{Halting, Quiet}
+use Rattle.psci_bench.specs.psci_storm.Counts.{counts_text}
+use Rattle.psci_bench.specs.psci_storm.Record.{Record}
+use Rattle.psci_bench.specs.psci_storm.declared.outcome.Storm.{Storm}
+use Rattle.psci_bench.specs.psci_storm.Settled.{Settled}
+use Rattle.psci_bench.specs.psci_storm.Settled.TheVariants.{Halting, Quiet}
 
 -- how the world settled, after a space
 abbrev pub settled_text : Settled → List ℕ

@@ -1,8 +1,8 @@
 -- How threads end, by what the board text says.
 use Rattle.std.specs.Prelude.{◌≡◌, ◌⊎◌, ◌≤◌, ◌<◌, Result, Ok, Err}
 use Rattle.psci_command.specs.psci_board.Board.{BoardValue, cores}
-use Rattle.psci_command.specs.psci_board_text.Verdict.{Answers}
-use Rattle.psci_command.specs.psci_board_text.declared.fault.BoardFault.{BoardFault}
+use Rattle.psci_command.specs.psci_board.Verdict.{Answers}
+use Rattle.psci_command.specs.psci_board.declared.fault.BoardFault.{BoardFault}
 use Rattle.psci_command.specs.psci_failure.declared.exit.AuditFailure.TheVariants as failures
 use Rattle.psci_command.specs.psci_failure.declared.exit.Failure.{Failure}
 use Rattle.psci_command.specs.psci_failure.declared.exit.Failure.TheVariants.{Audit, Gate, Gather}
@@ -11,12 +11,12 @@ use Rattle.psci_command.specs.psci_failure.declared.exit.Failure.TheVariants.{Th
 use Rattle.psci_command.specs.psci_failure.declared.exit.Failure.TheVariants.{Board as GivenBoard}
 use Rattle.psci_command.specs.psci_script.declared.fault.ReplayFault.TheVariants.{Memory}
 use Rattle.psci_cli.specs.Ends.{IsUnkept}
-use Rattle.psci_threads.specs.Runs.{IsAudited, IsFound}
-use Rattle.psci_threads.specs.declared.fault.BenchFault.{BenchFault}
-use Rattle.psci_threads.specs.declared.fault.BenchFault.TheVariants as faults
-use Rattle.psci_threads.specs.declared.running.Threaded.{Threaded}
-use Rattle.psci_audit.specs.declared.fault.AuditFault.{AuditFault}
-use Rattle.psci_audit.specs.declared.fault.AuditFault.TheVariants as found
+use Rattle.psci_bench.specs.psci_threads.Runs.{IsAudited, IsFound}
+use Rattle.psci_bench.specs.psci_threads.declared.fault.BenchFault.{BenchFault}
+use Rattle.psci_bench.specs.psci_threads.declared.fault.BenchFault.TheVariants as faults
+use Rattle.psci_bench.specs.psci_threads.declared.running.Threaded.{Threaded}
+use Rattle.psci_bench.specs.psci_audit.declared.fault.AuditFault.{AuditFault}
+use Rattle.psci_bench.specs.psci_audit.declared.fault.AuditFault.TheVariants as found
 
 -- how the program ends at what an audit has found
 abbrev pub failure_found : AuditFault → Failure

@@ -10,7 +10,7 @@ ghost use Rattle.psci_cli.specs.Ends.{IsUnkept};
 
 use psci_bench::ReplayFault;
 use psci_command::Failure;
-use psci_keep::{Record, write_script};
+use psci_script::{Record, write_script};
 use std::fs::File;
 use std::io::{self, BufWriter, Write};
 

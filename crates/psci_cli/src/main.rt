@@ -9,16 +9,13 @@ mod threads_line;
 
 ghost use Rattle.std.specs.Prelude.{IfErr};
 ghost use Rattle.psci_command.specs.psci_failure.Exit.{IsOfReplay};
-ghost use Rattle.psci_command.specs.psci_board_text.Verdict.{board_of};
+ghost use Rattle.psci_command.specs.psci_board.Verdict.{board_of};
 ghost use Rattle.psci_cli.specs.Ends.{IsStormed, StormEnds};
 ghost use Rattle.psci_cli.specs.Threading.{ThreadsEnds};
 
 use keeping::keep;
-use psci_bench::{ReplayFault, Std, replay};
-use psci_command::{
-    Board, Failure, ReadBoard, Request, StormRequest, ThreadsRequest, asked, end, words,
-};
-use psci_storm::{StormedWorld, storm_world};
+use psci_bench::{ReplayFault, Std, StormedWorld, replay, storm_world};
+use psci_command::{Board, Failure, Request, StormRequest, ThreadsRequest, asked, end, words};
 use shown::show_standard;
 use std::alloc::Global;
 use std::process::ExitCode;

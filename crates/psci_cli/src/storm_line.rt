@@ -4,7 +4,7 @@ ghost use Rattle.std.specs.Prelude.{OnOk, reverse};
 ghost use Rattle.std.specs.Io.KnownBytes.{Appends};
 ghost use Rattle.psci_cli.specs.StormText.{storm_output};
 
-use psci_storm::{Settled, Storm, StormedWorld, write_counts};
+use psci_bench::{Settled, Storm, StormedWorld, write_counts};
 use std::fmt;
 use std::io::{self, Write};
 

@@ -2,16 +2,15 @@
 
 ghost use Rattle.std.specs.Prelude.{◌≡◌, OnOk};
 ghost use Rattle.std.specs.Io.KnownBytes.{Appends};
-ghost use Rattle.psci_command.specs.psci_board_text.Verdict.{board_of};
+ghost use Rattle.psci_command.specs.psci_board.Verdict.{board_of};
 ghost use Rattle.psci_cli.specs.Threading.{IsThreaded, failure_at};
 ghost use Rattle.psci_cli.specs.ThreadsText.{cores_text, threads_output};
 
-use psci_bench::ReplayFault;
-use psci_command::{AuditFailure, Board, Failure, ReadBoard, ThreadsRequest};
-use psci_threads::{
-    AuditFault, BenchFault, Core, FwEntry, OpenGate, Polled, Threaded, calls_of, entries_of,
-    threads,
+use psci_bench::{
+    AuditFault, BenchFault, Core, FwEntry, OpenGate, Polled, ReplayFault, Threaded, calls_of,
+    entries_of, threads,
 };
+use psci_command::{AuditFailure, Board, Failure, ThreadsRequest};
 use std::alloc::Global;
 use std::fmt;
 use std::io::{self, Write};

@@ -5,7 +5,7 @@ use Rattle.std.specs.Prelude.{codes}
 use Rattle.clap.specs.Walk.{Text}
 use Rattle.clap.specs.Words.{subcommand_of}
 use Rattle.clap.specs.declared.error.kind.ErrorKind.TheVariants.{DisplayHelp, MissingSubcommand}
-use Rattle.psci_failure.specs.psci_board_text.declared.fault.BoardFault.TheVariants as boards
+use Rattle.psci_failure.specs.psci_board.declared.fault.BoardFault.TheVariants as boards
 use Rattle.psci_failure.specs.psci_script.declared.fault.ReplayFault.TheVariants.{Memory, Read}
 use Rattle.psci_failure.specs.psci_script.declared.fault.ReplayFault.TheVariants.{Script, Write}
 use Rattle.psci_failure.specs.psci_script.declared.fault.ScriptFault.TheVariants.{NoBoard}

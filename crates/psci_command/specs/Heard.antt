@@ -4,7 +4,8 @@ use Rattle.clap.specs.Walk.{Text}
 use Rattle.clap.specs.Words.{App, IsAmong, Kinds, fault_of, subcommand_of}
 use Rattle.clap.specs.declared.error.kind.ErrorKind.{ErrorKind}
 use Rattle.psci_failure.specs.psci_script.declared.fault.ReplayFault.{ReplayFault}
-use Rattle.psci_failure.specs.psci_script.declared.fault.ReplayFault.TheVariants.{Board, Memory, Read}
+use Rattle.psci_failure.specs.psci_script.declared.fault.ReplayFault.TheVariants.{Board, Memory}
+use Rattle.psci_failure.specs.psci_script.declared.fault.ReplayFault.TheVariants.{Read}
 use Rattle.psci_failure.specs.psci_script.declared.fault.ReplayFault.TheVariants.{Script, Write}
 use Rattle.psci_failure.specs.declared.exit.Failure.{Failure}
 use Rattle.psci_failure.specs.declared.exit.Failure.TheVariants.{CommandLine, Replay, TooManyCores}

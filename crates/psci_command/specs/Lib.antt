@@ -4,6 +4,5 @@ pub mod Plain
 pub mod Program
 pub mod Values
 pub use Rattle.psci_failure.specs.psci_board
-pub use Rattle.psci_failure.specs.psci_board_text
 pub use Rattle.psci_failure.specs.psci_script
 pub use Rattle.psci_failure.specs as psci_failure

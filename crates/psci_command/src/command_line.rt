@@ -106,7 +106,8 @@ fn shown<'a, R: AllocGlobal + Print + Eprint>(rt: &R, error: &Error) -> Result<R
 }
 
 /// Reads the command line. Where it asks for no command the parser's text is shown here.
-// Its frame, 16 KiB of the parser's, must not lie on the stack beneath the command that it asks for.
+// Its frame, 16 KiB of the parser's, must not lie on the stack beneath the command that it asks
+// for.
 #[inline(never)]
 pub fn asked<'a, R: AllocGlobal + Print + Eprint>(
     rt: &R,

@@ -2,7 +2,7 @@
 use Rattle.std.proofs.Common.{◌≡◌, [], Ok, Err, refl}
 use Rattle.std.specs.Prelude.{codes}
 use Rattle.std.specs.Fmt.{digits}
-use Rattle.psci_script.specs.psci_board_text.declared.fault.BoardFault.TheVariants as boards
+use Rattle.psci_script.specs.psci_board.declared.fault.BoardFault.TheVariants as boards
 use Rattle.psci_script.specs.declared.fault.ReplayFault.TheVariants.{Script, Board, Read, Write}
 use Rattle.psci_script.specs.declared.fault.ReplayFault.TheVariants.{Memory}
 use Rattle.psci_script.specs.declared.fault.ScriptFault.TheVariants as scripts

@@ -1,8 +1,8 @@
 -- Exit statuses, and what standard error says of a fault.
 use Rattle.std.specs.Prelude.{ℕ, List, [], ◌++◌, codes, Result, Ok, Err, ⊤}
 use Rattle.std.specs.Fmt.{decimal}
-use Rattle.psci_script.specs.psci_board_text.declared.fault.BoardFault.{BoardFault}
-use Rattle.psci_script.specs.psci_board_text.declared.fault.BoardFault.TheVariants as boards
+use Rattle.psci_script.specs.psci_board.declared.fault.BoardFault.{BoardFault}
+use Rattle.psci_script.specs.psci_board.declared.fault.BoardFault.TheVariants as boards
 use Rattle.psci_failure.specs.declared.exit.Failure.{Failure}
 use Rattle.psci_failure.specs.declared.exit.AuditFailure.TheVariants.{Ticket, Illegal}
 use Rattle.psci_failure.specs.declared.exit.Failure.TheVariants.{CommandLine, Replay, TooManyCores}

@@ -7,4 +7,4 @@
 mod exit;
 
 pub use exit::{AuditFailure, Failure, end};
-pub use psci_script::{Board, BoardFault, ReadBoard, ReplayFault};
+pub use psci_script::{Board, BoardFault, ReplayFault};

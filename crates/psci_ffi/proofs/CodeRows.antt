@@ -2,7 +2,7 @@
 -- place.
 use Rattle.std.proofs.Common.{◌≡◌, ℕ, pos, negsuc, true, false, [], ◌∷◌, map, refl}
 use Rattle.std.specs.Prelude.{None, Some, Ok, Err, replicate}
-use Rattle.psci_board_text.specs.declared.fault.BoardFault.TheVariants as boards
+use Rattle.psci_board.specs.declared.fault.BoardFault.TheVariants as boards
 use Rattle.psci_fw_spec.specs.declared.fault.FwFault.TheVariants as refusals
 use Rattle.psci_fw_spec.specs.declared.hw.Hw.TheVariants as hardware
 use Rattle.psci_fw_spec.specs.declared.outcome.Act.TheVariants.{Return, Stop, Enter, Resume}

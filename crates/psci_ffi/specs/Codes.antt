@@ -1,9 +1,9 @@
 -- The numbers that C is answered, and those that it gives.
 use Rattle.std.specs.Prelude.{ℕ, Option, None, Some, Result, Ok, Err, ◌==◌, if◌then◌else◌}
-use Rattle.psci_board_text.specs.declared.fault.BoardFault.{BoardFault}
-use Rattle.psci_board_text.specs.declared.fault.BoardFault.TheVariants.{Grammar, Uneven, TooWide}
-use Rattle.psci_board_text.specs.declared.fault.BoardFault.TheVariants.{TooManyCores, BadRange}
-use Rattle.psci_board_text.specs.declared.fault.BoardFault.TheVariants.{BadBoot, BadLimit, Memory}
+use Rattle.psci_board.specs.declared.fault.BoardFault.{BoardFault}
+use Rattle.psci_board.specs.declared.fault.BoardFault.TheVariants.{Grammar, Uneven, TooWide}
+use Rattle.psci_board.specs.declared.fault.BoardFault.TheVariants.{TooManyCores, BadRange}
+use Rattle.psci_board.specs.declared.fault.BoardFault.TheVariants.{BadBoot, BadLimit, Memory}
 use Rattle.psci_fw_spec.specs.declared.fault.FwFault.{FwFault}
 use Rattle.psci_fw_spec.specs.declared.fault.FwFault.TheVariants.{NoCore, NoLife, NotRunning}
 use Rattle.psci_fw_spec.specs.declared.fault.FwFault.TheVariants.{OldStart}

@@ -2,8 +2,8 @@
 use Rattle.std.specs.Prelude.{◌≡◌, ℕ, true, false, pos, Option, None, Some}
 use Rattle.std.specs.Prelude.{[], ◌∷◌, Result, Ok, Err, IsOk, IsSomeAnd, option_map, replicate}
 use Rattle.psci_board.specs.Board.{BoardValue, cores}
-use Rattle.psci_board_text.specs.declared.fault.BoardFault.{BoardFault}
-use Rattle.psci_board_text.specs.declared.fault.BoardFault.TheVariants.{Memory}
+use Rattle.psci_board.specs.declared.fault.BoardFault.{BoardFault}
+use Rattle.psci_board.specs.declared.fault.BoardFault.TheVariants.{Memory}
 use Rattle.psci_fw.specs.Seen.{seen}
 use Rattle.psci_fw_spec.specs.declared.call.FwCall.{FwCall}
 use Rattle.psci_fw_spec.specs.declared.call.FwCall.TheVariants as calls

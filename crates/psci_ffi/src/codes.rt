@@ -4,7 +4,7 @@ ghost use Rattle.std.specs.Prelude.{◌≡◌};
 ghost use Rattle.psci_ffi.specs.Codes.{cause_said, frame_code, opened_said, refusal, status_code};
 ghost use Rattle.psci_ffi.specs.Codes.{hw_number, taken_code};
 
-use psci_board_text::BoardFault;
+use psci_board::BoardFault;
 use psci_fw::{Cause, FwFault, Hw, Status, Taken};
 use psci_link::FrameFault;
 

@@ -1,15 +1,14 @@
 //! Making a firmware, and letting it go.
 
 ghost use Rattle.std.specs.Prelude.{◌≡◌, None};
-ghost use Rattle.psci_board_text.specs.Verdict.{Answers, board_of};
+ghost use Rattle.psci_board.specs.Verdict.{Answers, board_of};
 ghost use Rattle.psci_ffi.specs.Codes.{opened_said};
 ghost use Rattle.psci_ffi.specs.Shown.{Opens};
 
 use crate::codes::opened_code;
 use crate::held::Held;
 use crate::place::Place;
-use psci_board::Board;
-use psci_board_text::{BoardFault, ReadBoard};
+use psci_board::{Board, BoardFault};
 use std::alloc::Global;
 
 /// Puts a new firmware of the board that the text describes into the place, and frees the one that

@@ -192,7 +192,8 @@ confirms_on-by b s v a level place is =
     && is_made_at (sum_by v.known (below b (node_by s n))) (applied_part a level sent)))
     (path-by b s c level place is)))
 
-acknowledged_status-by : (b : BoardValue) (s : ℕ → ℕ → ℕ) (a : AckValue) (v : Values) → Renumbers b s
+acknowledged_status-by : (b : BoardValue) (s : ℕ → ℕ → ℕ) (a : AckValue) (v : Values)
+    → Renumbers b s
     → updated (λ k. v.status (s 0 k)) (s 0 a.core.number)
     (if turns_off (values_by s v) (acknowledgement_by s a) then statuses.Off
     else v.status (s 0 (s 0 a.core.number)))

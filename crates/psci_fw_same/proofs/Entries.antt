@@ -29,7 +29,8 @@ use Rattle.psci_fw_same.proofs.Stopping.{chosen, cpu_off-by}
 -- The start of a life ---------------------------------------------------------------------------
 
 -- where the boot core has its own number, no other core has it
-is_boot-by : (s : ℕ → ℕ → ℕ) (c : ℕ) → ((k : ℕ) → s 0 (s 0 k) ≡ k) → s 0 0 ≡ 0 → (s 0 c == 0) ≡ (c == 0)
+is_boot-by : (s : ℕ → ℕ → ℕ) (c : ℕ) → ((k : ℕ) → s 0 (s 0 k) ≡ k) → s 0 0 ≡ 0
+    → (s 0 c == 0) ≡ (c == 0)
 is_boot-by s c back boot = sym (other_test s c 0 back) ∙ ap (λ (k : ℕ). c == k) boot
 
 -- and its path has the same places

@@ -21,7 +21,8 @@ use Rattle.psci_fw_spec.specs.declared.reply.FwReply.{FwReply}
 use Rattle.psci_fw_spec.specs.declared.reply.FwReply.TheVariants.{Out, Fault}
 use Rattle.psci_fw_spec.specs.declared.reply.FwReply.TheVariants as replies
 use Rattle.psci_fw_spec.specs.After.{after, change}
-use Rattle.psci_fw_spec.specs.Changes.{with_arrival, with_claims, with_halt, with_mode, with_pending}
+use Rattle.psci_fw_spec.specs.Changes.{with_arrival, with_claims, with_halt, with_mode}
+use Rattle.psci_fw_spec.specs.Changes.{with_pending}
 use Rattle.psci_fw_spec.specs.Changes.{with_phase, with_rest, with_running}
 use Rattle.psci_fw_spec.specs.Effects.{Acknowledges, AsksOn, Effect, Enters, GoesOn, Halts, Nothing}
 use Rattle.psci_fw_spec.specs.Effects.{Parks, Rests, SetsMode, Stops, StopsAtOnce, effect_of}
@@ -231,7 +232,8 @@ enter-finds b s v c start acts.Stop (Some m) finds = finds
 enter-finds b s v c start acts.Stop None finds = finds
 enter-finds b s v c start act sent finds = finds
 
-finds-after : (b : BoardValue) (s : ℕ → ℕ → ℕ) (v : Values) (c : ℕ) (call : FwCall) (reply : FwReply)
+finds-after : (b : BoardValue) (s : ℕ → ℕ → ℕ) (v : Values) (c : ℕ) (call : FwCall)
+    (reply : FwReply)
     → Renumbers b s → SparesBoot s v.life call → FindsAfter b s v (effect_of b c call reply)
 finds-after b s v c (Smc regs) (Out o) is spares =
     function-finds b s v c (request_of regs) o.act o.message

@@ -32,7 +32,8 @@ function-by b s v c (requests.CpuSuspend state entry_point context) q is asks =
 function-by b s v c requests.CpuOff q is asks =
     ap (function_outcome b (values_by s v) (s 0 c)) asks ∙ cpu_off-by b s v c is
 function-by b s v c requests.SystemOff q is asks =
-    ap (function_outcome b (values_by s v) (s 0 c)) asks ∙ system_message-by s v kinds.Off c (is.back 0)
+    ap (function_outcome b (values_by s v) (s 0 c)) asks
+    ∙ system_message-by s v kinds.Off c (is.back 0)
 function-by b s v c requests.SystemReset q is asks =
     ap (function_outcome b (values_by s v) (s 0 c)) asks
     ∙ system_message-by s v kinds.Reset c (is.back 0)

@@ -1,7 +1,6 @@
 -- Histories told of renumbered cores.
-use Rattle.std.proofs.Common.{◌≡◌, ℕ, List, [], ◌∷◌, refl, sym, ap, ◌∙◌, inr}
+use Rattle.std.proofs.Common.{◌≡◌, ℕ, List, [], ◌∷◌, sym, ap, ◌∙◌, inr}
 use Rattle.psci_board.specs.Board.{BoardValue}
-use Rattle.psci_messages.specs.declared.start.Start.{Start}
 use Rattle.psci_fw_spec.specs.declared.call.FwCall.{FwCall}
 use Rattle.psci_fw_spec.specs.declared.call.FwCall.TheVariants.{Enter, Smc, Take}
 use Rattle.psci_fw_spec.specs.declared.reply.FwReply.{FwReply}
@@ -12,7 +11,7 @@ use Rattle.psci_fw_spec.specs.History.{values_of}
 use Rattle.psci_fw_spec.specs.Legal.{IsLegal}
 use Rattle.psci_fw_spec.specs.Lives.{start_of_life}
 use Rattle.psci_fw_spec.specs.Values.{Values}
-use Rattle.psci_fw_same.specs.Renumbered.{CallsBy, ExchangedBy, HappenedBy, SparesBoot, reply_by}
+use Rattle.psci_fw_same.specs.Renumbered.{ExchangedBy, HappenedBy, SparesBoot, reply_by}
 use Rattle.psci_fw_same.specs.Renumbered.{values_by}
 use Rattle.psci_fw_same.proofs.Calling.{answer-by}
 use Rattle.psci_fw_same.proofs.Entries.{start_of_life-by}

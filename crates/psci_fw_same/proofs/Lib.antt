@@ -15,7 +15,8 @@ pub mod Changing
 pub mod Entries
 pub mod Calling
 pub mod Following
-mod RenumberedRows
+pub mod RenumberedRows
+mod RenumberedValueRows
 mod SwapRows
 mod ValueRows
 pub mod Twins

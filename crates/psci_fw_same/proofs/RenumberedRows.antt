@@ -1,6 +1,6 @@
--- Worked examples of boards at height 3, of messages, replies, calls and values of the other
--- numbers, in life 2, and of what is no renumbering and no such call.
-use Rattle.std.proofs.Common.{◌≡◌, ◌<◌, ◌+◌, ◌*◌, ◌==◌, ◌&&◌, ◌||◌, ℕ, zero, suc, true, false}
+-- Worked examples of boards at height 3, of messages, replies and calls of the other numbers, in
+-- life 2, and of what is no renumbering and no such call.
+use Rattle.std.proofs.Common.{◌≡◌, ◌<◌, ◌+◌, ◌==◌, ℕ, zero, suc, true, false}
 use Rattle.std.proofs.Common.{[], ◌∷◌, Option, None, Some, if◌then◌else◌, map, refl, ap, arith}
 use Rattle.std.proofs.Common.{inl, inr}
 use Rattle.psci_abi.specs.declared.registers.Regs.{Regs}
@@ -10,7 +10,7 @@ use Rattle.psci_abi.specs.declared.request.Request.TheVariants.{SetSuspendMode, 
 use Rattle.psci_board.specs.Board.{BoardValue, core_of, up}
 use Rattle.psci_board.specs.declared.node.Node.{Node}
 use Rattle.psci_messages.specs.Message.{AckValue, MessageValue}
-use Rattle.psci_messages.specs.Slots.{Slot, OfCore, OfSystem}
+use Rattle.psci_messages.specs.Slots.{OfCore, OfSystem}
 use Rattle.psci_messages.specs.declared.kind.Kind.TheVariants as kinds
 use Rattle.psci_messages.specs.declared.start.Start.{Start}
 use Rattle.psci_messages.specs.declared.start.Cause.TheVariants.{Wake}
@@ -18,16 +18,11 @@ use Rattle.psci_messages.specs.declared.taken.Taken.TheVariants.{Old, Used}
 use Rattle.psci_fw_spec.specs.declared.call.FwCall.{FwCall}
 use Rattle.psci_fw_spec.specs.declared.call.FwCall.TheVariants.{Enter, Smc, Take}
 use Rattle.psci_fw_spec.specs.declared.fault.FwFault.TheVariants.{OldStart}
-use Rattle.psci_fw_spec.specs.declared.mode.SuspendMode.TheVariants.{OsInitiated}
 use Rattle.psci_fw_spec.specs.declared.outcome.Act.TheVariants as acts
 use Rattle.psci_fw_spec.specs.declared.reply.FwReply.TheVariants.{Fault, Out, Taken}
-use Rattle.psci_fw_spec.specs.declared.status.Status.TheVariants as statuses
-use Rattle.psci_fw_spec.specs.Phases as phases
-use Rattle.psci_fw_spec.specs.Values.{Values}
 use Rattle.psci_fw_same.specs.Renumbered.{AreSiblings, AreTwins, AsksBy, CallsBy, IsRenumbering}
 use Rattle.psci_fw_same.specs.Renumbered.{SparesBoot, acknowledgement_by, message_by, node_by}
 use Rattle.psci_fw_same.specs.Renumbered.{outcome_by, reply_by, slot_by, swap_clusters, swap_cores}
-use Rattle.psci_fw_same.specs.Renumbered.{values_by}
 use Rattle.psci_fw_same.proofs.SwapRows.{clusters, one_level, two_levels}
 
 -- Boards ------------------------------------------------------------------------------------------
@@ -91,11 +86,11 @@ not_above is = let e : ◌≡◌ {A = ℕ} 1 0 = is.above 1 0 in omega arith
 -- Messages and replies ----------------------------------------------------------------------------
 
 -- two cores of a cluster are swapped
-abbrev s : ℕ → ℕ → ℕ
+abbrev pub s : ℕ → ℕ → ℕ
 s = swap_cores 1 3
 
 -- a Down of the core and its cluster in life 2, and its acknowledgement
-abbrev down : ℕ → MessageValue
+abbrev pub down : ℕ → MessageValue
 down c = record {
   kind = kinds.Down;
   core = record { number = c };
@@ -116,7 +111,7 @@ acknowledged c = record {
 }
 
 -- the system goes off, by this core
-abbrev system_off : ℕ → MessageValue
+abbrev pub system_off : ℕ → MessageValue
 system_off c = record {
   kind = kinds.Off;
   core = record { number = c };
@@ -242,75 +237,3 @@ boot_core_is_another (inr h) = let e : ◌≡◌ {A = ℕ} 1 0 = h in omega arit
 life_that_is_over : SparesBoot (swap_cores 0 1) 3 (Enter (start 1)) → ⊥
 life_that_is_over (inl h) = let e : ◌≡◌ {A = ℕ} 2 3 = h in omega arith
 life_that_is_over (inr h) = let e : ◌≡◌ {A = ℕ} 1 0 = h in omega arith
-
--- Values ------------------------------------------------------------------------------------------
-
-abbrev waiting : Slot → Option MessageValue
-waiting (OfCore c) = if c == 1 then Some (down 1) else None
-waiting OfSystem = Some (system_off 3)
-
--- a halting life 2 in OS-initiated mode, in which core 1 is suspended in retention
-abbrev values : Values
-values = record {
-  life = 2;
-  halting = true;
-  mode = OsInitiated;
-  known = λ c. 10 + c;
-  status = λ c. if c == 1 then statuses.On else statuses.Off;
-  phase = λ c. if c == 1 then phases.Suspended (2 ∷ []) else phases.Away;
-  opening = λ c. if c == 1 then Some (record { address = 64; context = 9 }) else None;
-  granted = λ level place. 10 * level + place;
-  confirmed = λ level place. (level == 0 && place == 1) || (level == 1 && place == 0);
-  outstanding = waiting;
-}
-
-abbrev moved : Values
-moved = values_by s values
-
-life_stays : moved.life ≡ 2
-life_stays = refl
-
-halting_stays : moved.halting ≡ true
-halting_stays = refl
-
-mode_stays : moved.mode ≡ OsInitiated
-mode_stays = refl
-
-known_moved : map moved.known (0 ∷ 1 ∷ 2 ∷ 3 ∷ []) ≡ 10 ∷ 13 ∷ 12 ∷ 11 ∷ []
-known_moved = refl
-
-status_moved : map moved.status (1 ∷ 2 ∷ 3 ∷ []) ≡ statuses.Off ∷ statuses.Off ∷ statuses.On ∷ []
-status_moved = refl
-
-phase_moved : map moved.phase (1 ∷ 2 ∷ 3 ∷ [])
-    ≡ phases.Away ∷ phases.Away ∷ phases.Suspended (2 ∷ []) ∷ []
-phase_moved = refl
-
-opening_moved : map moved.opening (1 ∷ 2 ∷ 3 ∷ [])
-    ≡ None ∷ None ∷ Some (record { address = 64; context = 9 }) ∷ []
-opening_moved = refl
-
--- each message is in the slot of its core's other number, and says that number
-outstanding_moved : map moved.outstanding (OfCore 1 ∷ OfCore 3 ∷ OfSystem ∷ [])
-    ≡ None ∷ Some (down 3) ∷ Some (system_off 1) ∷ []
-outstanding_moved = refl
-
--- with two clusters swapped
-abbrev turned : Values
-turned = values_by (swap_clusters clusters 0 1) values
-
-granted_to_cores : map (turned.granted 0) (0 ∷ 1 ∷ 2 ∷ 3 ∷ 4 ∷ []) ≡ 2 ∷ 3 ∷ 0 ∷ 1 ∷ 4 ∷ []
-granted_to_cores = refl
-
-granted_to_clusters : map (turned.granted 1) (0 ∷ 1 ∷ 2 ∷ []) ≡ 11 ∷ 10 ∷ 12 ∷ []
-granted_to_clusters = refl
-
-granted_to_the_system : turned.granted 2 0 ≡ 20
-granted_to_the_system = refl
-
-confirmed_of_cores : map (turned.confirmed 0) (0 ∷ 1 ∷ 2 ∷ 3 ∷ [])
-    ≡ false ∷ false ∷ false ∷ true ∷ []
-confirmed_of_cores = refl
-
-confirmed_of_clusters : map (turned.confirmed 1) (0 ∷ 1 ∷ 2 ∷ []) ≡ false ∷ true ∷ false ∷ []
-confirmed_of_clusters = refl

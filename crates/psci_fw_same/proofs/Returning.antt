@@ -160,7 +160,8 @@ may_set-by b s v c Platform is = all_others-by b s c (λ k. is_away (v.phase k))
 may_set-by b s v c OsInitiated is =
     ap not (any-cores b s (λ k. is_suspended_or_pending (v.phase k)) is)
 
-pub mode_asked-by : (b : BoardValue) (s : ℕ → ℕ → ℕ) (v : Values) (c : ℕ) (mode : Option SuspendMode)
+pub mode_asked-by : (b : BoardValue) (s : ℕ → ℕ → ℕ) (v : Values) (c : ℕ)
+    (mode : Option SuspendMode)
     → Renumbers b s
     → returns (mode_asked b (values_by s v) (s 0 c) mode)
     ≡ outcome_by s (returns (mode_asked b v c mode))

@@ -7,11 +7,14 @@ use Rattle.psci_messages.specs.declared.kind.Kind.{Kind}
 use Rattle.psci_messages.specs.declared.kind.Kind.TheVariants.{Down, Start, Off, Reset}
 use Rattle.psci_messages.specs.declared.taken.Taken.TheVariants.{Used, Old}
 use Rattle.psci_messages.specs.Message.{AckValue, MessageValue}
-use Rattle.psci_messages.specs.Slots.{Acknowledge, Change, Clear, ClearAll, OfCore, OfSystem, Put, Slot}
-use Rattle.psci_messages.specs.Slots.{answers, changed, is_done, is_kind, is_slot, left_by, slot_of, taken}
+use Rattle.psci_messages.specs.Slots.{Acknowledge, Change, Clear, ClearAll, OfCore, OfSystem, Put}
+use Rattle.psci_messages.specs.Slots.{Slot}
+use Rattle.psci_messages.specs.Slots.{answers, changed, is_done, is_kind, is_slot, left_by, slot_of}
+use Rattle.psci_messages.specs.Slots.{taken}
 use Rattle.psci_fw_spec.specs.Changes.{with_slots}
 use Rattle.psci_fw_spec.specs.Values.{Values}
-use Rattle.psci_fw_same.specs.Renumbered.{acknowledgement_by, core_by, message_by, slot_by, values_by}
+use Rattle.psci_fw_same.specs.Renumbered.{acknowledgement_by, core_by, message_by, slot_by}
+use Rattle.psci_fw_same.specs.Renumbered.{values_by}
 use Rattle.psci_fw_same.proofs.Renumbering.{other_test, same_test}
 
 -- the same change, of the other number
@@ -69,7 +72,8 @@ left_by-by s a (Some m) back =
     (answers-by s a m back)
     ∙ if-map s (answers a m && is_done a m) None (Some m)
 
-pub taken-by : (s : ℕ → ℕ → ℕ) (a : AckValue) (o : Option MessageValue) → ((k : ℕ) → s 0 (s 0 k) ≡ k)
+pub taken-by : (s : ℕ → ℕ → ℕ) (a : AckValue) (o : Option MessageValue)
+    → ((k : ℕ) → s 0 (s 0 k) ≡ k)
     → taken (acknowledgement_by s a) (option_map (message_by s) o) ≡ taken a o
 taken-by s a None back = refl
 taken-by s a (Some m) back = ap (λ (t : Bool). if t then Used else Old) (answers-by s a m back)

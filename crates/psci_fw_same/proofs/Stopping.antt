@@ -35,7 +35,8 @@ use Rattle.psci_fw_same.proofs.Renumbering.{all-cores, other_test, Renumbers}
 -- Values ----------------------------------------------------------------------------------------
 
 pub updated-by : {A : Type 0} (s : ℕ → ℕ → ℕ) (f : ℕ → A) (c : ℕ) (x : A)
-    → ((k : ℕ) → s 0 (s 0 k) ≡ k) → updated (λ k. f (s 0 k)) (s 0 c) x ≡ (λ k. updated f c x (s 0 k))
+    → ((k : ℕ) → s 0 (s 0 k) ≡ k)
+    → updated (λ k. f (s 0 k)) (s 0 c) x ≡ (λ k. updated f c x (s 0 k))
 updated-by s f c x back = λ i. λ k.
     ap (λ (t : Bool). if t then x else f (s 0 k)) (other_test s k c back) i
 
@@ -43,7 +44,8 @@ phases-by : (s : ℕ → ℕ → ℕ) (c : ℕ) (left : Phase) (v : Values) → 
     → updated (λ k. v.phase (s 0 k)) (s 0 c) (unless_pending (v.phase (s 0 (s 0 c))) left)
     ≡ (λ k. updated v.phase c (unless_pending (v.phase c) left) (s 0 k))
 phases-by s c left v back =
-    ap (λ (k : ℕ). updated (λ j. v.phase (s 0 j)) (s 0 c) (unless_pending (v.phase k) left)) (back c)
+    ap (λ (k : ℕ). updated (λ j. v.phase (s 0 j)) (s 0 c) (unless_pending (v.phase k) left))
+    (back c)
     ∙ updated-by s v.phase c (unless_pending (v.phase c) left) back
 
 pub with_phase-by : (b : BoardValue) (s : ℕ → ℕ → ℕ) (c : ℕ) (left : Phase) (v : Values)
@@ -94,7 +96,8 @@ suspend_parts-by b s v c ask is = suspend_claims-by b s v c ask v.mode is
 
 -- Outcomes --------------------------------------------------------------------------------------
 
-pub chosen : (s : ℕ → ℕ → ℕ) (t : Bool) (o p q r : Outcome) → o ≡ outcome_by s q → p ≡ outcome_by s r
+pub chosen : (s : ℕ → ℕ → ℕ) (t : Bool) (o p q r : Outcome) → o ≡ outcome_by s q
+    → p ≡ outcome_by s r
     → (if t then o else p) ≡ outcome_by s (if t then q else r)
 chosen s true o p q r first second = first
 chosen s false o p q r first second = second
@@ -186,7 +189,8 @@ system_suspend-by b s v c entry_point is =
     (refused-by s _ _ denied _ _ (limit-by b s v c is)
     (suspended-by b s v c (deepest_of (height b)) is)))
 
-pub system_message-by : (s : ℕ → ℕ → ℕ) (v : Values) (kind : Kind) (c : ℕ) → ((k : ℕ) → s 0 (s 0 k) ≡ k)
+pub system_message-by : (s : ℕ → ℕ → ℕ) (v : Values) (kind : Kind) (c : ℕ)
+    → ((k : ℕ) → s 0 (s 0 k) ≡ k)
     → system_message (values_by s v) kind (s 0 c) ≡ outcome_by s (system_message v kind c)
 system_message-by s v kind c back = stops_with-by s v kind c [] [] back refl
 

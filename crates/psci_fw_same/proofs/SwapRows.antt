@@ -1,5 +1,5 @@
--- Worked examples: two cores of a cluster of three are swapped, below the system and below a cluster
--- of a board with two.
+-- Worked examples: two cores of a cluster of three are swapped, below the system and below a
+-- cluster of a board with two.
 use Rattle.std.proofs.Common.{◌≡◌, [], ◌∷◌, refl, arith, map}
 use Rattle.psci_abi.specs.psci_format.declared.format.Format.TheVariants.{Original}
 use Rattle.psci_abi.specs.declared.request.Request.TheVariants.{AffinityInfo, CpuOff, CpuOn}
@@ -83,7 +83,8 @@ unfolding core_of
 on_at_two = (0x102, refl, refl)
 
 -- a word that names no core is told as itself
-on_nothing : AsksBy two_levels (swap_cores 1 3) (CpuOn 0x103 0x40001000 7) (CpuOn 0x103 0x40001000 7)
+on_nothing : AsksBy two_levels (swap_cores 1 3) (CpuOn 0x103 0x40001000 7)
+    (CpuOn 0x103 0x40001000 7)
 unfolding core_of
 on_nothing = (0x103, refl, refl)
 

@@ -1,6 +1,6 @@
 -- Worked examples: each value that is kept with cores 1 and 3 swapped, or two clusters, in a
 -- halting life 2 and in OS-initiated mode; calls and replies; and histories told of swapped cores.
-use Rattle.std.proofs.Common.{◌≡◌, ◌+◌, ◌*◌, ◌==◌, ℕ, Bool, true, false, if◌then◌else◌}
+use Rattle.std.proofs.Common.{◌≡◌, ◌+◌, ◌*◌, ◌==◌, ℕ, true, false, if◌then◌else◌}
 use Rattle.std.proofs.Common.{List, [], ◌∷◌, Option, None, Some, map, ap, refl, arith}
 use Rattle.psci_board.specs.Board.{core_of}
 use Rattle.psci_messages.specs.declared.kind.Kind.TheVariants.{Down, Reset}

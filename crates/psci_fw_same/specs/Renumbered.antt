@@ -1,6 +1,6 @@
 -- The cores of a board told by other numbers: messages, replies, requests and values that say the
--- same of the renumbered cores. A renumbering gives each place of a level another place of the level,
--- and so each core, at level 0, another number.
+-- same of the renumbered cores. A renumbering gives each place of a level another place of the
+-- level, and so each core, at level 0, another number.
 use Rattle.std.specs.Prelude.{◌≡◌, ℕ, zero, suc, ◌+◌, ◌==◌, ◌<◌, if◌then◌else◌, nat_lt}
 use Rattle.std.specs.Prelude.{List, [], ◌∷◌}
 use Rattle.std.specs.Prelude.{◌-◌, ◌&&◌, Bool, nat_le, option_map, ◌⊎◌}
@@ -21,8 +21,9 @@ use Rattle.psci_fw_spec.specs.declared.reply.FwReply.TheVariants.{Out, Taken, Fa
 use Rattle.psci_fw_spec.specs.Exchange.{FwExchange}
 use Rattle.psci_fw_spec.specs.Values.{Values}
 
--- What a renumbering keeps of a board: each domain has its children, and each cluster its cores, but
--- in another order, as where two cores of a cluster are swapped, or two clusters with as many cores.
+-- What a renumbering keeps of a board: each domain has its children, and each cluster its cores,
+-- but in another order, as where two cores of a cluster are swapped, or two clusters with as many
+-- cores.
 pub record IsRenumbering (b : BoardValue) (s : ℕ → ℕ → ℕ) : Type 0 where
   -- it is its own inverse
   pub back : (level place : ℕ) → s level (s level place) ≡ place

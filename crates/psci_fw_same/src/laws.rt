@@ -45,6 +45,15 @@ pub fn law_no_core_is_special()
         → values_of b g ≡ values_by s (values_of b h) }
     ensures legal { (b : BoardValue) (s : ℕ → ℕ → ℕ) (h g : List FwExchange) → IsBoard b
         → IsRenumbering b s → s 0 0 ≡ 0 → HappenedBy b s h g → IsLegal b h → IsLegal b g }
+{
+    law_paths();
+    law_children();
+    law_values();
+}
+
+/// Cores may be renumbered so: what is asked can be asked of the other numbers, and cores that are
+/// siblings, or the cores of two clusters, may be swapped.
+pub fn law_renumberings()
     // What a request asks some request asks of the renumbered cores.
     ensures told { (b : BoardValue) (s : ℕ → ℕ → ℕ) (r : Request) → IsBoard b → IsRenumbering b s
         → (q : Request) × AsksBy b s r q }
@@ -59,5 +68,4 @@ pub fn law_no_core_is_special()
     law_children();
     law_parents();
     law_words();
-    law_values();
 }

@@ -10,4 +10,4 @@
 
 mod laws;
 
-pub use laws::law_no_core_is_special;
+pub use laws::{law_no_core_is_special, law_renumberings};

@@ -1,37 +1,27 @@
 -- A claim that an acknowledgement confirms was carried out as the acknowledgement was made.
-use Rattle.std.proofs.Common.{◌≡◌, ℕ, zero, suc, ◌+◌, ◌<◌, ◌≤◌, inl, inr, Bool, true, false, ◌&&◌}
-use Rattle.std.proofs.Common.{◌==◌, cond, List, [], ◌∷◌, ◌++◌, length, take, Option, None, Some}
-use Rattle.std.proofs.Common.{refl, subst, ap, sym, ◌∙◌, arith, option_and_then}
-use Rattle.std.specs.Prelude.{nat_le, nat_lt, slice_get}
-use Rattle.std.specs.List.{prefix_len}
-use Rattle.std.proofs.lemmas.Bool.{and_from, and_parts, eq-eqb, eqb-true, le-leb, ltb-true}
-use Rattle.std.proofs.lemmas.List.Sums.{prefix_len_passes}
-use Rattle.std.proofs.lemmas.Option.{get_or_from_slice_get}
-use Rattle.psci_world_laws.specs.psci_board.Board.{BoardValue, HasNode, cores, height, up}
+use Rattle.std.proofs.Common.{◌≡◌, ℕ, suc, ◌<◌, inr, true}
+use Rattle.std.proofs.Common.{◌==◌, List, [], ◌∷◌, ◌++◌, take, Option, None, Some}
+use Rattle.std.proofs.Common.{subst, ap, sym, ◌∙◌}
+use Rattle.std.specs.Prelude.{slice_get}
+use Rattle.std.proofs.lemmas.Bool.{and_parts, eqb-true}
+use Rattle.psci_world_laws.specs.psci_board.Board.{BoardValue, HasNode, up}
 use Rattle.psci_world_laws.specs.psci_board.Laws.{PathLaws}
-use Rattle.psci_world_laws.specs.psci_board.Paths.{is_path_place}
 use Rattle.psci_world_laws.specs.psci_board.declared.node.Node.{Node}
-use Rattle.psci_world_laws.specs.psci_claims.psci_parts.declared.part.Part.{Part}
 use Rattle.psci_world_laws.specs.psci_ctl_spec.Changes.{change}
 use Rattle.psci_world_laws.specs.psci_ctl_spec.Effects.{Deepens, message_effect}
-use Rattle.psci_world_laws.specs.psci_ctl_spec.Parts.{applied, depth_or, is_applied, is_live, laid}
+use Rattle.psci_world_laws.specs.psci_ctl_spec.Parts.{applied}
 use Rattle.psci_world_laws.specs.psci_ctl_spec.Replies.{ack_by}
 use Rattle.psci_world_laws.specs.psci_ctl_spec.Values as controlled
 use Rattle.psci_world_laws.specs.psci_ctl_spec.Values.{starts_below}
-use Rattle.psci_world_laws.proofs.ctl_spec.Front.{get_take}
 use Rattle.psci_world_laws.specs.psci_fw_spec.Changes.{confirms_on}
-use Rattle.psci_world_laws.specs.psci_fw_spec.Confirmed.{applied_part, is_made_at}
 use Rattle.psci_world_laws.specs.psci_fw_spec.Invariant.{AreValues}
 use Rattle.psci_world_laws.specs.psci_fw_spec.NodeHwState.{hw_at}
-use Rattle.psci_world_laws.specs.psci_fw_spec.Phases.{Pending}
 use Rattle.psci_world_laws.specs.psci_fw_spec.Said.{listed}
 use Rattle.psci_world_laws.specs.psci_fw_spec.Values.{Values}
-use Rattle.psci_world_laws.specs.psci_messages.declared.kind.Kind.{Kind}
 use Rattle.psci_world_laws.specs.psci_messages.declared.kind.Kind.TheVariants as kinds
-use Rattle.psci_world_laws.specs.psci_messages.Message.{AckValue, AreClaims, ArePartsOf, MessageValue}
-use Rattle.psci_world_laws.specs.psci_messages.Message.{is_climbing}
-use Rattle.psci_world_laws.specs.psci_messages.OnlyIf.{only_if}
-use Rattle.psci_world_laws.specs.psci_messages.Slots.{OfCore, answers, is_kind, slot_of}
+use Rattle.psci_world_laws.specs.psci_messages.Message.{AckValue}
+use Rattle.psci_world_laws.specs.psci_messages.Message.{MessageValue}
+use Rattle.psci_world_laws.specs.psci_messages.Slots.{OfCore, is_kind, slot_of}
 use Rattle.psci_world_laws.specs.psci_fw_laws.Allowed.{IsAwaited}
 use Rattle.psci_world_laws.specs.psci_fw_laws.Granted.{NonePending}
 use Rattle.psci_world_laws.specs.psci_fw_laws.Kept.{Holds}
@@ -44,128 +34,10 @@ use Rattle.psci_world_laws.specs.psci_world_spec.Histories.{controller_values, f
 use Rattle.psci_world_laws.specs.psci_world_spec.Histories.{sent, sent_in}
 use Rattle.psci_safe.specs.Hardware.{was_in_state}
 use Rattle.psci_headline.proofs.Acknowledging.{IsAckOf, acks_message}
+use Rattle.psci_headline.proofs.Applied.{is_down, confirming, levels, applied_live, laid_at}
+use Rattle.psci_headline.proofs.Applied.{Confirms}
 use Rattle.psci_headline.proofs.Numbered.{IsListed}
 use Rattle.psci_headline.proofs.States.{seen_now, seen_since}
-
--- a Down
-kind_is : (k : Kind) → is_kind k kinds.Down ≡ true → k ≡ kinds.Down
-kind_is kinds.Down e = refl
-kind_is kinds.Start e = absurd (cc)
-kind_is kinds.Off e = absurd (cc)
-kind_is kinds.Reset e = absurd (cc)
-
-is_down : (k : Kind) → is_kind kinds.Down k ≡ true → k ≡ kinds.Down
-is_down kinds.Down e = refl
-is_down kinds.Start e = absurd (cc)
-is_down kinds.Off e = absurd (cc)
-is_down kinds.Reset e = absurd (cc)
-
--- What confirms -------------------------------------------------------------------------------
-
--- What it means that an acknowledgement confirms the claim on a domain.
-record Confirms (b : BoardValue) (v : Values) (a : AckValue) (level place : ℕ) : Type 0 where
-  pub on : place ≡ up b level a.core.number
-  pub some : 0 < v.granted level place
-  pub kind : a.kind ≡ kinds.Down
-  pub applied : level < a.applied
-  pub message : MessageValue
-  pub slot : v.outstanding (slot_of a.kind a.core) ≡ Some message
-  pub part : Part
-  pub at : slice_get message.parts level ≡ Some part
-  pub made : part.generation ≡ known_below b v.known level place
-
--- A part that is made at a sum, of a message that is there.
-record HasMade (t : Bool) (sent : Option MessageValue) (level sum : ℕ) : Type 0 where
-  pub test : t ≡ true
-  pub message : MessageValue
-  pub slot : sent ≡ Some message
-  pub part : Part
-  pub at : slice_get message.parts level ≡ Some part
-  pub made : part.generation ≡ sum
-
-by_part : (m : MessageValue) (level sum : ℕ) (o : Option Part) → slice_get m.parts level ≡ o
-    → is_made_at sum o ≡ true → HasMade true (Some m) level sum
-by_part m level sum None at e = absurd (cc)
-by_part m level sum (Some p) at e = record {
-  test = refl;
-  message = m;
-  slot = refl;
-  part = p;
-  at = at;
-  made = eqb-true p.generation sum e;
-}
-
-has_made : (t : Bool) (sent : Option MessageValue) (level sum : ℕ)
-    → is_made_at sum (only_if t (option_and_then (λ m. slice_get m.parts level) sent)) ≡ true
-    → HasMade t sent level sum
-has_made true None level sum e = absurd (cc)
-has_made true (Some m) level sum e = by_part m level sum (slice_get m.parts level) refl e
-has_made false sent level sum e = absurd (cc)
-
-confirming : (b : BoardValue) (v : Values) (a : AckValue) (level place : ℕ)
-    → confirms_on b v a level place ≡ true → Confirms b v a level place
-unfolding known_below
-confirming b v a level place e =
-    let first = and_parts (is_path_place b a.core.number level place) _ e in
-    let second = and_parts (nat_lt 0 (v.granted level place)) _ first.1 in
-    let has = has_made (is_kind a.kind kinds.Down && nat_lt level a.applied)
-    (v.outstanding (slot_of a.kind a.core)) level (known_below b v.known level place) second.1 in
-    let tests = and_parts (is_kind a.kind kinds.Down) (nat_lt level a.applied) has.test in
-    record {
-      on = eqb-true place (up b level a.core.number) first.0;
-      some = ltb-true 0 (v.granted level place) second.0;
-      kind = kind_is a.kind tests.0;
-      applied = ltb-true level a.applied tests.1;
-      message = has.message;
-      slot = has.slot;
-      part = has.part;
-      at = has.at;
-      made = has.made;
-    }
-
--- Parts ---------------------------------------------------------------------------------------
-
--- the levels of parts count up
-climbs : (low : ℕ) (ps : List Part) (k : ℕ) (p : Part) → is_climbing low ps ≡ true
-    → slice_get ps k ≡ Some p → p.level ≡ low + k
-climbs low [] k p e at = absurd (cc)
-climbs low (q ∷ ps) zero p e at =
-    let both = and_parts (q.level == low) (is_climbing (low + 1) ps) e in
-    let same : q ≡ p = cc in
-    sym (ap (λ (x : Part). x.level) same) ∙ eqb-true q.level low both.0 ∙ omega arith
-climbs low (q ∷ ps) (suc k) p e at =
-    let both = and_parts (q.level == low) (is_climbing (low + 1) ps) e in
-    climbs (low + 1) ps k p both.1 at ∙ omega arith
-
-levels : (k : Kind) (ps : List Part) (level : ℕ) (p : Part) → k ≡ kinds.Down → ArePartsOf k ps
-    → slice_get ps level ≡ Some p → p.level ≡ level
-levels k ps level p down are at =
-    let claim : AreClaims ps = subst (λ x. ArePartsOf x ps) down are in
-    climbs 0 ps level p claim.levels at ∙ omega arith
-
--- a part that is applied is live
-applied_live : (b : BoardValue) (v : controlled.Values) (c : ℕ) (ps : List Part) (level : ℕ)
-    (p : Part) → level < applied b v c ps → slice_get ps level ≡ Some p → p.level ≡ level
-    → p.generation ≡ starts_below b v.starts (record { level = level; place = up b level c })
-unfolding applied
-applied_live b v c ps level p few at same =
-    let test : is_applied b v c ps p ≡ true =
-    ap (is_applied b v c ps) (sym (get_or_from_slice_get ps level p p at))
-    ∙ prefix_len_passes (is_applied b v c ps) ps level p few in
-    eqb-true _ _ (and_parts (is_live b v c p) _ test).0
-    ∙ ap (λ l. starts_below b v.starts (record { level = l; place = up b l c })) same
-
--- a part that was applied made its domain as deep as it says
-laid_at : (b : BoardValue) (depth : ℕ → ℕ → ℕ) (c n level place : ℕ) (ps : List Part) (p : Part)
-    → level ≤ height b → place ≡ up b level c → slice_get ps level ≡ Some p → level < n
-    → laid b c (take n ps) depth level place ≡ p.depth
-laid_at b depth c n level place ps p low on at few =
-    let test : (nat_le level (height b) && (up b level c == place)) ≡ true =
-    and_from _ _ (le-leb level (height b) low) (eq-eqb (up b level c) place (sym on)) in
-    let part : slice_get (take n ps) level ≡ Some p = get_take ps n level few ∙ at in
-    ap (λ t. cond t (depth_or (slice_get (take n ps) level) (depth level place))
-    (depth level place)) test
-    ∙ ap (λ o. depth_or o (depth level place)) part
 
 -- Messages ------------------------------------------------------------------------------------
 

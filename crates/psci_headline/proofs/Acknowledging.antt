@@ -16,7 +16,8 @@ use Rattle.psci_world_laws.specs.psci_fw_spec.Phases.{Phase, Away, Pending, Runn
 use Rattle.psci_world_laws.specs.psci_fw_spec.Values.{Values}
 use Rattle.psci_world_laws.specs.psci_messages.declared.kind.Kind.{Kind}
 use Rattle.psci_world_laws.specs.psci_messages.declared.kind.Kind.TheVariants as kinds
-use Rattle.psci_world_laws.specs.psci_messages.Message.{AckValue, ArePartsOf, AreClaims, MessageValue}
+use Rattle.psci_world_laws.specs.psci_messages.Message.{AckValue, ArePartsOf, AreClaims}
+use Rattle.psci_world_laws.specs.psci_messages.Message.{MessageValue}
 use Rattle.psci_world_laws.specs.psci_state.Cores.{asks}
 use Rattle.psci_world_laws.specs.psci_fw_laws.Kept.{Holds}
 use Rattle.psci_world_laws.specs.psci_fw_laws.KnownBelow.{known_below}

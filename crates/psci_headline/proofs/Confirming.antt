@@ -1,20 +1,20 @@
--- What an effect leaves of a domain's confirmed claim: it was confirmed before, or a life has begun,
--- or an acknowledgement confirms it.
-use Rattle.std.proofs.Common.{◌≡◌, ℕ, ◌*◌, ◌<◌, ◌≤◌, ◌⊎◌, inl, inr, Bool, true, false, not, ◌==◌}
-use Rattle.std.proofs.Common.{◌&&◌, cond, Option, None, Some, refl, arith, ap, sym, ◌∙◌, subst}
+-- What an effect leaves of a domain's confirmed claim: it was confirmed before, or a life has
+-- begun, or an acknowledgement confirms it.
+use Rattle.std.proofs.Common.{◌≡◌, ℕ, ◌⊎◌, inl, inr, Bool, true, false, not, ◌==◌}
+use Rattle.std.proofs.Common.{cond, Option, None, Some, refl, arith, ap, sym, ◌∙◌}
 use Rattle.std.specs.Prelude.{slice_get}
 use Rattle.std.proofs.lemmas.Bool.{and_parts, eqb-false}
-use Rattle.psci_world_laws.specs.psci_board.Board.{BoardValue, cores, has_node, up}
+use Rattle.psci_world_laws.specs.psci_board.Board.{BoardValue, has_node, up}
 use Rattle.psci_world_laws.specs.psci_board.Paths.{is_path_place}
 use Rattle.psci_world_laws.specs.psci_claims.psci_parts.declared.part.Part.{Part}
 use Rattle.psci_world_laws.specs.psci_messages.declared.start.Start as starts
-use Rattle.psci_world_laws.specs.psci_messages.Message.{AckValue, MessageValue}
+use Rattle.psci_world_laws.specs.psci_messages.Message.{AckValue}
 use Rattle.psci_world_laws.specs.psci_fw_spec.After.{change}
 use Rattle.psci_world_laws.specs.psci_fw_spec.Changes.{confirms_on, target}
 use Rattle.psci_world_laws.specs.psci_fw_spec.Confirmed.{unless_claimed}
-use Rattle.psci_world_laws.specs.psci_fw_spec.Effects.{Effect, Nothing, GoesOn, SetsMode, AsksOn}
-use Rattle.psci_world_laws.specs.psci_fw_spec.Effects.{Rests, Halts}
-use Rattle.psci_world_laws.specs.psci_fw_spec.Effects.{Stops, Enters, Parks, StopsAtOnce}
+use Rattle.psci_world_laws.specs.psci_fw_spec.Effects.{Effect, AsksOn}
+use Rattle.psci_world_laws.specs.psci_fw_spec.Effects.{Rests}
+use Rattle.psci_world_laws.specs.psci_fw_spec.Effects.{Enters, Parks, StopsAtOnce}
 use Rattle.psci_world_laws.specs.psci_fw_spec.Effects.{Acknowledges}
 use Rattle.psci_world_laws.specs.psci_fw_spec.Lives.{first_confirmed, first_granted, start_of_life}
 use Rattle.psci_world_laws.specs.psci_fw_spec.Paths.{claimed_or}
@@ -76,7 +76,8 @@ unasked false before depth e = (e, refl)
 
 -- Entries -------------------------------------------------------------------------------------
 
-pub no_sum : (b : BoardValue) (level place : ℕ) → KnownLaws b → known_below b (λ c. 0) level place ≡ 0
+pub no_sum : (b : BoardValue) (level place : ℕ) → KnownLaws b
+    → known_below b (λ c. 0) level place ≡ 0
 no_sum b level place laws =
     let few = laws.most (λ c. 0) level place 0 (λ c. omega arith) in
     omega (arith, few)

@@ -5,7 +5,8 @@ use Rattle.std.specs.Prelude.{nat_lt}
 use Rattle.std.proofs.lemmas.Bool.{and_parts, cond_both, eqb-false, eqb-true, ltb-true}
 use Rattle.psci_world_laws.specs.psci_board.Board.{BoardValue}
 use Rattle.psci_world_laws.specs.psci_messages.declared.kind.Kind.{Kind}
-use Rattle.psci_world_laws.specs.psci_messages.declared.kind.Kind.TheVariants.{Down, Start, Off, Reset}
+use Rattle.psci_world_laws.specs.psci_messages.declared.kind.Kind.TheVariants.{Down, Start, Off}
+use Rattle.psci_world_laws.specs.psci_messages.declared.kind.Kind.TheVariants.{Reset}
 use Rattle.psci_world_laws.specs.psci_messages.Message.{AckValue}
 use Rattle.psci_world_laws.specs.psci_messages.Slots.{is_kind}
 use Rattle.psci_world_laws.specs.psci_messages.declared.start.Start as starts

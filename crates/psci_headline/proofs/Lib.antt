@@ -2,6 +2,7 @@ pub mod Acknowledged
 pub mod Acknowledging
 pub mod AllDown
 pub mod Apart
+pub mod Applied
 pub mod Asking
 pub mod Claiming
 pub mod Confirming

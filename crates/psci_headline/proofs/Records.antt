@@ -92,8 +92,8 @@ by_caller b c r acts.Resume m = refl
 
 -- What an effect says -------------------------------------------------------------------------
 
--- What the effect of an added exchange says: a core enters by a start of the power controller's life,
--- and an acknowledgement was made before.
+-- What the effect of an added exchange says: a core enters by a start of the power controller's
+-- life, and an acknowledgement was made before.
 pub record IsOfRecord (v : controlled.Values) (made : List AckValue) (e : Effect) : Type 0 where
   pub starts : (a : Arrival) → arrived e ≡ Some a → v.life ≡ Some a.start.life
   pub takes : (a : AckValue) → e ≡ Acknowledges a → IsListed made a

@@ -1,5 +1,5 @@
 -- Domains that were in a state at some moment.
-use Rattle.std.proofs.Common.{◌≡◌, ℕ, true, ◌==◌, List, [], ◌∷◌, ◌++◌, Some, refl, ap, ◌∙◌}
+use Rattle.std.proofs.Common.{◌≡◌, ℕ, true, List, [], ◌∷◌, ◌++◌, Some, refl, ap, ◌∙◌}
 use Rattle.std.proofs.lemmas.Bool.{and_from, eq-eqb, or_left, or_right}
 use Rattle.psci_world_laws.specs.psci_board.Board.{BoardValue}
 use Rattle.psci_world_laws.specs.psci_board.declared.node.Node.{Node}

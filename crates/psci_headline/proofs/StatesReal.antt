@@ -1,16 +1,14 @@
 -- The hardware states that are said of domains were real, after every legal past.
-use Rattle.std.proofs.Common.{◌≡◌, ℕ, ◌<◌, inl, inr, Bool, true, false, not, ◌==◌, ◌&&◌, cond}
+use Rattle.std.proofs.Common.{◌≡◌, ℕ, ◌<◌, inl, inr, Bool, true, false, not, ◌==◌, cond}
 use Rattle.std.proofs.Common.{List, [], ◌∷◌, Some, refl, subst, ap, sym, ◌∙◌, arith}
 use Rattle.std.specs.Prelude.{nat_le, nat_lt, slice_get}
-use Rattle.std.proofs.lemmas.Bool.{and_parts, and_right, cases_eq, ltb-true, ne_eqb}
-use Rattle.psci_world_laws.specs.psci_board.Board.{BoardValue, HasNode, cores, height, up}
+use Rattle.std.proofs.lemmas.Bool.{and_parts, and_right, ltb-true, ne_eqb}
+use Rattle.psci_world_laws.specs.psci_board.Board.{BoardValue, HasNode, height, up}
 use Rattle.psci_world_laws.specs.psci_board.Laws.{PathLaws}
 use Rattle.psci_world_laws.specs.psci_board.declared.node.Node.{Node}
 use Rattle.psci_world_laws.specs.psci_ctl_spec.Values as controlled
 use Rattle.psci_world_laws.specs.psci_ctl_spec.Values.{first_depth, first_starts, starts_below}
-use Rattle.psci_world_laws.specs.psci_fw_spec.declared.hw.Hw.{Hw}
 use Rattle.psci_world_laws.specs.psci_fw_spec.declared.hw.Hw.TheVariants.{On}
-use Rattle.psci_world_laws.specs.psci_fw_spec.After.{change}
 use Rattle.psci_world_laws.specs.psci_fw_spec.Invariant.{AreValues}
 use Rattle.psci_world_laws.specs.psci_fw_spec.NodeHwState.{hw_at, hw_code, node_hw}
 use Rattle.psci_world_laws.specs.psci_fw_spec.Values.{Values}
@@ -22,11 +20,11 @@ use Rattle.psci_world_laws.specs.psci_world_spec.declared.said.Record.{Record}
 use Rattle.psci_world_laws.specs.psci_world_spec.Histories.{acks, controller_values}
 use Rattle.psci_world_laws.specs.psci_world_spec.Histories.{firmware_values}
 use Rattle.psci_world_laws.specs.psci_world_spec.Legal.{IsLegalPast}
-use Rattle.psci_safe.specs.Hardware.{is_said_asleep, said_hw, was_as_said, was_in_state}
+use Rattle.psci_safe.specs.Hardware.{said_hw, was_in_state}
 use Rattle.psci_safe.specs.Safe.{StatesWereReal}
 use Rattle.psci_headline.proofs.Acknowledged.{IsTaken, carried_out}
 use Rattle.psci_headline.proofs.AllDown.{DownLaws, first_controlled, first_life, next_of}
-use Rattle.psci_headline.proofs.Confirming.{HasBegun, How, IsConfirmed, Stays, WasConfirmed}
+use Rattle.psci_headline.proofs.Confirming.{How, Stays}
 use Rattle.psci_headline.proofs.Confirming.{confirmed_how, no_sum}
 use Rattle.psci_headline.proofs.Deliveries.{IsFirst, life_before}
 use Rattle.psci_headline.proofs.Nexts.{IsNext}

@@ -5,7 +5,6 @@ ghost use Rattle.std.specs.Prelude.{IsTrue};
 ghost use Rattle.psci_board.specs.Board.{HasNodeIn};
 
 use psci_board::{Board, Core, CoreSpan, Node};
-use psci_board_text::ReadBoard;
 use psci_ctl::Controller;
 use psci_messages::Slots;
 use psci_text::{hex, literal, number};

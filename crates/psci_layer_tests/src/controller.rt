@@ -2,7 +2,6 @@
 //! down and wake, and what comes too late.
 
 use crate::boards::has;
-use psci_board_text::ReadBoard;
 use psci_ctl::{Board, Cause, Controller, Core, Delivery, Kick, Kind, Message, Part, Parts, Start};
 use std::alloc::Global;
 use std::process::Abort;

@@ -7,7 +7,6 @@ ghost use Rattle.psci_board.specs.Board.{HasNodeIn, cores, size_below};
 use crate::boards::has;
 use psci_abi::Format;
 use psci_board::{Board, Core, Node};
-use psci_board_text::ReadBoard;
 use psci_claims::{Osi, Part, Parts};
 use psci_coord::{claims, own_parts};
 use psci_osi::{check, off_parts};

@@ -2,7 +2,6 @@
 
 use crate::slots::down;
 use psci_board::{Board, Core};
-use psci_board_text::ReadBoard;
 use psci_link::{FRAME_LEN, Frame, FrameFault, decode, encode};
 use psci_messages::{Ack, Kind, Message};
 use std::test::Fail;

@@ -43,10 +43,6 @@ rest_is : (run : ScriptRun) (n : ℕ) (l : List ℕ) (ls : List (List ℕ))
 unfolding transcript_of_rest events_of
 rest_is run n l ls = refl
 
-blank_is : (run : ScriptRun) (m : ℕ) (ls : List (List ℕ))
-    → after_said run m (Ok Blank) ls ≡ remaining (Some run) m ls
-blank_is run m ls = refl
-
 event_is : (run : ScriptRun) (m : ℕ) (event : Event) (ls : List (List ℕ))
     → after_said run m (Ok (Says event)) ls ≡ remaining (Some (with_record run event)) m ls
 unfolding run_from

@@ -5,7 +5,7 @@ use Rattle.std.proofs.Common.{Option, None, Some, Ok, Err, refl}
 use Rattle.std.specs.Prelude.{codes}
 use Rattle.std.specs.Fmt.{digits}
 use Rattle.psci_script.specs.psci_board.Board.{BoardValue}
-use Rattle.psci_script.specs.psci_board_text.declared.fault.BoardFault.TheVariants.{Grammar}
+use Rattle.psci_script.specs.psci_board.declared.fault.BoardFault.TheVariants.{Grammar}
 use Rattle.psci_script.specs.psci_world_spec.psci_fw_spec.declared.outcome.Act.TheVariants as acts
 use Rattle.psci_script.specs.psci_world_spec.declared.event.Event.{Event}
 use Rattle.psci_script.specs.psci_world_spec.declared.event.Event.TheVariants.{Deliver, Enter}
@@ -19,9 +19,9 @@ use Rattle.psci_script.specs.Line.{line_of, event_at, call_at, alone_at, registe
 use Rattle.psci_script.specs.Line.{optional_register_at}
 use Rattle.psci_script.specs.Lines.{lines}
 use Rattle.psci_script.specs.psci_text.Reading.{literal_at, number_at, hex_at, spaced_at}
-use Rattle.psci_script.specs.psci_board_text.Reading.{range_at, at_most, board_text}
-use Rattle.psci_script.specs.psci_board_text.Reading.{more_at, list_at, member_at, tree_at}
-use Rattle.psci_script.specs.psci_board_text.Verdict.{board_of, verdict}
+use Rattle.psci_script.specs.psci_board.Reading.{range_at, at_most, board_text}
+use Rattle.psci_script.specs.psci_board.Reading.{more_at, list_at, member_at, tree_at}
+use Rattle.psci_script.specs.psci_board.Verdict.{board_of, verdict}
 use Rattle.psci_script.specs.Script.{transcript, transcript_of_rest}
 use Rattle.psci_world_spec.proofs.Scripts.{computing}
 use Rattle.psci_lines.specs.ScriptRun.{GoesOn, ScriptRun, events_of, run_by, run_of, run_of_lines}

@@ -1,8 +1,8 @@
 -- The run of a script: its board, and the records of its events.
 use Rattle.std.specs.Prelude.{◌≡◌, ℕ, ◌+◌, List, [], ◌∷◌, ◌++◌, Option, None, Some, Result, Ok, Err}
 use Rattle.psci_script.specs.psci_board.Board.{BoardValue}
-use Rattle.psci_script.specs.psci_board_text.Verdict.{board_of}
-use Rattle.psci_script.specs.psci_board_text.declared.fault.BoardFault.{BoardFault}
+use Rattle.psci_script.specs.psci_board.Verdict.{board_of}
+use Rattle.psci_script.specs.psci_board.declared.fault.BoardFault.{BoardFault}
 use Rattle.psci_script.specs.psci_world_spec.declared.event.Event.{Event}
 use Rattle.psci_script.specs.psci_world_spec.declared.said.Record.{Record}
 use Rattle.psci_script.specs.psci_world_spec.Legal.{legal_record, run_from}
@@ -38,6 +38,7 @@ abbrev pub run_by : Result (List ℕ) ScriptFault → List (List ℕ) → Option
 run_by (Err fault) ls = None
 run_by (Ok text) ls = run_on (board_of text) ls
 
+-- the run of the lines of a script, of which the first is its board line
 abbrev pub run_of_lines : List (List ℕ) → Option ScriptRun
 run_of_lines [] = None
 run_of_lines (l ∷ ls) = run_by (board_line l) ls

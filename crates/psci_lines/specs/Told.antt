@@ -27,6 +27,7 @@ pub record Account : Type 0 where
   pub run : Option ScriptRun
   pub end : Result Replayed ReplayFault
 
+-- how the bytes of a script come out
 abbrev pub account : List ℕ → Account
 account bytes = record { run = run_of bytes; end = (transcript bytes).end }
 

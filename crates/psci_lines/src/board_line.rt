@@ -4,7 +4,7 @@ ghost use Rattle.std.specs.Prelude.{◌≤◌, length};
 ghost use Rattle.psci_script.specs.Limits.{longest_line};
 ghost use Rattle.psci_lines.specs.Run.{BoardRead};
 
-use psci_script::{Board, BoardFault, ReadBoard, ReplayFault, ScriptFault, literal};
+use psci_script::{Board, BoardFault, ReplayFault, ScriptFault, literal};
 use std::alloc::Global;
 
 /// The board of a first line.

@@ -76,11 +76,13 @@ by_a_start = record {
   reply = replied.Kick (kicks.Started (start 1 2));
 } ∷ []
 
-reset_core_starts : place_next board 3 (Reset 3) (started 1 2 causes.Reset) by_a_start Running ≡ Started
+reset_core_starts : place_next board 3 (Reset 3) (started 1 2 causes.Reset) by_a_start Running
+    ≡ Started
 unfolding computing
 reset_core_starts = refl
 
-other_core_stays : place_next board 2 (Reset 3) (started 1 2 causes.Reset) by_a_start Running ≡ Running
+other_core_stays : place_next board 2 (Reset 3) (started 1 2 causes.Reset) by_a_start Running
+    ≡ Running
 unfolding computing
 other_core_stays = refl
 

@@ -9,7 +9,7 @@
 ghost use Rattle.std.specs.Prelude.{IfErr};
 ghost use Rattle.psci_failure.specs.Exit.{IsOfReplay};
 
-use psci_bench::{Std, replay};
+use psci_answers::{Std, replay};
 use psci_failure::{Failure, end};
 use std::process::ExitCode;
 

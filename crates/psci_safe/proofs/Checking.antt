@@ -12,7 +12,8 @@ use Rattle.psci_safe.specs.Hardware.{was_in_state}
 use Rattle.psci_safe.specs.Moments.{was_powered_down}
 use Rattle.psci_safe.specs.Openings.{openings, taken_up}
 use Rattle.psci_safe.specs.Test.{is_always_safe, is_asked, is_each_once, is_each_open}
-use Rattle.psci_safe.specs.Test.{is_each_real, is_off_down, is_off_stopped, is_one, is_powered, is_safe}
+use Rattle.psci_safe.specs.Test.{is_each_real, is_off_down, is_off_stopped, is_one, is_powered}
+use Rattle.psci_safe.specs.Test.{is_safe}
 
 -- what an example unfolds to compute the tests of a moment
 unfoldable pub computing : Unit {0}

@@ -49,8 +49,8 @@ off_in_retention : Breaks board PoweredDown
 unfolding computing
 off_in_retention = refl
 
--- a core that goes off is OFF, and its hardware is, by the acknowledgement of a suspend from which it
--- has gone on
+-- a core that goes off is OFF, and its hardware is, by the acknowledgement of a suspend from which
+-- it has gone on
 old_acknowledgement_used : BreakAll board (PoweredDown ∷ Real ∷ [])
     (Legal (Enter 0 ∷ on_3 ∷ Deliver 0 ∷ Enter 3 ∷ call 3 0xc4000001 0x00010003 0x40004000 2
     ∷ Deliver 1 ∷ Wake 3 ∷ Enter 3 ∷ off 3 ∷ []) ∷ Take 1 ⇒ used ∷ [])

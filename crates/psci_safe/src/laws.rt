@@ -8,7 +8,8 @@ ghost use Rattle.psci_safe.specs.Openings.{AreTakenUp};
 ghost use Rattle.psci_safe.specs.Safe.{AlwaysSafe, NoDeeperThanAsked, NoneBelowSleeping};
 ghost use Rattle.psci_safe.specs.Safe.{OffIsDown, OneLiveClaim, Safe, StatesWereReal};
 ghost use Rattle.psci_safe.specs.Test.{is_always_safe, is_asked, is_each_once, is_each_open};
-ghost use Rattle.psci_safe.specs.Test.{is_each_real, is_off_down, is_off_stopped, is_one, is_powered, is_safe};
+ghost use Rattle.psci_safe.specs.Test.{is_each_real, is_off_down, is_off_stopped, is_one};
+ghost use Rattle.psci_safe.specs.Test.{is_powered, is_safe};
 
 /// The world is safe at a moment where the test says so, and nowhere else. So it is with each thing
 /// that is said of a moment, and with all moments of a run.

@@ -1,11 +1,11 @@
 -- How known scripts are answered that have no board, or a faulty one.
 use Rattle.std.proofs.Common.{[], ◌∷◌, refl}
 use Rattle.std.specs.Prelude.{codes, Err}
-use Rattle.psci_board_text.specs.declared.fault.BoardFault.TheVariants.{Grammar, Uneven}
-use Rattle.psci_board_text.specs.declared.fault.BoardFault.TheVariants.{TooWide}
-use Rattle.psci_board_text.specs.declared.fault.BoardFault.TheVariants.{BadRange}
-use Rattle.psci_board_text.specs.declared.fault.BoardFault.TheVariants.{BadBoot}
-use Rattle.psci_board_text.specs.declared.fault.BoardFault.TheVariants.{BadLimit}
+use Rattle.psci_board.specs.declared.fault.BoardFault.TheVariants.{Grammar, Uneven}
+use Rattle.psci_board.specs.declared.fault.BoardFault.TheVariants.{TooWide}
+use Rattle.psci_board.specs.declared.fault.BoardFault.TheVariants.{BadRange}
+use Rattle.psci_board.specs.declared.fault.BoardFault.TheVariants.{BadBoot}
+use Rattle.psci_board.specs.declared.fault.BoardFault.TheVariants.{BadLimit}
 use Rattle.psci_script.specs.declared.fault.ScriptFault.TheVariants.{NoBoard}
 use Rattle.psci_script.specs.declared.fault.ReplayFault.TheVariants.{Script, Board}
 use Rattle.psci_script.proofs.Scripts.{IsAnswered, answering, board, text}

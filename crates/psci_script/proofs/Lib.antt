@@ -2,15 +2,18 @@ pub mod Cutting
 pub mod EventLines
 mod FaultRows
 pub mod HexDigits
+pub mod KeptLines
+mod KeptRows
 mod LimitRows
 mod LineRows
 mod NumberRows
 pub mod LineFeeds
-pub mod PartLines
+mod ReadRows
 mod RunRows
 mod ScriptRows
 mod Scripts
 pub mod SpelledLines
 mod SystemRows
 mod TextRows
+mod WordRows
 pub mod Words

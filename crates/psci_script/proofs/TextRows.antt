@@ -4,7 +4,8 @@ use Rattle.std.specs.Prelude.{None, Some, codes}
 use Rattle.std.specs.Fmt.{digits}
 use Rattle.psci_world_spec.specs.psci_claims.psci_parts.declared.part.Part.{Part}
 use Rattle.psci_world_spec.specs.psci_messages.declared.kind.Kind.{Kind}
-use Rattle.psci_world_spec.specs.psci_messages.declared.kind.Kind.TheVariants.{Down, Start, Off, Reset}
+use Rattle.psci_world_spec.specs.psci_messages.declared.kind.Kind.TheVariants.{Down, Start, Off}
+use Rattle.psci_world_spec.specs.psci_messages.declared.kind.Kind.TheVariants.{Reset}
 use Rattle.psci_world_spec.specs.psci_fw_spec.declared.outcome.Act.{Act}
 use Rattle.psci_world_spec.specs.psci_fw_spec.declared.outcome.Act.TheVariants.{Return, Stop, Enter}
 use Rattle.psci_world_spec.specs.psci_fw_spec.declared.outcome.Act.TheVariants.{Resume}

@@ -3,8 +3,8 @@ use Rattle.std.specs.Prelude.{ℕ, ◌+◌, List, [], ◌∷◌, ◌++◌, lengt
 use Rattle.std.specs.Prelude.{None, Some, Result, Ok, Err, codes}
 use Rattle.psci_world_spec.specs.psci_board.Board.{BoardValue}
 use Rattle.psci_text.specs.Reading.{literal_at}
-use Rattle.psci_board_text.specs.Verdict.{board_of}
-use Rattle.psci_board_text.specs.declared.fault.BoardFault.{BoardFault}
+use Rattle.psci_board.specs.Verdict.{board_of}
+use Rattle.psci_board.specs.declared.fault.BoardFault.{BoardFault}
 use Rattle.psci_world_spec.specs.declared.said.Record.{Record}
 use Rattle.psci_world_spec.specs.Legal.{legal, legal_record}
 use Rattle.psci_script.specs.declared.grammar.Line.{Line as LineSays}

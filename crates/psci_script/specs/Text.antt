@@ -7,7 +7,8 @@ use Rattle.psci_world_spec.specs.psci_fw_spec.declared.outcome.Act.TheVariants.{
 use Rattle.psci_world_spec.specs.psci_fw_spec.declared.outcome.Act.TheVariants.{Resume}
 use Rattle.psci_world_spec.specs.psci_claims.psci_parts.declared.part.Part.{Part}
 use Rattle.psci_world_spec.specs.psci_messages.declared.kind.Kind.{Kind}
-use Rattle.psci_world_spec.specs.psci_messages.declared.kind.Kind.TheVariants.{Down, Start, Off, Reset}
+use Rattle.psci_world_spec.specs.psci_messages.declared.kind.Kind.TheVariants.{Down, Start, Off}
+use Rattle.psci_world_spec.specs.psci_messages.declared.kind.Kind.TheVariants.{Reset}
 use Rattle.psci_world_spec.specs.psci_messages.declared.taken.Taken.{Taken}
 use Rattle.psci_world_spec.specs.psci_messages.declared.taken.Taken.TheVariants.{Used, Old}
 use Rattle.psci_world_spec.specs.psci_messages.Message.{AckValue}

@@ -2,7 +2,7 @@
 
 ghost use Rattle.std.specs.Prelude.{◌≡◌};
 
-use psci_board_text::BoardFault;
+use psci_board::BoardFault;
 use psci_world_spec::Memory;
 use std::alloc::AllocError;
 use thiserror::Error;

@@ -1,6 +1,7 @@
 //! What holds of the definitions alone.
 
 ghost use Rattle.psci_script.specs.EventText.{ReadsAsSpelled, SpellsWhatItSays};
+ghost use Rattle.psci_script.specs.Kept.{ReadsAsKept};
 
 use psci_text::law_text;
 
@@ -14,4 +15,12 @@ pub fn law_event_lines()
     ensures spelled { SpellsWhatItSays }
 {
     law_text();
+}
+
+/// The kept line of each event whose numbers have 64 bits is read as this event again. So a replay
+/// of a kept script makes the events happen that were kept, in their order.
+pub fn law_kept_lines()
+    ensures { ReadsAsKept }
+{
+    law_event_lines();
 }

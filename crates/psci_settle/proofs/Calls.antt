@@ -8,7 +8,8 @@ use Rattle.psci_ctl_spec.specs.Values as controlled
 use Rattle.psci_ctl_spec.specs.psci_messages.declared.kind.Kind.{Kind}
 use Rattle.psci_ctl_spec.specs.psci_messages.declared.kind.Kind.TheVariants as kinds
 use Rattle.psci_ctl_spec.specs.psci_messages.Message.{AckValue, MessageValue}
-use Rattle.psci_ctl_spec.specs.psci_messages.Slots.{Clear, OfCore, OfSystem, changed, is_kind, slot_of}
+use Rattle.psci_ctl_spec.specs.psci_messages.Slots.{Clear, OfCore, OfSystem, changed, is_kind}
+use Rattle.psci_ctl_spec.specs.psci_messages.Slots.{slot_of}
 use Rattle.psci_world_laws.specs.psci_fw_spec.declared.outcome.Act.{Act}
 use Rattle.psci_world_laws.specs.psci_fw_spec.declared.outcome.Act.TheVariants as acts
 use Rattle.psci_world_laws.specs.psci_fw_spec.After.{change}

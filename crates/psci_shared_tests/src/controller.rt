@@ -5,7 +5,6 @@ ghost use Rattle.psci_board.specs.Board.{cores};
 
 use crate::named::BOARD;
 use psci_board::Board;
-use psci_board_text::ReadBoard;
 use psci_fw::Cause;
 use psci_shared_ctl::{Core, CtlPass, Kick, Named, SharedController, Start, Tickets};
 use std::alloc::Global;

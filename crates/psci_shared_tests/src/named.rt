@@ -9,7 +9,6 @@ use crate::held::poll_while_held;
 use crate::passes::{full_books, statuses_are_read, three_calls, too_many};
 use crate::threads::{poll_in_two_threads, two_threads};
 use psci_board::Board;
-use psci_board_text::ReadBoard;
 use psci_shared::{Named, SharedFirmware, StatusWords, Tickets, Writer};
 use std::alloc::Global;
 use std::marker::Brand;

@@ -33,6 +33,13 @@ struct ArgumentsText<'a> {
     request: Request,
 }
 
+/// The arguments of a function that says where a core enters; those of any other are none.
+#[derive(Clone, Copy)]
+struct OpeningText<'a> {
+    board: &'a Board,
+    request: Request,
+}
+
 /// A mode of PSCI_SET_SUSPEND_MODE.
 #[derive(Clone, Copy)]
 struct ModeText(u32);
@@ -103,7 +110,7 @@ impl fmt::Display for ModeText {
     }
 }
 
-impl fmt::Display for ArgumentsText<'_> {
+impl fmt::Display for OpeningText<'_> {
     fn fmt<W: fmt::Write>(&self, f: &mut fmt::Formatter<W>) -> fmt::Result {
         let board = self.board;
         match self.request {
@@ -116,17 +123,25 @@ impl fmt::Display for ArgumentsText<'_> {
                 write!(f, " {}", StateText { board, state, back })
             }
             Request::CpuOn {
-                target: word,
+                target,
                 entry,
                 context,
             } => {
-                let target = TargetText {
-                    board,
-                    word,
-                    level: 0,
-                };
-                write!(f, " of {target}, {}", EntryText { entry, context })
+                let core = core_target(board, target);
+                write!(f, " of {core}, {}", EntryText { entry, context })
             }
+            Request::SystemSuspend { entry, context } => {
+                write!(f, " {}", EntryText { entry, context })
+            }
+            _ => Ok(()),
+        }
+    }
+}
+
+impl fmt::Display for ArgumentsText<'_> {
+    fn fmt<W: fmt::Write>(&self, f: &mut fmt::Formatter<W>) -> fmt::Result {
+        let ArgumentsText { board, request } = *self;
+        match request {
             Request::AffinityInfo {
                 target: word,
                 level,
@@ -136,11 +151,10 @@ impl fmt::Display for ArgumentsText<'_> {
                 level,
             } => write!(f, " of {}", TargetText { board, word, level }),
             Request::Features { word } => write!(f, " of {}", FunctionText(u64::from(word))),
-            Request::SystemSuspend { entry, context } => {
-                write!(f, " {}", EntryText { entry, context })
-            }
             Request::SetSuspendMode { mode } => write!(f, " {}", ModeText(mode)),
             Request::SystemReset2 { reset_type, .. } => write!(f, " of type 0x{reset_type:x}"),
+            Request::CpuSuspend { .. } | Request::CpuOn { .. } | Request::SystemSuspend { .. } =>
+                OpeningText { board, request }.fmt(f),
             Request::Version
             | Request::CpuOff
             | Request::MigrateInfoType
@@ -148,6 +162,15 @@ impl fmt::Display for ArgumentsText<'_> {
             | Request::SystemReset
             | Request::Unknown => Ok(()),
         }
+    }
+}
+
+/// The core that an affinity word names.
+fn core_target(board: &Board, word: u64) -> TargetText<'_> {
+    TargetText {
+        board,
+        word,
+        level: 0,
     }
 }
 

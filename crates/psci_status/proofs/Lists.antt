@@ -2,12 +2,11 @@
 use Rattle.std.proofs.Common.{◌≡◌, ◌≢◌, inl, inr, ℕ, zero, suc, ◌+◌, ◌*◌, ◌/◌, ◌%◌, ◌<◌}
 use Rattle.std.proofs.Common.{List, [], ◌∷◌, length, map, Bool, true, false}
 use Rattle.std.proofs.Common.{refl, sym, ap, ◌∙◌, subst, ⊎_elim, arith}
-use Rattle.std.specs.Prelude.{slice_index, slice_set, nat_lt, ◌==◌, if◌then◌else◌}
+use Rattle.std.specs.Prelude.{slice_index, slice_set, nat_lt, if◌then◌else◌}
 use Rattle.std.proofs.lemmas.Bool.Decides.{nat_tests}
 use Rattle.psci_fw_spec.specs.declared.status.Status.{Status}
 use Rattle.psci_fw_spec.specs.declared.status.Status.TheVariants.{On, Off, Pending}
 use Rattle.psci_fw_spec.specs.AffinityInfo.{status_code}
-use Rattle.psci_fw_spec.specs.Statuses.{added}
 use Rattle.psci_status.specs.Lists.{Item, row, Stands, Within, Rises, gain, gain_from, gains}
 use Rattle.psci_status.specs.Lists.{newest, Begins, IsWord, item_of, IsLast, status_of}
 
@@ -189,41 +188,6 @@ row_set_else (x ∷ xs) zero zero y n = absurd (n refl)
 row_set_else (x ∷ xs) zero (suc d) y n = refl
 row_set_else (x ∷ xs) (suc c) zero y n = refl
 row_set_else (x ∷ xs) (suc c) (suc d) y n = row_set_else xs c d y (λ e. n (ap suc e))
-
-added_same_if : (s t : Status) (ss : List Status) (b : Bool) → (status_code s == status_code t) ≡ b
-    → s ≡ t → (if b then t ∷ ss else s ∷ t ∷ ss) ≡ t ∷ ss
-added_same_if s t ss true e same = refl
-added_same_if s t ss false e same = absurd
-    (differs (status_code s) (status_code t) e (ap status_code same))
-  where
-    differs : (a b : ℕ) → (a == b) ≡ false → a ≡ b → ⊥
-    differs a b e same = grind (arith, nat_tests)
-
--- the last status is not written again
-pub added_same : (s : Status) (log rest : List Status) (t : Status) → log ≡ t ∷ rest → s ≡ t
-    → added s log ≡ log
-added_same s log rest t is same =
-    subst (λ (l : List Status). added s l ≡ l) (sym is)
-    (added_same_if s t rest (status_code s == status_code t) refl same)
-
-added_new_if : (s t : Status) (ss : List Status) (b : Bool) → (status_code s == status_code t) ≡ b
-    → (s ≡ t → ⊥) → (if b then t ∷ ss else s ∷ t ∷ ss) ≡ s ∷ t ∷ ss
-added_new_if s t ss true e apart = absurd
-    (apart (code_apart s t (same_code (status_code s) (status_code t) e)))
-  where
-    same_code : (a b : ℕ) → (a == b) ≡ true → a ≡ b
-    same_code a b e = grind (arith, nat_tests)
-
-    code_apart : (s t : Status) → status_code s ≡ status_code t → s ≡ t
-    code_apart s t e = sym (status_of_code s) ∙ ap status_of e ∙ status_of_code t
-added_new_if s t ss false e apart = refl
-
--- another status is written
-pub added_new : (s : Status) (log rest : List Status) (t : Status) → log ≡ t ∷ rest → (s ≡ t → ⊥)
-    → added s log ≡ s ∷ log
-added_new s log rest t is apart =
-    subst (λ (l : List Status). added s l ≡ s ∷ l) (sym is)
-    (added_new_if s t rest (status_code s == status_code t) refl apart)
 
 -- what the writer was told stands in its log, so what it tells is the last that is seen
 last_of : (L : ℕ → List Status) (a b : List (List Item)) → ((d : ℕ) → Within (L d) (row a d))

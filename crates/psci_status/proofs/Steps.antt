@@ -274,15 +274,8 @@ stores_as n slots id c new m empty writes small next = subst
     (λ _. Stored (step slots c new 0 none) (m.0, x) new)) (sym empty)
     (stores n slots id c new m.0 writes small next)
 
--- a note that a reader takes in
-pub informed_reader : (v w : View) → v.writer ≡ false → (informed v w).seen ≡ gains v.seen w.seen
-informed_reader v w e = ap (λ (b : Bool). if b then v.seen else gains v.seen w.seen) e
-
 pub note_of_writer : (v : View) → v.writer ≡ true → (note_of v).seen ≡ map newest v.log
 note_of_writer v e = ap (λ (b : Bool). if b then map newest v.log else v.seen) e
 
 pub note_of_reader : (v : View) → v.writer ≡ false → (note_of v).seen ≡ v.seen
 note_of_reader v e = ap (λ (b : Bool). if b then map newest v.log else v.seen) e
-
-pub informed_writer : (v w : View) → v.writer ≡ true → (informed v w).told ≡ w.seen
-informed_writer v w e = ap (λ (b : Bool). if b then w.seen else v.told) e

@@ -6,12 +6,12 @@ use Rattle.std.specs.Prelude.{IfOk, Result}
 use Rattle.psci_world.specs.psci_board.Board.{BoardValue}
 use Rattle.psci_world.specs.psci_board.declared.memory.Memory.{Memory}
 use Rattle.psci_world.specs.Safe.{AlwaysSafe}
-use Rattle.psci_settling.specs.Settling.{is_halting, settled}
+use Rattle.psci_world.specs.Settling.{is_halting, settled}
 use Rattle.psci_storm.specs.declared.outcome.Storm.{Storm}
 use Rattle.psci_storm.specs.Storm.{IsBlown, IsCutShort, IsDrawn, IsStorm}
-use Rattle.psci_settling.specs.declared.settling.Settled.{Settled}
-use Rattle.psci_settling.specs.declared.settling.Settled.TheVariants.{Halting, Quiet}
-use Rattle.psci_settling.specs.Settles.{ComesToRest, IsOnTheWay, SettlesBy}
+use Rattle.psci_world.specs.declared.settling.Settled.{Settled}
+use Rattle.psci_world.specs.declared.settling.Settled.TheVariants.{Halting, Quiet}
+use Rattle.psci_world.specs.Settles.{ComesToRest, IsOnTheWay, SettlesBy}
 use Rattle.psci_world.specs.psci_world_spec.declared.event.Event.{Event}
 use Rattle.psci_world.specs.psci_world_spec.declared.said.Record.{Record}
 use Rattle.psci_world.specs.psci_world_spec.Histories.{sent}

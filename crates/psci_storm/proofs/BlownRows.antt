@@ -6,10 +6,10 @@ use Rattle.std.proofs.lemmas.List.Sums.{AllPass-from_list_all}
 use Rattle.std.specs.Prelude.{Bool, ◌==◌, drop, if◌then◌else◌, take}
 use Rattle.psci_world.specs.psci_board.Board.{size_below}
 use Rattle.psci_storm.specs.Storm.{IsBlown}
-use Rattle.psci_settling.specs.declared.settling.Settled.{Settled}
-use Rattle.psci_settling.specs.declared.settling.Settled.TheVariants.{Halting, Quiet}
-use Rattle.psci_settling.specs.Settles.{ComesToRest}
-use Rattle.psci_settling.specs.Settling.{is_halting, settled}
+use Rattle.psci_world.specs.declared.settling.Settled.{Settled}
+use Rattle.psci_world.specs.declared.settling.Settled.TheVariants.{Halting, Quiet}
+use Rattle.psci_world.specs.Settles.{ComesToRest}
+use Rattle.psci_world.specs.Settling.{is_halting, settled}
 use Rattle.psci_world.specs.psci_world_spec.declared.event.Event.{Event}
 use Rattle.psci_world.specs.psci_world_spec.declared.event.Event.TheVariants.{Enter, Deliver, Take}
 use Rattle.psci_world.specs.psci_world_spec.declared.event.Event.TheVariants.{Wake}

@@ -3,8 +3,8 @@ use Rattle.std.proofs.Common.{◌≡◌, ◌∙◌, List, [], ◌∷◌, refl, a
 use Rattle.std.proofs.Common.{length, length-append}
 use Rattle.std.specs.Prelude.{◌++◌, take}
 use Rattle.psci_storm.specs.Storm.{IsCutShort}
-use Rattle.psci_settling.specs.Settles.{IsOnTheWay}
-use Rattle.psci_settling.specs.Settling.{settled}
+use Rattle.psci_world.specs.Settles.{IsOnTheWay}
+use Rattle.psci_world.specs.Settling.{settled}
 use Rattle.psci_world.specs.psci_world_spec.declared.event.Event.TheVariants.{Enter, Deliver}
 use Rattle.psci_world.specs.psci_world_spec.declared.said.Record.{Record}
 use Rattle.psci_world.specs.psci_world_spec.Legal.{run_from}

@@ -3,7 +3,7 @@ use Rattle.std.proofs.Common.{◌≡◌, ◌∙◌, ◌+◌, ◌++◌, ℕ, List
 use Rattle.std.proofs.Common.{length, refl, ap, sym, subst, arith, length-append}
 use Rattle.psci_storm.specs.Storm.{HappensBy, IsDrawn}
 use Rattle.psci_storm.proofs.Blown.{way_on}
-use Rattle.psci_settling.specs.Settling.{begun, is_waiting, round, rounds, settled}
+use Rattle.psci_world.specs.Settling.{begun, is_waiting, round, rounds, settled}
 use Rattle.psci_world.specs.psci_world_spec.declared.event.Event.{Event}
 use Rattle.psci_world.specs.psci_world_spec.declared.event.Event.TheVariants.{Enter, Take, Wake}
 use Rattle.psci_world.specs.psci_world_spec.declared.said.Record.{Record}

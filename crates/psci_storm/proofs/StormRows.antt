@@ -3,8 +3,8 @@ use Rattle.std.proofs.Common.{ℕ, List, [], ◌∷◌, refl, arith}
 use Rattle.psci_storm.specs.declared.outcome.Storm.{Storm}
 use Rattle.psci_storm.specs.Storm.{IsStorm}
 use Rattle.psci_world.specs.Safe.{AlwaysSafe}
-use Rattle.psci_settling.specs.declared.settling.Settled.{Settled}
-use Rattle.psci_settling.specs.declared.settling.Settled.TheVariants.{Halting, Quiet}
+use Rattle.psci_world.specs.declared.settling.Settled.{Settled}
+use Rattle.psci_world.specs.declared.settling.Settled.TheVariants.{Halting, Quiet}
 use Rattle.psci_world.specs.psci_world_spec.declared.event.Event.{Event}
 use Rattle.psci_world.specs.psci_world_spec.declared.event.Event.TheVariants.{Enter}
 use Rattle.psci_world.specs.psci_world_spec.declared.said.Record.{Record}

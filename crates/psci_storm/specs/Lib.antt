@@ -1,4 +1,5 @@
+pub mod Counts
 pub mod Storm
-pub use Rattle.psci_tally.specs.Counts
+pub mod Tallies
 pub use Rattle.psci_world.specs.psci_world_spec.declared.said.Record
-pub use Rattle.psci_settling.specs.declared.settling.Settled
+pub use Rattle.psci_world.specs.declared.settling.Settled

@@ -6,8 +6,7 @@ ghost use Rattle.psci_world.specs.psci_world_spec.declared.said.Record.{Record};
 
 use crate::drawing::draw;
 use crate::outcome::{Storm, StormedWorld};
-use psci_settling::{Settled, settle};
-use psci_world::{Board, Memory, World};
+use psci_world::{Board, Memory, Settled, World, settle};
 use std::alloc::Global;
 
 /// So many events happen in the world, drawn from the seed, and then it settles. Which events are

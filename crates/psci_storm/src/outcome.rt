@@ -3,8 +3,7 @@
 ghost use Rattle.std.specs.Prelude.{◌≡◌, length};
 ghost use Rattle.psci_world.specs.psci_world_spec.Histories.{sent};
 
-use psci_settling::Settled;
-use psci_world::World;
+use psci_world::{Settled, World};
 
 /// What became of a storm.
 #[derive(Clone, Copy, Debug, PartialEq, Eq)]

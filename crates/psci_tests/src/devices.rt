@@ -2,7 +2,7 @@
 
 ghost use Rattle.std.specs.Prelude.{◌≡◌, None, false};
 
-use psci_bench::{Io, Sink, Source};
+use psci_answers::{Io, Sink, Source};
 use std::alloc::Global;
 
 /// A script in memory. A read after its end fails.

@@ -3,7 +3,6 @@
 use crate::answer::Answer;
 use psci_abi::Regs;
 use psci_board::{Board, Core, Node};
-use psci_board_text::ReadBoard;
 use psci_fw::{Cause, Firmware, FwFault, Hw, Start, Status};
 use psci_messages::{Ack, Kind, Taken};
 use std::alloc::Global;

@@ -16,6 +16,8 @@ mod replays;
 #[cfg(test)]
 mod runs;
 #[cfg(test)]
+mod scripts;
+#[cfg(test)]
 mod standard;
 #[cfg(test)]
 mod storms;

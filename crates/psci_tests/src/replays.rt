@@ -2,124 +2,12 @@
 //! event, and whole: many messages, many cores and many events.
 
 use crate::devices::{Page, Script};
-use psci_bench::{ReplayFault, Replayed, ScriptFault, replay};
-use std::alloc::{AllocError, Global};
-
-/// One core enters and asks for the version.
-pub const SCRIPT: &[u8] =
-    b"board (2 2) exec 0x40000000-0x40100000 boot 0x40000000 starts 1000 lives 3\n\
-      enter 0\ncall 0 0x84000000\n";
-
-/// The script up to its second line, line feed and all.
-const ENTRY: &[u8] = b"board (2 2) exec 0x40000000-0x40100000 boot 0x40000000 starts 1000 lives 3\n\
-      enter 0\n";
-
-/// A script whose last line has no line feed.
-const CUT: &[u8] = b"board (2 2) exec 0x40000000-0x40100000 boot 0x40000000 starts 1000 lives 3\n\
-      enter 0\ncall 0 0x8400";
-
-/// The answers to the script.
-pub const TEXT: &[u8] = b"1 enter 0x40000000 0x0\n2 return 65537\n";
-
-/// The whole script was replayed.
-pub const WHOLE: Replayed = Replayed {
-    lines: 3,
-    events: 2,
+use crate::scripts::{
+    CUT, ENTRY, FIRST, FIRST_TEXT, LIVES, LIVES_TEXT, MESSAGE_TEXT, MESSAGES, SCRIPT, STALE,
+    STALE_TEXT, TEXT, WHOLE,
 };
-
-/// The Down of a core that was woken since is stale, and its acknowledgement is old.
-const STALE: &[u8] = b"board (2 2) exec 0x40000000-0x40100000 boot 0x40000000 starts 1000 lives 3\n\
-      enter 0\n\
-      call 0 0xc4000003 0x101 0x40001000 0x7\n\
-      call 0 0xc4000004 0x101 0\n\
-      deliver 0\n\
-      enter 3\n\
-      call 3 0x84000002\n\
-      wake 3\n\
-      enter 3\n\
-      deliver 1\n\
-      take 1\n\
-      deliver 2\n\
-      take 2\n";
-
-const STALE_TEXT: &[u8] = b"1 enter 0x40000000 0x0\n\
-      2 return 0 #0 start 3 life 1 number 0\n\
-      3 return 2\n\
-      4 ack #0 applied 1\n\
-      5 enter 0x40001000 0x7\n\
-      6 stop #1 down 3 life 1 number 1 parts 0:3:1 1:3:1\n\
-      7 started 2\n\
-      8 stop #2 down 3 life 1 number 2 parts 0:3:2 1:3:2\n\
-      9 ack #1 applied 0 stale\n\
-      10 old\n\
-      11 ack #2 applied 2\n\
-      12 used\n";
-
-/// In a new life nothing means anything that was said in the last one.
-const LIVES: &[u8] = b"board (2 2) exec 0x40000000-0x40100000 boot 0x40000000 starts 1000 lives 3\n\
-      enter 0\n\
-      call 0 0xc4000003 0x101 0x40001000 0x7\n\
-      call 0 0xc4000004 0x101 0\n\
-      deliver 0\n\
-      enter 3\n\
-      call 3 0xc4000001 0x1\n\
-      wake 3\n\
-      enter 3\n\
-      call 0 0x84000009\n\
-      deliver 2\n\
-      call 3 0x84000000\n\
-      deliver 1\n\
-      enter 0\n\
-      call 0 0xc4000004 0x101 0\n\
-      take 1\n";
-
-const LIVES_TEXT: &[u8] = b"1 enter 0x40000000 0x0\n\
-      2 return 0 #0 start 3 life 1 number 0\n\
-      3 return 2\n\
-      4 ack #0 applied 1\n\
-      5 enter 0x40001000 0x7\n\
-      6 stop #1 down 3 life 1 number 1 parts 0:1:1\n\
-      7 started 2\n\
-      8 resume 0\n\
-      9 stop #2 reset 0 life 1 number 1\n\
-      10 ack #1 applied 1\n\
-      11 ignored\n\
-      12 ignored\n\
-      13 enter 0x40000000 0x0\n\
-      14 return 1\n\
-      15 old\n";
-
-/// What is answered before any call, and a line with two numbers.
-const FIRST: &[u8] = b"board (2 2) exec 0x40000000-0x40100000 boot 0x40000000 starts 1000 lives 3\n\
-      deliver 0\n\
-      take 0\n\
-      wake 9\n\
-      wake 0\n\
-      reset 0\n\
-      enter 0\n\
-      deliver 0 0\n";
-
-const FIRST_TEXT: &[u8] =
-    b"1 absent\n2 absent\n3 absent\n4 ignored\n5 started 2\n6 enter 0x40000000 0x0\n";
-
-/// On a board of 256 cores five others are asked on, the last one among them.
-const MESSAGES: &[u8] = b"board (16 16 16 16 16 16 16 16 16 16 16 16 16 16 16 16) \
-      exec 0x40000000-0x40100000 boot 0x40000000 starts 1000 lives 3\n\
-      enter 0\n\
-      call 0 0xc4000003 0x1 0x40001000 7\n\
-      call 0 0xc4000003 0x2 0x40001000 7\n\
-      call 0 0xc4000003 0x3 0x40001000 7\n\
-      call 0 0xc4000003 0x4 0x40001000 7\n\
-      call 0 0xc4000003 0xf0f 0x40001000 7\n\
-      call 0 0xc4000004 0xf0f 0\n";
-
-const MESSAGE_TEXT: &[u8] = b"1 enter 0x40000000 0x0\n\
-      2 return 0 #0 start 1 life 1 number 0\n\
-      3 return 0 #1 start 2 life 1 number 0\n\
-      4 return 0 #2 start 3 life 1 number 0\n\
-      5 return 0 #3 start 4 life 1 number 0\n\
-      6 return 0 #4 start 255 life 1 number 0\n\
-      7 return 2\n";
+use psci_answers::{ReplayFault, Replayed, ScriptFault, replay};
+use std::alloc::{AllocError, Global};
 
 /// How many calls the long script has after its entry.
 const CALLS: usize = 10_001;

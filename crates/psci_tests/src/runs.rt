@@ -4,7 +4,6 @@
 use crate::answer::Answer;
 use psci_abi::Regs;
 use psci_board::{Board, Core};
-use psci_board_text::ReadBoard;
 use psci_machine::Machine;
 use psci_messages::{Ack, Kind, Taken};
 use psci_world::{Cause, Event, Place, Record, Said, Start, run};

@@ -1,7 +1,7 @@
 //! Scripts replayed between a reader and a writer of the standard library.
 
-use crate::replays::{SCRIPT, TEXT, WHOLE};
-use psci_bench::{ReplayFault, Replayed, Std, replay};
+use crate::scripts::{SCRIPT, TEXT, WHOLE};
+use psci_answers::{ReplayFault, Replayed, Std, replay};
 use std::alloc::Global;
 use std::io::{self, ErrorKind, Read, Write};
 

@@ -2,9 +2,7 @@
 
 use crate::worlds::agrees;
 use psci_board::Board;
-use psci_board_text::ReadBoard;
-use psci_storm::{Settled, Storm, blow, storm};
-use psci_tally::{Answer, TALLIES, Tally, count};
+use psci_storm::{Answer, Settled, Storm, TALLIES, Tally, blow, count, storm};
 use psci_world::World;
 use std::process::Abort;
 use std::test::Fail;

@@ -2,11 +2,9 @@
 
 use psci_abi::Regs;
 use psci_board::{Board, Core, Node};
-use psci_board_text::ReadBoard;
 use psci_fw::Firmware;
 use psci_machine::Machine;
-use psci_settling::{Settled, settle};
-use psci_world::{Event, Place, World};
+use psci_world::{Event, Place, Settled, World, settle};
 use std::alloc::Global;
 use std::test::Fail;
 

@@ -4,7 +4,6 @@ use crate::lossy::{Travel, travelled};
 use crate::meeting::Meeting;
 use crate::serving::serve;
 use psci_board::Board;
-use psci_board_text::ReadBoard;
 use psci_threads::{BenchFault, Gate, OpenGate, Threaded, calls_of, threads};
 use psci_world::World;
 use std::alloc::Global;

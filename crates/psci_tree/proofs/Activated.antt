@@ -1,5 +1,6 @@
 -- What is kept of some cores, once one of them is active.
-use Rattle.std.proofs.Common.{◌≡◌, ℕ, zero, suc, ◌+◌, ◌-◌, ◌*◌, ◌^◌, ◌<◌, ◌≤◌, List, [], ◌∷◌, length}
+use Rattle.std.proofs.Common.{◌≡◌, ℕ, zero, suc, ◌+◌, ◌-◌, ◌*◌, ◌^◌, ◌<◌, ◌≤◌, List, [], ◌∷◌}
+use Rattle.std.proofs.Common.{length}
 use Rattle.std.proofs.Common.{get_or, take, cond, arith, ap, ◌∙◌, length-append}
 use Rattle.std.proofs.Math.ListN.{set}
 use Rattle.std.specs.List.{sum_by, count_by}
@@ -43,7 +44,8 @@ pub recount_activated : (cs : List CoreState) (j : ℕ) (b s : CoreState) (k bef
     → Keeps before (b ∷ []) → Keeps after (s ∷ [])
     → kept_activated k before after ≡ recount (set cs j s)
 recount_activated cs j b s k before after h a is own was new =
-    let known : k.known - before.known + after.known ≡ sum_by (λ (c : CoreState). c.known) (set cs j s) =
+    let known : k.known - before.known + after.known
+    ≡ sum_by (λ (c : CoreState). c.known) (set cs j s) =
     moved (λ (c : CoreState). c.known) cs j b s k.known before.known after.known h is
     (ap (λ (i : Kept). i.known) own.counted) (ap (λ (i : Kept). i.known) was.counted)
     (ap (λ (i : Kept). i.known) new.counted) in

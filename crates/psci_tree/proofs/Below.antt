@@ -11,7 +11,8 @@ use Rattle.std.proofs.lemmas.List.Folds.{flat_map-map}
 use Rattle.psci_tree.specs.Recount.{least, asks}
 use Rattle.psci_tree.specs.Kept.{low_in}
 use Rattle.psci_tree.specs.declared.kept.Kept.{Kept}
-use Rattle.psci_tree.specs.Domains.{leaves, cores_from, cores_step, cores_in, branches, child_counts}
+use Rattle.psci_tree.specs.Domains.{leaves, cores_from, cores_step, cores_in, branches}
+use Rattle.psci_tree.specs.Domains.{child_counts}
 use Rattle.psci_state.specs.declared.cores.CoreState.{CoreState}
 use Rattle.psci_tree.specs.declared.domain.Domain.{Domain}
 use Rattle.psci_tree.specs.declared.domain.Domain.TheOpen.{Domain-F}
@@ -108,7 +109,8 @@ low-append level (x ∷ xs) ys = omega (arith, low-append level xs ys)
 -- Another core -------------------------------------------------------------------------------
 
 pub cores_set : (ns : List Domain) (i rest place : ℕ) (d m : Domain) (s : CoreState) → i < length ns
-    → length (cores_in (take i ns)) + rest ≡ place → rest < length (leaves (get_or ns i d)) → leaves m
+    → length (cores_in (take i ns)) + rest ≡ place → rest < length (leaves (get_or ns i d))
+    → leaves m
     ≡ set (leaves (get_or ns i d)) rest s → cores_in (set ns i m) ≡ set (cores_in ns) place s
 cores_set [] i rest place d m s h e r q = absurd (omega arith)
 cores_set (n ∷ ns) zero rest place d m s h e r q =

@@ -59,7 +59,8 @@ pub at_top : (root : Domain) (levels : List (List ℕ)) (core l : ℕ) (d : Doma
     → get_or (domains_down (length levels - l) root) (place_above levels l core) d ≡ root
 at_top root levels core l d t i e =
     let none : length levels - l ≡ 0 = omega (arith, e) in
-    let one : size_below (drop l levels) ≡ 1 = ap size_below (drop_all l levels (omega (arith, e))) in
+    let one : size_below (drop l levels) ≡ 1 =
+    ap size_below (drop_all l levels (omega (arith, e))) in
     let first : place_above levels l core ≡ 0 =
     omega (arith, place_lt levels l core t (omega (arith, e)) i, one) in
     ap (λ k. get_or (domains_down k root) (place_above levels l core) d) none

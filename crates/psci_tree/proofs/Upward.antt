@@ -5,17 +5,17 @@ use Rattle.std.proofs.Common.{drop-cons}
 use Rattle.std.proofs.Common.{Bool, true, false, cond, ◌&&◌, ltb}
 use Rattle.std.specs.Prelude.{Some, None, unwrap_or}
 use Rattle.std.specs.List.{flat_map}
-use Rattle.std.proofs.lemmas.Bool.{ltb-true, ltb-false, lt-ltb}
-use Rattle.std.proofs.lemmas.List.{take-map, length-map, get_or-map, drop_all, length-drop}
+use Rattle.std.proofs.lemmas.Bool.{ltb-true, lt-ltb}
+use Rattle.std.proofs.lemmas.List.{take-map, length-map, get_or-map, length-drop}
 use Rattle.std.proofs.lemmas.List.Concat.{get_or-flat_map, length-flat_map}
 use Rattle.std.proofs.lemmas.List.Sums.{sum-map}
 use Rattle.psci_board.specs.declared.node.Node.{Node}
 use Rattle.psci_board.specs.Board.{BoardValue, IsTree, HasNodeIn, size_below, group_of, index_in}
-use Rattle.psci_board.specs.Board.{height, nodes, parent, child_number, place_above}
+use Rattle.psci_board.specs.Board.{height, nodes, parent, child_number}
 use Rattle.psci_tree.specs.Domains.{branches, child_count, domains_down, HasShape}
 use Rattle.psci_tree.specs.declared.domain.Domain.{Domain}
 use Rattle.psci_tree.proofs.Places.{Counted, counted}
-use Rattle.psci_tree.proofs.Granted.{tree_drop, parent_is, above_lt}
+use Rattle.psci_tree.proofs.Granted.{tree_drop}
 use Rattle.psci_tree.proofs.Valid.{both_tests}
 use Rattle.psci_tree.proofs.Slices.{down_step, widths_are}
 
@@ -83,37 +83,6 @@ below_node b n e =
     let tests = both_tests (ltb n.level (height b)) (ltb n.place (nodes b n.level)) e in
     (ltb-true _ _ tests.0, ltb-true _ _ tests.1)
 
--- the parent of a node
-pub record IsParent (levels : List (List ℕ)) (n m : Node) : Type 0 where
-  pub level : m.level ≡ n.level + 1
-  pub place : m.place ≡ place_above (drop n.level levels) 1 n.place
-  pub fits : n.level < length levels
-  pub node : HasNodeIn levels m
-
-pub is_parent : (b : BoardValue) (n m : Node) → IsTree b.levels → parent b n ≡ Some m
-    → IsParent b.levels n m
-is_parent b n m t e =
-    let levels : List (List ℕ) = b.levels in
-    let up : Node = record {
-      level = n.level + 1;
-      place = group_of (get_or levels n.level []) n.place;
-    } in
-    let p = some_of (ltb n.level (height b) && ltb n.place (nodes b n.level)) up m e in
-    let in' = below_node b n p.0 in
-    let within : n.level < length levels = in'.0 in
-    let above : place_above (drop n.level levels) 1 n.place
-    ≡ group_of (get_or levels n.level []) n.place = parent_is levels n.level n.place within in
-    let step : IsParent levels n up = record {
-      level = refl;
-      place = sym above;
-      fits = within;
-      node = record {
-        level = omega arith;
-        place = rw add-one (rw above at (above_lt levels n.level n.place t in'.1));
-      };
-    } in
-    subst (λ x. IsParent levels n x) p.1 step
-
 shape_drop : (n : Domain) (levels : List (List ℕ)) (l : ℕ) → HasShape n levels
     → HasShape n (drop l levels)
 shape_drop n levels zero h = h
@@ -161,24 +130,6 @@ steps_down root b n m k t h e f =
     } in
     subst (λ x. StepsDown root levels n m x) q.1
     (subst (λ x. StepsDown root levels n x (index_in w n.place)) p.1 step)
-
--- a node without a parent is the system
-pub top_node : (b : BoardValue) (n : Node) → HasNodeIn b.levels n → parent b n ≡ None
-    → (n.level ≡ length b.levels) × (n.place ≡ 0)
-top_node b n h e =
-    let here : ltb n.place (nodes b n.level) ≡ true = lt-ltb _ _ h.place in
-    let off = none_of (ltb n.level (height b) && ltb n.place (nodes b n.level))
-    (record { level = n.level + 1; place = group_of (get_or b.levels n.level []) n.place }) e in
-    let over : ltb n.level (height b) ≡ false = first_fails _ _ here off in
-    let top : n.level ≡ length b.levels =
-    omega (arith, ltb-false n.level (height b) over, h.level) in
-    let one : size_below (drop n.level b.levels) ≡ 1 =
-    ap size_below (drop_all n.level b.levels (omega arith)) in
-    (top, omega (arith, h.place, one))
-  where
-    first_fails : (a c : Bool) → c ≡ true → (a && c) ≡ false → a ≡ false
-    first_fails true c p q = absurd (let no : true ≡ false = sym p ∙ q in cc)
-    first_fails false c p q = refl
 
 both_some : {X : Type 0} (a c : Bool) (x : X) → a ≡ true → c ≡ true
     → cond (a && c) (Some x) None ≡ Some x

@@ -3,7 +3,6 @@ use Rattle.std.specs.Prelude.{◌≡◌, ℕ, ◌+◌, ◌-◌, ◌<◌, ◌≤�
 use Rattle.std.specs.Prelude.{map, replicate, slice_set, slice_index_or, ◌==◌, if◌then◌else◌}
 use Rattle.psci_board.specs.declared.node.Node.{Node}
 use Rattle.psci_board.specs.Board.{size_below, group_of, place_above}
-use Rattle.psci_state.specs.declared.cores.CoreState.{CoreState}
 use Rattle.psci_state.specs.declared.cores.Activity.{Activity}
 use Rattle.psci_state.specs.declared.cores.Activity.TheVariants.{Active, Suspended, Off}
 pub use Rattle.psci_state.specs.Cores.{core_changed}

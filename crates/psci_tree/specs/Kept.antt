@@ -1,12 +1,12 @@
 -- What a domain keeps of the cores below it, so that they need not be counted again.
-use Rattle.std.specs.Prelude.{◌≡◌, ℕ, ◌+◌, ◌-◌, ◌*◌, ◌^◌, ◌≤◌, min, List, [], ◌∷◌, length, map}
-use Rattle.std.specs.Prelude.{slice_index}
+use Rattle.std.specs.Prelude.{◌≡◌, ℕ, ◌+◌, ◌-◌, ◌*◌, ◌^◌, ◌<◌, ◌≤◌, min, List, [], ◌∷◌, length, map}
+use Rattle.std.specs.Prelude.{slice_index, slice_index_or, sum}
 use Rattle.std.specs.List.{All, sum_by, count_by, flat_map}
 use Rattle.psci_state.specs.declared.cores.CoreState.{CoreState}
 use Rattle.psci_tree.specs.declared.kept.Kept.{Kept}
 use Rattle.psci_tree.specs.declared.domain.Domain.{Domain, out-Domain}
 use Rattle.psci_tree.specs.Recount.{asks, is_active, is_off, least}
-use Rattle.psci_tree.specs.Domains.{leaves, domains_down}
+use Rattle.psci_tree.specs.Domains.{cores_in, leaves, domains_down}
 
 -- the least ask of these cores at a level
 abbrev pub low_in : ℕ → List CoreState → ℕ
@@ -63,3 +63,10 @@ pub record AreKept (ns : List Domain) : Type 0 where
 -- so it is with a domain and with all domains below it
 pub record IsKept (n : Domain) : Type 0 where
   pub each : (levels : ℕ) → All IsRecount (domains_down levels n)
+
+-- a row of all domains of one level of a tree, each of which is to be a child of the next
+pub record IsRow (levels : List (List ℕ)) (below : ℕ) (row : List Domain) : Type 0 where
+  pub level : below < length levels
+  pub kept : AreKept row
+  pub few : length (cores_in row) < 2 ^ 16
+  pub children : sum (slice_index_or levels below []) ≡ length row

@@ -1,10 +1,13 @@
 -- The ways from the system down to all cores.
-use Rattle.std.specs.Prelude.{◌≡◌, ℕ, ◌<◌, ◌≤◌, List, ◌++◌, length, take, drop}
+use Rattle.std.specs.Prelude.{◌≡◌, ℕ, ◌<◌, ◌≤◌, List, ◌++◌, length, map, take, drop}
 use Rattle.std.specs.Prelude.{slice_index, slice_index_or}
-use Rattle.psci_board.specs.Board.{place_above, size_below}
+use Rattle.psci_board.specs.Board.{IsTree, place_above, size_below}
+use Rattle.psci_tree.specs.declared.domain.Domain.{Domain}
 use Rattle.psci_tree.specs.declared.way.Way.{Way}
 use Rattle.psci_tree.specs.Changes.{path_cleared}
-use Rattle.psci_tree.specs.Domains.{IsWayTo}
+use Rattle.psci_tree.specs.Domains.{IsWayTo, IsWhole}
+use Rattle.psci_tree.specs.Kept.{IsKept}
+use Rattle.psci_tree.specs.Recount.{level_sizes}
 
 -- of each domain on the path of a core, the number among its siblings, and the place
 pub record IsWayOf (levels : List (List ℕ)) (core : ℕ) (way : Way) : Type 0 where
@@ -22,3 +25,23 @@ pub record AreWays (levels : List (List ℕ)) (ways : List Way) : Type 0 where
 abbrev pub cleared_from : List (List ℕ) → ℕ → ℕ → List (List ℕ) → List (List ℕ)
 cleared_from levels core level rows = take level rows
     ++ path_cleared (drop level levels) (place_above levels level core) (drop level rows)
+
+-- a way that leads to a core of these levels, which are those of a board
+pub record LeadsTo (levels : List (List ℕ)) (c : ℕ) (w : Way) : Type 0 where
+  pub tree : IsTree levels
+  pub high : length levels ≤ 3
+  pub core : c < size_below levels
+  pub way : IsWayOf levels c w
+
+-- a way that leads to a core in a tree of domains of these levels, each of which keeps its recount
+pub record LeadsDown (levels : List (List ℕ)) (root : Domain) (c : ℕ) (w : Way) : Type 0 where
+  pub tree : IsTree levels
+  pub whole : IsWhole root levels
+  pub core : c < size_below levels
+  pub way : IsWayOf levels c w
+  pub kept : IsKept root
+
+-- rows of granted and of confirmed depths, one for each domain of these levels
+pub record AreRows (levels gs cs : List (List ℕ)) : Type 0 where
+  pub granted : map length gs ≡ level_sizes levels
+  pub confirmed : map length cs ≡ level_sizes levels

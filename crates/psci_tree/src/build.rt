@@ -1,13 +1,13 @@
 //! A tree of power domains in the shape of a board.
 
-ghost use Rattle.std.specs.Prelude.{◌≡◌, ℕ, ◌+◌, ◌<◌, ◌≤◌, ◌^◌, map, length, sum, replicate};
+ghost use Rattle.std.specs.Prelude.{◌≡◌, map, length, sum, replicate};
 ghost use Rattle.std.specs.Prelude.{slice_index_or, [], IfOk};
 ghost use Rattle.std.specs.List.{flat_map};
-ghost use Rattle.psci_board.specs.Board.{IsBoard, size_below, height};
+ghost use Rattle.psci_board.specs.Board.{IsBoard, size_below};
 ghost use Rattle.psci_tree.specs.declared.domain.Domain.{Domain};
 ghost use Rattle.psci_tree.specs.Recount.{never_started};
 ghost use Rattle.psci_tree.specs.Domains.{IsWhole, branches, child_count, leaves, cores_in};
-ghost use Rattle.psci_tree.specs.Kept.{AreKept, IsKept};
+ghost use Rattle.psci_tree.specs.Kept.{AreKept, IsKept, IsRow};
 
 use crate::domain::{Domain, kept_of};
 use crate::kept::Kept;
@@ -59,10 +59,7 @@ fn parents_of(
     row: Vec<Domain>,
 ) -> Result<Vec<Domain>, Memory>
     requires board { IsBoard board.now }
-    requires level { below < height board.now }
-    requires kept { AreKept row.items }
-    requires few { length (cores_in row.items) < 2 ^ 16 }
-    requires children { sum (slice_index_or board.now.levels below []) ≡ length row.items }
+    requires row { IsRow board.now.levels below row.items }
     ensures children { IfOk result (λ parents. flat_map branches parents.items ≡ row.items) }
     ensures counts { IfOk result (λ parents.
         map child_count parents.items ≡ slice_index_or board.now.levels below []) }

@@ -12,7 +12,7 @@ ghost use Rattle.psci_tree.specs.Recount.{never_started};
 ghost use Rattle.psci_tree.specs.Domains.{HasShape, IsWhole, child_counts, leaves};
 ghost use Rattle.psci_tree.specs.Domains.{domains_down};
 ghost use Rattle.psci_tree.specs.Kept.{IsKept};
-ghost use Rattle.psci_tree.specs.Way.{IsWayOf};
+ghost use Rattle.psci_tree.specs.Way.{IsWayOf, LeadsDown};
 
 use crate::domain::Domain;
 use crate::kept::Kept;
@@ -62,11 +62,7 @@ pub fn standings_on(root: &Domain, board: &Board, core: Core, way: &Way) -> [Sta
 
 /// Puts a core to which this way leads into another state, and what each domain on its path keeps.
 pub fn change_core(root: &mut Domain, board: &Board, core: Core, way: &Way, state: &CoreState)
-    requires tree { IsTree board.now.levels }
-    requires whole { IsWhole root.old board.now.levels }
-    requires core { core.number < size_below board.now.levels }
-    requires way { IsWayOf board.now.levels core.number way.now }
-    requires kept { IsKept root.old }
+    requires { LeadsDown board.now.levels root.old core.number way.now }
     ensures cores { leaves root.new ≡ slice_set (leaves root.old) core.number state.now }
     ensures shape { (k : ℕ) → child_counts k root.new ≡ child_counts k root.old }
     ensures kept { IsKept root.new }
@@ -83,11 +79,7 @@ pub fn activate_core(
     before: &CoreState,
     state: &CoreState,
 )
-    requires tree { IsTree board.now.levels }
-    requires whole { IsWhole root.old board.now.levels }
-    requires core { core.number < size_below board.now.levels }
-    requires way { IsWayOf board.now.levels core.number way.now }
-    requires kept { IsKept root.old }
+    requires lead { LeadsDown board.now.levels root.old core.number way.now }
     requires before { (c : CoreState) → before.now
         ≡ slice_index_or (leaves root.old) core.number c }
     requires active { state.now.activity ≡ Active }
@@ -109,7 +101,6 @@ pub fn activate_core(
 pub fn turn_off(root: &mut Domain, board: &Board)
     requires tree { IsTree board.now.levels }
     requires whole { IsWhole root.old board.now.levels }
-    requires kept { IsKept root.old }
     ensures cores { leaves root.new ≡ replicate (length (leaves root.old)) never_started }
     ensures shape { (k : ℕ) → child_counts k root.new ≡ child_counts k root.old }
     ensures kept { IsKept root.new }

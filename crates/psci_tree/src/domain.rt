@@ -51,8 +51,8 @@ impl Domain {
         self.kept = self.anew();
     }
 
-    /// The same of a core that is running or pending from now on, of which this was kept before, and
-    /// is kept after. It asks for nothing, so no domain beside the way has to be looked at.
+    /// The same of a core that is running or pending from now on, of which this was kept before,
+    /// and is kept after. It asks for nothing, so no domain beside the way has to be looked at.
     pub fn activate(
         &mut self,
         level: u32,

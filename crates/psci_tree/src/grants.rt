@@ -2,10 +2,10 @@
 
 ghost use Rattle.std.specs.Prelude.{◌≡◌, ◌<◌, ◌≤◌, [], map, length};
 ghost use Rattle.std.specs.Prelude.{slice_index_or, slice_set, IfOk};
-ghost use Rattle.psci_board.specs.Board.{IsTree, height, size_below};
+ghost use Rattle.psci_board.specs.Board.{height};
 ghost use Rattle.psci_tree.specs.Recount.{level_sizes};
 ghost use Rattle.psci_tree.specs.Changes.{rows_with_depth};
-ghost use Rattle.psci_tree.specs.Way.{IsWayOf, cleared_from};
+ghost use Rattle.psci_tree.specs.Way.{AreRows, LeadsTo, cleared_from};
 
 use crate::way::Way;
 use psci_board::{Board, Core, Memory, Node};
@@ -56,14 +56,10 @@ pub fn clear_up(
     way: &Way,
     level: u32,
 )
-    requires tree { IsTree board.now.levels }
-    requires granted { map length (map (λ v. v.items) granted.old) ≡ level_sizes board.now.levels }
-    requires confirmed { map length (map (λ v. v.items) confirmed.old)
-        ≡ level_sizes board.now.levels }
-    requires core { core.number < size_below board.now.levels }
-    requires way { IsWayOf board.now.levels core.number way.now }
+    requires lead { LeadsTo board.now.levels core.number way.now }
+    requires rows { AreRows board.now.levels (map (λ v. v.items) granted.old)
+        (map (λ v. v.items) confirmed.old) }
     requires level { level ≤ height board.now }
-    requires high { height board.now ≤ 3 }
     ensures granted { map (λ v. v.items) granted.new
         ≡ cleared_from board.now.levels core.number level (map (λ v. v.items) granted.old) }
     ensures confirmed { map (λ v. v.items) confirmed.new

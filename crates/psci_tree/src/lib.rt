@@ -16,6 +16,7 @@
 #![tactic(auto)]
 
 mod build;
+mod changes;
 mod descent;
 mod domain;
 mod grants;

@@ -1,35 +1,35 @@
 //! The tree of power domains.
 
 use crate::build::build;
-use crate::descent::{activate_core, change_core, domain_at, standings_on, turn_off};
+use crate::descent::{domain_at, standings_on};
 use crate::domain::Domain;
-use crate::grants::{clear_up, deepest_rows, fill_rows, write};
+use crate::grants::deepest_rows;
 use crate::standing::Standing;
 use crate::way::{Way, ways_of};
 use psci_board::{Board, Core, MOST_ON_PATH, Memory, Node, law_sizes, law_spans};
-use psci_state::{Activity, Ask, Change, CoreState, NEVER_STARTED};
+use psci_state::{Activity, CoreState, NEVER_STARTED};
 use std::alloc::Global;
 use std::marker::Model;
 
 /// The core that a life begins with.
-const BOOT_CORE: Core = Core { number: 0 };
+pub const BOOT_CORE: Core = Core { number: 0 };
 
 /// What each core asks of its power domains, how often it was started, and what was granted.
 #[derive(Drop)]
 pub struct Tree {
     /// The board whose power domains they are.
-    board: Board,
-    /// What is kept of each core, in the order of their numbers. Its leaf holds the same: here it is
-    /// read without a way down.
-    cores: Vec<CoreState>,
+    pub(crate) board: Board,
+    /// What is kept of each core, in the order of their numbers. Its leaf holds the same: here it
+    /// is read without a way down.
+    pub(crate) cores: Vec<CoreState>,
     /// The way to each core, in the order of their numbers.
-    ways: Vec<Way>,
+    pub(crate) ways: Vec<Way>,
     /// From level 0 up, the granted depth of each domain.
-    granted: Vec<Vec<u8>>,
+    pub(crate) granted: Vec<Vec<u8>>,
     /// From level 0 up, the depth of each domain that is confirmed, 0 of one that has none.
-    confirmed: Vec<Vec<u8>>,
+    pub(crate) confirmed: Vec<Vec<u8>>,
     /// The domain of the whole system, with all others below it.
-    root: Domain,
+    pub(crate) root: Domain,
 }
 
 impl Model for Tree {
@@ -55,21 +55,16 @@ impl Model for Tree {
     }) };
 }
 
-ghost use Rattle.std.specs.Prelude.{◌≡◌, ℕ, ◌+◌, ◌^◌, ◌<◌, ◌≤◌, map, length, unwrap_or, IfOk};
+ghost use Rattle.std.specs.Prelude.{◌≡◌, ℕ, ◌<◌, ◌≤◌, map, length, IfOk, slice_index_or};
 ghost use Rattle.psci_board.specs.Board.{size_below, HasNodeIn, below_in};
 ghost use Rattle.psci_tree.specs.declared.domain.Domain.{Domain, out-Domain};
-ghost use Rattle.psci_state.specs.declared.cores.Activity.TheVariants.{Active, Suspended, Off};
-ghost use Rattle.psci_tree.specs.Recount.{IsActivity, IsDomainTree, state_at};
-ghost use Rattle.psci_tree.specs.Recount.{known_at, low, known, active, off, granted_at};
-ghost use Rattle.psci_tree.specs.Recount.{confirmed_at, is_confirmed_at};
-ghost use Rattle.psci_tree.specs.Changes.{MayGrant, suspended, turned_off, made_pending, started};
-ghost use Rattle.psci_tree.specs.Changes.{with_grant, with_confirmed, with_core_state, with_path_cleared};
-ghost use Rattle.psci_tree.specs.Changes.{all_off, start_of_life, still_confirmed};
+ghost use Rattle.psci_tree.specs.Recount.{IsDomainTree, state_at, known_at, low, known, active};
+ghost use Rattle.psci_tree.specs.Recount.{off, granted_at, confirmed_at, is_confirmed_at};
+ghost use Rattle.psci_tree.specs.Changes.{start_of_life};
 ghost use Rattle.psci_tree.specs.Domains.{leaves};
 ghost use Rattle.psci_tree.specs.Kept.{Keeps};
 ghost use Rattle.psci_tree.specs.declared.standing.Standing.{Standing};
 ghost use Rattle.psci_tree.specs.Standing.{on_path, standing};
-ghost use Rattle.std.specs.Prelude.{slice_index_or};
 
 impl Tree {
     /// The tree of a board at the start of a life: the boot core, core 0, is pending, every other
@@ -91,16 +86,6 @@ impl Tree {
         law_sizes();
         tree.set_pending(BOOT_CORE);
         Ok(tree)
-    }
-
-    /// Puts the tree to the start of a life, in place.
-    pub fn reset_life(&mut self)
-        ensures value { self.new ≡ start_of_life self.old.levels }
-        ensures levels { self.new.levels ≡ self.old.levels }
-        ensures tree { IsDomainTree self.new }
-    {
-        self.turn_off();
-        self.set_pending(BOOT_CORE);
     }
 
     /// The least ask at a level of the cores below a domain: 0 above the board's height, where no
@@ -197,93 +182,13 @@ impl Tree {
         self.core(core).known
     }
 
-    /// Grants a depth to a domain. Another one than before is not confirmed.
-    pub fn grant(&mut self, node: Node, depth: u8)
-        requires domain { HasNodeIn self.old.levels node }
-        requires depth { MayGrant self.old node depth }
-        ensures value { self.new ≡ with_grant self.old node depth }
-        ensures levels { self.new.levels ≡ self.old.levels }
-        ensures tree { IsDomainTree self.new }
-    {
-        let confirmed = self.still_confirmed(node, depth);
-        write(&mut self.confirmed, node, confirmed);
-        write(&mut self.granted, node, depth);
-    }
-
-    /// Confirms what was granted to a domain.
-    pub fn confirm(&mut self, node: Node)
-        requires domain { HasNodeIn self.old.levels node }
-        requires granted { 1 ≤ granted_at self.old node.level node.place }
-        ensures value { self.new ≡ with_confirmed self.old node }
-        ensures levels { self.new.levels ≡ self.old.levels }
-        ensures tree { IsDomainTree self.new }
-    {
-        let depth = self.granted(node);
-        write(&mut self.confirmed, node, depth);
-    }
-
-    /// A core is suspended, with this ask.
-    pub fn set_ask(&mut self, core: Core, ask: Ask)
-        requires { core.number < size_below self.old.levels }
-        ensures value { self.new ≡ suspended self.old core.number ask }
-        ensures levels { self.new.levels ≡ self.old.levels }
-        ensures tree { IsDomainTree self.new }
-    {
-        self.set_core(core, Activity::Suspended(ask));
-    }
-
-    /// A core is off, or going off.
-    pub fn set_off(&mut self, core: Core)
-        requires { core.number < size_below self.old.levels }
-        ensures value { self.new ≡ turned_off self.old core.number }
-        ensures levels { self.new.levels ≡ self.old.levels }
-        ensures tree { IsDomainTree self.new }
-    {
-        self.set_core(core, Activity::Off);
-    }
-
-    /// A core is pending: nothing is granted or confirmed any more on its path.
-    pub fn set_pending(&mut self, core: Core)
-        requires { core.number < size_below self.old.levels }
-        ensures value { self.new ≡ made_pending self.old core.number }
-        ensures levels { self.new.levels ≡ self.old.levels }
-        ensures tree { IsDomainTree self.new }
-    {
-        self.activate(core, None);
-        self.clear_path(core);
-    }
-
-    /// A core runs in its start of this number: nothing is granted or confirmed any more on its
-    /// path.
-    pub fn set_start(&mut self, core: Core, number: u32)
-        requires { core.number < size_below self.old.levels }
-        ensures value { self.new ≡ started self.old core.number number }
-        ensures levels { self.new.levels ≡ self.old.levels }
-        ensures tree { IsDomainTree self.new }
-    {
-        self.activate(core, Some(number));
-        self.clear_path(core);
-    }
-
     /// The depth of a domain that is confirmed, or 0.
-    fn confirmed_depth(&self, node: Node) -> u8
+    pub(crate) fn confirmed_depth(&self, node: Node) -> u8
         requires { HasNodeIn self.now.levels node }
         ensures { result ≡ confirmed_at self.now node.level node.place }
     {
         let places = &self.confirmed[node.level as usize];
         places[node.place as usize]
-    }
-
-    /// What stays confirmed of a domain that is granted this depth.
-    fn still_confirmed(&self, node: Node, depth: u8) -> u8
-        requires { HasNodeIn self.now.levels node }
-        ensures { result ≡ still_confirmed self.now node depth }
-    {
-        if self.granted(node) == depth {
-            self.confirmed_depth(node)
-        } else {
-            0
-        }
     }
 
     /// What is kept of a core.
@@ -294,85 +199,6 @@ impl Tree {
             .get(core.number as usize)
             .copied()
             .unwrap_or(NEVER_STARTED)
-    }
-
-    /// Changes what a core does. Its known start stays.
-    fn set_core(&mut self, core: Core, activity: Activity)
-        requires core { core.number < size_below self.old.levels }
-        requires activity { IsActivity activity }
-        ensures value { self.new ≡ with_core_state self.old core.number activity
-            (known_at self.old core.number) }
-        ensures levels { self.new.levels ≡ self.old.levels }
-        ensures tree { IsDomainTree self.new }
-    {
-        let number = core.number as usize;
-        let state = self.cores[number].changed(&Change {
-            activity,
-            started: None,
-        });
-        change_core(
-            &mut self.root,
-            &self.board,
-            core,
-            &self.ways[number],
-            &state,
-        );
-        self.cores[number] = state;
-    }
-
-    /// A core is running or pending, after the start of this number, if there was one.
-    fn activate(&mut self, core: Core, started: Option<u32>)
-        requires { core.number < size_below self.old.levels }
-        ensures value { self.new ≡ with_core_state self.old core.number Active
-            (unwrap_or started (known_at self.old core.number)) }
-        ensures levels { self.new.levels ≡ self.old.levels }
-        ensures tree { IsDomainTree self.new }
-    {
-        let number = core.number as usize;
-        let before = self.cores[number];
-        let state = before.changed(&Change {
-            activity: Activity::Active,
-            started,
-        });
-        activate_core(
-            &mut self.root,
-            &self.board,
-            core,
-            &self.ways[number],
-            &before,
-            &state,
-        );
-        self.cores[number] = state;
-    }
-
-    /// Takes away what is granted and confirmed on the path of a core.
-    fn clear_path(&mut self, core: Core)
-        requires { core.number < size_below self.old.levels }
-        ensures value { self.new ≡ with_path_cleared self.old core.number }
-        ensures levels { self.new.levels ≡ self.old.levels }
-        ensures tree { IsDomainTree self.new }
-    {
-        let way = &self.ways[core.number as usize];
-        clear_up(
-            &mut self.granted,
-            &mut self.confirmed,
-            &self.board,
-            core,
-            way,
-            0,
-        );
-    }
-
-    /// Turns off every core, and grants depth 3 to every domain, which is confirmed.
-    fn turn_off(&mut self)
-        ensures value { self.new ≡ all_off self.old.levels }
-        ensures levels { self.new.levels ≡ self.old.levels }
-        ensures tree { IsDomainTree self.new }
-    {
-        turn_off(&mut self.root, &self.board);
-        fill_rows(&mut self.granted, 3);
-        fill_rows(&mut self.confirmed, 3);
-        self.cores.fill(NEVER_STARTED);
     }
 
     /// The domain of a node.

@@ -1,5 +1,9 @@
-mod Booked
+mod Beginning
 pub mod Newest
-mod PresentRows
-mod Presents
-pub use Rattle.psci_world_spec.proofs as world_spec
+mod OnTheWay
+pub mod Resting
+mod Settles
+mod SettlesRows
+mod Waiting
+mod WayRows
+pub use Rattle.psci_present.proofs.world_spec

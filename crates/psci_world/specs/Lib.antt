@@ -1,4 +1,6 @@
 pub mod Seen
-pub use Rattle.psci_headline.specs.Safe
-pub use Rattle.psci_machine.specs.psci_board
-pub use Rattle.psci_world_spec.specs as psci_world_spec
+pub mod Settles
+pub use Rattle.psci_present.specs.Safe
+pub use Rattle.psci_present.specs.psci_board
+pub use Rattle.psci_present.specs.psci_world_spec
+pub use Rattle.psci_settle.specs.Settling

@@ -1,8 +1,9 @@
 //! The world of one board.
 
-use crate::present::Present;
-use psci_headline::law_safe;
-use psci_machine::{Ack, Board, Controller, Core, Event, Firmware, Memory, Message, Place, Record};
+use psci_present::{
+    Ack, Board, Controller, Core, Event, Firmware, Memory, Message, Place, Present, Record,
+    law_safe,
+};
 use std::alloc::Global;
 use std::marker::Model;
 
@@ -30,15 +31,15 @@ impl Model for World {
 }
 
 ghost use Rattle.std.specs.Prelude.{◌≡◌, ◌<◌, [], ◌∷◌, IfOk, OnOk, OnErr, option_map, reverse};
-ghost use Rattle.psci_machine.specs.psci_board.Board.{IsBoard, cores};
-ghost use Rattle.psci_machine.specs.Controller as controller;
-ghost use Rattle.psci_machine.specs.Firmware as firmware;
-ghost use Rattle.psci_world_spec.specs.Histories.{acks, controller_values};
-ghost use Rattle.psci_world_spec.specs.Histories.{firmware_values, sent};
-ghost use Rattle.psci_headline.specs.Safe.{AlwaysSafe};
-ghost use Rattle.psci_world_spec.specs.Legal.{IsLegalPast, legal_record};
-ghost use Rattle.psci_world_spec.specs.Lists.{indexed};
-ghost use Rattle.psci_world_spec.specs.Places.{place};
+ghost use Rattle.psci_present.specs.psci_board.Board.{IsBoard, cores};
+ghost use Rattle.psci_present.specs.Controller as controller;
+ghost use Rattle.psci_present.specs.Firmware as firmware;
+ghost use Rattle.psci_present.specs.psci_world_spec.Histories.{acks, controller_values};
+ghost use Rattle.psci_present.specs.psci_world_spec.Histories.{firmware_values, sent};
+ghost use Rattle.psci_present.specs.Safe.{AlwaysSafe};
+ghost use Rattle.psci_present.specs.psci_world_spec.Legal.{IsLegalPast, legal_record};
+ghost use Rattle.psci_present.specs.psci_world_spec.Lists.{indexed};
+ghost use Rattle.psci_present.specs.psci_world_spec.Places.{place};
 
 impl World {
     /// The world of this board, before any event: the power controller is in its first life, the
@@ -92,7 +93,7 @@ impl World {
         ensures legal { IsLegalPast self.now.board self.now.past }
         ensures safe { AlwaysSafe self.now.board self.now.past }
     {
-        self.present.machine.law();
+        self.present.machine().law();
         law_safe();
     }
 
@@ -107,21 +108,21 @@ impl World {
     pub fn messages(&self) -> &[Message]
         ensures { result.now ≡ reverse (sent self.now.past) }
     {
-        &self.present.messages
+        self.present.messages()
     }
 
     /// All acknowledgements made so far, the oldest first.
     pub fn acks(&self) -> &[Ack]
         ensures { result.now ≡ reverse (acks self.now.past) }
     {
-        &self.present.acks
+        self.present.acks()
     }
 
     /// The board.
     pub fn board(&self) -> &Board
         ensures { result.now ≡ self.now.board }
     {
-        self.present.machine.controller().board()
+        self.present.machine().controller().board()
     }
 
     /// The message of this number, counted from 0 as they were sent.
@@ -129,14 +130,14 @@ impl World {
         ensures { option_map (λ message. message.now) result
             ≡ indexed (sent self.now.past) number }
     {
-        self.present.messages.get(usize::try_from(number).ok()?)
+        self.present.messages().get(usize::try_from(number).ok()?)
     }
 
     /// The acknowledgement of this number, counted from 0 as they were made.
     pub fn ack(&self, number: u64) -> Option<Ack>
         ensures { result ≡ indexed (acks self.now.past) number }
     {
-        let ack = self.present.acks.get(usize::try_from(number).ok()?)?;
+        let ack = self.present.acks().get(usize::try_from(number).ok()?)?;
         Some(ack.copy())
     }
 
@@ -145,7 +146,7 @@ impl World {
         requires { core.number < cores self.now.board }
         ensures { result ≡ place self.now.board self.now.past core.number }
     {
-        self.present.machine.place(core)
+        self.present.machine().place(core)
     }
 
     /// The power controller.
@@ -154,7 +155,7 @@ impl World {
         ensures values { controller.seen result.now
             ≡ controller_values self.now.board self.now.past }
     {
-        self.present.machine.controller()
+        self.present.machine().controller()
     }
 
     /// The firmware.
@@ -162,7 +163,7 @@ impl World {
         ensures board { result.now.board ≡ self.now.board }
         ensures values { firmware.seen result.now ≡ firmware_values self.now.board self.now.past }
     {
-        self.present.machine.firmware()
+        self.present.machine().firmware()
     }
 
     /// All records, the oldest first; the rest of the world is given up.

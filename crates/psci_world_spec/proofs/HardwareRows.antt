@@ -57,8 +57,8 @@ retention_of_a_core = refl
 
 -- All domains ---------------------------------------------------------------------------------
 
--- the states of all domains after these events, by their codes: of each level from the cores up, from
--- left to right
+-- the states of all domains after these events, by their codes: of each level from the cores up,
+-- from left to right
 abbrev HaveStates : BoardValue → List Event → List (List ℕ) → Type 0
 HaveStates b events states =
     map (λ level. map (λ place.
@@ -73,7 +73,8 @@ two_run = Enter 0 ∷ on_3 ∷ Deliver 0 ∷ Enter 3 ∷ []
 
 -- both suspend to power-down of the system
 abbrev two_suspend : List Event
-two_suspend = call 3 0xc4000001 0x02010333 0x40004000 2 ∷ call 0 0xc4000001 0x02010333 0x40000100 0 ∷ []
+two_suspend =
+    call 3 0xc4000001 0x02010333 0x40004000 2 ∷ call 0 0xc4000001 0x02010333 0x40000100 0 ∷ []
 
 -- the claims of a Down that was carried out in part: two of three levels
 two_of_three_parts : HaveStates board (two_run ++ (two_suspend ++ (Deliver 2 ∷ Take 1 ∷ [])))
@@ -83,7 +84,8 @@ two_of_three_parts = refl
 
 -- and once both were carried out
 all_parts : HaveStates board
-    (two_run ++ (two_suspend ++ (Deliver 2 ∷ Take 1 ∷ Deliver 1 ∷ Deliver 2 ∷ Take 2 ∷ Take 3 ∷ [])))
+    (two_run
+    ++ (two_suspend ++ (Deliver 2 ∷ Take 1 ∷ Deliver 1 ∷ Deliver 2 ∷ Take 2 ∷ Take 3 ∷ [])))
     ((1 ∷ 1 ∷ 1 ∷ 1 ∷ []) ∷ (1 ∷ 1 ∷ []) ∷ (1 ∷ []) ∷ [])
 unfolding computing
 all_parts = refl
@@ -124,17 +126,19 @@ woken_and_entered : HaveStates board
 unfolding computing
 woken_and_entered = refl
 
--- an acknowledgement that comes after the next entry is old, and so is one of a Down that a later one
--- has replaced
+-- an acknowledgement that comes after the next entry is old, and so is one of a Down that a later
+-- one has replaced
 old_acknowledgement : HaveStates board
     (two_run ++ (retention 3 ∷ Deliver 1 ∷ Wake 3 ∷ Enter 3 ∷ Take 1 ∷ retention 3 ∷ Take 1 ∷ []))
     ((0 ∷ 1 ∷ 1 ∷ 0 ∷ []) ∷ (0 ∷ 0 ∷ []) ∷ (0 ∷ []) ∷ [])
 unfolding computing
 old_acknowledgement = refl
 
--- a stale one with a part that was applied confirms that part; the cluster has a core that was asked on
+-- a stale one with a part that was applied confirms that part; the cluster has a core that was
+-- asked on
 stale_with_a_part : HaveStates board
-    (two_run ++ (off 3 ∷ call 0 0xc4000003 0x100 0x40002000 0 ∷ Deliver 2 ∷ Deliver 1 ∷ Take 2 ∷ []))
+    (two_run
+    ++ (off 3 ∷ call 0 0xc4000003 0x100 0x40002000 0 ∷ Deliver 2 ∷ Deliver 1 ∷ Take 2 ∷ []))
     ((0 ∷ 1 ∷ 0 ∷ 1 ∷ []) ∷ (0 ∷ 0 ∷ []) ∷ (0 ∷ []) ∷ [])
 unfolding computing
 stale_with_a_part = refl
@@ -155,7 +159,8 @@ unfolding computing
 os_initiated_woken = refl
 
 -- claims are confirmed in a halting life too, and a new life begins as the first one did
-halting_life : HaveStates board (two_run ++ (retention 3 ∷ Deliver 1 ∷ system_reset 0 ∷ Take 1 ∷ []))
+halting_life : HaveStates board
+    (two_run ++ (retention 3 ∷ Deliver 1 ∷ system_reset 0 ∷ Take 1 ∷ []))
     ((0 ∷ 1 ∷ 1 ∷ 2 ∷ []) ∷ (0 ∷ 0 ∷ []) ∷ (0 ∷ []) ∷ [])
 unfolding computing
 halting_life = refl

@@ -1,9 +1,11 @@
-use Rattle.std.proofs.Common.{◌≡◌, ◌<◌, ◌+◌, ◌-◌, ◌*◌, ◌/◌, ◌^◌, ◌∙◌, ℕ, List, [], length, drop, get_or}
+use Rattle.std.proofs.Common.{◌≡◌, ◌<◌, ◌+◌, ◌-◌, ◌*◌, ◌/◌, ◌^◌, ◌∙◌, ℕ, List, [], length, drop}
+use Rattle.std.proofs.Common.{get_or}
 use Rattle.std.proofs.Common.{ap, sym, subst, arith, sum, Some}
 use Rattle.std.specs.Int.{w64, to_le_bytes}
 use Rattle.std.proofs.lemmas.List.{get_or_default}
 use Rattle.psci_board.specs.Level.{index_named, child_in}
-use Rattle.psci_board.proofs.NamedDown.{none_above, field_step, none_highest, named_highest, inside_step}
+use Rattle.psci_board.proofs.NamedDown.{none_above, field_step, none_highest, named_highest}
+use Rattle.psci_board.proofs.NamedDown.{inside_step}
 use Rattle.psci_board.proofs.affinity.place_of.Goals as goal
 
 pub returns-then-highest-from : goal.returns-then-highest-from
@@ -53,7 +55,8 @@ own_child-requires c =
     omega (
       arith,
       inside_step levels c.args.word m c.loop-level.place c.requires.tree fits
-          (subst (λ j. index_named (drop j levels) (c.args.word / 2 ^ (8 * j)) ≡ Some c.loop-level.place)
+          (subst
+          (λ j. index_named (drop j levels) (c.args.word / 2 ^ (8 * j)) ≡ Some c.loop-level.place)
           (sym next) c.loop-level.invariant.1),
       ap (λ (w : List ℕ). length w) level,
     )
@@ -70,11 +73,14 @@ loop-level-preserved c =
       omega (arith, c.loop-level-test.true),
       field_step levels c.args.word m c.loop-level.place c.requires.tree fits
           (omega (arith, fits, c.requires.high))
-          (subst (λ j. index_named (drop j levels) (c.args.word / 2 ^ (8 * j)) ≡ Some c.loop-level.place)
+          (subst
+          (λ j. index_named (drop j levels) (c.args.word / 2 ^ (8 * j)) ≡ Some c.loop-level.place)
           (sym next) c.loop-level.invariant.1)
-          ∙ ap (λ (w : List ℕ). child_in w c.loop-level.place (get_or (to_le_bytes w64 c.args.word) m 0))
+          ∙ ap
+          (λ (w : List ℕ). child_in w c.loop-level.place (get_or (to_le_bytes w64 c.args.word) m 0))
           (sym level)
-          ∙ ap (λ bs. child_in own c.loop-level.place (get_or bs m 0)) (sym c.to_le_bytes-fields.ensures)
+          ∙ ap (λ bs. child_in own c.loop-level.place (get_or bs m 0))
+          (sym c.to_le_bytes-fields.ensures)
           ∙ ap (child_in own c.loop-level.place) (sym c.from-field.ensures)
           ∙ sym c.in_ok-place.ensures,
     )
@@ -99,12 +105,14 @@ returns-in_err-place c =
     ∙ ap (λ bs. child_in own c.loop-level.place (get_or bs m 0)) (sym c.to_le_bytes-fields.ensures)
     ∙ ap (child_in own c.loop-level.place) (sym c.from-field.ensures) in
     rw c.from_residual.ensures (sym (none_above levels c.args.word c.args.low m c.requires.tree
-    (omega (arith, c.loop-level-test.true)) (omega (arith, fits)) (named ∙ sym c.in_err-place.ensures)))
+    (omega (arith, c.loop-level-test.true)) (omega (arith, fits)) (named
+    ∙ sym c.in_err-place.ensures)))
 
 pub returns : goal.returns
 returns c =
     let levels : List (List ℕ) = c.args.levels.now in
     let last : c.loop-level.level ≡ c.args.low =
     omega (arith, c.loop-level-test.false, c.loop-level.invariant.0) in
-    sym (subst (λ j. index_named (drop j levels) (c.args.word / 2 ^ (8 * j)) ≡ Some c.loop-level.place)
+    sym
+    (subst (λ j. index_named (drop j levels) (c.args.word / 2 ^ (8 * j)) ≡ Some c.loop-level.place)
     last c.loop-level.invariant.1)

@@ -1,5 +1,6 @@
 -- Each round adds the part of its level, and the climb ends where no depth is wanted.
-use Rattle.std.proofs.Common.{◌≡◌, ◌∙◌, ◌+◌, ◌<◌, ◌≤◌, ℕ, List, length, get_or, arith, ap, sym, refl}
+use Rattle.std.proofs.Common.{◌≡◌, ◌∙◌, ◌+◌, ◌<◌, ◌≤◌, ℕ, List, length, get_or, arith, ap, sym}
+use Rattle.std.proofs.Common.{refl}
 use Rattle.psci_board.specs.Board.{BoardValue}
 use Rattle.psci_tree.specs.declared.standing.Standing.{Standing}
 use Rattle.psci_tree.specs.Recount.{TreeValue}
@@ -44,7 +45,8 @@ loop-level-preserved c =
     c.loop-level-test.true c.standings-standings.ensures in
     let depth = c.depth-depth.ensures t (on_path t.levels core level) refl
     (ap (λ (x : Standing). x.low) f.stands)
-    ∙ wanted-is b t core level (on_path t.levels core level) c.args.wish.now c.requires.board f.node in
+    ∙ wanted-is b t core level (on_path t.levels core level) c.args.wish.now c.requires.board
+    f.node in
     let known = ap (λ (x : Standing). x.known) f.stands
     ∙ known-is b t core level (on_path t.levels core level) c.requires.board f.node in
     rw c.push.ensures (climbed-more b (view_of t) core wished level c.loop-level.parts _
@@ -64,6 +66,7 @@ returns-then-depth-eq0 c =
     c.loop-level-test.true c.standings-standings.ensures in
     let depth = c.depth-depth.ensures t (on_path t.levels core level) refl
     (ap (λ (x : Standing). x.low) f.stands)
-    ∙ wanted-is b t core level (on_path t.levels core level) c.args.wish.now c.requires.board f.node in
+    ∙ wanted-is b t core level (on_path t.levels core level) c.args.wish.now c.requires.board
+    f.node in
     climbed-ends b (view_of t) core wished level c.loop-level.parts c.loop-level.invariant
     (sym depth ∙ c.if-depth-eq0.true)

@@ -1,12 +1,9 @@
--- The laws of renumbered cores.
+-- Each call of renumbered cores, and what is kept after it.
 use Rattle.psci_fw_same.proofs.Calling.{answer-by}
 use Rattle.psci_fw_same.proofs.Following.{after-by}
 use Rattle.psci_fw_same.proofs.Functions.{outcome_of-by}
 use Rattle.psci_fw_same.proofs.Histories.{legal-by, values_of-by}
 use Rattle.psci_fw_same.proofs.Numberings.{renumbers}
-use Rattle.psci_fw_same.proofs.Siblings.{siblings}
-use Rattle.psci_fw_same.proofs.Told.{told}
-use Rattle.psci_fw_same.proofs.Twins.{twins}
 use Rattle.psci_fw_same.proofs.laws.law_no_core_is_special.Goals as goal
 
 pub returns-clause-functions : goal.returns-clause-functions
@@ -23,19 +20,6 @@ pub returns-clause-after : goal.returns-clause-after
 returns-clause-after c = λ b s v k call other reply board is calls spares.
     after-by b s v k call other reply
     (renumbers b s (c.law_paths.ensures b board) (c.law_children.ensures b board) is) calls spares
-
-pub returns-clause-told : goal.returns-clause-told
-returns-clause-told c = λ b s r board is.
-    told b s r (renumbers b s (c.law_paths.ensures b board) (c.law_children.ensures b board) is)
-    (c.law_words.ensures b board)
-
-pub returns-clause-siblings : goal.returns-clause-siblings
-returns-clause-siblings c = λ b x y board two. siblings b x y (c.law_paths.ensures b board) two
-
-pub returns-clause-twins : goal.returns-clause-twins
-returns-clause-twins c = λ b p q board two.
-    twins b p q board (c.law_paths.ensures b board) (c.law_children.ensures b board)
-    (c.law_parents.ensures b board) two
 
 pub returns-clause-values : goal.returns-clause-values
 returns-clause-values c = λ b s h g board is boot told.

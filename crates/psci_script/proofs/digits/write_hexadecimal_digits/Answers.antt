@@ -1,4 +1,4 @@
-use Rattle.std.proofs.Common.{◌≡◌, ◌+◌, ◌-◌, drop, subst, arith, rules}
+use Rattle.std.proofs.Common.{◌≡◌, ◌+◌, ◌-◌, drop, subst, arith}
 use Rattle.psci_script.proofs.HexDigits.{IsUnderWay, all_done, never_none, none_yet, one_left}
 use Rattle.psci_script.proofs.HexDigits.{one_more, put_before}
 use Rattle.psci_script.proofs.digits.write_hexadecimal_digits.Goals as goal
@@ -48,7 +48,8 @@ loop-left-preserved c =
       one_more c.args.number tail (l.left - 1) l.rest c.digit.result
           bytes _ w
           (c.digit.ensures (omega arith))
-          (put_before l.room (c.args.end - 16 + (l.left - 1)) (c.args.end - 16 + l.left) c.digit.result
+          (put_before l.room (c.args.end - 16 + (l.left - 1)) (c.args.end - 16 + l.left)
+          c.digit.result
           (omega (arith, c.requires, l.invariant.0, l.auto.room, c.loop-left-test.true))
           (omega (arith, c.loop-left-test.true)))
           c.if-rest-eq0.false,

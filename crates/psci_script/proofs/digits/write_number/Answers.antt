@@ -1,5 +1,5 @@
 -- A number has 20 digits at most.
-use Rattle.std.proofs.Common.{arith, rules}
+use Rattle.std.proofs.Common.{arith}
 use Rattle.std.proofs.lemmas.Fmt.{length-decimal-le}
 use Rattle.psci_script.proofs.digits.write_number.Goals as goal
 

@@ -1,5 +1,5 @@
 use Rattle.std.proofs.Common.{◌≡◌, ◌<◌, ◌≤◌, ◌+◌, ◌∙◌, suc, [], arith, subst}
-use Rattle.std.proofs.Common.{List, ℕ, map, get_or, length, take, drop, ap, sym, sum, replicate, ◌^◌}
+use Rattle.std.proofs.Common.{List, ℕ, map, get_or, length, take, drop, ap, sym, sum, replicate}
 use Rattle.std.specs.List.{AllPass}
 use Rattle.std.proofs.lemmas.List.{length-map, take_more, length-replicate, drop_all}
 use Rattle.std.proofs.lemmas.List.Concat.{flat_map_single}
@@ -57,33 +57,22 @@ loop-below-init c =
 pub parents_of-requires-clause-board : goal.parents_of-requires-clause-board
 parents_of-requires-clause-board c = c.cores.ensures.board
 
-pub parents_of-requires-clause-level : goal.parents_of-requires-clause-level
-parents_of-requires-clause-level c =
-    omega (arith, c.loop-below-test.true, c.height-below-end.ensures.height)
-
-pub parents_of-requires-clause-kept : goal.parents_of-requires-clause-kept
-parents_of-requires-clause-kept c = c.loop-below.invariant.kept
-
-pub parents_of-requires-clause-few : goal.parents_of-requires-clause-few
-parents_of-requires-clause-few c =
-    let row : List Domain = c.loop-below.row.items in
-    let n : ℕ = size_below c.args.board.now.levels in
-    let all : length (cores_in row) ≡ n =
-    ap length c.loop-below.invariant.off ∙ length-replicate n never_started in
-    let few : length (cores_in row) < 2 ^ 16 =
-    omega (arith, all, c.cores.ensures.cores, c.cores.type_inv) in
-    few
-
-pub parents_of-requires-clause-children : goal.parents_of-requires-clause-children
-parents_of-requires-clause-children c =
+pub parents_of-requires-clause-row : goal.parents_of-requires-clause-row
+parents_of-requires-clause-row c =
     let row : List Domain = c.loop-below.row.items in
     let levels : List (List ℕ) = c.args.board.now.levels in
+    let tree : IsTree levels = c.cores.ensures.board.tree in
+    let n : ℕ = size_below levels in
     let at : ℕ = c.loop-below.below in
+    let all : length (cores_in row) ≡ n =
+    ap length c.loop-below.invariant.off ∙ length-replicate n never_started in
     let fits : at < length levels =
-    omega (arith, c.loop-below-test.true, c.height-below-end.ensures.height) in
-    let size = (level levels at c.cores.ensures.board.tree fits).size in
-    let all : sum (get_or levels at []) ≡ length row = sym (c.loop-below.invariant.size ∙ size) in
-    all
+    omega (arith, c.loop-below-test.true, c.height-below-end.ensures.height) in record {
+      level = fits;
+      kept = c.loop-below.invariant.kept;
+      few = omega (arith, all, c.cores.ensures.cores, c.cores.type_inv);
+      children = sym (c.loop-below.invariant.size ∙ (level levels at tree fits).size);
+    }
 
 at_end : (c : goal.After-drop-row) → c.loop-below.below ≡ length c.args.board.now.levels
 at_end c =

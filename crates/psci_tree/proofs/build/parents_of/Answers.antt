@@ -1,7 +1,8 @@
 use Rattle.std.proofs.Common.{◌≡◌, ◌<◌, ◌≤◌, ◌+◌, ◌∙◌, suc, arith, ap, ℕ, List, [], get_or}
 use Rattle.std.proofs.Common.{length, take, drop, map, sym, append_assoc, ◌++◌, ◌∷◌, subst, rules}
 use Rattle.std.specs.List.{flat_map}
-use Rattle.std.proofs.lemmas.List.{take-append-drop, length-take-le, length-drop, take_more, take_all}
+use Rattle.std.proofs.lemmas.List.{take-append-drop, length-take-le, length-drop, take_more}
+use Rattle.std.proofs.lemmas.List.{take_all}
 use Rattle.std.proofs.lemmas.List.Sums.{sum_by-drop_more}
 use Rattle.psci_board.specs.Board.{children_at, size_below}
 use Rattle.psci_tree.specs.Domains.{branches, child_count, cores_in}
@@ -22,9 +23,9 @@ split_off-requires c =
     let fits : place < length own = omega (
       arith,
       c.loop-place-test.true,
-      c.nodes-place-end.ensures.there (omega (arith, c.requires.level)),
+      c.nodes-place-end.ensures.there (omega (arith, c.requires.row.level)),
       ap (λ l. size_below (drop l levels)) up,
-      tree_at levels c.args.below c.requires.board.tree c.requires.level,
+      tree_at levels c.args.below c.requires.board.tree c.requires.row.level,
     ) in
     let count : c.children-count.result ≡ get_or own place 0 =
     c.children-count.ensures ∙ ap (λ l. children_at c.args.board.now l place) up in
@@ -62,9 +63,9 @@ loop-place-preserved c =
     let fits : place < length own = omega (
       arith,
       c.loop-place-test.true,
-      c.nodes-place-end.ensures.there (omega (arith, c.requires.level)),
+      c.nodes-place-end.ensures.there (omega (arith, c.requires.row.level)),
       ap (λ l. size_below (drop l levels)) up,
-      tree_at levels c.args.below c.requires.board.tree c.requires.level,
+      tree_at levels c.args.below c.requires.board.tree c.requires.row.level,
     ) in
     let count : c.children-count.result ≡ get_or own place 0 =
     c.children-count.ensures ∙ ap (λ l. children_at c.args.board.now l place) up in
@@ -85,7 +86,7 @@ loop-place-preserved c =
       length-take-le n rest enough,
       count,
       some_children own place
-          (widths_at levels c.args.below c.requires.board.tree c.requires.level) fits,
+          (widths_at levels c.args.below c.requires.board.tree c.requires.row.level) fits,
     ) in
     record {
       whole =
@@ -131,9 +132,9 @@ loop-place-init c =
       whole = ap (λ ns. flat_map branches ns ++ c.args.row.items) none;
       counts = ap (map child_count) none;
       kept = subst AreKept (sym none) (search rules);
-      rest = c.requires.kept;
-      few = c.requires.few;
-      left = c.requires.children;
+      rest = c.requires.row.kept;
+      few = c.requires.row.few;
+      left = c.requires.row.children;
     }
 
 at_end : (c : goal.After-drop-rest-2)
@@ -144,9 +145,9 @@ at_end c =
     omega (
       arith,
       c.loop-place-test.false,
-      c.nodes-place-end.ensures.there (omega (arith, c.requires.level)),
+      c.nodes-place-end.ensures.there (omega (arith, c.requires.row.level)),
       ap (λ l. size_below (drop l levels)) up,
-      tree_at levels c.args.below c.requires.board.tree c.requires.level,
+      tree_at levels c.args.below c.requires.board.tree c.requires.row.level,
     )
 
 pub returns-clause-children : goal.returns-clause-children

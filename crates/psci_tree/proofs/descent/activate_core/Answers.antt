@@ -12,16 +12,17 @@ pub activate-requires-clause-way : goal.activate-requires-clause-way
 activate-requires-clause-way c =
     let levels : List (List ℕ) = c.args.board.now.levels in
     subst (λ l. IsWay l c.args.way.now.numbers c.args.root.now) (sym c.height.ensures.height)
-    (system_way c.args.root.now levels c.args.core.number c.args.way.now.numbers c.requires.tree
-    c.requires.whole c.requires.core c.requires.way.numbers).0
+    (system_way c.args.root.now levels c.args.core.number c.args.way.now.numbers
+    c.requires.lead.tree
+    c.requires.lead.whole c.requires.lead.core c.requires.lead.way.numbers).0
 
 pub activate-requires-clause-few : goal.activate-requires-clause-few
 activate-requires-clause-few c =
     let levels : List (List ℕ) = c.args.board.now.levels in
     omega (
       arith,
-      length_cores c.args.root.now levels c.requires.tree c.requires.whole,
-      size_few levels c.requires.tree,
+      length_cores c.args.root.now levels c.requires.lead.tree c.requires.lead.whole,
+      size_few levels c.requires.lead.tree,
     )
 
 pub activate-requires-clause-before : goal.activate-requires-clause-before
@@ -30,8 +31,8 @@ activate-requires-clause-before c = λ d.
     let way : List ℕ = c.args.way.now.numbers in
     let place : index_by c.height.result way root ≡ c.args.core.number =
     ap (λ l. index_by l way root) c.height.ensures.height
-    ∙ (system_way root c.args.board.now.levels c.args.core.number way c.requires.tree
-    c.requires.whole c.requires.core c.requires.way.numbers).1 in
+    ∙ (system_way root c.args.board.now.levels c.args.core.number way c.requires.lead.tree
+    c.requires.lead.whole c.requires.lead.core c.requires.lead.way.numbers).1 in
     subst (λ (x : CoreState). Keeps c.of_core-was.result (x ∷ []))
     (c.requires.before d ∙ ap (λ p. get_or (leaves root) p d) (sym place)) c.of_core-was.ensures
 
@@ -43,5 +44,6 @@ returns-clause-cores c =
     ∙ ap (λ l. set (leaves root) (index_by l c.args.way.now.numbers root) c.args.state.now)
     c.height.ensures.height
     ∙ ap (λ p. set (leaves root) p c.args.state.now) (system_way root levels
-    c.args.core.number c.args.way.now.numbers c.requires.tree c.requires.whole c.requires.core
-    c.requires.way.numbers).1
+    c.args.core.number c.args.way.now.numbers c.requires.lead.tree c.requires.lead.whole
+    c.requires.lead.core
+    c.requires.lead.way.numbers).1

@@ -1,4 +1,5 @@
-use Rattle.std.proofs.Common.{◌≡◌, ◌<◌, ◌-◌, ◌+◌, ◌∙◌, ◌∷◌, [], ℕ, List, ap, sym, refl, length, get_or}
+use Rattle.std.proofs.Common.{◌≡◌, ◌<◌, ◌-◌, ◌+◌, ◌∙◌, ◌∷◌, [], ℕ, List, ap, sym, refl, length}
+use Rattle.std.proofs.Common.{get_or}
 use Rattle.std.proofs.Common.{arith, inl, inr, get_or-set_same, get_or-set_other}
 use Rattle.std.proofs.Math.ListN.{set, length-set}
 use Rattle.std.proofs.lemmas.Bool.{cases_eq}
@@ -20,7 +21,8 @@ loop-step-init c =
     let none : Standing = record { low = 0; known = 0 } in
     let old : List Standing = none ∷ none ∷ none ∷ none ∷ [] in
     let four : length old ≡ 4 = refl in
-    let fits : n < length old = omega (arith, c.requires.high, c.height-height.ensures.height, four) in
+    let fits : n < length old =
+    omega (arith, c.requires.high, c.height-height.ensures.height, four) in
     record {
       long = length-set old n c.standing.result;
       own = λ k d e.
@@ -90,7 +92,8 @@ loop-step-preserved c =
     ∙ get_or_default (branches parent) j own d inside
     ∙ ap (λ x. get_or (branches x) j d) at
     ∙ down.is d parent
-    ∙ ap (λ x. get_or (domains_down (length levels - x) root) (place_above levels x core) d) (sym same) in
+    ∙ ap (λ x. get_or (domains_down (length levels - x) root) (place_above levels x core) d)
+    (sym same) in
     record {
       long = length-set found m c.standing-in-loop-step.result ∙ c.loop-step.invariant.long;
       own = λ k d e. here k d (omega (arith, e, meets));

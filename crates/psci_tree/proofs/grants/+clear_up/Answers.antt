@@ -13,13 +13,13 @@ rows_long levels rows e =
     sym (length-map rows length) ∙ ap length e ∙ length_level_sizes levels
 
 pub bounds-way-level : goal.bounds-way-level
-bounds-way-level t c = omega (arith, c.requires.level, c.requires.high)
+bounds-way-level t c = omega (arith, c.requires.level, c.requires.lead.high)
 
 pub write-requires-clause-level : goal.write-requires-clause-level
 write-requires-clause-level t c = omega (
   arith,
   c.requires.level,
-  rows_long c.args.board.now.levels _ c.requires.granted,
+  rows_long c.args.board.now.levels _ c.requires.rows.granted,
   length-map c.args.granted.now (λ v. v.items),
 )
 
@@ -29,14 +29,14 @@ write-requires-clause-place t c =
     (row_of levels _ (record {
       level = c.args.level;
       place = get_or c.args.way.now.places c.args.level 0;
-    }) c.requires.granted (path_node levels c.args.core.number c.args.level c.args.way.now
-    c.requires.tree c.requires.core c.requires.way c.requires.level)).place
+    }) c.requires.rows.granted (path_node levels c.args.core.number c.args.level c.args.way.now
+    c.requires.lead.tree c.requires.lead.core c.requires.lead.way c.requires.level)).place
 
 pub write-requires-2-clause-level : goal.write-requires-2-clause-level
 write-requires-2-clause-level t c = omega (
   arith,
   c.requires.level,
-  rows_long c.args.board.now.levels _ c.requires.confirmed,
+  rows_long c.args.board.now.levels _ c.requires.rows.confirmed,
   length-map c.args.confirmed.now (λ v. v.items),
 )
 
@@ -46,8 +46,8 @@ write-requires-2-clause-place t c =
     (row_of levels _ (record {
       level = c.args.level;
       place = get_or c.args.way.now.places c.args.level 0;
-    }) c.requires.confirmed (path_node levels c.args.core.number c.args.level c.args.way.now
-    c.requires.tree c.requires.core c.requires.way c.requires.level)).place
+    }) c.requires.rows.confirmed (path_node levels c.args.core.number c.args.level c.args.way.now
+    c.requires.lead.tree c.requires.lead.core c.requires.lead.way c.requires.level)).place
 
 pub clear_up-requires : goal.clear_up-requires
 clear_up-requires t c =
@@ -57,17 +57,17 @@ clear_up-requires t c =
     omega (arith, c.if-level-height.true, c.height.ensures.height) in (
       omega (arith, fits, c.decreases),
       (
-        c.requires.tree,
+        c.requires.lead,
         (
-          ap (map length) c.write.ensures
-              ∙ row_lengths (map (λ v. v.items) c.args.granted.now) l p 0
-              ∙ c.requires.granted,
-          (
-            ap (map length) c.write-2.ensures
+          record {
+            granted = ap (map length) c.write.ensures
+                ∙ row_lengths (map (λ v. v.items) c.args.granted.now) l p 0
+                ∙ c.requires.rows.granted;
+            confirmed = ap (map length) c.write-2.ensures
                 ∙ row_lengths (map (λ v. v.items) c.args.confirmed.now) l p 0
-                ∙ c.requires.confirmed,
-            (c.requires.core, (c.requires.way, (omega (arith, fits), c.requires.high))),
-          ),
+                ∙ c.requires.rows.confirmed;
+          },
+          omega (arith, fits),
         ),
       ),
     )
@@ -83,8 +83,8 @@ returns-then-level-height-clause-granted t c =
     c.clear_up.ensures.granted
     ∙ ap (cleared_from levels core (l + 1)) c.write.ensures
     ∙ cleared_step levels rows core l (get_or c.args.way.now.places l 0) fits
-    (omega (arith, fits, rows_long levels rows c.requires.granted))
-    (c.requires.way.places l c.requires.level)
+    (omega (arith, fits, rows_long levels rows c.requires.rows.granted))
+    (c.requires.lead.way.places l c.requires.level)
 
 pub returns-then-level-height-clause-confirmed : goal.returns-then-level-height-clause-confirmed
 returns-then-level-height-clause-confirmed t c =
@@ -97,8 +97,8 @@ returns-then-level-height-clause-confirmed t c =
     c.clear_up.ensures.confirmed
     ∙ ap (cleared_from levels core (l + 1)) c.write-2.ensures
     ∙ cleared_step levels rows core l (get_or c.args.way.now.places l 0) fits
-    (omega (arith, fits, rows_long levels rows c.requires.confirmed))
-    (c.requires.way.places l c.requires.level)
+    (omega (arith, fits, rows_long levels rows c.requires.rows.confirmed))
+    (c.requires.lead.way.places l c.requires.level)
 
 pub returns-else-level-height-clause-granted : goal.returns-else-level-height-clause-granted
 returns-else-level-height-clause-granted t c =
@@ -108,7 +108,7 @@ returns-else-level-height-clause-granted t c =
     c.write.ensures
     ∙ cleared_top levels rows c.args.core.number l (get_or c.args.way.now.places l 0)
     (omega (arith, c.if-level-height.false, c.height.ensures.height, c.requires.level))
-    (rows_long levels rows c.requires.granted) (c.requires.way.places l c.requires.level)
+    (rows_long levels rows c.requires.rows.granted) (c.requires.lead.way.places l c.requires.level)
 
 pub returns-else-level-height-clause-confirmed : goal.returns-else-level-height-clause-confirmed
 returns-else-level-height-clause-confirmed t c =
@@ -118,4 +118,5 @@ returns-else-level-height-clause-confirmed t c =
     c.write-2.ensures
     ∙ cleared_top levels rows c.args.core.number l (get_or c.args.way.now.places l 0)
     (omega (arith, c.if-level-height.false, c.height.ensures.height, c.requires.level))
-    (rows_long levels rows c.requires.confirmed) (c.requires.way.places l c.requires.level)
+    (rows_long levels rows c.requires.rows.confirmed)
+    (c.requires.lead.way.places l c.requires.level)

@@ -1,4 +1,5 @@
-use Rattle.std.proofs.Common.{◌≡◌, ◌≢◌, ◌<◌, ◌≤◌, ◌+◌, ◌∙◌, ◌==◌, ℕ, zero, suc, Bool, true, false, List}
+use Rattle.std.proofs.Common.{◌≡◌, ◌≢◌, ◌<◌, ◌≤◌, ◌+◌, ◌∙◌, ◌==◌, ℕ, zero, suc, Bool, true, false}
+use Rattle.std.proofs.Common.{List}
 use Rattle.std.proofs.Common.{length, get_or, replicate, arith, rules, ap, sym, subst}
 use Rattle.std.proofs.Common.{get_or-set_other}
 use Rattle.std.proofs.lemmas.Bool.{eqb-true}
@@ -95,7 +96,8 @@ loop-number-preserved t c =
     at_child ns ms i c.index_mut.result.now own fits c.index_mut.ensures.value
     c.loop-number.invariant.done in
     let one : IsOffOne (get_or ns i own) new = record {
-      cores = c.turn_off.ensures.cores ∙ ap (λ x. replicate (length (leaves x)) never_started) at.is;
+      cores = c.turn_off.ensures.cores
+          ∙ ap (λ x. replicate (length (leaves x)) never_started) at.is;
       shape = λ k. c.turn_off.ensures.shape k ∙ ap (child_counts k) at.is;
       kept = c.turn_off.ensures.kept;
     } in
@@ -173,7 +175,8 @@ returns-clause-cores t c =
       children = (out-Domain now).children;
       core = (out-Domain now).core;
       kept = c.never_started-self-2.result;
-    }) (omega (arith, some, off_length i (branches own) (branches now) c.loop-number.invariant.done))
+    })
+    (omega (arith, some, off_length i (branches own) (branches now) c.loop-number.invariant.done))
     ∙ off_cores i (branches own) (branches now) all c.loop-number.invariant.done
     ∙ ap (λ n. replicate n never_started) (sym (length_of_domain own some))
 

@@ -9,26 +9,18 @@ use Rattle.psci_tree.specs.contracts.tree.Tree.{the_view}
 use Rattle.psci_tree.proofs.Held.{held_core, core_value, state_held}
 use Rattle.psci_tree.proofs.tree.Tree.activate.Goals as goal
 
-pub activate_core-requires-clause-tree : goal.activate_core-requires-clause-tree
-activate_core-requires-clause-tree c = c.self.invariant.tied.valid.tree
-
-pub activate_core-requires-clause-whole : goal.activate_core-requires-clause-whole
-activate_core-requires-clause-whole c = c.self.invariant.tied.whole
-
-pub activate_core-requires-clause-core : goal.activate_core-requires-clause-core
-activate_core-requires-clause-core c =
+pub activate_core-requires-clause-lead : goal.activate_core-requires-clause-lead
+activate_core-requires-clause-lead c =
+    let core : c.args.core.number < size_below c.self.inside.board.levels =
     subst (λ (t : TreeValue). c.args.core.number < size_below t.levels) (sym c.self.view_is)
-    c.requires
-
-pub activate_core-requires-clause-way : goal.activate_core-requires-clause-way
-activate_core-requires-clause-way c =
-    subst (IsWayOf c.self.inside.board.levels c.args.core.number) (sym c.index-2.ensures)
-    (c.self.invariant.lead.each c.args.core.number c.index-2.result.now
-    (subst (λ (t : TreeValue). c.args.core.number < size_below t.levels) (sym c.self.view_is)
-    c.requires))
-
-pub activate_core-requires-clause-kept : goal.activate_core-requires-clause-kept
-activate_core-requires-clause-kept c = c.self.invariant.tied.kept
+    c.requires in record {
+      tree = c.self.invariant.tied.valid.tree;
+      whole = c.self.invariant.tied.whole;
+      core = core;
+      way = subst (IsWayOf c.self.inside.board.levels c.args.core.number) (sym c.index-2.ensures)
+          (c.self.invariant.lead.each c.args.core.number c.index-2.result.now core);
+      kept = c.self.invariant.tied.kept;
+    }
 
 pub activate_core-requires-clause-before : goal.activate_core-requires-clause-before
 activate_core-requires-clause-before c =

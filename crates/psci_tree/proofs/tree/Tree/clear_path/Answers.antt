@@ -12,22 +12,26 @@ use Rattle.psci_state.specs.declared.cores.CoreState.{CoreState}
 use Rattle.psci_tree.proofs.Valid.{path_valid}
 use Rattle.psci_tree.proofs.tree.Tree.clear_path.Goals as goal
 
-pub clear_up-requires-clause-granted : goal.clear_up-requires-clause-granted
-clear_up-requires-clause-granted c =
-    ap (λ xs. map length (map (λ v. v.items) xs)) c.deref_mut.ensures.value
-    ∙ c.self.invariant.tied.valid.granted
+pub clear_up-requires-clause-rows : goal.clear_up-requires-clause-rows
+clear_up-requires-clause-rows c = record {
+  granted = ap (λ xs. map length (map (λ v. v.items) xs)) c.deref_mut.ensures.value
+      ∙ c.self.invariant.tied.valid.granted;
+  confirmed = ap (λ xs. map length (map (λ v. v.items) xs)) c.deref_mut-2.ensures.value
+      ∙ c.self.invariant.tied.valid.confirmed;
+}
 
-pub clear_up-requires-clause-confirmed : goal.clear_up-requires-clause-confirmed
-clear_up-requires-clause-confirmed c =
-    ap (λ xs. map length (map (λ v. v.items) xs)) c.deref_mut-2.ensures.value
-    ∙ c.self.invariant.tied.valid.confirmed
-
-pub clear_up-requires-clause-way : goal.clear_up-requires-clause-way
-clear_up-requires-clause-way c =
-    subst (IsWayOf c.self.inside.board.levels c.args.core.number) (sym c.index-way.ensures)
-    (c.self.invariant.lead.each c.args.core.number c.index-way.result.now
-    (subst (λ (t : TreeValue). c.args.core.number < size_below t.levels) (sym c.self.view_is)
-    c.requires))
+pub clear_up-requires-clause-lead : goal.clear_up-requires-clause-lead
+clear_up-requires-clause-lead c =
+    let core : c.args.core.number < size_below c.self.inside.board.levels =
+    subst (λ (t : TreeValue). c.args.core.number < size_below t.levels) (sym c.self.view_is)
+    c.requires in record {
+      tree = c.self.invariant.tied.valid.tree;
+      high = c.self.invariant.tied.valid.high;
+      core = core;
+      way = subst (IsWayOf c.self.inside.board.levels c.args.core.number)
+          (sym c.index-way.ensures)
+          (c.self.invariant.lead.each c.args.core.number c.index-way.result.now core);
+    }
 
 pub returns-clause-value : goal.returns-clause-value
 returns-clause-value c =
@@ -69,9 +73,11 @@ pub invariant_of-self : goal.invariant_of-self
 invariant_of-self c =
     let row : List CoreState = c.self.inside.cores.items in
     let held : IsHeld c.self.inside.root row c.self.inside.ways.items c.args.self.now =
-    subst (IsHeld c.self.inside.root row c.self.inside.ways.items) c.self.view_is c.self.invariant in
+    subst (IsHeld c.self.inside.root row c.self.inside.ways.items) c.self.view_is
+    c.self.invariant in
     let tied : IsTied c.self.inside.root c.args.self.now = held.tied in
-    subst (IsHeld c.self.inside.root row c.self.inside.ways.items) (sym (returns-clause-value c)) (record {
+    subst (IsHeld c.self.inside.root row c.self.inside.ways.items) (sym (returns-clause-value c))
+    (record {
       tied = record {
         whole = tied.whole;
         kept = tied.kept;

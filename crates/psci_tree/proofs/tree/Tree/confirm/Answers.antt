@@ -15,7 +15,8 @@ pub write-requires : goal.write-requires
 write-requires c =
     let rows : List (List ℕ) = map (λ v. v.items) c.self.inside.confirmed.items in
     let at : RowOf rows c.args.node =
-    row_of _ _ c.args.node c.self.invariant.tied.valid.confirmed (subst (λ (t : TreeValue). HasNodeIn
+    row_of _ _ c.args.node c.self.invariant.tied.valid.confirmed
+    (subst (λ (t : TreeValue). HasNodeIn
     t.levels c.args.node) (sym c.self.view_is) c.requires.domain) in
     let same : map (λ v. v.items) c.deref_mut.result.now ≡ rows =
     ap (map (λ v. v.items)) c.deref_mut.ensures.value in
@@ -46,7 +47,8 @@ returns-clause-value c =
     ≡ depth_set (map (λ v. v.items) c.self.inside.confirmed.items) n
     (granted_at c.args.self.now n.level n.place) =
     c.write.ensures
-    ∙ ap (λ xs. depth_set (map (λ v. v.items) xs) n c.granted-depth.result) c.deref_mut.ensures.value
+    ∙ ap (λ xs. depth_set (map (λ v. v.items) xs) n c.granted-depth.result)
+    c.deref_mut.ensures.value
     ∙ ap (depth_set (map (λ v. v.items) c.self.inside.confirmed.items) n)
     c.granted-depth.ensures.value in
     ap change (ap (map (λ v. v.items)) kept ∙ confirmed)
@@ -66,9 +68,11 @@ unfolding with_confirmed
 invariant_of-self c =
     let row : List CoreState = c.self.inside.cores.items in
     let held : IsHeld c.self.inside.root row c.self.inside.ways.items c.args.self.now =
-    subst (IsHeld c.self.inside.root row c.self.inside.ways.items) c.self.view_is c.self.invariant in
+    subst (IsHeld c.self.inside.root row c.self.inside.ways.items) c.self.view_is
+    c.self.invariant in
     let tied : IsTied c.self.inside.root c.args.self.now = held.tied in
-    subst (IsHeld c.self.inside.root row c.self.inside.ways.items) (sym (returns-clause-value c)) (record {
+    subst (IsHeld c.self.inside.root row c.self.inside.ways.items) (sym (returns-clause-value c))
+    (record {
       tied = record {
         whole = tied.whole;
         kept = tied.kept;

@@ -20,7 +20,8 @@ at_row levels rows now n e h same =
 
 pub write-requires : goal.write-requires
 write-requires c =
-    let at = at_row c.self.inside.board.levels _ _ c.args.node c.self.invariant.tied.valid.confirmed (subst (λ (t : TreeValue).
+    let at = at_row c.self.inside.board.levels _ _ c.args.node c.self.invariant.tied.valid.confirmed
+    (subst (λ (t : TreeValue).
     HasNodeIn t.levels c.args.node) (sym c.self.view_is) c.requires.domain)
     (ap (map (λ v. v.items)) c.deref_mut.ensures.value) in
     record {
@@ -30,7 +31,8 @@ write-requires c =
 
 pub write-requires-2 : goal.write-requires-2
 write-requires-2 c =
-    let at = at_row c.self.inside.board.levels _ _ c.args.node c.self.invariant.tied.valid.granted (subst (λ (t : TreeValue).
+    let at = at_row c.self.inside.board.levels _ _ c.args.node c.self.invariant.tied.valid.granted
+    (subst (λ (t : TreeValue).
     HasNodeIn t.levels c.args.node) (sym c.self.view_is) c.requires.domain)
     (ap (map (λ v. v.items)) c.deref_mut-2.ensures.value) in
     record {
@@ -87,9 +89,11 @@ unfolding with_grant
 invariant_of-self c =
     let row : List CoreState = c.self.inside.cores.items in
     let held : IsHeld c.self.inside.root row c.self.inside.ways.items c.args.self.now =
-    subst (IsHeld c.self.inside.root row c.self.inside.ways.items) c.self.view_is c.self.invariant in
+    subst (IsHeld c.self.inside.root row c.self.inside.ways.items) c.self.view_is
+    c.self.invariant in
     let tied : IsTied c.self.inside.root c.args.self.now = held.tied in
-    subst (IsHeld c.self.inside.root row c.self.inside.ways.items) (sym (returns-clause-value c)) (record {
+    subst (IsHeld c.self.inside.root row c.self.inside.ways.items) (sym (returns-clause-value c))
+    (record {
       tied = record {
         whole = tied.whole;
         kept = tied.kept;

@@ -8,26 +8,18 @@ use Rattle.psci_tree.specs.contracts.tree.Tree.{the_view}
 use Rattle.psci_tree.proofs.Held.{held_core, core_value}
 use Rattle.psci_tree.proofs.tree.Tree.set_core.Goals as goal
 
-pub change_core-requires-clause-tree : goal.change_core-requires-clause-tree
-change_core-requires-clause-tree c = c.self.invariant.tied.valid.tree
-
-pub change_core-requires-clause-whole : goal.change_core-requires-clause-whole
-change_core-requires-clause-whole c = c.self.invariant.tied.whole
-
-pub change_core-requires-clause-core : goal.change_core-requires-clause-core
-change_core-requires-clause-core c =
+pub change_core-requires : goal.change_core-requires
+change_core-requires c =
+    let core : c.args.core.number < size_below c.self.inside.board.levels =
     subst (λ (t : TreeValue). c.args.core.number < size_below t.levels) (sym c.self.view_is)
-    c.requires.core
-
-pub change_core-requires-clause-way : goal.change_core-requires-clause-way
-change_core-requires-clause-way c =
-    subst (IsWayOf c.self.inside.board.levels c.args.core.number) (sym c.index-2.ensures)
-    (c.self.invariant.lead.each c.args.core.number c.index-2.result.now
-    (subst (λ (t : TreeValue). c.args.core.number < size_below t.levels) (sym c.self.view_is)
-    c.requires.core))
-
-pub change_core-requires-clause-kept : goal.change_core-requires-clause-kept
-change_core-requires-clause-kept c = c.self.invariant.tied.kept
+    c.requires.core in record {
+      tree = c.self.invariant.tied.valid.tree;
+      whole = c.self.invariant.tied.whole;
+      core = core;
+      way = subst (IsWayOf c.self.inside.board.levels c.args.core.number) (sym c.index-2.ensures)
+          (c.self.invariant.lead.each c.args.core.number c.index-2.result.now core);
+      kept = c.self.invariant.tied.kept;
+    }
 
 pub invariant_of-self : goal.invariant_of-self
 invariant_of-self c =

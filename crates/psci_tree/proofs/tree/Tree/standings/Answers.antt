@@ -36,5 +36,6 @@ returns c = λ level s high.
     ∙ ap (λ ls. kept_standing (get_or (domains_down (length ls - level) root)
     (place_above ls level core) root) level) same
     ∙ standing_is root t node (length t.levels - level) root
-    (c.law_spans.ensures t.levels tied.valid.tree) tied (ap (λ (v : TreeValue). v.cores) (sym is)) there
+    (c.law_spans.ensures t.levels tied.valid.tree) tied (ap (λ (v : TreeValue). v.cores) (sym is))
+    there
     (omega (arith, high))

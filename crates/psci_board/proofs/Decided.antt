@@ -1,0 +1,163 @@
+-- What is kept of a text decides the verdict on it, and a text without a fault has a board.
+use Rattle.std.proofs.Common.{◌≡◌, ℕ, ◌<◌, ◌≤◌, ◌^◌, ◌-◌, ◌%◌, Bool, true, false, cond, List, []}
+use Rattle.std.proofs.Common.{length, take, map, sum, Option, Some, None, Result, Ok, Err, refl, ap}
+use Rattle.std.proofs.Common.{sym, subst, arith}
+use Rattle.std.specs.Prelude.{◌&&◌, not, ◌==◌}
+use Rattle.std.specs.Str.Parse.{digits_value}
+use Rattle.std.proofs.lemmas.Bool.Decides.{nat_tests}
+use Rattle.std.proofs.lemmas.List.{take_all}
+use Rattle.psci_board.specs.psci_format.declared.format.Format.{Format}
+use Rattle.psci_board.specs.declared.limits.TheConstants.{MOST_CORES}
+use Rattle.psci_board.specs.declared.range.AddressRange.{AddressRange}
+use Rattle.psci_board.specs.declared.fault.BoardFault.{BoardFault}
+use Rattle.psci_board.specs.declared.fault.BoardFault.TheVariants.{Uneven, TooWide, TooManyCores}
+use Rattle.psci_board.specs.declared.fault.BoardFault.TheVariants.{BadRange, BadBoot, BadLimit}
+use Rattle.psci_board.specs.declared.text.TextSummary.{TextSummary}
+use Rattle.psci_board.specs.Grammar.{BoardText}
+use Rattle.psci_board.specs.Board.{BoardValue, is_in_some, IsBoard}
+use Rattle.psci_board.specs.Summary.{TreeSummaryValue, RangesSummaryValue}
+use Rattle.psci_board.specs.SummaryVerdict.{text_summary, summary_board, fault_in}
+use Rattle.psci_board.specs.Reading.{board_text}
+use Rattle.psci_board.specs.Verdict.{board_of, verdict_or, clusters, range_of, has_bad_range}
+use Rattle.psci_board.specs.Verdict.{board_in, format_or_original, is_limit, verdict}
+use Rattle.psci_board.proofs.Kept.{kept_ranges, kept_all_ranges}
+use Rattle.psci_board.proofs.KeptTree.{IsFull, kept_tree, tree_is_kept, uneven_kept, wide_kept}
+use Rattle.psci_board.proofs.KeptTree.{total_kept, levels_kept, is_tree, heights, within}
+use Rattle.psci_board.proofs.KeptTree.{left_false}
+
+not_false : (b : Bool) → not b ≡ false → b ≡ true
+not_false true h = refl
+not_false false h = cc
+
+both_true : (a b : Bool) → (a && b) ≡ true → (a ≡ true) × (b ≡ true)
+both_true true b h = (refl, h)
+both_true false b h = cc
+
+limited : (most n : ℕ) → is_limit most n ≡ true → (0 < n) × (n ≤ most)
+limited most n h = (grind (arith, nat_tests), grind (arith, nat_tests))
+
+below_limit : (n : ℕ) → n ≤ 2 ^ 32 - 1 → n < 2 ^ 32
+below_limit n h = omega arith
+
+passed : (b : Bool) (f : BoardFault) (y : Result BoardValue BoardFault) (v : BoardValue)
+    → cond b (Err f) y ≡ Ok v → (b ≡ false) × (y ≡ Ok v)
+passed true f y v h = cc
+passed false f y v h = (refl, h)
+
+same_ok : (v w : BoardValue) → ◌≡◌ {A = Result BoardValue BoardFault} (Ok v) (Ok w) → v ≡ w
+same_ok v w e = cc
+
+-- the board of a text is a board
+pub is_board : (t : BoardText) (v : BoardValue) → verdict t ≡ Ok v → IsBoard v
+unfolding verdict
+is_board t v said =
+    let a = passed _ Uneven _ v said in
+    let b = passed _ TooWide _ v a.1 in
+    let c = passed _ TooManyCores _ v b.1 in
+    let d = passed _ BadRange _ v c.1 in
+    let e = passed _ BadBoot _ v d.1 in
+    let f = passed _ BadLimit _ v e.1 in
+    let few : sum (clusters t.tree) ≤ MOST_CORES = within MOST_CORES _ c.0 in
+    let limits = both_true _ _ (not_false _ f.0) in
+    let starts = limited (2 ^ 32 - 1) t.starts limits.0 in
+    let lives = limited 65535 t.lives limits.1 in
+    let same = same_ok (board_in t) v f.1 in
+    subst IsBoard same (record {
+      tree = is_tree t.tree b.0 few;
+      low = (heights t.tree).0;
+      high = (heights t.tree).1;
+      boot = not_false _ e.0;
+      some_starts = starts.0;
+      starts = below_limit t.starts starts.1;
+      some_lives = lives.0;
+      lives = lives.1;
+    })
+
+abbrev pub said : Option BoardFault → BoardValue → Result BoardValue BoardFault
+said None v = Ok v
+said (Some f) v = Err f
+
+next : (b c : Bool) (f : BoardFault) (y : Result BoardValue BoardFault) (o : Option BoardFault)
+    (v : BoardValue)
+    → b ≡ c → (b ≡ false → y ≡ said o v) → cond b (Err f) y ≡ said (cond c (Some f) o) v
+next true true f y o v e h = refl
+next true false f y o v e h = cc
+next false true f y o v e h = cc
+next false false f y o v e h = h refl
+
+abbrev pub kept_text : BoardText → TextSummary
+kept_text t = record {
+  tree = kept_tree t.tree;
+  ranges = kept_ranges (map range_of t.ranges);
+  boot = digits_value 16 t.boot;
+  starts = t.starts;
+  lives = t.lives;
+  format = format_or_original t.format;
+}
+
+all_ranges : (rs : List AddressRange) → has_bad_range rs ≡ false → take 4 rs ≡ rs
+all_ranges rs h = take_all 4 rs (within 4 (length rs) (left_false _ _ h))
+
+same_board : {a b : List (List ℕ)} {c d : List AddressRange} (boot starts lives : ℕ)
+    (format : Format) → a ≡ b → c ≡ d
+    → ◌≡◌ {A = BoardValue}
+    (record {
+      levels = a;
+      ranges = c;
+      boot = boot;
+      starts = starts;
+      lives = lives;
+      format = format;
+    })
+    (record {
+      levels = b;
+      ranges = d;
+      boot = boot;
+      starts = starts;
+      lives = lives;
+      format = format;
+    })
+same_board boot starts lives format p q = cc
+
+decided_by : (t : BoardText) → IsFull t.tree
+    → verdict t ≡ said (fault_in (kept_text t)) (summary_board (kept_text t))
+unfolding verdict fault_in
+decided_by t full =
+    let rs = map range_of t.ranges in
+    let boot = digits_value 16 t.boot in
+    next _ _ Uneven _ _ _ (uneven_kept t.tree) (λ u.
+    next _ _ TooWide _ _ _ (wide_kept t.tree full) (λ w.
+    next _ _ TooManyCores _ _ _ (total_kept t.tree) (λ f.
+    next _ _ BadRange _ _ _ refl (λ r.
+    next _ _ BadBoot _ _ _
+    (ap (λ qs. not (boot % 4 == 0 && is_in_some qs boot)) (sym (all_ranges rs r))) (λ b.
+    next _ _ BadLimit _ _ _ refl (λ l.
+    ap Ok (same_board boot t.starts t.lives (format_or_original t.format)
+    (sym (levels_kept t.tree full w (within MOST_CORES _ f)))
+    (sym (all_ranges rs r)))))))))
+
+same_kept : {a b : TreeSummaryValue} {c d : RangesSummaryValue} (boot starts lives : ℕ)
+    (format : Format) → a ≡ b
+    → c ≡ d
+    → ◌≡◌ {A = TextSummary}
+    (record { tree = a; ranges = c; boot = boot; starts = starts; lives = lives; format = format })
+    (record { tree = b; ranges = d; boot = boot; starts = starts; lives = lives; format = format })
+same_kept boot starts lives format p q = cc
+
+text_is_kept : (t : BoardText) → text_summary t ≡ kept_text t
+text_is_kept t = same_kept (digits_value 16 t.boot) t.starts t.lives (format_or_original t.format)
+    (tree_is_kept t.tree) (kept_all_ranges [] t.ranges)
+
+pub decided : (t : BoardText) → IsFull t.tree
+    → verdict t ≡ said (fault_in (text_summary t)) (summary_board (text_summary t))
+decided t full = subst (λ (s : TextSummary). verdict t ≡ said (fault_in s) (summary_board s))
+    (sym (text_is_kept t)) (decided_by t full)
+
+-- the board of the bytes of a text is a board
+pub board_of_text : (bytes : List ℕ) (b : BoardValue) → board_of bytes ≡ Ok b → IsBoard b
+unfolding board_of
+board_of_text bytes b e = of_text (board_text bytes) e
+  where
+    of_text : (o : Option BoardText) → verdict_or o ≡ Ok b → IsBoard b
+    of_text None h = cc
+    of_text (Some t) h = is_board t b h

@@ -1,0 +1,214 @@
+-- What is kept of numbers, of members and of ranges, said at once of the whole list.
+use Rattle.std.proofs.Common.{◌≡◌, ℕ, zero, suc, ◌+◌, Bool, true, false, min, List, [], ◌∷◌, ◌++◌}
+use Rattle.std.proofs.Common.{length, take, map, sum, refl, ap, sym, ◌∙◌, arith, append_assoc}
+use Rattle.std.proofs.Common.{length-append, length-take}
+use Rattle.std.specs.Prelude.{◌||◌, not, nat_lt, nat_le, flat_map}
+use Rattle.std.specs.List.{list_any}
+use Rattle.std.proofs.lemmas.Bool.Decides.{nat_tests}
+use Rattle.std.proofs.lemmas.List.{map-append, append-nil, length-map}
+use Rattle.std.proofs.lemmas.List.Folds.{list_any-append}
+use Rattle.std.proofs.lemmas.List.Sums.{sum_by-append}
+use Rattle.std.proofs.lemmas.Grind.{flat_map-append}
+use Rattle.psci_board.specs.declared.limits.TheConstants.{MOST_CORES}
+use Rattle.psci_board.specs.declared.range.AddressRange.{AddressRange}
+use Rattle.psci_board.specs.Grammar.{Member}
+use Rattle.psci_board.specs.Grammar.Member.{Cluster, Group}
+use Rattle.psci_board.specs.Summary.{NumbersSummaryValue, with_number, with_numbers}
+use Rattle.psci_board.specs.Summary.{TreeSummaryValue, with_member}
+use Rattle.psci_board.specs.Summary.{with_members, RangesSummaryValue, with_range, with_ranges}
+use Rattle.psci_board.specs.Verdict.{is_out_of_width, is_group, numbers_in, range_of, has_bad_range}
+
+-- the first of the first, and more, are the first of all
+pub take_more : {A : Type 0} (n : ℕ) (xs ys : List A) → take n (take n xs ++ ys) ≡ take n (xs ++ ys)
+take_more zero xs ys = refl
+take_more (suc n) [] ys = refl
+take_more (suc n) (x ∷ xs) ys = ap (λ l. x ∷ l) (take_more n xs ys)
+
+-- Numbers ------------------------------------------------------------------------------------
+
+abbrev pub capped : ℕ → ℕ
+capped n = min n 17
+
+abbrev pub kept_numbers : List ℕ → NumbersSummaryValue
+kept_numbers ns = record {
+  first = take MOST_CORES (map capped ns);
+  total = min (sum ns) (MOST_CORES + 1);
+  bad_width = list_any is_out_of_width ns;
+}
+
+same_numbers : {a b : List ℕ} {c d : ℕ} {e f : Bool} → a ≡ b → c ≡ d → e ≡ f
+    → ◌≡◌ {A = NumbersSummaryValue} (record { first = a; total = c; bad_width = e })
+    (record { first = b; total = d; bad_width = f })
+same_numbers p q r = cc
+
+or_false : (b : Bool) → (b || false) ≡ b
+or_false true = refl
+or_false false = refl
+
+pub kept_number : (ns : List ℕ) (n : ℕ)
+    → with_number (kept_numbers ns) n ≡ kept_numbers (ns ++ n ∷ [])
+kept_number ns n =
+    same_numbers
+    (take_more MOST_CORES (map capped ns) (capped n ∷ [])
+    ∙ ap (take MOST_CORES) (sym (map-append capped ns (n ∷ []))))
+    (omega (arith, sum_by-append (λ x. x) ns (n ∷ [])))
+    (sym (list_any-append is_out_of_width ns (n ∷ [])
+    ∙ ap (λ b. list_any is_out_of_width ns || b) (or_false (is_out_of_width n))))
+
+kept_more : (ms ns : List ℕ) → with_numbers (kept_numbers ms) ns ≡ kept_numbers (ms ++ ns)
+unfolding with_numbers
+kept_more ms [] = ap kept_numbers (sym (append-nil ms))
+kept_more ms (n ∷ ns) =
+    ap (λ s. with_numbers s ns) (kept_number ms n) ∙ kept_more (ms ++ n ∷ []) ns
+    ∙ ap kept_numbers (append_assoc ms (n ∷ []) ns)
+
+-- Members ------------------------------------------------------------------------------------
+
+abbrev pub size : Member → ℕ
+size m = length (numbers_in m)
+
+abbrev pub is_number_alone : Member → Bool
+is_number_alone m = not (is_group m)
+
+abbrev pub kept_members : List Member → TreeSummaryValue
+kept_members ms = record {
+  numbers = kept_numbers (flat_map numbers_in ms);
+  sizes = take 16 (map (λ m. capped (size m)) ms);
+  bad_width = nat_lt 16 (length ms) || list_any (λ m. is_out_of_width (size m)) ms;
+  has_cluster = list_any is_number_alone ms;
+  has_group = list_any is_group ms;
+}
+
+same_tree : {a b : NumbersSummaryValue} {c d : List ℕ} {e f g h i j : Bool} → a ≡ b → c ≡ d
+    → e ≡ f → g ≡ h
+    → i ≡ j
+    → ◌≡◌ {A = TreeSummaryValue} (record {
+      numbers = a;
+      sizes = c;
+      bad_width = e;
+      has_cluster =
+          g;
+      has_group = i;
+    })
+    (record { numbers = b; sizes = d; bad_width = f; has_cluster = h; has_group = j })
+same_tree p q r s t = cc
+
+-- too many before, or now, or one that is bad
+or_more : (lt any le bad : Bool) → (lt ≡ true → le ≡ true)
+    → (((lt || any) || le) || bad) ≡ (le || (any || bad))
+or_more true any true bad h = refl
+or_more true any false bad h = cc (h refl)
+or_more false true true bad h = refl
+or_more false true false bad h = refl
+or_more false false true bad h = refl
+or_more false false false bad h = refl
+
+pub same_tests : (a b : Bool) → (a ≡ true → b ≡ true) → (b ≡ true → a ≡ true) → a ≡ b
+same_tests true b f g = sym (f refl)
+same_tests false true f g = g refl
+same_tests false false f g = refl
+
+full_then_more : (n l k m : ℕ) → k ≡ min n l → m ≡ l + 1 → nat_le n k ≡ nat_lt n m
+full_then_more n l k m e f = same_tests (nat_le n k) (nat_lt n m) (λ h. grind (arith, nat_tests))
+    (λ h. grind (arith, nat_tests))
+
+over_then_full : (n l k : ℕ) → k ≡ min n l → nat_lt n l ≡ true → nat_le n k ≡ true
+over_then_full n l k e h = grind (arith, nat_tests)
+
+-- one more item, where n are allowed and the first n are kept
+pub one_more : {A : Type 0} (n : ℕ) (is_bad : A → Bool) (xs : List A) (k : ℕ) (x : A)
+    → k ≡ min n (length xs)
+    → (((nat_lt n (length xs) || list_any is_bad xs) || nat_le n k) || is_bad x)
+    ≡ (nat_lt n (length (xs ++ x ∷ [])) || list_any is_bad (xs ++ x ∷ []))
+one_more n is_bad xs k x e =
+    let len : length (xs ++ x ∷ []) ≡ length xs + 1 = length-append xs (x ∷ []) in
+    let any : list_any is_bad (xs ++ x ∷ []) ≡ (list_any is_bad xs || is_bad x) =
+    list_any-append is_bad xs (x ∷ []) ∙ ap (λ b. list_any is_bad xs || b) (or_false (is_bad x)) in
+    or_more _ _ _ _ (over_then_full n (length xs) k e)
+    ∙ ap (λ b. b || (list_any is_bad xs || is_bad x))
+    (full_then_more n (length xs) k (length (xs ++ x ∷ [])) e len)
+    ∙ ap (λ b. nat_lt n (length (xs ++ x ∷ [])) || b) (sym any)
+
+any_more : {A : Type 0} (p : A → Bool) (xs : List A) (x : A)
+    → list_any p (xs ++ x ∷ []) ≡ (list_any p xs || p x)
+any_more p xs x = list_any-append p xs (x ∷ []) ∙ ap (λ b. list_any p xs || b) (or_false (p x))
+
+true_last : (b : Bool) → (b || true) ≡ true
+true_last true = refl
+true_last false = refl
+
+kept_sizes : (ms : List Member) (m : Member)
+    → take 16 (take 16 (map (λ m. capped (size m)) ms) ++ capped (size m) ∷ [])
+    ≡ take 16 (map (λ m. capped (size m)) (ms ++ m ∷ []))
+kept_sizes ms m = take_more 16 (map (λ m. capped (size m)) ms) (capped (size m) ∷ [])
+    ∙ ap (take 16) (sym (map-append (λ m. capped (size m)) ms (m ∷ [])))
+
+pub how_many : {A B : Type 0} (n : ℕ) (f : A → B) (xs : List A)
+    → length (take n (map f xs)) ≡ min n (length xs)
+how_many n f xs = length-take n (map f xs) ∙ ap (min n) (length-map xs f)
+
+kept_flat : (ms : List Member) (m : Member)
+    → with_numbers (kept_numbers (flat_map numbers_in ms)) (numbers_in m)
+    ≡ kept_numbers (flat_map numbers_in (ms ++ m ∷ []))
+kept_flat ms m =
+    kept_more (flat_map numbers_in ms) (numbers_in m)
+    ∙ ap kept_numbers
+    (sym (flat_map-append numbers_in ms (m ∷ [])
+    ∙ ap (λ l. flat_map numbers_in ms ++ l) (append-nil (numbers_in m))))
+
+kept_member : (ms : List Member) (m : Member)
+    → with_member (kept_members ms) m ≡ kept_members (ms ++ m ∷ [])
+unfolding with_numbers
+kept_member ms (Cluster n) =
+    same_tree (kept_flat ms (Cluster n)) (kept_sizes ms (Cluster n))
+    (one_more 16 (λ m. is_out_of_width (size m)) ms
+    (length (take 16 (map (λ m. capped (size m)) ms))) (Cluster n)
+    (how_many 16 (λ m. capped (size m)) ms))
+    (sym (any_more is_number_alone ms (Cluster n) ∙ true_last (list_any is_number_alone ms)))
+    (sym (any_more is_group ms (Cluster n) ∙ or_false (list_any is_group ms)))
+kept_member ms (Group ns) =
+    same_tree (kept_flat ms (Group ns)) (kept_sizes ms (Group ns))
+    (one_more 16 (λ m. is_out_of_width (size m)) ms
+    (length (take 16 (map (λ m. capped (size m)) ms))) (Group ns)
+    (how_many 16 (λ m. capped (size m)) ms))
+    (sym (any_more is_number_alone ms (Group ns) ∙ or_false (list_any is_number_alone ms)))
+    (sym (any_more is_group ms (Group ns) ∙ true_last (list_any is_group ms)))
+
+pub kept_all_members : (ms ns : List Member)
+    → with_members (kept_members ms) ns ≡ kept_members (ms ++ ns)
+unfolding with_members
+kept_all_members ms [] = ap kept_members (sym (append-nil ms))
+kept_all_members ms (n ∷ ns) =
+    ap (λ s. with_members s ns) (kept_member ms n) ∙ kept_all_members (ms ++ n ∷ []) ns
+    ∙ ap kept_members (append_assoc ms (n ∷ []) ns)
+
+-- Ranges -------------------------------------------------------------------------------------
+
+abbrev pub is_empty_range : AddressRange → Bool
+is_empty_range r = nat_le r.end r.start
+
+abbrev pub kept_ranges : List AddressRange → RangesSummaryValue
+kept_ranges rs = record { first = take 4 rs; faulty = has_bad_range rs }
+
+same_ranges : {a b : List AddressRange} {c d : Bool} → a ≡ b → c ≡ d
+    → ◌≡◌ {A = RangesSummaryValue} (record { first = a; faulty = c }) (record {
+      first =
+          b;
+      faulty = d;
+    })
+same_ranges p q = cc
+
+kept_range : (rs : List AddressRange) (r : AddressRange)
+    → with_range (kept_ranges rs) r ≡ kept_ranges (rs ++ r ∷ [])
+kept_range rs r =
+    same_ranges (take_more 4 rs (r ∷ []))
+    (one_more 4 is_empty_range rs (length (take 4 rs)) r (length-take 4 rs))
+
+pub kept_all_ranges : (rs : List AddressRange) (qs : List (List ℕ × List ℕ))
+    → with_ranges (kept_ranges rs) qs ≡ kept_ranges (rs ++ map range_of qs)
+unfolding with_ranges
+kept_all_ranges rs [] = ap kept_ranges (sym (append-nil rs))
+kept_all_ranges rs (q ∷ qs) =
+    ap (λ s. with_ranges s qs) (kept_range rs (range_of q))
+    ∙ kept_all_ranges (rs ++ range_of q ∷ []) qs
+    ∙ ap kept_ranges (append_assoc rs (range_of q ∷ []) (map range_of qs))

@@ -1,0 +1,270 @@
+-- What is kept of a tree decides what is said of it, and is the tree where no fault is said.
+use Rattle.std.proofs.Common.{◌≡◌, ℕ, ◌+◌, ◌<◌, ◌≤◌, Bool, true, false, cond, min, List, [], ◌∷◌}
+use Rattle.std.proofs.Common.{length}
+use Rattle.std.proofs.Common.{take, map, sum, refl, ap, sym, ◌∙◌, arith, lit<, lit≤}
+use Rattle.std.specs.Prelude.{◌||◌, ◌&&◌, nat_lt, ◌==◌, flat_map}
+use Rattle.std.specs.List.{list_any, list_all, AllPass}
+use Rattle.std.proofs.lemmas.Bool.Decides.{nat_tests}
+use Rattle.std.proofs.lemmas.List.{take_all, length-map}
+use Rattle.std.proofs.lemmas.List.Sums.{sum_by-cons, sum-map, AllPass-from_list_all}
+use Rattle.std.proofs.lemmas.List.Concat.{length-flat_map}
+use Rattle.psci_board.specs.declared.limits.TheConstants.{MOST_CORES}
+use Rattle.psci_board.specs.Grammar.{Member, TreeText}
+use Rattle.psci_board.specs.Grammar.Member.{Cluster, Group}
+use Rattle.psci_board.specs.Grammar.TreeText.{One, Members}
+use Rattle.psci_board.specs.Board.{is_width, IsTree}
+use Rattle.psci_board.specs.Summary.{TreeSummaryValue, no_members, tree_summary}
+use Rattle.psci_board.specs.SummaryVerdict.{summary_levels}
+use Rattle.psci_board.specs.Verdict.{is_out_of_width, is_group, numbers_in, clusters, levels_of}
+use Rattle.psci_board.specs.Verdict.{is_uneven, is_too_wide}
+use Rattle.psci_board.proofs.Kept.{capped, kept_numbers, kept_number, size, is_number_alone}
+use Rattle.psci_board.proofs.Kept.{same_tests, kept_members, kept_all_members, how_many}
+
+-- Widths -------------------------------------------------------------------------------------
+
+-- what is no width, where none is out of width
+pub left_false : (a b : Bool) → (a || b) ≡ false → a ≡ false
+left_false true b h = h
+left_false false b h = refl
+
+right_false : (a b : Bool) → (a || b) ≡ false → b ≡ false
+right_false true b h = cc
+right_false false b h = h
+
+both_false : (a b : Bool) → (a || b) ≡ false → (a ≡ false) × (b ≡ false)
+both_false a b h = (left_false a b h, right_false a b h)
+
+is_out : (n : ℕ) → is_out_of_width n ≡ false → (0 < n) × (n ≤ 16)
+is_out n h = (grind (arith, nat_tests), grind (arith, nat_tests))
+
+in_width : (n : ℕ) → is_out_of_width n ≡ false → is_width n ≡ true
+in_width n h = let w = is_out n h in grind (arith, nat_tests)
+
+cap_same : (n : ℕ) → is_out_of_width n ≡ false → capped n ≡ n
+cap_same n h = let w = is_out n h in omega arith
+
+all_capped : (ns : List ℕ) → list_any is_out_of_width ns ≡ false → map capped ns ≡ ns
+all_capped [] h = refl
+all_capped (n ∷ ns) h =
+    let p = both_false (is_out_of_width n) (list_any is_out_of_width ns) h in
+    let first : capped n ≡ n = cap_same n p.0 in
+    let rest : map capped ns ≡ ns = all_capped ns p.1 in
+    cc
+
+all_width : (ns : List ℕ) → list_any is_out_of_width ns ≡ false → list_all is_width ns ≡ true
+all_width [] h = refl
+all_width (n ∷ ns) h =
+    let p = both_false (is_out_of_width n) (list_any is_out_of_width ns) h in
+    rw (in_width n p.0, all_width ns p.1) refl
+
+pub pass_width : (ns : List ℕ) → list_any is_out_of_width ns ≡ false → AllPass is_width ns
+pass_width ns h = AllPass-from_list_all is_width ns (all_width ns h)
+
+-- no more numbers than their sum
+fewer_than_sum : (ns : List ℕ) → list_any is_out_of_width ns ≡ false → length ns ≤ sum ns
+fewer_than_sum [] h = omega arith
+fewer_than_sum (n ∷ ns) h =
+    let p = both_false (is_out_of_width n) (list_any is_out_of_width ns) h in
+    let w = is_out n p.0 in
+    omega (arith, sum_by-cons (λ x. x) n ns, fewer_than_sum ns p.1)
+
+-- sum at most, as the test says it
+pub within : (most n : ℕ) → nat_lt most n ≡ false → n ≤ most
+within most n h = grind (arith, nat_tests)
+
+pub kept_whole : (ns : List ℕ) → list_any is_out_of_width ns ≡ false → sum ns ≤ MOST_CORES
+    → take MOST_CORES (map capped ns) ≡ ns
+kept_whole ns h few =
+    rw (all_capped ns h) (take_all MOST_CORES ns (omega (arith, fewer_than_sum ns h)))
+
+any_size : (ms : List Member)
+    → list_any is_out_of_width (map size ms) ≡ list_any (λ m. is_out_of_width (size m)) ms
+any_size [] = refl
+any_size (m ∷ ms) = ap (λ b. is_out_of_width (size m) || b) (any_size ms)
+
+cap_sizes : (ms : List Member) → list_any (λ m. is_out_of_width (size m)) ms ≡ false
+    → map (λ m. capped (size m)) ms ≡ map size ms
+cap_sizes [] h = refl
+cap_sizes (m ∷ ms) h =
+    let p = both_false (is_out_of_width (size m)) (list_any (λ m. is_out_of_width (size m)) ms) h in
+    let first : capped (size m) ≡ size m = cap_same (size m) p.0 in
+    let rest : map (λ m. capped (size m)) ms ≡ map size ms = cap_sizes ms p.1 in
+    cc
+
+alone : (ms : List Member) → list_any is_group ms ≡ false
+    → list_any (λ m. is_out_of_width (size m)) ms ≡ false
+alone [] h = refl
+alone (Cluster n ∷ ms) h = alone ms h
+alone (Group ns ∷ ms) h = cc
+
+has_cluster : (ms : List Member) → 0 < length ms → list_any is_group ms ≡ false
+    → list_any is_number_alone ms ≡ true
+has_cluster [] some h = absurd (omega arith)
+has_cluster (Cluster n ∷ ms) some h = refl
+has_cluster (Group ns ∷ ms) some h = cc
+
+abbrev pub levels_by : Bool → List Member → List (List ℕ)
+levels_by g ms =
+    cond g (flat_map numbers_in ms ∷ map size ms ∷ (length ms ∷ []) ∷ [])
+    (flat_map numbers_in ms ∷ (length ms ∷ []) ∷ [])
+
+-- The tree -----------------------------------------------------------------------------------
+
+-- a list of the grammar is not empty
+abbrev pub IsFull : TreeText → Type 0
+IsFull (One n) = Unit {0}
+IsFull (Members ms) = 0 < length ms
+
+abbrev pub kept_tree : TreeText → TreeSummaryValue
+kept_tree (One n) = record no_members { numbers = kept_numbers (n ∷ []) }
+kept_tree (Members ms) = kept_members ms
+
+pub tree_is_kept : (t : TreeText) → tree_summary t ≡ kept_tree t
+tree_is_kept (One n) = ap (λ s. record no_members { numbers = s }) (kept_number [] n)
+tree_is_kept (Members ms) = kept_all_members [] ms
+
+pub uneven_kept : (t : TreeText)
+    → is_uneven t ≡ ((kept_tree t).has_group && (kept_tree t).has_cluster)
+uneven_kept (One n) = refl
+uneven_kept (Members ms) = refl
+
+swapped : (a b : Bool) → (a || ((b || false) || false)) ≡ (b || a)
+swapped true true = refl
+swapped true false = refl
+swapped false true = refl
+swapped false false = refl
+
+long_list : (n : ℕ) → 0 < n → is_out_of_width n ≡ nat_lt 16 n
+long_list n h = let some : (n == 0) ≡ false = grind (arith, nat_tests) in
+    ap (λ b. b || nat_lt 16 n) some
+
+-- what the levels above the lowest one add
+wide_by : (ms : List Member) → 0 < length ms → (g : Bool) → list_any is_group ms ≡ g
+    → list_any (λ w. list_any is_out_of_width w) (levels_by g ms)
+    ≡ (list_any is_out_of_width (flat_map numbers_in ms)
+    || (nat_lt 16 (length ms) || list_any (λ m. is_out_of_width (size m)) ms))
+wide_by ms some true e =
+    ap (λ b. list_any is_out_of_width (flat_map numbers_in ms) || b)
+    (rw (any_size ms, long_list (length ms) some) (swapped _ _))
+wide_by ms some false e =
+    ap (λ b. list_any is_out_of_width (flat_map numbers_in ms) || b)
+    (rw (alone ms e, long_list (length ms) some) (swapped false _))
+
+pub wide_kept : (t : TreeText) → IsFull t
+    → is_too_wide t ≡ ((kept_tree t).numbers.bad_width || (kept_tree t).bad_width)
+wide_kept (One n) full = refl
+wide_kept (Members ms) full = wide_by ms full (list_any is_group ms) refl
+
+few_kept : (n : ℕ) → nat_lt MOST_CORES n ≡ nat_lt MOST_CORES (min n (MOST_CORES + 1))
+few_kept n = same_tests (nat_lt MOST_CORES n) (nat_lt MOST_CORES (min n (MOST_CORES + 1)))
+    (λ h. grind (arith, nat_tests))
+    (λ h. grind (arith, nat_tests))
+
+pub total_kept : (t : TreeText)
+    → nat_lt MOST_CORES (sum (clusters t)) ≡ nat_lt MOST_CORES (kept_tree t).numbers.total
+total_kept (One n) = few_kept (sum (n ∷ []))
+total_kept (Members ms) = few_kept (sum (flat_map numbers_in ms))
+
+-- the parts of what is said of widths
+pub record Narrow (ms : List Member) : Type 0 where
+  pub flat : list_any is_out_of_width (flat_map numbers_in ms) ≡ false
+  pub sizes : list_any (λ m. is_out_of_width (size m)) ms ≡ false
+  pub outer : list_any is_out_of_width (length ms ∷ []) ≡ false
+
+narrow : (ms : List Member) (g : Bool) → list_any is_group ms ≡ g
+    → list_any (λ w. list_any is_out_of_width w) (levels_by g ms) ≡ false → Narrow ms
+narrow ms true e h =
+    let p = both_false _ _ h in
+    let q = both_false _ _ p.1 in
+    record { flat = p.0; sizes = sym (any_size ms) ∙ q.0; outer = left_false _ _ q.1 }
+narrow ms false e h =
+    let p = both_false _ _ h in
+    record { flat = p.0; sizes = alone ms e; outer = left_false _ _ p.1 }
+
+outer_size : (ms : List Member) → Narrow ms → length ms ≤ 16
+outer_size ms h = (is_out (length ms) (left_false _ _ h.outer)).1
+
+member_count : (ms : List Member) → Narrow ms
+    → length (take 16 (map (λ m. capped (size m)) ms)) ≡ length ms
+member_count ms h = how_many 16 (λ m. capped (size m)) ms ∙ omega (arith, outer_size ms h)
+
+whole_sizes : (ms : List Member) → Narrow ms → take 16 (map (λ m. capped (size m)) ms) ≡ map size ms
+whole_sizes ms h =
+    rw (cap_sizes ms h.sizes)
+    (take_all 16 (map size ms) (omega (arith, length-map ms size, outer_size ms h)))
+
+three_levels : {a b c d : List ℕ} {n m : ℕ} → a ≡ b → c ≡ d → n ≡ m
+    → ◌≡◌ {A = List (List ℕ)} (a ∷ c ∷ (n ∷ []) ∷ []) (b ∷ d ∷ (m ∷ []) ∷ [])
+three_levels p q r = cc
+
+two_levels : {a b : List ℕ} {n m : ℕ} → a ≡ b → n ≡ m
+    → ◌≡◌ {A = List (List ℕ)} (a ∷ (n ∷ []) ∷ []) (b ∷ (m ∷ []) ∷ [])
+two_levels p q = cc
+
+levels_kept_by : (ms : List Member) → 0 < length ms → (g : Bool) → list_any is_group ms ≡ g
+    → Narrow ms
+    → sum (flat_map numbers_in ms) ≤ MOST_CORES
+    → summary_levels (record (kept_members ms) { has_group = g }) ≡ levels_by g ms
+levels_kept_by ms some true e h few = three_levels (kept_whole (flat_map numbers_in ms) h.flat few)
+    (whole_sizes ms h) (member_count ms h)
+levels_kept_by ms some false e h few =
+    rw (has_cluster ms some e)
+    (two_levels (kept_whole (flat_map numbers_in ms) h.flat few) (member_count ms h))
+
+pub levels_kept : (t : TreeText) → IsFull t → is_too_wide t ≡ false → sum (clusters t) ≤ MOST_CORES
+    → summary_levels (kept_tree t) ≡ levels_of t
+levels_kept (One n) full wide few =
+    ap (λ m. (m ∷ []) ∷ []) (cap_same n (left_false _ _ (left_false _ _ wide)))
+levels_kept (Members ms) full wide few =
+    levels_kept_by ms full (list_any is_group ms) refl (narrow ms (list_any is_group ms) refl wide)
+    few
+
+-- The tree of a text is a tree of nodes ---------------------------------------------------------
+
+flat_alone : (ms : List Member) → list_any is_group ms ≡ false
+    → length (flat_map numbers_in ms) ≡ length ms
+flat_alone [] e = refl
+flat_alone (Cluster n ∷ ms) e = omega (arith, flat_alone ms e)
+flat_alone (Group ns ∷ ms) e = cc
+
+one_level : (n : ℕ) → list_any is_out_of_width (n ∷ []) ≡ false → IsTree ((n ∷ []) ∷ [])
+one_level n h =
+    let w = is_out n (left_false _ _ h) in
+    (refl, omega (arith, sum_by-cons (λ x. x) n []), pass_width (n ∷ []) h, tt)
+
+tree_by : (ms : List Member) (g : Bool) → list_any is_group ms ≡ g → Narrow ms
+    → sum (flat_map numbers_in ms) ≤ MOST_CORES → IsTree (levels_by g ms)
+tree_by ms true e h few =
+    let flat = flat_map numbers_in ms in
+    let parts : length flat ≡ sum (map size ms) =
+    length-flat_map numbers_in ms ∙ sym (sum-map size ms) in (
+      parts,
+      few,
+      pass_width flat h.flat,
+      (
+        omega (arith, length-map ms size, sum_by-cons (λ x. x) (length ms) []),
+        omega (arith, parts, fewer_than_sum flat h.flat),
+        pass_width (map size ms) (any_size ms ∙ h.sizes),
+        one_level (length ms) h.outer,
+      ),
+    )
+tree_by ms false e h few = (
+  omega (arith, flat_alone ms e, sum_by-cons (λ x. x) (length ms) []),
+  few,
+  pass_width (flat_map numbers_in ms) h.flat,
+  one_level (length ms) h.outer,
+)
+
+pub is_tree : (t : TreeText) → is_too_wide t ≡ false → sum (clusters t) ≤ MOST_CORES
+    → IsTree (levels_of t)
+is_tree (One n) wide few = one_level n (left_false _ _ wide)
+is_tree (Members ms) wide few = tree_by ms (list_any is_group ms) refl
+    (narrow ms (list_any is_group ms) refl wide) few
+
+pub heights : (t : TreeText) → (0 < length (levels_of t)) × (length (levels_of t) ≤ 3)
+heights (One n) = (lit< tt, lit≤ tt)
+heights (Members ms) = by (list_any is_group ms)
+  where
+    by : (g : Bool) → (0 < length (levels_by g ms)) × (length (levels_by g ms) ≤ 3)
+    by true = (lit< tt, lit≤ tt)
+    by false = (lit< tt, lit≤ tt)

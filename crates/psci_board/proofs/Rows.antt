@@ -1,0 +1,49 @@
+-- The boards of known texts.
+use Rattle.std.proofs.Common.{◌≡◌, ◌∷◌, [], refl}
+use Rattle.std.specs.Prelude.{codes, Ok}
+use Rattle.psci_board.specs.psci_format.declared.format.Format.TheVariants.{Original}
+use Rattle.psci_text.specs.Reading.{literal_at, number_at, hex_at, spaced_at}
+use Rattle.psci_board.specs.Reading.{range_at, at_most}
+use Rattle.psci_board.specs.Reading.{more_at, list_at, member_at, tree_at, board_text}
+use Rattle.psci_board.specs.Verdict.{board_of, verdict}
+
+pub one_cluster : board_of
+    (codes "3 exec 0x0-0x10 0x20-0x30 boot 0x2c starts 4294967295 lives 65535")
+    ≡ Ok (record {
+      levels = (3 ∷ []) ∷ [];
+      ranges = record { start = 0; end = 16 } ∷ record { start = 32; end = 48 } ∷ [];
+      boot = 44;
+      starts = 4294967295;
+      lives = 65535;
+      format = Original;
+    })
+unfolding board_of verdict board_text tree_at member_at list_at more_at at_most spaced_at
+    range_at hex_at number_at literal_at
+one_cluster = refl
+
+pub two_clusters : board_of
+    (codes "(2 2) exec 0x40000000-0x40100000 boot 0x40000000 starts 1000 lives 3")
+    ≡ Ok (record {
+      levels = (2 ∷ 2 ∷ []) ∷ (2 ∷ []) ∷ [];
+      ranges = record { start = 1073741824; end = 1074790400 } ∷ [];
+      boot = 1073741824;
+      starts = 1000;
+      lives = 3;
+      format = Original;
+    })
+unfolding board_of verdict board_text tree_at member_at list_at more_at at_most spaced_at
+    range_at hex_at number_at literal_at
+two_clusters = refl
+
+pub two_groups : board_of (codes "((1 2) (3)) exec 0xA-0xfF boot 0xFc starts 1 lives 1")
+    ≡ Ok (record {
+      levels = (1 ∷ 2 ∷ 3 ∷ []) ∷ (2 ∷ 1 ∷ []) ∷ (2 ∷ []) ∷ [];
+      ranges = record { start = 10; end = 255 } ∷ [];
+      boot = 252;
+      starts = 1;
+      lives = 1;
+      format = Original;
+    })
+unfolding board_of verdict board_text tree_at member_at list_at more_at at_most spaced_at
+    range_at hex_at number_at literal_at
+two_groups = refl

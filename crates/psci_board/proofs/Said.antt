@@ -1,0 +1,181 @@
+-- What is said of a text, by what was kept of it.
+use Rattle.std.proofs.Common.{◌≡◌, ℕ, ◌<◌, ◌^◌, ◌-◌, ◌%◌, Bool, true, false, cond, List, length}
+use Rattle.std.proofs.Common.{Option, Some, None, Result, Ok, Err, refl, ap, sym, ◌∙◌, subst, arith}
+use Rattle.std.specs.Prelude.{◌||◌, ◌&&◌, not, nat_lt, ◌==◌, codes, option_map, option_and_then}
+use Rattle.std.specs.Prelude.{IsOk, IsErrAnd}
+use Rattle.std.proofs.lemmas.Option.{option_and_then_some, same_Some}
+use Rattle.psci_board.specs.declared.limits.TheConstants.{MOST_CORES}
+use Rattle.psci_board.specs.declared.fault.BoardFault.{BoardFault}
+use Rattle.psci_board.specs.declared.fault.BoardFault.TheVariants.{Grammar, Uneven, TooWide}
+use Rattle.psci_board.specs.declared.fault.BoardFault.TheVariants.{TooManyCores, BadRange, BadBoot}
+use Rattle.psci_board.specs.declared.fault.BoardFault.TheVariants.{BadLimit, Memory}
+use Rattle.psci_board.specs.declared.text.TextSummary.{TextSummary}
+use Rattle.psci_board.specs.Grammar.{TreeText, BoardText}
+use Rattle.psci_board.specs.Grammar.TreeText.{One, Members}
+use Rattle.psci_text.specs.Reading.{literal_at, number_at, hex_at, spaced_at}
+use Rattle.psci_board.specs.Reading.{format_at, range_at, more_at}
+use Rattle.psci_board.specs.Reading.{list_at, member_at, starts_list, tree_at, board_text}
+use Rattle.psci_board.specs.Board.{BoardValue, is_in_some, IsBoard}
+use Rattle.psci_board.specs.SummaryVerdict.{text_summary, summary_board, fault_in}
+use Rattle.psci_board.specs.Verdict.{is_limit, verdict, verdict_or, board_of, Answers}
+use Rattle.psci_board.proofs.KeptTree.{IsFull}
+use Rattle.psci_board.proofs.Decided.{said, decided, is_board}
+
+-- The text -------------------------------------------------------------------------------------
+
+some_item : {A : Type 0} (item : List ℕ → Option (A × List ℕ)) (bytes : List ℕ)
+    (x : List A × List ℕ) → list_at item bytes ≡ Some x → 0 < length x.0
+unfolding list_at
+some_item item bytes x e =
+    option_and_then_some _ (literal_at (codes "(") bytes) x e (λ open_ a e1.
+    option_and_then_some _ (item open_) x e1 (λ first b e2.
+    option_and_then_some _ (literal_at (codes ")") (more_at item first.1).1) x e2 (λ close c e3.
+    let r = same_Some _ x e3 in
+    omega (arith, ap (λ y. length y.0) r))))
+
+full_tree : (bytes : List ℕ) (x : TreeText × List ℕ) → tree_at bytes ≡ Some x → IsFull x.0
+unfolding tree_at
+full_tree bytes x e = by_test (starts_list bytes) e
+  where
+    by_test : (b : Bool)
+        → cond b (option_and_then (λ ms. Some (Members ms.0, ms.1)) (list_at member_at bytes))
+        (option_and_then (λ n. Some (One n.0, n.1)) (number_at bytes)) ≡ Some x → IsFull x.0
+    by_test true h = option_and_then_some _ (list_at member_at bytes) x h
+        (λ ms a e1. subst (λ (y : TreeText × List ℕ). IsFull y.0) (same_Some _ x e1)
+        (some_item member_at bytes ms a))
+    by_test false h = option_and_then_some _ (number_at bytes) x h
+        (λ n a e1. subst (λ (y : TreeText × List ℕ). IsFull y.0) (same_Some _ x e1) tt)
+
+pub full_text : (bytes : List ℕ) (t : BoardText) → board_text bytes ≡ Some t → IsFull t.tree
+unfolding board_text
+full_text bytes t e =
+    option_and_then_some _ (tree_at bytes) t e (λ tree a e1.
+    option_and_then_some _ (literal_at (codes " exec") tree.1) t e1 (λ r1 b e2.
+    option_and_then_some _ (spaced_at range_at r1) t e2 (λ first c e3.
+    option_and_then_some _ (literal_at (codes " boot ") (more_at range_at first.1).1) t e3
+    (λ r2 d e4.
+    option_and_then_some _ (hex_at r2) t e4 (λ boot f e5.
+    option_and_then_some _ (literal_at (codes " starts ") boot.1) t e5 (λ r3 g e6.
+    option_and_then_some _ (number_at r3) t e6 (λ starts h e7.
+    option_and_then_some _ (literal_at (codes " lives ") starts.1) t e7 (λ r4 i e8.
+    option_and_then_some _ (number_at r4) t e8 (λ lives j e9.
+    option_and_then_some _ (format_at lives.1) t e9 (λ format k e10.
+    subst (λ (u : BoardText). IsFull u.tree) (same_Some _ _ e10)
+    (full_tree bytes tree a)))))))))))
+
+-- What is said of the text ----------------------------------------------------------------------
+
+pub not_of_grammar : (bytes : List ℕ) → None ≡ option_map text_summary (board_text bytes)
+    → board_of bytes ≡ Err Grammar
+unfolding board_of
+not_of_grammar bytes e = by_text (board_text bytes) e
+  where
+    by_text : (o : Option BoardText) → None ≡ option_map text_summary o → verdict_or o ≡ Err Grammar
+    by_text None h = refl
+    by_text (Some t) h = cc
+
+of_grammar : (bytes : List ℕ) (s : TextSummary)
+    → Some s ≡ option_map text_summary (board_text bytes)
+    → (t : BoardText) × (board_text bytes ≡ Some t) × (s ≡ text_summary t)
+of_grammar bytes s e = by_text (board_text bytes) refl e
+  where
+    by_text : (o : Option BoardText) → board_text bytes ≡ o → Some s ≡ option_map text_summary o
+        → (t : BoardText) × (board_text bytes ≡ Some t) × (s ≡ text_summary t)
+    by_text None a h = cc
+    by_text (Some t) a h = (t, a, same_Some _ _ h)
+
+pub record Said (bytes : List ℕ) (s : TextSummary) : Type 0 where
+  pub text : BoardText
+  pub verdict : verdict text ≡ said (fault_in s) (summary_board s)
+  pub all : board_of bytes ≡ said (fault_in s) (summary_board s)
+
+pub said_of : (bytes : List ℕ) (s : TextSummary)
+    → Some s ≡ option_map text_summary (board_text bytes)
+    → Said bytes s
+unfolding board_of
+said_of bytes s e =
+    let t = of_grammar bytes s e in
+    let d = subst (λ (x : TextSummary). verdict t.0 ≡ said (fault_in x) (summary_board x)) (sym t.2)
+    (decided t.0 (full_text bytes t.0 t.1)) in
+    record { text = t.0; verdict = d; all = ap verdict_or t.1 ∙ d }
+
+pub good_text : (bytes : List ℕ) (s : TextSummary)
+    → Some s ≡ option_map text_summary (board_text bytes)
+    → None ≡ fault_in s
+    → (board_of bytes ≡ Ok (summary_board s)) × IsBoard (summary_board s)
+good_text bytes s e none =
+    let d = said_of bytes s e in
+    let f = ap (λ o. said o (summary_board s)) (sym none) in
+    (d.all ∙ f, is_board d.text (summary_board s) (d.verdict ∙ f))
+
+-- memory is no fault of a text
+abbrev is_memory : Option BoardFault → Bool
+is_memory (Some Memory) = true
+is_memory (Some Grammar) = false
+is_memory (Some Uneven) = false
+is_memory (Some TooWide) = false
+is_memory (Some TooManyCores) = false
+is_memory (Some BadRange) = false
+is_memory (Some BadBoot) = false
+is_memory (Some BadLimit) = false
+is_memory None = false
+
+apart : false ≡ true → ⊥
+apart e = cc
+
+later : (b : Bool) (f : BoardFault) (o : Option BoardFault) → is_memory (Some f) ≡ false
+    → cond b (Some f) o ≡ Some Memory → o ≡ Some Memory
+later true f o p e = absurd (apart (sym p ∙ ap is_memory e))
+later false f o p e = e
+
+no_memory : (a b c d e f : Bool)
+    → cond a (Some Uneven)
+    (cond b (Some TooWide)
+    (cond c (Some TooManyCores)
+    (cond d (Some BadRange) (cond e (Some BadBoot) (cond f (Some BadLimit) None)))))
+    ≡ Some Memory → ⊥
+no_memory a b c d e f h =
+    let rest_f = cond f (Some BadLimit) None in
+    let rest_e = cond e (Some BadBoot) rest_f in
+    let rest_d = cond d (Some BadRange) rest_e in
+    let rest_c = cond c (Some TooManyCores) rest_d in
+    let rest_b = cond b (Some TooWide) rest_c in
+    apart (ap is_memory
+    (later f BadLimit None refl (later e BadBoot rest_f refl (later d BadRange rest_e refl
+    (later c TooManyCores rest_d refl
+    (later b TooWide rest_c refl (later a Uneven rest_b refl h)))))))
+
+never_memory : (s : TextSummary) → fault_in s ≡ Some Memory → ⊥
+unfolding fault_in
+never_memory s h =
+    no_memory (s.tree.has_group && s.tree.has_cluster) (s.tree.numbers.bad_width
+    || s.tree.bad_width)
+    (nat_lt MOST_CORES s.tree.numbers.total) s.ranges.faulty
+    (not (s.boot % 4 == 0 && is_in_some s.ranges.first s.boot))
+    (not (is_limit (2 ^ 32 - 1) s.starts && is_limit 65535 s.lives)) h
+
+faulty : (f : BoardFault) (r : Result BoardValue BoardFault) → (f ≡ Memory → ⊥) → r ≡ Err f
+    → Answers (Err f) r
+faulty Grammar r n e = e
+faulty Uneven r n e = e
+faulty TooWide r n e = e
+faulty TooManyCores r n e = e
+faulty BadRange r n e = e
+faulty BadBoot r n e = e
+faulty BadLimit r n e = e
+faulty Memory r n e = absurd (n refl)
+
+pub bad_text : (bytes : List ℕ) (s : TextSummary) (f : BoardFault)
+    → Some s ≡ option_map text_summary (board_text bytes) → Some f ≡ fault_in s
+    → Answers (Err f) (board_of bytes)
+bad_text bytes s f e some =
+    let d = said_of bytes s e in
+    faulty f (board_of bytes) (λ m. never_memory s (sym some ∙ ap Some m))
+    (d.all ∙ ap (λ o. said o (summary_board s)) (sym some))
+
+-- memory is answered where the text has a board
+pub no_fault : (v : BoardValue) (r said : Result BoardValue BoardFault) → said ≡ Ok v
+    → IsErrAnd r (λ f. f ≡ Memory) → Answers r said
+no_fault v (Ok b) r e m = absurd m
+no_fault v (Err f) r e m = subst (λ (g : BoardFault). Answers (Err g) r) (sym m)
+    (subst IsOk (sym e) refl)

@@ -1,0 +1,44 @@
+-- The last part of a text is read as it is spelled, and in no other way.
+use Rattle.std.proofs.Common.{◌≡◌, ℕ, Bool, true, false, cond, List, [], Option, Some, None, refl}
+use Rattle.std.proofs.Common.{eqb-true, length, subst}
+use Rattle.std.specs.Prelude.{codes}
+use Rattle.std.specs.Char.{is_ascii_digit}
+use Rattle.std.proofs.lemmas.List.{nil_from_length}
+use Rattle.std.proofs.lemmas.Option.{same_Some}
+use Rattle.std.proofs.lemmas.Slice.Eq.{bytes_eq-Decides}
+use Rattle.psci_board.specs.psci_format.declared.format.Format.{Format}
+use Rattle.psci_board.specs.psci_format.declared.format.Format.TheVariants.{Original, Extended}
+use Rattle.psci_text.specs.Spelling.{Ends}
+use Rattle.psci_board.specs.Grammar.{format_part}
+use Rattle.psci_board.specs.Reading.{format_at}
+
+pub format_again : (f : Option Format) → format_at (format_part f) ≡ Some f
+format_again None = refl
+format_again (Some Original) = refl
+format_again (Some Extended) = refl
+
+-- a number before it ends there
+pub ends_number : (f : Option Format) → Ends is_ascii_digit (format_part f)
+ends_number None = tt
+ends_number (Some Original) = refl
+ends_number (Some Extended) = refl
+
+chosen : (a b c : Bool) (bytes : List ℕ) (f : Option Format)
+    → (a ≡ true → bytes ≡ []) → (b ≡ true → bytes ≡ codes " format original")
+    → (c ≡ true → bytes ≡ codes " format extended")
+    → cond a (Some None) (cond b (Some (Some Original)) (cond c (Some (Some Extended)) None))
+    ≡ Some f → bytes ≡ format_part f
+chosen true b c bytes f none original extended e =
+    subst (λ (g : Option Format). bytes ≡ format_part g) (same_Some _ _ e) (none refl)
+chosen false true c bytes f none original extended e =
+    subst (λ (g : Option Format). bytes ≡ format_part g) (same_Some _ _ e) (original refl)
+chosen false false true bytes f none original extended e =
+    subst (λ (g : Option Format). bytes ≡ format_part g) (same_Some _ _ e) (extended refl)
+chosen false false false bytes f none original extended e = cc
+
+pub format_takes : (bytes : List ℕ) (f : Option Format) → format_at bytes ≡ Some f
+    → bytes ≡ format_part f
+format_takes bytes f e =
+    chosen _ _ _ bytes f (λ h. nil_from_length bytes (eqb-true (length bytes) 0 h))
+    (bytes_eq-Decides bytes (codes " format original")).0
+    (bytes_eq-Decides bytes (codes " format extended")).0 e

@@ -1,5 +1,0 @@
-use Rattle.std.proofs.Common.{rules}
-use Rattle.psci_board.proofs.board.Board.start_limit.Goals as goal
-
-pub returns : goal.returns
-returns c = search rules

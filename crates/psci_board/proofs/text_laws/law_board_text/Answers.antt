@@ -1,0 +1,8 @@
+use Rattle.psci_board.proofs.SpelledText.{text_again, text_takes}
+use Rattle.psci_board.proofs.text_laws.law_board_text.Goals as goal
+
+pub returns : goal.returns
+returns c = record {
+  again = text_again c.law_text.ensures;
+  spelled = text_takes c.law_text.ensures;
+}

@@ -1,0 +1,5 @@
+use Rattle.psci_board.proofs.Decided.{board_of_text}
+use Rattle.psci_board.proofs.text_laws.law_boards.Goals as goal
+
+pub returns : goal.returns
+returns c = board_of_text

@@ -1,0 +1,100 @@
+use Rattle.std.proofs.Common.{◌≡◌, ◌∷◌, sym, ap, ◌∙◌, arith, refl}
+use Rattle.psci_board.specs.Summary.{with_members}
+use Rattle.psci_board.specs.Reading.{member_at, more_at}
+use Rattle.psci_board.proofs.More.{member_shortens, spaced_shortens, more_some, more_none}
+use Rattle.psci_board.proofs.More.{list_ended}
+use Rattle.psci_board.proofs.More.{list_unclosed, rest_again, if_kept, list_unopened, list_empty}
+use Rattle.psci_board.proofs.More.{read_some, read_none, spaced_some, spaced_none, unspaced}
+use Rattle.psci_board.proofs.More.{spaced_unclosed}
+use Rattle.psci_board.proofs.tree_text.members.Goals as goal
+
+pub returns-in_err-literal-clause-read : goal.returns-in_err-literal-clause-read
+returns-in_err-literal-clause-read c =
+    rw (
+      list_unopened member_at c.args.text.now (sym c.in_err-literal.ensures),
+      c.from_residual.ensures,
+    ) refl
+
+pub returns-in_err-literal-clause-summary : goal.returns-in_err-literal-clause-summary
+returns-in_err-literal-clause-summary c =
+    rw (list_unopened member_at c.args.text.now (sym c.in_err-literal.ensures)) tt
+
+pub returns-in_err-rest-clause-read : goal.returns-in_err-rest-clause-read
+returns-in_err-rest-clause-read c =
+    rw (
+      list_empty member_at c.args.text.now _ (sym c.in_ok-literal.ensures)
+          (read_none _ c.in_err-rest.ensures.read),
+      c.from_residual-in_err-rest.ensures,
+    ) refl
+
+pub returns-in_err-rest-clause-summary : goal.returns-in_err-rest-clause-summary
+returns-in_err-rest-clause-summary c =
+    rw (list_empty member_at c.args.text.now _ (sym c.in_ok-literal.ensures)
+    (read_none _ c.in_err-rest.ensures.read)) tt
+
+pub loop-after-init : goal.loop-after-init
+loop-after-init c = record { summary = refl; rest = refl }
+
+pub loop-after-smaller : goal.loop-after-smaller
+loop-after-smaller c =
+    let item = read_some _ _ _ c.in_ok-rest-2.ensures.read c.in_ok-rest-2.ensures.summary in
+    let next = spaced_some member_at _ _ _ (sym c.in-Some.ensures) item.1 in
+    omega (arith, spaced_shortens member_at member_shortens _ _ next)
+
+pub loop-after-preserved : goal.loop-after-preserved
+unfolding with_members
+loop-after-preserved c =
+    let item = read_some _ _ _ c.in_ok-rest-2.ensures.read c.in_ok-rest-2.ensures.summary in
+    let next = spaced_some member_at _ _ _ (sym c.in-Some.ensures) item.1 in
+    let m = more_some member_at member_shortens c.loop-after.rest.now _ _ next in
+    let i = c.loop-after.invariant in
+    record {
+      summary = rw item.2 (rw m at i.summary);
+      rest = ap (λ r. r.1) (sym m) ∙ i.rest;
+    }
+
+pub returns-clause-read : goal.returns-clause-read
+returns-clause-read c =
+    let first = read_some _ _ _ c.in_ok-rest.ensures.read c.in_ok-rest.ensures.summary in
+    let e =
+    list_ended member_at member_shortens c.args.text.now _ _ _ _ (sym c.in_ok-literal.ensures)
+    first.1 c.loop-after.invariant.rest (unspaced member_at _ (sym c.in_default.ensures)) in
+    rw (
+      e,
+      rest_again (first.0 ∷
+          (more_at member_at c.in_ok-rest.rest.now).0) _,
+      c.literal-2.ensures,
+    )
+    refl
+
+pub returns-clause-summary : goal.returns-clause-summary
+unfolding with_members
+returns-clause-summary c =
+    let first = read_some _ _ _ c.in_ok-rest.ensures.read c.in_ok-rest.ensures.summary in
+    let e =
+    list_ended member_at member_shortens c.args.text.now _ _ _ _ (sym c.in_ok-literal.ensures)
+    first.1 c.loop-after.invariant.rest (unspaced member_at _ (sym c.in_default.ensures)) in
+    let none =
+    more_none member_at member_shortens _ (unspaced member_at _ (sym c.in_default.ensures)) in
+    rw e (if_kept (λ ms. c.loop-after.summary ≡ with_members c.args.summary.now ms) _ _
+    (rw first.2 at (rw none at c.loop-after.invariant.summary)))
+
+pub returns-in_err-rest-2-clause-read : goal.returns-in_err-rest-2-clause-read
+returns-in_err-rest-2-clause-read c =
+    let first = read_some _ _ _ c.in_ok-rest.ensures.read c.in_ok-rest.ensures.summary in
+    let stuck = spaced_none member_at _ _ (sym c.in-Some.ensures)
+    (read_none _ c.in_err-rest-2.ensures.read) in
+    let e =
+    list_unclosed member_at member_shortens c.args.text.now _ _ _ _ (sym c.in_ok-literal.ensures)
+    first.1 c.loop-after.invariant.rest stuck (spaced_unclosed _ _ (sym c.in-Some.ensures)) in
+    rw (e, c.from_residual-in_err-rest-2.ensures) refl
+
+pub returns-in_err-rest-2-clause-summary : goal.returns-in_err-rest-2-clause-summary
+returns-in_err-rest-2-clause-summary c =
+    let first = read_some _ _ _ c.in_ok-rest.ensures.read c.in_ok-rest.ensures.summary in
+    let stuck = spaced_none member_at _ _ (sym c.in-Some.ensures)
+    (read_none _ c.in_err-rest-2.ensures.read) in
+    let e =
+    list_unclosed member_at member_shortens c.args.text.now _ _ _ _ (sym c.in_ok-literal.ensures)
+    first.1 c.loop-after.invariant.rest stuck (spaced_unclosed _ _ (sym c.in-Some.ensures)) in
+    rw e tt

@@ -1,8 +1,0 @@
-use Rattle.psci_board_text.proofs.SpelledText.{text_again, text_takes}
-use Rattle.psci_board_text.proofs.laws.law_board_text.Goals as goal
-
-pub returns : goal.returns
-returns c = record {
-  again = text_again c.law_text.ensures;
-  spelled = text_takes c.law_text.ensures;
-}

@@ -1,7 +1,0 @@
-use Rattle.std.proofs.Common.{rules}
-use Rattle.psci_board_text.specs.SummaryVerdict.{fault_in}
-use Rattle.psci_board_text.proofs.text.fault.Goals as goal
-
-pub returns-then-is_too_wide : goal.returns-then-is_too_wide
-unfolding fault_in
-returns-then-is_too_wide c = search rules

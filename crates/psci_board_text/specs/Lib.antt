@@ -1,5 +1,0 @@
-pub mod Grammar
-pub mod Reading
-pub mod Summary
-pub mod SummaryVerdict
-pub mod Verdict

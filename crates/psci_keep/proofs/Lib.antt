@@ -1,4 +1,0 @@
-pub mod KeptLines
-mod KeptRows
-mod ReadRows
-mod WordRows

@@ -1,6 +1,0 @@
--- A core that is not started does nothing.
-use Rattle.psci_settling.proofs.Settles.{settles_none}
-use Rattle.psci_settling.proofs.settling.enter_if_started.Goals as goal
-
-pub returns-else-eq-clause-events : goal.returns-else-eq-clause-events
-returns-else-eq-clause-events c = settles_none c.args.world.now.board c.args.world.now.past

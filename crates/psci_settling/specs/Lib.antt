@@ -1,2 +1,0 @@
-pub mod Settles
-pub use Rattle.psci_settle.specs.Settling

@@ -1,4 +1,0 @@
-mod AnswerRows
-mod CountRows
-mod TableRows
-mod TallyRows

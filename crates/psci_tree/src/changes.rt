@@ -1,0 +1,187 @@
+//! The changes of a tree: a core does something else, and a domain is granted another depth.
+
+ghost use Rattle.std.specs.Prelude.{◌≡◌, ◌<◌, ◌≤◌, unwrap_or};
+ghost use Rattle.psci_board.specs.Board.{size_below, HasNodeIn};
+ghost use Rattle.psci_state.specs.declared.cores.Activity.TheVariants.{Active};
+ghost use Rattle.psci_tree.specs.Recount.{IsActivity, IsDomainTree, granted_at, known_at};
+ghost use Rattle.psci_tree.specs.Changes.{MayGrant, suspended, turned_off, made_pending, started};
+ghost use Rattle.psci_tree.specs.Changes.{with_grant, with_confirmed, with_core_state};
+ghost use Rattle.psci_tree.specs.Changes.{still_confirmed};
+ghost use Rattle.psci_tree.specs.Changes.{with_path_cleared, all_off, start_of_life};
+
+use crate::descent::{activate_core, change_core, turn_off};
+use crate::grants::{clear_up, fill_rows, write};
+use crate::tree::{BOOT_CORE, Tree};
+use psci_board::{Core, Node};
+use psci_state::{Activity, Ask, Change, NEVER_STARTED};
+
+impl Tree {
+    /// Puts the tree to the start of a life, in place.
+    pub fn reset_life(&mut self)
+        ensures value { self.new ≡ start_of_life self.old.levels }
+        ensures levels { self.new.levels ≡ self.old.levels }
+        ensures tree { IsDomainTree self.new }
+    {
+        self.turn_off();
+        self.set_pending(BOOT_CORE);
+    }
+
+    /// Grants a depth to a domain. Another one than before is not confirmed.
+    pub fn grant(&mut self, node: Node, depth: u8)
+        requires domain { HasNodeIn self.old.levels node }
+        requires depth { MayGrant self.old node depth }
+        ensures value { self.new ≡ with_grant self.old node depth }
+        ensures levels { self.new.levels ≡ self.old.levels }
+        ensures tree { IsDomainTree self.new }
+    {
+        let confirmed = self.still_confirmed(node, depth);
+        write(&mut self.confirmed, node, confirmed);
+        write(&mut self.granted, node, depth);
+    }
+
+    /// Confirms what was granted to a domain.
+    pub fn confirm(&mut self, node: Node)
+        requires domain { HasNodeIn self.old.levels node }
+        requires granted { 1 ≤ granted_at self.old node.level node.place }
+        ensures value { self.new ≡ with_confirmed self.old node }
+        ensures levels { self.new.levels ≡ self.old.levels }
+        ensures tree { IsDomainTree self.new }
+    {
+        let depth = self.granted(node);
+        write(&mut self.confirmed, node, depth);
+    }
+
+    /// A core is suspended, with this ask.
+    pub fn set_ask(&mut self, core: Core, ask: Ask)
+        requires { core.number < size_below self.old.levels }
+        ensures value { self.new ≡ suspended self.old core.number ask }
+        ensures levels { self.new.levels ≡ self.old.levels }
+        ensures tree { IsDomainTree self.new }
+    {
+        self.set_core(core, Activity::Suspended(ask));
+    }
+
+    /// A core is off, or going off.
+    pub fn set_off(&mut self, core: Core)
+        requires { core.number < size_below self.old.levels }
+        ensures value { self.new ≡ turned_off self.old core.number }
+        ensures levels { self.new.levels ≡ self.old.levels }
+        ensures tree { IsDomainTree self.new }
+    {
+        self.set_core(core, Activity::Off);
+    }
+
+    /// A core is pending: nothing is granted or confirmed any more on its path.
+    pub fn set_pending(&mut self, core: Core)
+        requires { core.number < size_below self.old.levels }
+        ensures value { self.new ≡ made_pending self.old core.number }
+        ensures levels { self.new.levels ≡ self.old.levels }
+        ensures tree { IsDomainTree self.new }
+    {
+        self.activate(core, None);
+        self.clear_path(core);
+    }
+
+    /// A core runs in its start of this number: nothing is granted or confirmed any more on its
+    /// path.
+    pub fn set_start(&mut self, core: Core, number: u32)
+        requires { core.number < size_below self.old.levels }
+        ensures value { self.new ≡ started self.old core.number number }
+        ensures levels { self.new.levels ≡ self.old.levels }
+        ensures tree { IsDomainTree self.new }
+    {
+        self.activate(core, Some(number));
+        self.clear_path(core);
+    }
+
+    /// What stays confirmed of a domain that is granted this depth.
+    fn still_confirmed(&self, node: Node, depth: u8) -> u8
+        requires { HasNodeIn self.now.levels node }
+        ensures { result ≡ still_confirmed self.now node depth }
+    {
+        if self.granted(node) == depth {
+            self.confirmed_depth(node)
+        } else {
+            0
+        }
+    }
+
+    /// Changes what a core does. Its known start stays.
+    fn set_core(&mut self, core: Core, activity: Activity)
+        requires core { core.number < size_below self.old.levels }
+        requires activity { IsActivity activity }
+        ensures value { self.new ≡ with_core_state self.old core.number activity
+            (known_at self.old core.number) }
+        ensures levels { self.new.levels ≡ self.old.levels }
+        ensures tree { IsDomainTree self.new }
+    {
+        let number = core.number as usize;
+        let state = self.cores[number].changed(&Change {
+            activity,
+            started: None,
+        });
+        change_core(
+            &mut self.root,
+            &self.board,
+            core,
+            &self.ways[number],
+            &state,
+        );
+        self.cores[number] = state;
+    }
+
+    /// A core is running or pending, after the start of this number, if there was one.
+    fn activate(&mut self, core: Core, started: Option<u32>)
+        requires { core.number < size_below self.old.levels }
+        ensures value { self.new ≡ with_core_state self.old core.number Active
+            (unwrap_or started (known_at self.old core.number)) }
+        ensures levels { self.new.levels ≡ self.old.levels }
+        ensures tree { IsDomainTree self.new }
+    {
+        let number = core.number as usize;
+        let before = self.cores[number];
+        let state = before.changed(&Change {
+            activity: Activity::Active,
+            started,
+        });
+        activate_core(
+            &mut self.root,
+            &self.board,
+            core,
+            &self.ways[number],
+            &before,
+            &state,
+        );
+        self.cores[number] = state;
+    }
+
+    /// Takes away what is granted and confirmed on the path of a core.
+    fn clear_path(&mut self, core: Core)
+        requires { core.number < size_below self.old.levels }
+        ensures value { self.new ≡ with_path_cleared self.old core.number }
+        ensures levels { self.new.levels ≡ self.old.levels }
+        ensures tree { IsDomainTree self.new }
+    {
+        let way = &self.ways[core.number as usize];
+        clear_up(
+            &mut self.granted,
+            &mut self.confirmed,
+            &self.board,
+            core,
+            way,
+            0,
+        );
+    }
+
+    /// Turns off every core, and grants depth 3 to every domain, which is confirmed.
+    fn turn_off(&mut self)
+        ensures value { self.new ≡ all_off self.old.levels }
+        ensures levels { self.new.levels ≡ self.old.levels }
+        ensures tree { IsDomainTree self.new }
+    {
+        turn_off(&mut self.root, &self.board);
+        fill_rows(&mut self.granted, 3);
+        fill_rows(&mut self.confirmed, 3);
+        self.cores.fill(NEVER_STARTED);
+    }
+}

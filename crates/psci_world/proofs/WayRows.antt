@@ -1,0 +1,21 @@
+-- Pasts that are on the way to others, and one that is not.
+use Rattle.std.proofs.Common.{◌≡◌, ◌+◌, [], ◌∷◌, length, length-append, refl, ap, ◌∙◌}
+use Rattle.std.proofs.Common.{arith}
+use Rattle.psci_world.specs.Settles.{IsOnTheWay}
+use Rattle.psci_present.specs.psci_world_spec.declared.said.Record.{Record}
+
+-- before any record, after the first of three, and after the last
+pub at_first : (r s t : Record) → IsOnTheWay [] (t ∷ s ∷ r ∷ [])
+at_first r s t = (t ∷ s ∷ r ∷ [], refl)
+
+pub in_between : (r s t : Record) → IsOnTheWay (r ∷ []) (t ∷ s ∷ r ∷ [])
+in_between r s t = (t ∷ s ∷ [], refl)
+
+pub at_last : (r s t : Record) → IsOnTheWay (t ∷ s ∷ r ∷ []) (t ∷ s ∷ r ∷ [])
+at_last r s t = ([], refl)
+
+-- a record more than there shall be
+pub beyond : (r s : Record) → IsOnTheWay (s ∷ r ∷ []) (r ∷ []) → ⊥
+beyond r s way =
+    let lengths : 1 ≡ length way.0 + 2 = ap length way.1 ∙ length-append way.0 (s ∷ r ∷ []) in
+    omega (arith, lengths)
