@@ -7,10 +7,9 @@ mod LineRows
 mod NumberRows
 pub mod LineFeeds
 pub mod PartLines
-mod RunRows
 mod ScriptRows
 mod Scripts
 pub mod SpelledLines
-mod SystemRows
+mod StoryRows
 mod TextRows
 pub mod Words

@@ -27,68 +27,6 @@ pub const WHOLE: Replayed = Replayed {
     events: 2,
 };
 
-/// The Down of a core that was woken since is stale, and its acknowledgement is old.
-const STALE: &[u8] = b"board (2 2) exec 0x40000000-0x40100000 boot 0x40000000 starts 1000 lives 3\n\
-      enter 0\n\
-      call 0 0xc4000003 0x101 0x40001000 0x7\n\
-      call 0 0xc4000004 0x101 0\n\
-      deliver 0\n\
-      enter 3\n\
-      call 3 0x84000002\n\
-      wake 3\n\
-      enter 3\n\
-      deliver 1\n\
-      take 1\n\
-      deliver 2\n\
-      take 2\n";
-
-const STALE_TEXT: &[u8] = b"1 enter 0x40000000 0x0\n\
-      2 return 0 #0 start 3 life 1 number 0\n\
-      3 return 2\n\
-      4 ack #0 applied 1\n\
-      5 enter 0x40001000 0x7\n\
-      6 stop #1 down 3 life 1 number 1 parts 0:3:1 1:3:1\n\
-      7 started 2\n\
-      8 stop #2 down 3 life 1 number 2 parts 0:3:2 1:3:2\n\
-      9 ack #1 applied 0 stale\n\
-      10 old\n\
-      11 ack #2 applied 2\n\
-      12 used\n";
-
-/// In a new life nothing means anything that was said in the last one.
-const LIVES: &[u8] = b"board (2 2) exec 0x40000000-0x40100000 boot 0x40000000 starts 1000 lives 3\n\
-      enter 0\n\
-      call 0 0xc4000003 0x101 0x40001000 0x7\n\
-      call 0 0xc4000004 0x101 0\n\
-      deliver 0\n\
-      enter 3\n\
-      call 3 0xc4000001 0x1\n\
-      wake 3\n\
-      enter 3\n\
-      call 0 0x84000009\n\
-      deliver 2\n\
-      call 3 0x84000000\n\
-      deliver 1\n\
-      enter 0\n\
-      call 0 0xc4000004 0x101 0\n\
-      take 1\n";
-
-const LIVES_TEXT: &[u8] = b"1 enter 0x40000000 0x0\n\
-      2 return 0 #0 start 3 life 1 number 0\n\
-      3 return 2\n\
-      4 ack #0 applied 1\n\
-      5 enter 0x40001000 0x7\n\
-      6 stop #1 down 3 life 1 number 1 parts 0:1:1\n\
-      7 started 2\n\
-      8 resume 0\n\
-      9 stop #2 reset 0 life 1 number 1\n\
-      10 ack #1 applied 1\n\
-      11 ignored\n\
-      12 ignored\n\
-      13 enter 0x40000000 0x0\n\
-      14 return 1\n\
-      15 old\n";
-
 /// What is answered before any call, and a line with two numbers.
 const FIRST: &[u8] = b"board (2 2) exec 0x40000000-0x40100000 boot 0x40000000 starts 1000 lives 3\n\
       deliver 0\n\
@@ -225,28 +163,6 @@ const NO_LAST_LINE_FEED: Replay = Replay {
     ..EASY
 };
 
-const STALE_MESSAGE: Replay = Replay {
-    name: "stale message",
-    script: STALE,
-    answer: Ok(Replayed {
-        lines: 13,
-        events: 12,
-    }),
-    text: STALE_TEXT,
-    ..EASY
-};
-
-const TWO_LIVES: Replay = Replay {
-    name: "two lives",
-    script: LIVES,
-    answer: Ok(Replayed {
-        lines: 16,
-        events: 15,
-    }),
-    text: LIVES_TEXT,
-    ..EASY
-};
-
 const TWO_NUMBERS: Replay = Replay {
     name: "delivery of two numbers",
     script: FIRST,
@@ -270,7 +186,7 @@ const FIVE_MESSAGES: Replay = Replay {
 };
 
 /// All of them.
-const REPLAYS: [Replay; 12] = [
+const REPLAYS: [Replay; 10] = [
     EASY,
     FULL_PAGE,
     PAGE_THAT_TAKES_NOTHING,
@@ -279,8 +195,6 @@ const REPLAYS: [Replay; 12] = [
     READS_GIVEN_UP,
     WRITES_GIVEN_UP,
     NO_LAST_LINE_FEED,
-    STALE_MESSAGE,
-    TWO_LIVES,
     TWO_NUMBERS,
     FIVE_MESSAGES,
 ];
