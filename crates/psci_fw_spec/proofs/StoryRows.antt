@@ -10,11 +10,6 @@ use Rattle.psci_fw_spec.proofs.Steps.{stops_by, stops_still, suspend, system_off
 use Rattle.psci_fw_spec.proofs.Steps.{system_reset2, system_suspend, take, take_down}
 use Rattle.psci_fw_spec.proofs.Steps.{take_stale, tall, used, value, version}
 
-examples_boot_core_enters : AreAnswered board
-    (boot ⇒ boots ∷ version 0 ⇒ value 65537 ∷ [])
-unfolding computing
-examples_boot_core_enters = record { history = refl; values = refl }
-
 examples_cluster_status : AreAnswered board
     (boot ⇒ boots ∷ affinity 0x100 1 ⇒ value 1 ∷ on_3 ⇒ starts 3 1 0 ∷ affinity 0x100 1 ⇒ value 2
     ∷ affinity 0 2 ⇒ value 0 ∷ affinity 0 3 ⇒ error 2 ∷ [])
@@ -27,6 +22,16 @@ examples_last_core_off : AreAnswered board
     ∷ enter_wake 0 1 2 ⇒ stops 0 1 2 (part 0 3 2 ∷ part 1 3 2 ∷ part 2 3 2 ∷ []) ∷ [])
 unfolding computing
 examples_last_core_off = record { history = refl; values = refl }
+
+examples_late_acknowledgement : AreAnswered board
+    (boot ⇒ boots ∷ on_3 ⇒ starts 3 1 0 ∷ enter_on 3 1 1 ⇒ goes_on_3
+    ∷ off 3 ⇒ stops 3 1 1 (part 0 3 1 ∷ part 1 3 1 ∷ []) ∷ take_down 3 1 1 2 ⇒ used
+    ∷ on 0x101 0x40005000 0x8 ⇒ starts 3 1 1 ∷ enter_on 3 1 2 ⇒ goes_to 0x40005000 0x8
+    ∷ off 3 ⇒ stops 3 1 2 (part 0 3 2 ∷ part 1 3 2 ∷ []) ∷ affinity 0x101 0 ⇒ value 0
+    ∷ take_down 3 1 1 2 ⇒ old ∷ affinity 0x101 0 ⇒ value 0 ∷ take_down 3 1 2 2 ⇒ used
+    ∷ affinity 0x101 0 ⇒ value 1 ∷ [])
+unfolding computing
+examples_late_acknowledgement = record { history = refl; values = refl }
 
 peers_answer_to_an_older_request : AreAnswered (record one_core { starts = 9; lives = 1 })
     (boot ⇒ boots ∷ suspend 0 0x00010003 0x40002000 8 ⇒ stops 0 1 1 (part 0 3 1 ∷ [])
@@ -55,12 +60,6 @@ peers_two_calls_one_core : AreAnswered (record board { levels = (2 ∷ []) ∷ [
     ∷ enter_on 1 1 1 ⇒ goes_on_3 ∷ [])
 unfolding computing
 peers_two_calls_one_core = record { history = refl; values = refl }
-
-examples_start_second_core : AreAnswered board
-    (boot ⇒ boots ∷ version 0 ⇒ value 65537 ∷ on_3 ⇒ starts 3 1 0 ∷ affinity 0x101 0 ⇒ value 2
-    ∷ affinity 0x101 0 ⇒ value 2 ∷ enter_on 3 1 1 ⇒ goes_on_3 ∷ affinity 0x101 0 ⇒ value 0 ∷ [])
-unfolding computing
-examples_start_second_core = record { history = refl; values = refl }
 
 calls_acknowledged_in_part : AreAnswered board
     (boot ⇒ boots ∷ on_3 ⇒ starts 3 1 0 ∷ enter_on 3 1 1 ⇒ goes_on_3
@@ -114,6 +113,58 @@ calls_entry_before_the_acknowledgement : AreAnswered board
 unfolding computing
 calls_entry_before_the_acknowledgement = record { history = refl; values = refl }
 
+calls_feature_words : AreAnswered board
+    (boot ⇒ boots ∷ features 0x84000000 ⇒ value 0 ∷ features 0xc4000000 ⇒ error 1
+    ∷ features 0x84000001 ⇒ value 1 ∷ features 0xc4000001 ⇒ value 1 ∷ features 0x84000002 ⇒ value 0
+    ∷ features 0xc4000002 ⇒ error 1 ∷ features 0x84000003 ⇒ value 0 ∷ features 0xc4000003 ⇒ value 0
+    ∷ features 0x84000004 ⇒ value 0 ∷ features 0xc4000004 ⇒ value 0 ∷ features 0x84000006 ⇒ value 0
+    ∷ features 0xc4000006 ⇒ error 1 ∷ features 0x84000008 ⇒ value 0 ∷ features 0xc4000008 ⇒ error 1
+    ∷ features 0x84000009 ⇒ value 0 ∷ features 0xc4000009 ⇒ error 1 ∷ features 0x8400000a ⇒ value 0
+    ∷ features 0xc400000a ⇒ error 1 ∷ features 0x8400000e ⇒ value 0 ∷ features 0xc400000e ⇒ value 0
+    ∷ features 0x8400000f ⇒ value 0 ∷ features 0xc400000f ⇒ error 1 ∷ features 0x84000012 ⇒ value 0
+    ∷ features 0xc4000012 ⇒ value 0 ∷ features 0x84000005 ⇒ error 1 ∷ features 0x84000007 ⇒ error 1
+    ∷ features 0x8400000b ⇒ error 1 ∷ features 0x8400000c ⇒ error 1 ∷ features 0xc400000c ⇒ error 1
+    ∷ features 0x8400000d ⇒ value 0 ∷ features 0xc400000d ⇒ value 0 ∷ features 0x84000010 ⇒ error 1
+    ∷ features 0x84000011 ⇒ error 1 ∷ features 0x84000013 ⇒ error 1 ∷ features 0x84000014 ⇒ error 1
+    ∷ features 0x0 ⇒ error 1 ∷ features 0x80000000 ⇒ error 1 ∷ features 0x04000001 ⇒ error 1
+    ∷ features 0x84010001 ⇒ error 1 ∷ features 0x1234567884000003 ⇒ value 0
+    ∷ features 0xffffffff84000001 ⇒ value 1 ∷ smc 0 0xc400000a 0x84000001 0 0 ⇒ error 1
+    ∷ set_mode 0 1 ⇒ value 0 ∷ features 0x84000001 ⇒ value 1 ∷ smc 0 0x84000006 0 0 0 ⇒ value 2
+    ∷ smc 0 0xc4000006 0 0 0 ⇒ error 1 ∷ [])
+unfolding computing
+calls_feature_words = record { history = refl; values = refl }
+
+calls_hw_off : AreAnswered board
+    (boot ⇒ boots ∷ on_3 ⇒ starts 3 1 0 ∷ affinity 0x101 0 ⇒ value 2 ∷ enter_on 3 1 1 ⇒ goes_on_3
+    ∷ off 3 ⇒ stops 3 1 1 (part 0 3 1 ∷ part 1 3 1 ∷ []) ∷ smc 0 0xc400000d 0x101 0 0 ⇒ value 0
+    ∷ smc 0 0xc400000d 0x101 0 0 ⇒ value 0 ∷ take_down 3 1 1 2 ⇒ used
+    ∷ smc 0 0xc400000d 0x101 0 0 ⇒ value 1 ∷ smc 0 0xc400000d 0x100 1 0 ⇒ value 1
+    ∷ on_3 ⇒ starts 3 1 1 ∷ smc 0 0xc400000d 0x101 0 0 ⇒ value 0
+    ∷ smc 0 0xc400000d 0x100 1 0 ⇒ value 0 ∷ [])
+unfolding computing
+calls_hw_off = record { history = refl; values = refl }
+
+calls_hw_standby : AreAnswered board
+    (boot ⇒ boots ∷ on_3 ⇒ starts 3 1 0 ∷ affinity 0x101 0 ⇒ value 2 ∷ enter_on 3 1 1 ⇒ goes_on_3
+    ∷ suspend 3 0x2 0 0 ⇒ stops 3 1 1 (part 0 2 1 ∷ []) ∷ take_down 3 1 1 1 ⇒ used
+    ∷ smc 0 0xc400000d 0x101 0 0 ⇒ value 2 ∷ smc 0 0xc400000d 0x100 1 0 ⇒ value 0 ∷ [])
+unfolding computing
+calls_hw_standby = record { history = refl; values = refl }
+
+calls_left_out_functions : AreAnswered board
+    (boot ⇒ boots ∷ smc 0 0x84000005 0 0 0 ⇒ error 1 ∷ smc 0 0xc4000005 0 0 0 ⇒ error 1
+    ∷ smc 0 0x84000007 0 0 0 ⇒ error 1 ∷ smc 0 0xc4000007 0 0 0 ⇒ error 1
+    ∷ smc 0 0x8400000b 0 0 0 ⇒ error 1 ∷ smc 0 0x8400000c 0 0 0 ⇒ error 1
+    ∷ smc 0 0xc400000c 0 0 0 ⇒ error 1 ∷ smc 0 0x84000010 0 0 0 ⇒ error 1
+    ∷ smc 0 0xc4000010 0 0 0 ⇒ error 1 ∷ smc 0 0x84000011 0 0 0 ⇒ error 1
+    ∷ smc 0 0xc4000011 0 0 0 ⇒ error 1 ∷ smc 0 0xc4000013 0 0 0 ⇒ error 1
+    ∷ smc 0 0x8400000c 1 0 0 ⇒ error 1 ∷ smc 0 0x84000013 0 0 0 ⇒ error 1
+    ∷ smc 0 0x84000014 0 0 0 ⇒ error 1 ∷ smc 0 0xc4000014 0 0 0 ⇒ error 1
+    ∷ smc 0 0x84000015 0 0 0 ⇒ error 1 ∷ smc 0 0x80000000 0 0 0 ⇒ error 1
+    ∷ smc 0 0x80000001 0 0 0 ⇒ error 1 ∷ [])
+unfolding computing
+calls_left_out_functions = record { history = refl; values = refl }
+
 calls_register_widths : AreAnswered board
     (boot ⇒ boots
     ∷ smc 0 0xffffffff84000003 0xffffffff00000100 0xffffffff40001000 0xffffffff00000007 ⇒ starts 2 1 0
@@ -124,11 +175,6 @@ calls_register_widths : AreAnswered board
     ∷ affinity 0x1ff 1 ⇒ value 2 ∷ affinity 0x101ff 1 ⇒ error 2 ∷ [])
 unfolding computing
 calls_register_widths = record { history = refl; values = refl }
-
-calls_start_delivered_three_times : AreAnswered board
-    (boot ⇒ boots ∷ on_3 ⇒ starts 3 1 0 ∷ enter_on 3 1 1 ⇒ goes_on_3 ∷ [])
-unfolding computing
-calls_start_delivered_three_times = record { history = refl; values = refl }
 
 calls_status_of_domains_over_time : AreAnswered board
     (boot ⇒ boots ∷ affinity 0x100 1 ⇒ value 1 ∷ on_3 ⇒ starts 3 1 0 ∷ affinity 0x100 1 ⇒ value 2
@@ -209,14 +255,6 @@ os_initiated_core_pending_elsewhere : AreAnswered board
 unfolding computing
 os_initiated_core_pending_elsewhere = record { history = refl; values = refl }
 
-os_initiated_core_pending_in_cluster : AreAnswered board
-    (boot ⇒ boots ∷ set_mode 0 1 ⇒ value 0 ∷ on 0x1 0x40005000 0 ⇒ starts 1 1 0
-    ∷ suspend 0 0x02010333 0x40000100 5 ⇒ error 3 ∷ suspend 0 0x01010033 0x40000100 5 ⇒ error 3
-    ∷ suspend 0 0x01000011 0 0 ⇒ error 3
-    ∷ suspend 0 0x00010003 0x40000100 5 ⇒ stops 0 1 1 (part 0 3 1 ∷ []) ∷ [])
-unfolding computing
-os_initiated_core_pending_in_cluster = record { history = refl; values = refl }
-
 os_initiated_cores_going_off : AreAnswered board
     (boot ⇒ boots ∷ set_mode 0 1 ⇒ value 0 ∷ on 0x100 0x40002000 2 ⇒ starts 2 1 0
     ∷ on 0x101 0x40003000 3 ⇒ starts 3 1 0 ∷ enter_on 2 1 1 ⇒ goes_to 0x40002000 0x2
@@ -263,13 +301,6 @@ os_initiated_shallow_sleeper : AreAnswered board
     ∷ suspend 0 0x01010013 0x40000100 0 ⇒ stops 0 1 1 (part 0 3 1 ∷ part 1 1 2 ∷ []) ∷ [])
 unfolding computing
 os_initiated_shallow_sleeper = record { history = refl; values = refl }
-
-os_initiated_start_limit : AreAnswered (limited 1 3)
-    (boot ⇒ boots ∷ set_mode 0 1 ⇒ value 0 ∷ on_3 ⇒ starts 3 1 0
-    ∷ suspend 0 0x02010333 0x40000100 5 ⇒ value 0 ∷ suspend 0 0x02010333 0x50000000 5 ⇒ error 9
-    ∷ system_suspend 0 0x40000100 5 ⇒ error 3 ∷ [])
-unfolding computing
-os_initiated_start_limit = record { history = refl; values = refl }
 
 os_initiated_suspend_mode_numbers : AreAnswered board
     (boot ⇒ boots ∷ set_mode 0 2 ⇒ error 2 ∷ set_mode 0 0xffffffff ⇒ error 2
@@ -442,35 +473,6 @@ suspend_pending_neighbour : AreAnswered board
 unfolding computing
 suspend_pending_neighbour = record { history = refl; values = refl }
 
-suspend_power_states : AreAnswered (limited 1 3)
-    (boot ⇒ boots ∷ suspend 0 0x00000001 0x40000000 0 ⇒ value 0
-    ∷ suspend 0 0x00000002 0x40000000 0 ⇒ value 0 ∷ suspend 0 0x00010003 0x40000000 0 ⇒ value 0
-    ∷ suspend 0 0x01000011 0x40000000 0 ⇒ value 0 ∷ suspend 0 0x01000012 0x40000000 0 ⇒ value 0
-    ∷ suspend 0 0x01010013 0x40000000 0 ⇒ value 0 ∷ suspend 0 0x01010023 0x40000000 0 ⇒ value 0
-    ∷ suspend 0 0x01010033 0x40000000 0 ⇒ value 0 ∷ suspend 0 0x02000111 0x40000000 0 ⇒ value 0
-    ∷ suspend 0 0x02000222 0x40000000 0 ⇒ value 0 ∷ suspend 0 0x02010113 0x40000000 0 ⇒ value 0
-    ∷ suspend 0 0x02010233 0x40000000 0 ⇒ value 0 ∷ suspend 0 0x02010333 0x40000000 0 ⇒ value 0
-    ∷ suspend 0 0x01010003 0x40000000 0 ⇒ error 2 ∷ suspend 0 0x02010033 0x40000000 0 ⇒ error 2
-    ∷ suspend 0 0x00010033 0x40000000 0 ⇒ error 2 ∷ suspend 0 0x01010333 0x40000000 0 ⇒ error 2
-    ∷ suspend 0 0x01000001 0x40000000 0 ⇒ error 2 ∷ suspend 0 0x02010323 0x40000000 0 ⇒ error 2
-    ∷ suspend 0 0x01000021 0x40000000 0 ⇒ error 2 ∷ suspend 0 0x01010030 0x40000000 0 ⇒ error 2
-    ∷ suspend 0 0x00000000 0x40000000 0 ⇒ error 2 ∷ suspend 0 0x00010001 0x40000000 0 ⇒ error 2
-    ∷ suspend 0 0x00010002 0x40000000 0 ⇒ error 2 ∷ suspend 0 0x00000003 0x40000000 0 ⇒ error 2
-    ∷ suspend 0 0x01000033 0x40000000 0 ⇒ error 2 ∷ suspend 0 0x03013333 0x40000000 0 ⇒ error 2
-    ∷ suspend 0 0x02013333 0x40000000 0 ⇒ error 2 ∷ suspend 0 0x02001111 0x40000000 0 ⇒ error 2
-    ∷ suspend 0 0x00000004 0x40000000 0 ⇒ error 2 ∷ suspend 0 0x0000000f 0x40000000 0 ⇒ error 2
-    ∷ suspend 0 0x01010043 0x40000000 0 ⇒ error 2 ∷ suspend 0 0x00010007 0x40000000 0 ⇒ error 2
-    ∷ suspend 0 0x00020001 0x40000000 0 ⇒ error 2 ∷ suspend 0 0x00040001 0x40000000 0 ⇒ error 2
-    ∷ suspend 0 0x00080001 0x40000000 0 ⇒ error 2 ∷ suspend 0 0x00100001 0x40000000 0 ⇒ error 2
-    ∷ suspend 0 0x00200001 0x40000000 0 ⇒ error 2 ∷ suspend 0 0x00400001 0x40000000 0 ⇒ error 2
-    ∷ suspend 0 0x00800001 0x40000000 0 ⇒ error 2 ∷ suspend 0 0x04000001 0x40000000 0 ⇒ error 2
-    ∷ suspend 0 0x08000001 0x40000000 0 ⇒ error 2 ∷ suspend 0 0x10000001 0x40000000 0 ⇒ error 2
-    ∷ suspend 0 0x20000001 0x40000000 0 ⇒ error 2 ∷ suspend 0 0x40000001 0x40000000 0 ⇒ error 2
-    ∷ suspend 0 0x80000001 0x40000000 0 ⇒ error 2 ∷ suspend 0 0x40000003 0x40000000 0 ⇒ error 2
-    ∷ suspend 0 0x40000033 0x40000000 0 ⇒ error 2 ∷ [])
-unfolding computing
-suspend_power_states = record { history = refl; values = refl }
-
 suspend_power_states_one_level : AreAnswered (record board { levels = (4 ∷ []) ∷ []; starts = 1 })
     (boot ⇒ boots ∷ suspend 0 0x00000001 0x40000000 0 ⇒ value 0
     ∷ suspend 0 0x00010003 0x40000000 0 ⇒ value 0 ∷ suspend 0 0x01000011 0x40000000 0 ⇒ value 0
@@ -561,13 +563,6 @@ system_calls_in_a_halting_life : AreAnswered board
 unfolding computing
 system_calls_in_a_halting_life = record { history = refl; values = refl }
 
-system_halting_life_acknowledged : AreAnswered board
-    (boot ⇒ boots ∷ on_3 ⇒ starts 3 1 0 ∷ affinity 0x101 0 ⇒ value 2 ∷ enter_on 3 1 1 ⇒ goes_on_3
-    ∷ system_off 0 ⇒ stops_by Off 0 1 1 [] ∷ version 3 ⇒ stops_still
-    ∷ enter_wake 3 1 2 ⇒ stops_still ∷ take Off 0 1 1 1 false ⇒ used ∷ [])
-unfolding computing
-system_halting_life_acknowledged = record { history = refl; values = refl }
-
 system_halting_life_of_four_cores : AreAnswered board
     (boot ⇒ boots ∷ on 0x001 0x40001000 0x1 ⇒ starts 1 1 0 ∷ on 0x100 0x40002000 0x2 ⇒ starts 2 1 0
     ∷ enter_on 1 1 1 ⇒ goes_to 0x40001000 0x1 ∷ enter_on 2 1 1 ⇒ goes_to 0x40002000 0x2
@@ -595,14 +590,6 @@ system_resets_up_to_the_life_limit : AreAnswered (limited 1000 2)
     ∷ take Restart 0 2 1 1 false ⇒ used ∷ take Restart 0 2 1 1 false ⇒ old ∷ [])
 unfolding computing
 system_resets_up_to_the_life_limit = record { history = refl; values = refl }
-
-system_system_reset2 : AreAnswered board
-    (boot ⇒ boots ∷ on_3 ⇒ starts 3 1 0 ∷ affinity 0x101 0 ⇒ value 2 ∷ enter_on 3 1 1 ⇒ goes_on_3
-    ∷ system_reset2 3 0x80000000 0 ⇒ error 2 ∷ system_reset2 3 1 0 ⇒ error 2
-    ∷ smc 3 0x84000012 0 0x55 0 ⇒ stops_by Restart 3 1 1 [] ∷ version 0 ⇒ stops_still
-    ∷ enter_boot 0 2 1 ⇒ boots ∷ affinity 0x101 0 ⇒ value 1 ∷ [])
-unfolding computing
-system_system_reset2 = record { history = refl; values = refl }
 
 system_system_reset2_halts : AreAnswered (record board { levels = (1 ∷ 2 ∷ 1 ∷ []) ∷ (2 ∷ 1 ∷ []) ∷ (2 ∷ []) ∷ []; starts = 2; lives = 2 })
     (boot ⇒ boots ∷ set_mode 0 1 ⇒ value 0 ∷ on 0x101 0x40001000 0x1 ⇒ starts 2 1 0
@@ -669,10 +656,3 @@ system_system_suspend_three_levels : AreAnswered (record board { levels = (1 ∷
     ∷ [])
 unfolding computing
 system_system_suspend_three_levels = record { history = refl; values = refl }
-
-system_system_suspended_and_woken : AreAnswered board
-    (boot ⇒ boots
-    ∷ system_suspend 0 0x40000200 9 ⇒ stops 0 1 1 (part 0 3 1 ∷ part 1 3 1 ∷ part 2 3 1 ∷ [])
-    ∷ enter_wake 0 1 2 ⇒ goes_to 0x40000200 0x9 ∷ [])
-unfolding computing
-system_system_suspended_and_woken = record { history = refl; values = refl }

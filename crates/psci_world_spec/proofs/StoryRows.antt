@@ -13,6 +13,16 @@ use Rattle.psci_world_spec.proofs.Scripts.{off, old, on_3, one_core, part, resum
 use Rattle.psci_world_spec.proofs.Scripts.{stops, system_off, system_reset, tall, used, value}
 use Rattle.psci_world_spec.proofs.Scripts.{version}
 
+examples_lost_message : IsSaid board
+    (Enter 0 ∷ on_3 ∷ call 0 0xc4000004 0x101 0 0 ∷ on_3 ∷ Deliver 0 ∷ Enter 3 ∷ off 3
+    ∷ call 0 0xc4000004 0x101 0 0 ∷ on_3 ∷ Deliver 1 ∷ call 0 0xc4000004 0x101 0 0 ∷ Deliver 1
+    ∷ Take 2 ∷ call 0 0xc4000004 0x101 0 0 ∷ [])
+    (enters 0x40000000 0x0 ∷ asks_on 0 3 1 0 ∷ value 2 ∷ error 5 ∷ acked 0 Start 3 1 0 1 false
+    ∷ enters 0x40001000 0x7 ∷ goes_down 1 3 1 1 (part 0 3 1 ∷ part 1 3 1 ∷ []) ∷ value 0 ∷ error 4
+    ∷ acked 1 Down 3 1 1 2 false ∷ value 0 ∷ acked 2 Down 3 1 1 2 false ∷ used ∷ value 1 ∷ [])
+unfolding computing
+examples_lost_message = refl
+
 examples_message_delivered_twice : IsSaid board
     (Enter 0 ∷ on_3 ∷ Deliver 0 ∷ Deliver 0 ∷ Enter 3 ∷ Deliver 0 ∷ off 3 ∷ Deliver 1 ∷ Deliver 1
     ∷ Take 3 ∷ Take 4 ∷ call 0 0xc4000003 0x100 0x40002000 0 ∷ Deliver 2 ∷ Deliver 1 ∷ Enter 2 ∷ [])
@@ -50,6 +60,18 @@ calls_cpu_on_before_and_after_the_entry : IsSaid board
 unfolding computing
 calls_cpu_on_before_and_after_the_entry = refl
 
+calls_hw_off : IsSaid board
+    (Enter 0 ∷ on_3 ∷ call 0 0xc4000004 0x101 0 0 ∷ Deliver 0 ∷ Enter 3 ∷ off 3
+    ∷ call 0 0xc400000d 0x101 0 0 ∷ Deliver 1 ∷ call 0 0xc400000d 0x101 0 0 ∷ Take 1
+    ∷ call 0 0xc400000d 0x101 0 0 ∷ call 0 0xc400000d 0x100 1 0 ∷ on_3 ∷ call 0 0xc400000d 0x101 0 0
+    ∷ call 0 0xc400000d 0x100 1 0 ∷ [])
+    (enters 0x40000000 0x0 ∷ asks_on 0 3 1 0 ∷ value 2 ∷ acked 0 Start 3 1 0 1 false
+    ∷ enters 0x40001000 0x7 ∷ goes_down 1 3 1 1 (part 0 3 1 ∷ part 1 3 1 ∷ []) ∷ value 0
+    ∷ acked 1 Down 3 1 1 2 false ∷ value 0 ∷ used ∷ value 1 ∷ value 1 ∷ asks_on 2 3 1 1 ∷ value 0
+    ∷ value 0 ∷ [])
+unfolding computing
+calls_hw_off = refl
+
 calls_start_delivered_three_times : IsSaid board
     (Enter 0 ∷ on_3 ∷ Deliver 0 ∷ Deliver 0 ∷ Deliver 0 ∷ Enter 3 ∷ [])
     (enters 0x40000000 0x0 ∷ asks_on 0 3 1 0 ∷ acked 0 Start 3 1 0 1 false
@@ -66,6 +88,18 @@ lives_absent_without_a_life : IsSaid board
     ∷ Ignored ∷ Ignored ∷ Absent ∷ Ignored ∷ Ignored ∷ Absent ∷ Ignored ∷ Absent ∷ used ∷ old ∷ [])
 unfolding computing
 lives_absent_without_a_life = refl
+
+lives_another_core_opens_a_life : IsSaid board
+    (Wake 3 ∷ Enter 3 ∷ Enter 0 ∷ call 0 0xc4000004 0x101 0 0 ∷ on_3 ∷ system_reset 0 ∷ Deliver 2
+    ∷ Reset 3 ∷ Enter 3 ∷ Deliver 3 ∷ Take 2 ∷ Enter 0 ∷ call 0 0xc4000004 0x101 0 0 ∷ Deliver 1
+    ∷ [])
+    (started 1 1 causes.Wake ∷ goes_down 0 3 1 1 (part 0 3 1 ∷ part 1 3 1 ∷ [])
+    ∷ enters 0x40000000 0x0 ∷ value 1 ∷ asks_on 1 3 1 1 ∷ halts 2 Restart 0 1 1
+    ∷ acked 0 Restart 0 1 1 1 false ∷ started 2 1 causes.Reset
+    ∷ goes_down 3 3 2 1 (part 0 3 1 ∷ part 1 3 1 ∷ []) ∷ acked 1 Down 3 2 1 2 false ∷ Absent
+    ∷ enters 0x40000000 0x0 ∷ value 1 ∷ Ignored ∷ [])
+unfolding computing
+lives_another_core_opens_a_life = refl
 
 lives_before_any_call : IsSaid board
     (Deliver 0 ∷ Take 0 ∷ Wake 9 ∷ Wake 0 ∷ Reset 0 ∷ Enter 0 ∷ [])
@@ -132,6 +166,20 @@ lives_two_starts_a_life : IsSaid (limited 2 3)
     ∷ Ignored ∷ Ignored ∷ [])
 unfolding computing
 lives_two_starts_a_life = refl
+
+lives_wake_at_the_start_limit : IsSaid (limited 2 1)
+    (Enter 0 ∷ on_3 ∷ Deliver 0 ∷ Enter 3 ∷ call 3 0xc4000001 0x00010003 0x40004000 2 ∷ Deliver 1
+    ∷ Wake 3 ∷ Reset 3 ∷ Enter 3 ∷ call 3 0xc4000001 0x1 0 0
+    ∷ call 3 0xc4000001 0x00010003 0x50000000 2 ∷ call 3 0xc4000001 0x00010033 0x40004000 2
+    ∷ call 3 0xc400000e 0x40004000 2 0 ∷ off 3 ∷ Wake 3 ∷ Reset 3 ∷ Deliver 2 ∷ Take 2 ∷ Wake 3
+    ∷ on_3 ∷ [])
+    (enters 0x40000000 0x0 ∷ asks_on 0 3 1 0 ∷ acked 0 Start 3 1 0 1 false ∷ enters 0x40001000 0x7
+    ∷ goes_down 1 3 1 1 (part 0 3 1 ∷ []) ∷ acked 1 Down 3 1 1 1 false ∷ started 1 2 causes.Wake
+    ∷ Ignored ∷ enters 0x40004000 0x2 ∷ value 0 ∷ error 9 ∷ error 2 ∷ error 3
+    ∷ goes_down 2 3 1 2 (part 0 3 2 ∷ part 1 3 2 ∷ []) ∷ Ignored ∷ Ignored
+    ∷ acked 2 Down 3 1 2 2 false ∷ used ∷ Ignored ∷ error 6 ∷ [])
+unfolding computing
+lives_wake_at_the_start_limit = refl
 
 os_initiated_suspend_mode_with_sleeping_cores : IsSaid board
     (Enter 0 ∷ on_3 ∷ call 0 0x8400000f 1 0 0 ∷ Deliver 0 ∷ call 0 0x8400000f 1 0 0 ∷ Enter 3
