@@ -1,4 +1,5 @@
--- Worked examples: stored scripts, each with its stored answers. tools/stories has made this file.
+-- Worked examples: stored scripts, each with its stored answers, which tools/stories writes
+-- here. A theorem is named after the folder and the name of its script.
 use Rattle.std.proofs.Common.{[], ◌∷◌, false, refl}
 use Rattle.psci_abi.specs.psci_format.declared.format.Format.TheVariants.{Extended}
 use Rattle.psci_messages.specs.declared.kind.Kind.TheVariants.{Start, Off, Reset as Restart}
@@ -48,14 +49,22 @@ peers_any_power_state : AreAnswered (record board { levels = (2 ∷ []) ∷ []; 
 unfolding computing
 peers_any_power_state = record { history = refl; values = refl }
 
-peers_system_suspend_too_early : AreAnswered (record board { levels = (2 ∷ []) ∷ []; starts = 9; lives = 1 })
+peers_system_suspend_too_early : AreAnswered (record board {
+  levels = (2 ∷ []) ∷ [];
+  starts = 9;
+  lives = 1;
+})
     (boot ⇒ boots ∷ on 1 0x40001000 7 ⇒ starts 1 1 0 ∷ enter_on 1 1 1 ⇒ goes_on_3
     ∷ off 1 ⇒ stops 1 1 1 (part 0 3 1 ∷ []) ∷ system_suspend 0 0x40002000 8 ⇒ error 3
     ∷ take_down 1 1 1 1 ⇒ used ∷ [])
 unfolding computing
 peers_system_suspend_too_early = record { history = refl; values = refl }
 
-peers_two_calls_one_core : AreAnswered (record board { levels = (2 ∷ []) ∷ []; starts = 9; lives = 1 })
+peers_two_calls_one_core : AreAnswered (record board {
+  levels = (2 ∷ []) ∷ [];
+  starts = 9;
+  lives = 1;
+})
     (boot ⇒ boots ∷ on 1 0x40001000 7 ⇒ starts 1 1 0 ∷ on 1 0x40002000 8 ⇒ error 5
     ∷ enter_on 1 1 1 ⇒ goes_on_3 ∷ [])
 unfolding computing
@@ -78,10 +87,12 @@ calls_core_off_pending_neighbour : AreAnswered board
 unfolding computing
 calls_core_off_pending_neighbour = record { history = refl; values = refl }
 
-calls_core_off_three_levels : AreAnswered (record board { levels = (1 ∷ 2 ∷ 1 ∷ []) ∷ (2 ∷ 1 ∷ []) ∷ (2 ∷ []) ∷ [] })
+calls_core_off_three_levels : AreAnswered (record board {
+  levels = (1 ∷ 2 ∷ 1 ∷ []) ∷ (2 ∷ 1 ∷ []) ∷ (2 ∷ []) ∷ [];
+})
     (boot ⇒ boots
-    ∷ smc 0 0xffffffff84000002 0 0 0 ⇒ stops 0 1 1 (part 0 3 1 ∷ part 1 3 1 ∷ part 2 3 1 ∷ part 3 3 1 ∷ [])
-    ∷ [])
+    ∷ smc 0 0xffffffff84000002 0 0 0
+    ⇒ stops 0 1 1 (part 0 3 1 ∷ part 1 3 1 ∷ part 2 3 1 ∷ part 3 3 1 ∷ []) ∷ [])
 unfolding computing
 calls_core_off_three_levels = record { history = refl; values = refl }
 
@@ -167,8 +178,8 @@ calls_left_out_functions = record { history = refl; values = refl }
 
 calls_register_widths : AreAnswered board
     (boot ⇒ boots
-    ∷ smc 0 0xffffffff84000003 0xffffffff00000100 0xffffffff40001000 0xffffffff00000007 ⇒ starts 2 1 0
-    ∷ smc 0 0x84000004 0xffffffff00000100 0xffffffff00000000 0 ⇒ value 2
+    ∷ smc 0 0xffffffff84000003 0xffffffff00000100 0xffffffff40001000 0xffffffff00000007
+    ⇒ starts 2 1 0 ∷ smc 0 0x84000004 0xffffffff00000100 0xffffffff00000000 0 ⇒ value 2
     ∷ smc 0 0x1c4000003 0x100000101 0x40001000 0 ⇒ error 2 ∷ on 0x1000000 0x40001000 0 ⇒ error 2
     ∷ on 0x10000000101 0x40001000 0 ⇒ error 2 ∷ on 0x101 0x140001000 0 ⇒ error 9
     ∷ affinity 0x100 0x100000000 ⇒ value 2 ∷ affinity 0x8000000000000100 0 ⇒ error 2
@@ -278,7 +289,9 @@ os_initiated_extended_last_core : AreAnswered (record board { format = Extended 
 unfolding computing
 os_initiated_extended_last_core = record { history = refl; values = refl }
 
-os_initiated_group_not_idle : AreAnswered (record board { levels = (1 ∷ 2 ∷ 1 ∷ []) ∷ (2 ∷ 1 ∷ []) ∷ (2 ∷ []) ∷ [] })
+os_initiated_group_not_idle : AreAnswered (record board {
+  levels = (1 ∷ 2 ∷ 1 ∷ []) ∷ (2 ∷ 1 ∷ []) ∷ (2 ∷ []) ∷ [];
+})
     (boot ⇒ boots ∷ set_mode 0 1 ⇒ value 0 ∷ on 0x100 0x40001000 0 ⇒ starts 1 1 0
     ∷ suspend 0 0x03013333 0x40000100 5 ⇒ error 3 ∷ suspend 0 0x02010333 0x40000100 5 ⇒ error 3
     ∷ suspend 0 0x01010033 0x40000100 5 ⇒ stops 0 1 1 (part 0 3 1 ∷ part 1 3 1 ∷ []) ∷ [])
@@ -336,7 +349,9 @@ os_initiated_suspend_mode_with_sleeping_cores : AreAnswered board
 unfolding computing
 os_initiated_suspend_mode_with_sleeping_cores = record { history = refl; values = refl }
 
-os_initiated_three_levels : AreAnswered (record board { levels = (1 ∷ 2 ∷ 1 ∷ []) ∷ (2 ∷ 1 ∷ []) ∷ (2 ∷ []) ∷ [] })
+os_initiated_three_levels : AreAnswered (record board {
+  levels = (1 ∷ 2 ∷ 1 ∷ []) ∷ (2 ∷ 1 ∷ []) ∷ (2 ∷ []) ∷ [];
+})
     (boot ⇒ boots ∷ set_mode 0 1 ⇒ value 0 ∷ on 0x10000 0x40001000 0 ⇒ starts 3 1 0
     ∷ suspend 0 0x03013333 0x40000100 5 ⇒ error 3
     ∷ suspend 0 0x02010333 0x40000100 5 ⇒ stops 0 1 1 (part 0 3 1 ∷ part 1 3 1 ∷ part 2 3 1 ∷ [])
@@ -483,7 +498,10 @@ suspend_power_states_one_level : AreAnswered (record board { levels = (4 ∷ [])
 unfolding computing
 suspend_power_states_one_level = record { history = refl; values = refl }
 
-suspend_power_states_three_levels : AreAnswered (record board { levels = (1 ∷ 2 ∷ 1 ∷ []) ∷ (2 ∷ 1 ∷ []) ∷ (2 ∷ []) ∷ []; starts = 1 })
+suspend_power_states_three_levels : AreAnswered (record board {
+  levels = (1 ∷ 2 ∷ 1 ∷ []) ∷ (2 ∷ 1 ∷ []) ∷ (2 ∷ []) ∷ [];
+  starts = 1;
+})
     (boot ⇒ boots ∷ suspend 0 0x00000001 0x40000000 0 ⇒ value 0
     ∷ suspend 0 0x01010033 0x40000000 0 ⇒ value 0 ∷ suspend 0 0x02010333 0x40000000 0 ⇒ value 0
     ∷ suspend 0 0x03013333 0x40000000 0 ⇒ value 0 ∷ suspend 0 0x03011233 0x40000000 0 ⇒ value 0
@@ -550,8 +568,8 @@ suspend_system_down_last_message_first = record { history = refl; values = refl 
 suspend_three_levels_acknowledged : AreAnswered tall
     (boot ⇒ boots ∷ on 0x10100 0x40001000 0x7 ⇒ starts 3 1 0 ∷ enter_on 3 1 1 ⇒ goes_on_3
     ∷ off 3 ⇒ stops 3 1 1 (part 0 3 1 ∷ part 1 3 1 ∷ part 2 3 1 ∷ [])
-    ∷ suspend 0 0x03013333 0x40000100 0 ⇒ stops 0 1 1 (part 0 3 1 ∷ part 1 3 1 ∷ part 2 3 1 ∷ part 3 3 2 ∷ [])
-    ∷ [])
+    ∷ suspend 0 0x03013333 0x40000100 0
+    ⇒ stops 0 1 1 (part 0 3 1 ∷ part 1 3 1 ∷ part 2 3 1 ∷ part 3 3 2 ∷ []) ∷ [])
 unfolding computing
 suspend_three_levels_acknowledged = record { history = refl; values = refl }
 
@@ -591,7 +609,11 @@ system_resets_up_to_the_life_limit : AreAnswered (limited 1000 2)
 unfolding computing
 system_resets_up_to_the_life_limit = record { history = refl; values = refl }
 
-system_system_reset2_halts : AreAnswered (record board { levels = (1 ∷ 2 ∷ 1 ∷ []) ∷ (2 ∷ 1 ∷ []) ∷ (2 ∷ []) ∷ []; starts = 2; lives = 2 })
+system_system_reset2_halts : AreAnswered (record board {
+  levels = (1 ∷ 2 ∷ 1 ∷ []) ∷ (2 ∷ 1 ∷ []) ∷ (2 ∷ []) ∷ [];
+  starts = 2;
+  lives = 2;
+})
     (boot ⇒ boots ∷ set_mode 0 1 ⇒ value 0 ∷ on 0x101 0x40001000 0x1 ⇒ starts 2 1 0
     ∷ enter_on 2 1 1 ⇒ goes_to 0x40001000 0x1 ∷ on 0x100 0x40002000 0x2 ⇒ starts 1 1 0
     ∷ enter_on 1 1 1 ⇒ goes_to 0x40002000 0x2 ∷ suspend 1 0x2 0 0 ⇒ stops 1 1 1 (part 0 2 1 ∷ [])
@@ -616,7 +638,10 @@ system_system_reset2_types : AreAnswered board
 unfolding computing
 system_system_reset2_types = record { history = refl; values = refl }
 
-system_system_suspend_below_start_limit : AreAnswered (record board { levels = (4 ∷ []) ∷ []; starts = 2 })
+system_system_suspend_below_start_limit : AreAnswered (record board {
+  levels = (4 ∷ []) ∷ [];
+  starts = 2;
+})
     (boot ⇒ boots ∷ system_suspend 0 0x400ffffc 9 ⇒ stops 0 1 1 (part 0 3 1 ∷ part 1 3 1 ∷ []) ∷ [])
 unfolding computing
 system_system_suspend_below_start_limit = record { history = refl; values = refl }
@@ -650,9 +675,11 @@ system_system_suspend_start_limit : AreAnswered (limited 1 3)
 unfolding computing
 system_system_suspend_start_limit = record { history = refl; values = refl }
 
-system_system_suspend_three_levels : AreAnswered (record board { levels = (1 ∷ 2 ∷ 1 ∷ []) ∷ (2 ∷ 1 ∷ []) ∷ (2 ∷ []) ∷ [] })
+system_system_suspend_three_levels : AreAnswered (record board {
+  levels = (1 ∷ 2 ∷ 1 ∷ []) ∷ (2 ∷ 1 ∷ []) ∷ (2 ∷ []) ∷ [];
+})
     (boot ⇒ boots
-    ∷ smc 0 0x8400000e 0xffffffff40000200 9 0 ⇒ stops 0 1 1 (part 0 3 1 ∷ part 1 3 1 ∷ part 2 3 1 ∷ part 3 3 1 ∷ [])
-    ∷ [])
+    ∷ smc 0 0x8400000e 0xffffffff40000200 9 0
+    ⇒ stops 0 1 1 (part 0 3 1 ∷ part 1 3 1 ∷ part 2 3 1 ∷ part 3 3 1 ∷ []) ∷ [])
 unfolding computing
 system_system_suspend_three_levels = record { history = refl; values = refl }

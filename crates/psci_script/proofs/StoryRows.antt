@@ -1,4 +1,5 @@
--- Worked examples: stored scripts, each with its stored answers. tools/stories has made this file.
+-- Worked examples: stored scripts, each with its stored answers, which tools/stories writes
+-- here. A theorem is named after the folder and the name of its script.
 use Rattle.std.proofs.Common.{[], ◌∷◌, refl}
 use Rattle.std.specs.Prelude.{codes}
 use Rattle.psci_script.proofs.Scripts.{IsAnswered, answering, replayed, text}

@@ -1,4 +1,5 @@
--- Worked examples: stored scripts, each with its stored answers. tools/stories has made this file.
+-- Worked examples: stored scripts, each with its stored answers, which tools/stories writes
+-- here. A theorem is named after the folder and the name of its script.
 use Rattle.psci_fw_spec.specs.psci_messages.declared.start.Cause.TheVariants as causes
 use Rattle.std.proofs.Common.{[], ◌∷◌, true, false, refl}
 use Rattle.psci_fw_spec.specs.psci_abi.psci_format.declared.format.Format.TheVariants.{Extended}
@@ -41,7 +42,11 @@ peers_reset_while_running : IsSaid (record board { levels = (2 ∷ []) ∷ []; s
 unfolding computing
 peers_reset_while_running = refl
 
-peers_start_nobody_asked_for : IsSaid (record board { levels = (2 ∷ []) ∷ []; starts = 9; lives = 1 })
+peers_start_nobody_asked_for : IsSaid (record board {
+  levels = (2 ∷ []) ∷ [];
+  starts = 9;
+  lives = 1;
+})
     (Enter 0 ∷ Wake 1 ∷ Enter 1 ∷ call 0 0xc4000004 1 0 0 ∷ call 0 0xc4000003 1 0x40001000 7
     ∷ Deliver 1 ∷ Enter 1 ∷ [])
     (enters 0x40000000 0x0 ∷ started 1 1 causes.Wake ∷ goes_down 0 1 1 1 (part 0 3 1 ∷ []) ∷ value 1
@@ -327,7 +332,11 @@ system_system_reset_os_initiated : IsSaid board
 unfolding computing
 system_system_reset_os_initiated = refl
 
-system_system_reset2_halts : IsSaid (record board { levels = (1 ∷ 2 ∷ 1 ∷ []) ∷ (2 ∷ 1 ∷ []) ∷ (2 ∷ []) ∷ []; starts = 2; lives = 2 })
+system_system_reset2_halts : IsSaid (record board {
+  levels = (1 ∷ 2 ∷ 1 ∷ []) ∷ (2 ∷ 1 ∷ []) ∷ (2 ∷ []) ∷ [];
+  starts = 2;
+  lives = 2;
+})
     (Enter 0 ∷ call 0 0x8400000f 1 0 0 ∷ call 0 0xc4000003 0x101 0x40001000 0x1 ∷ Deliver 0
     ∷ Enter 2 ∷ call 0 0xc4000003 0x100 0x40002000 0x2 ∷ Deliver 1 ∷ Enter 1
     ∷ call 1 0xc4000001 0x2 0 0 ∷ call 0 0xc4000003 0x10000 0x40003000 0x3
