@@ -120,7 +120,7 @@ last_life = record { history = refl; values = refl }
 
 -- Starts --------------------------------------------------------------------------------------
 
--- one that was not applied, stale or not, ends it as well
+-- an acknowledgement of a Start that was not applied, stale or not, ends what is outstanding
 start_not_applied : AreAnswered board
     (boot ⇒ boots
     ∷ on_3 ⇒ starts 3 1 0

@@ -34,7 +34,7 @@ powered_down_and_reset = record { history = refl; values = refl }
 
 -- Resuming ------------------------------------------------------------------------------------
 
--- no other cause resumes a core
+-- no cause but a wake-up event resumes a core
 no_wake_no_resume : AreAnswered board
     (boot ⇒ boots
     ∷ on 0x001 0x40005000 0 ⇒ starts 1 1 0

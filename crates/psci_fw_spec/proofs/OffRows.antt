@@ -4,7 +4,7 @@ use Rattle.psci_fw_spec.proofs.Steps.{◌⇒◌, AreAnswered, board, boot, boots
 use Rattle.psci_fw_spec.proofs.Steps.{goes_on_3, goes_to, off, on, one_cluster}
 use Rattle.psci_fw_spec.proofs.Steps.{part, starts, stops, tall, uneven}
 
--- so does a running one
+-- a running core keeps its cluster up
 running_core_in_cluster : AreAnswered board
     (boot ⇒ boots
     ∷ on 0x001 0x40005000 0 ⇒ starts 1 1 0

@@ -7,7 +7,7 @@ use Rattle.psci_fw_spec.proofs.Steps.{starts, stops, suspend, uneven}
 
 -- Openings ------------------------------------------------------------------------------------
 
--- by the SMC32 word, whose arguments have 32 bits
+-- a suspend by the SMC32 word, whose arguments have 32 bits
 narrow_word : AreAnswered one_core
     (boot ⇒ boots
     ∷ smc 0 0x84000001 0x100000002 0 0 ⇒ stops 0 1 1 (part 0 2 1 ∷ [])
@@ -20,7 +20,8 @@ narrow_word = record { history = refl; values = refl }
 
 -- Claims --------------------------------------------------------------------------------------
 
--- nor deeper than it asks itself, and no cluster where the other one asks nothing of it
+-- a core claims no more of its cluster than it asks itself, and nothing where the other core asks
+-- nothing of it
 least_of_two : AreAnswered board
     (boot ⇒ boots
     ∷ on 0x100 0x40002000 0 ⇒ starts 2 1 0

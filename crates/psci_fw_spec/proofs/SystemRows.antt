@@ -22,7 +22,7 @@ going_off_denies = record { history = refl; values = refl }
 
 -- SYSTEM_OFF and SYSTEM_RESET -----------------------------------------------------------------
 
--- by another core, with its own known start; other cores may run
+-- a reset by another core than the boot core, with its own known start; other cores may run
 reset_by_another_core : AreAnswered board
     (boot ⇒ boots
     ∷ on_3 ⇒ starts 3 1 0
