@@ -8,20 +8,6 @@ use Rattle.psci_fw_spec.proofs.Steps.{take_stale, used, value}
 
 -- Cores that go off ---------------------------------------------------------------------------
 
--- a core that goes off is ON until it is acknowledged
-core_off_acknowledged : AreAnswered board
-    (boot ⇒ boots
-    ∷ on_3 ⇒ starts 3 1 0
-    ∷ affinity 0x101 0 ⇒ value 2
-    ∷ enter_on 3 1 1 ⇒ goes_on_3
-    ∷ off 3 ⇒ stops 3 1 1 (part 0 3 1 ∷ part 1 3 1 ∷ [])
-    ∷ affinity 0x101 0 ⇒ value 0
-    ∷ affinity 0x101 0 ⇒ value 0
-    ∷ take_down 3 1 1 2 ⇒ used
-    ∷ affinity 0x101 0 ⇒ value 1 ∷ [])
-unfolding computing
-core_off_acknowledged = record { history = refl; values = refl }
-
 -- a part that was applied turns the core OFF, and none does not; until all were, the message
 -- stays outstanding
 parts_applied : AreAnswered board
@@ -118,19 +104,6 @@ before_any_life : AreAnswered board
 unfolding computing
 before_any_life = record { history = refl; values = refl }
 
--- a core that went off and was woken parked with a message of its own
-stale_down_after_wake : AreAnswered board
-    (boot ⇒ boots
-    ∷ on_3 ⇒ starts 3 1 0
-    ∷ affinity 0x101 0 ⇒ value 2
-    ∷ enter_on 3 1 1 ⇒ goes_on_3
-    ∷ off 3 ⇒ stops 3 1 1 (part 0 3 1 ∷ part 1 3 1 ∷ [])
-    ∷ enter_wake 3 1 2 ⇒ stops 3 1 2 (part 0 3 2 ∷ part 1 3 2 ∷ [])
-    ∷ take_stale 3 1 1 0 ⇒ old
-    ∷ take_down 3 1 2 2 ⇒ used ∷ [])
-unfolding computing
-stale_down_after_wake = record { history = refl; values = refl }
-
 -- an acknowledgement of the last life
 last_life : AreAnswered board
     (boot ⇒ boots
@@ -147,18 +120,7 @@ last_life = record { history = refl; values = refl }
 
 -- Starts --------------------------------------------------------------------------------------
 
--- a Start that was acknowledged leaves its target pending, whatever was applied
-start_acknowledged : AreAnswered board
-    (boot ⇒ boots
-    ∷ on_3 ⇒ starts 3 1 0
-    ∷ take Start 3 1 0 1 false ⇒ used
-    ∷ take Start 3 1 0 1 false ⇒ old
-    ∷ affinity 0x101 0 ⇒ value 2
-    ∷ enter_on 3 1 1 ⇒ goes_on_3 ∷ [])
-unfolding computing
-start_acknowledged = record { history = refl; values = refl }
-
--- one that was not applied, stale or not, ends it as well
+-- an acknowledgement of a Start that was not applied, stale or not, ends what is outstanding
 start_not_applied : AreAnswered board
     (boot ⇒ boots
     ∷ on_3 ⇒ starts 3 1 0
@@ -170,35 +132,6 @@ start_not_applied : AreAnswered board
     ∷ take Start 1 1 0 1 false ⇒ old ∷ [])
 unfolding computing
 start_not_applied = record { history = refl; values = refl }
-
--- an entry ends what is outstanding for its core, and not what is for another one
-entry_empties_slot : AreAnswered board
-    (boot ⇒ boots
-    ∷ on_3 ⇒ starts 3 1 0
-    ∷ affinity 0x101 0 ⇒ value 2
-    ∷ enter_on 3 1 1 ⇒ goes_on_3
-    ∷ affinity 0x101 0 ⇒ value 0
-    ∷ take Start 3 1 0 1 false ⇒ old ∷ [])
-unfolding computing
-entry_empties_slot = record { history = refl; values = refl }
-
--- the other one's stays
-other_slot_stays : AreAnswered board
-    (boot ⇒ boots
-    ∷ on_3 ⇒ starts 3 1 0
-    ∷ on 0x100 0x40002000 0 ⇒ starts 2 1 0
-    ∷ enter_on 3 1 1 ⇒ goes_on_3
-    ∷ take Start 2 1 0 1 false ⇒ used ∷ [])
-unfolding computing
-other_slot_stays = record { history = refl; values = refl }
-
--- a start that was repeated is one entry
-repeated_start : AreAnswered board
-    (boot ⇒ boots
-    ∷ on_3 ⇒ starts 3 1 0
-    ∷ enter_on 3 1 1 ⇒ goes_on_3 ∷ [])
-unfolding computing
-repeated_start = record { history = refl; values = refl }
 
 -- a new message for a core takes the place of the old one: a Start that of a Down
 start_after_down : AreAnswered board

@@ -3,23 +3,9 @@ use Rattle.std.proofs.Common.{◌∷◌, [], refl}
 use Rattle.psci_fw_spec.proofs.FormatWordRows.{extended}
 use Rattle.psci_fw_spec.proofs.Steps.{◌⇒◌, AreAnswered, board, boot, boots, computing, enter_boot}
 use Rattle.psci_fw_spec.proofs.Steps.{enter_on, enter_wake, error, features, goes_on_3, goes_to}
-use Rattle.psci_fw_spec.proofs.Steps.{limited, off, on, on_3, one_cluster, part, resumes, set_mode}
-use Rattle.psci_fw_spec.proofs.Steps.{smc, starts, stops, suspend, system_suspend, tall, take_down}
-use Rattle.psci_fw_spec.proofs.Steps.{uneven, used, value}
-
--- words of the original format, PSCI_FEATURES, and power-down of a cluster
-extended_format : AreAnswered (extended board)
-    (boot ⇒ boots
-    ∷ suspend 0 0x01010033 0x40000100 5 ⇒ error 2
-    ∷ suspend 0 0x40000002 0x40000100 5 ⇒ error 2
-    ∷ suspend 0 0x00000003 0x40000100 5 ⇒ error 2
-    ∷ suspend 0 0x40003333 0x40000100 5 ⇒ error 2
-    ∷ features 0x84000001 ⇒ value 3
-    ∷ suspend 0 0x40000033 0x40000100 5 ⇒ stops 0 1 1 (part 0 3 1 ∷ part 1 3 1 ∷ [])
-    ∷ take_down 0 1 1 2 ⇒ used
-    ∷ enter_wake 0 1 2 ⇒ goes_to 0x40000100 5 ∷ [])
-unfolding computing
-extended_format = record { history = refl; values = refl }
+use Rattle.psci_fw_spec.proofs.Steps.{limited, off, on, one_cluster, part}
+use Rattle.psci_fw_spec.proofs.Steps.{starts, stops, suspend, system_suspend, tall}
+use Rattle.psci_fw_spec.proofs.Steps.{uneven, value}
 
 -- the format decides nothing else that PSCI_FEATURES answers
 extended_features : AreAnswered (extended board)
@@ -30,43 +16,6 @@ extended_features : AreAnswered (extended board)
     ∷ features 0xc4000002 ⇒ error 1 ∷ [])
 unfolding computing
 extended_features = record { history = refl; values = refl }
-
--- the word is looked at before the entry point, and the entry point for power-down alone
-extended_order : AreAnswered (extended board)
-    (boot ⇒ boots
-    ∷ suspend 0 0x01010033 0x50000000 0 ⇒ error 2
-    ∷ suspend 0 0x40000033 0x50000000 0 ⇒ error 9
-    ∷ suspend 0 0x00000022 0x50000000 0 ⇒ stops 0 1 1 (part 0 2 1 ∷ part 1 2 1 ∷ [])
-    ∷ enter_wake 0 1 2 ⇒ resumes ∷ [])
-unfolding computing
-extended_order = record { history = refl; values = refl }
-
--- another caller, by the SMC32 word, whose arguments have 32 bits
-other_caller : AreAnswered (extended board)
-    (boot ⇒ boots
-    ∷ on_3 ⇒ starts 3 1 0
-    ∷ enter_on 3 1 1 ⇒ goes_on_3
-    ∷ suspend 3 0x01010033 0x40004000 2 ⇒ error 2
-    ∷ smc 3 0x8400000a 0xc4000001 0 0 ⇒ value 3
-    ∷ smc 3 0x84000001 0x140000033 0x40004000 2 ⇒ stops 3 1 1 (part 0 3 1 ∷ part 1 3 1 ∷ [])
-    ∷ enter_wake 3 1 2 ⇒ goes_to 0x40004000 2 ∷ [])
-unfolding computing
-other_caller = record { history = refl; values = refl }
-
--- OS-initiated mode: the word is looked at before the other cores
-extended_os_initiated : AreAnswered (extended board)
-    (boot ⇒ boots
-    ∷ set_mode 0 1 ⇒ value 0
-    ∷ features 0xc4000001 ⇒ value 3
-    ∷ on_3 ⇒ starts 3 1 0
-    ∷ enter_on 3 1 1 ⇒ goes_on_3
-    ∷ suspend 0 0x02010333 0x40000100 0 ⇒ error 2
-    ∷ suspend 0 0x40000333 0x40000100 0 ⇒ error 3
-    ∷ suspend 3 0x40000003 0x40004000 2 ⇒ stops 3 1 1 (part 0 3 1 ∷ [])
-    ∷ suspend 0 0x40000333 0x40000100 0 ⇒ error 2
-    ∷ suspend 0 0x40000033 0x40000100 0 ⇒ stops 0 1 1 (part 0 3 1 ∷ part 1 3 1 ∷ []) ∷ [])
-unfolding computing
-extended_os_initiated = record { history = refl; values = refl }
 
 -- a later life
 extended_in_life_2 : AreAnswered (extended board)

@@ -2,25 +2,11 @@
 use Rattle.std.proofs.Common.{◌∷◌, [], false, refl, true}
 use Rattle.psci_messages.specs.declared.kind.Kind.TheVariants.{Off, Reset, Start}
 use Rattle.psci_fw_spec.specs.declared.fault.FwFault.TheVariants.{OldStart}
-use Rattle.psci_fw_spec.proofs.Steps.{◌⇒◌, AreAnswered, affinity, board, boot, boots, computing}
-use Rattle.psci_fw_spec.proofs.Steps.{enter_boot, enter_on, enter_reset, enter_wake, goes_on_3}
-use Rattle.psci_fw_spec.proofs.Steps.{goes_to, off, old, on, on_3, on_by, one_cluster, part}
+use Rattle.psci_fw_spec.proofs.Steps.{◌⇒◌, AreAnswered, board, boot, boots, computing}
+use Rattle.psci_fw_spec.proofs.Steps.{enter_on, enter_reset, enter_wake, goes_on_3}
+use Rattle.psci_fw_spec.proofs.Steps.{goes_to, off, old, on, on_3, one_cluster, part}
 use Rattle.psci_fw_spec.proofs.Steps.{refused, starts, stops, stops_by, stops_still, suspend}
-use Rattle.psci_fw_spec.proofs.Steps.{system_off, system_reset, take, take_down, used, value}
-use Rattle.psci_fw_spec.proofs.Steps.{version}
-
--- running cores stop at their next call, and others when they enter; nothing is sent
-halting_life : AreAnswered board
-    (boot ⇒ boots
-    ∷ on_3 ⇒ starts 3 1 0
-    ∷ affinity 0x101 0 ⇒ value 2
-    ∷ enter_on 3 1 1 ⇒ goes_on_3
-    ∷ system_off 0 ⇒ stops_by Off 0 1 1 []
-    ∷ version 3 ⇒ stops_still
-    ∷ enter_wake 3 1 2 ⇒ stops_still
-    ∷ take Off 0 1 1 1 false ⇒ used ∷ [])
-unfolding computing
-halting_life = record { history = refl; values = refl }
+use Rattle.psci_fw_spec.proofs.Steps.{system_off, system_reset, take, take_down, used}
 
 -- a core stops whatever it calls: CPU_OFF, and SYSTEM_OFF, which sends nothing then
 functions_of_a_halting_life : AreAnswered one_cluster
@@ -36,19 +22,6 @@ functions_of_a_halting_life : AreAnswered one_cluster
     ∷ take Off 2 1 1 1 false ⇒ old ∷ [])
 unfolding computing
 functions_of_a_halting_life = record { history = refl; values = refl }
-
--- and CPU_SUSPEND, CPU_ON
-more_functions_of_a_halting_life : AreAnswered one_cluster
-    (boot ⇒ boots
-    ∷ on 0x1 0x40005000 0 ⇒ starts 1 1 0
-    ∷ on 0x2 0x40001000 7 ⇒ starts 2 1 0
-    ∷ enter_on 1 1 1 ⇒ goes_to 0x40005000 0
-    ∷ enter_on 2 1 1 ⇒ goes_to 0x40001000 7
-    ∷ system_off 0 ⇒ stops_by Off 0 1 1 []
-    ∷ suspend 1 0x00010003 0x40004000 0 ⇒ stops_still
-    ∷ on_by 2 0 0x40001000 7 ⇒ stops_still ∷ [])
-unfolding computing
-more_functions_of_a_halting_life = record { history = refl; values = refl }
 
 -- a pending core stops as well, and a core that was suspended; their starts are over then
 entries_of_a_halting_life : AreAnswered board
@@ -86,13 +59,3 @@ slots_of_a_halting_life : AreAnswered board
     ∷ take Reset 0 1 1 1 false ⇒ old ∷ [])
 unfolding computing
 slots_of_a_halting_life = record { history = refl; values = refl }
-
--- the next life is no halting one
-life_after_a_halting_life : AreAnswered board
-    (boot ⇒ boots
-    ∷ system_reset 0 ⇒ stops_by Reset 0 1 1 []
-    ∷ enter_boot 0 2 1 ⇒ boots
-    ∷ version 0 ⇒ value 65537
-    ∷ system_off 0 ⇒ stops_by Off 0 2 1 [] ∷ [])
-unfolding computing
-life_after_a_halting_life = record { history = refl; values = refl }

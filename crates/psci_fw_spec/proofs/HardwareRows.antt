@@ -6,9 +6,8 @@ use Rattle.psci_fw_spec.proofs.Lopsided.{lopsided}
 use Rattle.psci_fw_spec.proofs.Steps.{◌⇒◌, AreAnswered, Step, board, boot, boots, computing}
 use Rattle.psci_fw_spec.proofs.Steps.{enter_boot, enter_on, enter_reset, enter_wake, error}
 use Rattle.psci_fw_spec.proofs.Steps.{goes_on_3, goes_to, off, old, on, on_3, on_by, one_core, part}
-use Rattle.psci_fw_spec.proofs.Steps.{resumes, set_mode, smc, starts, stops, stops_by}
-use Rattle.psci_fw_spec.proofs.Steps.{stops_still, suspend, system_reset, take, take_down}
-use Rattle.psci_fw_spec.proofs.Steps.{take_stale, tall, used, value}
+use Rattle.psci_fw_spec.proofs.Steps.{resumes, set_mode, smc, starts, stops}
+use Rattle.psci_fw_spec.proofs.Steps.{suspend, take, take_down, take_stale, tall, used, value}
 
 -- NODE_HW_STATE by a core: affinity word, level
 abbrev pub hw : ℕ → ℕ → ℕ → Step
@@ -122,21 +121,6 @@ unfolding computing
 beside_its_path = record { history = refl; values = refl }
 
 -- Asked on, woken, replaced -------------------------------------------------------------------
-
--- a stale one confirms the parts that were applied: the cluster is granted nothing since core 2 was
--- asked on, whatever the acknowledgement says of it
-stale_with_parts : AreAnswered board
-    (boot ⇒ boots
-    ∷ on_3 ⇒ starts 3 1 0
-    ∷ enter_on 3 1 1 ⇒ goes_on_3
-    ∷ off 3 ⇒ stops 3 1 1 (part 0 3 1 ∷ part 1 3 1 ∷ [])
-    ∷ on 0x100 0x40002000 0 ⇒ starts 2 1 0
-    ∷ take_stale 3 1 1 1 ⇒ used
-    ∷ hw 0 0x101 0 ⇒ value 1
-    ∷ hw 0 0x100 0 ⇒ value 0
-    ∷ hw 0 0x100 1 ⇒ value 0 ∷ [])
-unfolding computing
-stale_with_parts = record { history = refl; values = refl }
 
 stale_without_parts : AreAnswered board
     (boot ⇒ boots
@@ -273,16 +257,6 @@ next_life : AreAnswered board
     ∷ hw 0 0x1 0 ⇒ value 1 ∷ [])
 unfolding computing
 next_life = record { history = refl; values = refl }
-
--- no core is told anything in a halting life, though acknowledgements are used
-halting_life : AreAnswered board
-    (boot ⇒ boots
-    ∷ on_3 ⇒ starts 3 1 0
-    ∷ enter_on 3 1 1 ⇒ goes_on_3
-    ∷ system_reset 3 ⇒ stops_by kinds.Reset 3 1 1 []
-    ∷ hw 0 0x101 0 ⇒ stops_still ∷ [])
-unfolding computing
-halting_life = record { history = refl; values = refl }
 
 -- Words ---------------------------------------------------------------------------------------
 

@@ -51,6 +51,7 @@ mod StatusesRows
 mod StatusesSay
 mod Steps
 mod StopValueRows
+mod StoryRows
 mod Stopping
 mod SuspendRows
 mod SystemRows

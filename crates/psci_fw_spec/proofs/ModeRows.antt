@@ -1,38 +1,9 @@
 -- Worked examples: PSCI_SET_SUSPEND_MODE, and what PSCI_FEATURES says of the modes.
 use Rattle.std.proofs.Common.{◌∷◌, [], refl}
 use Rattle.psci_fw_spec.proofs.Steps.{◌⇒◌, AreAnswered, board, boot, boots, computing, enter_on}
-use Rattle.psci_fw_spec.proofs.Steps.{enter_wake, error, features, goes_on_3, goes_to, off, on}
+use Rattle.psci_fw_spec.proofs.Steps.{enter_wake, error, features, goes_on_3, goes_to, off}
 use Rattle.psci_fw_spec.proofs.Steps.{on_3, part, resumes, set_mode, smc, starts, stops, suspend}
-use Rattle.psci_fw_spec.proofs.Steps.{uneven, value}
-
--- a number that is no mode; the mode that is set; a mode while a core is pending; both modes
-suspend_mode_conditions : AreAnswered board
-    (boot ⇒ boots
-    ∷ set_mode 0 2 ⇒ error 2
-    ∷ set_mode 0 0 ⇒ value 0
-    ∷ on_3 ⇒ starts 3 1 0
-    ∷ set_mode 0 1 ⇒ error 3
-    ∷ enter_on 3 1 1 ⇒ goes_on_3
-    ∷ set_mode 0 1 ⇒ value 0
-    ∷ set_mode 0 0 ⇒ error 3
-    ∷ off 3 ⇒ stops 3 1 1 (part 0 3 1 ∷ part 1 3 1 ∷ [])
-    ∷ set_mode 0 0 ⇒ value 0 ∷ [])
-unfolding computing
-suspend_mode_conditions = record { history = refl; values = refl }
-
--- the mode that is set is accepted whatever the cores do
-present_mode : AreAnswered board
-    (boot ⇒ boots
-    ∷ on_3 ⇒ starts 3 1 0
-    ∷ set_mode 0 0 ⇒ value 0
-    ∷ enter_on 3 1 1 ⇒ goes_on_3
-    ∷ set_mode 0 0 ⇒ value 0
-    ∷ set_mode 0 1 ⇒ value 0
-    ∷ suspend 3 0x1 0 0 ⇒ stops 3 1 1 (part 0 1 1 ∷ [])
-    ∷ set_mode 0 1 ⇒ value 0
-    ∷ set_mode 0 2 ⇒ error 2 ∷ [])
-unfolding computing
-present_mode = record { history = refl; values = refl }
+use Rattle.psci_fw_spec.proofs.Steps.{value}
 
 -- OS-initiated mode is not set while a core is suspended, however light
 to_os_initiated : AreAnswered board
@@ -65,29 +36,6 @@ to_platform_coordinated : AreAnswered board
     ∷ set_mode 0 0 ⇒ value 0 ∷ [])
 unfolding computing
 to_platform_coordinated = record { history = refl; values = refl }
-
--- a mode that is refused is not set: a suspend claims no more than all cores below ask, where in
--- OS-initiated mode it would have been refused
-refused_mode_is_not_set : AreAnswered board
-    (boot ⇒ boots
-    ∷ on_3 ⇒ starts 3 1 0
-    ∷ set_mode 0 1 ⇒ error 3
-    ∷ set_mode 0 2 ⇒ error 2
-    ∷ suspend 0 0x02010333 0x40000100 0 ⇒ stops 0 1 1 (part 0 3 1 ∷ part 1 3 1 ∷ []) ∷ [])
-unfolding computing
-refused_mode_is_not_set = record { history = refl; values = refl }
-
--- another core than the boot core sets the mode, on an uneven board
-modes_by_other_callers : AreAnswered uneven
-    (boot ⇒ boots
-    ∷ on 0x102 0x40001000 7 ⇒ starts 3 1 0
-    ∷ enter_on 3 1 1 ⇒ goes_on_3
-    ∷ set_mode 3 1 ⇒ value 0
-    ∷ set_mode 3 0 ⇒ error 3
-    ∷ off 0 ⇒ stops 0 1 1 (part 0 3 1 ∷ part 1 3 1 ∷ [])
-    ∷ set_mode 3 0 ⇒ value 0 ∷ [])
-unfolding computing
-modes_by_other_callers = record { history = refl; values = refl }
 
 -- a mode has 32 bits, and each of them counts
 mode_words : AreAnswered board

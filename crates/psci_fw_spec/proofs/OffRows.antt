@@ -1,34 +1,10 @@
 -- Worked examples: cores that go off in platform-coordinated mode.
 use Rattle.std.proofs.Common.{◌∷◌, [], refl}
 use Rattle.psci_fw_spec.proofs.Steps.{◌⇒◌, AreAnswered, board, boot, boots, computing, enter_on}
-use Rattle.psci_fw_spec.proofs.Steps.{enter_wake, goes_on_3, goes_to, off, on, on_3, one_cluster}
-use Rattle.psci_fw_spec.proofs.Steps.{part, resumes, starts, stops, suspend, take_down, tall}
-use Rattle.psci_fw_spec.proofs.Steps.{uneven, used}
+use Rattle.psci_fw_spec.proofs.Steps.{goes_on_3, goes_to, off, on, one_cluster}
+use Rattle.psci_fw_spec.proofs.Steps.{part, starts, stops, tall, uneven}
 
--- the last core takes its whole path down
-whole_path_down : AreAnswered board
-    (boot ⇒ boots
-    ∷ off 0 ⇒ stops 0 1 1 (part 0 3 1 ∷ part 1 3 1 ∷ part 2 3 1 ∷ []) ∷ [])
-unfolding computing
-whole_path_down = record { history = refl; values = refl }
-
--- a pending core in the other cluster keeps the system up
-pending_core_elsewhere : AreAnswered board
-    (boot ⇒ boots
-    ∷ on_3 ⇒ starts 3 1 0
-    ∷ off 0 ⇒ stops 0 1 1 (part 0 3 1 ∷ part 1 3 1 ∷ []) ∷ [])
-unfolding computing
-pending_core_elsewhere = record { history = refl; values = refl }
-
--- a pending core in the cluster keeps the cluster up
-pending_core_in_cluster : AreAnswered board
-    (boot ⇒ boots
-    ∷ on 0x001 0x40005000 0 ⇒ starts 1 1 0
-    ∷ off 0 ⇒ stops 0 1 1 (part 0 3 1 ∷ []) ∷ [])
-unfolding computing
-pending_core_in_cluster = record { history = refl; values = refl }
-
--- so does a running one
+-- a running core keeps its cluster up
 running_core_in_cluster : AreAnswered board
     (boot ⇒ boots
     ∷ on 0x001 0x40005000 0 ⇒ starts 1 1 0
@@ -37,24 +13,6 @@ running_core_in_cluster : AreAnswered board
     ∷ off 1 ⇒ stops 1 1 1 (part 0 3 1 ∷ part 1 3 2 ∷ part 2 3 2 ∷ []) ∷ [])
 unfolding computing
 running_core_in_cluster = record { history = refl; values = refl }
-
--- a core that was suspended in its cluster lets it go as deep as it asked
-suspended_core_in_cluster : AreAnswered board
-    (boot ⇒ boots
-    ∷ on 0x100 0x40002000 0 ⇒ starts 2 1 0
-    ∷ on_3 ⇒ starts 3 1 0
-    ∷ enter_on 2 1 1 ⇒ goes_to 0x40002000 0
-    ∷ enter_on 3 1 1 ⇒ goes_on_3
-    ∷ suspend 2 0x01000011 0 0 ⇒ stops 2 1 1 (part 0 1 1 ∷ [])
-    ∷ off 3 ⇒ stops 3 1 1 (part 0 3 1 ∷ part 1 1 2 ∷ [])
-    ∷ take_down 3 1 1 2 ⇒ used
-    ∷ on_3 ⇒ starts 3 1 1
-    ∷ enter_on 3 1 2 ⇒ goes_on_3
-    ∷ enter_wake 2 1 2 ⇒ resumes
-    ∷ suspend 2 0x1 0 0 ⇒ stops 2 1 2 (part 0 1 2 ∷ [])
-    ∷ off 3 ⇒ stops 3 1 2 (part 0 3 2 ∷ []) ∷ [])
-unfolding computing
-suspended_core_in_cluster = record { history = refl; values = refl }
 
 -- one cluster: it goes down with its last core, one of the three was never on
 last_of_one_cluster : AreAnswered one_cluster

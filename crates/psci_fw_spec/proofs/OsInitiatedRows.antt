@@ -1,96 +1,11 @@
 -- Worked examples: OS-initiated mode.
 use Rattle.std.proofs.Common.{◌∷◌, [], refl}
 use Rattle.psci_fw_spec.proofs.Steps.{◌⇒◌, AreAnswered, board, boot, boots, computing, enter_on}
-use Rattle.psci_fw_spec.proofs.Steps.{enter_wake, error, features, goes_on_3, goes_to, limited}
+use Rattle.psci_fw_spec.proofs.Steps.{enter_wake, error, goes_on_3, goes_to, limited}
 use Rattle.psci_fw_spec.proofs.Steps.{off, on, on_3, part, set_mode, starts, stops, suspend, tall}
-use Rattle.psci_fw_spec.proofs.Steps.{value, version}
+use Rattle.psci_fw_spec.proofs.Steps.{value}
 
 -- The last-core check -------------------------------------------------------------------------
-
--- the last core takes the system down
-os_initiated_system_down : AreAnswered board
-    (boot ⇒ boots
-    ∷ set_mode 0 1 ⇒ value 0
-    ∷ features 0xc4000001 ⇒ value 1
-    ∷ suspend 0 0x02010333 0x40000100 0 ⇒
-    stops 0 1 1 (part 0 3 1 ∷ part 1 3 1 ∷ part 2 3 1 ∷ []) ∷ [])
-unfolding computing
-os_initiated_system_down = record { history = refl; values = refl }
-
--- another core runs: DENIED; it was suspended and left its cluster up: INVALID_PARAMETERS; a core
--- of the same cluster was suspended too light: the same
-os_initiated_last_core : AreAnswered board
-    (boot ⇒ boots
-    ∷ set_mode 0 1 ⇒ value 0
-    ∷ on_3 ⇒ starts 3 1 0
-    ∷ enter_on 3 1 1 ⇒ goes_on_3
-    ∷ suspend 0 0x02010333 0x40000100 0 ⇒ error 3
-    ∷ suspend 3 0x00010003 0x40004000 2 ⇒ stops 3 1 1 (part 0 3 1 ∷ [])
-    ∷ suspend 0 0x02010333 0x40000100 0 ⇒ error 2
-    ∷ enter_wake 3 1 2 ⇒ goes_to 0x40004000 2
-    ∷ on 0x1 0x40005000 0 ⇒ starts 1 1 0
-    ∷ enter_on 1 1 1 ⇒ goes_to 0x40005000 0
-    ∷ suspend 1 0x00000001 0 0 ⇒ stops 1 1 1 (part 0 1 1 ∷ [])
-    ∷ suspend 0 0x02010333 0x40000100 0 ⇒ error 2 ∷ [])
-unfolding computing
-os_initiated_last_core = record { history = refl; values = refl }
-
--- a pending core counts as one that runs; only levels of which something is asked are looked at,
--- and a core that is refused runs on
-pending_core_denies : AreAnswered board
-    (boot ⇒ boots
-    ∷ set_mode 0 1 ⇒ value 0
-    ∷ on 0x001 0x40005000 0 ⇒ starts 1 1 0
-    ∷ suspend 0 0x01010033 0x40000100 0 ⇒ error 3
-    ∷ suspend 0 0x00010003 0x40000100 0 ⇒ stops 0 1 1 (part 0 3 1 ∷ [])
-    ∷ enter_wake 0 1 2 ⇒ goes_to 0x40000100 0
-    ∷ enter_on 1 1 1 ⇒ goes_to 0x40005000 0
-    ∷ off 1 ⇒ stops 1 1 1 (part 0 3 1 ∷ [])
-    ∷ on_3 ⇒ starts 3 1 0
-    ∷ suspend 0 0x02010333 0x40000100 0 ⇒ error 3
-    ∷ version 0 ⇒ value 65537
-    ∷ suspend 0 0x01010033 0x40000100 0 ⇒ stops 0 1 2 (part 0 3 2 ∷ part 1 3 3 ∷ []) ∷ [])
-unfolding computing
-pending_core_denies = record { history = refl; values = refl }
-
--- a core is refused where the other one was granted less than is asked, and not where it was
--- granted as much; and the claim is what the core asks itself
-granted_as_much : AreAnswered board
-    (boot ⇒ boots
-    ∷ set_mode 0 1 ⇒ value 0
-    ∷ on 0x001 0x40005000 0 ⇒ starts 1 1 0
-    ∷ enter_on 1 1 1 ⇒ goes_to 0x40005000 0
-    ∷ suspend 1 0x2 0 0 ⇒ stops 1 1 1 (part 0 2 1 ∷ [])
-    ∷ suspend 0 0x01010033 0x40000100 0 ⇒ error 2
-    ∷ suspend 0 0x01010023 0x40000100 0 ⇒ stops 0 1 1 (part 0 3 1 ∷ part 1 2 2 ∷ [])
-    ∷ enter_wake 0 1 2 ⇒ goes_to 0x40000100 0
-    ∷ suspend 0 0x02000111 0 0 ⇒ stops 0 1 2 (part 0 1 2 ∷ part 1 1 3 ∷ part 2 1 3 ∷ []) ∷ [])
-unfolding computing
-granted_as_much = record { history = refl; values = refl }
-
--- INVALID_PARAMETERS at one level comes before DENIED at another, whichever is lower
-invalid_at_level_1 : AreAnswered board
-    (boot ⇒ boots
-    ∷ set_mode 0 1 ⇒ value 0
-    ∷ on 0x001 0x40005000 0 ⇒ starts 1 1 0
-    ∷ on_3 ⇒ starts 3 1 0
-    ∷ enter_on 1 1 1 ⇒ goes_to 0x40005000 0
-    ∷ suspend 1 0x1 0 0 ⇒ stops 1 1 1 (part 0 1 1 ∷ [])
-    ∷ suspend 0 0x02010333 0x40000100 0 ⇒ error 2 ∷ [])
-unfolding computing
-invalid_at_level_1 = record { history = refl; values = refl }
-
--- the other way round
-invalid_at_level_2 : AreAnswered board
-    (boot ⇒ boots
-    ∷ set_mode 0 1 ⇒ value 0
-    ∷ on 0x001 0x40005000 0 ⇒ starts 1 1 0
-    ∷ on_3 ⇒ starts 3 1 0
-    ∷ enter_on 3 1 1 ⇒ goes_on_3
-    ∷ suspend 3 0x00010003 0x40004000 2 ⇒ stops 3 1 1 (part 0 3 1 ∷ [])
-    ∷ suspend 0 0x02010333 0x40000100 0 ⇒ error 2 ∷ [])
-unfolding computing
-invalid_at_level_2 = record { history = refl; values = refl }
 
 -- the other checks come first: the power state, the entry point, and the start limit, at which
 -- the core goes on at once
@@ -134,17 +49,6 @@ tall_check = record { history = refl; values = refl }
 
 -- Cores that go off or park -------------------------------------------------------------------
 
--- a core that goes off claims itself and the domains whose cores are all off or going off
-off_claims : AreAnswered board
-    (boot ⇒ boots
-    ∷ on_3 ⇒ starts 3 1 0
-    ∷ enter_on 3 1 1 ⇒ goes_on_3
-    ∷ set_mode 0 1 ⇒ value 0
-    ∷ off 3 ⇒ stops 3 1 1 (part 0 3 1 ∷ part 1 3 1 ∷ [])
-    ∷ off 0 ⇒ stops 0 1 1 (part 0 3 1 ∷ part 1 3 1 ∷ part 2 3 2 ∷ []) ∷ [])
-unfolding computing
-off_claims = record { history = refl; values = refl }
-
 -- a core that was suspended below a domain keeps it, however deep it asked
 suspended_core_keeps_the_cluster : AreAnswered board
     (boot ⇒ boots
@@ -173,17 +77,3 @@ park_claims : AreAnswered board
     stops 0 1 1 (part 0 3 1 ∷ part 1 3 1 ∷ part 2 3 4 ∷ []) ∷ [])
 unfolding computing
 park_claims = record { history = refl; values = refl }
-
--- an accepted CPU_ON takes away what was granted on the path of its target: until it has entered
--- and gone again the system is not taken down
-on_takes_grants_away : AreAnswered board
-    (boot ⇒ boots
-    ∷ set_mode 0 1 ⇒ value 0
-    ∷ on_3 ⇒ starts 3 1 0
-    ∷ suspend 0 0x02010333 0x40000100 0 ⇒ error 3
-    ∷ enter_on 3 1 1 ⇒ goes_on_3
-    ∷ off 3 ⇒ stops 3 1 1 (part 0 3 1 ∷ part 1 3 1 ∷ [])
-    ∷ suspend 0 0x02010333 0x40000100 0 ⇒
-    stops 0 1 1 (part 0 3 1 ∷ part 1 3 1 ∷ part 2 3 2 ∷ []) ∷ [])
-unfolding computing
-on_takes_grants_away = record { history = refl; values = refl }

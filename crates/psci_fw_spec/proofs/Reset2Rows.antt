@@ -4,10 +4,10 @@ use Rattle.psci_messages.specs.declared.kind.Kind.TheVariants.{Off, Reset}
 use Rattle.psci_fw_spec.specs.declared.fault.FwFault.TheVariants.{NoCore, NoLife, NotRunning}
 use Rattle.psci_fw_spec.specs.Phases.{Away, Running}
 use Rattle.psci_fw_spec.proofs.Steps.{◌⇒◌, AreAnswered, affinity, board, boot, boots, computing}
-use Rattle.psci_fw_spec.proofs.Steps.{enter_boot, enter_on, enter_wake, error, features, goes_on_3}
-use Rattle.psci_fw_spec.proofs.Steps.{goes_to, limited, message, off, old, on, on_3, one_cluster}
-use Rattle.psci_fw_spec.proofs.Steps.{one_core, part, refused, set_mode, smc, starts, stops}
-use Rattle.psci_fw_spec.proofs.Steps.{stops_by, stops_still, suspend, system_off, system_reset}
+use Rattle.psci_fw_spec.proofs.Steps.{enter_boot, enter_on, enter_wake, error, goes_on_3}
+use Rattle.psci_fw_spec.proofs.Steps.{goes_to, message, off, old, on, on_3, one_cluster}
+use Rattle.psci_fw_spec.proofs.Steps.{part, refused, set_mode, smc, starts, stops}
+use Rattle.psci_fw_spec.proofs.Steps.{stops_by, stops_still, suspend, system_off}
 use Rattle.psci_fw_spec.proofs.Steps.{system_reset2, take, take_down, tall, uneven, used, value}
 use Rattle.psci_fw_spec.proofs.Steps.{version}
 use Rattle.psci_fw_spec.proofs.ValueRows.{Says, two_run}
@@ -44,46 +44,7 @@ other_types : AreAnswered board
 unfolding computing
 other_types = record { history = refl; values = refl }
 
--- a type has 32 bits in both conventions: the upper half of its register says nothing
-wide_type : AreAnswered board
-    (boot ⇒ boots
-    ∷ system_reset2 0 0xffffffff00000001 0 ⇒ error 2
-    ∷ system_reset2 0 0xffffffff00000000 0 ⇒ stops_by Reset 0 1 1 [] ∷ [])
-unfolding computing
-wide_type = record { history = refl; values = refl }
-
-narrow_type : AreAnswered board
-    (boot ⇒ boots
-    ∷ smc 0 0x84000012 0xffffffff00000002 0 0 ⇒ error 2
-    ∷ smc 0 0x84000012 0xffffffff00000000 0 0 ⇒ stops_by Reset 0 1 1 [] ∷ [])
-unfolding computing
-narrow_type = record { history = refl; values = refl }
-
--- the cookie is not looked at
-any_cookie : AreAnswered board
-    (boot ⇒ boots
-    ∷ system_reset2 0 1 0xffffffffffffffff ⇒ error 2
-    ∷ system_reset2 0 0 0xffffffffffffffff ⇒ stops_by Reset 0 1 1 [] ∷ [])
-unfolding computing
-any_cookie = record { history = refl; values = refl }
-
--- its words are there, and neither has a flag
-features_of_reset2 : AreAnswered board
-    (boot ⇒ boots
-    ∷ features 0x84000012 ⇒ value 0
-    ∷ features 0xc4000012 ⇒ value 0 ∷ [])
-unfolding computing
-features_of_reset2 = record { history = refl; values = refl }
-
 -- Callers -------------------------------------------------------------------------------------
-
--- each core resets with its own known start, on boards of one and of three levels
-only_core_resets : AreAnswered one_core
-    (boot ⇒ boots
-    ∷ system_reset2 0 3 0 ⇒ error 2
-    ∷ system_reset2 0 0 0 ⇒ stops_by Reset 0 1 1 [] ∷ [])
-unfolding computing
-only_core_resets = record { history = refl; values = refl }
 
 last_core_of_a_tall_board_resets : AreAnswered tall
     (boot ⇒ boots
@@ -151,16 +112,6 @@ reset2_in_os_mode : AreAnswered one_cluster
 unfolding computing
 reset2_in_os_mode = record { history = refl; values = refl }
 
--- at the start limit, and in the last life
-reset2_at_the_limits : AreAnswered (limited 1 1)
-    (boot ⇒ boots
-    ∷ on_3 ⇒ starts 3 1 0
-    ∷ enter_on 3 1 1 ⇒ goes_on_3
-    ∷ system_reset2 3 1 0 ⇒ error 2
-    ∷ system_reset2 3 0 0 ⇒ stops_by Reset 3 1 1 [] ∷ [])
-unfolding computing
-reset2_at_the_limits = record { history = refl; values = refl }
-
 -- Lives ---------------------------------------------------------------------------------------
 
 -- in a halting life it stops its caller, whatever its type, and sends nothing
@@ -177,25 +128,6 @@ reset2_in_a_halting_life : AreAnswered one_cluster
     ∷ take Off 0 1 1 1 false ⇒ used ∷ [])
 unfolding computing
 reset2_in_a_halting_life = record { history = refl; values = refl }
-
--- a life that it ends is halting: SYSTEM_OFF and SYSTEM_RESET send nothing any more, and the next
--- life is not halting
-life_ended_by_reset2 : AreAnswered one_cluster
-    (boot ⇒ boots
-    ∷ on 0x1 0x40005000 0 ⇒ starts 1 1 0
-    ∷ on 0x2 0x40001000 7 ⇒ starts 2 1 0
-    ∷ enter_on 1 1 1 ⇒ goes_to 0x40005000 0
-    ∷ enter_on 2 1 1 ⇒ goes_to 0x40001000 7
-    ∷ system_reset2 1 0 9 ⇒ stops_by Reset 1 1 1 []
-    ∷ system_off 0 ⇒ stops_still
-    ∷ system_reset 2 ⇒ stops_still
-    ∷ enter_boot 0 2 1 ⇒ boots
-    ∷ system_reset2 0 2 0 ⇒ error 2
-    ∷ system_reset2 0 0 0 ⇒ stops_by Reset 0 2 1 []
-    ∷ enter_boot 0 3 1 ⇒ boots
-    ∷ version 0 ⇒ value 65537 ∷ [])
-unfolding computing
-life_ended_by_reset2 = record { history = refl; values = refl }
 
 -- Values --------------------------------------------------------------------------------------
 

@@ -9,11 +9,10 @@ mod LineRows
 mod NumberRows
 pub mod LineFeeds
 mod ReadRows
-mod RunRows
 mod ScriptRows
 mod Scripts
 pub mod SpelledLines
-mod SystemRows
+mod StoryRows
 mod TextRows
 mod WordRows
 pub mod Words

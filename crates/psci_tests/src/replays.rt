@@ -2,10 +2,7 @@
 //! event, and whole: many messages, many cores and many events.
 
 use crate::devices::{Page, Script};
-use crate::scripts::{
-    CUT, ENTRY, FIRST, FIRST_TEXT, LIVES, LIVES_TEXT, MESSAGE_TEXT, MESSAGES, SCRIPT, STALE,
-    STALE_TEXT, TEXT, WHOLE,
-};
+use crate::scripts::{CUT, ENTRY, FIRST, FIRST_TEXT, MESSAGE_TEXT, MESSAGES, SCRIPT, TEXT, WHOLE};
 use psci_answers::{ReplayFault, Replayed, ScriptFault, replay};
 use std::alloc::{AllocError, Global};
 
@@ -113,28 +110,6 @@ const NO_LAST_LINE_FEED: Replay = Replay {
     ..EASY
 };
 
-const STALE_MESSAGE: Replay = Replay {
-    name: "stale message",
-    script: STALE,
-    answer: Ok(Replayed {
-        lines: 13,
-        events: 12,
-    }),
-    text: STALE_TEXT,
-    ..EASY
-};
-
-const TWO_LIVES: Replay = Replay {
-    name: "two lives",
-    script: LIVES,
-    answer: Ok(Replayed {
-        lines: 16,
-        events: 15,
-    }),
-    text: LIVES_TEXT,
-    ..EASY
-};
-
 const TWO_NUMBERS: Replay = Replay {
     name: "delivery of two numbers",
     script: FIRST,
@@ -158,7 +133,7 @@ const FIVE_MESSAGES: Replay = Replay {
 };
 
 /// All of them.
-const REPLAYS: [Replay; 12] = [
+const REPLAYS: [Replay; 10] = [
     EASY,
     FULL_PAGE,
     PAGE_THAT_TAKES_NOTHING,
@@ -167,8 +142,6 @@ const REPLAYS: [Replay; 12] = [
     READS_GIVEN_UP,
     WRITES_GIVEN_UP,
     NO_LAST_LINE_FEED,
-    STALE_MESSAGE,
-    TWO_LIVES,
     TWO_NUMBERS,
     FIVE_MESSAGES,
 ];

@@ -1,6 +1,6 @@
 -- Worked examples are stated so: events in turn, and what is said of each.
-use Rattle.std.proofs.Common.{◌≡◌, ℕ, ℤ, Bool, List, [], ◌∷◌, length, map, reverse, Option, None}
-use Rattle.std.proofs.Common.{Some}
+use Rattle.std.proofs.Common.{◌≡◌, ℕ, zero, suc, ℤ, pos, negsuc, Bool, List, [], ◌∷◌, length}
+use Rattle.std.proofs.Common.{map, reverse, Option, None, Some}
 use Rattle.std.specs.List.{range_with_len}
 use Rattle.psci_fw_spec.specs.psci_abi.psci_format.declared.format.Format.TheVariants.{Original}
 use Rattle.psci_fw_spec.specs.psci_board.Board.{BoardValue, core_of, node_of, up}
@@ -24,6 +24,7 @@ use Rattle.psci_fw_spec.specs.Entering.{enter_outcome}
 use Rattle.psci_fw_spec.specs.History as remembers
 use Rattle.psci_fw_spec.specs.Views.{view}
 use Rattle.psci_fw_spec.specs.psci_messages.declared.kind.Kind.{Kind}
+use Rattle.psci_fw_spec.specs.psci_messages.declared.kind.Kind.TheVariants as kinds
 use Rattle.psci_fw_spec.specs.psci_messages.declared.taken.Taken.TheVariants as takens
 use Rattle.psci_fw_spec.specs.psci_messages.Outstanding.{changes_since, last_message, outstanding}
 use Rattle.psci_world_spec.specs.declared.event.Event.{Event}
@@ -123,8 +124,28 @@ sends index kind c life number parts = Some (record {
 abbrev pub returns : ℤ → Option Sent → Said
 returns code sent = Fw (acts.Return (record { 0 = code })) sent
 
+-- a core is answered this code of 0 or more; one below 0 by its absolute value
+abbrev pub value : ℕ → Said
+value n = returns (pos n) nothing
+
+abbrev pub error : ℕ → Said
+error zero = value 0
+error (suc n) = returns (negsuc n) nothing
+
+-- a core asks another one on: the number of the Start, its core, life, number
+abbrev pub asks_on : ℕ → ℕ → ℕ → ℕ → Said
+asks_on index c life number = returns (pos 0) (sends index kinds.Start c life number [])
+
 abbrev pub stops : Option Sent → Said
 stops sent = Fw acts.Stop sent
+
+-- a core stops with a Down: its number, core, life, number, parts
+abbrev pub goes_down : ℕ → ℕ → ℕ → ℕ → List Part → Said
+goes_down index c life number parts = stops (sends index kinds.Down c life number parts)
+
+-- a core ends the life: the number of the message, its kind, core, life, number
+abbrev pub halts : ℕ → Kind → ℕ → ℕ → ℕ → Said
+halts index kind c life number = stops (sends index kind c life number [])
 
 abbrev pub enters : ℕ → ℕ → Said
 enters address context = Fw (acts.Enter address context) None
