@@ -1,12 +1,8 @@
 //! PSCI_SET_SUSPEND_MODE.
 
 ghost use Rattle.std.specs.Prelude.{◌≡◌};
-ghost use Rattle.std.specs.List.{list_any, range_with_len};
 ghost use Rattle.psci_abi.specs.declared.request.Request.TheVariants.{SetSuspendMode};
-ghost use Rattle.psci_board.specs.Board.{cores};
-ghost use Rattle.psci_fw_spec.specs.Phases.{is_away, is_suspended_or_pending};
 ghost use Rattle.psci_fw_spec.specs.SuspendMode.{may_set, mode_of};
-ghost use Rattle.psci_fw_spec.specs.SystemCalls.{all_others};
 ghost use Rattle.psci_fw.specs.Calls.{FunctionAnswered, MayCall};
 ghost use Rattle.psci_fw_state.specs.Seen.{values_in};
 
@@ -48,28 +44,11 @@ fn mode_of(number: u32) -> Option<SuspendMode>
 
 /// Whether the caller may set this mode.
 fn may_set(state: &State, caller: Core, mode: SuspendMode) -> bool
+    requires { MayCall state.now caller.number }
     ensures { result ≡ may_set state.now.board (values_in state.now) caller.number mode }
 {
     match mode {
-        SuspendMode::Platform => are_others_away(state, caller),
-        SuspendMode::OsInitiated => !is_some_waiting(state),
+        SuspendMode::Platform => state.are_others_away(caller),
+        SuspendMode::OsInitiated => !state.is_some_waiting(),
     }
-}
-
-/// Whether every core but this one is off or going off.
-fn are_others_away(state: &State, caller: Core) -> bool
-    ensures { let phase = (values_in state.now).phase in
-        result ≡ all_others state.now.board caller.number (λ k. is_away (phase k)) }
-{
-    (0..state.board().cores()).all(|number| number == caller.number
-        || state.is_away(Core { number }))
-}
-
-/// Whether a core is suspended or pending.
-fn is_some_waiting(state: &State) -> bool
-    ensures { let phase = (values_in state.now).phase in
-        result ≡ list_any (λ k. is_suspended_or_pending (phase k))
-        (range_with_len 0 (cores state.now.board)) }
-{
-    (0..state.board().cores()).any(|number| state.is_waiting(Core { number }))
 }

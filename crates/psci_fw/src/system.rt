@@ -6,7 +6,7 @@ ghost use Rattle.psci_messages.specs.declared.kind.Kind.TheVariants as kinds;
 ghost use Rattle.psci_fw_spec.specs.Changes.{with_halt, with_phase};
 ghost use Rattle.psci_fw_spec.specs.Outcomes.{message_for, stops_with};
 ghost use Rattle.psci_fw_spec.specs.Phases.{Away};
-ghost use Rattle.psci_fw_spec.specs.SystemCalls.{all_others, is_off_status, system_message};
+ghost use Rattle.psci_fw_spec.specs.SystemCalls.{system_message};
 ghost use Rattle.psci_fw.specs.Calls.{FunctionAnswered, MayCall};
 ghost use Rattle.psci_fw.specs.Halts.{IsOfSystem};
 ghost use Rattle.psci_fw_state.specs.Seen.{values_in};
@@ -16,7 +16,7 @@ use crate::suspend::sleep;
 use psci_abi::Code;
 use psci_board::Core;
 use psci_claims::Parts;
-use psci_fw_spec::{Opening, Outcome, Status};
+use psci_fw_spec::{Opening, Outcome};
 use psci_fw_state::State;
 use psci_messages::Kind;
 use psci_state::Ask;
@@ -37,7 +37,7 @@ pub fn system_suspend(state: &mut State, caller: Core, opening: Opening) -> Outc
     if !board.may_enter(opening.address) {
         return Outcome::returns(Code::INVALID_ADDRESS);
     }
-    if !are_others_off(state, caller) {
+    if !state.are_others_off(caller) {
         return Outcome::returns(Code::DENIED);
     }
     if state.known(caller) == board.start_limit() {
@@ -45,15 +45,6 @@ pub fn system_suspend(state: &mut State, caller: Core, opening: Opening) -> Outc
     }
     let ask = Ask::deepest(board.height());
     sleep(state, caller, ask, opening)
-}
-
-/// Whether every core but this one is OFF.
-fn are_others_off(state: &State, caller: Core) -> bool
-    ensures { let status = (values_in state.now).status in
-        result ≡ all_others state.now.board caller.number (λ k. is_off_status (status k)) }
-{
-    (0..state.board().cores()).all(|number| number == caller.number
-        || state.status(Core { number }) == Status::Off)
 }
 
 /// SYSTEM_OFF (DEN0022D): the caller stops, and the system goes off.
