@@ -4,31 +4,35 @@ ghost use Rattle.std.specs.Prelude.{◌≡◌};
 ghost use Rattle.psci_abi.specs.declared.request.Request.TheVariants.{SetSuspendMode};
 ghost use Rattle.psci_fw_spec.specs.SuspendMode.{may_set, mode_of};
 ghost use Rattle.psci_fw.specs.Calls.{FunctionAnswered, MayCall};
+ghost use Rattle.psci_fw.specs.Reactions.{IsInItsSlot, outcome_in};
 ghost use Rattle.psci_fw_state.specs.Seen.{values_in};
 
+use crate::reaction::Reaction;
 use psci_abi::Code;
 use psci_board::Core;
-use psci_fw_spec::{Outcome, SuspendMode};
+use psci_fw_spec::SuspendMode;
 use psci_fw_state::State;
 
 /// PSCI_SET_SUSPEND_MODE (DEN0022D): the mode of this number is set, if the other cores allow it.
-pub fn set_suspend_mode(state: &mut State, caller: Core, number: u32) -> Outcome
+pub fn set_suspend_mode(state: &mut State, caller: Core, number: u32) -> Reaction
     requires { MayCall state.old caller.number }
     ensures answer { FunctionAnswered state.old.board (values_in state.old) caller.number
-        (SetSuspendMode number) result (values_in state.new) }
+        (SetSuspendMode number) (outcome_in state.new.board (values_in state.new) result)
+        (values_in state.new) }
+    ensures slot { IsInItsSlot state.new.board (values_in state.new) result }
     ensures board { state.new.board ≡ state.old.board }
 {
     let Some(mode) = mode_of(number) else {
-        return Outcome::returns(Code::INVALID_PARAMETERS);
+        return Reaction::returns(Code::INVALID_PARAMETERS);
     };
     if mode == state.mode() {
-        return Outcome::returns(Code::SUCCESS);
+        return Reaction::returns(Code::SUCCESS);
     }
     if !may_set(state, caller, mode) {
-        return Outcome::returns(Code::DENIED);
+        return Reaction::returns(Code::DENIED);
     }
     state.set_mode(mode);
-    Outcome::returns(Code::SUCCESS)
+    Reaction::returns(Code::SUCCESS)
 }
 
 /// The mode of a number.
