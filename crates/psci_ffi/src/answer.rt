@@ -132,7 +132,7 @@ fn write_numbers(answer: &mut Answer, what: u32, code: i32, address: u64, contex
 
 /// Writes the frame of a message, if there is one.
 fn write_frame(frame: &mut SomeFrame, message: Option<&Message>)
-    ensures { frame.new ≡ frame_shown (option_map (λ message. message.now) message) }
+    ensures { frame.new ≡ frame_shown (option_map (λ message. message.now) message.entry) }
 {
     match message {
         None => *frame = no_frame(),
