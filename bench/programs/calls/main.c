@@ -59,6 +59,24 @@ static uint32_t ask(uint16_t last, uint64_t x0, uint64_t x1, uint64_t x2, uint32
     return done;
 }
 
+static uint32_t suspend_system(uint16_t last, uint32_t turns) {
+    uint32_t done = 0;
+    for (uint32_t number = 2; number < turns; number++) {
+        bool stopped = call(last, 0xc400000e, ENTRY, 0);
+        done += stopped && enter(last, number, PSCI_WAKE);
+    }
+    return done;
+}
+
+static uint32_t set_modes(uint16_t last, uint32_t turns) {
+    uint32_t done = 0;
+    for (uint32_t turn = 0; turn < turns; turn++) {
+        bool there = call(last, 0x8400000f, 1, 0);
+        done += there && call(last, 0x8400000f, 0, 0);
+    }
+    return done;
+}
+
 static uint32_t poll_core(uint64_t word, uint32_t turns) {
     uint32_t done = 0;
     for (uint32_t turn = 0; turn < turns; turn++)
@@ -84,6 +102,10 @@ static uint32_t measured(uint16_t last, unsigned height, uint64_t word, const ch
     down(0, 1);
     if (strcmp(what, "core") == 0)
         return ask(last, 0xc4000004, word, 0, turns);
+    if (strcmp(what, "sleep") == 0)
+        return suspend_system(last, turns);
+    if (strcmp(what, "modes") == 0)
+        return set_modes(last, turns);
     if (strcmp(what, "poll") == 0)
         return poll_core(word, turns);
     if (strcmp(what, "version") == 0)

@@ -1,13 +1,15 @@
 //! What C is answered.
 
-ghost use Rattle.std.specs.Prelude.{◌≡◌};
-ghost use Rattle.psci_fw_spec.specs.Answer.{reply_of};
+ghost use Rattle.std.specs.Prelude.{◌≡◌, option_map};
+ghost use Rattle.psci_fw.specs.Reactions.{reply_in};
+ghost use Rattle.psci_fw.specs.Seen.{seen};
 ghost use Rattle.psci_messages.specs.Message.{MessageValue};
 ghost use Rattle.psci_ffi.specs.Shown.{act_shown, frame_shown, no_frame, plain, refused, shown};
 
 use crate::codes::refusal;
-use psci_fw::{Act, FwFault, Outcome};
-use psci_link::{FRAME_LEN, Frame, encode};
+use crate::held::Held;
+use psci_fw::{Act, FwFault, Reaction};
+use psci_link::{FRAME_LEN, Frame, encode, encode_message};
 use psci_messages::Message;
 use std::mem::size_of;
 
@@ -86,36 +88,57 @@ fn plain(what: u32, message: SomeFrame) -> Answer
     }
 }
 
-/// A reply, as C sees it.
-pub fn answer_of(made: Result<Outcome, FwFault>) -> Answer
-    ensures { result ≡ shown (reply_of made) }
+/// Writes a reply, as C sees it. The message is read where it stands.
+pub fn write_answer(answer: &mut Answer, held: &Held, made: Result<Reaction, FwFault>)
+    ensures { answer.new
+        ≡ shown (reply_in held.now.firmware.board (seen held.now.firmware) made) }
 {
     match made {
-        Ok(outcome) => act_of(outcome.act, frame_of(outcome.message)),
-        Err(fault) => refused(refusal(fault)),
+        Ok(reaction) => {
+            write_act(answer, reaction.act);
+            write_frame(&mut answer.message, held.sent(reaction.slot));
+        }
+        Err(fault) => *answer = refused(refusal(fault)),
     }
 }
 
-/// What the core does next, and what is sent.
-fn act_of(act: Act, message: SomeFrame) -> Answer
-    ensures { result ≡ act_shown act message }
+/// Writes what the core does next.
+fn write_act(answer: &mut Answer, act: Act)
+    ensures { answer.new ≡ act_shown act answer.old.message }
 {
     match act {
-        Act::Return(code) => Answer {
-            what: 0,
-            code: code.0,
-            address: 0,
-            context: 0,
-            message,
-        },
-        Act::Stop => plain(1, message),
-        Act::Enter { address, context } => Answer {
-            what: 2,
-            code: 0,
-            address,
-            context,
-            message,
-        },
-        Act::Resume => plain(3, message),
+        Act::Return(code) => write_numbers(answer, 0, code.0, 0, 0),
+        Act::Stop => write_numbers(answer, 1, 0, 0, 0),
+        Act::Enter { address, context } => write_numbers(answer, 2, 0, address, context),
+        Act::Resume => write_numbers(answer, 3, 0, 0, 0),
+    }
+}
+
+/// Writes all but the message.
+fn write_numbers(answer: &mut Answer, what: u32, code: i32, address: u64, context: u64)
+    ensures { answer.new ≡ record {
+      what = what;
+      code = code;
+      address = address;
+      context = context;
+      message = answer.old.message;
+    } }
+{
+    answer.what = what;
+    answer.code = code;
+    answer.address = address;
+    answer.context = context;
+}
+
+/// Writes the frame of a message, if there is one.
+fn write_frame(frame: &mut SomeFrame, message: Option<&Message>)
+    ensures { frame.new ≡ frame_shown (option_map (λ message. message.now) message.entry) }
+{
+    match message {
+        None => *frame = no_frame(),
+        Some(message) => {
+            frame.some = true;
+            frame.bytes = encode_message(message);
+        }
     }
 }

@@ -6,7 +6,7 @@ ghost use Rattle.psci_messages.specs.Message.{AckValue, MessageValue};
 ghost use Rattle.psci_ffi.specs.Frames.{IsTakenIn};
 ghost use Rattle.psci_ffi.specs.Shown.{IsAfter, IsSameRefused, answered, start_called};
 
-use crate::answer::{Answer, answer_of, refused};
+use crate::answer::{Answer, refused, write_answer};
 use crate::codes::{NO_CAUSE, NO_FIRMWARE, cause_of};
 use crate::place::Place;
 use psci_board::Core;
@@ -36,7 +36,8 @@ pub extern "C" fn psci_smc(
         *answer = refused(NO_FIRMWARE);
         return;
     };
-    *answer = answer_of(held.smc(Core { number: core }, Regs { x0, x1, x2, x3 }));
+    let made = held.smc(Core { number: core }, Regs { x0, x1, x2, x3 });
+    write_answer(answer, &held, made);
     place.put(held);
 }
 
@@ -72,7 +73,8 @@ pub extern "C" fn psci_enter(
         number,
         cause,
     };
-    *answer = answer_of(held.enter(Core { number: core }, start));
+    let made = held.enter(Core { number: core }, start);
+    write_answer(answer, &held, made);
     place.put(held);
 }
 

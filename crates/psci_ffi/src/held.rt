@@ -2,7 +2,7 @@
 
 use crate::common::Common;
 use psci_board::{Board, Core, Memory, Node};
-use psci_fw::{Cause, FwFault, Hw, Outcome, Regs, Start, Status, Taken};
+use psci_fw::{Cause, FwFault, Hw, Reaction, Regs, Start, Status, Taken};
 use psci_link::{Frame, decode};
 use psci_messages::{Ack, Message};
 use psci_polled::{PolledFirmware, Reader};
@@ -33,9 +33,10 @@ impl Model for Held {
 }
 
 ghost use Rattle.std.specs.Prelude.{◌≡◌, ℕ, IfOk, OnErr, option_map};
+ghost use Rattle.psci_fw.specs.Reactions.{reply_in, sent_from};
 ghost use Rattle.psci_fw.specs.Seen.{hw_shown, life_shown, seen, status_shown};
 ghost use Rattle.psci_fw_spec.specs.After.{after};
-ghost use Rattle.psci_fw_spec.specs.Answer.{answer, reply_of};
+ghost use Rattle.psci_fw_spec.specs.Answer.{answer};
 ghost use Rattle.psci_fw_spec.specs.Phases.{is_running};
 ghost use Rattle.psci_fw_spec.specs.declared.call.FwCall.TheVariants as calls;
 ghost use Rattle.psci_fw_spec.specs.declared.reply.FwReply.TheVariants as replies;
@@ -62,27 +63,12 @@ impl Held {
         Ok(Held { common, polled })
     }
 
-    /// `Firmware::smc`.
-    pub fn smc(&mut self, core: Core, regs: Regs) -> Result<Outcome, FwFault>
-        ensures answer { reply_of result
+    /// `Firmware::smc_in_slot`.
+    pub fn smc(&mut self, core: Core, regs: Regs) -> Result<Reaction, FwFault>
+        ensures answer { reply_in self.new.firmware.board (seen self.new.firmware) result
             ≡ answer self.old.firmware.board (seen self.old.firmware) core.number (calls.Smc regs) }
-        ensures after { seen self.new.firmware
-            ≡ after self.old.firmware.board core.number (calls.Smc regs) (reply_of result) (seen self.old.firmware) }
-        ensures board { self.new.firmware.board ≡ self.old.firmware.board }
-        ensures table { self.new.table ≡ self.old.table }
-        ensures written { IsWrittenFrom self.old self.new }
-        ensures refused { OnErr result (self.new ≡ self.old) }
-    {
-        let Held { common, polled } = self;
-        polled.smc(&common.words, core, regs)
-    }
-
-    /// `Firmware::enter`.
-    pub fn enter(&mut self, core: Core, start: Start) -> Result<Outcome, FwFault>
-        ensures answer { reply_of result
-            ≡ answer self.old.firmware.board (seen self.old.firmware) core.number (calls.Enter start) }
-        ensures after { seen self.new.firmware
-            ≡ after self.old.firmware.board core.number (calls.Enter start) (reply_of result)
+        ensures after { seen self.new.firmware ≡ after self.old.firmware.board core.number
+            (calls.Smc regs) (reply_in self.new.firmware.board (seen self.new.firmware) result)
             (seen self.old.firmware) }
         ensures board { self.new.firmware.board ≡ self.old.firmware.board }
         ensures table { self.new.table ≡ self.old.table }
@@ -90,7 +76,35 @@ impl Held {
         ensures refused { OnErr result (self.new ≡ self.old) }
     {
         let Held { common, polled } = self;
-        polled.enter(&common.words, core, start)
+        polled.smc_in_slot(&common.words, core, regs)
+    }
+
+    /// `Firmware::enter_in_slot`.
+    pub fn enter(&mut self, core: Core, start: Start) -> Result<Reaction, FwFault>
+        ensures answer { reply_in self.new.firmware.board (seen self.new.firmware) result
+            ≡ answer self.old.firmware.board (seen self.old.firmware) core.number
+            (calls.Enter start) }
+        ensures after { seen self.new.firmware ≡ after self.old.firmware.board core.number
+            (calls.Enter start) (reply_in self.new.firmware.board (seen self.new.firmware) result)
+            (seen self.old.firmware) }
+        ensures board { self.new.firmware.board ≡ self.old.firmware.board }
+        ensures table { self.new.table ≡ self.old.table }
+        ensures written { IsWrittenFrom self.old self.new }
+        ensures refused { OnErr result (self.new ≡ self.old) }
+    {
+        let Held { common, polled } = self;
+        polled.enter_in_slot(&common.words, core, start)
+    }
+
+    /// What was just sent: the message in this slot, where it stands.
+    pub fn sent(&self, slot: Option<u16>) -> Option<&Message>
+        ensures { option_map (λ message. message.now) result
+            ≡ sent_from self.now.firmware.board (seen self.now.firmware) slot }
+    {
+        match slot {
+            Some(number) => self.polled.firmware().outstanding(number),
+            None => None,
+        }
     }
 
     /// `Firmware::take` of the acknowledgement that these bytes are, and the code of what became

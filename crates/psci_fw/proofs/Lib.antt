@@ -1,5 +1,6 @@
 mod Answered
 mod Called
 mod Fresh
+mod ReactionRows
 mod SeenRows
 mod Stopping

@@ -1,5 +1,6 @@
 pub mod Calls
 pub mod Halts
+pub mod Reactions
 pub mod Seen
 pub mod Suspending
 pub mod Ways

@@ -8,13 +8,15 @@ ghost use Rattle.psci_fw_spec.specs.Entering.{enter_fault, enter_outcome, is_old
 ghost use Rattle.psci_fw_spec.specs.Invariant.{AreValues};
 ghost use Rattle.psci_fw_spec.specs.Lives.{in_life};
 ghost use Rattle.psci_fw_state.specs.Seen.{values_in};
+ghost use Rattle.psci_fw.specs.Reactions.{IsInItsSlot, outcome_in};
 ghost use Rattle.psci_fw.specs.Seen.{IsFresh};
 ghost use Rattle.psci_fw.specs.Ways.{way_on};
 
 use crate::laws::{law_fresh, law_may_claim};
 use crate::off::send_down;
+use crate::reaction::Reaction;
 use psci_board::Core;
-use psci_fw_spec::{Act, Cause, FwFault, Opening, Outcome, Start, law_stops};
+use psci_fw_spec::{Act, Cause, FwFault, Opening, Start, law_stops};
 use psci_fw_state::State;
 
 /// Whether a core may enter by this start, or the first reason why it may not.
@@ -47,15 +49,17 @@ fn is_old(state: &State, core: Core, start: Start) -> bool
 
 /// What a core does that enters by this start: in a halting life it stops; else it goes on at its
 /// opening, resumes after its suspend, or parks. A start of another life begins that life first.
-pub fn enter(state: &mut State, core: Core, start: Start) -> Outcome
+pub fn enter(state: &mut State, core: Core, start: Start) -> Reaction
     requires board { IsBoard state.old.board }
     requires values { AreValues state.old.board (values_in state.old) }
     requires fresh { IsFresh state.old.board (values_in state.old) }
     requires fault { enter_fault state.old.board (values_in state.old) core.number start ≡ None }
-    ensures answer { result
+    ensures answer { outcome_in state.new.board (values_in state.new) result
         ≡ enter_outcome state.old.board (values_in state.old) core.number start }
-    ensures after { values_in state.new ≡ change state.old.board (enter_effect core.number start
-        result.act result.message) (values_in state.old) }
+    ensures slot { IsInItsSlot state.new.board (values_in state.new) result }
+    ensures after { let outcome = outcome_in state.new.board (values_in state.new) result in
+        values_in state.new ≡ change state.old.board (enter_effect core.number start
+        outcome.act outcome.message) (values_in state.old) }
     ensures board { state.new.board ≡ state.old.board }
 {
     law_may_claim();
@@ -63,12 +67,12 @@ pub fn enter(state: &mut State, core: Core, start: Start) -> Outcome
     begin(state, start.life);
     if state.halting() {
         state.arrive_away(core, start);
-        return Outcome::stops();
+        return Reaction::stops();
     }
     match way_on(state, core, start) {
         Some(act) => {
             state.arrive_running(core, start);
-            Outcome { act, message: None }
+            Reaction { act, slot: None }
         }
         None => {
             state.arrive_away(core, start);

@@ -32,11 +32,13 @@ ghost use Rattle.psci_fw_spec.specs.After.{after};
 ghost use Rattle.psci_fw_spec.specs.Answer.{answer, reply_of};
 ghost use Rattle.psci_fw_spec.specs.Lives.{start_of_life};
 ghost use Rattle.psci_fw_spec.specs.Phases.{is_running};
+ghost use Rattle.psci_fw.specs.Reactions.{IsInItsSlot, outcome_in, reply_in};
 ghost use Rattle.psci_fw.specs.Seen.{hw_shown, life_shown, seen, status_shown};
 ghost use Rattle.psci_fw_state.specs.Seen.{message_shown};
 
 use crate::entering::{check_start, enter};
 use crate::laws::law_fresh;
+use crate::reaction::Reaction;
 use crate::smc::{check_caller, dispatch};
 use psci_fw_spec::law_invariant;
 
@@ -59,12 +61,26 @@ impl Firmware {
     ///
     /// Refused with NoCore where the board has no such core, NoLife before any core has entered,
     /// and NotRunning where the core is not running.
-    #[tactic(auto, unfolding(psci_fw_spec::specs::Answer::answer, psci_fw_spec::specs::After::after))]
     pub fn smc(&mut self, core: Core, regs: Regs) -> Result<Outcome, FwFault>
         ensures answer { reply_of result
             ≡ answer self.old.board (seen self.old) core.number (calls.Smc regs) }
         ensures after { seen self.new
             ≡ after self.old.board core.number (calls.Smc regs) (reply_of result) (seen self.old) }
+        ensures board { self.new.board ≡ self.old.board }
+        ensures refused { OnErr result (self.new ≡ self.old) }
+    {
+        let reaction = self.smc_in_slot(core, regs)?;
+        Ok(self.outcome(reaction))
+    }
+
+    /// The same call, whose message stays in its slot.
+    #[tactic(auto, unfolding(psci_fw_spec::specs::Answer::answer, psci_fw_spec::specs::After::after))]
+    pub fn smc_in_slot(&mut self, core: Core, regs: Regs) -> Result<Reaction, FwFault>
+        ensures answer { reply_in self.new.board (seen self.new) result
+            ≡ answer self.old.board (seen self.old) core.number (calls.Smc regs) }
+        ensures slot { IfOk result (IsInItsSlot self.new.board (seen self.new)) }
+        ensures after { seen self.new ≡ after self.old.board core.number (calls.Smc regs)
+            (reply_in self.new.board (seen self.new) result) (seen self.old) }
         ensures board { self.new.board ≡ self.old.board }
         ensures refused { OnErr result (self.new ≡ self.old) }
     {
@@ -82,7 +98,6 @@ impl Firmware {
     /// OldStart where the start is over or can't be: its life is an earlier one than the
     /// firmware's, its number is none that the board allows, or it is no later one than the core's
     /// known start in the firmware's life.
-    #[tactic(auto, unfolding(psci_fw_spec::specs::Answer::answer, psci_fw_spec::specs::After::after))]
     pub fn enter(&mut self, core: Core, start: Start) -> Result<Outcome, FwFault>
         ensures answer { reply_of result
             ≡ answer self.old.board (seen self.old) core.number (calls.Enter start) }
@@ -92,10 +107,39 @@ impl Firmware {
         ensures board { self.new.board ≡ self.old.board }
         ensures refused { OnErr result (self.new ≡ self.old) }
     {
+        let reaction = self.enter_in_slot(core, start)?;
+        Ok(self.outcome(reaction))
+    }
+
+    /// The same entry, whose message stays in its slot.
+    #[tactic(auto, unfolding(psci_fw_spec::specs::Answer::answer, psci_fw_spec::specs::After::after))]
+    pub fn enter_in_slot(&mut self, core: Core, start: Start) -> Result<Reaction, FwFault>
+        ensures answer { reply_in self.new.board (seen self.new) result
+            ≡ answer self.old.board (seen self.old) core.number (calls.Enter start) }
+        ensures slot { IfOk result (IsInItsSlot self.new.board (seen self.new)) }
+        ensures after { seen self.new ≡ after self.old.board core.number (calls.Enter start)
+            (reply_in self.new.board (seen self.new) result) (seen self.old) }
+        ensures board { self.new.board ≡ self.old.board }
+        ensures refused { OnErr result (self.new ≡ self.old) }
+    {
         law_invariant();
         law_fresh();
         check_start(&self.state, core, start)?;
         Ok(enter(&mut self.state, core, start))
+    }
+
+    /// What was answered, with a copy of the message that stands in the slot.
+    pub fn outcome(&self, reaction: Reaction) -> Outcome
+        ensures { result ≡ outcome_in self.now.board (seen self.now) reaction }
+    {
+        let message = match reaction.slot {
+            Some(number) => self.outstanding(number).map(Message::copy),
+            None => None,
+        };
+        Outcome {
+            act: reaction.act,
+            message,
+        }
     }
 
     /// Takes an acknowledgement of the power controller: used where its message is outstanding,

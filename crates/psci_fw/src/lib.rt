@@ -15,6 +15,7 @@ mod laws;
 mod mode;
 mod off;
 mod on;
+mod reaction;
 mod smc;
 mod suspend;
 mod system;
@@ -27,3 +28,4 @@ pub use psci_fw_spec::{
     law_caller, law_first_start, law_power_on, law_values,
 };
 pub use psci_messages::Taken;
+pub use reaction::Reaction;

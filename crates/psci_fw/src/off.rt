@@ -9,20 +9,23 @@ ghost use Rattle.psci_fw_spec.specs.Changes.{with_claims};
 ghost use Rattle.psci_fw_spec.specs.Outcomes.{message_for, stops_with};
 ghost use Rattle.psci_fw_state.specs.Claims.{MayClaim};
 ghost use Rattle.psci_fw.specs.Calls.{FunctionAnswered, MayCall};
+ghost use Rattle.psci_fw.specs.Reactions.{IsInItsSlot, outcome_in};
 ghost use Rattle.psci_fw_state.specs.Seen.{values_in};
 
 use crate::laws::law_may_claim;
+use crate::reaction::Reaction;
 use psci_board::Core;
 use psci_claims::Parts;
-use psci_fw_spec::{Outcome, law_stops};
+use psci_fw_spec::law_stops;
 use psci_fw_state::State;
 use psci_messages::Kind;
 
 /// CPU_OFF (DEN0022D): the caller stops, and goes off.
-pub fn cpu_off(state: &mut State, caller: Core) -> Outcome
+pub fn cpu_off(state: &mut State, caller: Core) -> Reaction
     requires { MayCall state.old caller.number }
     ensures answer { FunctionAnswered state.old.board (values_in state.old) caller.number CpuOff
-        result (values_in state.new) }
+        (outcome_in state.new.board (values_in state.new) result) (values_in state.new) }
+    ensures slot { IsInItsSlot state.new.board (values_in state.new) result }
     ensures board { state.new.board ≡ state.old.board }
 {
     law_stops();
@@ -33,17 +36,18 @@ pub fn cpu_off(state: &mut State, caller: Core) -> Outcome
 }
 
 /// A core stops with this claim: it sends a Down, and its domains are granted what it claims.
-pub fn send_down(state: &mut State, core: Core, parts: Parts) -> Outcome
+pub fn send_down(state: &mut State, core: Core, parts: Parts) -> Reaction
     requires inside { core.number < cores state.old.board }
     requires claim { AreClaims parts }
     requires may { MayClaim state.old.board core.number parts (values_in state.old).granted }
-    ensures answer { result
+    ensures answer { outcome_in state.new.board (values_in state.new) result
         ≡ stops_with (message_for (values_in state.old) kinds.Down core.number parts) }
+    ensures slot { IsInItsSlot state.new.board (values_in state.new) result }
     ensures after { values_in state.new ≡ with_claims state.old.board
         (message_for (values_in state.old) kinds.Down core.number parts) (values_in state.old) }
     ensures board { state.new.board ≡ state.old.board }
 {
     let message = state.message(Kind::Down, core, parts);
-    state.claim(&message);
-    Outcome::stops_with(message)
+    state.claim(message);
+    Reaction::stops_with(core.number)
 }

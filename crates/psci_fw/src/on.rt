@@ -5,31 +5,35 @@ ghost use Rattle.psci_abi.specs.declared.request.Request.TheVariants.{CpuOn};
 ghost use Rattle.psci_board.specs.Board.{cores};
 ghost use Rattle.psci_fw_spec.specs.CpuOn.{target_of};
 ghost use Rattle.psci_fw.specs.Calls.{FunctionAnswered, MayCall};
+ghost use Rattle.psci_fw.specs.Reactions.{IsInItsSlot, outcome_in};
 ghost use Rattle.psci_fw_state.specs.Seen.{values_in};
 
+use crate::reaction::Reaction;
 use psci_abi::Code;
 use psci_board::Core;
 use psci_claims::Parts;
-use psci_fw_spec::{Act, Opening, Outcome, Status};
+use psci_fw_spec::{Act, Opening, Status};
 use psci_fw_state::State;
 use psci_messages::Kind;
 
 /// CPU_ON (DEN0022D): the core that `target` names is to be started, and will go on at the opening.
-pub fn cpu_on(state: &mut State, caller: Core, target: u64, opening: Opening) -> Outcome
+pub fn cpu_on(state: &mut State, caller: Core, target: u64, opening: Opening) -> Reaction
     requires { MayCall state.old caller.number }
     ensures answer { FunctionAnswered state.old.board (values_in state.old) caller.number
-        (CpuOn target opening.address opening.context) result (values_in state.new) }
+        (CpuOn target opening.address opening.context)
+        (outcome_in state.new.board (values_in state.new) result) (values_in state.new) }
+    ensures slot { IsInItsSlot state.new.board (values_in state.new) result }
     ensures board { state.new.board ≡ state.old.board }
 {
     let target = match check_target(state, target, opening.address) {
         Ok(target) => target,
-        Err(code) => return Outcome::returns(code),
+        Err(code) => return Reaction::returns(code),
     };
     let message = state.message(Kind::Start, target, Parts::new());
-    state.set_pending(message.copy(), opening);
-    Outcome {
+    state.set_pending(message, opening);
+    Reaction {
         act: Act::Return(Code::SUCCESS),
-        message: Some(message),
+        slot: Some(target.number),
     }
 }
 

@@ -9,6 +9,7 @@ ghost use Rattle.psci_fw_spec.specs.Effects.{function_effect};
 ghost use Rattle.psci_fw_spec.specs.Invariant.{AreValues};
 ghost use Rattle.psci_fw_spec.specs.Phases.{Running};
 ghost use Rattle.psci_fw.specs.Calls.{FunctionAnswered, MayCall};
+ghost use Rattle.psci_fw.specs.Reactions.{IsInItsSlot, outcome_in};
 ghost use Rattle.psci_fw_state.specs.Seen.{values_in};
 
 use crate::affinity::affinity_info;
@@ -16,11 +17,12 @@ use crate::hw::node_hw_state;
 use crate::mode::set_suspend_mode;
 use crate::off::cpu_off;
 use crate::on::cpu_on;
+use crate::reaction::Reaction;
 use crate::suspend::cpu_suspend;
 use crate::system::{system_off, system_reset, system_reset2, system_suspend};
 use psci_abi::{Code, Request, features};
 use psci_board::{Board, Core};
-use psci_fw_spec::{FwFault, Opening, Outcome};
+use psci_fw_spec::{FwFault, Opening};
 use psci_fw_state::State;
 
 /// PSCI 1.1: the major version in bits 31:16, the minor one in bits 15:0.
@@ -48,30 +50,32 @@ pub fn check_caller(state: &State, core: Core) -> Result<(), FwFault>
 
 /// What a running core is answered to its request: in a halting life it stops, whatever it asks.
 #[tactic(auto, unfolding(psci_fw_spec::specs::Calls::outcome_of))]
-pub fn dispatch(state: &mut State, caller: Core, request: Request) -> Outcome
+pub fn dispatch(state: &mut State, caller: Core, request: Request) -> Reaction
     requires board { IsBoard state.old.board }
     requires values { AreValues state.old.board (values_in state.old) }
     requires inside { caller.number < cores state.old.board }
     requires running { (values_in state.old).phase caller.number ≡ Running }
-    ensures answer { result
+    ensures answer { outcome_in state.new.board (values_in state.new) result
         ≡ outcome_of state.old.board (values_in state.old) caller.number request }
-    ensures after { values_in state.new ≡ change state.old.board
-        (function_effect state.old.board caller.number request result.act result.message)
-        (values_in state.old) }
+    ensures slot { IsInItsSlot state.new.board (values_in state.new) result }
+    ensures after { let outcome = outcome_in state.new.board (values_in state.new) result in
+        values_in state.new ≡ change state.old.board (function_effect state.old.board caller.number
+        request outcome.act outcome.message) (values_in state.old) }
     ensures board { state.new.board ≡ state.old.board }
 {
     if state.halting() {
         state.set_away(caller);
-        return Outcome::stops();
+        return Reaction::stops();
     }
     function(state, caller, request)
 }
 
 /// What a function answers.
-fn function(state: &mut State, caller: Core, request: Request) -> Outcome
+fn function(state: &mut State, caller: Core, request: Request) -> Reaction
     requires { MayCall state.old caller.number }
     ensures answer { FunctionAnswered state.old.board (values_in state.old) caller.number request
-        result (values_in state.new) }
+        (outcome_in state.new.board (values_in state.new) result) (values_in state.new) }
+    ensures slot { IsInItsSlot state.new.board (values_in state.new) result }
     ensures board { state.new.board ≡ state.old.board }
 {
     match request {
@@ -93,16 +97,16 @@ fn function(state: &mut State, caller: Core, request: Request) -> Outcome
         }
         Request::SetSuspendMode { mode } => set_suspend_mode(state, caller, mode),
         Request::SystemReset2 { reset_type, .. } => { system_reset2(state, caller, reset_type) }
-        Request::Version => Outcome::returns(VERSION),
+        Request::Version => Reaction::returns(VERSION),
         Request::AffinityInfo { target, level } => {
-            Outcome::returns(affinity_info(state, target, level))
+            Reaction::returns(affinity_info(state, target, level))
         }
         Request::NodeHwState { target, level } => {
-            Outcome::returns(node_hw_state(state, target, level))
+            Reaction::returns(node_hw_state(state, target, level))
         }
-        Request::MigrateInfoType => Outcome::returns(NO_MIGRATION),
-        Request::Features { word } => Outcome::returns(feature_code(state.board(), word)),
-        Request::Unknown => Outcome::returns(Code::NOT_SUPPORTED),
+        Request::MigrateInfoType => Reaction::returns(NO_MIGRATION),
+        Request::Features { word } => Reaction::returns(feature_code(state.board(), word)),
+        Request::Unknown => Reaction::returns(Code::NOT_SUPPORTED),
     }
 }
 

@@ -9,36 +9,40 @@ ghost use Rattle.psci_fw_spec.specs.CpuSuspend.{osi_code, suspend_answer};
 ghost use Rattle.psci_fw_spec.specs.Effects.{suspends};
 ghost use Rattle.psci_fw.specs.Calls.{FunctionAnswered, MayCall};
 ghost use Rattle.psci_fw.specs.Suspending.{MaySuspend, Suspends};
+ghost use Rattle.psci_fw.specs.Reactions.{IsInItsSlot, outcome_in};
 ghost use Rattle.psci_fw_state.specs.Seen.{values_in};
 
 use crate::laws::law_may_claim;
 use crate::off::send_down;
+use crate::reaction::Reaction;
 use psci_abi::Code;
 use psci_board::{Board, Core};
 use psci_claims::Osi;
-use psci_fw_spec::{Opening, Outcome, law_stops};
+use psci_fw_spec::{Opening, law_stops};
 use psci_fw_state::State;
 use psci_state::Ask;
 
 /// CPU_SUSPEND (DEN0022D): the caller stops in this power state, until it is woken. Where it powers
 /// down it then goes on at the opening, else after its call. At the start limit it could never be
 /// woken, and goes on at once.
-pub fn cpu_suspend(state: &mut State, caller: Core, word: u32, opening: Opening) -> Outcome
+pub fn cpu_suspend(state: &mut State, caller: Core, word: u32, opening: Opening) -> Reaction
     requires { MayCall state.old caller.number }
     ensures answer { FunctionAnswered state.old.board (values_in state.old) caller.number
-        (CpuSuspend word opening.address opening.context) result (values_in state.new) }
+        (CpuSuspend word opening.address opening.context)
+        (outcome_in state.new.board (values_in state.new) result) (values_in state.new) }
+    ensures slot { IsInItsSlot state.new.board (values_in state.new) result }
     ensures board { state.new.board ≡ state.old.board }
 {
     law_may_claim();
     let board = state.board();
     let Ok(ask) = Ask::read(word, board.format(), board.height()) else {
-        return Outcome::returns(Code::INVALID_PARAMETERS);
+        return Reaction::returns(Code::INVALID_PARAMETERS);
     };
     if has_invalid_entry(board, ask, opening.address) {
-        return Outcome::returns(Code::INVALID_ADDRESS);
+        return Reaction::returns(Code::INVALID_ADDRESS);
     }
     if state.known(caller) == board.start_limit() {
-        return Outcome::returns(Code::SUCCESS);
+        return Reaction::returns(Code::SUCCESS);
     }
     sleep(state, caller, ask, opening)
 }
@@ -51,20 +55,22 @@ fn has_invalid_entry(board: &Board, ask: Ask, entry_point: u64) -> bool
 }
 
 /// A core is suspended with this ask, or is answered why it may not be.
-pub fn sleep(state: &mut State, core: Core, ask: Ask, opening: Opening) -> Outcome
+pub fn sleep(state: &mut State, core: Core, ask: Ask, opening: Opening) -> Reaction
     requires call { MayCall state.old core.number }
     requires may { MaySuspend state.old.board (values_in state.old) core.number ask opening }
-    ensures answer { result ≡ suspend_answer (values_in state.old) core.number
+    ensures answer { outcome_in state.new.board (values_in state.new) result
+        ≡ suspend_answer (values_in state.old) core.number
         (suspend_parts state.old.board (values_in state.old) core.number ask) }
     ensures after { Suspends state.old.board (values_in state.old) core.number
-        (suspends opening ask) result
+        (suspends opening ask) (outcome_in state.new.board (values_in state.new) result)
         (values_in state.new) }
+    ensures slot { IsInItsSlot state.new.board (values_in state.new) result }
     ensures board { state.new.board ≡ state.old.board }
 {
     law_stops();
     match state.suspend(core, ask, opening) {
         Ok(parts) => send_down(state, core, parts),
-        Err(reason) => Outcome::returns(osi_code(reason)),
+        Err(reason) => Reaction::returns(osi_code(reason)),
     }
 }
 

@@ -6,17 +6,19 @@ ghost use Rattle.psci_messages.specs.declared.kind.Kind.TheVariants as kinds;
 ghost use Rattle.psci_fw_spec.specs.Changes.{with_halt, with_phase};
 ghost use Rattle.psci_fw_spec.specs.Outcomes.{message_for, stops_with};
 ghost use Rattle.psci_fw_spec.specs.Phases.{Away};
-ghost use Rattle.psci_fw_spec.specs.SystemCalls.{all_others, is_off_status, system_message};
+ghost use Rattle.psci_fw_spec.specs.SystemCalls.{system_message};
 ghost use Rattle.psci_fw.specs.Calls.{FunctionAnswered, MayCall};
 ghost use Rattle.psci_fw.specs.Halts.{IsOfSystem};
+ghost use Rattle.psci_fw.specs.Reactions.{IsInItsSlot, outcome_in};
 ghost use Rattle.psci_fw_state.specs.Seen.{values_in};
 
 use crate::laws::law_may_claim;
+use crate::reaction::Reaction;
 use crate::suspend::sleep;
 use psci_abi::Code;
 use psci_board::Core;
 use psci_claims::Parts;
-use psci_fw_spec::{Opening, Outcome, Status};
+use psci_fw_spec::Opening;
 use psci_fw_state::State;
 use psci_messages::Kind;
 use psci_state::Ask;
@@ -26,53 +28,48 @@ const SYSTEM_WARM_RESET: u32 = 0;
 
 /// SYSTEM_SUSPEND (DEN0022D): the caller is suspended with power-down of all levels, where every
 /// other core is OFF. It then goes on at the opening.
-pub fn system_suspend(state: &mut State, caller: Core, opening: Opening) -> Outcome
+pub fn system_suspend(state: &mut State, caller: Core, opening: Opening) -> Reaction
     requires { MayCall state.old caller.number }
     ensures answer { FunctionAnswered state.old.board (values_in state.old) caller.number
-        (requests.SystemSuspend opening.address opening.context) result (values_in state.new) }
+        (requests.SystemSuspend opening.address opening.context)
+        (outcome_in state.new.board (values_in state.new) result) (values_in state.new) }
+    ensures slot { IsInItsSlot state.new.board (values_in state.new) result }
     ensures board { state.new.board ≡ state.old.board }
 {
     law_may_claim();
     let board = state.board();
     if !board.may_enter(opening.address) {
-        return Outcome::returns(Code::INVALID_ADDRESS);
+        return Reaction::returns(Code::INVALID_ADDRESS);
     }
-    if !are_others_off(state, caller) {
-        return Outcome::returns(Code::DENIED);
+    if !state.are_others_off(caller) {
+        return Reaction::returns(Code::DENIED);
     }
     if state.known(caller) == board.start_limit() {
-        return Outcome::returns(Code::DENIED);
+        return Reaction::returns(Code::DENIED);
     }
     let ask = Ask::deepest(board.height());
     sleep(state, caller, ask, opening)
 }
 
-/// Whether every core but this one is OFF.
-fn are_others_off(state: &State, caller: Core) -> bool
-    ensures { let status = (values_in state.now).status in
-        result ≡ all_others state.now.board caller.number (λ k. is_off_status (status k)) }
-{
-    (0..state.board().cores()).all(|number| number == caller.number
-        || state.status(Core { number }) == Status::Off)
-}
-
 /// SYSTEM_OFF (DEN0022D): the caller stops, and the system goes off.
-pub fn system_off(state: &mut State, caller: Core) -> Outcome
+pub fn system_off(state: &mut State, caller: Core) -> Reaction
     requires { MayCall state.old caller.number }
     ensures answer { FunctionAnswered state.old.board
         (values_in state.old) caller.number requests.SystemOff
-        result (values_in state.new) }
+        (outcome_in state.new.board (values_in state.new) result) (values_in state.new) }
+    ensures slot { IsInItsSlot state.new.board (values_in state.new) result }
     ensures board { state.new.board ≡ state.old.board }
 {
     halt(state, caller, Kind::Off)
 }
 
 /// SYSTEM_RESET (DEN0022D): the caller stops, and the system is reset.
-pub fn system_reset(state: &mut State, caller: Core) -> Outcome
+pub fn system_reset(state: &mut State, caller: Core) -> Reaction
     requires { MayCall state.old caller.number }
     ensures answer { FunctionAnswered state.old.board
         (values_in state.old) caller.number requests.SystemReset
-        result (values_in state.new) }
+        (outcome_in state.new.board (values_in state.new) result) (values_in state.new) }
+    ensures slot { IsInItsSlot state.new.board (values_in state.new) result }
     ensures board { state.new.board ≡ state.old.board }
 {
     halt(state, caller, Kind::Reset)
@@ -80,23 +77,27 @@ pub fn system_reset(state: &mut State, caller: Core) -> Outcome
 
 /// SYSTEM_RESET2 (DEN0022D): the only type that is there is carried out as SYSTEM_RESET. The cookie
 /// is of use to types of vendors alone, so it is not looked at.
-pub fn system_reset2(state: &mut State, caller: Core, reset_type: u32) -> Outcome
+pub fn system_reset2(state: &mut State, caller: Core, reset_type: u32) -> Reaction
     requires { MayCall state.old caller.number }
     ensures answer { (cookie : ℕ) → FunctionAnswered state.old.board (values_in state.old)
-        caller.number (requests.SystemReset2 reset_type cookie) result (values_in state.new) }
+        caller.number (requests.SystemReset2 reset_type cookie)
+        (outcome_in state.new.board (values_in state.new) result) (values_in state.new) }
+    ensures slot { IsInItsSlot state.new.board (values_in state.new) result }
     ensures board { state.new.board ≡ state.old.board }
 {
     if reset_type != SYSTEM_WARM_RESET {
-        return Outcome::returns(Code::INVALID_PARAMETERS);
+        return Reaction::returns(Code::INVALID_PARAMETERS);
     }
     system_reset(state, caller)
 }
 
 /// The caller stops, and sends a message of this kind for the whole system.
-fn halt(state: &mut State, caller: Core, kind: Kind) -> Outcome
+fn halt(state: &mut State, caller: Core, kind: Kind) -> Reaction
     requires call { MayCall state.old caller.number }
     requires kind { IsOfSystem kind }
-    ensures answer { result ≡ system_message (values_in state.old) kind caller.number }
+    ensures answer { outcome_in state.new.board (values_in state.new) result
+        ≡ system_message (values_in state.old) kind caller.number }
+    ensures slot { IsInItsSlot state.new.board (values_in state.new) result }
     ensures after { values_in state.new
         ≡ with_halt (message_for (values_in state.old) kind caller.number [])
         (with_phase caller.number Away (values_in state.old)) }
@@ -104,6 +105,6 @@ fn halt(state: &mut State, caller: Core, kind: Kind) -> Outcome
 {
     let message = state.message(kind, caller, Parts::new());
     state.set_away(caller);
-    state.halt(message.copy());
-    Outcome::stops_with(message)
+    state.halt(message);
+    Reaction::stops_with(state.board().cores())
 }

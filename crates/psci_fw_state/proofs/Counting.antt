@@ -1,6 +1,6 @@
 -- What is counted of the cores below a domain, once one core has another status.
-use Rattle.std.proofs.Common.{◌≡◌, ℕ, zero, suc, ◌+◌, ◌-◌, ◌^◌, ◌<◌, ◌≤◌, ◌==◌, Bool, true, false}
-use Rattle.std.proofs.Common.{cond, List, [], ◌∷◌, length, filter, refl, ap, sym, ◌∙◌, subst, arith}
+use Rattle.std.proofs.Common.{◌≡◌, ℕ, zero, suc, ◌+◌, ◌-◌, ◌<◌, ◌≤◌, ◌==◌, Bool, true, false}
+use Rattle.std.proofs.Common.{cond, List, [], ◌∷◌, filter, refl, ap, sym, arith}
 use Rattle.std.proofs.Common.{inl, inr}
 use Rattle.std.specs.List.{sum_by, count_by, range_with_len}
 use Rattle.std.proofs.lemmas.Bool.{cases_eq, eq-eqb, ne_eqb}
@@ -11,7 +11,6 @@ use Rattle.psci_board.specs.Board.{IsTree, below_in, place_above, size_below}
 use Rattle.psci_fw_spec.specs.declared.status.Status.{Status}
 use Rattle.psci_fw_spec.specs.declared.status.Status.TheVariants.{Off}
 use Rattle.psci_fw_spec.specs.AffinityInfo.{is_on, is_pending_status}
-use Rattle.psci_fw_state.specs.declared.counts.StatusCounts.{StatusCounts}
 use Rattle.psci_fw_state.specs.Counts.{MayRecount, counts_below, no_cores, one_core, recounted}
 
 -- Sums over the numbers that a filter keeps of a range ------------------------------------------
@@ -68,7 +67,7 @@ at_most_one : (b : Bool) → cond b 1 0 ≤ 1
 at_most_one true = omega arith
 at_most_one false = omega arith
 
-few_cores : (levels : List (List ℕ)) → IsTree levels → size_below levels ≤ 256
+pub few_cores : (levels : List (List ℕ)) → IsTree levels → size_below levels ≤ 256
 few_cores [] t = omega arith
 few_cores (w ∷ ws) t = t.1
 

@@ -1,4 +1,5 @@
 mod Acked
+mod AllCores
 mod Begun
 mod Changed
 mod Confirming

@@ -117,13 +117,13 @@ impl State {
 
     /// A Down was sent: the domains of its parts are granted what it claims.
     #[tactic(auto, unfolding(crate::specs::Seen::values_in))]
-    pub fn claim(&mut self, message: &Message)
-        requires inside { message.now.core.number < cores self.old.board }
-        requires down { message.now.kind ≡ kinds.Down }
-        requires parts { AreClaims message.now.parts }
-        requires may { MayClaim self.old.board message.now.core.number message.now.parts
+    pub fn claim(&mut self, message: Message)
+        requires inside { message.core.number < cores self.old.board }
+        requires down { message.kind ≡ kinds.Down }
+        requires parts { AreClaims message.parts }
+        requires may { MayClaim self.old.board message.core.number message.parts
             (values_in self.old).granted }
-        ensures after { values_in self.new ≡ with_claims self.old.board message.now
+        ensures after { values_in self.new ≡ with_claims self.old.board message
             (values_in self.old) }
         ensures board { self.new.board ≡ self.old.board }
     {
@@ -136,7 +136,7 @@ impl State {
             message.core,
             message.parts.as_slice(),
         );
-        self.slots.put(message.copy());
+        self.slots.put(message);
     }
 }
 

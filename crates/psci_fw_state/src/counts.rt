@@ -1,6 +1,6 @@
 //! How many of the cores below each power domain are ON, and how many ON_PENDING.
 
-ghost use Rattle.std.specs.Prelude.{◌≡◌, ◌<◌, ◌≤◌, length, map, replicate, slice_set, IfOk};
+ghost use Rattle.std.specs.Prelude.{◌≡◌, ◌+◌, ◌<◌, ◌≤◌, length, map, replicate, slice_set, IfOk};
 ghost use Rattle.psci_board.specs.Board.{IsBoard, cores};
 ghost use Rattle.psci_fw_spec.specs.declared.status.Status.TheVariants.{Off};
 ghost use Rattle.psci_fw_spec.specs.Values.{updated};
@@ -53,6 +53,13 @@ impl StatusCounts {
         } else {
             Status::Off
         }
+    }
+
+    /// How many are ON or ON_PENDING.
+    pub fn not_off(self) -> u32
+        ensures { result ≡ self.on + self.pending }
+    {
+        u32::from(self.on) + u32::from(self.pending)
     }
 
     /// What is counted once `after` is counted of one of the cores, and no longer `before`.
@@ -184,6 +191,17 @@ pub fn status_below(counts: &[Vec<StatusCounts>], node: Node) -> Status
     ensures { result
         ≡ status_counted (counts_at (map (λ v. v.items) counts.now) node.level node.place) }
 {
+    counted_below(counts, node).status()
+}
+
+/// What is counted of the cores below a domain.
+pub fn counted_below(counts: &[Vec<StatusCounts>], node: Node) -> StatusCounts
+    requires above { 0 < node.level }
+    requires level { node.level ≤ length counts.now }
+    requires place { node.place
+        < length (level_counts (map (λ v. v.items) counts.now) node.level) }
+    ensures { result ≡ counts_at (map (λ v. v.items) counts.now) node.level node.place }
+{
     let row = &counts[node.level as usize - 1];
-    row[node.place as usize].status()
+    row[node.place as usize]
 }

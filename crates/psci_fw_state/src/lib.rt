@@ -17,5 +17,6 @@ mod counts;
 mod domain;
 mod row;
 mod state;
+mod whole;
 
 pub use state::State;

@@ -61,7 +61,6 @@ ghost use Rattle.std.specs.Prelude.{◌≡◌, IfOk, option_map};
 ghost use Rattle.psci_fw_spec.specs.Lives.{start_of_life};
 ghost use Rattle.psci_fw_spec.specs.NodeHwState.{node_hw};
 ghost use Rattle.psci_fw_spec.specs.Phases.{is_away, is_resumable, is_running};
-ghost use Rattle.psci_fw_spec.specs.Phases.{is_suspended_or_pending};
 ghost use Rattle.psci_board.specs.Board.{IsBoard};
 ghost use Rattle.psci_fw_state.specs.Seen.{is_pending_phase, message_shown, values_in};
 
@@ -223,18 +222,6 @@ impl State {
         match self.tree.activity(core) {
             Activity::Off => true,
             _ => false,
-        }
-    }
-
-    /// Whether a core is suspended or pending.
-    #[tactic(auto, unfolding(crate::specs::Seen::values_in))]
-    pub fn is_waiting(&self, core: Core) -> bool
-        ensures { result ≡ is_suspended_or_pending ((values_in self.now).phase core.number) }
-    {
-        match self.tree.activity(core) {
-            Activity::Active => self.status(core) == Status::Pending,
-            Activity::Suspended(_) => true,
-            Activity::Off => false,
         }
     }
 

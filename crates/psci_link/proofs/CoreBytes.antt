@@ -1,7 +1,7 @@
 -- On a board of 256 cores each value of a byte is the number of a core.
-use Rattle.std.proofs.Common.{◌≡◌, ℕ, ◌<◌, Bool, true, false, not, List, length, Option, Some, None}
-use Rattle.std.proofs.Common.{refl, arith}
-use Rattle.std.specs.Prelude.{if◌then◌else◌, ◌==◌, ◌&&◌, nat_lt, slice_index}
+use Rattle.std.proofs.Common.{◌≡◌, ℕ, ◌<◌, Bool, true, false, not, List, Option, Some, None}
+use Rattle.std.proofs.Common.{arith}
+use Rattle.std.specs.Prelude.{if◌then◌else◌, slice_index}
 use Rattle.std.proofs.lemmas.Bool.{lt-ltb}
 use Rattle.std.proofs.lemmas.Option.{same_Some, none-some}
 use Rattle.psci_board.specs.declared.limits.TheConstants.{MOST_CORES}
@@ -9,7 +9,7 @@ use Rattle.psci_board.specs.Board.{BoardValue, cores}
 use Rattle.psci_link.specs.declared.fault.FrameFault.{FrameFault}
 use Rattle.psci_link.specs.declared.fault.FrameFault.TheVariants as faults
 use Rattle.psci_link.specs.declared.heading.Heading.{Heading}
-use Rattle.psci_link.specs.Heading.{is_magic, heading_of}
+use Rattle.psci_link.specs.Heading.{heading_of}
 use Rattle.psci_link.specs.Frame.{AreBytes, fault_at, fault_of_kind, first_fault}
 
 -- another fault is said first, and this one by none of the tests after it

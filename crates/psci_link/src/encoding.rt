@@ -5,11 +5,12 @@ ghost use Rattle.std.specs.Prelude.{true};
 ghost use Rattle.std.specs.List.{AllByRecursion};
 ghost use Rattle.psci_link.specs.Frame.{kind_code, header, part_bytes, part_fields, frame_bytes};
 ghost use Rattle.psci_link.specs.Frame.{IsFrame};
+ghost use Rattle.psci_link.specs.declared.frame.Frame.TheVariants as frames;
 ghost use Rattle.psci_messages.specs.Message.{is_climbing};
 
 use crate::frame::{FRAME_LEN, Frame, HEADER_LEN, PART_LEN};
 use psci_board::Core;
-use psci_messages::Kind;
+use psci_messages::{Kind, Message};
 use psci_parts::{MOST_PARTS, Part};
 
 /// The first two bytes of a frame.
@@ -21,13 +22,7 @@ pub fn encode(frame: &Frame) -> [u8; FRAME_LEN]
     ensures frame { IsFrame frame.now }
 {
     match frame {
-        Frame::Message(message) => {
-            let parts = message.parts.as_slice();
-            let kind = kind_code(message.kind);
-            let count = parts.len() as u8;
-            let header = header(kind, message.core, message.life, message.number, count);
-            joined(header, parts)
-        }
+        Frame::Message(message) => encode_message(message),
         Frame::Ack(ack) => {
             let kind = kind_code(ack.kind) + if ack.stale { 0x20 } else { 0x10 };
             joined(
@@ -36,6 +31,18 @@ pub fn encode(frame: &Frame) -> [u8; FRAME_LEN]
             )
         }
     }
+}
+
+/// The bytes of the frame of a message.
+pub fn encode_message(message: &Message) -> [u8; FRAME_LEN]
+    ensures spelled { result ≡ frame_bytes (frames.Message message.now) }
+    ensures frame { IsFrame (frames.Message message.now) }
+{
+    let parts = message.parts.as_slice();
+    let kind = kind_code(message.kind);
+    let count = parts.len() as u8;
+    let header = header(kind, message.core, message.life, message.number, count);
+    joined(header, parts)
 }
 
 /// The low half of a kind byte.

@@ -13,7 +13,7 @@ mod heading;
 mod laws;
 
 pub use decoding::decode;
-pub use encoding::encode;
+pub use encoding::{encode, encode_message};
 pub use fault::FrameFault;
 pub use frame::{FRAME_LEN, Frame};
 pub use laws::law_frames;

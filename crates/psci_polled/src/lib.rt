@@ -16,6 +16,6 @@ pub use laws::{law_few_statuses, law_statuses_stay};
 pub use poll::affinity_core;
 pub use polled::PolledFirmware;
 pub use psci_board::{Board, Core, Memory};
-pub use psci_fw::{Code, Firmware, FwFault, Outcome, Regs, Start, Status, Taken};
+pub use psci_fw::{Code, Firmware, FwFault, Outcome, Reaction, Regs, Start, Status, Taken};
 pub use psci_status::{Reader, StatusWords};
 pub use writing::{asked_on, write_changed};

@@ -1,7 +1,7 @@
 //! The firmware with the writer of its status words.
 
 use psci_board::{Board, Core, Memory};
-use psci_fw::{Firmware, FwFault, Outcome, Regs, Start, Taken, law_values};
+use psci_fw::{Firmware, FwFault, Outcome, Reaction, Regs, Start, Taken, law_values};
 use psci_messages::Ack;
 use psci_status::{Reader, StatusWords, Writer};
 use std::alloc::Global;
@@ -34,6 +34,7 @@ impl Model for PolledFirmware {
 
 ghost use Rattle.std.specs.Prelude.{◌≡◌, ◌<◌, ℕ, List, [], ◌∷◌, replicate, map, IfOk, OnErr};
 ghost use Rattle.psci_board.specs.Board.{cores};
+ghost use Rattle.psci_fw.specs.Reactions.{IsInItsSlot, reply_in};
 ghost use Rattle.psci_fw.specs.Seen.{seen};
 ghost use Rattle.psci_fw_spec.specs.declared.call.FwCall.TheVariants as calls;
 ghost use Rattle.psci_fw_spec.specs.declared.reply.FwReply.TheVariants as replies;
@@ -46,7 +47,7 @@ ghost use Rattle.psci_status.specs.Seats.{seen as seen_by, table, table_of_reade
 ghost use Rattle.psci_polled.specs.Polled.{IsPast, IsWrittenFrom};
 
 use crate::laws::law_few_statuses;
-use crate::writing::{asked_on, life_of, write_changed};
+use crate::writing::{asked_in, life_of, write_changed};
 
 impl PolledFirmware {
     /// The firmware of this board, before any core has entered, and its status words. They take the
@@ -82,6 +83,30 @@ impl PolledFirmware {
         ensures table { self.new.table ≡ self.old.table }
         ensures refused { OnErr result (self.new ≡ self.old) }
     {
+        let reaction = self.smc_in_slot(words, core, regs)?;
+        Ok(self.firmware.outcome(reaction))
+    }
+
+    /// `Firmware::smc_in_slot`, and what it changed is written.
+    pub fn smc_in_slot(
+        &mut self,
+        words: &StatusWords,
+        core: Core,
+        regs: Regs,
+    ) -> Result<Reaction, FwFault>
+        requires { table words.now ≡ self.old.table }
+        ensures answer { reply_in self.new.firmware.board (seen self.new.firmware) result
+            ≡ answer self.old.firmware.board (seen self.old.firmware) core.number (calls.Smc regs) }
+        ensures slot { IfOk result
+            (IsInItsSlot self.new.firmware.board (seen self.new.firmware)) }
+        ensures after { seen self.new.firmware ≡ after self.old.firmware.board core.number
+            (calls.Smc regs) (reply_in self.new.firmware.board (seen self.new.firmware) result)
+            (seen self.old.firmware) }
+        ensures board { self.new.firmware.board ≡ self.old.firmware.board }
+        ensures written { IsWrittenFrom self.old self.new }
+        ensures table { self.new.table ≡ self.old.table }
+        ensures refused { OnErr result (self.new ≡ self.old) }
+    {
         law_values();
         law_few_statuses();
         let PolledFirmware {
@@ -90,9 +115,10 @@ impl PolledFirmware {
             cores,
         } = self;
         let before = life_of(firmware);
-        let outcome = firmware.smc(core, regs)?;
-        write_changed(words, writer, firmware, before, asked_on(&outcome), *cores);
-        Ok(outcome)
+        let reaction = firmware.smc_in_slot(core, regs)?;
+        let asked = asked_in(firmware, &reaction);
+        write_changed(words, writer, firmware, before, asked, *cores);
+        Ok(reaction)
     }
 
     /// `Firmware::enter`, and what it changed is written.
@@ -112,6 +138,31 @@ impl PolledFirmware {
         ensures table { self.new.table ≡ self.old.table }
         ensures refused { OnErr result (self.new ≡ self.old) }
     {
+        let reaction = self.enter_in_slot(words, core, start)?;
+        Ok(self.firmware.outcome(reaction))
+    }
+
+    /// `Firmware::enter_in_slot`, and what it changed is written.
+    pub fn enter_in_slot(
+        &mut self,
+        words: &StatusWords,
+        core: Core,
+        start: Start,
+    ) -> Result<Reaction, FwFault>
+        requires { table words.now ≡ self.old.table }
+        ensures answer { reply_in self.new.firmware.board (seen self.new.firmware) result
+            ≡ answer self.old.firmware.board (seen self.old.firmware) core.number
+            (calls.Enter start) }
+        ensures slot { IfOk result
+            (IsInItsSlot self.new.firmware.board (seen self.new.firmware)) }
+        ensures after { seen self.new.firmware ≡ after self.old.firmware.board core.number
+            (calls.Enter start) (reply_in self.new.firmware.board (seen self.new.firmware) result)
+            (seen self.old.firmware) }
+        ensures board { self.new.firmware.board ≡ self.old.firmware.board }
+        ensures written { IsWrittenFrom self.old self.new }
+        ensures table { self.new.table ≡ self.old.table }
+        ensures refused { OnErr result (self.new ≡ self.old) }
+    {
         law_values();
         law_few_statuses();
         let PolledFirmware {
@@ -120,9 +171,9 @@ impl PolledFirmware {
             cores,
         } = self;
         let before = life_of(firmware);
-        let outcome = firmware.enter(core, start)?;
+        let reaction = firmware.enter_in_slot(core, start)?;
         write_changed(words, writer, firmware, before, Some(core), *cores);
-        Ok(outcome)
+        Ok(reaction)
     }
 
     /// `Firmware::take`, and what it changed is written.

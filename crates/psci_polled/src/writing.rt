@@ -2,6 +2,7 @@
 
 ghost use Rattle.std.specs.Prelude.{◌≡◌, ◌≢◌, ℕ, ◌+◌, ◌<◌, ◌^◌, false, length};
 ghost use Rattle.psci_board.specs.Board.{cores};
+ghost use Rattle.psci_fw.specs.Reactions.{outcome_in};
 ghost use Rattle.psci_fw.specs.Seen.{seen};
 ghost use Rattle.psci_fw_spec.specs.Lives.{first_status};
 ghost use Rattle.psci_fw_spec.specs.Statuses.{added};
@@ -11,7 +12,7 @@ ghost use Rattle.psci_polled.specs.Naming.{asked_by, is_named};
 ghost use Rattle.psci_polled.specs.Writing.{one_more, written_then};
 
 use psci_board::Core;
-use psci_fw::{Act, Firmware, Outcome, Status};
+use psci_fw::{Act, Firmware, Outcome, Reaction, Status};
 use psci_status::{StatusWords, Writer};
 
 /// The target of a CPU_ON that was accepted.
@@ -20,6 +21,19 @@ pub fn asked_on(outcome: &Outcome) -> Option<Core>
 {
     match (outcome.act, &outcome.message) {
         (Act::Return(_), Some(message)) => Some(message.core),
+        _ => None,
+    }
+}
+
+/// The same by a reaction, whose message stands in its slot.
+pub(crate) fn asked_in(firmware: &Firmware, reaction: &Reaction) -> Option<Core>
+    ensures { result
+        ≡ asked_by (outcome_in firmware.now.board (seen firmware.now) reaction.now) }
+{
+    match (reaction.act, reaction.slot) {
+        (Act::Return(_), Some(number)) => {
+            firmware.outstanding(number).map(|message| message.core)
+        }
         _ => None,
     }
 }

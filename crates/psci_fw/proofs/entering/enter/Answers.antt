@@ -4,6 +4,7 @@ use Rattle.psci_fw_spec.specs.Changes.{with_arrival}
 use Rattle.psci_fw_spec.specs.Lives.{in_life}
 use Rattle.psci_fw_spec.specs.Values.{Values}
 use Rattle.psci_fw_state.specs.Seen.{values_in}
+use Rattle.psci_fw.specs.Reactions.{outcome_in}
 use Rattle.psci_fw.specs.Ways.{way_on}
 use Rattle.psci_fw.proofs.Answered.{arrived_away, fault_inside, halted_outcome, left_may}
 use Rattle.psci_fw.proofs.Answered.{leaving_off, no_opening, no_resume, parked, way_outcome}
@@ -12,7 +13,7 @@ use Rattle.psci_fw.proofs.entering.enter.Goals as goal
 
 pub returns-then-halting-clause-answer : goal.returns-then-halting-clause-answer
 returns-then-halting-clause-answer c =
-    c.stops.ensures
+    ap (outcome_in c.arrive_away.new.self.board (values_in c.arrive_away.new.self)) c.stops.ensures
     ∙ halted_outcome c.args.state.now.board (values_in c.args.state.now) c.args.core.number c.args.start
     (sym (ap (λ (x : Values). x.halting) c.begin.ensures.after)
     ∙ sym c.halting.ensures ∙ c.if-halting.true)

@@ -5,6 +5,7 @@ use Rattle.psci_fw_spec.specs.After.{change}
 use Rattle.psci_fw_spec.specs.Effects.{function_effect}
 use Rattle.psci_fw_spec.specs.Outcomes.{returns}
 use Rattle.psci_fw_state.specs.Seen.{values_in}
+use Rattle.psci_fw.specs.Reactions.{outcome_in}
 use Rattle.psci_fw.proofs.Answered.{goes_on}
 use Rattle.psci_fw.proofs.smc.function.Goals as goal
 
@@ -19,11 +20,11 @@ returns-in-Features-clause-answer c =
     let core = c.args.caller.number in
     let asked = requests.Features c.in-Features.word in
     rw c.in-Features.is (record {
-      answer = c.returns-in-Features.ensures
+      answer = ap (outcome_in b v) c.returns-in-Features.ensures
           ∙ ap returns (rw c.board.ensures.same at c.feature_code.ensures);
       after = subst
           (λ (o : Outcome). v ≡ change b (function_effect b core asked o.act o.message) v)
-          (sym c.returns-in-Features.ensures) (goes_on v core c.requires.running);
+          (sym (ap (outcome_in b v) c.returns-in-Features.ensures)) (goes_on v core c.requires.running);
     })
 
 pub returns-in-Unknown-clause-answer : goal.returns-in-Unknown-clause-answer

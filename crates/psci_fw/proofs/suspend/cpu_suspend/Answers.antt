@@ -1,5 +1,7 @@
 use Rattle.std.proofs.Common.{◌≡◌, Ok, sym, ◌∙◌}
 use Rattle.psci_fw_spec.specs.CpuSuspend.{ask_named}
+use Rattle.psci_fw_state.specs.Seen.{values_in}
+use Rattle.psci_fw.specs.Reactions.{outcome_in}
 use Rattle.psci_fw.proofs.Answered.{suspended_answered}
 use Rattle.psci_fw.proofs.suspend.cpu_suspend.Goals as goal
 
@@ -28,7 +30,8 @@ returns-clause-answer c =
     let enters = rw c.board-board.ensures.same at c.has_invalid_entry.ensures in
     let limit = rw c.board-board.ensures.same at c.start_limit.ensures in
     suspended_answered c.args.state.now.board _ c.args.caller.number c.args.word c.args.opening
-    c.in-Ok.ask c.requires.running named c.sleep.result _
+    c.in-Ok.ask c.requires.running named
+    (outcome_in c.sleep.new.state.board (values_in c.sleep.new.state) c.sleep.result) _
     (sym enters ∙ c.if-has_invalid_entry.false)
     (λ e. c.if-known-start_limit.false (c.known.ensures ∙ e ∙ sym limit))
     c.sleep.ensures.answer c.sleep.ensures.after

@@ -1,10 +1,9 @@
-use Rattle.std.proofs.Common.{◌≡◌, ◌+◌, ◌≤◌, ℕ, List, arith, ap, map, sym, refl, ◌∙◌}
+use Rattle.std.proofs.Common.{◌≡◌, ℕ, List, arith, ap, map, refl, ◌∙◌}
 use Rattle.std.proofs.lemmas.Bool.{eq-eqb, ne_eqb}
-use Rattle.psci_board.specs.Board.{BoardValue, height}
+use Rattle.psci_board.specs.Board.{BoardValue}
 use Rattle.psci_tree.specs.Standing.{on_path as on_path_of}
 use Rattle.psci_fw_spec.specs.declared.status.Status.{Status}
 use Rattle.psci_fw_spec.specs.Values.{updated}
-use Rattle.psci_fw_state.specs.declared.counts.StatusCounts.{StatusCounts}
 use Rattle.psci_fw_state.specs.declared.row.CoreRow.{CoreRow}
 use Rattle.psci_fw_state.specs.Counts.{one_core}
 use Rattle.psci_fw_state.specs.Rows.{status_at}

@@ -1,4 +1,4 @@
-use Rattle.std.proofs.Common.{◌≡◌, ◌<◌, ◌≤◌, List, map, sym, ◌∙◌, ap, arith, inl, inr}
+use Rattle.std.proofs.Common.{◌<◌, ◌≤◌, map, ◌∙◌, ap, arith, inl, inr}
 use Rattle.std.proofs.lemmas.Bool.{cases_lt}
 use Rattle.psci_board.specs.Board.{height, nodes}
 use Rattle.psci_fw_state.specs.declared.row.CoreRow.{CoreRow}

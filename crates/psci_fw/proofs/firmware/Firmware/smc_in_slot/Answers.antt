@@ -7,9 +7,10 @@ use Rattle.psci_fw_spec.specs.Calls.{call_fault}
 use Rattle.psci_fw_spec.specs.Effects.{function_effect}
 use Rattle.psci_fw_spec.specs.Invariant.{AreValues}
 use Rattle.psci_fw_state.specs.Seen.{values_in}
+use Rattle.psci_fw.specs.Reactions.{outcome_in}
 use Rattle.psci_fw.specs.Seen.{IsFresh}
 use Rattle.psci_fw.proofs.Called.{called}
-use Rattle.psci_fw.proofs.firmware.Firmware.smc.Goals as goal
+use Rattle.psci_fw.proofs.firmware.Firmware.smc_in_slot.Goals as goal
 
 pub invariant_of-self : goal.invariant_of-self
 invariant_of-self c =
@@ -17,7 +18,7 @@ invariant_of-self c =
     let v = values_in c.self.inside.state in
     let w = values_in c.dispatch.new.state in
     let core = c.args.core.number in
-    let o = c.dispatch.result in
+    let o = outcome_in c.dispatch.new.state.board w c.dispatch.result in
     let at = sym c.dispatch.ensures.board in
     let left = c.dispatch.ensures.after in
     let fault : call_fault b v core ≡ None = c.in_ok-check_caller.ensures in

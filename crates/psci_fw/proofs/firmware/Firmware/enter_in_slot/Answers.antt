@@ -1,7 +1,7 @@
 use Rattle.std.proofs.Common.{rules}
 use Rattle.psci_fw_spec.specs.After.{after}
 use Rattle.psci_fw_spec.specs.Answer.{answer}
-use Rattle.psci_fw.proofs.firmware.Firmware.enter.Goals as goal
+use Rattle.psci_fw.proofs.firmware.Firmware.enter_in_slot.Goals as goal
 
 pub returns-in_err-check_start-clause-answer : goal.returns-in_err-check_start-clause-answer
 unfolding answer after

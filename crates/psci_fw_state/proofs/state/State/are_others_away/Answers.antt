@@ -1,0 +1,60 @@
+use Rattle.std.proofs.Common.{◌≡◌, ℕ, Bool, true, false, not, cond, map, ap, arith, refl, sym, ◌∙◌, ◌≤◌}
+use Rattle.psci_board.specs.Board.{height}
+use Rattle.psci_tree.specs.Recount.{off}
+use Rattle.psci_fw_spec.specs.Phases.{is_away}
+use Rattle.psci_fw_state.specs.Seen.{StateValue, values_in}
+use Rattle.psci_fw_state.proofs.AllCores.{away, few_off, others_away}
+use Rattle.psci_fw_state.proofs.state.State.are_others_away.Goals as goal
+use mir.Val.{bool_byte}
+
+byte : (b : Bool) → bool_byte b ≡ cond b 1 0
+byte true = refl
+byte false = refl
+
+small : (b : Bool) → bool_byte b ≤ 1
+small true = omega arith
+small false = omega arith
+
+pub overflow_add-result : goal.overflow_add-result
+overflow_add-result c =
+    let s : StateValue = record {
+      board = c.self.inside.board;
+      life = c.self.inside.life;
+      halting = c.self.inside.halting;
+      mode = c.self.inside.mode;
+      tree = c.self.inside.tree;
+      rows = c.self.inside.rows.items;
+      counts = map (λ v. v.items) c.self.inside.counts.items;
+      slots = c.self.inside.slots;
+    } in
+    let laws = c.law_spans.ensures s.board.levels c.self.invariant.board.tree in
+    let few = few_off s c.self.invariant laws c.off-off.result c.from-own.result
+    (c.off-off.ensures ∙ ap (off s.tree) (c.system.ensures
+    ∙ ap (λ (x : StateValue). record { level = height x.board; place = 0 }) (sym c.self.view_is)))
+    (rw c.from-own.ensures (small _)) in
+    omega (arith, few)
+
+pub returns : goal.returns
+unfolding values_in
+returns c =
+    let s : StateValue = record {
+      board = c.self.inside.board;
+      life = c.self.inside.life;
+      halting = c.self.inside.halting;
+      mode = c.self.inside.mode;
+      tree = c.self.inside.tree;
+      rows = c.self.inside.rows.items;
+      counts = map (λ v. v.items) c.self.inside.counts.items;
+      slots = c.self.inside.slots;
+    } in
+    let laws = c.law_spans.ensures s.board.levels c.self.invariant.board.tree in
+    let number : ℕ = c.args.core.number in
+    let is : c.is_away.result ≡ away s c.self.invariant laws number =
+    c.is_away.ensures
+    ∙ ap (λ (x : StateValue). is_away ((values_in x).phase number)) (sym c.self.view_is) in
+    rw (← c.self.view_is)
+    (others_away s c.self.invariant laws number c.off-off.result c.from-own.result c.from.result
+    (c.off-off.ensures ∙ ap (off s.tree) (c.system.ensures
+    ∙ ap (λ (x : StateValue). record { level = height x.board; place = 0 }) (sym c.self.view_is)))
+    (c.from-own.ensures ∙ byte _ ∙ ap (λ b. cond (not b) 1 0) is)
+    (c.from.ensures ∙ c.cores.ensures.cores))

@@ -1,7 +1,0 @@
-use Rattle.std.proofs.Common.{rules}
-use Rattle.psci_fw_state.specs.Seen.{values_in}
-use Rattle.psci_fw_state.proofs.state.State.is_waiting.Goals as goal
-
-pub returns-in-Suspended : goal.returns-in-Suspended
-unfolding values_in
-returns-in-Suspended c = search rules
