@@ -112,8 +112,8 @@ c_registers() {
     refused "a copy through vector registers" "$work/copy.o"
 }
 
-# bare NAME ARCHIVE WORD..: hosts/boot.c over an archive on a bare machine, compiled with these words
-bare() {
+# on_bare_machine NAME ARCHIVE WORD..: hosts/boot.c over an archive on a bare machine, compiled with these words
+on_bare_machine() {
     local name=$1 file=$2
     shift 2
     aarch64-linux-gnu-gcc -std=c11 -O2 -ffreestanding -fno-builtin -nostdlib -static \
@@ -134,13 +134,13 @@ c_bare() {
     done
     for tool in "$plain" "$aligned -DCHECK_ALIGNMENT"; do
         # shellcheck disable=SC2086
-        bare "bare-boot" $tool
+        on_bare_machine "bare-boot" $tool
         if cmp -s hosts/boot.out "$work/out"; then pass; else
             fail "hosts/boot.c on a bare machine over $tool"
             diff hosts/boot.out "$work/out" | head -n 5
         fi
     done
-    bare "bare-boot" "$plain" -DCHECK_ALIGNMENT
+    on_bare_machine "bare-boot" "$plain" -DCHECK_ALIGNMENT
     if grep -q "^exception: syndrome 0x96[0-9a-f]*[26]1 " "$work/out"; then pass; else
         fail "an access that is not aligned is no fault on a bare machine"
         head -n 5 "$work/out" "$work/err"
@@ -191,16 +191,21 @@ END
     done
 }
 
-# what no script comes to: tests/programs/library.c, which ends with the stack that a call took
-c_calls() {
-    has_cc "calls from C" || return
-    build_c library tests/programs/library.c || return
-    if "$work/library" > "$work/out"; then pass; else
-        fail "tests/programs/library.c"
+# tested PROGRAM WORD..: tests/programs/library.c passes, which ends with the stack that a call took
+tested() {
+    if "$@" > "$work/out"; then pass; else
+        fail "tests/programs/library.c by $*"
         head -n 20 "$work/out"
     fi
     at_most "the stack that a call took" \
         "$(awk '$1 == "stack" { print $2 }' "$work/out")" "$most_stack"
+}
+
+# what no script comes to
+c_calls() {
+    has_cc "calls from C" || return
+    build_c library tests/programs/library.c || return
+    tested "$work/library"
 }
 
 # told HOST..: it gives the firmware's side of each script that has no fault
@@ -232,16 +237,19 @@ c_hosts() {
     fi
 }
 
-# the same of each script by the archives for aarch64
-c_hosts_aarch64() {
-    local tool file
+# the same calls and scripts over the archives for aarch64, by an emulator
+c_aarch64() {
+    local tool file name
     for tool in aarch64-linux-gnu-gcc qemu-aarch64-static; do
-        command -v "$tool" > /dev/null || { skip "the hosts in C on aarch64" "$tool"; return; }
+        command -v "$tool" > /dev/null || { skip "the C library on aarch64" "$tool"; return; }
     done
     for file in "$plain" "$aligned"; do
-        aarch64-linux-gnu-gcc -std=c11 -O2 -static -pthread -Wall -Wextra -Werror -Iinclude -Ihosts \
-            -o "$work/loop-aarch64" hosts/loop.c hosts/pool.c "$file" > "$work/err" 2>&1 ||
-            { fail "hosts/loop.c over $file"; head -n 20 "$work/err"; return; }
+        for name in tests/programs/library hosts/loop; do
+            aarch64-linux-gnu-gcc -std=c11 -O2 -static -pthread -Wall -Wextra -Werror -Iinclude \
+                -Ihosts -o "$work/${name##*/}-aarch64" "$name.c" hosts/pool.c "$file" \
+                > "$work/err" 2>&1 || { fail "$name.c over $file"; head -n 20 "$work/err"; return; }
+        done
+        tested qemu-aarch64-static "$work/library-aarch64"
         told qemu-aarch64-static "$work/loop-aarch64"
     done
 }
