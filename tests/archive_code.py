@@ -1,15 +1,17 @@
-"""What the code of an archive is, by a disassembler: x86-64 by `objdump`, aarch64 by that of Debian's
-binutils-aarch64-linux-gnu or by `llvm-objdump`."""
+"""What the code of an archive is, by a disassembler: x86-64 by `objdump`, aarch64 by the kit's."""
+import os
 import re
 import shutil
 import subprocess
 import sys
 from collections import namedtuple
 
-# the number of a machine in an ELF file, its name, and what disassembles it
+KIT = os.path.dirname(os.path.dirname(os.path.realpath(shutil.which("rt") or "rt")))
+# the number of a machine in an ELF file, its name, and the program that is its disassembler under the
+# name that it is called by
 MACHINES = {
-    62: ("x86-64", ("objdump",)),
-    183: ("aarch64", ("aarch64-linux-gnu-objdump", "llvm-objdump")),
+    62: ("x86-64", "objdump", "objdump"),
+    183: ("aarch64", "llvm-objdump", f"{KIT}/toolchain/bin/clang"),
 }
 
 # An instruction; the function whose first instruction its operand names, where it names one.
@@ -17,31 +19,25 @@ Instruction = namedtuple("Instruction", "word operands target")
 
 
 def machine_of(archive):
-    """The name of the machine whose code the archive has, and its disassemblers."""
+    """The machine whose code the archive has."""
     with open(archive, "rb") as file:
         data = file.read()
     found = data.find(b"\x7fELF")
     number = int.from_bytes(data[found + 18:found + 20], "little")
     if found < 0 or number not in MACHINES:
-        sys.exit(f"{archive} has no code of {' or '.join(name for name, _ in MACHINES.values())}")
+        sys.exit(f"{archive} has no code of {' or '.join(it[0] for it in MACHINES.values())}")
     return MACHINES[number]
-
-
-def disassembled(archive, tools):
-    tool = next((it for it in tools if shutil.which(it)), None)
-    if not tool:
-        sys.exit(f"{archive}: there is no {' and no '.join(tools)} here")
-    return subprocess.run([tool, "-d", "-r", "--no-show-raw-insn", archive], text=True,
-                          stdout=subprocess.PIPE, check=True).stdout
 
 
 class Code:
     """The functions of an archive: the instructions of each, by its name."""
 
     def __init__(self, archive):
-        self.machine, tools = machine_of(archive)
+        self.machine, name, program = machine_of(archive)
         self.functions, inside = {}, []
-        for line in disassembled(archive, tools).splitlines():
+        said = subprocess.run([name, "-d", "-r", "--no-show-raw-insn", archive], executable=program,
+                              text=True, stdout=subprocess.PIPE, check=True).stdout
+        for line in said.splitlines():
             head = re.fullmatch(r"[0-9a-f]+ <(.+)>:", line)
             read = re.fullmatch(r"\s+[0-9a-f]+:\s+(\S+)\s*(.*)", line)
             if head:

@@ -13,12 +13,6 @@ most_stack=8192
 
 has_cc() { command -v cc > /dev/null || { skip "$1" cc; false; }; }
 
-# has_objdump WHAT: there is what reads the code of the archives for aarch64
-has_objdump() {
-    command -v aarch64-linux-gnu-objdump > /dev/null || command -v llvm-objdump > /dev/null ||
-        { skip "$1" "disassembler of aarch64"; false; }
-}
-
 # built MACHINE: the archives for a machine are built, and what is said of their sums is so
 built() {
     rm -rf "out/lib/$1"
@@ -50,7 +44,6 @@ measured() {
     if [ -z "$beyond" ]; then pass; else fail "$1 wants $beyond"; fi
     at_most "text and data of $1" \
         "$(size "$1" | awk 'NR > 1 { sum += $1 + $2 + $3 } END { print sum }')" "$most"
-    [ "$1" = "$archive" ] || has_objdump "the stack of a call by $1" || return
     if tests/stack-need "$1" > "$work/out"; then pass; else
         fail "tests/stack-need $1"
         return
@@ -78,8 +71,7 @@ c_archive() {
 
 # what the pages say of the library is so
 figures() {
-    has_cc "the figures of the C library" && has_python "the figures of the C library" &&
-        has_objdump "the figures of the C library" || return
+    has_cc "the figures of the C library" && has_python "the figures of the C library" || return
     if bench/library --compare > "$work/out" 2>&1; then pass; else
         fail "the figures of the C library; bench/library --write writes them"
         cat "$work/out"
@@ -98,7 +90,7 @@ refused() {
 c_registers() {
     local file words clang
     clang=$(dirname "$(dirname "$(realpath "$(command -v rt)")")")/toolchain/bin/clang
-    has_python "the registers of the archives" && has_objdump "the registers of the archives" || return
+    has_python "the registers of the archives" || return
     for words in "$plain" "$aligned --aligned"; do
         # shellcheck disable=SC2086
         if tests/plain-code $words > "$work/out" 2>&1; then pass; else
