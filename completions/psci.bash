@@ -13,6 +13,7 @@ _psci() {
     case $before in
         --keep | --clock) mapfile -t COMPREPLY < <(compgen -f -- "$word"); return ;;
         --color) mapfile -t COMPREPLY < <(compgen -W "auto always never" -- "$word"); return ;;
+        --target) mapfile -t COMPREPLY < <(compgen -W "x86_64 aarch64" -- "$word"); return ;;
         --board | --seed | --seeds | --count | --width | --from | --to | --cores | --port) return ;;
         \< | \>) mapfile -t COMPREPLY < <(compgen -f -- "$word"); return ;;
     esac
@@ -29,7 +30,7 @@ _psci() {
         draw) mapfile -t COMPREPLY < <(compgen -W "--page --from --to --cores --clock --help" -- "$word") ;;
         try) mapfile -t COMPREPLY < <(compgen -W "--port --help" -- "$word") ;;
         help) mapfile -t COMPREPLY < <(compgen -W "replay storm threads show" -- "$word") ;;
-        prove) mapfile -t COMPREPLY < <(compgen -W "all" -- "$word") ;;
+        prove) mapfile -t COMPREPLY < <(compgen -W "all lib --target" -- "$word") ;;
         replay) mapfile -t COMPREPLY < <(compgen -W "--help" -- "$word") ;;
     esac
 }

@@ -1,20 +1,27 @@
-# The firmware as a C library, sourced by ../test after tests/program.sh: the archive that `rt lib`
-# builds in crates/psci_ffi, and the hosts of hosts/ over it.
+# The firmware as a C library, sourced by ../test after tests/program.sh: the archives that
+# `./psci prove lib` builds in out/lib/, and the hosts of hosts/ over that for this machine.
 
-archive=crates/psci_ffi/out/libpsci_ffi.a
-# what the archive may want of its user; how many bytes of text and data it may have, and a call of
-# stack
+archive=out/lib/x86_64/libpsci_ffi.a
+plain=out/lib/aarch64/libpsci_ffi.a
+aligned=out/lib/aarch64/libpsci_ffi-strict-align.a
+# what an archive may want of its user; how many bytes of text and data it may have, where an access
+# that is not aligned is made of bytes, too; and a call of stack
 wants='memcpy|memmove|memset|rattle_alloc|rattle_realloc|rattle_dealloc'
 most_text=65536
+most_aligned_text=98304
 most_stack=8192
 
 has_cc() { command -v cc > /dev/null || { skip "$1" cc; false; }; }
 
-# Builds the archive by these words of `rt lib`, over what earlier checks kept of the crates below it.
-# The gate leaves nothing of the kind: where no check came before, these are proved once more.
-build_archive() {
-    rm -f "$archive"
-    (cd crates/psci_ffi && rt lib "$@" < /dev/null) > "$work/lib" 2>&1 && [ -f "$archive" ]
+# built MACHINE: the archives for a machine are built, and what is said of their sums is so
+built() {
+    rm -rf "out/lib/$1"
+    if ./psci prove lib --target "$1" < /dev/null > "$work/lib" 2>&1 &&
+        (cd "out/lib/$1" && sha256sum --quiet -c SHA256SUMS) >> "$work/lib" 2>&1; then pass; else
+        fail "./psci prove lib --target $1"
+        tail -n 20 "$work/lib"
+        return 1
+    fi
 }
 
 # build_c NAME SOURCE: a C program over the archive and the pool
@@ -29,68 +36,212 @@ at_most() {
     if [ "$2" -le "$3" ]; then pass; else fail "$1: $2 bytes, more than $3"; fi
 }
 
-# archive_of MACHINE WORD..: builds the archive; what it wants, how large it is
-archive_of() {
-    local machine=$1 beyond
-    shift
-    if build_archive "$@"; then pass; else
-        fail "rt lib $* in crates/psci_ffi"
-        tail -n 20 "$work/lib"
-        return 1
-    fi
-    beyond=$(nm --undefined-only "$archive" | awk 'NF == 2 { print $2 }' | grep -Evx "$wants")
-    if [ -z "$beyond" ]; then pass; else fail "the archive for $machine wants $beyond"; fi
-    at_most "text and data of the archive for $machine" \
-        "$(size "$archive" | awk 'NR > 1 { sum += $1 + $2 + $3 } END { print sum }')" "$most_text"
-}
-
-# the archive for two machines, of which that for the hosts stays; how much stack a call takes there
-# by its code
-c_archive() {
-    has_cc "the archive" || return
-    say "building the library, minutes where no earlier check has kept the crates below it"
-    archive_of aarch64 --target aarch64-unknown-linux-gnu || return
-    archive_of x86-64 || return
-    has_python "tests/stack-need" || return
-    if tests/stack-need "$archive" > "$work/out"; then pass; else
-        fail "tests/stack-need"
+# measured ARCHIVE: what it wants, how large it is, and how much stack a call takes by its code
+measured() {
+    local beyond most=$most_text
+    [ "$1" != "$aligned" ] || most=$most_aligned_text
+    beyond=$(nm --undefined-only "$1" | awk 'NF == 2 { print $2 }' | grep -Evx "$wants")
+    if [ -z "$beyond" ]; then pass; else fail "$1 wants $beyond"; fi
+    at_most "text and data of $1" \
+        "$(size "$1" | awk 'NR > 1 { sum += $1 + $2 + $3 } END { print sum }')" "$most"
+    if tests/stack-need "$1" > "$work/out"; then pass; else
+        fail "tests/stack-need $1"
         return
     fi
-    at_most "the stack of a call, by its code" \
+    at_most "the stack of a call by $1" \
         "$(awk '$2 > most { most = $2 } END { print most }' "$work/out")" "$most_stack"
 }
 
-# what no script comes to: tests/programs/library.c, which ends with the stack that a call took
-c_calls() {
-    has_cc "calls from C" || return
-    build_c library tests/programs/library.c || return
-    if "$work/library" > "$work/out"; then pass; else
-        fail "tests/programs/library.c"
+# the archives for two machines, the same again when they are built again
+c_archive() {
+    local machine file
+    has_cc "the archives" && has_python "the archives" || return
+    say "building the library, minutes where the crates below it are not kept yet"
+    for machine in x86_64 aarch64; do
+        built "$machine" || return
+        cp "out/lib/$machine/SHA256SUMS" "$work/sums"
+        built "$machine" || return
+        if cmp -s "$work/sums" "out/lib/$machine/SHA256SUMS"; then pass; else
+            fail "the archives for $machine, built twice"
+            diff "$work/sums" "out/lib/$machine/SHA256SUMS"
+        fi
+    done
+    for file in "$archive" "$plain" "$aligned"; do measured "$file"; done
+}
+
+# what the pages say of the library is so
+figures() {
+    has_cc "the figures of the C library" && has_python "the figures of the C library" || return
+    if bench/library --compare > "$work/out" 2>&1; then pass; else
+        fail "the figures of the C library; bench/library --write writes them"
+        cat "$work/out"
+    fi
+}
+
+# refused NAME WORD..: tests/plain-code does not let this pass
+refused() {
+    local name=$1
+    shift
+    tests/plain-code "$@" > "$work/out" 2> "$work/err"
+    if [ $? = 1 ] && [ -s "$work/out" ]; then pass; else fail "tests/plain-code lets $name pass"; fi
+}
+
+# the archives for aarch64 are of general registers alone, the second one of aligned accesses
+c_registers() {
+    local file words clang
+    clang=$(dirname "$(dirname "$(realpath "$(command -v rt)")")")/toolchain/bin/clang
+    has_python "the registers of the archives" || return
+    for words in "$plain" "$aligned --aligned"; do
+        # shellcheck disable=SC2086
+        if tests/plain-code $words > "$work/out" 2>&1; then pass; else
+            fail "tests/plain-code $words"
+            head -n 20 "$work/out"
+        fi
+    done
+    refused "an access that is not aligned" "$plain" --aligned
+    echo "void copy(long *to, long *from) { __builtin_memcpy(to, from, 32); }" > "$work/copy.c"
+    "$clang" --target=aarch64-unknown-linux-gnu -O2 -c -o "$work/copy.o" "$work/copy.c"
+    refused "a copy through vector registers" "$work/copy.o"
+}
+
+# on_bare_machine NAME ARCHIVE WORD..: hosts/boot.c over an archive on a bare machine, compiled with these words
+on_bare_machine() {
+    local name=$1 file=$2
+    shift 2
+    aarch64-linux-gnu-gcc -std=c11 -O2 -ffreestanding -fno-builtin -nostdlib -static \
+        -mgeneral-regs-only -mstrict-align -mno-outline-atomics -Wl,-Ttext=0x40200000 \
+        -Wl,--build-id=none -Wall -Wextra -Werror "$@" -Iinclude -Ihosts -o "$work/$name" \
+        hosts/boot.c hosts/pool.c tests/programs/bare.c tests/programs/bare.S "$file" \
+        > "$work/err" 2>&1 || { fail "$name"; head -n 20 "$work/err"; return; }
+    timeout 60 qemu-system-aarch64 -M virt -cpu cortex-a57 -m 64 -display none -monitor none \
+        -serial stdio -kernel "$work/$name" < /dev/null > "$work/out" 2> "$work/err"
+}
+
+# hosts/boot.c tells its story where a vector register is a fault, and over the second archive where an
+# access that is not aligned is one, too, as which the first one has some
+c_bare() {
+    local tool
+    for tool in aarch64-linux-gnu-gcc qemu-system-aarch64; do
+        command -v "$tool" > /dev/null || { skip "the C library on a bare machine" "$tool"; return; }
+    done
+    for tool in "$plain" "$aligned -DCHECK_ALIGNMENT"; do
+        # shellcheck disable=SC2086
+        on_bare_machine "bare-boot" $tool
+        if cmp -s hosts/boot.out "$work/out"; then pass; else
+            fail "hosts/boot.c on a bare machine over $tool"
+            diff hosts/boot.out "$work/out" | head -n 5
+        fi
+    done
+    on_bare_machine "bare-boot" "$plain" -DCHECK_ALIGNMENT
+    if grep -q "^exception: syndrome 0x96[0-9a-f]*[26]1 " "$work/out"; then pass; else
+        fail "an access that is not aligned is no fault on a bare machine"
+        head -n 5 "$work/out" "$work/err"
+    fi
+}
+
+# lib_of KIT FRESH WORD..: ./psci prove lib with these words, there
+lib_of() {
+    local kit=$1 fresh=$2
+    shift 2
+    XDG_CACHE_HOME=$work/cache PATH=$kit/bin:$PATH "$fresh/psci" prove lib "$@" < /dev/null \
+        > "$work/out" 2> "$work/proved"
+    echo $? > "$work/got"
+    tail -n 1 "$work/proved" > "$work/err"
+}
+
+# ./psci prove lib builds each archive by the kit's clang, with the words that it is called with and
+# the flags of the archive before them, and with none for x86-64
+proving_lib() {
+    local kit=$1 fresh=$2 machine file words
+    for machine in "" x86_64 aarch64; do
+        # shellcheck disable=SC2086
+        lib_of "$kit" "$fresh" ${machine:+--target $machine}
+        expect "./psci prove lib for ${machine:-no machine}" 0 "psci: built; the library is in out/lib"
+    done
+    printf '%s\n' aarch64/{SHA256SUMS,libpsci_ffi-strict-align.a,libpsci_ffi.a} \
+        x86_64/{SHA256SUMS,libpsci_ffi.a} > "$work/lines"
+    for file in include/*.h; do
+        printf '%s\n' "aarch64/${file##*/}" "x86_64/${file##*/}" >> "$work/lines"
+    done
+    LC_ALL=C sort -o "$work/lines" "$work/lines"
+    (cd "$fresh/out/lib" && find . -type f | sed 's|^\./||' | LC_ALL=C sort) > "$work/out"
+    answers "the files of ./psci prove lib"
+    (cd "$fresh/out/lib" && for file in x86_64/*.a aarch64/*.a; do
+        sh "$file" -c "a b" '$c' && echo " $file"
+    done) > "$work/out"
+    cat > "$work/lines" << 'END'
+-c;a b;$c; x86_64/libpsci_ffi.a
+-mgeneral-regs-only;-mstrict-align;-c;a b;$c; aarch64/libpsci_ffi-strict-align.a
+-mgeneral-regs-only;-c;a b;$c; aarch64/libpsci_ffi.a
+END
+    answers "the clang of each archive"
+    for words in "--target" "--target arm" "aarch64" "--target aarch64 x"; do
+        # shellcheck disable=SC2086
+        lib_of "$kit" "$fresh" $words
+        expect "./psci prove lib $words" 2 \
+            "psci: prove lib takes --target x86_64 or aarch64, and no other word"
+    done
+}
+
+# tested PROGRAM WORD..: tests/programs/library.c passes, which ends with the stack that a call took
+tested() {
+    if "$@" > "$work/out"; then pass; else
+        fail "tests/programs/library.c by $*"
         head -n 20 "$work/out"
     fi
     at_most "the stack that a call took" \
         "$(awk '$1 == "stack" { print $2 }' "$work/out")" "$most_stack"
 }
 
-# the firmware's side of each script that has no fault, and the story of hosts/boot.c
-c_hosts() {
+# what no script comes to
+c_calls() {
+    has_cc "calls from C" || return
+    build_c library tests/programs/library.c || return
+    tested "$work/library"
+}
+
+# told HOST..: it gives the firmware's side of each script that has no fault
+told() {
     local file name
+    for file in examples/*.psci tests/scripts/*/*.psci; do
+        name=${file%.psci}
+        [ ! -f "$name.status" ] || continue
+        if "$@" "$file" "$name.out" > "$work/out" && cmp -s "$name.out" "$work/out"; then
+            pass
+        else
+            fail "$* on $file"
+            diff "$name.out" "$work/out" | head -n 5
+        fi
+    done
+}
+
+# the firmware's side of each script, and the story of hosts/boot.c
+c_hosts() {
+    local name
     has_cc "the hosts in C" || return
     for name in loop boot; do
         build_c "$name" "hosts/$name.c" || return
     done
-    for file in examples/*.psci tests/scripts/*/*.psci; do
-        name=${file%.psci}
-        [ ! -f "$name.status" ] || continue
-        if "$work/loop" "$file" "$name.out" > "$work/out" && cmp -s "$name.out" "$work/out"; then
-            pass
-        else
-            fail "hosts/loop.c on $file"
-            diff "$name.out" "$work/out" | head -n 5
-        fi
-    done
+    told "$work/loop"
     if "$work/boot" > "$work/out" && cmp -s hosts/boot.out "$work/out"; then pass; else
         fail "hosts/boot.c"
         diff hosts/boot.out "$work/out" | head -n 5
     fi
+}
+
+# the same calls and scripts over the archives for aarch64, by an emulator
+c_aarch64() {
+    local tool file name
+    for tool in aarch64-linux-gnu-gcc qemu-aarch64-static; do
+        command -v "$tool" > /dev/null || { skip "the C library on aarch64" "$tool"; return; }
+    done
+    for file in "$plain" "$aligned"; do
+        for name in tests/programs/library hosts/loop; do
+            aarch64-linux-gnu-gcc -std=c11 -O2 -static -pthread -Wall -Wextra -Werror -Iinclude \
+                -Ihosts -o "$work/${name##*/}-aarch64" "$name.c" hosts/pool.c "$file" \
+                > "$work/err" 2>&1 || { fail "$name.c over $file"; head -n 20 "$work/err"; return; }
+        done
+        tested qemu-aarch64-static "$work/library-aarch64"
+        told qemu-aarch64-static "$work/loop-aarch64"
+    done
 }

@@ -284,13 +284,14 @@ replay_program() {
 proving() {
     local name word kit=$work/kit fresh=$work/proving
     has_python "./psci prove" || return 0
-    mkdir -p "$kit/bin" "$fresh/tools"
+    mkdir -p "$kit/bin" "$kit/toolchain/bin" "$fresh/tools" "$fresh/include"
     echo "no kit" > "$kit/KIT-ID"
     printf '#!/bin/sh\nexit 1\n' > "$kit/bin/rt"
+    # an archive is the clang of the toolchain that it is built by
     cat > "$kit/bin/rattle" << 'END'
 #!/bin/sh
-while [ "$1" != -o ]; do shift; done
-case $2 in *.o) : > "$2" ;; *) mkdir "$2" ;; esac
+while [ "$1" != -o ]; do [ "$1" != --toolchain ] || tools=$2; shift; done
+case $2 in *.o) : > "$2" ;; *.a) cp "$tools/bin/clang" "$2" ;; *) mkdir "$2" ;; esac
 END
     cat > "$kit/bin/rattle-link" << 'END'
 #!/bin/sh
@@ -298,13 +299,15 @@ while [ "$1" != -o ]; do shift; done
 printf '#!/bin/sh\necho %s built of "$@"\n' "${2##*/}" > "$2"
 chmod +x "$2"
 END
-    chmod +x "$kit/bin"/*
+    printf '#!/bin/sh\nprintf "%%s;" "$@"\n' > "$kit/toolchain/bin/clang"
+    chmod +x "$kit/bin"/* "$kit/toolchain/bin/clang"
     for name in crates/*/src; do
         mkdir -p "$fresh/$name"
         echo "//! Nothing." > "$fresh/$name/lib.rt"
     done
     cp psci crates.txt HANDLES "$fresh"
-    cp tools/prove tools/repo.py "$fresh/tools"
+    cp include/*.h "$fresh/include"
+    cp tools/prove tools/*.py "$fresh/tools"
     for name in psci_replay psci_cli; do
         word=all
         [ "$name" = psci_cli ] || word=
@@ -329,6 +332,7 @@ END
     comm -23 "$work/lines" "$work/names" > "$work/out"
     : > "$work/lines"
     answers "each library that ./psci prove proves is kept"
+    proving_lib "$kit" "$fresh"
 }
 
 # the line of a storm, which the seed alone decides; its words, streams and memory

@@ -162,8 +162,10 @@ completed() {
 ./psci draw --|--page --from --to --cores --clock --help
 ./psci show --c|--color --cores --changes --clock
 ./psci tr|try
+./psci prove l|lib
+./psci prove lib --target a|aarch64
 EOF
-    for option in $(options) $(view_options) --seeds --unproved; do
+    for option in $(options) $(view_options) --seeds --unproved --target; do
         if grep -q -- "$option" completions/psci.bash &&
             sed 's/\\-/-/g' docs/psci.1 | grep -- "$option" > "$work/none"; then pass; else
             fail "$option is not in completions/psci.bash, or not in docs/psci.1"

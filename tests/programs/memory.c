@@ -1,0 +1,24 @@
+/* What a firmware keeps of memory, by board: `memory TREE..` prints for each tree of cores the bytes that
+ * are kept and in how many requests, and the most bytes that were asked for at one time. */
+#include "counted.h"
+#include "psci.h"
+
+#include <stdio.h>
+#include <string.h>
+
+int main(int count, char **trees) {
+    char board[4096];
+    for (int i = 1; i < count; i++) {
+        struct psci_place place = {0};
+        snprintf(board, sizeof board,
+                 "%s exec 0x40000000-0x40100000 boot 0x40000000 starts 1000 lives 3", trees[i]);
+        most_given = 0;
+        if (psci_open(&place, (const uint8_t *)board, strlen(board)) != PSCI_OPENED)
+            return 1;
+        printf("%zu %zu %zu\n", given, requests, most_given);
+        psci_close(&place);
+        if (given || requests)
+            return 1;
+    }
+    return 0;
+}
