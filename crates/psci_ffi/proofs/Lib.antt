@@ -1,6 +1,9 @@
 pub mod AsBox
+pub mod AsControllerBox
 pub mod AsPollerBox
 mod CodeRows
+pub mod ControllerCrossing
 pub mod Crossing
 mod PollerRows
+pub mod Switching
 pub mod Taking

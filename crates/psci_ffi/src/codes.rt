@@ -20,6 +20,9 @@ pub const NO_CAUSE: u32 = 21;
 /// The bytes are the frame of a message.
 pub const NOT_AN_ACK: u32 = 41;
 
+/// The bytes are the frame of an acknowledgement, where a message's are wanted.
+pub const NOT_A_MESSAGE: u32 = 42;
+
 /// What came of an opening: 0, or the number of the board text's fault, or 8 for want of memory.
 pub fn opened_code(opened: Result<(), BoardFault>) -> u32
     ensures { opened_said result ≡ opened }
