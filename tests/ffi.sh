@@ -1,11 +1,11 @@
-# The firmware as a C library, sourced by ../test after tests/program.sh: the archive that `rt lib`
+# The firmware and the power controller as a C library, sourced by ../test after tests/program.sh: the archive that `rt lib`
 # builds in crates/psci_ffi, and the hosts of hosts/ over it.
 
 archive=crates/psci_ffi/out/libpsci_ffi.a
 # what the archive may want of its user; how many bytes of text and data it may have, and a call of
 # stack
 wants='memcpy|memmove|memset|rattle_alloc|rattle_realloc|rattle_dealloc'
-most_text=65536
+most_text=98304
 most_stack=8192
 
 has_cc() { command -v cc > /dev/null || { skip "$1" cc; false; }; }
@@ -60,9 +60,15 @@ c_archive() {
         "$(awk '$2 > most { most = $2 } END { print most }' "$work/out")" "$most_stack"
 }
 
-# what no script comes to: tests/programs/library.c, which ends with the stack that a call took
+# what no script comes to: tests/programs/library.c, which ends with the stack that a call took, and
+# the same of the power controller
 c_calls() {
     has_cc "calls from C" || return
+    build_c controller tests/programs/controller.c || return
+    if "$work/controller" > "$work/out"; then pass; else
+        fail "tests/programs/controller.c"
+        head -n 20 "$work/out"
+    fi
     build_c library tests/programs/library.c || return
     if "$work/library" > "$work/out"; then pass; else
         fail "tests/programs/library.c"
@@ -72,22 +78,29 @@ c_calls() {
         "$(awk '$1 == "stack" { print $2 }' "$work/out")" "$most_stack"
 }
 
-# the firmware's side of each script that has no fault, and the story of hosts/boot.c
+# plays SOURCE FILE WORD..: this host gives the answers of a script that has no fault
+plays() {
+    local source=$1 file=$2 name=${2%.psci}
+    shift 2
+    if "$work/${source%.c}" "$file" "$@" > "$work/out" && cmp -s "$name.out" "$work/out"; then pass; else
+        fail "hosts/$source on $file"
+        diff "$name.out" "$work/out" | head -n 5
+    fi
+}
+
+# firmware and power controller in C on each script that has no fault; the power controller alone,
+# beside what the program's firmware said; and the story of hosts/boot.c
 c_hosts() {
     local file name
     has_cc "the hosts in C" || return
-    for name in loop boot; do
+    for name in loop ctl_loop boot; do
         build_c "$name" "hosts/$name.c" || return
     done
     for file in examples/*.psci tests/scripts/*/*.psci; do
         name=${file%.psci}
         [ ! -f "$name.status" ] || continue
-        if "$work/loop" "$file" "$name.out" > "$work/out" && cmp -s "$name.out" "$work/out"; then
-            pass
-        else
-            fail "hosts/loop.c on $file"
-            diff "$name.out" "$work/out" | head -n 5
-        fi
+        plays loop.c "$file"
+        plays ctl_loop.c "$file" "$name.out"
     done
     if "$work/boot" > "$work/out" && cmp -s hosts/boot.out "$work/out"; then pass; else
         fail "hosts/boot.c"
