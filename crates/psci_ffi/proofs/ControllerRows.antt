@@ -1,7 +1,8 @@
 -- Worked examples: what C is told of each call of a power controller, what a call and an opening
 -- leave in a place, and what is read of it.
 use Rattle.std.proofs.Common.{◌≡◌, ℕ, true, false, List, [], ◌∷◌, ◌++◌, map, refl, sym, ap, ◌∙◌, arith}
-use Rattle.std.proofs.Common.{subst, Option}
+use Rattle.std.proofs.Common.{subst}
+use Rattle.std.proofs.lemmas.Bool.{true≢false}
 use Rattle.std.specs.Prelude.{None, Some, Ok, Err, replicate}
 use Rattle.psci_board.specs.Board.{BoardValue, up}
 use Rattle.psci_board.specs.declared.node.Node.{Node}
@@ -342,10 +343,10 @@ opened-with-a-fault : Opens (Ok tt) (Err boards.Grammar) None (Some controller) 
 opened-with-a-fault h = h
 
 without-memory : Opens (Err boards.Memory) (Ok board) (Some controller) (Some controller)
-without-memory = (tt, refl)
+without-memory = (refl, refl)
 
 memory-before-the-fault : Opens (Err boards.Memory) (Err boards.Grammar) None None → ⊥
-memory-before-the-fault h = h.0
+memory-before-the-fault h = true≢false (sym h.0)
 
 emptied-by-a-fault : Opens (Err boards.Grammar) (Err boards.Grammar) (Some controller) None → ⊥
 emptied-by-a-fault h = let e : ◌≡◌ {A = ℕ} 0 1 = ap is-full h.1 in omega arith
