@@ -89,11 +89,11 @@ plays() {
 }
 
 # firmware and power controller in C on each script that has no fault; the power controller alone,
-# beside what the program's firmware said; and the story of hosts/boot.c
+# beside what the program's firmware said; and the stories of hosts/boot.c and hosts/stop.c
 c_hosts() {
     local file name
     has_cc "the hosts in C" || return
-    for name in loop ctl_loop boot; do
+    for name in loop ctl_loop boot stop; do
         build_c "$name" "hosts/$name.c" || return
     done
     for file in examples/*.psci tests/scripts/*/*.psci; do
@@ -102,8 +102,10 @@ c_hosts() {
         plays loop.c "$file"
         plays ctl_loop.c "$file" "$name.out"
     done
-    if "$work/boot" > "$work/out" && cmp -s hosts/boot.out "$work/out"; then pass; else
-        fail "hosts/boot.c"
-        diff hosts/boot.out "$work/out" | head -n 5
-    fi
+    for name in boot stop; do
+        if "$work/$name" > "$work/out" && cmp -s "hosts/$name.out" "$work/out"; then pass; else
+            fail "hosts/$name.c"
+            diff "hosts/$name.out" "$work/out" | head -n 5
+        fi
+    done
 }
