@@ -65,7 +65,7 @@ const _: () = prove!(size_of::<DomainDepth>() == 8);
 const _: () = prove!(size_of::<ControllerAnswer>() == 112);
 
 /// No start.
-const NO_START: ControllerStart = ControllerStart {
+pub const NO_START: ControllerStart = ControllerStart {
     core: 0,
     life: 0,
     number: 0,
@@ -94,38 +94,33 @@ pub const OFF: u32 = 3;
 /// The next life begins.
 pub const RESTART: u32 = 4;
 
-/// An answer without a start and domains.
-pub fn plain(what: u32, ack: SomeFrame) -> ControllerAnswer
-    ensures { result ≡ plain what ack }
+/// Writes a refusal.
+pub fn refuse(answer: &mut ControllerAnswer, what: u32)
+    ensures { answer.new ≡ refused what }
 {
-    ControllerAnswer {
-        what,
-        start: NO_START,
-        many: 0,
-        domains: [NO_DOMAIN; 4],
-        ack,
-    }
+    answer.ack = no_frame();
+    write_plain(answer, what);
 }
 
-/// A refusal.
-pub fn refused(what: u32) -> ControllerAnswer
-    ensures { result ≡ refused what }
+/// Writes this number, without a start and domains.
+pub fn write_plain(answer: &mut ControllerAnswer, what: u32)
+    ensures { answer.new ≡ plain what answer.old.ack }
 {
-    plain(what, no_frame())
+    answer.what = what;
+    answer.start = NO_START;
+    answer.many = 0;
+    answer.domains = [NO_DOMAIN; 4];
 }
 
-/// A core of this power controller was started.
-pub fn started(what: u32, controller: &Controller, core: Core, ack: SomeFrame) -> ControllerAnswer
+/// Writes that a core of this power controller was started.
+pub fn write_started(answer: &mut ControllerAnswer, what: u32, controller: &Controller, core: Core)
     requires { core.number < cores controller.now.board }
-    ensures { result ≡ started what (seen controller.now) core.number ack }
+    ensures { answer.new ≡ started what (seen controller.now) core.number answer.old.ack }
 {
-    ControllerAnswer {
-        what,
-        start: start_of(core, controller.started(core)),
-        many: 0,
-        domains: [NO_DOMAIN; 4],
-        ack,
-    }
+    answer.what = what;
+    answer.start = start_of(core, controller.started(core));
+    answer.many = 0;
+    answer.domains = [NO_DOMAIN; 4];
 }
 
 /// The start of a core, if there is one.
@@ -155,12 +150,10 @@ fn cause_number(cause: Cause) -> u32
     }
 }
 
-/// The frame of an acknowledgement.
-pub fn ack_frame(ack: &Ack) -> SomeFrame
-    ensures { result ≡ ack_frame ack.now }
+/// Writes the frame of an acknowledgement.
+pub fn write_ack(frame: &mut SomeFrame, ack: &Ack)
+    ensures { frame.new ≡ ack_frame ack.now }
 {
-    SomeFrame {
-        some: true,
-        bytes: encode(&Frame::Ack(ack.copy())),
-    }
+    frame.some = true;
+    frame.bytes = encode(&Frame::Ack(ack.copy()));
 }

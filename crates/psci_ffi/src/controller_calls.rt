@@ -6,7 +6,7 @@ ghost use Rattle.psci_ffi.specs.ControllerCalls.{IsGivenTo, IsKicked};
 
 use crate::codes::{NO_FIRMWARE, refusal};
 use crate::controller_acting::{give, reset, wake};
-use crate::controller_answer::{ControllerAnswer, refused};
+use crate::controller_answer::{ControllerAnswer, refuse};
 use crate::controller_place::ControllerPlace;
 use psci_board::Core;
 use psci_fw::FwFault;
@@ -24,10 +24,10 @@ pub extern "C" fn psci_ctl_deliver(
     ensures { IsGivenTo place.old.slot.kept frame.now answer.new place.new.slot.kept }
 {
     let Some(mut controller) = place.take(alloc) else {
-        *answer = refused(NO_FIRMWARE);
+        refuse(answer, NO_FIRMWARE);
         return;
     };
-    *answer = give(&mut controller, frame);
+    give(&mut controller, frame, answer);
     place.put(controller);
 }
 
@@ -45,13 +45,13 @@ pub extern "C" fn psci_ctl_wake(
         place.new.slot.kept }
 {
     let Some(mut controller) = place.take(alloc) else {
-        *answer = refused(NO_FIRMWARE);
+        refuse(answer, NO_FIRMWARE);
         return;
     };
-    *answer = match controller.board().core(core) {
-        Some(core) => wake(&mut controller, core, halted),
-        None => refused(refusal(FwFault::NoCore)),
-    };
+    match controller.board().core(core) {
+        Some(core) => wake(&mut controller, core, halted, answer),
+        None => refuse(answer, refusal(FwFault::NoCore)),
+    }
     place.put(controller);
 }
 
@@ -67,12 +67,12 @@ pub extern "C" fn psci_ctl_reset(
         place.new.slot.kept }
 {
     let Some(mut controller) = place.take(alloc) else {
-        *answer = refused(NO_FIRMWARE);
+        refuse(answer, NO_FIRMWARE);
         return;
     };
-    *answer = match controller.board().core(core) {
-        Some(core) => reset(&mut controller, core),
-        None => refused(refusal(FwFault::NoCore)),
-    };
+    match controller.board().core(core) {
+        Some(core) => reset(&mut controller, core, answer),
+        None => refuse(answer, refusal(FwFault::NoCore)),
+    }
     place.put(controller);
 }

@@ -1,13 +1,14 @@
 //! Making a power controller, and letting it go.
 
-ghost use Rattle.std.specs.Prelude.{◌≡◌, None};
+ghost use Rattle.std.specs.Prelude.{◌≡◌, None, IfErr, IfOk, IsSomeAnd};
 ghost use Rattle.psci_board_text.specs.Verdict.{board_of};
 ghost use Rattle.psci_ffi.specs.Codes.{opened_said};
-ghost use Rattle.psci_ffi.specs.ControllerCalls.{Opens};
+ghost use Rattle.psci_ffi.specs.ControllerCalls.{IsFirst, Opens};
 
 use crate::codes::opened_code;
 use crate::controller_place::ControllerPlace;
 use crate::opening::read;
+use psci_board::{Board, Memory};
 use psci_board_text::BoardFault;
 use psci_ctl::Controller;
 use std::alloc::Global;
@@ -36,11 +37,16 @@ fn open(alloc: Global, place: &mut ControllerPlace, text: &[u8]) -> Result<(), B
     ensures { Opens result (board_of text.now) place.old.slot.kept place.new.slot.kept }
 {
     let board = read(alloc, text)?;
-    let controller = Controller::new(alloc, &board)?;
-    let Ok(boxed) = Box::new(alloc, controller) else {
-        return Err(BoardFault::Memory);
-    };
+    Ok(renew(alloc, place, &board)?)
+}
+
+/// Puts a new power controller of this board into the place, if there is memory.
+fn renew(alloc: Global, place: &mut ControllerPlace, board: &Board) -> Result<(), Memory>
+    ensures done { IfOk result (λ _. IsSomeAnd place.new.slot.kept (IsFirst board.now)) }
+    ensures same { IfErr result (λ _. place.new.slot.kept ≡ place.old.slot.kept) }
+{
+    let controller = Box::new(alloc, Controller::new(alloc, board)?)?;
     drop(place.take(alloc));
-    place.put(boxed);
+    place.put(controller);
     Ok(())
 }
