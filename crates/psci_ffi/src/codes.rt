@@ -8,7 +8,7 @@ use psci_board_text::BoardFault;
 use psci_fw::{Cause, FwFault, Hw, Status, Taken};
 use psci_link::FrameFault;
 
-/// There is no firmware in the place.
+/// The place is empty.
 pub const NO_FIRMWARE: u32 = 16;
 
 /// Memory lacks.
