@@ -1,7 +1,7 @@
-/* ctl_loop SCRIPT ANSWERS: plays the power controller's side of a script. Messages, wake-ups and resets
- * go to the library; what the firmware says, and so which messages there are, is taken from the answers
- * that the program gave. Writes the answer lines: the program's, where the library answers as the
- * program does. It uses the power controller's half of the archive alone. */
+/* ctl_loop SCRIPT ANSWERS: plays the power controller's side of a script. Messages, wake-ups and
+ * resets go to the library; what the firmware says, and so which messages there are, is taken from
+ * the answers that the program gave. Writes the answer lines: the program's, where the library
+ * answers as the program does. It uses the power controller's half of the archive alone. */
 #include "pool.h"
 #include "psci_ctl.h"
 
@@ -65,8 +65,9 @@ static void note_message(const char *said) {
     const char *at = strchr(said, '#');
     if (!at)
         return;
-    if (many_messages == MOST_FRAMES || sscanf(at, "#%" SCNu64 " %7s %u life %" SCNu32 " number %" SCNu32,
-            &index, kind, &core, &life, &number) != 5 || index != many_messages)
+    int found = sscanf(at, "#%" SCNu64 " %7s %u life %" SCNu32 " number %" SCNu32, &index, kind,
+                       &core, &life, &number);
+    if (found != 5 || index != many_messages || many_messages == MOST_FRAMES)
         fail("a message is not as it should be");
     uint8_t *frame = messages[many_messages++], *to = put(frame, 0x5044, 2);
     to = put(put(put(put(to, kind_of(kind), 1), core, 1), life, 4), number, 4) + 1;

@@ -1,7 +1,7 @@
-/* loop SCRIPT: plays a script. Calls, entries and acknowledgements go to the library's firmware, and
- * messages, wake-ups and resets to its power controller. Writes the answer lines: the program's, where
- * the library answers as the program does. After each event every core is polled, and has to be what
- * the firmware says. */
+/* loop SCRIPT: plays a script. Calls, entries and acknowledgements go to the library's firmware,
+ * and messages, wake-ups and resets to its power controller. Writes the answer lines: the program's,
+ * where the library answers as the program does. After each event every core is polled, and has to
+ * be what the firmware says. */
 #include "pool.h"
 #include "psci_ctl.h"
 

@@ -1,7 +1,7 @@
 /* Why a Down waits until its core stands in its stop, with two threads: a core, and the control
- * processor that has its power. The core sends its Down from inside the monitor, with the lock taken,
- * and comes to its WFI later: here always after the control processor has seen the message. The last
- * thing that it writes is that it stands in its stop. First each Down is delivered once that is so;
+ * processor that has its power. The core sends its Down from inside the monitor, with the lock
+ * taken, and comes to its WFI later: here always after the control processor has seen the message.
+ * The last thing that it writes is that it stands in its stop. First each Down is delivered once that is so;
  * then, for one turn, at once. Prints how often a core was cut inside the monitor. */
 #include "pool.h"
 #include "psci_ctl.h"
@@ -23,8 +23,8 @@ static uint8_t mailbox[PSCI_FRAME_LEN];
 static atomic_bool some_mail;
 
 /* What the two tell each other, by the number of a start: the last one that the control processor
- * let the core out of reset by, the last one whose Down it has seen, and the last one in which the core
- * stands in its stop. */
+ * let the core out of reset by, the last one whose Down it has seen, and the last one in which the
+ * core stands in its stop. */
 static atomic_uint opened, seen, stopped;
 
 static atomic_bool in_monitor;
@@ -77,7 +77,7 @@ static void *run_core(void *turns) {
 /* The start in which the core of a frame sent it, its number's last byte and the one above. */
 static uint32_t number_of(const uint8_t *frame) { return frame[10] << 8 | frame[11]; }
 
-/* A Down of the core's present start waits for the stop. One of an earlier start may go: it is stale. */
+/* A Down of the core's present start waits for the stop. One of an earlier start may go, as stale. */
 static bool may_deliver(const uint8_t *frame) {
     uint32_t number = number_of(frame);
     return frame[2] != 1 || number != psci_ctl_starts(&controller, frame[3])

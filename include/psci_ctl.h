@@ -1,20 +1,20 @@
-/* The power controller for C, in the same archive as the firmware: crates/psci_ffi/out/libpsci_ffi.a.
- * A program may use both halves or one alone. docs/PORTING.md says what a port gives and gets. Calls
- * on one place may not overlap: hold a lock around each. */
+/* The power controller for C, in the archive of the firmware: crates/psci_ffi/out/libpsci_ffi.a. A
+ * program may use both halves or one alone. docs/PORTING.md says what a port gives and gets. Calls on
+ * one place may not overlap: hold a lock around each. */
 #ifndef GUMDARTS_PSCI_CTL_H
 #define GUMDARTS_PSCI_CTL_H
 
 #include "psci.h"
 
-/* A place for a power controller; all zero is empty. Only the calls below read or write it, and it is
- * never copied. Each pointer that is given to a call is of valid memory of its own, never null. */
+/* A place for a power controller; all zero is empty. Only the calls below read or write it, and it
+ * is never copied. Each pointer that is given to a call is of valid memory of its own, never null. */
 struct psci_ctl_place {
     void *controller;
     bool full;
 };
 
-/* What the power hardware does next, before the acknowledgement goes back. From PSCI_CTL_NO_PLACE on
- * the call was refused, and nothing changed; other refusals have the names of psci.h:
+/* What the power hardware does next, before the acknowledgement goes back. From PSCI_CTL_NO_PLACE
+ * on the call was refused, and nothing changed; other refusals have the names of psci.h:
  * PSCI_NO_CORE, and PSCI_FRAME_LENGTH to PSCI_FRAME_LEVEL. */
 enum {
     PSCI_CTL_NOTHING = 0, /* nothing: what came is ignored, or came too late */
@@ -56,24 +56,27 @@ _Static_assert(sizeof(struct psci_ctl_start) == 16, "a start");
 _Static_assert(sizeof(struct psci_ctl_domain) == 8, "a domain");
 _Static_assert(sizeof(struct psci_ctl_answer) == 112, "a power controller's answer");
 
-/* Puts a new power controller of the board that the text describes into the place, and frees the one
- * that was there. Its first life has begun: the boot core is started, by the start that
+/* Puts a new power controller of the board that the text describes into the place, and frees the
+ * one that was there. Its first life has begun: the boot core is started, by the start that
  * psci_ctl_started tells. PSCI_OPENED to PSCI_NO_MEMORY. */
 uint32_t psci_ctl_open(struct psci_ctl_place *, const uint8_t *text, size_t length);
 
 /* Frees the power controller in the place. */
 void psci_ctl_close(struct psci_ctl_place *);
 
-/* A message of the firmware arrives. A Down may be delivered only once its core stands in its stop. */
+/* A message of the firmware arrives. A Down of its core's present start may be delivered only once
+ * the core stands in its stop. */
 void psci_ctl_deliver(struct psci_ctl_place *, const uint8_t *frame, size_t length,
                       struct psci_ctl_answer *);
 
-/* A core has a wake-up event, after it stopped in its start of this number, 0 where it was not started
- * in this life. PSCI_CTL_START, or PSCI_CTL_NOTHING where it was started since, or can't be once more. */
+/* A core has a wake-up event, after it stopped in its start of this number, 0 where it was not
+ * started in this life. PSCI_CTL_START, or PSCI_CTL_NOTHING where it was started since, or can't be
+ * once more. */
 void psci_ctl_wake(struct psci_ctl_place *, uint16_t core, uint32_t halted,
                    struct psci_ctl_answer *);
 
-/* A core is reset by itself. PSCI_CTL_START, or PSCI_CTL_NOTHING where it can't be started once more. */
+/* A core is reset by itself. PSCI_CTL_START, or PSCI_CTL_NOTHING where it can't be started once
+ * more. */
 void psci_ctl_reset(struct psci_ctl_place *, uint16_t core, struct psci_ctl_answer *);
 
 /* What is read. An empty place is as one whose system is off. */

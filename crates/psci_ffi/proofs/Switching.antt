@@ -23,7 +23,8 @@ within_take most zero ps h = refl
 within_take most (suc n) [] h = refl
 within_take most (suc n) (p ∷ ps) h =
     let both = and_parts (nat_le p.level most) (is_within most ps) h in
-    and_from (nat_le p.level most) (is_within most (take n ps)) both.0 (within_take most n ps both.1)
+    and_from (nat_le p.level most) (is_within most (take n ps)) both.0
+    (within_take most n ps both.1)
 
 -- each of them is no higher
 pub within_at : (most k : ℕ) (ps : List Part) (p : Part) → is_within most ps ≡ true

@@ -1,6 +1,6 @@
 -- What a call of a power controller answers and leaves, and the same of a place.
-use Rattle.std.specs.Prelude.{◌≡◌, ℕ, Bool, true, false, nat_lt, List, Option, None, Some, IsSomeAnd}
-use Rattle.std.specs.Prelude.{Result, Ok, Err, IsOk}
+use Rattle.std.specs.Prelude.{◌≡◌, ℕ, Bool, true, false, nat_lt, List, Option, None, Some}
+use Rattle.std.specs.Prelude.{IsSomeAnd, Result, Ok, Err, IsOk}
 use Rattle.psci_board.specs.Board.{BoardValue, cores}
 use Rattle.psci_board_text.specs.declared.fault.BoardFault.{BoardFault}
 use Rattle.psci_board_text.specs.declared.fault.BoardFault.TheVariants.{Memory}

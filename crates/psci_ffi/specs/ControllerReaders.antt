@@ -44,4 +44,5 @@ depth_said true (Some life) depth = depth
 -- how deep a core's domain or a power domain is
 abbrev pub depth_read : KeptController → Node → ℕ
 depth_read None n = no_firmware
-depth_read (Some c) n = depth_said (has_node c.board n) (seen c).life ((seen c).depth n.level n.place)
+depth_read (Some c) n =
+    depth_said (has_node c.board n) (seen c).life ((seen c).depth n.level n.place)

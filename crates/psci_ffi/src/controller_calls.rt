@@ -12,8 +12,8 @@ use psci_board::Core;
 use psci_fw::FwFault;
 use std::alloc::Global;
 
-/// Delivers the message whose frame these bytes are. From 16 on it was refused, and nothing changed:
-/// 33 to 40 are the faults of frames, 42 says the frame of an acknowledgement.
+/// Delivers the message whose frame these bytes are. From 16 on it was refused, and nothing
+/// changed: 33 to 40 are the faults of frames, 42 says the frame of an acknowledgement.
 #[unsafe(no_mangle)]
 pub extern "C" fn psci_ctl_deliver(
     alloc: Global,

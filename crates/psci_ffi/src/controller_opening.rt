@@ -14,8 +14,8 @@ use psci_ctl::Controller;
 use std::alloc::Global;
 
 /// Puts a new power controller of the board that the text describes into the place, as its first
-/// life begins, and frees the one that was there: 0. Else the number of the text's first fault, or 8
-/// where memory lacks, and nothing changes.
+/// life begins, and frees the one that was there: 0. Else the number of the text's first fault, or
+/// 8 where memory lacks, and nothing changes.
 #[unsafe(no_mangle)]
 pub extern "C" fn psci_ctl_open(alloc: Global, place: &mut ControllerPlace, text: &[u8]) -> u32
     ensures { Opens (opened_said result) (board_of text.now) place.old.slot.kept
