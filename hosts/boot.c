@@ -135,19 +135,18 @@ static void power_up(unsigned core) {
     on_start(core, start.life, start.number, start.cause);
 }
 
-/* What the power hardware does. The acknowledgement of a message goes back before a core that it
- * started enters. */
+/* What the power hardware does. The acknowledgement of a Down goes back once its domains are as deep,
+ * that of a Start here before the core enters. */
 static void switch_power(const struct psci_ctl_answer *answer) {
+    for (unsigned k = 0; k < answer->many; k++)
+        printf("domain %" PRIu32 ":%u goes to %u\n", answer->domains[k].level,
+               answer->domains[k].index, answer->domains[k].depth);
     if (answer->ack.some)
         on_ack(answer->ack.bytes);
     switch (answer->what) {
-    case PSCI_CTL_NOTHING: break;
+    case PSCI_CTL_NOTHING:
+    case PSCI_CTL_SWITCH: break;
     case PSCI_CTL_START: power_up(answer->start.core); break;
-    case PSCI_CTL_SWITCH:
-        for (unsigned k = 0; k < answer->many; k++)
-            printf("domain %" PRIu32 ":%u goes to %u\n", answer->domains[k].level,
-                   answer->domains[k].index, answer->domains[k].depth);
-        break;
     case PSCI_CTL_OFF: memset(cpus, 0, sizeof cpus); break;
     case PSCI_CTL_RESTART:
         memset(cpus, 0, sizeof cpus);
