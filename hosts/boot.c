@@ -1,8 +1,8 @@
 /* What a monitor does with the firmware: an exception handler at EL3, or a hypervisor's loop of
- * exits. The machine is played: four cores in two clusters, an operating system of some calls in a
- * row, and a power controller that keeps to the rules of docs/PORTING.md. Prints what happens. */
+ * exits; and what a control processor does with the power controller. The machine is played: four
+ * cores in two clusters, and an operating system of some calls in a row. Prints what happens. */
 #include "pool.h"
-#include "psci.h"
+#include "psci_ctl.h"
 
 #include <inttypes.h>
 #include <stdatomic.h>
@@ -10,7 +10,7 @@
 #include <stdlib.h>
 #include <string.h>
 
-enum { CORES = 4, LEVELS = 3, STARTS = 1000, LIVES = 3 };
+enum { CORES = 4, LEVELS = 3 };
 static const char board[] = "(2 2) exec 0x40000000-0x40100000 boot 0x40000000 starts 1000 lives 3";
 
 /* The monitor -------------------------------------------------------------------------------- */
@@ -126,95 +126,59 @@ static void on_ack(const uint8_t *frame) {
 
 /* The power controller ----------------------------------------------------------------------- */
 
-static uint32_t life, starts[CORES];
-static uint8_t depths[LEVELS][CORES];
+static struct psci_ctl_place controller;
 
-/* A core of a level has this many cores below each of its domains. */
-static unsigned width(unsigned level) { return 1u << level; }
-
-static uint64_t starts_below(unsigned core, unsigned level) {
-    uint64_t sum = 0;
-    for (unsigned k = 0; k < CORES; k++)
-        if (k / width(level) == core / width(level))
-            sum += starts[k];
-    return sum;
+/* A core is powered up: it comes to its reset vector, and finds its start. */
+static void power_up(unsigned core) {
+    struct psci_ctl_start start;
+    psci_ctl_started(&controller, core, &start);
+    on_start(core, start.life, start.number, start.cause);
 }
 
-/* Each domain one level down is at least as deep. */
-static bool is_covered(unsigned core, unsigned level, uint8_t depth) {
-    if (level == 0)
-        return true;
-    const uint8_t *below = depths[level - 1] + core / width(level) * 2;
-    return below[0] >= depth && below[1] >= depth;
-}
-
-/* A core is started: its path is fully on, and it comes to its reset vector. */
-static void start(unsigned core, uint32_t cause) {
-    for (unsigned level = 0; level < LEVELS; level++)
-        depths[level][core / width(level)] = 0;
-    on_start(core, life, ++starts[core], cause);
-}
-
-static void begin_life(void) {
-    life++;
-    memset(starts, 0, sizeof starts);
-    memset(depths, 3, sizeof depths);
-    memset(cpus, 0, sizeof cpus);
-    start(0, PSCI_BOOT);
-}
-
-static uint64_t number_at(const uint8_t *bytes, int length) {
-    uint64_t number = 0;
-    for (int i = 0; i < length; i++)
-        number = number << 8 | bytes[i];
-    return number;
-}
-
-/* Part by part: how many were applied, and whether the first that was not is out of date. */
-static uint8_t take_down(const uint8_t *frame, bool *stale) {
-    unsigned core = frame[3], level = 0;
-    for (; level < frame[12]; level++) {
-        const uint8_t *part = frame + 13 + 10 * level;
-        *stale = number_at(part + 2, 8) != starts_below(core, level);
-        if (*stale || !is_covered(core, level, part[1]))
-            return level;
-        depths[level][core / width(level)] = part[1];
+/* What the power hardware does. The acknowledgement of a Down goes back once its domains are as deep,
+ * that of a Start here before the core enters. */
+static void switch_power(const struct psci_ctl_answer *answer) {
+    for (unsigned k = 0; k < answer->many; k++)
+        printf("domain %" PRIu32 ":%u goes to %u\n", answer->domains[k].level,
+               answer->domains[k].index, answer->domains[k].depth);
+    if (answer->ack.some)
+        on_ack(answer->ack.bytes);
+    switch (answer->what) {
+    case PSCI_CTL_NOTHING:
+    case PSCI_CTL_SWITCH: break;
+    case PSCI_CTL_START: power_up(answer->start.core); break;
+    case PSCI_CTL_OFF: memset(cpus, 0, sizeof cpus); break;
+    case PSCI_CTL_RESTART:
+        memset(cpus, 0, sizeof cpus);
+        power_up(answer->start.core);
+        break;
+    default: /* the link has changed a frame, or the two boards are not the same */
+        fail("refused by the power controller", answer->what);
     }
-    return level;
 }
 
-/* Carries a message out, if it is of this life, and acknowledges it. */
-static void deliver(const uint8_t *frame) {
-    uint8_t ack[PSCI_FRAME_LEN] = {0}, applied = 1;
-    bool stale = false;
-    if (number_at(frame + 4, 4) != life)
-        return;
-    if (frame[2] == 1)
-        applied = take_down(frame, &stale);
-    bool starts_one = frame[2] == 2 && starts[frame[3]] == number_at(frame + 8, 4)
-        && starts[frame[3]] < STARTS;
-    if (frame[2] == 2 && !starts_one)
-        applied = 0, stale = true;
-    memcpy(ack, frame, 12);
-    ack[2] |= stale ? 0x20 : 0x10;
-    ack[12] = applied;
-    on_ack(ack);
-    if (starts_one)
-        start(frame[3], PSCI_ON);
-    if (frame[2] == 4 && life < LIVES)
-        begin_life();
-    else if (frame[2] >= 3)
-        life = 0, memset(cpus, 0, sizeof cpus);
+/* A core that stopped is woken up, as by its interrupt: it stopped in its last start. */
+static void wake(unsigned core) {
+    struct psci_ctl_answer answer;
+    psci_ctl_wake(&controller, core, psci_ctl_starts(&controller, core), &answer);
+    switch_power(&answer);
 }
 
 /* All that is in the mailbox. */
 static void serve(void) {
-    while (box.first != box.end)
-        deliver(box.frames[box.first++ % 64]);
+    struct psci_ctl_answer answer;
+    while (box.first != box.end) {
+        psci_ctl_deliver(&controller, box.frames[box.first++ % 64], PSCI_FRAME_LEN, &answer);
+        switch_power(&answer);
+    }
+    if (!psci_ctl_life(&controller)) {
+        printf("the system is off\n");
+        return;
+    }
     printf("depths");
     for (unsigned level = 0; level < LEVELS; level++)
-        for (unsigned k = 0; k < CORES / width(level); k++)
-            printf(" %u", depths[level][k]);
+        for (unsigned index = 0; index < (unsigned)CORES >> level; index++)
+            printf(" %" PRIu32, psci_ctl_depth(&controller, level, index));
     printf("\n");
 }
 
@@ -228,28 +192,30 @@ static void smc(unsigned core, uint64_t x0, uint64_t x1, uint64_t x2, uint64_t x
 }
 
 int main(void) {
-    size_t size = pool_size(CORES);
+    size_t size = 2 * pool_size(CORES);
     pool_give(malloc(size), size);
+    if (psci_ctl_open(&controller, (const uint8_t *)board, strlen(board)) != PSCI_OPENED)
+        fail("no power controller", 0);
     uint32_t opened = psci_open(&firmware, (const uint8_t *)board, strlen(board));
     if (opened != PSCI_OPENED)
         fail("no firmware", opened);
     for (unsigned core = 0; core < CORES; core++)
         if (psci_open_poller(&firmware, &pollers[core]) != PSCI_OPENED)
             fail("no poller", core);
-    begin_life();
+    power_up(0);
     smc(0, 0x84000000, 0, 0, 0);                   /* PSCI_VERSION */
     smc(0, 0xc4000003, 0x101, 0x40001000, 7);      /* CPU_ON of core 3 */
     smc(0, 0xc4000004, 0x101, 0, 0);               /* AFFINITY_INFO of it: ON_PENDING */
     serve();
     smc(3, 0xc4000001, 2, 0, 0);                   /* CPU_SUSPEND: retention of the core */
     serve();
-    start(3, PSCI_WAKE);
+    wake(3);
     smc(3, 0xc4000001, 0x02010333, 0x40002000, 8); /* power-down, up to the system */
     smc(0, 0xc4000001, 0x02010333, 0x40003000, 9);
     serve();
-    start(0, PSCI_WAKE);
+    wake(0);
     smc(0, 0xc4000004, 0x101, 0, 0);               /* AFFINITY_INFO of core 3 */
-    start(3, PSCI_WAKE);
+    wake(3);
     smc(3, 0x84000002, 0, 0, 0);                   /* CPU_OFF */
     smc(0, 0xc400000d, 0x101, 0, 0);               /* NODE_HW_STATE: on, until it is confirmed */
     serve();
@@ -261,6 +227,7 @@ int main(void) {
     smc(0, 0x84000008, 0, 0, 0);                   /* SYSTEM_OFF */
     serve();
     psci_close(&firmware);
+    psci_ctl_close(&controller);
     for (unsigned core = 0; core < CORES; core++)
         psci_close_poller(&pollers[core]);
     return 0;

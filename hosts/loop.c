@@ -1,9 +1,9 @@
-/* loop SCRIPT ANSWERS: plays the firmware's side of a script. Calls, entries and acknowledgements
- * go to the library; what the power controller says is taken from the answers that the program
- * gave. Writes the answer lines: the program's, where the library answers as the program does. After
- * each event every core is polled, and has to be what the firmware says. */
+/* loop SCRIPT: plays a script. Calls, entries and acknowledgements go to the library's firmware,
+ * and messages, wake-ups and resets to its power controller. Writes the answer lines: the program's,
+ * where the library answers as the program does. After each event every core is polled, and has to
+ * be what the firmware says. */
 #include "pool.h"
-#include "psci.h"
+#include "psci_ctl.h"
 
 #include <inttypes.h>
 #include <stdio.h>
@@ -22,8 +22,9 @@ static struct core {
 
 static struct psci_place place;
 static struct psci_poller poller;
+static struct psci_ctl_place controller;
 static unsigned many_cores;
-static uint32_t life, lives;
+static uint32_t life;
 static uint8_t messages[MOST_FRAMES][PSCI_FRAME_LEN], acks[MOST_FRAMES][PSCI_FRAME_LEN];
 static uint64_t many_messages, many_acks;
 
@@ -91,9 +92,10 @@ static void poll_all(void) {
 
 static void open_board(const char *text) {
     read_cores(text);
-    lives = strtoul(strstr(text, " lives ") + 7, NULL, 10);
-    size_t size = pool_size(many_cores);
+    size_t size = 2 * pool_size(many_cores);
     pool_give(malloc(size), size);
+    if (psci_ctl_open(&controller, (const uint8_t *)text, strlen(text)) != PSCI_OPENED)
+        fail("the power controller did not open");
     if (psci_open(&place, (const uint8_t *)text, strlen(text)) != PSCI_OPENED)
         fail("the board did not open");
     if (psci_open_poller(&place, &poller) != PSCI_OPENED)
@@ -168,44 +170,57 @@ static void take(uint64_t k) {
     printf(taken == PSCI_USED ? "used" : "old");
 }
 
-/* What the power controller has carried out of a message. */
-static void carried_out(const uint8_t *message, unsigned applied) {
-    if (message[2] == 2 && applied)
-        start(message[3], number_of(message) + 1, PSCI_ON);
-    if (message[2] == 4 && life < lives) {
-        begin_life();
-    } else if (message[2] >= 3) {
+/* What the power controller has carried out: which cores it started. */
+static void carry_out(const struct psci_ctl_answer *answer) {
+    if (answer->what >= PSCI_CTL_NO_PLACE)
+        fail("the power controller refused a call");
+    if (answer->what == PSCI_CTL_OFF)
         stop_all();
-    }
+    if (answer->what == PSCI_CTL_RESTART)
+        begin_life();
+    if (answer->what == PSCI_CTL_START)
+        start(answer->start.core, answer->start.number, answer->start.cause);
+    uint32_t present = psci_ctl_life(&controller);
+    if (present && present != life)
+        fail("the power controller is in another life");
 }
 
-/* The power controller says this of message k: its acknowledgement is the message's frame, with
- * what was applied and without parts. */
-static void deliver(uint64_t k, const char *said) {
-    uint64_t index;
-    unsigned applied;
-    printf("%s", said);
-    if (sscanf(said, "ack #%" SCNu64 " applied %u", &index, &applied) != 2)
+static void deliver(uint64_t k) {
+    struct psci_ctl_answer answer;
+    if (k >= many_messages) {
+        printf("absent");
         return;
+    }
+    psci_ctl_deliver(&controller, messages[k], PSCI_FRAME_LEN, &answer);
+    carry_out(&answer);
+    if (!answer.ack.some) {
+        printf("ignored");
+        return;
+    }
     if (many_acks == MOST_FRAMES)
         fail("too many acknowledgements");
-    uint8_t *ack = acks[many_acks++];
-    memcpy(ack, messages[k], 12);
-    ack[2] |= strstr(said, " stale") ? 0x20 : 0x10;
-    ack[12] = applied;
-    carried_out(messages[k], applied);
+    printf("ack #%" PRIu64 " applied %u", many_acks, answer.ack.bytes[12]);
+    if (answer.ack.bytes[2] & 0x20)
+        printf(" stale");
+    memcpy(acks[many_acks++], answer.ack.bytes, PSCI_FRAME_LEN);
 }
 
-/* The power controller says this of a wake-up or a reset. */
-static void kick(unsigned core, uint32_t cause, const char *said) {
-    uint32_t number;
-    printf("%s", said);
-    if (sscanf(said, "started %" SCNu32, &number) == 1)
-        start(core, number, cause);
+/* A wake-up of a core that is stopped, or a reset of any. */
+static void kick(unsigned core, uint32_t cause) {
+    struct psci_ctl_answer answer = {0};
+    if (cause == PSCI_RESET)
+        psci_ctl_reset(&controller, core, &answer);
+    else if (cores[core].place == STOPPED)
+        psci_ctl_wake(&controller, core, psci_ctl_starts(&controller, core), &answer);
+    carry_out(&answer);
+    if (answer.what == PSCI_CTL_START)
+        printf("started %" PRIu32, answer.start.number);
+    else
+        printf("ignored");
 }
 
-/* One event, and what the program said of it. */
-static void event(char *line, const char *said) {
+/* One event. */
+static void event(char *line) {
     char *words = strchr(line, ' ');
     uint64_t number = strtoull(words, &words, 10);
     bool names_a_core = strchr("cewr", *line) != NULL;
@@ -218,32 +233,29 @@ static void event(char *line, const char *said) {
     else if (*line == 't')
         take(number);
     else if (*line == 'd')
-        deliver(number, said);
+        deliver(number);
     else
-        kick(number, *line == 'w' ? PSCI_WAKE : PSCI_RESET, said);
+        kick(number, *line == 'w' ? PSCI_WAKE : PSCI_RESET);
     putchar('\n');
     poll_all();
 }
 
 int main(int count, char **words) {
-    static char line[MOST_LINE], answer[MOST_LINE];
-    FILE *script = count == 3 ? fopen(words[1], "r") : NULL;
-    FILE *answers = count == 3 ? fopen(words[2], "r") : NULL;
-    if (!script || !answers)
-        fail("give a script and its answers");
+    static char line[MOST_LINE];
+    FILE *script = count == 2 ? fopen(words[1], "r") : NULL;
+    if (!script)
+        fail("give a script");
     for (uint64_t at = 0, events = 0; fgets(line, sizeof line, script); at++) {
         line[strcspn(line, "\n")] = 0;
         if (at == 0) {
             open_board(line + strlen("board "));
         } else if (*line && *line != '#') {
-            if (!fgets(answer, sizeof answer, answers))
-                fail("there are fewer answers than events");
-            answer[strcspn(answer, "\n")] = 0;
             printf("%" PRIu64 " ", ++events);
-            event(line, strchr(answer, ' ') + 1);
+            event(line);
         }
     }
     psci_close(&place);
     psci_close_poller(&poller);
+    psci_ctl_close(&controller);
     return 0;
 }

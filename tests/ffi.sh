@@ -1,5 +1,6 @@
-# The firmware as a C library, sourced by ../test after tests/program.sh: the archives that
-# `./psci prove lib` builds in out/lib/, and the hosts of hosts/ over that for this machine.
+# The firmware and the power controller as a C library, sourced by ../test after tests/program.sh: the
+# archives that `./psci prove lib` builds in out/lib/, and the hosts of hosts/ over that for this
+# machine.
 
 archive=out/lib/x86_64/libpsci_ffi.a
 plain=out/lib/aarch64/libpsci_ffi.a
@@ -7,8 +8,8 @@ aligned=out/lib/aarch64/libpsci_ffi-strict-align.a
 # what an archive may want of its user; how many bytes of text and data it may have, where an access
 # that is not aligned is made of bytes, too; and a call of stack
 wants='memcpy|memmove|memset|rattle_alloc|rattle_realloc|rattle_dealloc'
-most_text=65536
-most_aligned_text=98304
+most_text=98304
+most_aligned_text=147456
 most_stack=8192
 
 has_cc() { command -v cc > /dev/null || { skip "$1" cc; false; }; }
@@ -183,24 +184,29 @@ END
     done
 }
 
-# tested PROGRAM WORD..: tests/programs/library.c passes, which ends with the stack that a call took
+# tested PROGRAM WORD..: this program of tests/programs/ passes, which ends with the stack that a call
+# took
 tested() {
     if "$@" > "$work/out"; then pass; else
-        fail "tests/programs/library.c by $*"
+        fail "tests/programs by $*"
         head -n 20 "$work/out"
     fi
     at_most "the stack that a call took" \
         "$(awk '$1 == "stack" { print $2 }' "$work/out")" "$most_stack"
 }
 
-# what no script comes to
+# what no script comes to, of the firmware and of the power controller
 c_calls() {
+    local name
     has_cc "calls from C" || return
-    build_c library tests/programs/library.c || return
-    tested "$work/library"
+    for name in library controller; do
+        build_c "$name" "tests/programs/$name.c" || return
+        tested "$work/$name"
+    done
 }
 
-# told HOST..: it gives the firmware's side of each script that has no fault
+# told HOST..: it gives the answers of each script that has no fault, of which it may take what the
+# firmware said
 told() {
     local file name
     for file in examples/*.psci tests/scripts/*/*.psci; do
@@ -215,18 +221,22 @@ told() {
     done
 }
 
-# the firmware's side of each script, and the story of hosts/boot.c
+# firmware and power controller in C on each script; the power controller alone, beside what the
+# program's firmware said; and the stories of hosts/boot.c and hosts/stop.c
 c_hosts() {
     local name
     has_cc "the hosts in C" || return
-    for name in loop boot; do
+    for name in loop ctl_loop boot stop; do
         build_c "$name" "hosts/$name.c" || return
     done
     told "$work/loop"
-    if "$work/boot" > "$work/out" && cmp -s hosts/boot.out "$work/out"; then pass; else
-        fail "hosts/boot.c"
-        diff hosts/boot.out "$work/out" | head -n 5
-    fi
+    told "$work/ctl_loop"
+    for name in boot stop; do
+        if "$work/$name" > "$work/out" && cmp -s "hosts/$name.out" "$work/out"; then pass; else
+            fail "hosts/$name.c"
+            diff "hosts/$name.out" "$work/out" | head -n 5
+        fi
+    done
 }
 
 # the same calls and scripts over the archives for aarch64, by an emulator
@@ -236,12 +246,13 @@ c_aarch64() {
         command -v "$tool" > /dev/null || { skip "the C library on aarch64" "$tool"; return; }
     done
     for file in "$plain" "$aligned"; do
-        for name in tests/programs/library hosts/loop; do
+        for name in tests/programs/library tests/programs/controller hosts/loop; do
             aarch64-linux-gnu-gcc -std=c11 -O2 -static -pthread -Wall -Wextra -Werror -Iinclude \
                 -Ihosts -o "$work/${name##*/}-aarch64" "$name.c" hosts/pool.c "$file" \
                 > "$work/err" 2>&1 || { fail "$name.c over $file"; head -n 20 "$work/err"; return; }
         done
         tested qemu-aarch64-static "$work/library-aarch64"
+        tested qemu-aarch64-static "$work/controller-aarch64"
         told qemu-aarch64-static "$work/loop-aarch64"
     done
 }

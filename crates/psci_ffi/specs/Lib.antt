@@ -1,4 +1,8 @@
 pub mod Codes
+pub mod ControllerCalls
+pub mod ControllerReaders
+pub mod ControllerShown
+pub mod ControllerSlot
 pub mod Frames
 pub mod PollerSlot
 pub mod Pollers

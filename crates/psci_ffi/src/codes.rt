@@ -8,7 +8,7 @@ use psci_board::BoardFault;
 use psci_fw::{Cause, FwFault, Hw, Status, Taken};
 use psci_link::FrameFault;
 
-/// There is no firmware in the place.
+/// The place is empty.
 pub const NO_FIRMWARE: u32 = 16;
 
 /// Memory lacks.
@@ -19,6 +19,9 @@ pub const NO_CAUSE: u32 = 21;
 
 /// The bytes are the frame of a message.
 pub const NOT_AN_ACK: u32 = 41;
+
+/// The bytes are the frame of an acknowledgement, where a message's are wanted.
+pub const NOT_A_MESSAGE: u32 = 42;
 
 /// What came of an opening: 0, or the number of the board text's fault, or 8 for want of memory.
 pub fn opened_code(opened: Result<(), BoardFault>) -> u32

@@ -1,6 +1,7 @@
-//! The firmware for C, kept between calls in a place of the caller's.
+//! The firmware and the power controller for C, kept between calls in places of the caller's.
 //!
-//! - A *place* is memory of the caller's that holds a firmware, or is empty; all zero is empty.
+//! - A *place* is memory of the caller's that holds a firmware, or a power controller, or is empty; all
+//!   zero is empty.
 //! - A *poller* is such a place for one who polls: it reads status words without the firmware's lock.
 //! - An *answer* is what came of a call, as C sees it, with the frame of the message that is sent.
 //! - A *refusal* is an answer from 16 on: the caller's mistake has a number, and nothing changed.
@@ -10,6 +11,13 @@ mod answer;
 mod calls;
 mod codes;
 mod common;
+mod controller_acting;
+mod controller_answer;
+mod controller_calls;
+mod controller_opening;
+mod controller_place;
+mod controller_readers;
+mod controller_slot;
 mod held;
 mod opening;
 mod parts;

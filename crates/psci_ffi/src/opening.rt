@@ -47,7 +47,7 @@ fn open(alloc: Global, place: &mut Place, text: &[u8]) -> Result<(), BoardFault>
 /// The board of a text. It has a frame of its own, which is gone from the stack when the firmware is
 /// made.
 #[inline(never)]
-fn read(alloc: Global, text: &[u8]) -> Result<Board, BoardFault>
+pub fn read(alloc: Global, text: &[u8]) -> Result<Board, BoardFault>
     ensures { Answers result (board_of text.now) }
 {
     Board::read_bytes(alloc, text)

@@ -1,0 +1,24 @@
+-- What a slot of a power controller owns: a box where it is full, and nothing where it is empty.
+use base.Fml.{Fml, ftrue}
+use base.Stored.{Coded}
+use denote.RawPtr.{Ptr}
+use Rattle.std.specs.Prelude.{Option, None, Some}
+use Rattle.std.specs.Coded.{coded_option}
+use Rattle.std.specs.Box.Ownership.{box_owns}
+use Rattle.std.specs.Global.{Global}
+use Rattle.std.specs.contracts.impls.GlobalAllocator.TheImpl.{ghosts}
+use Rattle.psci_ctl.specs.contracts.controller.Controller.{the_row}
+
+abbrev pub KeptController : Type 0
+KeptController = Option the_row.Denot
+
+abbrev pub slot_owns : Global → Ptr → KeptController → Fml
+slot_owns alloc p None = ftrue
+slot_owns alloc p (Some x) = box_owns (ghosts.dealloc_token alloc) the_row p x
+
+abbrev pub kept_coded : Coded KeptController
+kept_coded = coded_option the_row.coded
+
+abbrev pub IsFull : KeptController → Type 0
+IsFull None = ⊥
+IsFull (Some x) = Unit {0}

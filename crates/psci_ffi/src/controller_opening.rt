@@ -1,0 +1,52 @@
+//! Making a power controller, and letting it go.
+
+ghost use Rattle.std.specs.Prelude.{◌≡◌, None, IfErr, IfOk, IsSomeAnd};
+ghost use Rattle.psci_board.specs.Verdict.{board_of};
+ghost use Rattle.psci_ffi.specs.Codes.{opened_said};
+ghost use Rattle.psci_ffi.specs.ControllerCalls.{IsFirst, Opens};
+
+use crate::codes::opened_code;
+use crate::controller_place::ControllerPlace;
+use crate::opening::read;
+use psci_board::{Board, Memory};
+use psci_board::BoardFault;
+use psci_ctl::Controller;
+use std::alloc::Global;
+
+/// Puts a new power controller of the board that the text describes into the place, as its first
+/// life begins, and frees the one that was there: 0. Else the number of the text's first fault, or
+/// 8 where memory lacks, and nothing changes.
+#[unsafe(no_mangle)]
+pub extern "C" fn psci_ctl_open(alloc: Global, place: &mut ControllerPlace, text: &[u8]) -> u32
+    ensures { Opens (opened_said result) (board_of text.now) place.old.slot.kept
+        place.new.slot.kept }
+{
+    opened_code(open(alloc, place, text))
+}
+
+/// Frees the power controller in the place, which is empty then.
+#[unsafe(no_mangle)]
+pub extern "C" fn psci_ctl_close(alloc: Global, place: &mut ControllerPlace)
+    ensures { place.new.slot.kept ≡ None }
+{
+    drop(place.take(alloc));
+}
+
+/// Puts a new power controller into the place, if the text is a board's and there is memory.
+fn open(alloc: Global, place: &mut ControllerPlace, text: &[u8]) -> Result<(), BoardFault>
+    ensures { Opens result (board_of text.now) place.old.slot.kept place.new.slot.kept }
+{
+    let board = read(alloc, text)?;
+    Ok(renew(alloc, place, &board)?)
+}
+
+/// Puts a new power controller of this board into the place, if there is memory.
+fn renew(alloc: Global, place: &mut ControllerPlace, board: &Board) -> Result<(), Memory>
+    ensures done { IfOk result (λ _. IsSomeAnd place.new.slot.kept (IsFirst board.now)) }
+    ensures same { IfErr result (λ _. place.new.slot.kept ≡ place.old.slot.kept) }
+{
+    let controller = Box::new(alloc, Controller::new(alloc, board)?)?;
+    drop(place.take(alloc));
+    place.put(controller);
+    Ok(())
+}

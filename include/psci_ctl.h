@@ -1,0 +1,93 @@
+/* The power controller for C, in the archive of the firmware: crates/psci_ffi/out/libpsci_ffi.a. A
+ * program may use both halves or one alone. docs/PORTING.md says what a port gives and gets. Calls on
+ * one place may not overlap: hold a lock around each. */
+#ifndef GUMDARTS_PSCI_CTL_H
+#define GUMDARTS_PSCI_CTL_H
+
+#include "psci.h"
+
+/* A place for a power controller; all zero is empty. Only the calls below read or write it, and it
+ * is never copied. Each pointer that is given to a call is of valid memory of its own, never null. */
+struct psci_ctl_place {
+    void *controller;
+    bool full;
+};
+
+/* What the power hardware does next, before the acknowledgement goes back. From PSCI_CTL_NO_PLACE
+ * on the call was refused, and nothing changed; other refusals have the names of psci.h:
+ * PSCI_NO_CORE, and PSCI_FRAME_LENGTH to PSCI_FRAME_LEVEL. */
+enum {
+    PSCI_CTL_NOTHING = 0, /* nothing: what came is ignored, or came too late */
+    PSCI_CTL_START = 1,   /* the core of `start` is powered up, with all above it */
+    PSCI_CTL_SWITCH = 2,  /* so many domains go to their depths, which may be none */
+    PSCI_CTL_OFF = 3,     /* the system goes off */
+    PSCI_CTL_RESTART = 4, /* the system is reset, and the core of `start`, the boot core, starts */
+    PSCI_CTL_NO_PLACE = PSCI_NO_FIRMWARE, /* the place is empty */
+    PSCI_CTL_NOT_A_MESSAGE = 42,          /* the frame is an acknowledgement's */
+};
+
+/* How deep a domain is. */
+enum { PSCI_CTL_ON = 0, PSCI_CTL_STANDBY = 1, PSCI_CTL_RETENTION = 2, PSCI_CTL_POWER_DOWN = 3 };
+
+/* The start that a core finds, for psci_enter. Zeros are none: a start has a number from 1 on. */
+struct psci_ctl_start {
+    uint16_t core;
+    uint32_t life, number, cause; /* PSCI_BOOT to PSCI_RESET */
+};
+
+/* A core's own domain at level 0, or a power domain above it, counted from 0 from left to right. */
+struct psci_ctl_domain {
+    uint32_t level;
+    uint16_t index;
+    uint8_t depth;
+};
+
+struct psci_ctl_answer {
+    uint32_t what;                     /* PSCI_CTL_NOTHING to PSCI_CTL_RESTART, or a refusal */
+    struct psci_ctl_start start;       /* of PSCI_CTL_START and PSCI_CTL_RESTART */
+    uint32_t many;                     /* of PSCI_CTL_SWITCH */
+    struct psci_ctl_domain domains[4]; /* so many of these, the lowest first; then zeros */
+    struct psci_frame ack;             /* to the firmware; none where a message was ignored */
+};
+
+/* The library proves these of its own side, which is for machines of 64 bits. */
+_Static_assert(sizeof(struct psci_ctl_place) == 16, "a power controller's place");
+_Static_assert(sizeof(struct psci_ctl_start) == 16, "a start");
+_Static_assert(sizeof(struct psci_ctl_domain) == 8, "a domain");
+_Static_assert(sizeof(struct psci_ctl_answer) == 112, "a power controller's answer");
+
+/* Puts a new power controller of the board that the text describes into the place, and frees the
+ * one that was there. Its first life has begun: the boot core is started, by the start that
+ * psci_ctl_started tells. PSCI_OPENED to PSCI_NO_MEMORY. */
+uint32_t psci_ctl_open(struct psci_ctl_place *, const uint8_t *text, size_t length);
+
+/* Frees the power controller in the place. */
+void psci_ctl_close(struct psci_ctl_place *);
+
+/* A message of the firmware arrives. A Down of its core's present start may be delivered only once
+ * the core stands in its stop. */
+void psci_ctl_deliver(struct psci_ctl_place *, const uint8_t *frame, size_t length,
+                      struct psci_ctl_answer *);
+
+/* A core has a wake-up event, after it stopped in its start of this number, 0 where it was not
+ * started in this life. PSCI_CTL_START, or PSCI_CTL_NOTHING where it was started since, or can't be
+ * once more. */
+void psci_ctl_wake(struct psci_ctl_place *, uint16_t core, uint32_t halted,
+                   struct psci_ctl_answer *);
+
+/* A core is reset by itself. PSCI_CTL_START, or PSCI_CTL_NOTHING where it can't be started once
+ * more. */
+void psci_ctl_reset(struct psci_ctl_place *, uint16_t core, struct psci_ctl_answer *);
+
+/* What is read. An empty place is as one whose system is off. */
+uint32_t psci_ctl_life(struct psci_ctl_place *); /* counted from 1; 0 once the system is off */
+uint32_t psci_ctl_starts(struct psci_ctl_place *, uint16_t core); /* in this life */
+
+/* The start that a core finds: its last one in this life; zeros where there is none. */
+void psci_ctl_started(struct psci_ctl_place *, uint16_t core, struct psci_ctl_start *);
+
+/* PSCI_CTL_ON to PSCI_CTL_POWER_DOWN; PSCI_CTL_NO_PLACE; PSCI_NO_CORE where the board has no such
+ * domain; PSCI_NO_LIFE once the system is off. */
+uint32_t psci_ctl_depth(struct psci_ctl_place *, uint32_t level, uint16_t index);
+
+#endif
