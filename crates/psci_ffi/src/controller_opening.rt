@@ -8,8 +8,7 @@ ghost use Rattle.psci_ffi.specs.ControllerCalls.{IsFirst, Opens};
 use crate::codes::opened_code;
 use crate::controller_place::ControllerPlace;
 use crate::opening::read;
-use psci_board::{Board, Memory};
-use psci_board::BoardFault;
+use psci_board::{Board, BoardFault, Memory};
 use psci_ctl::Controller;
 use std::alloc::Global;
 
