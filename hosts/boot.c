@@ -11,7 +11,16 @@
 #include <string.h>
 
 enum { CORES = 4, LEVELS = 3, STARTS = 1000, LIVES = 3 };
-static const char board[] = "(2 2) exec 0x40000000-0x40100000 boot 0x40000000 starts 1000 lives 3";
+/* Two clusters of two cores: "(2 2) exec 0x40000000-0x40100000 boot 0x40000000 starts 1000 lives 3". */
+static const struct psci_board board = {
+    .height = 2,
+    .starts = 1000,
+    .lives = 3,
+    .boot = 0x40000000,
+    .many_ranges = 1,
+    .ranges = {{0x40000000, 0x40100000}},
+    .levels = {{.nodes = 2, .children = {2, 2}}, {.nodes = 1, .children = {2}}},
+};
 
 /* The monitor -------------------------------------------------------------------------------- */
 
@@ -230,7 +239,7 @@ static void smc(unsigned core, uint64_t x0, uint64_t x1, uint64_t x2, uint64_t x
 int main(void) {
     size_t size = pool_size(CORES);
     pool_give(malloc(size), size);
-    uint32_t opened = psci_open(&firmware, (const uint8_t *)board, strlen(board));
+    uint32_t opened = psci_open_board(&firmware, &board);
     if (opened != PSCI_OPENED)
         fail("no firmware", opened);
     for (unsigned core = 0; core < CORES; core++)

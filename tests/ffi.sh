@@ -72,7 +72,32 @@ c_calls() {
         "$(awk '$1 == "stack" { print $2 }' "$work/out")" "$most_stack"
 }
 
-# the firmware's side of each script that has no fault, and the story of hosts/boot.c
+# the numbers, prototypes and structs of psci.h against those of the crate; and each of these exchanges,
+# which no compiler sees, is refused
+c_header() {
+    local edit
+    has_python "tests/header" || return
+    if tests/header > "$work/out"; then pass; else
+        fail "include/psci.h says other than crates/psci_ffi"
+        head -n 20 "$work/out"
+        return
+    fi
+    for edit in 's/BAD_BOOT = 6/BAD_BOOT = 7/; s/BAD_LIMIT = 7/BAD_LIMIT = 6/' \
+        's/PSCI_WAKE = 2, PSCI_RESET = 3/PSCI_WAKE = 3, PSCI_RESET = 2/' 's/PSCI_STOP = 1/PSCI_STOP = 2/' \
+        's/life, uint32_t number,/number, uint32_t life,/' 's/uint64_t x1, uint64_t x2/uint64_t x2, uint64_t x1/' \
+        's/uint32_t level, uint16_t index/uint16_t index, uint32_t level/' 's/uint8_t kind; /uint16_t kind; /' \
+        's/^uint32_t psci_life/uint16_t psci_life/' 's/== 54/== 55/' '/uint32_t starts;/{h;d};/uint32_t lives;/G'; do
+        sed "$edit" include/psci.h > "$work/psci.h"
+        if cmp -s include/psci.h "$work/psci.h" || tests/header "$work/psci.h" > "$work/out"; then
+            fail "tests/header lets this through: $edit"
+        else
+            pass
+        fi
+    done
+}
+
+# the firmware's side of each script that has no fault, with what every reader says after each event by
+# the model; and the story of hosts/boot.c
 c_hosts() {
     local file name
     has_cc "the hosts in C" || return
@@ -82,11 +107,16 @@ c_hosts() {
     for file in examples/*.psci tests/scripts/*/*.psci; do
         name=${file%.psci}
         [ ! -f "$name.status" ] || continue
-        if "$work/loop" "$file" "$name.out" > "$work/out" && cmp -s "$name.out" "$work/out"; then
-            pass
-        else
+        if "$work/loop" "$file" "$name.out" "$work/read" > "$work/out" && cmp -s "$name.out" "$work/out"
+        then pass; else
             fail "hosts/loop.c on $file"
             diff "$name.out" "$work/out" | head -n 5
+        fi
+        has_python "the readers on $file" || continue
+        tests/read-by-model "$file" > "$work/wanted"
+        if cmp -s "$work/wanted" "$work/read"; then pass; else
+            fail "the readers on $file"
+            diff "$work/wanted" "$work/read" | head -n 5
         fi
     done
     if "$work/boot" > "$work/out" && cmp -s hosts/boot.out "$work/out"; then pass; else

@@ -1,5 +1,7 @@
 pub mod Codes
+pub mod Fields
 pub mod Frames
+pub mod Given
 pub mod PollerSlot
 pub mod Pollers
 pub mod Readers

@@ -7,9 +7,16 @@
 #![tactic(auto)]
 
 mod answer;
+mod board_readers;
 mod calls;
 mod codes;
 mod common;
+mod decoding;
+mod encoding;
+mod fields;
+mod given;
+mod given_build;
+mod given_fault;
 mod held;
 mod opening;
 mod parts;
