@@ -1,6 +1,5 @@
-/* size BOARD..: how many bytes of a pool (pool.c) the firmware of each board text takes, and its core's
- * pollers beside it, exactly: in so many it opens, and in 16 fewer it does not. A machine of 64 bits has
- * the same figure as another one. */
+/* size BOARD..: how many bytes of a pool (pool.c) the firmware of each board text takes, with a poller
+ * for each of its cores, exactly: in so many they open, and in 16 fewer they do not. */
 #include "pool.h"
 #include "psci.h"
 

@@ -5,7 +5,7 @@ archive=crates/psci_ffi/out/libpsci_ffi.a
 # what the archive may want of its user; how many bytes of text and data it may have, and a call of
 # stack
 wants='memcpy|memmove|memset|rattle_alloc|rattle_realloc|rattle_dealloc'
-most_text=65536
+most_text=73728
 most_stack=8192
 
 has_cc() { command -v cc > /dev/null || { skip "$1" cc; false; }; }
@@ -99,9 +99,9 @@ c_header() {
 # the firmware's side of each script that has no fault, with what every reader says after each event by
 # the model; and the story of hosts/boot.c
 c_hosts() {
-    local file name
+    local file name rest=" exec 0x40000000-0x40100000 boot 0x40000000 starts 9 lives 3"
     has_cc "the hosts in C" || return
-    for name in loop boot; do
+    for name in loop boot size; do
         build_c "$name" "hosts/$name.c" || return
     done
     for file in examples/*.psci tests/scripts/*/*.psci; do
@@ -119,6 +119,12 @@ c_hosts() {
             diff "$work/wanted" "$work/read" | head -n 5
         fi
     done
+    if "$work/size" "1 exec 0x0-0x8 boot 0x0 starts 1 lives 1" "((1 1) (16))$rest" "(16 16)$rest" \
+        > "$work/out" 2>&1
+    then pass; else
+        fail "hosts/size.c"
+        head -n 5 "$work/out"
+    fi
     if "$work/boot" > "$work/out" && cmp -s hosts/boot.out "$work/out"; then pass; else
         fail "hosts/boot.c"
         diff hosts/boot.out "$work/out" | head -n 5
