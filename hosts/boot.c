@@ -11,7 +11,17 @@
 #include <string.h>
 
 enum { CORES = 4, LEVELS = 3 };
-static const char board[] = "(2 2) exec 0x40000000-0x40100000 boot 0x40000000 starts 1000 lives 3";
+/* Two clusters of two cores. */
+static const char text[] = "(2 2) exec 0x40000000-0x40100000 boot 0x40000000 starts 1000 lives 3";
+static const struct psci_board board = {
+    .height = 2,
+    .starts = 1000,
+    .lives = 3,
+    .boot = 0x40000000,
+    .many_ranges = 1,
+    .ranges = {{0x40000000, 0x40100000}},
+    .levels = {{.nodes = 2, .children = {2, 2}}, {.nodes = 1, .children = {2}}},
+};
 
 /* The monitor -------------------------------------------------------------------------------- */
 
@@ -194,9 +204,9 @@ static void smc(unsigned core, uint64_t x0, uint64_t x1, uint64_t x2, uint64_t x
 int main(void) {
     size_t size = 2 * pool_size(CORES);
     pool_give(malloc(size), size);
-    if (psci_ctl_open(&controller, (const uint8_t *)board, strlen(board)) != PSCI_OPENED)
+    if (psci_ctl_open(&controller, (const uint8_t *)text, strlen(text)) != PSCI_OPENED)
         fail("no power controller", 0);
-    uint32_t opened = psci_open(&firmware, (const uint8_t *)board, strlen(board));
+    uint32_t opened = psci_open_board(&firmware, &board);
     if (opened != PSCI_OPENED)
         fail("no firmware", opened);
     for (unsigned core = 0; core < CORES; core++)

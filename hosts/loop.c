@@ -1,7 +1,8 @@
-/* loop SCRIPT: plays a script. Calls, entries and acknowledgements go to the library's firmware,
+/* loop SCRIPT [READ]: plays a script. Calls, entries and acknowledgements go to the library's firmware,
  * and messages, wake-ups and resets to its power controller. Writes the answer lines: the program's,
  * where the library answers as the program does. After each event every core is polled, and has to
- * be what the firmware says. */
+ * be what the firmware says. Into the file READ it writes what is read of the board, and of the
+ * firmware before any event and after each. */
 #include "pool.h"
 #include "psci_ctl.h"
 
@@ -27,6 +28,7 @@ static unsigned many_cores;
 static uint32_t life;
 static uint8_t messages[MOST_FRAMES][PSCI_FRAME_LEN], acks[MOST_FRAMES][PSCI_FRAME_LEN];
 static uint64_t many_messages, many_acks;
+static FILE *readings;
 
 static void fail(const char *why) {
     fprintf(stderr, "loop: %s\n", why);
@@ -81,6 +83,48 @@ static void read_cores(const char *tree) {
     }
 }
 
+/* What is read of the board: cores, height, and of each level its nodes and the children of each. */
+static void write_board(void) {
+    fprintf(readings, "board %u %" PRIu32, psci_cores(&place), psci_height(&place));
+    for (uint32_t level = 0; level <= psci_height(&place); level++) {
+        fprintf(readings, " %u", psci_nodes(&place, level));
+        for (unsigned node = 0; node < psci_nodes(&place, level); node++)
+            fprintf(readings, "%c%" PRIu32, node ? ',' : ':', psci_children(&place, level, node));
+    }
+    fputc('\n', readings);
+}
+
+/* The outstanding message of this number, by its fields. */
+static void write_outstanding(unsigned number) {
+    struct psci_frame frame;
+    struct psci_message message;
+    psci_outstanding(&place, number, &frame);
+    if (!frame.some) {
+        fputs(" -", readings);
+        return;
+    }
+    if (psci_decode(&place, frame.bytes, sizeof frame.bytes, &message) != PSCI_USED)
+        fail("an outstanding message is no frame");
+    fprintf(readings, " %u,%u,%u,%" PRIu32 ",%" PRIu32, message.kind, message.count, message.core,
+            message.life, message.number);
+    for (const struct psci_part *part = message.parts; part < message.parts + message.count; part++)
+        fprintf(readings, ",%" PRIu32 ":%u:%" PRIu64, part->level, part->depth, part->generation);
+}
+
+/* What every reader says of the firmware. */
+static void write_readings(void) {
+    fprintf(readings, "%" PRIu32 " %d", psci_life(&place), psci_halting(&place));
+    for (uint32_t level = 0; level <= psci_height(&place); level++)
+        for (unsigned node = 0; node < psci_nodes(&place, level); node++)
+            fprintf(readings, " %" PRIu32 ":%" PRIu32 ":%u", psci_status(&place, level, node),
+                    psci_hw(&place, level, node), psci_granted(&place, level, node));
+    for (unsigned core = 0; core < many_cores; core++)
+        fprintf(readings, " %" PRIu32 ":%d", psci_known(&place, core), psci_running(&place, core));
+    for (unsigned number = 0; number <= many_cores; number++)
+        write_outstanding(number);
+    fputc('\n', readings);
+}
+
 /* What is polled of each core is what the firmware says of it, OFF before any has entered. */
 static void poll_all(void) {
     for (unsigned core = 0; core < many_cores; core++) {
@@ -102,6 +146,10 @@ static void open_board(const char *text) {
         fail("the poller did not open");
     begin_life();
     poll_all();
+    if (readings) {
+        write_board();
+        write_readings();
+    }
 }
 
 /* The message of an answer: it is kept, and follows the answer in its line. */
@@ -238,13 +286,17 @@ static void event(char *line) {
         kick(number, *line == 'w' ? PSCI_WAKE : PSCI_RESET);
     putchar('\n');
     poll_all();
+    if (readings)
+        write_readings();
 }
 
 int main(int count, char **words) {
     static char line[MOST_LINE];
-    FILE *script = count == 2 ? fopen(words[1], "r") : NULL;
+    FILE *script = count >= 2 ? fopen(words[1], "r") : NULL;
     if (!script)
         fail("give a script");
+    if (count > 2 && !(readings = fopen(words[2], "w")))
+        fail("what is read cannot be written");
     for (uint64_t at = 0, events = 0; fgets(line, sizeof line, script); at++) {
         line[strcspn(line, "\n")] = 0;
         if (at == 0) {

@@ -2,6 +2,7 @@
  * taken, with the free ones that follow it. A firmware asks for all its memory as it is opened, and
  * for none later. */
 #include "pool.h"
+#include "psci.h"
 
 #include <stdbool.h>
 #include <string.h>
@@ -10,12 +11,6 @@
 struct header {
     _Alignas(16) size_t size;
     bool free;
-};
-
-/* What the library gets of a request; where it failed, the address is not null all the same. */
-struct tried {
-    size_t ok;
-    void *block;
 };
 
 static unsigned char *first, *end;
@@ -41,7 +36,7 @@ void pool_give(void *memory, size_t size) {
 size_t pool_taken(void) { return taken; }
 
 /* Takes this much of a free block; what is left is a free block again. */
-static struct tried take(unsigned char *place, size_t size) {
+static struct psci_block take(unsigned char *place, size_t size) {
     unsigned char *block = place + sizeof(struct header);
     if (at(place)->size >= size + sizeof(struct header)) {
         *at(block + size) = (struct header){at(place)->size - size - sizeof(struct header), true};
@@ -50,29 +45,29 @@ static struct tried take(unsigned char *place, size_t size) {
     at(place)->free = false;
     if ((size_t)(block + size - first) > taken)
         taken = block + size - first;
-    return (struct tried){1, block};
+    return (struct psci_block){1, block};
 }
 
 /* No request has an alignment above 16. */
-struct tried rattle_alloc(size_t size, size_t align) {
+struct psci_block rattle_alloc(size_t size, size_t align) {
     size = (size ? size + 15 : 31) / 16 * 16;
     if (align > 16 || size > (size_t)(end - first))
-        return (struct tried){0, &nowhere};
+        return (struct psci_block){0, &nowhere};
     for (unsigned char *place = first; place < end; place = next(place)) {
         while (at(place)->free && next(place) < end && at(next(place))->free)
             at(place)->size += sizeof(struct header) + at(next(place))->size;
         if (at(place)->free && at(place)->size >= size)
             return take(place, size);
     }
-    return (struct tried){0, &nowhere};
+    return (struct psci_block){0, &nowhere};
 }
 
 void rattle_dealloc(void *block) {
     at((unsigned char *)block - sizeof(struct header))->free = true;
 }
 
-struct tried rattle_realloc(void *block, size_t kept, size_t size, size_t align) {
-    struct tried made = rattle_alloc(size, align);
+struct psci_block rattle_realloc(void *block, size_t kept, size_t size, size_t align) {
+    struct psci_block made = rattle_alloc(size, align);
     if (made.ok) {
         memcpy(made.block, block, kept < size ? kept : size);
         rattle_dealloc(block);

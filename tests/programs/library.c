@@ -51,6 +51,8 @@ static struct { uint64_t before; struct psci_answer it; uint64_t after; } answer
 static struct { uint64_t before; struct psci_frame it; unsigned char after[8]; } frame;
 static struct { uint64_t before; struct psci_poller it; uint64_t after; } poller;
 static const char *text;
+static struct psci_board board;
+static struct psci_message fields;
 static uint16_t core;
 static uint64_t x[4];
 static uint32_t life, number, cause, code;
@@ -61,6 +63,9 @@ static int32_t polled;
 static void do_open(void) {
     code = psci_open(&place.it, (const uint8_t *)text, strlen(text));
 }
+static void do_open_board(void) { code = psci_open_board(&place.it, &board); }
+static void do_decode(void) { code = psci_decode(&place.it, frame.it.bytes, length, &fields); }
+static void do_encode(void) { psci_encode(&fields, &frame.it); }
 static void do_close(void) { psci_close(&place.it); }
 static void do_smc(void) { psci_smc(&place.it, core, x[0], x[1], x[2], x[3], &answer.it); }
 static void do_enter(void) { psci_enter(&place.it, core, life, number, cause, &answer.it); }
@@ -77,6 +82,10 @@ static void do_read(void) {
     psci_granted(&place.it, 3, 0);
     psci_known(&place.it, core);
     psci_running(&place.it, core);
+    psci_cores(&place.it);
+    psci_height(&place.it);
+    psci_nodes(&place.it, 1);
+    psci_children(&place.it, 1, 0);
 }
 
 static void make(void (*call)(void)) {
@@ -97,6 +106,12 @@ static void make(void (*call)(void)) {
 static uint32_t open_text(const char *board) {
     text = board;
     make(do_open);
+    return code;
+}
+
+static uint32_t open_board(const struct psci_board *given) {
+    board = *given;
+    make(do_open_board);
     return code;
 }
 
@@ -167,6 +182,114 @@ static void faulty_texts(void) {
          open_text("2 exec 0x0-0x8 boot 0x2 starts 1 lives 1"));
     want("bad limit", PSCI_BOARD_BAD_LIMIT,
          open_text("2 exec 0x0-0x8 boot 0x0 starts 0 lives 1"));
+}
+
+/* A board as a struct, and what is read of it; each fault of one, and what is not looked at. */
+static const struct psci_board plain_board = {
+    .height = 3,
+    .format = PSCI_EXTENDED_FORMAT,
+    .starts = 3,
+    .lives = 3,
+    .boot = 0x40000000,
+    .many_ranges = 2,
+    .ranges = {{0, 8}, {0x40000000, 0x40100000}, {7, 7}},
+    .levels = {{3, {1, 2, 16, 99}}, {2, {1, 2}}, {1, {2}}},
+};
+
+static void boards(void) {
+    struct psci_board given = plain_board;
+    want("a board", PSCI_OPENED, open_board(&given));
+    want("cores", 19, psci_cores(&place.it));
+    want("height", 3, psci_height(&place.it));
+    want("clusters", 3, psci_nodes(&place.it, 1));
+    want("groups", 2, psci_nodes(&place.it, 2));
+    want("the system", 1, psci_nodes(&place.it, 3));
+    want("above it", 0, psci_nodes(&place.it, 4));
+    want("cores of a cluster", 16, psci_children(&place.it, 1, 2));
+    want("clusters of a group", 2, psci_children(&place.it, 2, 1));
+    want("of no group", 0, psci_children(&place.it, 2, 2));
+    want("of a core", 0, psci_children(&place.it, 0, 0));
+    want("enters at the boot address", PSCI_ENTER, enter(0, 1, 1, PSCI_BOOT));
+    want("which is", 0x40000000, answer.it.address);
+    want("in the extended format", 3, smc(0, 0x8400000a, 0xc4000001, 0, 0) ? 0 : answer.it.code);
+#define FAULT(name, wanted, change) \
+    given = plain_board, change, want(name, wanted, open_board(&given))
+    FAULT("no level", PSCI_BOARD_GRAMMAR, given.height = 0);
+    FAULT("four levels", PSCI_BOARD_GRAMMAR, given.height = 4);
+    FAULT("too many nodes", PSCI_BOARD_GRAMMAR, given.levels[0].nodes = 257);
+    FAULT("no format", PSCI_BOARD_GRAMMAR, given.format = 2);
+    FAULT("uneven", PSCI_BOARD_UNEVEN, given.levels[0].nodes = 2);
+    FAULT("two systems", PSCI_BOARD_UNEVEN, given.levels[2] = given.levels[1]);
+    FAULT("too wide", PSCI_BOARD_TOO_WIDE, given.levels[0].children[1] = 17);
+    FAULT("no core", PSCI_BOARD_TOO_WIDE, given.levels[0].children[1] = 0);
+    FAULT("no range", PSCI_BOARD_BAD_BOOT, given.many_ranges = 0);
+    FAULT("five ranges", PSCI_BOARD_BAD_RANGE, given.many_ranges = 5);
+    FAULT("an empty range", PSCI_BOARD_BAD_RANGE, given.many_ranges = 3);
+    FAULT("boot", PSCI_BOARD_BAD_BOOT, given.boot = 0x40100000);
+    FAULT("no start", PSCI_BOARD_BAD_LIMIT, given.starts = 0);
+    FAULT("too many lives", PSCI_BOARD_BAD_LIMIT, given.lives = 65536);
+    FAULT("a level that is not counted", PSCI_BOARD_UNEVEN, given.height = 2);
+#undef FAULT
+    given = (struct psci_board){.height = 3, .starts = 1, .lives = 1, .many_ranges = 1,
+                                .ranges = {{0, 4}}, .levels = {{17, {0}}, {2, {16, 1}}, {1, {2}}}};
+    for (int k = 0; k < 17; k++)
+        given.levels[0].children[k] = 16;
+    want("too many cores", PSCI_BOARD_TOO_MANY_CORES, open_board(&given));
+    want("the firmware that was there", 1, psci_life(&place.it));
+    given.levels[0].nodes = 16, given.levels[1].children[1] = 0;
+    given.levels[1] = (struct psci_level){1, {16}}, given.levels[2].children[0] = 1;
+    want("the largest board", PSCI_OPENED, open_board(&given));
+    want("its cores", 256, psci_cores(&place.it));
+    want("a new firmware", 0, psci_life(&place.it));
+    make(do_close);
+    want("cores of none", 0, psci_cores(&place.it));
+}
+
+/* Frames and their fields, one from the other. */
+static void frames(void) {
+    want("opened", PSCI_OPENED, open_text(small));
+    fields = (struct psci_message){.kind = PSCI_DOWN, .count = 2, .core = 3, .life = 0x01020304,
+                                   .number = 7, .parts = {{0, 3, 7}, {1, 2, 19}, {9, 9, 9}}};
+    make(do_encode);
+    want("a frame", 1, frame.it.some);
+    want("its life", 4, frame.it.bytes[7]);
+    want("its second part", 19, frame.it.bytes[32]);
+    want("what is not counted", 0, frame.it.bytes[33]);
+    fields = (struct psci_message){0};
+    length = PSCI_FRAME_LEN;
+    make(do_decode);
+    want("read", PSCI_USED, code);
+    want("a Down", PSCI_DOWN, fields.kind);
+    want("of core 3", 3, fields.core);
+    want("in its life", 0x01020304, fields.life);
+    want("by its number", 7, fields.number);
+    want("of two parts", 2, fields.count);
+    want("the first", 1, fields.parts[0].level == 0 && fields.parts[0].depth == 3
+        && fields.parts[0].generation == 7);
+    want("the second", 1, fields.parts[1].level == 1 && fields.parts[1].depth == 2
+        && fields.parts[1].generation == 19);
+    want("no third", 0, fields.parts[2].level + fields.parts[2].depth + fields.parts[2].generation);
+    length = 52;
+    make(do_decode);
+    want("a short frame", PSCI_FRAME_LENGTH, code);
+    want("reads nothing", PSCI_DOWN, fields.kind);
+    fields.kind = PSCI_START + PSCI_STALE_ACK, fields.count = 0;
+    make(do_encode);
+    want("a stale acknowledgement", 0x22, frame.it.some ? frame.it.bytes[2] : 0);
+    want("without parts", 0, frame.it.bytes[13] + frame.it.bytes[14]);
+#define NONE(name, change) change, make(do_encode), want(name, 0, frame.it.some)
+    NONE("applied twice", fields.count = 2);
+    NONE("no such kind", fields.kind = 5);
+    NONE("a Start with parts", (fields.kind = PSCI_START, fields.count = 1));
+    NONE("a Down without parts", (fields.kind = PSCI_DOWN, fields.count = 0));
+    NONE("five parts", fields.count = 5);
+    NONE("no core in a byte", (fields.count = 1, fields.core = 256));
+    NONE("a depth of 4", (fields.core = 3, fields.parts[0].depth = 4));
+#undef NONE
+    fields.parts[0].depth = 3;
+    make(do_encode);
+    want("a frame again", 1, frame.it.some);
+    make(do_close);
 }
 
 /* With ever less memory an opening fails, and changes nothing; with what pool_size says it does
@@ -373,6 +496,9 @@ int main(void) {
     faulty_texts();
     want("the firmware that was there", 1, psci_life(&place.it));
     make(do_close);
+    pool_give(memory, size);
+    boards();
+    frames();
     pool_give(memory, size);
     pollers();
     pool_give(memory, pool_size(4));

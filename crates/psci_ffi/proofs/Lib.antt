@@ -1,10 +1,16 @@
 pub mod AsBox
 pub mod AsControllerBox
 pub mod AsPollerBox
+mod CallRows
 mod CodeRows
 pub mod ControllerCrossing
 mod ControllerRows
 pub mod Crossing
+pub mod FieldParts
+mod FieldRows
+pub mod GivenBoards
+mod GivenRows
 mod PollerRows
+mod ReaderRows
 pub mod Switching
 pub mod Taking

@@ -3,7 +3,9 @@ pub mod ControllerCalls
 pub mod ControllerReaders
 pub mod ControllerShown
 pub mod ControllerSlot
+pub mod Fields
 pub mod Frames
+pub mod Given
 pub mod PollerSlot
 pub mod Pollers
 pub mod Readers

@@ -1,5 +1,6 @@
 -- What C reads of a place; an empty one is as a firmware before any core has entered.
-use Rattle.std.specs.Prelude.{ℕ, Bool, false, None, Some}
+use Rattle.std.specs.Prelude.{ℕ, nat_le, if◌then◌else◌, Bool, false, None, Some}
+use Rattle.psci_board.specs.Board.{children, cores, height, nodes}
 use Rattle.psci_board.specs.declared.node.Node.{Node}
 use Rattle.psci_fw.specs.Seen.{hw_shown, seen, status_shown}
 use Rattle.psci_fw_spec.specs.Phases.{is_running}
@@ -48,3 +49,24 @@ running_read (Some f) core = is_running ((seen f.firmware).phase core)
 abbrev pub outstanding_read : Kept → ℕ → SomeFrame
 outstanding_read None number = no_frame
 outstanding_read (Some f) number = frame_shown (message_shown f.firmware.board (seen f.firmware) number)
+
+-- how many cores the board has
+abbrev pub cores_read : Kept → ℕ
+cores_read None = 0
+cores_read (Some f) = cores f.firmware.board
+
+-- the level of the system
+abbrev pub height_read : Kept → ℕ
+height_read None = 0
+height_read (Some f) = height f.firmware.board
+
+-- how many cores or power domains the board has on a level: none above the system
+abbrev pub nodes_read : Kept → ℕ → ℕ
+nodes_read None level = 0
+nodes_read (Some f) level =
+    if nat_le level (height f.firmware.board) then nodes f.firmware.board level else 0
+
+-- how many children a power domain has: none below a core, or below one that the board does not have
+abbrev pub children_read : Kept → Node → ℕ
+children_read None node = 0
+children_read (Some f) node = children f.firmware.board node

@@ -136,6 +136,13 @@ impl Held {
         polled.take(&common.words, ack)
     }
 
+    /// The board.
+    pub fn board(&self) -> &Board
+        ensures { result.now ≡ self.now.firmware.board }
+    {
+        &self.common.board
+    }
+
     /// `Firmware::status`.
     pub fn status(&self, node: Node) -> Option<Status>
         ensures { result ≡ status_shown self.now.firmware node }

@@ -8,6 +8,7 @@
 #![tactic(auto)]
 
 mod answer;
+mod board_readers;
 mod calls;
 mod codes;
 mod common;
@@ -18,6 +19,12 @@ mod controller_opening;
 mod controller_place;
 mod controller_readers;
 mod controller_slot;
+mod decoding;
+mod encoding;
+mod fields;
+mod given;
+mod given_build;
+mod given_fault;
 mod held;
 mod opening;
 mod parts;

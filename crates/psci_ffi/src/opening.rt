@@ -1,14 +1,17 @@
 //! Making a firmware, and letting it go.
 
-ghost use Rattle.std.specs.Prelude.{◌≡◌, None};
+ghost use Rattle.std.specs.Prelude.{◌≡◌, None, IfErr, IfOk, IsSomeAnd};
 ghost use Rattle.psci_board.specs.Verdict.{Answers, board_of};
 ghost use Rattle.psci_ffi.specs.Codes.{opened_said};
-ghost use Rattle.psci_ffi.specs.Shown.{Opens};
+ghost use Rattle.psci_ffi.specs.Given.{board_of_given};
+ghost use Rattle.psci_ffi.specs.Shown.{IsNew, Opens};
 
 use crate::codes::opened_code;
+use crate::given::GivenBoard;
+use crate::given_build::read_given;
 use crate::held::Held;
 use crate::place::Place;
-use psci_board::{Board, BoardFault};
+use psci_board::{Board, BoardFault, Memory};
 use std::alloc::Global;
 
 /// Puts a new firmware of the board that the text describes into the place, and frees the one that
@@ -20,6 +23,18 @@ pub extern "C" fn psci_open(alloc: Global, place: &mut Place, text: &[u8]) -> u3
         place.new.slot.kept }
 {
     opened_code(open(alloc, place, text))
+}
+
+/// The same, of the board that the struct gives: 0. Else the number of the struct's first fault, as
+/// of the text that says the same, or 8 where memory lacks, and nothing changes. 1 says that there
+/// are not one to three levels, that one has more than 256 nodes, or that no format has this number;
+/// 2 that a level has not as many nodes as the one above has children, or the highest not one.
+#[unsafe(no_mangle)]
+pub extern "C" fn psci_open_board(alloc: Global, place: &mut Place, board: &GivenBoard) -> u32
+    ensures { Opens (opened_said result) (board_of_given board.now) place.old.slot.kept
+        place.new.slot.kept }
+{
+    opened_code(open_board(alloc, place, board))
 }
 
 /// Frees the firmware in the place, which is empty then.
@@ -35,13 +50,15 @@ fn open(alloc: Global, place: &mut Place, text: &[u8]) -> Result<(), BoardFault>
     ensures { Opens result (board_of text.now) place.old.slot.kept place.new.slot.kept }
 {
     let board = read(alloc, text)?;
-    let held = Held::new(alloc, board)?;
-    let Ok(boxed) = Box::new(alloc, held) else {
-        return Err(BoardFault::Memory);
-    };
-    drop(place.take(alloc));
-    place.put(boxed);
-    Ok(())
+    Ok(renew(alloc, place, board)?)
+}
+
+/// The same, if the struct is a board's.
+fn open_board(alloc: Global, place: &mut Place, given: &GivenBoard) -> Result<(), BoardFault>
+    ensures { Opens result (board_of_given given.now) place.old.slot.kept place.new.slot.kept }
+{
+    let board = read_given(alloc, given)?;
+    Ok(renew(alloc, place, board)?)
 }
 
 /// The board of a text. It has a frame of its own, which is gone from the stack when the firmware is
@@ -51,4 +68,15 @@ pub fn read(alloc: Global, text: &[u8]) -> Result<Board, BoardFault>
     ensures { Answers result (board_of text.now) }
 {
     Board::read_bytes(alloc, text)
+}
+
+/// Puts a new firmware of this board into the place, if there is memory.
+fn renew(alloc: Global, place: &mut Place, board: Board) -> Result<(), Memory>
+    ensures done { IfOk result (λ _. IsSomeAnd place.new.slot.kept (IsNew board)) }
+    ensures same { IfErr result (λ _. place.new.slot.kept ≡ place.old.slot.kept) }
+{
+    let held = Box::new(alloc, Held::new(alloc, board)?)?;
+    drop(place.take(alloc));
+    place.put(held);
+    Ok(())
 }

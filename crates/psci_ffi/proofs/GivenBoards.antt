@@ -1,0 +1,189 @@
+-- A struct without a fault gives a board, and what is said of one with a fault.
+use Rattle.std.proofs.Common.{◌≡◌, ℕ, suc, zero, ◌<◌, ◌≤◌, ◌^◌, ◌-◌, ◌%◌, Bool, true, false, cond, List, [], ◌∷◌, length}
+use Rattle.std.proofs.Common.{take, map, sum, min, get_or, Option, Some, None, refl, ap, sym, ◌∙◌, subst, arith}
+use Rattle.std.specs.Prelude.{◌&&◌, ◌||◌, not, nat_lt, nat_le, ◌==◌, Result, Ok, Err}
+use Rattle.std.specs.List.{list_any, list_all}
+use Rattle.std.proofs.lemmas.Bool.Decides.{nat_tests}
+use Rattle.std.proofs.lemmas.List.{length-map, length-take}
+use Rattle.psci_board.specs.psci_format.declared.format.Format.{Format}
+use Rattle.psci_board.specs.declared.limits.TheConstants.{MOST_CORES, MOST_LIVES}
+use Rattle.psci_board.specs.Board.{BoardValue, IsBoard, IsTree, is_in_some, size_below}
+use Rattle.psci_board.specs.declared.fault.BoardFault.{BoardFault}
+use Rattle.psci_board.specs.declared.fault.BoardFault.TheVariants.{Uneven, TooWide, TooManyCores}
+use Rattle.psci_board.specs.declared.fault.BoardFault.TheVariants.{BadRange, BadBoot, BadLimit}
+use Rattle.psci_board.specs.declared.fault.BoardFault.TheVariants.{Grammar, Memory}
+use Rattle.psci_board.specs.Verdict.{Answers, is_limit, is_out_of_width}
+use Rattle.psci_board.proofs.KeptTree.{pass_width, within}
+use Rattle.psci_ffi.specs.declared.given.GivenBoard.{GivenBoard}
+use Rattle.psci_ffi.specs.declared.given.GivenLevel.{GivenLevel}
+use Rattle.psci_ffi.specs.Given.{board_given, board_of_given, fault_given, format_given, has_levels}
+use Rattle.psci_ffi.specs.Given.{has_bad_range, is_even, level_given, levels_given, ranges_given}
+
+-- Levels ---------------------------------------------------------------------------------------
+
+-- a level of a tree has at most as many children as a board has cores
+pub few_below : (ls : List GivenLevel) (i : ℕ) (l : GivenLevel) → i < length ls
+    → IsTree (map level_given ls) → sum (level_given (get_or ls i l)) ≤ MOST_CORES
+few_below [] i l h t = absurd (omega (arith, h))
+few_below (x ∷ ls) zero l h t = t.1
+few_below (x ∷ ls) (suc i) l h t = few_below ls i l (omega (arith, h)) t.3
+
+-- so many can be counted in a level
+pub small : (n : ℕ) → n ≤ MOST_CORES → n < 65536
+small n h = omega (arith, h)
+
+both : (a b : Bool) → (a && b) ≡ true → (a ≡ true) × (b ≡ true)
+both true b h = (refl, h)
+both false b h = cc
+
+either_false : (a b : Bool) → (a || b) ≡ false → (a ≡ false) × (b ≡ false)
+either_false true b h = cc
+either_false false b h = (refl, h)
+
+same : (a b : ℕ) → (a == b) ≡ true → a ≡ b
+same a b h = grind (arith, nat_tests)
+
+no_more : (a b : ℕ) → nat_le a b ≡ true → a ≤ b
+no_more a b h = grind (arith, nat_tests)
+
+-- no level has more nodes than a board has cores
+few_nodes : (ls : List GivenLevel) → list_all (λ l. nat_le l.nodes MOST_CORES) ls ≡ true
+    → list_all (λ w. nat_le (length w) MOST_CORES) (map level_given ls) ≡ true
+few_nodes [] h = refl
+few_nodes (l ∷ ls) h =
+    let p = both _ _ h in
+    let n = no_more l.nodes MOST_CORES p.0 in
+    let s = length-take l.nodes l.children in
+    let m : length (take l.nodes l.children) ≤ MOST_CORES = omega (arith, n, s) in
+    let t : nat_le (length (take l.nodes l.children)) MOST_CORES ≡ true = grind (arith, nat_tests) in
+    rw (t, few_nodes ls p.1) refl
+
+-- levels that fit each other, and are neither too wide nor too many, are a tree
+tree : (ws : List (List ℕ)) → is_even ws ≡ true
+    → list_any (λ w. list_any is_out_of_width w) ws ≡ false
+    → list_all (λ w. nat_le (length w) MOST_CORES) ws ≡ true → size_below ws ≤ MOST_CORES → IsTree ws
+tree [] e w n s = tt
+tree (v ∷ ws) e w n s =
+    let p = both _ _ e in
+    let q = either_false _ _ w in
+    let r = both _ _ n in
+    let fits = same (length v) (size_below ws) p.0 in
+    let few = no_more (length v) MOST_CORES r.0 in
+    (fits, s, pass_width v q.0, tree ws p.1 q.1 r.1 (omega (arith, fits, few)))
+
+-- Boards ---------------------------------------------------------------------------------------
+
+not_false : (b : Bool) → not b ≡ false → b ≡ true
+not_false true h = refl
+not_false false h = cc
+
+passed : (b : Bool) (f : BoardFault) (y : Option BoardFault)
+    → cond b (Some f) y ≡ None → (b ≡ false) × (y ≡ None)
+passed true f y h = cc
+passed false f y h = (refl, h)
+
+limited : (most n : ℕ) → is_limit most n ≡ true → (0 < n) × (n ≤ most)
+limited most n h = (grind (arith, nat_tests), grind (arith, nat_tests))
+
+low : (a : ℕ) → nat_lt 0 a ≡ true → 0 < a
+low a h = grind (arith, nat_tests)
+
+short : (g : GivenBoard) → g.height ≤ 3 → length (levels_given g) ≤ 3
+short g h =
+    let a = length-map (take g.height g.levels) level_given in
+    let b = length-take g.height g.levels in
+    omega (arith, a, b, h)
+
+-- what a struct without a fault gives
+pub is_board : (g : GivenBoard) (format : Format) → has_levels g ≡ true → fault_given g ≡ None
+    → IsBoard (board_given g format)
+unfolding fault_given
+is_board g format formed h =
+    let a = passed _ Uneven _ h in
+    let b = passed _ TooWide _ a.1 in
+    let c = passed _ TooManyCores _ b.1 in
+    let d = passed _ BadRange _ c.1 in
+    let e = passed _ BadBoot _ d.1 in
+    let f = passed _ BadLimit _ e.1 in
+    let outer = both _ _ formed in
+    let inner = both _ _ outer.0 in
+    let limits = both _ _ (not_false _ f.0) in
+    let starts = limited (2 ^ 32 - 1) g.starts limits.0 in
+    let lives = limited 65535 g.lives limits.1 in
+    record {
+      tree = tree (levels_given g) (not_false _ a.0) b.0 (few_nodes (take g.height g.levels) outer.1)
+          (within MOST_CORES _ c.0);
+      low = low _ inner.0;
+      high = short g (no_more g.height 3 inner.1);
+      boot = not_false _ e.0;
+      some_starts = starts.0;
+      starts = omega (arith, starts.1);
+      some_lives = lives.0;
+      lives = lives.1;
+    }
+
+-- What is said --------------------------------------------------------------------------------
+
+abbrev Said : Type 0
+Said = Result BoardValue BoardFault
+
+pub without_levels : (g : GivenBoard) → has_levels g ≡ false
+    → ◌≡◌ {A = Said} (board_of_given g) (Err Grammar)
+unfolding board_of_given
+without_levels g h = rw h refl
+
+pub without_format : (g : GivenBoard) → has_levels g ≡ true → format_given g.format ≡ None
+    → ◌≡◌ {A = Said} (board_of_given g) (Err Grammar)
+unfolding board_of_given
+without_format g h f = rw (h, f) refl
+
+with_fault : (g : GivenBoard) (format : Format) (fault : BoardFault) → has_levels g ≡ true
+    → format_given g.format ≡ Some format → fault_given g ≡ Some fault
+    → ◌≡◌ {A = Said} (board_of_given g) (Err fault)
+unfolding board_of_given
+with_fault g format fault h f e = rw (h, f, e) refl
+
+-- what is said is not that memory lacks
+not_memory : (a b c d e f : Bool)
+    → cond a (Some Uneven) (cond b (Some TooWide) (cond c (Some TooManyCores) (cond d (Some BadRange)
+    (cond e (Some BadBoot) (cond f (Some BadLimit) None))))) ≡ Some Memory → ⊥
+not_memory true b c d e f h = cc
+not_memory false true c d e f h = cc
+not_memory false false true d e f h = cc
+not_memory false false false true e f h = cc
+not_memory false false false false true f h = cc
+not_memory false false false false false true h = cc
+not_memory false false false false false false h = cc
+
+no_memory : (g : GivenBoard) → fault_given g ≡ Some Memory → ⊥
+unfolding fault_given
+no_memory g h =
+    not_memory (not (is_even (levels_given g)))
+    (list_any (λ w. list_any is_out_of_width w) (levels_given g))
+    (nat_lt MOST_CORES (size_below (levels_given g))) (has_bad_range g)
+    (not (g.boot % 4 == 0 && is_in_some (ranges_given g) g.boot))
+    (not (is_limit (2 ^ 32 - 1) g.starts && is_limit MOST_LIVES g.lives)) h
+
+by_fault : (fault : BoardFault) (said : Said) → (fault ≡ Memory → ⊥) → said ≡ Err fault
+    → Answers (Err fault) said
+by_fault Memory said p e = absurd (p refl)
+by_fault Grammar said p e = e
+by_fault Uneven said p e = e
+by_fault TooWide said p e = e
+by_fault TooManyCores said p e = e
+by_fault BadRange said p e = e
+by_fault BadBoot said p e = e
+by_fault BadLimit said p e = e
+
+pub bad_answer : (g : GivenBoard) (format : Format) (fault : BoardFault) → has_levels g ≡ true
+    → format_given g.format ≡ Some format → fault_given g ≡ Some fault
+    → Answers (Err fault) (board_of_given g)
+bad_answer g format fault h f e =
+    by_fault fault (board_of_given g) (λ m. no_memory g (e ∙ ap Some m))
+    (with_fault g format fault h f e)
+
+pub without_fault : (g : GivenBoard) (format : Format) → has_levels g ≡ true
+    → format_given g.format ≡ Some format → fault_given g ≡ None
+    → ◌≡◌ {A = Said} (board_of_given g) (Ok (board_given g format))
+unfolding board_of_given
+without_fault g format h f e = rw (h, f, e) refl

@@ -1,0 +1,63 @@
+//! Making the board that C gives.
+
+ghost use Rattle.std.specs.Prelude.{◌≡◌, IfOk, map};
+ghost use Rattle.psci_board.specs.Board.{IsBoard, IsTree};
+ghost use Rattle.psci_board.specs.Verdict.{Answers};
+ghost use Rattle.psci_ffi.specs.Given.{board_given, board_of_given, level_given, range_given};
+
+use crate::given::{GivenBoard, GivenLevel, GivenRange};
+use crate::given_fault::{fault, has_levels};
+use psci_board::{AddressRange, Board, Format, Level, Memory};
+use psci_board::BoardFault;
+use std::alloc::Global;
+
+/// The board of a struct, or its first fault. Memory is asked for only where there is none.
+#[tactic(auto, using(crate::proofs::GivenBoards::without_levels, crate::proofs::GivenBoards::without_format, crate::proofs::GivenBoards::bad_answer, crate::proofs::GivenBoards::without_fault, crate::proofs::GivenBoards::is_board))]
+pub fn read_given(alloc: Global, given: &GivenBoard) -> Result<Board, BoardFault>
+    ensures { Answers result (board_of_given given.now) }
+{
+    if !has_levels(given) {
+        return Err(BoardFault::Grammar);
+    }
+    let Some(format) = given.format() else {
+        return Err(BoardFault::Grammar);
+    };
+    match fault(given) {
+        Some(fault) => Err(fault),
+        None => Ok(build(alloc, given, format)?),
+    }
+}
+
+/// The board of a struct that has no fault.
+fn build(alloc: Global, given: &GivenBoard, format: Format) -> Result<Board, Memory>
+    requires { IsBoard (board_given given.now format) }
+    ensures { IfOk result (λ b. b ≡ board_given given.now format) }
+{
+    let levels = levels(alloc, given.levels())?;
+    let ranges = ranges(alloc, given.ranges())?;
+    let (starts, lives) = (given.starts, given.lives);
+    Ok(Board::new(levels, ranges, given.boot, starts, lives, format))
+}
+
+/// These levels.
+fn levels(alloc: Global, levels: &[GivenLevel]) -> Result<Vec<Level>, Memory>
+    requires { IsTree (map level_given levels.now) }
+    ensures { IfOk result (λ made. made.items ≡ map level_given levels.now) }
+{
+    let mut made = Vec::with_capacity(alloc, levels.len())?;
+    for level in levels {
+        made.push(Level::new(alloc, level.children())?)?;
+    }
+    Ok(made)
+}
+
+/// These ranges.
+fn ranges(alloc: Global, ranges: &[GivenRange]) -> Result<Vec<AddressRange>, Memory>
+    ensures { IfOk result (λ made. made.items ≡ map range_given ranges.now) }
+{
+    let mut made = Vec::with_capacity(alloc, ranges.len())?;
+    for range in ranges {
+        made.push(range.range())?;
+    }
+    Ok(made)
+}
