@@ -14,8 +14,8 @@ use Rattle.psci_messages.specs.declared.start.Cause.TheVariants.{On}
 use Rattle.psci_shared.specs.declared.entry.FwEntry.{FwEntry}
 use Rattle.psci_shared.specs.declared.entry.FwItem.{FwItem}
 use Rattle.psci_shared.specs.declared.fault.GatherCause.TheVariants.{Astray, Missing}
-use Rattle.psci_shared.specs.Agree.{Agree, Agrees, AllStandFrom, all_apart, apart, apart_from}
-use Rattle.psci_shared.specs.Agree.{has_place}
+use Rattle.psci_shared.specs.Agree.{Agree, Agrees, AllStandFrom}
+use Rattle.psci_shared.specs.Places.{all_apart, apart, apart_from, has_place, places}
 use Rattle.psci_shared.specs.Books.{BookView, entered, entry, history_of}
 use Rattle.psci_shared.specs.Gathers.{IsCause, items_of}
 use Rattle.psci_shared.specs.Passes.{PassView, item}
@@ -135,25 +135,26 @@ one_place_in_two h = false≢true h.1
 
 -- Places ------------------------------------------------------------------------------------------
 
-found : map (λ place. has_place place ours) (0 ∷ 1 ∷ 2 ∷ 3 ∷ [])
+found : map (λ place. has_place place (places ours)) (0 ∷ 1 ∷ 2 ∷ 3 ∷ [])
     ≡ true ∷ false ∷ true ∷ false ∷ []
 found = refl
 
-lists_apart : apart ours theirs ∷ apart ours ours ∷ apart [] ours ∷ []
+lists_apart : apart (places ours) (places theirs) ∷ apart (places ours) (places ours)
+    ∷ apart [] (places ours) ∷ []
     ≡ true ∷ false ∷ true ∷ []
 lists_apart = refl
 
 -- the second pass of two others has a place in common, the first has none
-second_is_not_apart : apart_from (pass false 0 ours)
-    (pass false 1 theirs ∷ pass false 0 (item 2 (ask 3) (Fault NoLife) ∷ []) ∷ []) ≡ false
+second_is_not_apart : apart_from (places ours)
+    (places theirs ∷ places (item 2 (ask 3) (Fault NoLife) ∷ []) ∷ []) ≡ false
 second_is_not_apart = refl
 
 -- not the first pass, but the two behind it
 last_two_are_not_apart :
-    all_apart (pass false 1 theirs ∷ pass false 0 ours ∷ pass false 0 ours ∷ []) ≡ false
+    all_apart (places theirs ∷ places ours ∷ places ours ∷ []) ≡ false
 last_two_are_not_apart = refl
 
-all_are_apart : all_apart (pass false 1 theirs ∷ pass false 0 ours ∷ pass false 1 [] ∷ []) ≡ true
+all_are_apart : all_apart (places theirs ∷ places ours ∷ [] ∷ []) ≡ true
 all_are_apart = refl
 
 -- each place of the book stands in one of two passes; the place in none, and the one in two

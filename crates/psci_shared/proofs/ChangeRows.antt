@@ -174,5 +174,6 @@ behind (suc zero) h = refl
 behind (suc (suc core)) h = let k : suc (suc core) < 2 = h in absurd (omega arith)
 
 one_behind : IsOneBehind board ((On ∷ Pending ∷ Off ∷ []) ∷ (Off ∷ []) ∷ []) entries 1
+    (Some (record { number = 1 }))
 unfolding history_of
-one_behind = (first, second, refl, refl, behind)
+one_behind = (first, second, refl, refl, refl, behind)

@@ -1,23 +1,19 @@
 -- Where passes agree with a book and have as many items as it has entries, each place of the book
 -- stands in exactly one pass.
 use Rattle.std.proofs.Common.{◌≡◌, ℕ, zero, suc, ◌+◌, ◌<◌, List, [], ◌∷◌, length, map}
-use Rattle.std.proofs.Common.{Bool, refl, sym, ap, ◌∙◌, arith}
-use Rattle.std.specs.Prelude.{◌==◌, ◌&&◌, ◌||◌, not, slice_get}
+use Rattle.std.proofs.Common.{refl, sym, ◌∙◌, arith}
+use Rattle.std.specs.Prelude.{slice_get}
 use Rattle.std.proofs.lemmas.List.{length-map}
 use Rattle.std.proofs.lemmas.List.Sums.{sum_by-cons}
 use Rattle.psci_fw.specs.psci_board.declared.node.Core.{Core}
 use Rattle.psci_shared.specs.declared.entry.FwEntry.{FwEntry}
 use Rattle.psci_shared.specs.declared.entry.FwItem.{FwItem}
 use Rattle.psci_shared.specs.Agree.{Agree, AllAgree, AllStandFrom, StandsAt}
-use Rattle.psci_shared.specs.Agree.{all_apart, apart, apart_from, has_place}
 use Rattle.psci_shared.specs.Books.{BookView}
 use Rattle.psci_shared.specs.Gathers.{items_of}
 use Rattle.psci_shared.specs.Passes.{PassView}
-use Rattle.psci_shared.specs.Places.{AllPlaced, places_of}
+use Rattle.psci_shared.specs.Places.{AllPlaced, places, places_of}
 use Rattle.psci_shared.proofs.Places as lists
-
-abbrev places : List FwItem → List ℕ
-places is = map (λ i. i.place) is
 
 found : (entries : List FwEntry) (place : ℕ) (core : Core) (i : FwItem)
     → StandsAt (slice_get entries place) core i → place < length entries
@@ -38,29 +34,6 @@ all_rise : (b : BookView) (ps : List PassView) → AllAgree b ps
 all_rise b [] h = tt
 all_rise b (p ∷ ps) h = (rises b.entries p.core 0 p.items h.0.1, all_rise b ps h.1)
 
-has_same : (place : ℕ) (is : List FwItem) → has_place place is ≡ lists.has place (places is)
-has_same place [] = refl
-has_same place (i ∷ is) = ap (λ (t : Bool). (i.place == place) || t) (has_same place is)
-
-apart_same : (is js : List FwItem) → apart is js ≡ lists.apart (places is) (places js)
-apart_same [] js = refl
-apart_same (i ∷ is) js =
-    ap (λ (t : Bool). not t && apart is js) (has_same i.place js)
-    ∙ ap (λ (t : Bool). not (lists.has i.place (places js)) && t) (apart_same is js)
-
-apart_from_same : (p : PassView) (qs : List PassView)
-    → apart_from p qs ≡ lists.apart_from (places_of p) (map places_of qs)
-apart_from_same p [] = refl
-apart_from_same p (q ∷ qs) =
-    ap (λ (t : Bool). t && apart_from p qs) (apart_same p.items q.items)
-    ∙ ap (λ (t : Bool). lists.apart (places_of p) (places_of q) && t) (apart_from_same p qs)
-
-all_apart_same : (ps : List PassView) → all_apart ps ≡ lists.all_apart (map places_of ps)
-all_apart_same [] = refl
-all_apart_same (p ∷ ps) =
-    ap (λ (t : Bool). t && all_apart ps) (apart_from_same p ps)
-    ∙ ap (λ (t : Bool). lists.apart_from (places_of p) (map places_of ps) && t) (all_apart_same ps)
-
 total_same : (ps : List PassView) → lists.total (map places_of ps) ≡ items_of ps
 total_same [] = refl
 total_same (p ∷ ps) =
@@ -75,4 +48,4 @@ pub all_placed : (b : BookView) (ps : List PassView) → Agree b ps
     → length b.entries ≡ items_of ps → AllPlaced b ps
 all_placed b ps h full =
     lists.each_once (length b.entries) (map places_of ps) (all_rise b ps h.0)
-    (sym (all_apart_same ps) ∙ h.1) (total_same ps ∙ sym full)
+    h.1 (total_same ps ∙ sym full)

@@ -2,11 +2,11 @@
 -- there are as many as there are places, each place stands in exactly one list, once.
 use Rattle.std.proofs.Common.{◌≡◌, ◌⊎◌, inl, inr, ℕ, zero, suc, ◌+◌, ◌<◌, ◌≤◌, List, [], ◌∷◌}
 use Rattle.std.proofs.Common.{length, Bool, true, false, refl, sym, ap, subst, ◌∙◌, arith}
-use Rattle.std.specs.Prelude.{◌==◌, ◌&&◌, ◌||◌, not, if◌then◌else◌, count_by}
+use Rattle.std.specs.Prelude.{◌==◌, not, if◌then◌else◌, count_by}
 use Rattle.std.proofs.lemmas.Bool.{and_parts, or_parts, not-true, ne_eqb, cases_eq}
 use Rattle.std.proofs.lemmas.Bool.Decides.{nat_tests}
 use Rattle.std.proofs.lemmas.List.Sums.{sum_by-cons}
-use Rattle.psci_shared.specs.Places.{EachOnce, times}
+use Rattle.psci_shared.specs.Places.{EachOnce, all_apart, apart, apart_from, has_place, times}
 
 -- Lists that share no place, and rise -------------------------------------------------------------
 
@@ -18,22 +18,6 @@ Rising n from (p ∷ ps) = (from ≤ p) × (p < n) × Rising n (p + 1) ps
 abbrev pub AllRising : ℕ → List (List ℕ) → Type 0
 AllRising n [] = Unit {0}
 AllRising n (ps ∷ pss) = Rising n 0 ps × AllRising n pss
-
-abbrev pub has : ℕ → List ℕ → Bool
-has k [] = false
-has k (p ∷ ps) = (p == k) || has k ps
-
-abbrev pub apart : List ℕ → List ℕ → Bool
-apart [] qs = true
-apart (p ∷ ps) qs = not (has p qs) && apart ps qs
-
-abbrev pub apart_from : List ℕ → List (List ℕ) → Bool
-apart_from ps [] = true
-apart_from ps (qs ∷ qss) = apart ps qs && apart_from ps qss
-
-abbrev pub all_apart : List (List ℕ) → Bool
-all_apart [] = true
-all_apart (ps ∷ pss) = apart_from ps pss && all_apart pss
 
 -- how many places there are in all
 abbrev pub total : List (List ℕ) → ℕ
@@ -107,10 +91,10 @@ one_list n from (p ∷ ps) k h = elim (cases_eq p k) [
       omega arith
 ]
 
-not_has : (k : ℕ) (ps : List ℕ) → has k ps ≡ false → in_list k ps ≡ 0
+not_has : (k : ℕ) (ps : List ℕ) → has_place k ps ≡ false → in_list k ps ≡ 0
 not_has k [] e = refl
 not_has k (p ∷ ps) e =
-    let parts = or_parts (p == k) (has k ps) e in
+    let parts = or_parts (p == k) (has_place k ps) e in
     let a : once p k ≡ 0 = ap (λ (t : Bool). if t then 1 else 0) parts.0 in
     let b : in_list k ps ≡ 0 = not_has k ps parts.1 in
     omega arith
@@ -119,10 +103,10 @@ one_of_two : (k : ℕ) (ps qs : List ℕ) → apart ps qs ≡ true
     → (in_list k ps ≡ 0) ⊎ (in_list k qs ≡ 0)
 one_of_two k [] qs e = inl refl
 one_of_two k (p ∷ ps) qs e =
-    let parts = and_parts (not (has p qs)) (apart ps qs) e in
+    let parts = and_parts (not (has_place p qs)) (apart ps qs) e in
     elim (cases_eq p k) [
       | inl is ↦
-          inr (not_has k qs (subst (λ (m : ℕ). has m qs ≡ false) is (not-true (has p qs) parts.0)))
+          inr (not_has k qs (subst (λ (m : ℕ). has_place m qs ≡ false) is (not-true (has_place p qs) parts.0)))
       | inr ne ↦ elim (one_of_two k ps qs parts.1) [
         | inl none ↦ inl (let a : once p k ≡ 0 = once_other p k ne in omega arith)
         | inr none ↦ inr none

@@ -1,5 +1,5 @@
 -- A core that the last call does not name has nothing more to be written.
-use Rattle.std.proofs.Common.{◌≡◌, ◌≢◌, ℕ, List, [], ◌∷◌, ◌++◌, false, refl, sym, ap, ◌∙◌}
+use Rattle.std.proofs.Common.{◌≡◌, ◌≢◌, ℕ, List, ◌∷◌, false, refl, sym, ap, ◌∙◌}
 use Rattle.std.proofs.Common.{subst, Option}
 use Rattle.std.specs.Prelude.{◌<◌}
 use Rattle.psci_fw.specs.psci_board.Board.{BoardValue, cores}
@@ -22,13 +22,8 @@ use Rattle.psci_polled.proofs.Staying.{status_stays}
 use Rattle.psci_status.specs.Lists.{row}
 use Rattle.psci_shared.specs.declared.entry.FwEntry.{FwEntry}
 use Rattle.psci_shared.specs.Books.{exchange_of, history_of}
-use Rattle.psci_shared.specs.Writing.{IsOneBehind, named_by, named_in, written_after}
+use Rattle.psci_shared.specs.Writing.{IsOneBehind, named_by, written_after}
 use Rattle.psci_shared.proofs.Histories.{history_more}
-
--- this is the core that the last call may name
-abbrev pub Tells : List FwEntry → Option Core → Type 0
-Tells entries changed =
-    (past : List FwEntry) (last : FwEntry) → entries ≡ past ++ last ∷ [] → changed ≡ named_in last
 
 -- a call names no other core
 names_no_other : (b : BoardValue) (c : Core) (core : ℕ) (call : FwCall) (reply : FwReply)
@@ -47,13 +42,12 @@ names_no_other b c core (Take ack) (Fault fault) other = refl
 
 pub others_stay : (b : BoardValue) (log : List (List Status)) (entries : List FwEntry)
     (before : ℕ) (changed : Option Core) (v : Values)
-    → IsOneBehind b log entries before → Tells entries changed
-    → v ≡ values_of b (history_of entries)
+    → IsOneBehind b log entries before changed → v ≡ values_of b (history_of entries)
     → (core : ℕ) → core < cores b → is_named changed core ≡ false → v.life ≡ before
     → v.life ≢ 0 → added (v.status core) (row log core) ≡ row log core
 unfolding values_of
-others_stay b log entries before changed v (past, last, is, was, wrote) tells at core small other
-    same some =
+others_stay b log entries before changed v (past, last, is, was, named, wrote) at core small other same
+    some =
     let h = history_of past in
     let e = exchange_of last in
     let more : history_of entries ≡ e ∷ h = ap history_of is ∙ history_more past last in
@@ -64,7 +58,7 @@ others_stay b log entries before changed v (past, last, is, was, wrote) tells at
     let stays : v.status core ≡ status b h core =
     ap (λ (u : Values). u.status core) at ∙ ap (λ (x : List FwExchange). status b x core) more
     ∙ status_stays b e h core lives (names_no_other b last.core core last.call last.reply
-    (subst (λ (k : Option Core). is_named k core ≡ false) (tells past last is) other)) in
+    (subst (λ (k : Option Core). is_named k core ≡ false) named other)) in
     ap (λ (s : Status). added s (row log core)) stays
     ∙ ap (λ (ss : List Status). added (status b h core) ss) (wrote core small)
     ∙ added_last b h core begun ∙ sym (wrote core small)

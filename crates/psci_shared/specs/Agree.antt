@@ -1,11 +1,12 @@
 -- When passes agree with a book.
-use Rattle.std.specs.Prelude.{◌≡◌, ℕ, ◌+◌, List, [], ◌∷◌, Option, Some, None, Bool, true, false}
-use Rattle.std.specs.Prelude.{◌&&◌, ◌||◌, ◌==◌, not, ◌≤◌, slice_get, length}
+use Rattle.std.specs.Prelude.{◌≡◌, ℕ, ◌+◌, List, [], ◌∷◌, Option, Some, None, true}
+use Rattle.std.specs.Prelude.{◌≤◌, slice_get, length, map}
 use Rattle.psci_fw.specs.psci_board.declared.node.Core.{Core}
 use Rattle.psci_shared.specs.declared.entry.FwEntry.{FwEntry}
 use Rattle.psci_shared.specs.declared.entry.FwItem.{FwItem}
 use Rattle.psci_shared.specs.Books.{BookView}
 use Rattle.psci_shared.specs.Passes.{PassView}
+use Rattle.psci_shared.specs.Places.{all_apart, places_of}
 
 -- the entry is the item's call of this core, with the item's reply
 abbrev pub IsOf : FwEntry → Core → FwItem → Type 0
@@ -37,26 +38,6 @@ abbrev pub AllAgree : BookView → List PassView → Type 0
 AllAgree b [] = Unit {0}
 AllAgree b (p ∷ ps) = Agrees b p × AllAgree b ps
 
--- whether an item has this place
-abbrev pub has_place : ℕ → List FwItem → Bool
-has_place place [] = false
-has_place place (i ∷ is) = (i.place == place) || has_place place is
-
--- whether no place is in both lists
-abbrev pub apart : List FwItem → List FwItem → Bool
-apart [] others = true
-apart (i ∷ is) others = not (has_place i.place others) && apart is others
-
--- whether a pass has no place of another one
-abbrev pub apart_from : PassView → List PassView → Bool
-apart_from p [] = true
-apart_from p (q ∷ qs) = apart p.items q.items && apart_from p qs
-
--- whether no two passes have one place
-abbrev pub all_apart : List PassView → Bool
-all_apart [] = true
-all_apart (p ∷ ps) = apart_from p ps && all_apart ps
-
 -- each pass agrees with the book, and no two passes have one place
 abbrev pub Agree : BookView → List PassView → Type 0
-Agree b ps = AllAgree b ps × (all_apart ps ≡ true)
+Agree b ps = AllAgree b ps × (all_apart (map places_of ps) ≡ true)

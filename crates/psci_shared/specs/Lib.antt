@@ -3,6 +3,7 @@ pub mod Answered
 pub mod Books
 pub mod Gathers
 pub mod Inside
+pub mod Locked
 pub mod Names
 pub mod Passes
 pub mod Places

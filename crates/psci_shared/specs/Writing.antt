@@ -56,8 +56,9 @@ named_by core call reply = None
 abbrev pub named_in : FwEntry → Option Core
 named_in e = named_by e.core e.call e.reply
 
--- all but the last call of these entries was written, and this was the life before the last call
-abbrev pub IsOneBehind : BoardValue → List (List Status) → List FwEntry → ℕ → Type 0
-IsOneBehind b log entries before =
+-- all but the last call of these entries was written, this was the life before the last call, and
+-- this is the core that it may name
+abbrev pub IsOneBehind : BoardValue → List (List Status) → List FwEntry → ℕ → Option Core → Type 0
+IsOneBehind b log entries before named =
     (past : List FwEntry) × (last : FwEntry) × (entries ≡ past ++ last ∷ [])
-    × (before ≡ life b (history_of past)) × IsWritten b log past
+    × (before ≡ life b (history_of past)) × (named ≡ named_in last) × IsWritten b log past

@@ -1,9 +1,10 @@
 //! Whether passes agree with a book.
 
-ghost use Rattle.std.specs.Prelude.{◌≡◌, ◌↔◌, IsTrue, slice_get, option_map};
+ghost use Rattle.std.specs.Prelude.{◌≡◌, ◌↔◌, IsTrue, slice_get, option_map, map};
 ghost use Rattle.psci_shared.specs.Agree.{Agree, Agrees, AllAgree, AllStandFrom, IsOf};
-ghost use Rattle.psci_shared.specs.Agree.{StandsAt, StandsFrom, all_apart, apart, apart_from};
-ghost use Rattle.psci_shared.specs.Agree.{has_place};
+ghost use Rattle.psci_shared.specs.Agree.{StandsAt, StandsFrom};
+ghost use Rattle.psci_shared.specs.Places.{all_apart, apart, apart_from, has_place, places};
+ghost use Rattle.psci_shared.specs.Places.{places_of};
 
 use crate::book::FwBook;
 use crate::entry::{FwEntry, FwItem};
@@ -76,7 +77,7 @@ fn is_of(entry: &FwEntry, core: Core, item: &FwItem) -> bool
 }
 
 fn all_apart<N: Named>(passes: &[Pass<N>]) -> bool
-    ensures { result ≡ all_apart passes.now }
+    ensures { result ≡ all_apart (map places_of passes.now) }
 {
     match passes {
         [] => true,
@@ -85,7 +86,7 @@ fn all_apart<N: Named>(passes: &[Pass<N>]) -> bool
 }
 
 fn apart_from<N: Named>(one: &Pass<N>, others: &[Pass<N>]) -> bool
-    ensures { result ≡ apart_from one.now others.now }
+    ensures { result ≡ apart_from (places_of one.now) (map places_of others.now) }
 {
     for other in others {
         if !apart(one.items(), other.items()) {
@@ -96,7 +97,7 @@ fn apart_from<N: Named>(one: &Pass<N>, others: &[Pass<N>]) -> bool
 }
 
 fn apart(one: &[FwItem], other: &[FwItem]) -> bool
-    ensures { result ≡ apart one.now other.now }
+    ensures { result ≡ apart (places one.now) (places other.now) }
 {
     for item in one {
         if has_place(other, item.place) {
@@ -107,7 +108,7 @@ fn apart(one: &[FwItem], other: &[FwItem]) -> bool
 }
 
 fn has_place(items: &[FwItem], place: u32) -> bool
-    ensures { result ≡ has_place place items.now }
+    ensures { result ≡ has_place place (places items.now) }
 {
     for item in items {
         if item.place == place {

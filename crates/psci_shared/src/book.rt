@@ -1,9 +1,9 @@
 //! The firmware with all that it was asked and answered.
 
-use crate::entry::{BookFull, FwEntry, FwItem, keep, same_outcome, same_reply};
+use crate::asking::{ask, ask_for};
+use crate::entry::{BookFull, FwEntry, FwItem, same_reply};
 use crate::named::Named;
-use crate::writing::changed;
-use psci_fw::{Firmware, FwCall, FwFault, FwReply, Outcome, law_values};
+use psci_fw::{Firmware, FwCall, FwReply, law_values};
 use psci_status::{Board, Core, Memory};
 use std::alloc::Global;
 use std::marker::{Model, PhantomData};
@@ -33,14 +33,12 @@ impl<N: Named> Model for FwBook<N> {
 ghost use Rattle.std.specs.Prelude.{◌≡◌, ◌<◌, ◌≤◌, ◌+◌, ◌^◌, List, [], ◌∷◌, ◌++◌, length};
 ghost use Rattle.std.specs.Prelude.{IfOk, OnOk, OnErr, vec_len, vec_capacity};
 ghost use Rattle.psci_fw.specs.Seen.{seen};
-ghost use Rattle.psci_fw.specs.psci_fw_spec.After.{after};
-ghost use Rattle.psci_fw.specs.psci_fw_spec.Answer.{answer, reply_of};
 ghost use Rattle.psci_fw.specs.psci_fw_spec.History.{life, values_of};
 ghost use Rattle.psci_fw.specs.psci_fw_spec.Legal.{IsLegal};
 ghost use Rattle.psci_shared.specs.Passes.{Fits, item};
+ghost use Rattle.psci_shared.specs.Locked.{IsNamed};
 ghost use Rattle.psci_shared.specs.declared.entry.FwEntry.{FwEntry};
 ghost use Rattle.psci_shared.specs.Books.{answer_after, entered, entry, history_of};
-ghost use Rattle.psci_shared.specs.Writing.{named_in};
 
 impl<N: Named> FwBook<N> {
     /// A firmware of this board that was asked nothing, and a book with room for so many entries.
@@ -63,6 +61,7 @@ impl<N: Named> FwBook<N> {
     }
 
     /// Carries out a call of this core and enters it, unless the book is full.
+    #[tactic(auto, using(crate::proofs::Histories::history_more))]
     pub fn step(&mut self, ticket: u64, core: Core, call: FwCall) -> Result<FwReply, BookFull>
         ensures reply { IfOk result (λ reply. reply
             ≡ answer_after N.board self.old.entries core.number call) }
@@ -73,28 +72,40 @@ impl<N: Named> FwBook<N> {
         ensures full { OnErr result
             ((length self.old.entries ≡ self.old.room) × (self.new ≡ self.old)) }
     {
-        match self.carry_out(ticket, core, call) {
-            Ok(()) => Ok(self.last_reply()),
-            Err(BookFull) => Err(BookFull),
+        if self.entries.len() == self.room as usize {
+            return Err(BookFull);
         }
+        law_values();
+        let reply = ask(&mut self.firmware, core, &call);
+        self.entries
+            .push_reserved(FwEntry::of(ticket, core, call, reply.copy()));
+        Ok(reply)
     }
 
-    /// The same, with the reply in the entry alone.
-    #[inline(always)]
+    /// The same for a pass, in whose list the call goes as well: with the reply in both alone, and the
+    /// core that the call may name. `A` is for the compiler, as in all that is done under the lock: so
+    /// each kind of call has its own.
     #[tactic(auto, using(crate::proofs::Histories::history_more))]
-    pub(crate) fn carry_out(
+    pub(crate) fn carry_out<A>(
         &mut self,
+        items: &mut Vec<FwItem>,
+        place: u32,
         ticket: u64,
         core: Core,
         call: FwCall,
-    ) -> Result<(), BookFull>
-        ensures fits { OnOk result
-            (Fits call (answer_after N.board self.old.entries core.number call)) }
-        ensures ok { OnOk result (self.new ≡ entered self.old
+    ) -> Result<Option<Core>, BookFull>
+        requires place { place ≡ length self.old.entries }
+        requires room { vec_len items.old < vec_capacity items.old }
+        ensures named { IfOk result (λ named. IsNamed core call
+            (answer_after N.board self.old.entries core.number call) named) }
+        ensures book { OnOk result (self.new ≡ entered self.old
             (entry ticket core call (answer_after N.board self.old.entries core.number call))) }
-        ensures room { OnOk result (length self.old.entries < self.old.room) }
-        ensures full { OnErr result
-            ((length self.old.entries ≡ self.old.room) × (self.new ≡ self.old)) }
+        ensures items { OnOk result (items.new.items ≡ items.old.items
+            ++ item place call (answer_after N.board self.old.entries core.number call) ∷ []) }
+        ensures room { OnOk result ((vec_len items.new ≡ vec_len items.old + 1)
+            × (vec_capacity items.new ≡ vec_capacity items.old)) }
+        ensures full { OnErr result ((length self.old.entries ≡ self.old.room)
+            × (self.new ≡ self.old) × (items.new ≡ items.old)) }
     {
         if self.entries.len() == self.room as usize {
             return Err(BookFull);
@@ -106,36 +117,16 @@ impl<N: Named> FwBook<N> {
             room: _,
             of: _,
         } = self;
-        ask(firmware, entries, ticket, core, call);
-        Ok(())
+        Ok(ask_for::<A>(firmware, entries, items, place, ticket, core, call))
     }
 
     /// The reply of the last entry.
-    #[inline(always)]
     pub(crate) fn last_reply(&self) -> FwReply
         requires { 0 < length self.now.entries }
         ensures { (past : List FwEntry) (last : FwEntry) → self.now.entries ≡ past ++ last ∷ []
             → result ≡ last.reply }
     {
         same_reply(&self.entries[self.entries.len() - 1].reply)
-    }
-
-    /// The last call goes into the list of a pass, with this place.
-    #[inline(always)]
-    pub(crate) fn keep_last(&self, items: &mut Vec<FwItem>, place: u32, call: FwCall)
-        requires some { 0 < length self.now.entries }
-        requires room { vec_len items.old < vec_capacity items.old }
-        ensures items { (past : List FwEntry) (last : FwEntry) → self.now.entries ≡ past ++ last ∷ []
-            → items.new.items ≡ items.old.items ++ item place call last.reply ∷ [] }
-        ensures len { vec_len items.new ≡ vec_len items.old + 1 }
-        ensures capacity { vec_capacity items.new ≡ vec_capacity items.old }
-    {
-        keep(
-            items,
-            place,
-            call,
-            &self.entries[self.entries.len() - 1].reply,
-        );
     }
 
     /// How many entries there are.
@@ -170,14 +161,6 @@ impl<N: Named> FwBook<N> {
         let _room = self.room;
     }
 
-    /// The core that the last call may name, if there is one.
-    pub(crate) fn changed(&self) -> Option<Core>
-        ensures { (past : List FwEntry) (last : FwEntry) → self.now.entries ≡ past ++ last ∷ []
-            → result ≡ named_in last }
-    {
-        self.entries.as_slice().last().and_then(changed)
-    }
-
     /// The firmware, to look at.
     pub(crate) fn firmware(&self) -> &Firmware
         ensures board { result.now.board ≡ N.board }
@@ -192,72 +175,5 @@ impl<N: Named> FwBook<N> {
         ensures { result ≡ life N.board (history_of self.now.entries) }
     {
         self.firmware.life().unwrap_or(0)
-    }
-}
-
-/// The firmware's reply to a call of this core is entered. Each kind of reply is written to its place
-/// where it is found, so that none of them is moved on the way.
-#[inline(always)]
-fn ask(firmware: &mut Firmware, entries: &mut Vec<FwEntry>, ticket: u64, core: Core, call: FwCall)
-    requires room { vec_len entries.old < vec_capacity entries.old }
-    ensures entries { entries.new.items ≡ entries.old.items ++ entry ticket core call
-        (answer firmware.old.board (seen firmware.old) core.number call) ∷ [] }
-    ensures len { vec_len entries.new ≡ vec_len entries.old + 1 }
-    ensures capacity { vec_capacity entries.new ≡ vec_capacity entries.old }
-    ensures fits { Fits call (answer firmware.old.board (seen firmware.old) core.number call) }
-    ensures after { seen firmware.new ≡ after firmware.old.board core.number call
-        (answer firmware.old.board (seen firmware.old) core.number call) (seen firmware.old) }
-    ensures board { firmware.new.board ≡ firmware.old.board }
-{
-    match call {
-        FwCall::Smc(regs) => {
-            let answered = firmware.smc(core, regs);
-            record(entries, ticket, core, call, &answered);
-        }
-        FwCall::Enter(start) => {
-            let answered = firmware.enter(core, start);
-            record(entries, ticket, core, call, &answered);
-        }
-        FwCall::Take(ack) => {
-            let reply = FwReply::Taken(firmware.take(ack.copy()));
-            let call = FwCall::Take(ack);
-            entries.push_reserved(FwEntry {
-                ticket,
-                core,
-                call,
-                reply,
-            });
-        }
-    }
-}
-
-/// Enters an outcome or a refusal.
-#[inline(always)]
-fn record(
-    entries: &mut Vec<FwEntry>,
-    ticket: u64,
-    core: Core,
-    call: FwCall,
-    answered: &Result<Outcome, FwFault>,
-)
-    requires room { vec_len entries.old < vec_capacity entries.old }
-    ensures entries { entries.new.items
-        ≡ entries.old.items ++ entry ticket core call (reply_of answered.now) ∷ [] }
-    ensures len { vec_len entries.new ≡ vec_len entries.old + 1 }
-    ensures capacity { vec_capacity entries.new ≡ vec_capacity entries.old }
-{
-    match answered {
-        Ok(outcome) => entries.push_reserved(FwEntry {
-            ticket,
-            core,
-            call,
-            reply: FwReply::Out(same_outcome(outcome)),
-        }),
-        Err(fault) => entries.push_reserved(FwEntry {
-            ticket,
-            core,
-            call,
-            reply: FwReply::Fault(*fault),
-        }),
     }
 }

@@ -1,9 +1,10 @@
 //! What a book and a pass keep of a call.
 
-ghost use Rattle.std.specs.Prelude.{◌≡◌, ◌<◌, ◌+◌, [], ◌∷◌, ◌++◌, vec_len, vec_capacity};
+ghost use Rattle.std.specs.Prelude.{◌≡◌, None};
+ghost use Rattle.psci_shared.specs.Books.{entry};
 ghost use Rattle.psci_shared.specs.Passes.{item};
 
-use psci_fw::{FwCall, FwReply, Outcome};
+use psci_fw::{Act, FwCall, FwReply, Outcome};
 use psci_status::Core;
 
 /// A call of the firmware, as its book keeps it.
@@ -30,13 +31,41 @@ pub struct FwItem {
     pub reply: FwReply,
 }
 
+impl FwEntry {
+    /// An entry.
+    pub(crate) fn of(ticket: u64, core: Core, call: FwCall, reply: FwReply) -> FwEntry
+        ensures { result ≡ entry ticket core call reply }
+    {
+        FwEntry {
+            ticket,
+            core,
+            call,
+            reply,
+        }
+    }
+}
+
+impl FwItem {
+    /// An item.
+    pub(crate) fn of(place: u32, call: FwCall, reply: FwReply) -> FwItem
+        ensures { result ≡ item place call reply }
+    {
+        FwItem { place, call, reply }
+    }
+}
+
 /// The book, or the pass's own list, has no room for one call more.
 #[derive(Clone, Copy, Debug, PartialEq, Eq, Drop)]
 pub struct BookFull;
 
-/// An equal outcome. Its message is copied as a whole, whether there is one or not: so no part of it
-/// is moved twice.
-#[inline(always)]
+/// An outcome that sends nothing. Where there is no message, none is copied: its room stays as it is.
+pub(crate) fn quiet(act: Act) -> Outcome
+    ensures { result ≡ record { act = act; message = None } }
+{
+    Outcome { act, message: None }
+}
+
+/// An equal outcome, with the whole room of its message.
 pub(crate) fn same_outcome(outcome: &Outcome) -> Outcome
     ensures { result ≡ outcome.now }
 {
@@ -47,41 +76,13 @@ pub(crate) fn same_outcome(outcome: &Outcome) -> Outcome
 }
 
 /// An equal reply.
-#[inline(always)]
 pub(crate) fn same_reply(reply: &FwReply) -> FwReply
     ensures { result ≡ reply.now }
 {
     match reply {
+        FwReply::Out(Outcome { act, message: None }) => FwReply::Out(quiet(*act)),
         FwReply::Out(outcome) => FwReply::Out(same_outcome(outcome)),
         FwReply::Taken(taken) => FwReply::Taken(*taken),
         FwReply::Fault(fault) => FwReply::Fault(*fault),
-    }
-}
-
-/// Adds an item to the list of a pass. Each kind of reply is written to its place where it is found,
-/// so that none of them is moved on the way.
-#[inline(always)]
-pub(crate) fn keep(items: &mut Vec<FwItem>, place: u32, call: FwCall, reply: &FwReply)
-    requires room { vec_len items.old < vec_capacity items.old }
-    ensures items { items.new.items ≡ items.old.items ++ item place call reply.now ∷ [] }
-    ensures len { vec_len items.new ≡ vec_len items.old + 1 }
-    ensures capacity { vec_capacity items.new ≡ vec_capacity items.old }
-{
-    match reply {
-        FwReply::Out(outcome) => items.push_reserved(FwItem {
-            place,
-            call,
-            reply: FwReply::Out(same_outcome(outcome)),
-        }),
-        FwReply::Taken(taken) => items.push_reserved(FwItem {
-            place,
-            call,
-            reply: FwReply::Taken(*taken),
-        }),
-        FwReply::Fault(fault) => items.push_reserved(FwItem {
-            place,
-            call,
-            reply: FwReply::Fault(*fault),
-        }),
     }
 }

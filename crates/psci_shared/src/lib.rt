@@ -10,6 +10,7 @@
 #![tactic(auto)]
 
 mod agreement;
+mod asking;
 mod book;
 mod entry;
 mod fault;

@@ -6,6 +6,7 @@ ghost use Rattle.psci_fw.specs.psci_fw_spec.Legal.{IsLegal};
 ghost use Rattle.psci_status.specs.Lists.{Item, gains};
 ghost use Rattle.psci_status.specs.Seats.{table, table_of_writer, written};
 ghost use Rattle.psci_shared.specs.Books.{answer_after, entered, entry, history_of};
+ghost use Rattle.psci_shared.specs.Locked.{IsEntered, IsReply};
 ghost use Rattle.psci_shared.specs.Passes.{Fits, called, item, told};
 ghost use Rattle.psci_shared.specs.Writing.{AllLast, IsWritten, Stand};
 
@@ -45,7 +46,6 @@ pub struct FwLocked<N: Named> {
 impl<N: Named> FwLocked<N> {
     /// Carries out a call for the pass's core, and enters it, unless the book or the pass's list is
     /// full. An entered call leaves the pass with the last status of each core.
-    #[inline(always)]
     pub fn call(
         &mut self,
         words: &StatusWords,
@@ -70,6 +70,27 @@ impl<N: Named> FwLocked<N> {
         ensures full { OnErr result (length self.old.book.entries ≡ N.room) }
         ensures made { self.new.made ≡ self.old.made }
     {
+        self.call_of::<FwCall>(words, ticket, pass, call)
+    }
+
+    /// The same, compiled once for each `A`, as each kind of call has its own.
+    pub(crate) fn call_of<A>(
+        &mut self,
+        words: &StatusWords,
+        ticket: u64,
+        pass: &mut Pass<N>,
+        call: FwCall,
+    ) -> Result<FwReply, BookFull>
+        requires { table words.now ≡ N.table }
+        ensures legal { IsLegal N.board (history_of self.old.book.entries) }
+        ensures reply { IfOk result (λ reply. IsReply N.board self.old.book.entries
+            pass.old.core.number call reply) }
+        ensures entered { IfOk result (λ reply. IsEntered N.board ticket self.old.book
+            self.new.book pass.old pass.new call reply) }
+        ensures err { OnErr result ((self.new.book ≡ self.old.book) × (pass.new ≡ told pass.old)
+            × (length self.old.book.entries ≡ N.room)) }
+        ensures made { self.new.made ≡ self.old.made }
+    {
         let FwLocked {
             book,
             made: _,
@@ -85,11 +106,10 @@ impl<N: Named> FwLocked<N> {
             return Err(BookFull);
         }
         let before = book.life();
-        match book.carry_out(ticket, pass.core, call.copy()) {
-            Ok(()) => {
+        match book.carry_out::<A>(&mut pass.items, place, ticket, pass.core, call) {
+            Ok(named) => {
                 total.add(&mut pass.share, 1);
-                book.keep_last(&mut pass.items, place, call);
-                write_all(words, writer, book, before, *count);
+                write_all::<N, A>(words, writer, book, before, named, *count);
                 words.meet(writer, &mut pass.reader);
                 Ok(book.last_reply())
             }

@@ -145,7 +145,7 @@ impl<'t, N: Named> SharedFirmware<'t, N> {
             (λ outcome. IsAnswered N.board pass.old pass.new (calls.Smc regs) (replies.Out outcome))
             (λ fault. IsAnsweredFault N.board N.room pass.old pass.new (calls.Smc regs) fault) }
     {
-        match self.call(rt, pass, FwCall::Smc(regs)) {
+        match self.call::<R, Regs>(rt, pass, FwCall::Smc(regs)) {
             Ok(FwReply::Out(outcome)) => Ok(outcome),
             Ok(FwReply::Fault(fault)) => Err(CallFault::Fw(fault)),
             Ok(FwReply::Taken(_)) => unreachable!(),
@@ -168,7 +168,7 @@ impl<'t, N: Named> SharedFirmware<'t, N> {
             (λ outcome. IsAnswered N.board pass.old pass.new (calls.Enter start) (replies.Out outcome))
             (λ fault. IsAnsweredFault N.board N.room pass.old pass.new (calls.Enter start) fault) }
     {
-        match self.call(rt, pass, FwCall::Enter(start)) {
+        match self.call::<R, Start>(rt, pass, FwCall::Enter(start)) {
             Ok(FwReply::Out(outcome)) => Ok(outcome),
             Ok(FwReply::Fault(fault)) => Err(CallFault::Fw(fault)),
             Ok(FwReply::Taken(_)) => unreachable!(),
@@ -185,7 +185,7 @@ impl<'t, N: Named> SharedFirmware<'t, N> {
         ensures full { OnErr result (IsFull N.board N.room) }
         ensures err { OnErr result (pass.new ≡ told pass.old) }
     {
-        match self.call(rt, pass, FwCall::Take(ack)) {
+        match self.call::<R, Ack>(rt, pass, FwCall::Take(ack)) {
             Ok(FwReply::Taken(taken)) => Ok(taken),
             Ok(_) => unreachable!(),
             Err(BookFull) => Err(BookFull),
@@ -265,9 +265,14 @@ impl<'t, N: Named> SharedFirmware<'t, N> {
         })
     }
 
-    /// A call for the pass's core, under the lock. Where nobody holds it, it is taken at once.
-    #[inline(always)]
-    fn call<R: Wait>(&self, rt: &R, pass: &mut Pass<N>, call: FwCall) -> Result<FwReply, BookFull>
+    /// A call for the pass's core, under the lock. Where nobody holds it, it is taken at once. `A` is
+    /// what is asked: this is compiled once for each kind of call, and then asks no more which it is.
+    fn call<R: Wait, A>(
+        &self,
+        rt: &R,
+        pass: &mut Pass<N>,
+        call: FwCall,
+    ) -> Result<FwReply, BookFull>
         ensures ok { IfOk result (λ reply. IsCalled pass.old pass.new call reply) }
         ensures answered { IfOk result (λ reply.
             IsAnswered N.board pass.old pass.new call reply) }
@@ -280,7 +285,7 @@ impl<'t, N: Named> SharedFirmware<'t, N> {
             None => self.locked.lock(rt),
         };
         let ticket = self.tickets.draw();
-        locked.call(&self.words, ticket, pass, call)
+        locked.call_of::<A>(&self.words, ticket, pass, call)
     }
 }
 

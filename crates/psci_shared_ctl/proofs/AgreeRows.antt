@@ -14,10 +14,10 @@ use Rattle.psci_shared_ctl.specs.declared.entry.CtlEntry.{CtlEntry}
 use Rattle.psci_shared_ctl.specs.declared.entry.CtlItem.{CtlItem}
 use Rattle.psci_shared.specs.declared.fault.GatherCause.TheVariants.{Astray, Missing}
 use Rattle.psci_shared.specs.Places.{times}
-use Rattle.psci_shared_ctl.specs.Agree.{Agree, Agrees, AllStandFrom, all_apart, apart, apart_from}
-use Rattle.psci_shared_ctl.specs.Agree.{has_place}
+use Rattle.psci_shared_ctl.specs.Agree.{Agree, Agrees, AllStandFrom}
 use Rattle.psci_shared_ctl.specs.Books.{BookView, entered, entry, history_of}
-use Rattle.psci_shared_ctl.specs.Gathers.{IsCause, items_of}
+use Rattle.psci_shared.specs.Gathers.{IsCause}
+use Rattle.psci_shared_ctl.specs.Gathers.{items_of}
 use Rattle.psci_shared_ctl.specs.Passes.{PassView, item}
 use Rattle.psci_shared_ctl.specs.Places.{places_of}
 
@@ -122,25 +122,6 @@ one_place_in_two : Agree wide (pass false theirs ∷ pass false theirs ∷ []) �
 one_place_in_two h = false≢true h.1
 
 -- Places ------------------------------------------------------------------------------------------
-
-found : map (λ place. has_place place ours) (0 ∷ 1 ∷ 2 ∷ 3 ∷ [])
-    ≡ true ∷ false ∷ true ∷ false ∷ []
-found = refl
-
-lists_apart : apart ours theirs ∷ apart ours ours ∷ apart [] ours ∷ []
-    ≡ true ∷ false ∷ true ∷ []
-lists_apart = refl
-
-second_is_not_apart : apart_from (pass false ours)
-    (pass false theirs ∷ pass false (item 2 (wake 2) ignored ∷ []) ∷ []) ≡ false
-second_is_not_apart = refl
-
-last_two_are_not_apart : all_apart (pass false theirs ∷ pass false ours ∷ pass false ours ∷ [])
-    ≡ false
-last_two_are_not_apart = refl
-
-all_are_apart : all_apart (pass false theirs ∷ pass false ours ∷ pass false [] ∷ []) ≡ true
-all_are_apart = refl
 
 placed : map (λ place. times place (map places_of (pass false ours ∷ pass false theirs ∷ [])))
     (0 ∷ 1 ∷ 2 ∷ 3 ∷ []) ≡ 1 ∷ 1 ∷ 1 ∷ 0 ∷ []

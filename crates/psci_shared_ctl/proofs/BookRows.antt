@@ -11,7 +11,7 @@ use Rattle.psci_ctl.specs.psci_ctl_spec.declared.kick.Kick.TheVariants as kicks
 use Rattle.psci_ctl.specs.psci_ctl_spec.declared.reply.CtlReply.TheVariants.{Kick}
 use Rattle.psci_ctl.specs.psci_ctl_spec.psci_messages.declared.start.Cause.TheVariants as causes
 use Rattle.psci_shared_ctl.specs.declared.entry.CtlEntry.{CtlEntry}
-use Rattle.psci_shared_ctl.specs.Agree.{Agree, all_apart}
+use Rattle.psci_shared_ctl.specs.Agree.{Agree}
 use Rattle.psci_shared_ctl.specs.Books.{entered, entry, history_of}
 use Rattle.psci_shared_ctl.specs.Gathers.{items_of}
 use Rattle.psci_shared_ctl.specs.Inside.{IsTied}
@@ -64,9 +64,6 @@ no_items = refl
 
 items_of_empty_passes : items_of (pass false [] ∷ pass true ours ∷ pass false [] ∷ []) ≡ 2
 items_of_empty_passes = refl
-
-empty_passes_are_apart : all_apart (pass false [] ∷ pass false [] ∷ []) ≡ true
-empty_passes_are_apart = refl
 
 -- Places ------------------------------------------------------------------------------------------
 

@@ -1,10 +1,12 @@
 -- When passes agree with a book.
-use Rattle.std.specs.Prelude.{◌≡◌, ℕ, ◌+◌, List, [], ◌∷◌, Option, Some, None, Bool, true, false}
-use Rattle.std.specs.Prelude.{◌&&◌, ◌||◌, ◌==◌, not, ◌≤◌, slice_get, length}
+use Rattle.std.specs.Prelude.{◌≡◌, ℕ, ◌+◌, List, [], ◌∷◌, Option, Some, None, true}
+use Rattle.std.specs.Prelude.{◌≤◌, slice_get, length, map}
 use Rattle.psci_shared_ctl.specs.declared.entry.CtlEntry.{CtlEntry}
 use Rattle.psci_shared_ctl.specs.declared.entry.CtlItem.{CtlItem}
 use Rattle.psci_shared_ctl.specs.Books.{BookView}
 use Rattle.psci_shared_ctl.specs.Passes.{PassView}
+use Rattle.psci_shared_ctl.specs.Places.{places_of}
+use Rattle.psci_shared.specs.Places.{all_apart}
 
 -- the entry is the item's call, with the item's reply
 abbrev pub IsOf : CtlEntry → CtlItem → Type 0
@@ -36,26 +38,6 @@ abbrev pub AllAgree : BookView → List PassView → Type 0
 AllAgree b [] = Unit {0}
 AllAgree b (p ∷ ps) = Agrees b p × AllAgree b ps
 
--- whether an item has this place
-abbrev pub has_place : ℕ → List CtlItem → Bool
-has_place place [] = false
-has_place place (i ∷ is) = (i.place == place) || has_place place is
-
--- whether no place is in both lists
-abbrev pub apart : List CtlItem → List CtlItem → Bool
-apart [] others = true
-apart (i ∷ is) others = not (has_place i.place others) && apart is others
-
--- whether a pass has no place of another one
-abbrev pub apart_from : PassView → List PassView → Bool
-apart_from p [] = true
-apart_from p (q ∷ qs) = apart p.items q.items && apart_from p qs
-
--- whether no two passes have one place
-abbrev pub all_apart : List PassView → Bool
-all_apart [] = true
-all_apart (p ∷ ps) = apart_from p ps && all_apart ps
-
 -- each pass agrees with the book, and no two passes have one place
 abbrev pub Agree : BookView → List PassView → Type 0
-Agree b ps = AllAgree b ps × (all_apart ps ≡ true)
+Agree b ps = AllAgree b ps × (all_apart (map places_of ps) ≡ true)

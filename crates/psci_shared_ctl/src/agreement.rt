@@ -1,9 +1,10 @@
 //! Whether passes agree with a book.
 
-ghost use Rattle.std.specs.Prelude.{◌≡◌, ◌↔◌, IsTrue, slice_get, option_map};
+ghost use Rattle.std.specs.Prelude.{◌≡◌, ◌↔◌, IsTrue, slice_get, option_map, map};
 ghost use Rattle.psci_shared_ctl.specs.Agree.{Agree, Agrees, AllAgree, AllStandFrom, IsOf};
-ghost use Rattle.psci_shared_ctl.specs.Agree.{StandsAt, StandsFrom, all_apart, apart, apart_from};
-ghost use Rattle.psci_shared_ctl.specs.Agree.{has_place};
+ghost use Rattle.psci_shared_ctl.specs.Agree.{StandsAt, StandsFrom};
+ghost use Rattle.psci_shared_ctl.specs.Places.{places, places_of};
+ghost use Rattle.psci_shared.specs.Places.{all_apart, apart, apart_from, has_place};
 
 use crate::book::CtlBook;
 use crate::entry::{CtlEntry, CtlItem, is_same_call, is_same_reply};
@@ -74,7 +75,7 @@ fn is_of(entry: &CtlEntry, item: &CtlItem) -> bool
 }
 
 fn all_apart<N: Named>(passes: &[CtlPass<N>]) -> bool
-    ensures { result ≡ all_apart passes.now }
+    ensures { result ≡ all_apart (map places_of passes.now) }
 {
     match passes {
         [] => true,
@@ -83,7 +84,7 @@ fn all_apart<N: Named>(passes: &[CtlPass<N>]) -> bool
 }
 
 fn apart_from<N: Named>(one: &CtlPass<N>, others: &[CtlPass<N>]) -> bool
-    ensures { result ≡ apart_from one.now others.now }
+    ensures { result ≡ apart_from (places_of one.now) (map places_of others.now) }
 {
     for other in others {
         if !apart(one.items(), other.items()) {
@@ -94,7 +95,7 @@ fn apart_from<N: Named>(one: &CtlPass<N>, others: &[CtlPass<N>]) -> bool
 }
 
 fn apart(one: &[CtlItem], other: &[CtlItem]) -> bool
-    ensures { result ≡ apart one.now other.now }
+    ensures { result ≡ apart (places one.now) (places other.now) }
 {
     for item in one {
         if has_place(other, item.place) {
@@ -105,7 +106,7 @@ fn apart(one: &[CtlItem], other: &[CtlItem]) -> bool
 }
 
 fn has_place(items: &[CtlItem], place: u32) -> bool
-    ensures { result ≡ has_place place items.now }
+    ensures { result ≡ has_place place (places items.now) }
 {
     for item in items {
         if item.place == place {

@@ -10,7 +10,8 @@ ghost use Rattle.psci_ctl.specs.psci_ctl_spec.Legal.{IsCall, IsLegal, IsSendable
 ghost use Rattle.psci_ctl.specs.psci_ctl_spec.Replies.{last_start};
 ghost use Rattle.psci_shared_ctl.specs.declared.entry.CtlEntry.{CtlEntry};
 ghost use Rattle.psci_shared_ctl.specs.Agree.{Agree};
-ghost use Rattle.psci_shared_ctl.specs.Gathers.{IsCause, items_of};
+ghost use Rattle.psci_shared.specs.Gathers.{IsCause};
+ghost use Rattle.psci_shared_ctl.specs.Gathers.{items_of};
 ghost use Rattle.psci_shared_ctl.specs.Answered.{IsAnswered, IsFull};
 ghost use Rattle.psci_shared_ctl.specs.Books.{history_of};
 ghost use Rattle.psci_shared_ctl.specs.Passes.{Fits, IsCalled, IsNoPass, first, told};

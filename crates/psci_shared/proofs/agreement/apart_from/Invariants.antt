@@ -1,7 +1,8 @@
-use Rattle.std.proofs.Common.{◌≡◌, drop}
-use Rattle.psci_shared.specs.Agree.{apart_from}
+use Rattle.std.proofs.Common.{◌≡◌, drop, map}
+use Rattle.psci_shared.specs.Places.{apart_from, places_of}
 use Rattle.psci_shared.proofs.agreement.apart_from.Given as goal
 
 abbrev pub invariant-loop-other : goal.invariant-loop-other
 invariant-loop-other g l =
-    apart_from l.one (drop l.other-index l.others) ≡ apart_from l.one l.others
+    apart_from (places_of l.one) (map places_of (drop l.other-index l.others))
+    ≡ apart_from (places_of l.one) (map places_of l.others)

@@ -8,8 +8,7 @@ use Rattle.psci_shared.proofs.writing.write_all.Goals as goal
 pub write_changed-requires-clause-others : goal.write_changed-requires-clause-others
 write_changed-requires-clause-others g c = λ core small named same some.
     others_stay g.N.Named.board (written c.args.writer.now) c.args.book.now.entries c.args.before
-    c.changed-changed.result (seen c.firmware.result.now) c.requires.behind
-    c.changed-changed.ensures c.firmware.ensures.values core
+    c.args.named (seen c.firmware.result.now) c.requires.behind c.firmware.ensures.values core
     (subst (λ (n : ℕ). core < n) c.requires.cores.0 small) named same some
 
 pub returns-clause-log : goal.returns-clause-log

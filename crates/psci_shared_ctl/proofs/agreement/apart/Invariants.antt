@@ -1,6 +1,9 @@
 use Rattle.std.proofs.Common.{◌≡◌, drop}
-use Rattle.psci_shared_ctl.specs.Agree.{apart}
+use Rattle.psci_shared.specs.Places.{apart}
+use Rattle.psci_shared_ctl.specs.Places.{places}
 use Rattle.psci_shared_ctl.proofs.agreement.apart.Given as goal
 
 abbrev pub invariant-loop-item : goal.invariant-loop-item
-invariant-loop-item l = apart (drop l.item-index l.one) l.other ≡ apart l.one l.other
+invariant-loop-item l =
+    apart (places (drop l.item-index l.one)) (places l.other)
+    ≡ apart (places l.one) (places l.other)

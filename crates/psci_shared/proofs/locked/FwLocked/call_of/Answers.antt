@@ -3,7 +3,7 @@ use Rattle.psci_status.specs.Lists.{newest}
 use Rattle.psci_status.specs.Seats.{written}
 use Rattle.psci_shared.specs.Books.{BookView}
 use Rattle.psci_shared.proofs.Written.{few_written, written_on}
-use Rattle.psci_shared.proofs.locked.FwLocked.call.Goals as goal
+use Rattle.psci_shared.proofs.locked.FwLocked.call_of.Goals as goal
 
 pub write_all-requires-clause-few : goal.write_all-requires-clause-few
 write_all-requires-clause-few g c =
@@ -15,15 +15,21 @@ write_all-requires-clause-behind g c =
     let old = c.args.self.now in (
       old.book.entries,
       _,
-      ap (λ (k : BookView). k.entries) c.in-Ok.ensures.ok,
+      ap (λ (k : BookView). k.entries) c.in-Ok.ensures.book,
       c.life-before.ensures,
+      c.in-Ok.ensures.named.1,
       old.written,
     )
 
 pub invariant_of-self-in-Ok-clause-written : goal.invariant_of-self-in-Ok-clause-written
 invariant_of-self-in-Ok-clause-written g c =
-    written_on _ _ _ _ _ _ _ _ c.in-Ok.ensures.ok c.life-before.ensures c.args.self.now.written
+    written_on _ _ _ _ _ _ _ _ c.in-Ok.ensures.book c.life-before.ensures c.args.self.now.written
     c.write_all.ensures.log c.meet.ensures.log
 
-pub returns-in-Ok-clause-pass : goal.returns-in-Ok-clause-pass
-returns-in-Ok-clause-pass g c = (map newest (written c.write_all.new.writer), search rules)
+pub returns-in-Ok-clause-entered : goal.returns-in-Ok-clause-entered
+returns-in-Ok-clause-entered g c = (
+  search rules,
+  (map newest (written c.write_all.new.writer), search rules),
+  search rules,
+  search rules,
+)
