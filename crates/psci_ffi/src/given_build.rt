@@ -7,8 +7,7 @@ ghost use Rattle.psci_ffi.specs.Given.{board_given, board_of_given, level_given,
 
 use crate::given::{GivenBoard, GivenLevel, GivenRange};
 use crate::given_fault::{fault, has_levels};
-use psci_board::{AddressRange, Board, Format, Level, Memory};
-use psci_board::BoardFault;
+use psci_board::{AddressRange, Board, BoardFault, Format, Level, Memory};
 use std::alloc::Global;
 
 /// The board of a struct, or its first fault. Memory is asked for only where there is none.

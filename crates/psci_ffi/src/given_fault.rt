@@ -8,8 +8,7 @@ ghost use Rattle.psci_ffi.specs.Given.{fault_given, has_bad_range, has_levels, i
 ghost use Rattle.psci_ffi.specs.Given.{level_given, levels_given, range_given, ranges_given};
 
 use crate::given::{GivenBoard, GivenLevel, GivenRange};
-use psci_board::{MOST_CHILDREN, MOST_CORES, MOST_LEVELS, MOST_LIVES, MOST_RANGES};
-use psci_board::BoardFault;
+use psci_board::{BoardFault, MOST_CHILDREN, MOST_CORES, MOST_LEVELS, MOST_LIVES, MOST_RANGES};
 
 /// Whether there are one to three levels, none of more nodes than there is room for.
 pub fn has_levels(given: &GivenBoard) -> bool
