@@ -1,31 +1,48 @@
-//! What a run hands back: the entries of both books, gathered with the passes of all threads.
+//! What a run hands back: the entries of both books, gathered with the passes of all threads, and
+//! what these saw by polls.
 
-ghost use Rattle.std.specs.Prelude.{◌≡◌, IfOk};
+ghost use Rattle.std.specs.Prelude.{◌≡◌, IfOk, OnOk};
+ghost use Rattle.psci_ctl.specs.psci_ctl_spec.Legal as controls;
+ghost use Rattle.psci_fw.specs.psci_fw_spec.Legal.{IsLegal};
+ghost use Rattle.psci_shared.specs.Books.{history_of};
+ghost use Rattle.psci_shared.specs.Gathers.{AllStand};
+ghost use Rattle.psci_shared_ctl.specs.Books as control_books;
+ghost use Rattle.psci_workers.specs.Seen.{AllInHistory, AreSeen};
 
 use crate::cut::Cut;
 use crate::platform::Returned;
-use psci_shared::{Core, FwEntry, Named, SharedFirmware};
-use psci_shared_ctl::{CtlEntry, SharedController};
+use psci_shared::{Core, FwEntry, Named, Pass, SharedFirmware, Sighting};
+use psci_shared_ctl::{CtlEntry, CtlPass, SharedController};
 use std::alloc::{AllocError, Global};
 
-/// The entries of both books, each in the order of its book.
+/// The entries of both books, each in the order of its book, and what was seen by polls.
 #[derive(Drop)]
 pub struct Gathered {
     /// What the firmware was asked, with its replies.
     pub firmware: Vec<FwEntry>,
     /// What the power controller was asked, with its replies.
     pub controller: Vec<CtlEntry>,
-    /// How often each core's thread has read a status without the lock, core by core.
+    /// What each core's thread has read without the lock, core by core.
     pub polls: Vec<Polled>,
 }
 
-/// How often a core's thread has read the status of a core without the lock.
-#[derive(Clone, Copy, Debug, PartialEq, Eq)]
+/// What a core's thread has read without the lock.
+#[derive(Drop)]
 pub struct Polled {
     /// The core whose thread it is.
     pub core: Core,
-    /// How often.
+    /// How often it has read the status of a core.
     pub polls: u64,
+    /// What it saw, the first first. Polls in a row that saw the same stand there once.
+    pub seen: Vec<Sighting>,
+}
+
+/// What all threads have handed back.
+#[derive(Drop)]
+struct Handed<N: Named, M: Named> {
+    passes: Vec<Pass<N>>,
+    asked: Vec<CtlPass<M>>,
+    polls: Vec<Polled>,
 }
 
 /// The entries of a run whose threads handed these back, or the first fault of a thread.
@@ -34,31 +51,93 @@ pub(crate) fn gather<N: Named, M: Named>(
     firmware: SharedFirmware<'_, N>,
     controller: SharedController<'_, M>,
     returned: Vec<Returned<N, M>>,
-) -> Result<Gathered, Cut> {
-    let mut passes = Vec::new(alloc);
-    let mut asked = Vec::new(alloc);
-    let mut polls = Vec::new(alloc);
+) -> Result<Gathered, Cut>
+    ensures legal { IfOk result (λ g. IsLegal N.board (history_of g.firmware.items)) }
+    ensures controls { IfOk result (λ g. controls.IsLegal M.board
+        (control_books.history_of g.controller.items)) }
+    ensures seen { IfOk result (λ g. AllInHistory N.board g.firmware.items g.polls.items) }
+{
+    let Handed {
+        passes,
+        asked,
+        polls,
+    } = handed_in(alloc, returned)?;
+    Ok(Gathered {
+        firmware: gathered(alloc, firmware, passes)?,
+        controller: gathered_controls(alloc, controller, asked)?,
+        polls,
+    })
+}
+
+/// What these threads have handed back, or the first fault of one.
+fn handed_in<N: Named, M: Named>(
+    alloc: Global,
+    returned: Vec<Returned<N, M>>,
+) -> Result<Handed<N, M>, Cut>
+    ensures { IfOk result (λ h. AreSeen N.board h.passes.items h.polls.items) }
+{
+    let mut handed = Handed {
+        passes: Vec::new(alloc),
+        asked: Vec::new(alloc),
+        polls: Vec::new(alloc),
+    };
     for thread in returned {
-        if let Some(fault) = thread.fault {
-            return Err(fault);
-        }
-        passes.push(thread.pass)?;
-        asked.push(thread.asked)?;
-        if let Some(polled) = thread.polled {
-            polls.push(polled)?;
-        }
+        add(&mut handed, thread)?;
     }
+    Ok(handed)
+}
+
+/// What one thread more has handed back, or its fault.
+fn add<N: Named, M: Named>(handed: &mut Handed<N, M>, thread: Returned<N, M>) -> Result<(), Cut>
+    requires { AreSeen N.board handed.old.passes.items handed.old.polls.items }
+    ensures { OnOk result (AreSeen N.board handed.new.passes.items handed.new.polls.items) }
+{
+    let Returned {
+        watch,
+        asked,
+        core,
+        fault,
+    } = thread;
+    if let Some(fault) = fault {
+        return Err(fault);
+    }
+    let (pass, seen, polls) = watch.into_parts();
+    handed.passes.push(pass)?;
+    handed.asked.push(asked)?;
+    if let Some(core) = core {
+        handed.polls.push(Polled { core, polls, seen })?;
+    }
+    Ok(())
+}
+
+/// The entries of a firmware that is gathered with these passes.
+fn gathered<N: Named>(
+    alloc: Global,
+    firmware: SharedFirmware<'_, N>,
+    passes: Vec<Pass<N>>,
+) -> Result<Vec<FwEntry>, Cut>
+    ensures legal { IfOk result (λ entries. IsLegal N.board (history_of entries.items)) }
+    ensures stood { IfOk result (λ entries. AllStand N.board entries.items passes.items) }
+{
     let Ok(books) = firmware.gather(passes) else {
         return Err(Cut::Gather);
     };
-    let Ok(others) = controller.gather(asked) else {
+    Ok(copied(alloc, books.book.entries())?)
+}
+
+/// The entries of a power controller that is gathered with these passes.
+fn gathered_controls<M: Named>(
+    alloc: Global,
+    controller: SharedController<'_, M>,
+    passes: Vec<CtlPass<M>>,
+) -> Result<Vec<CtlEntry>, Cut>
+    ensures { IfOk result (λ entries. controls.IsLegal M.board
+        (control_books.history_of entries.items)) }
+{
+    let Ok(books) = controller.gather(passes) else {
         return Err(Cut::Gather);
     };
-    Ok(Gathered {
-        firmware: copied(alloc, books.book.entries())?,
-        controller: copied_controls(alloc, others.book.entries())?,
-        polls,
-    })
+    Ok(copied_controls(alloc, books.book.entries())?)
 }
 
 /// The entries of a firmware's book.
