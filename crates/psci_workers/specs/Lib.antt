@@ -1,3 +1,4 @@
+pub mod Histories
 pub mod Seen
 pub mod Watches
 pub use Rattle.psci_fw.specs as psci_fw

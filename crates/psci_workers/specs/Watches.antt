@@ -1,5 +1,6 @@
 -- What was seen by polls with a pass.
-use Rattle.std.specs.Prelude.{◌≡◌, ◌⊎◌, ◌<◌, List, [], ◌∷◌, ◌++◌, Option, None, Some}
+use Rattle.std.specs.Prelude.{◌≡◌, ◌⊎◌, ◌<◌, ◌-◌, List, [], ◌∷◌, ◌++◌, length, slice_get}
+use Rattle.std.specs.Prelude.{Option, None, Some}
 use Rattle.psci_fw.specs.psci_board.Board.{BoardValue, cores}
 use Rattle.psci_fw.specs.psci_fw_spec.declared.status.Status.{Status}
 use Rattle.psci_status.specs.Lists.{Item, row}
@@ -22,15 +23,16 @@ abbrev pub HaveAllSeen : BoardValue → List (List Item) → List Sighting → T
 HaveAllSeen b items [] = Unit {0}
 HaveAllSeen b items (s ∷ ss) = HasSeen b items s × HaveAllSeen b items ss
 
--- this was seen last
+-- this was kept last
 abbrev pub IsLast : Sighting → List Sighting → Type 0
-IsLast s seen = (before : List Sighting) × (seen ≡ before ++ s ∷ [])
+IsLast s seen = slice_get seen (length seen - 1) ≡ Some s
 
--- it was kept: it stands last, where it stood last before or came there
-abbrev pub IsKept : List Sighting → Sighting → List Sighting → Type 0
-IsKept seen s seen' = (seen' ≡ seen ++ s ∷ []) ⊎ ((seen' ≡ seen) × IsLast s seen)
+-- what a poll saw, if it saw anything, was kept last, and its status is this
+abbrev pub IsSeenLast : Option Sighting → Option Status → List Sighting → Type 0
+IsSeenLast None status seen = status ≡ None
+IsSeenLast (Some s) status seen = (status ≡ Some s.status) × IsLast s seen
 
--- the status that a poll saw, if there is one, is the one that was kept last
-abbrev pub IsLastOf : Option Status → List Sighting → Type 0
-IsLastOf None seen = Unit {0}
-IsLastOf (Some status) seen = (s : Sighting) × (s.status ≡ status) × IsLast s seen
+-- nothing more was kept, or what was seen
+abbrev pub IsKept : List Sighting → Option Sighting → List Sighting → Type 0
+IsKept seen found seen' =
+    (seen' ≡ seen) ⊎ ((s : Sighting) × (found ≡ Some s) × (seen' ≡ seen ++ s ∷ []))

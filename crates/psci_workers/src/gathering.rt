@@ -1,16 +1,15 @@
 //! What a run hands back: the entries of both books, gathered with the passes of all threads, and
 //! what these saw by polls.
 
-ghost use Rattle.std.specs.Prelude.{◌≡◌, IfOk, OnOk};
-ghost use Rattle.psci_ctl.specs.psci_ctl_spec.Legal as controls;
-ghost use Rattle.psci_fw.specs.psci_fw_spec.Legal.{IsLegal};
-ghost use Rattle.psci_shared.specs.Books.{history_of};
+ghost use Rattle.std.specs.Prelude.{◌≡◌, IfOk, List, OnOk};
 ghost use Rattle.psci_shared.specs.Gathers.{AllStand};
-ghost use Rattle.psci_shared_ctl.specs.Books as control_books;
-ghost use Rattle.psci_workers.specs.Seen.{AllInHistory, AreSeen};
+ghost use Rattle.psci_workers.specs.declared.gathering.Polled.{Polled};
+ghost use Rattle.psci_workers.specs.Histories.{AreLegalCalls, AreLegalControls};
+ghost use Rattle.psci_workers.specs.Seen.{AllInHistory, AreSeen, IsSeenByOne};
 
 use crate::cut::Cut;
 use crate::platform::Returned;
+use crate::watch::Watch;
 use psci_shared::{Core, FwEntry, Named, Pass, SharedFirmware, Sighting};
 use psci_shared_ctl::{CtlEntry, CtlPass, SharedController};
 use std::alloc::{AllocError, Global};
@@ -46,15 +45,15 @@ struct Handed<N: Named, M: Named> {
 }
 
 /// The entries of a run whose threads handed these back, or the first fault of a thread.
+#[tactic(auto, using(crate::proofs::Kept::in_history))]
 pub(crate) fn gather<N: Named, M: Named>(
     alloc: Global,
     firmware: SharedFirmware<'_, N>,
     controller: SharedController<'_, M>,
     returned: Vec<Returned<N, M>>,
 ) -> Result<Gathered, Cut>
-    ensures legal { IfOk result (λ g. IsLegal N.board (history_of g.firmware.items)) }
-    ensures controls { IfOk result (λ g. controls.IsLegal M.board
-        (control_books.history_of g.controller.items)) }
+    ensures legal { IfOk result (λ g. AreLegalCalls N.board g.firmware.items) }
+    ensures controls { IfOk result (λ g. AreLegalControls M.board g.controller.items) }
     ensures seen { IfOk result (λ g. AllInHistory N.board g.firmware.items g.polls.items) }
 {
     let Handed {
@@ -63,8 +62,8 @@ pub(crate) fn gather<N: Named, M: Named>(
         polls,
     } = handed_in(alloc, returned)?;
     Ok(Gathered {
-        firmware: gathered(alloc, firmware, passes)?,
-        controller: gathered_controls(alloc, controller, asked)?,
+        firmware: firmware_entries(alloc, firmware, passes)?,
+        controller: controller_entries(alloc, controller, asked)?,
         polls,
     })
 }
@@ -88,6 +87,7 @@ fn handed_in<N: Named, M: Named>(
 }
 
 /// What one thread more has handed back, or its fault.
+#[tactic(auto, using(crate::proofs::Kept::both))]
 fn add<N: Named, M: Named>(handed: &mut Handed<N, M>, thread: Returned<N, M>) -> Result<(), Cut>
     requires { AreSeen N.board handed.old.passes.items handed.old.polls.items }
     ensures { OnOk result (AreSeen N.board handed.new.passes.items handed.new.polls.items) }
@@ -101,22 +101,36 @@ fn add<N: Named, M: Named>(handed: &mut Handed<N, M>, thread: Returned<N, M>) ->
     if let Some(fault) = fault {
         return Err(fault);
     }
-    let (pass, seen, polls) = watch.into_parts();
-    handed.passes.push(pass)?;
     handed.asked.push(asked)?;
+    let (seen, polls) = add_pass(&mut handed.passes, watch)?;
     if let Some(core) = core {
         handed.polls.push(Polled { core, polls, seen })?;
     }
     Ok(())
 }
 
+/// What was seen by polls with one pass more, which has seen it, and how often it was polled with.
+#[tactic(auto, using(crate::proofs::Kept::by_last, crate::proofs::Kept::seen_more))]
+fn add_pass<N: Named>(
+    passes: &mut Vec<Pass<N>>,
+    watch: Watch<N>,
+) -> Result<(Vec<Sighting>, u64), Cut>
+    ensures seen { IfOk result (λ r. IsSeenByOne N.board passes.new.items r.0.items) }
+    ensures before { OnOk result ((polls : List Polled)
+        → AreSeen N.board passes.old.items polls → AreSeen N.board passes.new.items polls) }
+{
+    let (pass, seen, polls) = watch.into_parts();
+    passes.push(pass)?;
+    Ok((seen, polls))
+}
+
 /// The entries of a firmware that is gathered with these passes.
-fn gathered<N: Named>(
+fn firmware_entries<N: Named>(
     alloc: Global,
     firmware: SharedFirmware<'_, N>,
     passes: Vec<Pass<N>>,
 ) -> Result<Vec<FwEntry>, Cut>
-    ensures legal { IfOk result (λ entries. IsLegal N.board (history_of entries.items)) }
+    ensures legal { IfOk result (λ entries. AreLegalCalls N.board entries.items) }
     ensures stood { IfOk result (λ entries. AllStand N.board entries.items passes.items) }
 {
     let Ok(books) = firmware.gather(passes) else {
@@ -126,13 +140,12 @@ fn gathered<N: Named>(
 }
 
 /// The entries of a power controller that is gathered with these passes.
-fn gathered_controls<M: Named>(
+fn controller_entries<M: Named>(
     alloc: Global,
     controller: SharedController<'_, M>,
     passes: Vec<CtlPass<M>>,
 ) -> Result<Vec<CtlEntry>, Cut>
-    ensures { IfOk result (λ entries. controls.IsLegal M.board
-        (control_books.history_of entries.items)) }
+    ensures { IfOk result (λ entries. AreLegalControls M.board entries.items) }
 {
     let Ok(books) = controller.gather(passes) else {
         return Err(Cut::Gather);

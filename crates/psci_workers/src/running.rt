@@ -1,13 +1,10 @@
 //! A run of core threads over one firmware and one power controller.
 
 ghost use Rattle.std.specs.Prelude.{◌≡◌, ◌≤◌, [], ◌∷◌, replicate, IfOk};
-ghost use Rattle.psci_ctl.specs.psci_ctl_spec.Legal as controls;
 ghost use Rattle.psci_fw.specs.psci_board.Board.{cores};
 ghost use Rattle.psci_fw.specs.psci_fw_spec.declared.status.Status.TheVariants.{Off};
-ghost use Rattle.psci_fw.specs.psci_fw_spec.Legal.{IsLegal};
-ghost use Rattle.psci_shared.specs.Books.{history_of};
-ghost use Rattle.psci_shared_ctl.specs.Books as control_books;
 ghost use Rattle.psci_status.specs.Seats.{table, table_of_writer, written};
+ghost use Rattle.psci_workers.specs.Histories.{AreLegalCalls, AreLegalControls};
 ghost use Rattle.psci_workers.specs.Seen.{AllInHistory};
 
 use crate::cut::Cut;
@@ -68,9 +65,8 @@ pub fn run_cores<R: Threads + Wait + Sync, G: Gate + Sync>(
     gate: &G,
 ) -> Result<Gathered, Cut>
     requires { cores board.now ≤ 64 }
-    ensures legal { IfOk result (λ g. IsLegal board.now (history_of g.firmware.items)) }
-    ensures controls { IfOk result (λ g. controls.IsLegal board.now
-        (control_books.history_of g.controller.items)) }
+    ensures legal { IfOk result (λ g. AreLegalCalls board.now g.firmware.items) }
+    ensures controls { IfOk result (λ g. AreLegalControls board.now g.controller.items) }
     ensures seen { IfOk result (λ g. AllInHistory board.now g.firmware.items g.polls.items) }
 {
     let Ok((words, writer)) = StatusWords::new(alloc, board) else {
@@ -114,10 +110,9 @@ where
     requires words { (table makings.words ≡ N.table) × (N.table.words ≡ cores N.board) }
     requires writer { (table_of_writer makings.writer ≡ N.table)
         × (written makings.writer ≡ replicate (cores N.board) (Off ∷ [])) }
-    ensures legal { IfOk result (λ g. IsLegal plan.board.now (history_of g.firmware.items)) }
-    ensures controls { IfOk result (λ g. controls.IsLegal plan.board.now
-        (control_books.history_of g.controller.items)) }
-    ensures seen { IfOk result (λ g. AllInHistory plan.board.now g.firmware.items g.polls.items) }
+    ensures legal { IfOk result (λ g. AreLegalCalls N.board g.firmware.items) }
+    ensures controls { IfOk result (λ g. AreLegalControls M.board g.controller.items) }
+    ensures seen { IfOk result (λ g. AllInHistory N.board g.firmware.items g.polls.items) }
 {
     let Makings {
         words,
@@ -146,9 +141,8 @@ where
     R: Threads + Wait + Sync,
     G: Gate + Sync,
     requires { (plan.board.now ≡ N.board) × (plan.board.now ≡ M.board) }
-    ensures legal { IfOk result (λ g. IsLegal N.board (history_of g.firmware.items)) }
-    ensures controls { IfOk result (λ g. controls.IsLegal M.board
-        (control_books.history_of g.controller.items)) }
+    ensures legal { IfOk result (λ g. AreLegalCalls N.board g.firmware.items) }
+    ensures controls { IfOk result (λ g. AreLegalControls M.board g.controller.items) }
     ensures seen { IfOk result (λ g. AllInHistory N.board g.firmware.items g.polls.items) }
 {
     let mut firmware = firmware;

@@ -23,8 +23,9 @@ impl<N: Named> Model for Watch<N> {
     ghost invariant = { λ w. HaveAllSeen N.board w.pass.seen w.seen.items };
 }
 
-ghost use Rattle.std.specs.Prelude.{◌≡◌, [], IfOk, OnOk, OnErr};
-ghost use Rattle.psci_workers.specs.Watches.{HaveAllSeen, IsKept, IsLastOf};
+ghost use Rattle.std.specs.Prelude.{◌≡◌, [], IfOk, Option};
+ghost use Rattle.psci_shared.specs.declared.sighting.Sighting.{Sighting};
+ghost use Rattle.psci_workers.specs.Watches.{HaveAllSeen, IsKept, IsSeenLast};
 
 use psci_fw::{Outcome, Regs, Start, Taken};
 use psci_messages::Ack;
@@ -86,16 +87,12 @@ impl<N: Named> Watch<N> {
         firmware: &SharedFirmware<'_, N>,
         word: u64,
     ) -> Result<Option<Status>, AllocFailed<Sighting>>
-        ensures kept { IfOk result (λ found. IsLastOf found self.new.seen) }
+        ensures kept { IfOk result (λ status. (found : Option Sighting)
+            × IsSeenLast found status self.new.seen) }
     {
         self.polls = self.polls.saturating_add(1);
-        match firmware.poll(&mut self.pass, word) {
-            Some(sighting) => {
-                keep(&mut self.seen, sighting)?;
-                Ok(Some(sighting.status))
-            }
-            None => Ok(None),
-        }
+        let found = firmware.poll(&mut self.pass, word);
+        keep(&mut self.seen, found)
     }
 
     /// The pass, what was seen by polls with it, and how often it was polled with.
@@ -109,15 +106,23 @@ impl<N: Named> Watch<N> {
     }
 }
 
-/// Keeps what was seen, unless it is what was seen last.
-fn keep(seen: &mut Vec<Sighting>, sighting: Sighting) -> Result<(), AllocFailed<Sighting>>
-    ensures ok { OnOk result (IsKept seen.old.items sighting seen.new.items) }
-    ensures err { OnErr result (seen.new.items ≡ seen.old.items) }
+/// Keeps what was seen, unless it is what was kept last.
+#[tactic(auto, using(crate::proofs::Kept::last_pushed))]
+fn keep(
+    seen: &mut Vec<Sighting>,
+    found: Option<Sighting>,
+) -> Result<Option<Status>, AllocFailed<Sighting>>
+    ensures last { IfOk result (λ status. IsSeenLast found status seen.new.items) }
+    ensures kept { IsKept seen.old.items found seen.new.items }
 {
+    let Some(sighting) = found else {
+        return Ok(None);
+    };
     if let Some(last) = seen.last()
         && *last == sighting
     {
-        return Ok(());
+        return Ok(Some(sighting.status));
     }
-    seen.push(sighting)
+    seen.push(sighting)?;
+    Ok(Some(sighting.status))
 }
