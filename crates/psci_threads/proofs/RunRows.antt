@@ -1,7 +1,7 @@
 -- Worked examples: runs of threads with the numbers of their books, runs with other ones, and the
 -- faults that a run ends by.
 use Rattle.std.proofs.Common.{◌≡◌, ◌<◌, List, [], ◌∷◌, length, ap, ap₂, arith, subst, sym}
-use Rattle.std.proofs.Common.{◌∙◌, ℕ, inl, inr}
+use Rattle.std.proofs.Common.{◌∙◌}
 use Rattle.psci_audit.specs.psci_board.Board.{BoardValue}
 use Rattle.psci_audit.specs.Entries.{Entry}
 use Rattle.psci_audit.specs.Merged.{IsFault, IsSound, TicketsFit, history_of, merged}
@@ -9,12 +9,6 @@ use Rattle.psci_audit.specs.Told.{Tells}
 use Rattle.psci_audit.specs.declared.fault.AuditFault.TheVariants as audits
 use Rattle.psci_workers.specs.psci_shared.declared.entry.FwEntry.{FwEntry}
 use Rattle.psci_workers.specs.psci_shared_ctl.declared.entry.CtlEntry.{CtlEntry}
-use Rattle.psci_workers.specs.psci_fw.psci_fw_spec.declared.status.Status.{Status}
-use Rattle.psci_workers.specs.psci_fw.psci_fw_spec.declared.status.Status.TheVariants.{On, Off}
-use Rattle.psci_workers.specs.psci_fw.psci_fw_spec.Statuses.{statuses}
-use Rattle.psci_workers.specs.psci_shared.declared.sighting.Sighting.{Sighting}
-use Rattle.psci_workers.specs.psci_shared.Books.{history_of as history_of_book}
-use Rattle.psci_workers.specs.psci_shared.Polls.{AreInHistory}
 use Rattle.psci_workers.specs.declared.gathering.Polled.{Polled}
 use Rattle.psci_workers.specs.Seen.{AllInHistory}
 use Rattle.psci_threads.specs.Runs.{IsAudited, IsFound}
@@ -57,29 +51,6 @@ no_record b t f fs cs past is =
     subst (λ (h : List Entry). Tells b [] h) (ap₂ history_of fs cs)
     (subst (λ p. Tells b p
     (history_of t.trace.firmware.items t.trace.controller.items)) past is.told)
-
--- Seen ------------------------------------------------------------------------------------------
-
-abbrev of : ℕ → ℕ → Status → Sighting
-of core serial status = record { core = record { number = core }; serial = serial; status = status }
-
-not_on : (b : BoardValue) → AreInHistory b [] (of 0 0 On ∷ []) → ⊥
-unfolding statuses history_of_book
-not_on b ((small, inl is), rest) = let e : On ≡ Off = is.1 in cc
-not_on b ((small, inr other), rest) = other
-
--- where nothing was asked, a core was OFF and nothing else
-seen_on : (b : BoardValue) (t : Threaded) (q : Polled) → t.trace.firmware.items ≡ []
-    → t.polls.items ≡ q ∷ [] → q.seen.items ≡ of 0 0 On ∷ [] → IsAudited b t → ⊥
-seen_on b t q fs qs saw is = not_on b (subst (λ (ss : List Sighting). AreInHistory b [] ss) saw
-    (subst (λ (es : List FwEntry). AllInHistory b es (q ∷ [])) fs
-    (subst (λ (l : List Polled). AllInHistory b t.trace.firmware.items l) qs is.seen)).0)
-
--- what a thread saw alone, and none of the others
-seen_of_one : (b : BoardValue) (t : Threaded) (p q : Polled) → t.polls.items ≡ p ∷ q ∷ []
-    → (AreInHistory b t.trace.firmware.items q.seen.items → ⊥) → IsAudited b t → ⊥
-seen_of_one b t p q qs none is =
-    none (subst (λ (l : List Polled). AllInHistory b t.trace.firmware.items l) qs is.seen).1.0
 
 -- two entries of the firmware and one of the power controller: each number is of its own book
 two_of_the_firmware : (b : BoardValue) (t : Threaded) (f g : FwEntry) (c : CtlEntry)
