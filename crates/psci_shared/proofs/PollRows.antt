@@ -1,19 +1,24 @@
 -- Worked examples of a run of a pass: calls and polls, what it keeps of what it saw, and why no pass
 -- is made.
 use Rattle.std.proofs.Common.{◌≡◌, inl, inr, ℕ, ◌<◌, ◌≤◌, true, false, List, [], ◌∷◌, length, refl, ap, arith}
+use Rattle.std.proofs.Common.{Option, Some, None}
 use Rattle.psci_fw.specs.psci_abi.psci_format.declared.format.Format.TheVariants.{Original}
 use Rattle.psci_fw.specs.psci_board.Board.{BoardValue}
 use Rattle.psci_fw.specs.psci_fw_spec.declared.call.FwCall.{FwCall}
 use Rattle.psci_fw.specs.psci_fw_spec.declared.call.FwCall.TheVariants.{Enter}
 use Rattle.psci_fw.specs.psci_fw_spec.declared.fault.FwFault.TheVariants.{NoLife}
 use Rattle.psci_fw.specs.psci_fw_spec.declared.reply.FwReply.TheVariants.{Fault}
+use Rattle.psci_fw.specs.psci_fw_spec.declared.status.Status.{Status}
 use Rattle.psci_fw.specs.psci_fw_spec.declared.status.Status.TheVariants.{On, Off, Pending}
+use Rattle.psci_fw.specs.psci_fw_spec.Statuses.{statuses}
 use Rattle.psci_messages.specs.declared.start.Cause.TheVariants.{Wake}
 use Rattle.psci_status.specs.Lists.{Item}
+use Rattle.psci_shared.specs.Books.{history_of}
 use Rattle.psci_shared.specs.declared.entry.FwItem.{FwItem}
 use Rattle.psci_shared.specs.declared.fault.PassFault.TheVariants.{NoCore, TooMany, Memory}
+use Rattle.psci_shared.specs.declared.sighting.Sighting.{Sighting}
 use Rattle.psci_shared.specs.Passes.{IsFirst, IsNoPass, PassView, item, told}
-use Rattle.psci_shared.specs.Polls.{Goes, IsAmong}
+use Rattle.psci_shared.specs.Polls.{AreInHistory, Goes, IsAmong, IsInHistory, IsPolled}
 
 -- two cores
 abbrev board : BoardValue
@@ -109,3 +114,47 @@ first_has_other_room h = let e : ◌≡◌ {A = ℕ} 4 5 = ap (λ (p : PassView)
 
 first_was_told : IsFirst (record { number = 0 }) 4 (told (pass [] [])) → ⊥
 first_was_told h = let e : true ≡ false = ap (λ (p : PassView). p.told_full) h in cc
+
+-- what a poll saw ---------------------------------------------------------------------------------
+
+abbrev of : ℕ → ℕ → Status → Sighting
+of core serial status = record { core = record { number = core }; serial = serial; status = status }
+
+-- core 1 is asked on, and the pass has seen that
+asked_is_seen : IsPolled (Some (record { number = 1 })) (pass [] ([] ∷ ((0, Off) ∷ []) ∷ []))
+    (pass [] ([] ∷ ((1, Pending) ∷ (0, Off) ∷ []) ∷ [])) (Some (of 1 1 Pending))
+asked_is_seen = (of 1 1 Pending, refl, refl, (refl, ((0, Off) ∷ [], refl), (omega arith, (tt, tt))))
+
+-- the poll saw nothing
+asked_is_unseen : IsPolled (Some (record { number = 1 })) (pass [] ([] ∷ ((0, Off) ∷ []) ∷ []))
+    (pass [] ([] ∷ ((1, Pending) ∷ (0, Off) ∷ []) ∷ [])) None → ⊥
+asked_is_unseen h = let e : None ≡ Some h.0 = h.1 in cc
+
+-- the word names no core
+nobody_is_seen : IsPolled None (pass [] []) (pass [] []) None
+nobody_is_seen = (refl, refl)
+
+nobody_is_off : IsPolled None (pass [] []) (pass [] []) (Some (of 1 0 Off)) → ⊥
+nobody_is_off h = let e : Some (of 1 0 Off) ≡ None = h.0 in cc
+
+-- before any entry each core is OFF, of which there are two
+off_at_first : AreInHistory board [] (of 1 0 Off ∷ of 0 0 Off ∷ [])
+unfolding statuses history_of
+off_at_first =
+    ((omega arith, inl (refl, refl)), ((omega arith, inl (refl, refl)), tt))
+
+on_at_first : IsInHistory board [] (of 1 0 On) → ⊥
+unfolding statuses history_of
+on_at_first (small, inl is) = let e : On ≡ Off = is.1 in cc
+on_at_first (small, inr other) = other
+
+off_later : IsInHistory board [] (of 1 1 Off) → ⊥
+unfolding statuses history_of
+off_later (small, inl is) = let e : ◌≡◌ {A = ℕ} 1 0 = is.0 in omega arith
+off_later (small, inr other) = other
+
+off_core_2 : IsInHistory board [] (of 2 0 Off) → ⊥
+off_core_2 h = let e : 2 < 2 = h.0 in omega arith
+
+one_is_not : AreInHistory board [] (of 0 0 Off ∷ of 2 0 Off ∷ []) → ⊥
+one_is_not h = off_core_2 h.1.0

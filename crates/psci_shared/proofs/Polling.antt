@@ -13,7 +13,7 @@ use Rattle.psci_fw.specs.psci_fw_spec.Statuses.{statuses}
 use Rattle.psci_status.specs.Lists.{Begins, Item, Stands, Within, gain, gain_from, gains, row}
 use Rattle.psci_shared.specs.declared.entry.FwEntry.{FwEntry}
 use Rattle.psci_shared.specs.Books.{history_of}
-use Rattle.psci_shared.specs.Passes.{PassView, IsAffinity, IsCalled, IsRead}
+use Rattle.psci_shared.specs.Passes.{PassView, IsAffinity, IsCalled, IsReadAt}
 use Rattle.psci_shared.specs.Polls.{Goes, IsAmong, IsOneOf, IsStep}
 use Rattle.psci_shared.specs.Writing.{Stand}
 
@@ -33,7 +33,7 @@ among_note : (item : Item) (note is : List Item) → IsAmong item is
 among_note item [] is h = h
 among_note item (x ∷ older) is h = among_gain item x is h
 
-among_begun : (item : Item) (is : List Item) → Begins item is → IsAmong item is
+pub among_begun : (item : Item) (is : List Item) → Begins item is → IsAmong item is
 among_begun item is h = subst (λ (l : List Item). IsAmong item l) (sym h.1) (inl refl)
 
 among_stands : (written : List Status) (item : Item) (is : List Item) → Within written is
@@ -65,25 +65,27 @@ among_set item (r ∷ rs) (suc c) (suc core) new k h = among_set item rs c core 
 
 -- a pass keeps what it has seen
 
-called_keeps : (item : Item) (p p' : PassView) (call : FwCall) (reply : FwReply) (core : ℕ)
+pub called_keeps : (item : Item) (p p' : PassView) (call : FwCall) (reply : FwReply) (core : ℕ)
     → IsCalled p p' call reply → IsAmong item (row p.seen core) → IsAmong item (row p'.seen core)
 called_keeps item p p' call reply core is h =
     subst (λ (q : PassView). IsAmong item (row q.seen core)) (sym is.2)
     (among_gains item p.seen is.1 core h)
 
-read_keeps : (item : Item) (p p' : PassView) (c : ℕ) (status : Status) (core : ℕ)
-    → IsRead p p' c status → IsAmong item (row p.seen core) → IsAmong item (row p'.seen core)
-read_keeps item p p' c status core is h =
-    subst (λ (q : PassView). IsAmong item (row q.seen core)) (sym is.1)
-    (among_set item p.seen c core (gain (is.0, status) (row p.seen c))
-    (among_gain item (is.0, status) (row p.seen c)) h)
+pub read_keeps : (item : Item) (p p' : PassView) (c serial : ℕ) (status : Status) (core : ℕ)
+    → IsReadAt p p' c serial status → IsAmong item (row p.seen core)
+    → IsAmong item (row p'.seen core)
+read_keeps item p p' c serial status core is h =
+    subst (λ (q : PassView). IsAmong item (row q.seen core)) (sym is.0)
+    (among_set item p.seen c core (gain (serial, status) (row p.seen c))
+    (among_gain item (serial, status) (row p.seen c)) h)
 
 poll_keeps : (item : Item) (found : Option Core) (p p' : PassView) (code : Code) (core : ℕ)
     → IsAffinity found p p' code → IsAmong item (row p.seen core)
     → IsAmong item (row p'.seen core)
 poll_keeps item None p p' code core is h =
     subst (λ (q : PassView). IsAmong item (row q.seen core)) (sym is.1) h
-poll_keeps item (Some c) p p' code core is h = read_keeps item p p' c.number is.0 core is.1 h
+poll_keeps item (Some c) p p' code core is h =
+    read_keeps item p p' c.number is.1.0 is.0 core is.1.1 h
 
 step_keeps : (b : BoardValue) (item : Item) (p p' : PassView) (core : ℕ) → IsStep b p p'
     → IsAmong item (row p.seen core) → IsAmong item (row p'.seen core)
@@ -119,6 +121,6 @@ polled b entries p p' last on core code is goes stand small =
     let status = is.0 in
     let serial = is.1.0 in
     let item : Item = (serial, status) in
-    let now = among_begun item (row p'.seen core.number) is.1.2 in
+    let now = among_begun item (row p'.seen core.number) is.1.1.1 in
     let kept = keeps b item core.number p' on last goes now in
     (status, is.2, (serial, stands b entries item core.number last.seen stand small kept))

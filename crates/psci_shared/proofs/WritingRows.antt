@@ -159,23 +159,23 @@ before = pass (((0, Off) ∷ []) ∷ ((0, Off) ∷ []) ∷ [])
 
 pending_is_read : IsAffinity (Some (record { number = 0 })) before
     (pass (((1, Pending) ∷ (0, Off) ∷ []) ∷ ((0, Off) ∷ []) ∷ [])) (record { 0 = pos 2 })
-pending_is_read = (Pending, (1, refl, ((0, Off) ∷ [], refl), (omega arith, (tt, tt))), refl)
+pending_is_read = (Pending, (1, (refl, ((0, Off) ∷ [], refl), (omega arith, (tt, tt)))), refl)
 
 -- the word holds what the pass has seen last
 nothing_new_is_read : IsAffinity (Some (record { number = 0 })) before before (record { 0 = pos 1 })
-nothing_new_is_read = (Off, (0, refl, ([], refl), (tt, tt)), refl)
+nothing_new_is_read = (Off, (0, (refl, ([], refl), (tt, tt))), refl)
 
 -- of core 1, of which it has seen less than of core 0
 pending_is_read_of_core_1 : IsAffinity (Some (record { number = 1 }))
     (pass (((2, On) ∷ []) ∷ ((0, Off) ∷ []) ∷ []))
     (pass (((2, On) ∷ []) ∷ ((1, Pending) ∷ (0, Off) ∷ []) ∷ [])) (record { 0 = pos 2 })
 pending_is_read_of_core_1 =
-    (Pending, (1, refl, ((0, Off) ∷ [], refl), (omega arith, (tt, tt))), refl)
+    (Pending, (1, (refl, ((0, Off) ∷ [], refl), (omega arith, (tt, tt)))), refl)
 
 -- the serials do not rise
 backwards_is_read : IsRead (pass (((1, Off) ∷ (3, On) ∷ []) ∷ []))
     (pass (((1, Off) ∷ (3, On) ∷ []) ∷ [])) 0 Off → ⊥
-backwards_is_read h = let e : 3 < 1 = h.3.0 in omega arith
+backwards_is_read h = let e : 3 < 1 = h.1.2.0 in omega arith
 
 -- the word names no core
 nobody_is_read : IsAffinity None before before (record { 0 = negsuc 1 })
@@ -201,7 +201,7 @@ last_code (i ∷ is) = status_code i.1
 
 -- another status than the last that was seen
 another_is_read : IsRead before before 0 On → ⊥
-another_is_read h = let e : ◌≡◌ {A = ℕ} 1 0 = ap last_code h.2.1 in omega arith
+another_is_read h = let e : ◌≡◌ {A = ℕ} 1 0 = ap last_code h.1.1.1 in omega arith
 
 gain_one : (b : Bool) (i j : Item) → length (if b then i ∷ j ∷ [] else j ∷ []) ≤ 2
 gain_one true i j = omega arith
@@ -212,7 +212,7 @@ two_are_read : IsRead before
     (pass (((2, On) ∷ (1, Pending) ∷ (0, Off) ∷ []) ∷ ((0, Off) ∷ []) ∷ [])) 0 On → ⊥
 two_are_read h =
     let e : 3 ≡ length (gain (h.0, On) ((0, Off) ∷ [])) =
-    ap (λ (p : PassView). length (row p.seen 0)) h.1 in
+    ap (λ (p : PassView). length (row p.seen 0)) h.1.0 in
     let few : length (gain (h.0, On) ((0, Off) ∷ [])) ≤ 2 = gain_one (nat_lt 0 h.0) (h.0, On)
     (0, Off) in
     omega arith
@@ -220,4 +220,4 @@ two_are_read h =
 other_core_is_read : IsRead before
     (pass (((1, On) ∷ (0, Off) ∷ []) ∷ ((1, On) ∷ (0, Off) ∷ []) ∷ [])) 0 On → ⊥
 other_core_is_read h =
-    let e : ◌≡◌ {A = ℕ} 2 1 = ap (λ (p : PassView). length (row p.seen 1)) h.1 in omega arith
+    let e : ◌≡◌ {A = ℕ} 2 1 = ap (λ (p : PassView). length (row p.seen 1)) h.1.0 in omega arith

@@ -38,14 +38,17 @@ called p i seen = record p { items = p.items ++ i ∷ []; seen = seen }
 abbrev pub told : PassView → PassView
 told p = record p { told_full = true }
 
--- a pass that read the status of a core: it has now seen one item more of it at most, the last is
--- the status, and serials rise
-abbrev pub IsRead : PassView → PassView → ℕ → Status → Type 0
-IsRead p p' core status =
-    (serial : ℕ)
-    × (p' ≡ record p { seen = slice_set p.seen core (gain (serial, status) (row p.seen core)) })
+-- a pass that read the status of a core with its serial: it has now seen one item more of it at most,
+-- the last is that item, and serials rise
+abbrev pub IsReadAt : PassView → PassView → ℕ → ℕ → Status → Type 0
+IsReadAt p p' core serial status =
+    (p' ≡ record p { seen = slice_set p.seen core (gain (serial, status) (row p.seen core)) })
     × Begins (serial, status) (row p'.seen core)
     × Rises (row p'.seen core)
+
+-- so, by some serial
+abbrev pub IsRead : PassView → PassView → ℕ → Status → Type 0
+IsRead p p' core status = (serial : ℕ) × IsReadAt p p' core serial status
 
 -- the reply is one to such a call: an acknowledgement is taken, and nothing else is
 abbrev pub Fits : FwCall → FwReply → Type 0

@@ -21,6 +21,7 @@ mod named;
 mod pass;
 mod same;
 mod shared;
+mod sighting;
 mod tickets;
 mod writing;
 
@@ -38,4 +39,5 @@ pub use psci_messages::Ack;
 pub use psci_status::{Board, Core, Memory, Reader, StatusWords, Writer};
 pub use same::is_same_message;
 pub use shared::SharedFirmware;
+pub use sighting::Sighting;
 pub use tickets::Tickets;

@@ -2,8 +2,7 @@
 
 use crate::entry::FwItem;
 use crate::named::Named;
-use psci_fw::Status;
-use psci_status::{Core, Reader, StatusWords};
+use psci_status::{Core, Reader, Reading, StatusWords};
 use std::marker::Model;
 use std::sync::ledger::Share;
 
@@ -42,7 +41,7 @@ impl<N: Named> Model for Pass<N> {
 
 ghost use Rattle.std.specs.Prelude.{◌≡◌, ◌≤◌, ◌<◌, [], false, vec_capacity};
 ghost use Rattle.psci_status.specs.Seats.{seen, table, table_of_reader};
-ghost use Rattle.psci_shared.specs.Passes.{IsRead};
+ghost use Rattle.psci_shared.specs.Passes.{IsReadAt};
 
 impl<N: Named> Pass<N> {
     /// A pass that was not called by yet.
@@ -96,12 +95,12 @@ impl<N: Named> Pass<N> {
         self.items.as_slice()
     }
 
-    /// The status of a core, by one load of its word.
-    pub(crate) fn read(&mut self, words: &StatusWords, core: Core) -> Status
+    /// The status of a core with its serial, by one load of its word.
+    pub(crate) fn read(&mut self, words: &StatusWords, core: Core) -> Reading
         requires words { table words.now ≡ N.table }
         requires core { core.number < N.table.words }
-        ensures { IsRead self.old self.new core.number result }
+        ensures { IsReadAt self.old self.new core.number result.serial result.status }
     {
-        words.get(&mut self.reader, core)
+        words.read(&mut self.reader, core)
     }
 }

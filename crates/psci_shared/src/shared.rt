@@ -17,6 +17,7 @@ ghost use Rattle.psci_shared.specs.Books.{history_of};
 ghost use Rattle.psci_shared.specs.Passes.{Fits, IsAffinity, IsCalled, IsFirst, IsNoPass};
 ghost use Rattle.psci_shared.specs.Passes.{IsRefused, told};
 ghost use Rattle.psci_shared.specs.Places.{AllPlaced};
+ghost use Rattle.psci_shared.specs.Polls.{IsPolled};
 
 use crate::agreement::agree;
 use crate::book::FwBook;
@@ -26,10 +27,11 @@ use crate::gather::{Books, GatherFault};
 use crate::locked::FwLocked;
 use crate::named::Named;
 use crate::pass::Pass;
+use crate::sighting::Sighting;
 use crate::tickets::Tickets;
 use psci_fw::{Code, FwCall, FwReply, Outcome, Regs, Start, Taken};
 use psci_messages::Ack;
-use psci_status::{Board, Core, Memory, StatusWords, Writer};
+use psci_status::{Board, Core, Memory, Reading, StatusWords, Writer};
 use std::alloc::Global;
 use std::sync::ledger::Blank;
 use std::sync::{Mutex, Wait};
@@ -198,9 +200,23 @@ impl<'t, N: Named> SharedFirmware<'t, N> {
         ensures { IsAffinity (core_of N.board word) pass.old pass.new result }
     {
         match self.board.core_of(word) {
-            Some(core) => pass.read(&self.words, core).code(),
+            Some(core) => pass.read(&self.words, core).status.code(),
             None => Code::INVALID_PARAMETERS,
         }
+    }
+
+    /// The same, with the core and the serial of its status: what it saw, if the word names a core.
+    pub fn poll(&self, pass: &mut Pass<N>, word: u64) -> Option<Sighting>
+        ensures seen { IsPolled (core_of N.board word) pass.old pass.new result }
+        ensures on_board { IfSome result (λ s. s.core.number < cores N.board) }
+    {
+        let core = self.board.core_of(word)?;
+        let Reading { serial, status } = pass.read(&self.words, core);
+        Some(Sighting {
+            core,
+            serial,
+            status,
+        })
     }
 
     /// Looks at the entries of the book while the lock is held. The status of a core is read

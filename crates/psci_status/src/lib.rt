@@ -17,4 +17,4 @@ mod words;
 
 pub use psci_board::{Board, Core, Memory};
 pub use psci_fw_spec::Status;
-pub use seats::{Reader, StatusWords, Writer};
+pub use seats::{Reader, Reading, StatusWords, Writer};

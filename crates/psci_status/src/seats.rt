@@ -4,6 +4,7 @@ ghost use Rattle.std.specs.Prelude.{◌≡◌, ◌<◌, [], length, true, false}
 
 use crate::rule::{StatusRule, View};
 use atomic_table::{Seat, Table};
+use psci_fw_spec::Status;
 use std::alloc::Global;
 
 /// The status words of a board, one for each core.
@@ -30,4 +31,13 @@ pub struct Reader {
     ghost empty: { seat.me.1 ≡ [] },
     ghost reads: { seat.me.0.writer ≡ false },
     ghost long: { length seat.me.0.seen ≡ seat.table_id.words },
+}
+
+/// What one load of a word tells: a status with its serial.
+#[derive(Clone, Copy, Debug, PartialEq)]
+pub struct Reading {
+    /// How many statuses were written of the core before it.
+    pub serial: u64,
+    /// The status.
+    pub status: Status,
 }

@@ -13,7 +13,7 @@ ghost use Rattle.psci_status.specs.Seats.{seen, table, table_of_reader, table_of
 
 use crate::coding::{number_of, status_of};
 use crate::rule::{Loads, Looks, Notes, Stores};
-use crate::seats::{Reader, StatusWords, Writer};
+use crate::seats::{Reader, Reading, StatusWords, Writer};
 use atomic_table::Table;
 use psci_board::{Board, Core, Memory};
 use psci_fw_spec::Status;
@@ -111,9 +111,25 @@ impl StatusWords {
             × Begins (serial, result) (row (seen reader.new) core.number) }
         ensures rises { Rises (row (seen reader.new) core.number) }
     {
+        self.read(reader, core).status
+    }
+
+    /// The same, with the serial: the last item that the reader has now seen of the core.
+    pub fn read(&self, reader: &mut Reader, core: Core) -> Reading
+        requires table { table_of_reader reader.old ≡ table self.now }
+        requires core { core.number < (table self.now).words }
+        ensures table { table_of_reader reader.new ≡ table_of_reader reader.old }
+        ensures seen { seen reader.new ≡ slice_set (seen reader.old) core.number
+            (gain (result.serial, result.status) (row (seen reader.old) core.number)) }
+        ensures last { Begins (result.serial, result.status) (row (seen reader.new) core.number) }
+        ensures rises { Rises (row (seen reader.new) core.number) }
+    {
         let place = core.number as usize;
         let found = self.table.shared.load::<Loads>(&mut reader.seat, place);
-        status_of(found % 4)
+        Reading {
+            serial: found / 4,
+            status: status_of(found % 4),
+        }
     }
 
     /// What the reader had seen was written, and the last item that was written of each core is

@@ -1,2 +1,3 @@
 mod CountRows
 mod RunRows
+mod SeenRows

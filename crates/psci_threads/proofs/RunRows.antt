@@ -9,6 +9,8 @@ use Rattle.psci_audit.specs.Told.{Tells}
 use Rattle.psci_audit.specs.declared.fault.AuditFault.TheVariants as audits
 use Rattle.psci_workers.specs.psci_shared.declared.entry.FwEntry.{FwEntry}
 use Rattle.psci_workers.specs.psci_shared_ctl.declared.entry.CtlEntry.{CtlEntry}
+use Rattle.psci_workers.specs.declared.gathering.Polled.{Polled}
+use Rattle.psci_workers.specs.Seen.{AllInHistory}
 use Rattle.psci_threads.specs.Runs.{IsAudited, IsFound}
 use Rattle.psci_threads.specs.declared.fault.BenchFault.TheVariants.{Gate, Memory, Threads}
 use Rattle.psci_threads.specs.declared.fault.BenchFault.TheVariants.{Audit, Gather}
@@ -25,13 +27,14 @@ HasTold b t =
 nothing_asked : (b : BoardValue) (t : Threaded) → t.trace.firmware.items ≡ []
     → t.trace.controller.items ≡ [] → t.firmware ≡ 0 → t.controller ≡ 0
     → IsSound b t.trace.firmware.items t.trace.controller.items 0 → t.audited ≡ 0
-    → t.world.board ≡ b → HasTold b t → IsAudited b t
-nothing_asked b t fs cs firmware controller is audited board told = record {
+    → t.world.board ≡ b → HasTold b t → t.polls.items ≡ [] → IsAudited b t
+nothing_asked b t fs cs firmware controller is audited board told unseen = record {
   firmware = firmware ∙ sym (ap length fs);
   controller = controller ∙ sym (ap length cs);
   sound = subst (λ n. IsSound b t.trace.firmware.items t.trace.controller.items n) (sym audited) is;
   board = board;
   told = told;
+  seen = subst (λ (qs : List Polled). AllInHistory b t.trace.firmware.items qs) (sym unseen) tt;
 }
 
 -- the world is on this board, and its records tell the merged list

@@ -5,6 +5,7 @@ use Rattle.psci_audit.specs.Merged.{IsFault, IsSound, history_of}
 use Rattle.psci_audit.specs.Told.{Tells}
 use Rattle.psci_workers.specs.psci_shared.declared.entry.FwEntry.{FwEntry}
 use Rattle.psci_workers.specs.psci_shared_ctl.declared.entry.CtlEntry.{CtlEntry}
+use Rattle.psci_workers.specs.Seen.{AllInHistory}
 use Rattle.psci_threads.specs.declared.fault.BenchFault.{BenchFault}
 use Rattle.psci_threads.specs.declared.fault.BenchFault.TheVariants.{Gate, Memory, Threads}
 use Rattle.psci_threads.specs.declared.fault.BenchFault.TheVariants.{Audit, Gather}
@@ -12,12 +13,15 @@ use Rattle.psci_threads.specs.declared.running.Threaded.{Threaded}
 
 -- The numbers are those of the entries of each book and of the merged list, which is legal. The
 -- world is on the board, and its records tell that list: one for each entry, with the same reply.
+-- What each core's thread saw of a core by polls is that one of the core's statuses after the
+-- firmware's entries, by its serial.
 pub record IsAudited (b : BoardValue) (t : Threaded) : Type 0 where
   pub firmware : t.firmware ≡ length t.trace.firmware.items
   pub controller : t.controller ≡ length t.trace.controller.items
   pub sound : IsSound b t.trace.firmware.items t.trace.controller.items t.audited
   pub board : t.world.board ≡ b
   pub told : Tells b t.world.past (history_of t.trace.firmware.items t.trace.controller.items)
+  pub seen : AllInHistory b t.trace.firmware.items t.polls.items
 
 -- the audit found this fault in some trace
 unfoldable pub IsFound : BoardValue → BenchFault → Type 0

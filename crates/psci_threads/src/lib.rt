@@ -9,5 +9,5 @@ mod running;
 pub use counts::{calls_of, entries_of};
 pub use fault::BenchFault;
 pub use psci_audit::{AuditFault, CtlEntry, FwEntry, Trace, World};
-pub use psci_workers::{Board, Core, Gate, OpenGate, Polled};
+pub use psci_workers::{Board, Core, Gate, OpenGate, Polled, Sighting, Status};
 pub use running::{Threaded, threads};

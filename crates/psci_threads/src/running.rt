@@ -5,6 +5,7 @@ ghost use Rattle.psci_audit.specs.psci_board.Board.{cores};
 ghost use Rattle.psci_audit.specs.Merged.{history_of};
 ghost use Rattle.psci_audit.specs.Told.{IsListOfSafe};
 ghost use Rattle.psci_threads.specs.Runs.{IsAudited, IsFound};
+ghost use Rattle.psci_workers.specs.Seen.{AllInHistory};
 
 use crate::fault::{BenchFault, fault_of};
 use psci_audit::{Retold, Trace, World, retell};
@@ -26,13 +27,16 @@ pub struct Threaded {
     pub audited: u64,
     /// The run as a world has it: its records tell the entries of both books, in order.
     pub world: World,
-    /// How often each core's thread has read a status without the lock, core by core.
+    /// What each core's thread has read without the lock, core by core: how often, and what it saw.
     pub polls: Vec<Polled>,
 }
 
 /// Runs a thread for each core, which makes so many calls at most, and one for the link; then audits
 /// what they did. The gate is asked before each call. Which calls are made and how frames travel is
 /// drawn from the seed, but the order of threads is the machine's, so runs differ.
+///
+/// What each core's thread saw by polls stands in the audited run: it is a status that the core had
+/// after the entries of the firmware's book, by its serial.
 pub fn threads<R: Threads + Wait + Sync, G: Gate + Sync>(
     rt: &R,
     alloc: Global,
@@ -73,6 +77,7 @@ fn audited(
     trace: Trace,
     polls: Vec<Polled>,
 ) -> Result<Threaded, BenchFault>
+    requires { AllInHistory board.now trace.firmware.items polls.items }
     ensures ok { IfOk result (λ t. IsAudited board.now t) }
     ensures safe { IfOk result (λ t. IsListOfSafe board.now
         (history_of t.trace.firmware.items t.trace.controller.items)) }

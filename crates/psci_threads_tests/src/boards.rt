@@ -49,15 +49,23 @@ pub(crate) fn ran<R: Threads + Wait + Sync, G: Gate + Sync>(
     threads(rt, alloc, &board, seed, count, gate)
 }
 
-/// Whether each core of a run has made so many calls, and looked at others.
-fn is_done(run: &Threaded, count: u64) -> bool {
+/// Whether each of so many cores has made so many calls in a run, and looked at others between them.
+fn is_done(run: &Threaded, cores: u16, count: u64) -> bool {
     let entries = run.trace.firmware.as_slice();
-    run.polls.iter().all(|it| calls_of(entries, it.core) == count
-        && it.polls >= count.saturating_sub(3))
+    run.polls.len() == usize::from(cores)
+        && run.polls.iter().enumerate().all(|(place, it)| usize::from(it.core.number) == place
+            && calls_of(entries, it.core) == count
+            && it.polls >= count.saturating_sub(3))
 }
 
-/// Whether runs of so many seeds were each audited whole, each core made so many calls, and frames
-/// were lost, came again and overtook others at least so often in all of them.
+/// Whether each core's thread has seen something else than just before at least so often.
+fn has_seen(run: &Threaded, floor: u64) -> bool {
+    run.polls.iter().all(|it| it.seen.len() as u64 >= floor)
+}
+
+/// Whether runs of so many seeds were each audited whole, each core made so many calls and saw
+/// something else at every fourth of them, and frames were lost, came again and overtook others at
+/// least so often in all of them.
 pub(crate) fn travels<R: Threads + Wait + Sync>(
     rt: &R,
     alloc: Global,
@@ -66,10 +74,11 @@ pub(crate) fn travels<R: Threads + Wait + Sync>(
     count: u64,
     floor: Travel,
 ) -> Result<bool, BenchFault> {
+    let cores = board_of(alloc, text)?.cores();
     let mut all = Travel::none();
     for seed in 0..seeds {
         let run = ran(rt, alloc, text, seed.wrapping_add(1), count, &OpenGate)?;
-        if !is_whole(&run) || !is_done(&run, count) {
+        if !is_whole(&run) || !is_done(&run, cores, count) || !has_seen(&run, count / 4) {
             return Ok(false);
         }
         let Ok(travel) = travelled(alloc, &run.trace) else {
@@ -95,8 +104,9 @@ pub(crate) fn is_audited<R: Threads + Wait + Sync>(
     seed: u64,
     count: u64,
 ) -> Result<bool, BenchFault> {
+    let cores = board_of(alloc, text)?.cores();
     let run = ran(rt, alloc, text, seed, count, &OpenGate)?;
-    Ok(is_whole(&run) && is_done(&run, count))
+    Ok(is_whole(&run) && is_done(&run, cores, count))
 }
 
 /// Whether cores 0 and 1 come to meet, each in its second call.

@@ -1,5 +1,5 @@
--- Why what the threads of a run share may be shared. Of the firmware that is a lemma of its own, since
--- its power domains nest.
+-- Why what the threads of a run share may be shared. Of the firmware that is a lemma of its own,
+-- since its power domains nest.
 use denote.Param.Send.{IsSync, sendable, recorded_sync, struct_sync, shr_sync, plain_sync}
 use denote.RattleType.{RattleType}
 use denote.Ref.{NamedLft, ShrRef}

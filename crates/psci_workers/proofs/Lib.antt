@@ -1,2 +1,4 @@
 pub mod Crossing
+pub mod Kept
+pub mod SeenRows
 pub mod Sendable

@@ -2,7 +2,6 @@
 
 ghost use Rattle.std.specs.Prelude.{◌<◌};
 
-use crate::calling::OFF;
 use crate::platform::{Ending, Platform};
 use crate::worker::{State, TURNS, Worker};
 use psci_fw::Start;
@@ -47,17 +46,30 @@ impl<N: Named, M: Named> Worker<N, M> {
             if platform.wire.is_over() {
                 return Err(Ending::Early);
             }
-            let is_still = platform.wire.is_still();
             match self.state {
                 State::Running => return Ok(()),
                 State::Asleep => self.wake(rt, platform, call)?,
-                State::Off => self.wait(rt, platform, turn, call > 1 && turn == wakes_at)?,
-            }
-            if is_still && self.state == State::Off {
-                return Err(Ending::Early);
+                State::Off => self.stay_off(rt, platform, turn, call > 1 && turn == wakes_at)?,
             }
         }
         Err(Ending::Early)
+    }
+
+    /// A turn of a core that is off. It ends early where all was still before and nobody asked it
+    /// on.
+    fn stay_off<R: Wait>(
+        &mut self,
+        rt: &R,
+        platform: &Platform<'_, N, M>,
+        turn: u32,
+        may_wake: bool,
+    ) -> Result<(), Ending> {
+        let is_still = platform.wire.is_still();
+        self.wait(rt, platform, turn, may_wake)?;
+        if is_still && self.state == State::Off {
+            return Err(Ending::Early);
+        }
+        Ok(())
     }
 
     /// A turn of a core that is off: it enters if it was asked on, or is woken to no avail.
@@ -68,7 +80,7 @@ impl<N: Named, M: Named> Worker<N, M> {
         turn: u32,
         may_wake: bool,
     ) -> Result<(), Ending> {
-        let is_off = self.poll(platform, self.core) == OFF;
+        let is_off = self.is_off(platform, self.core)?;
         if is_off && !may_wake && turn % LOOKS != 0 {
             thread::yield_now();
             return Ok(());
@@ -141,7 +153,7 @@ impl<N: Named, M: Named> Worker<N, M> {
         platform: &Platform<'_, N, M>,
         start: Start,
     ) -> Result<(), Ending> {
-        let entered = platform.firmware.enter(rt, &mut self.pass, start);
+        let entered = self.watch.enter(rt, platform.firmware, start);
         self.entered = start.number;
         self.go_on(rt, platform, entered, State::Off)?;
         if self.state == State::Running {

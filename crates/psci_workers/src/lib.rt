@@ -15,10 +15,11 @@ mod link;
 mod outstanding;
 mod platform;
 mod running;
+mod watch;
 mod worker;
 
 pub use cut::Cut;
 pub use gathering::{Gathered, Polled};
-pub use psci_shared::{Board, Core, Memory};
+pub use psci_shared::{Board, Core, Memory, Sighting, Status};
 pub use psci_traffic::{Gate, OpenGate};
 pub use running::run_cores;

@@ -7,10 +7,11 @@ ghost use Rattle.psci_link.specs.declared.frame.Frame.TheVariants as frames;
 use crate::cut::Cut;
 use crate::outstanding::outstanding;
 use crate::platform::{Ending, Platform, Returned, fault_of};
+use crate::watch::Watch;
 use psci_draws::Draws;
 use psci_link::{Frame, decode, encode};
 use psci_messages::Message;
-use psci_shared::{Core, Named, Pass};
+use psci_shared::{Core, Named};
 use psci_shared_ctl::{CtlPass, Delivery};
 use psci_traffic::Bytes;
 use std::alloc::{AllocError, Global};
@@ -26,7 +27,7 @@ const CHOICE: u32 = 4;
 /// What the link thread has.
 #[derive(Drop)]
 pub(crate) struct Link<N: Named, M: Named> {
-    pass: Pass<N>,
+    watch: Watch<N>,
     asked: CtlPass<M>,
     draws: Draws,
     carried: Vec<Carried>,
@@ -49,7 +50,7 @@ impl<N: Named, M: Named> Link<N, M> {
     /// A link of so many cores, that carries nothing.
     pub(crate) fn new(
         alloc: Global,
-        pass: Pass<N>,
+        watch: Watch<N>,
         asked: CtlPass<M>,
         cores: u16,
         seed: u64,
@@ -59,7 +60,7 @@ impl<N: Named, M: Named> Link<N, M> {
             losses.push(0)?;
         }
         Ok(Link {
-            pass,
+            watch,
             asked,
             draws: Draws::of_thread(seed, 0),
             carried: Vec::new(alloc),
@@ -81,7 +82,7 @@ impl<N: Named, M: Named> Link<N, M> {
     /// What the thread hands back that ends by this fault, or without one.
     pub(crate) fn handed_back(self, fault: Option<Cut>) -> Returned<N, M> {
         let Link {
-            pass,
+            watch,
             asked,
             draws: _,
             carried: _,
@@ -89,9 +90,9 @@ impl<N: Named, M: Named> Link<N, M> {
             losses: _,
         } = self;
         Returned {
-            pass,
+            watch,
             asked,
-            polled: None,
+            core: None,
             fault,
         }
     }
@@ -104,15 +105,17 @@ impl<N: Named, M: Named> Link<N, M> {
             let all_ended = platform.wire.is_left();
             self.fetch(rt, platform)?;
             self.send_again(rt, platform)?;
-            if !self.carried.is_empty() {
-                self.carry(rt, platform)?;
-            } else if all_ended && self.lost.is_empty() {
+            if self.is_idle() && all_ended {
                 return Ok(());
-            } else {
-                thread::yield_now();
             }
+            self.carry(rt, platform)?;
         }
         unreachable!()
+    }
+
+    /// Whether it carries no frame, and nothing is to be sent again.
+    fn is_idle(&self) -> bool {
+        self.carried.is_empty() && self.lost.is_empty()
     }
 
     /// Takes all frames that were sent. One in eight arrives twice.
@@ -127,8 +130,8 @@ impl<N: Named, M: Named> Link<N, M> {
         unreachable!()
     }
 
-    /// The message that is outstanding of the first core of which a frame was lost is sent again, if
-    /// there is one; after a while, or at once where nothing else is carried.
+    /// The message that is outstanding of the first core of which a frame was lost is sent again,
+    /// if there is one; after a while, or at once where nothing else is carried.
     fn send_again<R: Wait>(&mut self, rt: &R, platform: &Platform<'_, N, M>) -> Result<(), Ending> {
         if self.lost.is_empty() || (!self.carried.is_empty() && !self.draws.one_in(4)) {
             return Ok(());
@@ -147,8 +150,19 @@ impl<N: Named, M: Named> Link<N, M> {
         Ok(())
     }
 
-    /// One of the first frames, whichever is drawn, is lost or arrives.
-    fn carry<R: Wait>(&mut self, rt: &R, platform: &Platform<'_, N, M>) -> Result<(), Ending>
+    /// One of the first frames, whichever is drawn, is lost or arrives; where there is none the
+    /// link waits.
+    fn carry<R: Wait>(&mut self, rt: &R, platform: &Platform<'_, N, M>) -> Result<(), Ending> {
+        if self.carried.is_empty() {
+            thread::yield_now();
+            return Ok(());
+        }
+        let bytes = self.draw();
+        self.arrive(rt, platform, &bytes)
+    }
+
+    /// One of the first frames, whichever is drawn.
+    fn draw(&mut self) -> Bytes
         requires { 0 < length self.old.carried.items }
     {
         let drawn = self.draws.below(CHOICE) as usize;
@@ -160,7 +174,7 @@ impl<N: Named, M: Named> Link<N, M> {
         } else {
             self.carried.remove(place);
         }
-        self.arrive(rt, platform, &bytes)
+        bytes
     }
 
     /// A frame is read.
@@ -222,7 +236,7 @@ impl<N: Named, M: Named> Link<N, M> {
         match frame {
             Frame::Message(message) => self.deliver(rt, platform, message),
             Frame::Ack(ack) => {
-                let _taken = platform.firmware.take(rt, &mut self.pass, ack.copy());
+                let _taken = self.watch.take(rt, platform.firmware, ack.copy());
                 Ok(())
             }
         }

@@ -16,8 +16,8 @@ enum Step {
     Nothing,
 }
 
-/// The last message of a core, if it is outstanding: since it was sent the core has not entered, and
-/// no acknowledgement was used that says that it is carried out or out of date.
+/// The last message of a core, if it is outstanding: since it was sent the core has not entered,
+/// and no acknowledgement was used that says that it is carried out or out of date.
 pub(crate) fn outstanding(entries: &[FwEntry], core: Core) -> Option<Message> {
     let mut applied = 0;
     for entry in entries.iter().rev() {

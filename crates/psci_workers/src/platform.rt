@@ -3,8 +3,8 @@
 ghost use Rattle.std.specs.Prelude.{◌≡◌};
 
 use crate::cut::Cut;
-use crate::gathering::Polled;
-use psci_shared::{Board, Named, Pass, SharedFirmware};
+use crate::watch::Watch;
+use psci_shared::{Board, Core, Named, SharedFirmware};
 use psci_shared_ctl::{CtlPass, SharedController};
 use psci_traffic::Wire;
 use std::alloc::{AllocError, AllocFailed};
@@ -48,10 +48,10 @@ impl<T: Drop> From<AllocFailed<T>> for Ending {
 /// What a thread hands back.
 #[derive(Drop)]
 pub(crate) struct Returned<N: Named, M: Named> {
-    pub(crate) pass: Pass<N>,
+    pub(crate) watch: Watch<N>,
     pub(crate) asked: CtlPass<M>,
-    /// How often a core's thread has read a status without the lock.
-    pub(crate) polled: Option<Polled>,
+    /// The core whose thread it was, unless it was the link's.
+    pub(crate) core: Option<Core>,
     pub(crate) fault: Option<Cut>,
 }
 

@@ -1,14 +1,17 @@
 //! A run of core threads over one firmware and one power controller.
 
-ghost use Rattle.std.specs.Prelude.{◌≡◌, ◌≤◌, [], ◌∷◌, replicate};
+ghost use Rattle.std.specs.Prelude.{◌≡◌, ◌≤◌, [], ◌∷◌, replicate, IfOk};
 ghost use Rattle.psci_fw.specs.psci_board.Board.{cores};
 ghost use Rattle.psci_fw.specs.psci_fw_spec.declared.status.Status.TheVariants.{Off};
 ghost use Rattle.psci_status.specs.Seats.{table, table_of_writer, written};
+ghost use Rattle.psci_workers.specs.Histories.{AreLegalCalls, AreLegalControls};
+ghost use Rattle.psci_workers.specs.Seen.{AllInHistory};
 
 use crate::cut::Cut;
 use crate::gathering::{Gathered, gather};
 use crate::link::Link;
 use crate::platform::{Platform, Returned};
+use crate::watch::Watch;
 use crate::worker::Worker;
 use psci_shared::{Board, Core, Named, SharedFirmware, StatusWords, Tickets, Writer};
 use psci_shared_ctl::SharedController;
@@ -47,9 +50,12 @@ enum Job<N: Named, M: Named> {
     Link(Link<N, M>),
 }
 
-/// Runs a thread for each core, which makes so many calls at most, and one for the link, and gathers
-/// what they did. The gate is asked before each call. Which calls are made and how frames travel is
-/// drawn from the seed, but the order of threads is the machine's, so runs differ.
+/// Runs a thread for each core, which makes so many calls at most, and one for the link, and
+/// gathers what they did. The gate is asked before each call. Which calls are made and how frames
+/// travel is drawn from the seed, but the order of threads is the machine's, so runs differ.
+///
+/// The entries of each book tell a legal history of the board, and what each core's thread saw of a
+/// core by polls is that one of the core's statuses after the firmware's entries, by its serial.
 pub fn run_cores<R: Threads + Wait + Sync, G: Gate + Sync>(
     rt: &R,
     alloc: Global,
@@ -59,6 +65,9 @@ pub fn run_cores<R: Threads + Wait + Sync, G: Gate + Sync>(
     gate: &G,
 ) -> Result<Gathered, Cut>
     requires { cores board.now ≤ 64 }
+    ensures legal { IfOk result (λ g. AreLegalCalls board.now g.firmware.items) }
+    ensures controls { IfOk result (λ g. AreLegalControls board.now g.controller.items) }
+    ensures seen { IfOk result (λ g. AllInHistory board.now g.firmware.items g.polls.items) }
 {
     let Ok((words, writer)) = StatusWords::new(alloc, board) else {
         return Err(Cut::Memory);
@@ -101,6 +110,9 @@ where
     requires words { (table makings.words ≡ N.table) × (N.table.words ≡ cores N.board) }
     requires writer { (table_of_writer makings.writer ≡ N.table)
         × (written makings.writer ≡ replicate (cores N.board) (Off ∷ [])) }
+    ensures legal { IfOk result (λ g. AreLegalCalls N.board g.firmware.items) }
+    ensures controls { IfOk result (λ g. AreLegalControls M.board g.controller.items) }
+    ensures seen { IfOk result (λ g. AllInHistory N.board g.firmware.items g.polls.items) }
 {
     let Makings {
         words,
@@ -108,24 +120,41 @@ where
         firmware,
         controller,
     } = makings;
-    let Plan {
-        board,
-        seed,
-        count,
-        room,
-    } = plan;
-    let mut firmware = SharedFirmware::<N>::new(
-        alloc, board, words, writer, room, tickets, firmware,
-    )?;
-    let mut controller = SharedController::<M>::new(alloc, board, room, tickets, controller)?;
-    let jobs = jobs_of(alloc, board, seed, &mut firmware, &mut controller)?;
-    let wire = Wire::new(alloc, board.cores())?;
+    let Plan { board, room, .. } = plan;
+    let firmware = SharedFirmware::<N>::new(alloc, board, words, writer, room, tickets, firmware)?;
+    let controller = SharedController::<M>::new(alloc, board, room, tickets, controller)?;
+    on_threads(rt, alloc, plan, gate, firmware, controller)
+}
+
+/// The entries of a run over this firmware and this power controller, on threads.
+fn on_threads<'a, N, M, R, G>(
+    rt: &R,
+    alloc: Global,
+    plan: Plan<'a>,
+    gate: &'a G,
+    firmware: SharedFirmware<'a, N>,
+    controller: SharedController<'a, M>,
+) -> Result<Gathered, Cut>
+where
+    N: Named + Send + Sync,
+    M: Named + Send + Sync,
+    R: Threads + Wait + Sync,
+    G: Gate + Sync,
+    requires { (plan.board.now ≡ N.board) × (plan.board.now ≡ M.board) }
+    ensures legal { IfOk result (λ g. AreLegalCalls N.board g.firmware.items) }
+    ensures controls { IfOk result (λ g. AreLegalControls M.board g.controller.items) }
+    ensures seen { IfOk result (λ g. AllInHistory N.board g.firmware.items g.polls.items) }
+{
+    let mut firmware = firmware;
+    let mut controller = controller;
+    let jobs = jobs_of(alloc, plan.board, plan.seed, &mut firmware, &mut controller)?;
+    let wire = Wire::new(alloc, plan.board.cores())?;
     let platform = Platform {
-        board,
+        board: plan.board,
         firmware: &firmware,
         controller: &controller,
         wire: &wire,
-        count,
+        count: plan.count,
     };
     let returned = thread::map_vec(rt, jobs, &|job| done(rt, &platform, gate, job))?;
     gather(alloc, firmware, controller, returned)
@@ -168,13 +197,13 @@ fn jobs_of<N: Named, M: Named>(
     let mut jobs = Vec::new(alloc);
     for number in 0..board.cores() {
         let core = Core { number };
-        let pass = firmware.pass(core)?;
+        let watch = Watch::new(alloc, firmware.pass(core)?);
         let asked = controller.pass()?;
-        jobs.push(Job::Core(Worker::new(pass, asked, core, seed)))?;
+        jobs.push(Job::Core(Worker::new(watch, asked, core, seed)))?;
     }
-    let pass = firmware.pass(Core { number: 0 })?;
+    let watch = Watch::new(alloc, firmware.pass(Core { number: 0 })?);
     let asked = controller.pass()?;
-    jobs.push(Job::Link(Link::new(alloc, pass, asked, board.cores(), seed)?))?;
+    jobs.push(Job::Link(Link::new(alloc, watch, asked, board.cores(), seed)?))?;
     Ok(jobs)
 }
 

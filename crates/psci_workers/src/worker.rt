@@ -4,12 +4,12 @@ ghost use Rattle.std.specs.Prelude.{◌<◌};
 ghost use Rattle.psci_fw.specs.psci_board.Board.{cores};
 
 use crate::cut::Cut;
-use crate::gathering::Polled;
 use crate::platform::{Ending, Platform, Returned, fault_of};
+use crate::watch::Watch;
 use psci_draws::Draws;
 use psci_fw::{Act, Outcome};
 use psci_link::Frame;
-use psci_shared::{CallFault, Core, Named, Pass};
+use psci_shared::{CallFault, Core, Named};
 use psci_shared_ctl::CtlPass;
 use psci_traffic::Gate;
 use std::sync::Wait;
@@ -20,7 +20,7 @@ pub(crate) const TURNS: u32 = 4_000_000;
 /// What a core's thread has.
 #[derive(Drop)]
 pub(crate) struct Worker<N: Named, M: Named> {
-    pub(crate) pass: Pass<N>,
+    pub(crate) watch: Watch<N>,
     pub(crate) asked: CtlPass<M>,
     pub(crate) core: Core,
     pub(crate) draws: Draws,
@@ -29,8 +29,6 @@ pub(crate) struct Worker<N: Named, M: Named> {
     pub(crate) entered: u32,
     /// Whether it counts among those that are up.
     pub(crate) is_up: bool,
-    /// How often it has read the status of a core without the lock.
-    pub(crate) polls: u64,
     ghost on_board: { core.number < cores M.board },
 }
 
@@ -47,18 +45,17 @@ pub(crate) enum State {
 
 impl<N: Named, M: Named> Worker<N, M> {
     /// A core that has not entered.
-    pub(crate) fn new(pass: Pass<N>, asked: CtlPass<M>, core: Core, seed: u64) -> Worker<N, M>
+    pub(crate) fn new(watch: Watch<N>, asked: CtlPass<M>, core: Core, seed: u64) -> Worker<N, M>
         requires { core.number < cores M.board }
     {
         Worker {
-            pass,
+            watch,
             asked,
             core,
             draws: Draws::of_thread(seed, u64::from(core.number) + 1),
             state: State::Off,
             entered: 0,
             is_up: core.number == 0,
-            polls: 0,
         }
     }
 
@@ -85,19 +82,18 @@ impl<N: Named, M: Named> Worker<N, M> {
     /// What the thread hands back that ends by this fault, or without one.
     pub(crate) fn handed_back(self, fault: Option<Cut>) -> Returned<N, M> {
         let Worker {
-            pass,
+            watch,
             asked,
             core,
             draws: _,
             state: _,
             entered: _,
             is_up: _,
-            polls,
         } = self;
         Returned {
-            pass,
+            watch,
             asked,
-            polled: Some(Polled { core, polls }),
+            core: Some(core),
             fault,
         }
     }

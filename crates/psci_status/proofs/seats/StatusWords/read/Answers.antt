@@ -7,7 +7,7 @@ use Rattle.psci_status.specs.declared.rule.View.{View}
 use Rattle.psci_status.specs.Lists.{Item, row, gain, Begins, item_of}
 use Rattle.psci_status.proofs.Lists.{row_set_here}
 use Rattle.psci_status.proofs.Steps.{loads_as}
-use Rattle.psci_status.proofs.seats.StatusWords.get.Goals as goal
+use Rattle.psci_status.proofs.seats.StatusWords.read.Goals as goal
 
 pub load-found-requires : goal.load-found-requires
 load-found-requires c =
@@ -24,12 +24,19 @@ returns-clause-seen c =
     let old = c.args.reader.now.seat.me.0.seen in
     let item = ap (λ (s : Status). (serial, s)) (sym c.status_of.ensures) in
     let new = ap (λ (m : Me (Unit {0}) View). m.0.seen) loaded.0 in
+    new ∙ ap (λ (i : Item). slice_set old core (gain i (row old core))) item
+
+pub returns-clause-last : goal.returns-clause-last
+returns-clause-last c =
+    let loaded = c.load-found.ensures.2 in
+    let serial = c.load-found.result / 4 in
+    let core = c.args.core.number in
+    let old = c.args.reader.now.seat.me.0.seen in
+    let item = ap (λ (s : Status). (serial, s)) (sym c.status_of.ensures) in
+    let new = ap (λ (m : Me (Unit {0}) View). m.0.seen) loaded.0 in
     let long = c.args.reader.now.long ∙ ap (λ (t : TableId). t.words) c.requires.table in
     let small = subst (λ (n : ℕ). core < n) (sym long) c.requires.core in
-    let here = ap (λ (l : List (List Item)). row l core) new ∙ row_set_here old core _ small in (
-      serial,
-      new ∙ ap (λ (i : Item). slice_set old core (gain i (row old core))) item,
-      subst (λ (l : List Item). Begins (serial, c.status_of.result) l) (sym here)
-          (subst (λ (i : Item). Begins i
-          (gain (item_of c.load-found.result) (row old core))) item loaded.1),
-    )
+    let here = ap (λ (l : List (List Item)). row l core) new ∙ row_set_here old core _ small in
+    subst (λ (l : List Item). Begins (serial, c.status_of.result) l) (sym here)
+    (subst (λ (i : Item). Begins i (gain (item_of c.load-found.result) (row old core))) item
+    loaded.1)

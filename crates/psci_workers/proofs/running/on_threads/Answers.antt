@@ -2,7 +2,7 @@ use denote.Exit as Exit
 use denote.Param.{param}
 use denote.Param.Send.{param_sync, arg_sync}
 use Rattle.psci_workers.proofs.Crossing.{captured}
-use Rattle.psci_workers.proofs.running.run.Goals as goal
+use Rattle.psci_workers.proofs.running.on_threads.Goals as goal
 
 pub map_vec-requires-sync-F : goal.map_vec-requires-sync-F
 map_vec-requires-sync-F g c κs within =
