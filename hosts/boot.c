@@ -12,7 +12,6 @@
 
 enum { CORES = 4, LEVELS = 3 };
 /* Two clusters of two cores. */
-static const char text[] = "(2 2) exec 0x40000000-0x40100000 boot 0x40000000 starts 1000 lives 3";
 static const struct psci_board board = {
     .height = 2,
     .starts = 1000,
@@ -125,6 +124,18 @@ static void on_start(unsigned core, uint32_t life, uint32_t number, uint32_t cau
     obey(core, &answer);
 }
 
+/* At cold reset, and each time that the system was reset: a core may have been cut in the middle of a
+ * call, so the firmware is made anew, and each core's way to poll it. It takes the life of the first
+ * start that enters. */
+static void open_firmware(void) {
+    uint32_t opened = psci_open_board(&firmware, &board);
+    if (opened != PSCI_OPENED)
+        fail("no firmware", opened);
+    for (unsigned core = 0; core < CORES; core++)
+        if (psci_open_poller(&firmware, &pollers[core]) != PSCI_OPENED)
+            fail("no poller", core);
+}
+
 /* The interrupt of the mailbox: an acknowledgement has come. */
 static void on_ack(const uint8_t *frame) {
     lock();
@@ -158,8 +169,9 @@ static void switch_power(const struct psci_ctl_answer *answer) {
     case PSCI_CTL_SWITCH: break;
     case PSCI_CTL_START: power_up(answer->start.core); break;
     case PSCI_CTL_OFF: memset(cpus, 0, sizeof cpus); break;
-    case PSCI_CTL_RESTART:
+    case PSCI_CTL_RESTART: /* lives count on here */
         memset(cpus, 0, sizeof cpus);
+        open_firmware();
         power_up(answer->start.core);
         break;
     default: /* the link has changed a frame, or the two boards are not the same */
@@ -204,14 +216,9 @@ static void smc(unsigned core, uint64_t x0, uint64_t x1, uint64_t x2, uint64_t x
 int main(void) {
     size_t size = 2 * pool_size(CORES);
     pool_give(malloc(size), size);
-    if (psci_ctl_open(&controller, (const uint8_t *)text, strlen(text)) != PSCI_OPENED)
+    if (psci_ctl_open_board(&controller, &board) != PSCI_OPENED)
         fail("no power controller", 0);
-    uint32_t opened = psci_open_board(&firmware, &board);
-    if (opened != PSCI_OPENED)
-        fail("no firmware", opened);
-    for (unsigned core = 0; core < CORES; core++)
-        if (psci_open_poller(&firmware, &pollers[core]) != PSCI_OPENED)
-            fail("no poller", core);
+    open_firmware();
     power_up(0);
     smc(0, 0x84000000, 0, 0, 0);                   /* PSCI_VERSION */
     smc(0, 0xc4000003, 0x101, 0x40001000, 7);      /* CPU_ON of core 3 */

@@ -1,4 +1,4 @@
-/* The power controller for C, in the archive of the firmware: crates/psci_ffi/out/libpsci_ffi.a. A
+/* The power controller for C, in the archive of the firmware (libpsci_ffi.a). A
  * program may use both halves or one alone. docs/PORTING.md says what a port gives and gets. Calls on
  * one place may not overlap: hold a lock around each. */
 #ifndef GUMDARTS_PSCI_CTL_H
@@ -60,6 +60,9 @@ _Static_assert(sizeof(struct psci_ctl_answer) == 112, "a power controller's answ
  * one that was there. Its first life has begun: the boot core is started, by the start that
  * psci_ctl_started tells. PSCI_OPENED to PSCI_NO_MEMORY. */
 uint32_t psci_ctl_open(struct psci_ctl_place *, const uint8_t *text, size_t length);
+
+/* The same, of the board that the struct gives; the faults are those of psci_open_board. */
+uint32_t psci_ctl_open_board(struct psci_ctl_place *, const struct psci_board *);
 
 /* Frees the power controller in the place. */
 void psci_ctl_close(struct psci_ctl_place *);

@@ -205,28 +205,37 @@ c_calls() {
     done
 }
 
-# the numbers, prototypes and structs of psci.h against those of the crate; and each of these exchanges,
-# which no compiler sees, is refused
-c_header() {
-    local edit
-    has_python "tests/header" || return
-    if tests/header > "$work/out"; then pass; else
-        fail "include/psci.h says other than crates/psci_ffi"
-        head -n 20 "$work/out"
-        return
-    fi
-    for edit in 's/BAD_BOOT = 6/BAD_BOOT = 7/; s/BAD_LIMIT = 7/BAD_LIMIT = 6/' \
-        's/PSCI_WAKE = 2, PSCI_RESET = 3/PSCI_WAKE = 3, PSCI_RESET = 2/' 's/PSCI_STOP = 1/PSCI_STOP = 2/' \
-        's/life, uint32_t number,/number, uint32_t life,/' 's/uint64_t x1, uint64_t x2/uint64_t x2, uint64_t x1/' \
-        's/uint32_t level, uint16_t index/uint16_t index, uint32_t level/' 's/uint8_t kind; /uint16_t kind; /' \
-        's/^uint32_t psci_life/uint16_t psci_life/' 's/== 54/== 55/' '/uint32_t starts;/{h;d};/uint32_t lives;/G'; do
-        sed "$edit" include/psci.h > "$work/psci.h"
-        if cmp -s include/psci.h "$work/psci.h" || tests/header "$work/psci.h" > "$work/out"; then
-            fail "tests/header lets this through: $edit"
+# unlike HEADER EDIT..: each of these exchanges in a header, which no compiler sees, is refused
+unlike() {
+    local header=$1 edit
+    shift
+    for edit in "$@"; do
+        sed "$edit" "include/$header" > "$work/$header"
+        if cmp -s "include/$header" "$work/$header" || tests/header "$work/$header" > "$work/out"; then
+            fail "tests/header lets this through in $header: $edit"
         else
             pass
         fi
     done
+}
+
+# the numbers, prototypes and structs of the headers are those of the crate
+c_header() {
+    has_python "tests/header" || return
+    if tests/header > "$work/out"; then pass; else
+        fail "the headers say other than crates/psci_ffi"
+        head -n 20 "$work/out"
+        return
+    fi
+    unlike psci.h 's/BAD_BOOT = 6/BAD_BOOT = 7/; s/BAD_LIMIT = 7/BAD_LIMIT = 6/' \
+        's/PSCI_WAKE = 2, PSCI_RESET = 3/PSCI_WAKE = 3, PSCI_RESET = 2/' 's/PSCI_STOP = 1/PSCI_STOP = 2/' \
+        's/life, uint32_t number,/number, uint32_t life,/' 's/uint64_t x1, uint64_t x2/uint64_t x2, uint64_t x1/' \
+        's/uint32_t level, uint16_t index/uint16_t index, uint32_t level/' 's/uint8_t kind; /uint16_t kind; /' \
+        's/^uint32_t psci_life/uint16_t psci_life/' 's/== 54/== 55/' '/uint32_t starts;/{h;d};/uint32_t lives;/G'
+    unlike psci_ctl.h 's/CTL_OFF = 3/CTL_OFF = 4/; s/CTL_RESTART = 4/CTL_RESTART = 3/' \
+        's/life, number, cause;/number, life, cause;/' 's/STANDBY = 1, PSCI_CTL_RETENTION = 2/STANDBY = 2, PSCI_CTL_RETENTION = 1/' \
+        's/NOT_A_MESSAGE = 42/NOT_A_MESSAGE = 41/' 's/uint16_t core, uint32_t halted/uint32_t halted, uint16_t core/' \
+        's/domains\[4\]/domains[3]/' 's/NO_PLACE = PSCI_NO_FIRMWARE/NO_PLACE = PSCI_NO_CORE/'
 }
 
 # the scripts that have no fault

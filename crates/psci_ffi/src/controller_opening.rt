@@ -4,9 +4,12 @@ ghost use Rattle.std.specs.Prelude.{◌≡◌, None, IfErr, IfOk, IsSomeAnd};
 ghost use Rattle.psci_board.specs.Verdict.{board_of};
 ghost use Rattle.psci_ffi.specs.Codes.{opened_said};
 ghost use Rattle.psci_ffi.specs.ControllerCalls.{IsFirst, Opens};
+ghost use Rattle.psci_ffi.specs.Given.{board_of_given};
 
 use crate::codes::opened_code;
 use crate::controller_place::ControllerPlace;
+use crate::given::GivenBoard;
+use crate::given_build::read_given;
 use crate::opening::read;
 use psci_board::{Board, BoardFault, Memory};
 use psci_ctl::Controller;
@@ -23,6 +26,20 @@ pub extern "C" fn psci_ctl_open(alloc: Global, place: &mut ControllerPlace, text
     opened_code(open(alloc, place, text))
 }
 
+/// The same, of the board that the struct gives: 0. Else the number of the struct's first fault, as
+/// `psci_open_board` has it, or 8 where memory lacks, and nothing changes.
+#[unsafe(no_mangle)]
+pub extern "C" fn psci_ctl_open_board(
+    alloc: Global,
+    place: &mut ControllerPlace,
+    board: &GivenBoard,
+) -> u32
+    ensures { Opens (opened_said result) (board_of_given board.now) place.old.slot.kept
+        place.new.slot.kept }
+{
+    opened_code(open_board(alloc, place, board))
+}
+
 /// Frees the power controller in the place, which is empty then.
 #[unsafe(no_mangle)]
 pub extern "C" fn psci_ctl_close(alloc: Global, place: &mut ControllerPlace)
@@ -36,6 +53,18 @@ fn open(alloc: Global, place: &mut ControllerPlace, text: &[u8]) -> Result<(), B
     ensures { Opens result (board_of text.now) place.old.slot.kept place.new.slot.kept }
 {
     let board = read(alloc, text)?;
+    Ok(renew(alloc, place, &board)?)
+}
+
+/// The same, if the struct is a board's.
+fn open_board(
+    alloc: Global,
+    place: &mut ControllerPlace,
+    given: &GivenBoard,
+) -> Result<(), BoardFault>
+    ensures { Opens result (board_of_given given.now) place.old.slot.kept place.new.slot.kept }
+{
+    let board = read_given(alloc, given)?;
     Ok(renew(alloc, place, &board)?)
 }
 
