@@ -53,7 +53,8 @@ fn give_frame(controller: &mut Controller, frame: &Frame, answer: &mut Controlle
     }
 }
 
-/// `Controller::deliver`.
+/// `Controller::deliver`. It has a frame of its own, so that none is held while a frame is read.
+#[inline(never)]
 #[tactic(auto, using(crate::proofs::Switching::of_board), unfolding(psci_ctl_spec::specs::Effects::effect_of))]
 fn deliver(controller: &mut Controller, message: &Message, answer: &mut ControllerAnswer)
     requires { IsOf controller.old.board (frames.Message message.now) }

@@ -122,7 +122,8 @@ impl Held {
         }
     }
 
-    /// `Firmware::take`.
+    /// `Firmware::take`. It has a frame of its own, so that none is held while a frame is read.
+    #[inline(never)]
     fn take_ack(&mut self, ack: Ack) -> Taken
         ensures answer { (c : ℕ) → replies.Taken result ≡ answer self.old.firmware.board
             (seen self.old.firmware) c (calls.Take ack) }
