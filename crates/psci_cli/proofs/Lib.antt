@@ -1,3 +1,4 @@
+pub mod CoreLines
 mod EndRows
 pub mod Failing
 mod OutputRows

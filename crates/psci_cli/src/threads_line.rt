@@ -4,7 +4,7 @@ ghost use Rattle.std.specs.Prelude.{◌≡◌, OnOk};
 ghost use Rattle.std.specs.Io.KnownBytes.{Appends};
 ghost use Rattle.psci_command.specs.psci_board.Verdict.{board_of};
 ghost use Rattle.psci_cli.specs.Threading.{IsThreaded, failure_at};
-ghost use Rattle.psci_cli.specs.ThreadsText.{cores_text, threads_output};
+ghost use Rattle.psci_cli.specs.ThreadsText.{core_line, cores_text, threads_output};
 
 use psci_bench::{
     AuditFault, BenchFault, Core, FwEntry, OpenGate, Polled, ReplayFault, Threaded, calls_of,
@@ -76,23 +76,31 @@ pub fn write_threads<W: Write>(to: &mut W, threaded: &Threaded, counts: bool) ->
     Ok(())
 }
 
-/// Writes a line for each core: how many calls and entries the firmware's book has of it, and how
-/// often its thread has read a status without the lock.
+/// Writes a line for each core.
 fn write_cores<W: Write>(to: &mut W, entries: &[FwEntry], polls: &[Polled]) -> io::Result<()>
     ensures { OnOk result (Appends (W.contents to.old) (W.contents to.new)
         (cores_text entries.now polls.now)) }
 {
     for polled in polls {
-        let Core { number } = polled.core;
-        let calls = calls_of(entries, polled.core);
-        let made = entries_of(entries, polled.core);
-        let polls = polled.polls;
-        writeln!(
-            to,
-            "core {number} calls {calls} entries {made} polls {polls}"
-        )?;
+        write_core(to, entries, polled)?;
     }
     Ok(())
+}
+
+/// Writes how many calls and entries the firmware's book has of a core, and how often its thread has
+/// read a status without the lock.
+fn write_core<W: Write>(to: &mut W, entries: &[FwEntry], polled: &Polled) -> io::Result<()>
+    ensures { OnOk result (Appends (W.contents to.old) (W.contents to.new)
+        (core_line entries.now polled.now)) }
+{
+    let Core { number } = polled.core;
+    let calls = calls_of(entries, polled.core);
+    let made = entries_of(entries, polled.core);
+    let polls = polled.polls;
+    writeln!(
+        to,
+        "core {number} calls {calls} entries {made} polls {polls}"
+    )
 }
 
 /// The numbers of the line of threads.
