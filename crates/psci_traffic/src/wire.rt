@@ -78,11 +78,12 @@ impl Wire {
         let _before = self.come.fetch_add(1, Ordering::SeqCst);
         let all = self.waiting.len() as u64 + 1;
         for _ in 0..TURNS {
-            if self.is_over() {
-                return false;
-            }
+            // looked at first: a run of few calls may be over before the last one looks
             if u64::from(self.come.load(Ordering::SeqCst)) >= all {
                 return true;
+            }
+            if self.is_over() {
+                return false;
             }
             thread::yield_now();
         }
