@@ -254,7 +254,7 @@ replaying() {
     answers "./psci replay by the program that only replays"
     PATH=$fresh/kit:$PATH front_of "$fresh" replay --help
     expect_unproved "./psci replay with a further word"
-    touch -d "1 minute" "$fresh/crates/psci_world/src/lib.rt"
+    touch -d "1 minute" "$fresh/crates/psci_present/src/lib.rt"
     PATH=$fresh/kit:$PATH front_of "$fresh" replay
     expect_unproved "./psci replay by a program that is older than a source"
 }
