@@ -6,12 +6,12 @@ _psci() {
     local at
     for ((at = 1; at < COMP_CWORD; at++)); do
         case ${COMP_WORDS[at]} in
-            replay | storm | threads | show | draw | try | prove | help) command=${COMP_WORDS[at]}; break ;;
+            replay | storm | threads | show | draw | try | plain | compare | prove | help) command=${COMP_WORDS[at]}; break ;;
         esac
     done
     COMPREPLY=()
     case $before in
-        --keep | --clock) mapfile -t COMPREPLY < <(compgen -f -- "$word"); return ;;
+        --keep | --clock | --script) mapfile -t COMPREPLY < <(compgen -f -- "$word"); return ;;
         --color) mapfile -t COMPREPLY < <(compgen -W "auto always never" -- "$word"); return ;;
         --target) mapfile -t COMPREPLY < <(compgen -W "x86_64 aarch64" -- "$word"); return ;;
         --board | --seed | --seeds | --count | --width | --from | --to | --cores | --port) return ;;
@@ -19,19 +19,25 @@ _psci() {
     esac
     case $command in
         "") mapfile -t COMPREPLY < <(compgen -W \
-            "replay storm threads show draw try prove help --unproved --help --version" -- "$word") ;;
+            "replay storm threads show draw try plain compare prove help --unproved --help --version" -- "$word") ;;
         storm) mapfile -t COMPREPLY < <(compgen -W \
             "--board --seed --seeds --count --counts --keep --help" -- "$word") ;;
         threads) mapfile -t COMPREPLY < <(compgen -W \
             "--board --seed --count --counts --keep --help" -- "$word") ;;
         show) mapfile -t COMPREPLY < <(compgen -W \
-            "--json --legend --width --color --from --to --cores --changes --trace --vcd --clock --help" \
-            -- "$word") ;;
-        draw) mapfile -t COMPREPLY < <(compgen -W "--page --from --to --cores --clock --help" -- "$word") ;;
+            "--json --legend --width --color --from --to --cores --changes --script --trace --vcd \
+            --clock --help" -- "$word"; compgen -f -- "$word") ;;
+        draw) mapfile -t COMPREPLY < <(compgen -W "--page --from --to --cores --clock --help" -- "$word"
+            compgen -f -- "$word") ;;
+        compare)
+            case $word in
+                -*) mapfile -t COMPREPLY < <(compgen -W "--quick --script --help" -- "$word") ;;
+                *) mapfile -t COMPREPLY < <(compgen -f -- "$word") ;;
+            esac ;;
         try) mapfile -t COMPREPLY < <(compgen -W "--port --help" -- "$word") ;;
-        help) mapfile -t COMPREPLY < <(compgen -W "replay storm threads show" -- "$word") ;;
-        prove) mapfile -t COMPREPLY < <(compgen -W "all lib --target" -- "$word") ;;
-        replay) mapfile -t COMPREPLY < <(compgen -W "--help" -- "$word") ;;
+        help) mapfile -t COMPREPLY < <(compgen -W "replay storm threads show draw try plain compare prove" -- "$word") ;;
+        prove) mapfile -t COMPREPLY < <(compgen -W "all lib --target --help" -- "$word") ;;
+        replay | plain) mapfile -t COMPREPLY < <(compgen -W "--help" -- "$word"; compgen -f -- "$word") ;;
     esac
 }
 

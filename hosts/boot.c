@@ -10,7 +10,7 @@
 #include <stdlib.h>
 #include <string.h>
 
-enum { CORES = 4, LEVELS = 3 };
+enum { CORES = 4, LEVELS = 3, DEVICE_TREE = 0x48000000 };
 /* Two clusters of two cores. */
 static const struct psci_board board = {
     .height = 2,
@@ -62,16 +62,17 @@ static void fail(const char *why, uint32_t what) {
 }
 
 /* What the core does next, once the lock is given back. */
-static void obey(unsigned core, const struct psci_answer *answer) {
+static void obey(unsigned core, const struct psci_answer *answer, const struct psci_stop *stop) {
     struct cpu *cpu = &cpus[core];
     switch (answer->what) {
     case PSCI_RETURN: /* ERET behind the call */
         cpu->x[0] = register_of(answer->code, cpu->x[0]);
         printf("core %u returns 0x%" PRIx64 "\n", core, cpu->x[0]);
         break;
-    case PSCI_STOP: /* caches are cleaned here; then WFI until the power goes */
+    case PSCI_STOP: /* caches are cleaned here, as deep as it goes; then WFI until the power goes */
         cpu->runs = false;
-        printf("core %u stops\n", core);
+        printf("core %u stops: %u %u %u%s\n", core, stop->depths[0], stop->depths[1], stop->depths[2],
+               stop->wakes ? ", until it is woken" : "");
         break;
     case PSCI_ENTER: /* ERET to the entry point; no other register says anything */
         *cpu = (struct cpu){{answer->context}, answer->address, true};
@@ -103,25 +104,31 @@ static void on_poll(unsigned core) {
 static void on_smc(unsigned core) {
     const uint64_t *x = cpus[core].x;
     struct psci_answer answer;
+    struct psci_stop stop;
     if (is_poll(x)) {
         on_poll(core);
         return;
     }
     lock();
     psci_smc(&firmware, core, x[0], x[1], x[2], x[3], &answer);
+    psci_stop(&firmware, core, x[0], &stop);
     post(&answer.message);
     unlock();
-    obey(core, &answer);
+    obey(core, &answer, &stop);
 }
 
 /* The reset vector: a core was started. */
 static void on_start(unsigned core, uint32_t life, uint32_t number, uint32_t cause) {
     struct psci_answer answer;
+    struct psci_stop stop;
     lock();
     psci_enter(&firmware, core, life, number, cause, &answer);
+    psci_stop(&firmware, core, 0, &stop);
     post(&answer.message);
     unlock();
-    obey(core, &answer);
+    if (cause == PSCI_BOOT) /* whoever boots wants this in x0: Linux its device tree */
+        answer.context = DEVICE_TREE;
+    obey(core, &answer, &stop);
 }
 
 /* At cold reset, and each time that the system was reset: a core may have been cut in the middle of a

@@ -1,8 +1,10 @@
-/* loop SCRIPT [READ]: plays a script. Calls, entries and acknowledgements go to the library's firmware,
- * and messages, wake-ups and resets to its power controller. Writes the answer lines: the program's,
- * where the library answers as the program does. After each event every core is polled, and has to
- * be what the firmware says. Into the file READ it writes what is read of the board, and of the
- * firmware before any event and after each. */
+/* loop SCRIPT [READ [anew]]: plays a script. Calls, entries and acknowledgements go to the library's
+ * firmware, and messages, wake-ups and resets to its power controller. Writes the answer lines: the
+ * program's, where the library answers as the program does. After each event every core is polled, and
+ * has to be what the firmware says. Into the file READ it writes what is read of the board, and of the
+ * firmware before any event and after each. By `anew` the firmware is made anew as each life begins,
+ * with the first entry in it: that cannot be told. */
+#define _XOPEN_SOURCE 700
 #include "pool.h"
 #include "psci_ctl.h"
 
@@ -29,6 +31,9 @@ static uint32_t life;
 static uint8_t messages[MOST_FRAMES][PSCI_FRAME_LEN], acks[MOST_FRAMES][PSCI_FRAME_LEN];
 static uint64_t many_messages, many_acks;
 static FILE *readings;
+
+/* The board's text, if the firmware is made anew for each life. */
+static char *anew;
 
 static void fail(const char *why) {
     fprintf(stderr, "loop: %s\n", why);
@@ -134,16 +139,22 @@ static void poll_all(void) {
     }
 }
 
-static void open_board(const char *text) {
-    read_cores(text);
-    size_t size = 2 * pool_size(many_cores);
-    pool_give(malloc(size), size);
-    if (psci_ctl_open(&controller, (const uint8_t *)text, strlen(text)) != PSCI_OPENED)
-        fail("the power controller did not open");
+static void open_firmware(const char *text) {
     if (psci_open(&place, (const uint8_t *)text, strlen(text)) != PSCI_OPENED)
         fail("the board did not open");
     if (psci_open_poller(&place, &poller) != PSCI_OPENED)
         fail("the poller did not open");
+}
+
+static void open_board(const char *text) {
+    read_cores(text);
+    size_t size = 3 * pool_size(many_cores);
+    pool_give(malloc(size), size);
+    if (psci_ctl_open(&controller, (const uint8_t *)text, strlen(text)) != PSCI_OPENED)
+        fail("the power controller did not open");
+    if (anew)
+        anew = strdup(text);
+    open_firmware(text);
     begin_life();
     poll_all();
     if (readings) {
@@ -203,6 +214,8 @@ static void enter(unsigned core) {
         printf("ignored");
         return;
     }
+    if (anew && life != psci_life(&place))
+        open_firmware(anew);
     psci_enter(&place, core, life, cores[core].number, cores[core].cause, &answer);
     obey(core, &answer);
 }
@@ -297,6 +310,8 @@ int main(int count, char **words) {
         fail("give a script");
     if (count > 2 && !(readings = fopen(words[2], "w")))
         fail("what is read cannot be written");
+    if (count > 3)
+        anew = words[3];
     for (uint64_t at = 0, events = 0; fgets(line, sizeof line, script); at++) {
         line[strcspn(line, "\n")] = 0;
         if (at == 0) {
@@ -309,5 +324,7 @@ int main(int count, char **words) {
     psci_close(&place);
     psci_close_poller(&poller);
     psci_ctl_close(&controller);
+    if (anew)
+        free(anew);
     return 0;
 }

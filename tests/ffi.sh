@@ -25,9 +25,9 @@ built() {
     fi
 }
 
-# build_c NAME SOURCE: a C program over the archive and the pool
+# build_c NAME SOURCE..: a C program over the archive and the pool
 build_c() {
-    cc -std=c11 -O2 -pthread -Wall -Wextra -Werror -Iinclude -Ihosts -o "$work/$1" "$2" \
+    cc -std=c11 -O2 -pthread -Wall -Wextra -Werror -Iinclude -Ihosts -o "$work/$1" "${@:2}" \
         hosts/pool.c "$archive" > "$work/err" 2>&1 || { fail "$2"; head -n 20 "$work/err"; false; }
 }
 
@@ -103,6 +103,16 @@ c_registers() {
     echo "void copy(long *to, long *from) { __builtin_memcpy(to, from, 32); }" > "$work/copy.c"
     "$clang" --target=aarch64-unknown-linux-gnu -O2 -c -o "$work/copy.o" "$work/copy.c"
     refused "a copy through vector registers" "$work/copy.o"
+    # eight bytes at a base and four, told as such; and at a base that was stepped on by four before
+    printf 'f:\n ldur x0, [x1, #4]\n ret\n' > "$work/half.s"
+    printf 'f:\n strb wzr, [x1, #4]!\n ldur x0, [x1, #4]\n ret\n' > "$work/whole.s"
+    for file in half whole; do
+        "$clang" --target=aarch64-unknown-linux-gnu -c -o "$work/$file.o" "$work/$file.s"
+    done
+    refused "eight bytes at four" "$work/half.o" --aligned
+    if tests/plain-code "$work/whole.o" --aligned > "$work/out" 2>&1; then pass; else
+        fail "tests/plain-code refuses eight bytes at twice four"
+    fi
 }
 
 # on_bare_machine NAME ARCHIVE WORD..: hosts/boot.c over an archive on a bare machine, compiled with these words
@@ -232,6 +242,7 @@ c_header() {
         's/PSCI_WAKE = 2, PSCI_RESET = 3/PSCI_WAKE = 3, PSCI_RESET = 2/' 's/PSCI_STOP = 1/PSCI_STOP = 2/' \
         's/life, uint32_t number,/number, uint32_t life,/' 's/uint64_t x1, uint64_t x2/uint64_t x2, uint64_t x1/' \
         's/uint32_t level, uint16_t index/uint16_t index, uint32_t level/' 's/uint8_t kind; /uint16_t kind; /' \
+        's/uint16_t core, uint64_t x0, struct psci_stop/uint64_t x0, uint16_t core, struct psci_stop/' \
         's/^uint32_t psci_life/uint16_t psci_life/' 's/== 54/== 55/' '/uint32_t starts;/{h;d};/uint32_t lives;/G'
     unlike psci_ctl.h 's/CTL_OFF = 3/CTL_OFF = 4/; s/CTL_RESTART = 4/CTL_RESTART = 3/' \
         's/life, number, cause;/number, life, cause;/' 's/STANDBY = 1, PSCI_CTL_RETENTION = 2/STANDBY = 2, PSCI_CTL_RETENTION = 1/' \
@@ -267,8 +278,61 @@ read_as_by_the_model() {
     fi
 }
 
-# firmware and power controller in C on each script, with what every reader says; the power controller
-# alone, beside what the program's firmware said; and what the other hosts tell
+# told NAME: this host tells what stands beside it
+told() {
+    if timeout 60 "$work/$1" > "$work/out" && cmp -s "hosts/$1.out" "$work/out"; then pass; else
+        fail "hosts/$1.c"
+        diff "hosts/$1.out" "$work/out" | head -n 5
+    fi
+}
+
+# unheeded NAME EDIT..: a port that leaves a rule out, by this edit of a host, is seen by what it tells
+unheeded() {
+    local name=$1 edit
+    shift
+    for edit in "$@"; do
+        sed "$edit" "hosts/$name.c" > "$work/unheeded.c"
+        if cmp -s "hosts/$name.c" "$work/unheeded.c" ||
+            ! cc -std=c11 -O2 -pthread -w -Iinclude -Ihosts -o "$work/unheeded" "$work/unheeded.c" \
+                hosts/machine.c hosts/pool.c "$archive" > "$work/err" 2>&1; then
+            fail "hosts/$name.c has no such rule: $edit"
+        elif timeout 60 "$work/unheeded" > "$work/out" 2> "$work/err" &&
+            cmp -s "hosts/$name.out" "$work/out"; then
+            fail "hosts/$name.c tells the same without a rule: $edit"
+        else
+            pass
+        fi
+    done
+}
+
+# the rules of a port, each tried and each left out
+c_rules() {
+    local name
+    has_cc "the rules of a port" || return
+    for name in rules resets link lock; do
+        build_c "$name" "hosts/$name.c" hosts/machine.c || return
+        told "$name"
+    done
+    unheeded rules 's/<= 0xc400001f/<= 0xc400000f/' 's/|| word == 0x80000001;/;/' \
+        's/features || standby ||/features ||/' 's/ && said.code == 0)/)/' \
+        's/x0 == SUSPEND && what == PSCI_STOP/false/' \
+        's/start.cause == PSCI_BOOT ? device_tree : said.context/said.context/' \
+        's/|| stands\[message.core\] == message.number/|| stands[message.core] != 0/' \
+        's/ || message.number != psci_ctl_starts(&controller, message.core)//' \
+        's/^    if (pending)$/    if (false)/' '/a later try/d'
+    unheeded resets '/^        open_anew(&two_by_two);$/d' 's/open_anew(&two_by_two);/cold_reset(\&two_by_two);/' \
+        's/^    if (cleans)$/    if (false)/' 's/^    if (!invalidates)$/    if (true)/' \
+        's/box\[0\].some = kept;/box[0].some = true;/'
+    unheeded link 's/if (round % 4 == 0)/if (false)/; s/has_timer \&\& round/false \&\& round/' \
+        's/^    post();$//' 's/done.ack.some)/false)/'
+    unheeded lock 's/^    while (atomic_flag_test_and_set_explicit.*$/    while (0)/'
+    unheeded stop 's/|| atomic_load(&stopped) == number;/|| atomic_load(\&stopped) != 0;/' \
+        's/^        while (waits \&\& !may_deliver(mailbox))$/        while (0)/'
+}
+
+# firmware and power controller in C on each script, with what every reader says, also where the firmware
+# is made anew for each life; the power controller alone, beside what the program's firmware said; and
+# what the other hosts tell
 c_hosts() {
     local file name rest=" exec 0x40000000-0x40100000 boot 0x40000000 starts 9 lives 3"
     has_cc "the hosts in C" || return
@@ -278,6 +342,10 @@ c_hosts() {
     for file in $(faultless); do
         answered "$file" "$work/loop" "$file" "$work/read"
         read_as_by_the_model "$file"
+        answered "$file" "$work/loop" "$file" "$work/read-anew" anew
+        if cmp -s "$work/read" "$work/read-anew"; then pass; else
+            fail "the readers on $file, where the firmware is made anew for each life"
+        fi
         answered "$file" "$work/ctl_loop" "$file" "${file%.psci}.out"
     done
     if "$work/size" "1 exec 0x0-0x8 boot 0x0 starts 1 lives 1" "((1 1) (16))$rest" "(16 16)$rest" \
@@ -286,12 +354,8 @@ c_hosts() {
         fail "hosts/size.c"
         head -n 5 "$work/out"
     fi
-    for name in boot stop; do
-        if "$work/$name" > "$work/out" && cmp -s "hosts/$name.out" "$work/out"; then pass; else
-            fail "hosts/$name.c"
-            diff "hosts/$name.out" "$work/out" | head -n 5
-        fi
-    done
+    told boot
+    told stop
 }
 
 # the same calls and scripts over the archives for aarch64, by an emulator

@@ -39,6 +39,8 @@ view_words() {
     if head -n 1 "$work/out" | grep -q '^<!DOCTYPE html>'; then pass; else fail "./psci draw --page is no page"; fi
     printf '%s\nenter 0\nenter 1 2\n' "$board" | ./psci show --trace > "$work/out" 2> "$work/err"
     echo $? > "$work/got"
+    # behind the program's line comes what it is in words
+    sed -i '2,$d' "$work/err"
     expect "./psci show --trace at a faulty line" 3 "line 3: script fault 2"
     ./psci draw < examples/linux/hotplug.psci > "$work/out" 2> "$work/err"
     echo $? > "$work/got"

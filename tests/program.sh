@@ -180,92 +180,6 @@ version() {
     expect "--version with standard output closed" 4 "write fault"
 }
 
-# the name that was typed stands in help and in what is said of a faulty command line
-typed_name() {
-    ./psci --help > "$work/out" 2> "$work/err"
-    echo $? > "$work/got"
-    expect "./psci --help" 0
-    ./psci storm --seed 1 > "$work/all" 2>&1
-    ./psci storm --seeds 1..2 >> "$work/all" 2>&1
-    grep -h '^Usage: ' "$work/out" "$work/all" > "$work/usage"
-    cat > "$work/lines" << 'END'
-Usage: psci <COMMAND>
-Usage: psci storm --seed <seed> --count <count>
-Usage: psci storm --seed <seed> --count <count>
-END
-    for word in "storm --seeds" show draw prove; do
-        if grep -q "^  $word " "$work/out"; then pass; else fail "./psci --help without $word"; fi
-    done
-    mv "$work/usage" "$work/out"
-    answers "the name in usages"
-}
-
-# front_of FOLDER WORD..: runs a faulty script by the command ./psci of this folder
-front_of() {
-    local at=$1 lines=tests/scripts/lines/event-of-no-form
-    shift
-    (cd "$at" && ./psci "$@") < "$lines.psci" > "$work/out" 2> "$work/err"
-    echo $? > "$work/got"
-    cp "$lines.out" "$work/lines"
-}
-
-# ./psci hands words, streams and status on. Where no program is proved, or by --unproved, it does
-# the same, and first says what that is worth.
-front() {
-    local fault name unproved fresh=$work/fresh
-    fault=$(cat tests/scripts/lines/event-of-no-form.err)
-    unproved="psci: nothing of this run is proved; ./psci prove proves and builds the program"
-    front_of . replay
-    expect "./psci replay" 3 "$fault"
-    answers "./psci replay"
-    front_of . --unproved replay
-    expect "./psci --unproved" 3 "$unproved"$'\n'"$fault"
-    answers "./psci --unproved"
-    for name in crates/*/{src,specs,proofs}; do
-        [ -d "$name" ] || continue
-        mkdir -p "$fresh/${name%/*}"
-        cp -r "$name" "$fresh/${name%/*}"
-    done
-    cp psci crates.txt "$fresh"
-    git init -q "$fresh"
-    front_of "$fresh" replay
-    expect "./psci replay without a proved program" 3 "$unproved"$'\n'"$fault"
-    answers "./psci replay without a proved program"
-}
-
-# Without the whole program ./psci replays by the one that only replays, while no source of a crate
-# below it is newer. Here another command stands for it, and one that fails for the kit's.
-replaying() {
-    local fresh=$work/replaying name at=crates/psci_replay/out
-    for name in crates/*/src; do
-        mkdir -p "$fresh/$name"
-        echo "//! Nothing." > "$fresh/$name/lib.rt"
-    done
-    cp psci crates.txt "$fresh"
-    mkdir "$fresh/$at" "$fresh/kit"
-    printf '#!/bin/sh\nexit 1\n' > "$fresh/kit/rt"
-    chmod +x "$fresh/kit/rt"
-    printf '#!/bin/sh\necho replayed\n' > "$fresh/$at/psci_replay"
-    chmod +x "$fresh/$at/psci_replay"
-    touch -d "1 minute" "$fresh/crates/psci_storm/src/lib.rt"
-    front_of "$fresh" replay
-    echo replayed > "$work/lines"
-    expect "./psci replay by the program that only replays" 0
-    answers "./psci replay by the program that only replays"
-    PATH=$fresh/kit:$PATH front_of "$fresh" replay --help
-    expect_unproved "./psci replay with a further word"
-    touch -d "1 minute" "$fresh/crates/psci_present/src/lib.rt"
-    PATH=$fresh/kit:$PATH front_of "$fresh" replay
-    expect_unproved "./psci replay by a program that is older than a source"
-}
-
-# expect_unproved NAME: the run before began unproved
-expect_unproved() {
-    if head -n 1 "$work/err" | grep -q "^psci: nothing of this run is proved"; then pass; else
-        fail "$1: $(head -n 1 "$work/err")"
-    fi
-}
-
 # the program that only replays answers each example as the whole one does, whatever its words
 replay_program() {
     local file whole=$program
@@ -277,62 +191,6 @@ replay_program() {
     expect "the program that only replays, without a word" 0
     answers "the program that only replays, without a word"
     program=$whole
-}
-
-# ./psci prove proves each crate that a program stands on, once, and builds it. Here commands stand
-# for those of the kit, which make what they are asked for.
-proving() {
-    local name word kit=$work/kit fresh=$work/proving
-    has_python "./psci prove" || return 0
-    mkdir -p "$kit/bin" "$kit/toolchain/bin" "$fresh/tools" "$fresh/include"
-    echo "no kit" > "$kit/KIT-ID"
-    printf '#!/bin/sh\nexit 1\n' > "$kit/bin/rt"
-    # an archive is the clang of the toolchain that it is built by
-    cat > "$kit/bin/rattle" << 'END'
-#!/bin/sh
-while [ "$1" != -o ]; do [ "$1" != --toolchain ] || tools=$2; shift; done
-case $2 in *.o) : > "$2" ;; *.a) cp "$tools/bin/clang" "$2" ;; *) mkdir "$2" ;; esac
-END
-    cat > "$kit/bin/rattle-link" << 'END'
-#!/bin/sh
-while [ "$1" != -o ]; do shift; done
-printf '#!/bin/sh\necho %s built of "$@"\n' "${2##*/}" > "$2"
-chmod +x "$2"
-END
-    printf '#!/bin/sh\nprintf "%%s;" "$@"\n' > "$kit/toolchain/bin/clang"
-    chmod +x "$kit/bin"/* "$kit/toolchain/bin/clang"
-    for name in crates/*/src; do
-        mkdir -p "$fresh/$name"
-        echo "//! Nothing." > "$fresh/$name/lib.rt"
-    done
-    cp psci crates.txt HANDLES "$fresh"
-    cp include/*.h "$fresh/include"
-    cp tools/prove tools/*.py "$fresh/tools"
-    for name in psci_replay psci_cli; do
-        word=all
-        [ "$name" = psci_cli ] || word=
-        # shellcheck disable=SC2086
-        XDG_CACHE_HOME=$work/cache PATH=$kit/bin:$PATH "$fresh/psci" prove $word < /dev/null \
-            > "$work/out" 2> "$work/proved"
-        echo $? > "$work/got"
-        tail -n 1 "$work/proved" > "$work/err"
-        expect "./psci prove $word" 0 "psci: built; ./psci runs it from now on"
-        tools/repo.py below "$name" | tr ' ' '\n' | sort > "$work/lines"
-        sed -n 's/^psci: proved .*(\(.*\))$/\1/p' "$work/proved" | sort > "$work/out"
-        answers "the crates that ./psci prove $word proves"
-        front_of "$fresh" replay
-        echo "$name built of${word:+ replay}" > "$work/lines"
-        answers "./psci replay after ./psci prove $word"
-    done
-    front_of "$fresh" version
-    echo "psci_cli built of version" > "$work/lines"
-    answers "./psci after ./psci prove all"
-    tools/repo.py below psci_cli | tr ' ' '\n' | grep -vx psci_cli | sort > "$work/lines"
-    find "$work/cache/gumdarts/proved" -name '*.rlib' | sed 's|.*/||; s|\.rlib$||' | sort > "$work/names"
-    comm -23 "$work/lines" "$work/names" > "$work/out"
-    : > "$work/lines"
-    answers "each library that ./psci prove proves is kept"
-    proving_lib "$kit" "$fresh"
 }
 
 # the line of a storm, which the seed alone decides; its words, streams and memory
@@ -486,6 +344,18 @@ thread_counts() {
     done
 }
 
+# a run of threads as long as one may be, on as many cores as there may be: it comes to its end, and each
+# core makes all its calls
+long_threads() {
+    run threads --board "(16 16 16 16) exec 0x0-0x1000 boot 0x0 starts 100000 lives 3" --seed 1 \
+        --count 10000 --counts
+    expect "threads of 64 cores with 10,000 calls each" 0
+    if awk 'NR > 1 && $4 != 10000 { bad = 1 } END { exit bad || NR != 65 }' "$work/out"; then pass; else
+        fail "threads of 64 cores with 10,000 calls each: their counts"
+        head -n 5 "$work/out"
+    fi
+}
+
 # a run of threads that is kept in a file: a script with an event for each entry, so many of each kind as
 # its line and counts say, whose replay answers each event as a run does that was audited
 kept_threads() {
@@ -553,49 +423,6 @@ no_threads() {
     done
 }
 
-has_parallel() { command -v parallel > /dev/null || { skip "$1" parallel; false; }; }
-
-# storms of several seeds: each has its line, in order, also where two jobs make them side by side;
-# known lines, by which no part of a seed or of the count is cut
-many_storms() {
-    local seed
-    : > "$work/lines"
-    for seed in 8 9 10 11; do
-        run storm --seed "$seed" --count 300
-        echo "seed $seed $(cat "$work/out")" >> "$work/lines"
-    done
-    ./psci storm --seeds 8..11 --count 300 > "$work/out" 2> "$work/err"
-    echo $? > "$work/got"
-    expect "storms of four seeds" 0
-    answers "storms of four seeds"
-    seq 8 11 | xargs -P 2 -I{} sh -c 'echo seed {} "$("$0" storm --seed {} --count 300)"' "$program" |
-        sort -n -k 2 > "$work/out" 2> "$work/err"
-    answers "storms by two jobs"
-    if has_parallel "storms by two processors"; then
-        seq 8 11 | parallel --will-cite -k -j 2 \
-            echo seed {} '$('"$program"' storm --seed {} --count 300)' > "$work/out" 2> "$work/err"
-        answers "storms by two processors"
-    fi
-    for words in "--seeds 1" "--seeds 2..1" "--seeds 1..x" "--seeds" "--seeds 1..2 --keep f" "--seeds 1..2 --seed 1"; do
-        # shellcheck disable=SC2086
-        ./psci storm --count 1 $words > "$work/out" 2> "$work/err"
-        if [ $? = 2 ] && [ ! -s "$work/out" ] && [ -s "$work/err" ]; then pass; else fail "./psci storm $words"; fi
-    done
-    # known lines: the second model has answered the kept scripts with as many events and messages
-    cat > "$work/known" << 'END'
-1 storm events 10005 sent 558 quiet 1
-2 storm events 10002 sent 906 quiet 1
-12 storm events 10000 sent 517 halting
-4294967297 storm events 10006 sent 816 quiet 1
-18446744073709551615 storm events 10002 sent 543 quiet 1
-END
-    while read -r seed words; do
-        run storm --seed "$seed" --count 10000
-        echo "$words" > "$work/lines"
-        answers "the storm of seed $seed"
-    done < "$work/known"
-}
-
 # the counts of a storm: its line comes first as ever, then one line for each tally, and each event is in
 # one of them; over some storms each tally comes
 storm_counts() {
@@ -623,6 +450,17 @@ storm_counts() {
         END { for (tally in sum) if (sum[tally] > 0) came++; exit came != tallies }' "$work/all"; then pass; else
         fail "a tally that came in no storm"
     fi
+    # the tallies stand in docs/FORMATS.md, in this order
+    awk -F'|' '/^\| Asked \| Answers \|/ { on = 1; next } !/^\|/ { on = 0 } on && !/^\|-/ {
+            gsub(/`/, ""); answers = $3
+            if (sub(/ack applied A and ack applied A stale for A from 1 to 3 in turn/, "#", answers))
+                sub(/#/, "ack applied 1, ack applied 1 stale, ack applied 2, ack applied 2 stale, ack applied 3, " \
+                    "ack applied 3 stale", answers)
+            names = split($2, name, /, and then /); count = split(answers, answer, ",")
+            for (n = 1; n <= names; n++) for (i = 1; i <= count; i++) print name[n] answer[i] " "
+        }' docs/FORMATS.md | tr -s ' ' | sed 's/^ //' > "$work/lines"
+    sed -n '2,$s/[0-9]*$//p' "$work/counts" > "$work/out"
+    answers "the tallies of docs/FORMATS.md"
     for words in "--counts=x" "--counts=true" "--counts x" "--counts --counts"; do
         # shellcheck disable=SC2086
         run storm --seed 1 --count 1 $words
@@ -635,6 +473,25 @@ storm_counts() {
         echo $? > "$work/got"
         expect "counts into a full device" 4 "write fault"
     fi
+}
+
+# on each kind of board, running cores ask about what sleeps: in five storms NODE_HW_STATE answers HW_ON,
+# HW_OFF and HW_STANDBY at least so often, and AFFINITY_INFO each of its answers
+polled_storms() {
+    local tree seed sixteen="16 16 16 16 16 16 16 16 16 16 16 16 16 16 16 16"
+    for tree in 2 "(2 2)" "((1 2) (2 1))" "($sixteen)"; do
+        : > "$work/all"
+        for seed in 1 2 3 4 5; do
+            run storm --board "$tree exec 0x0-0x1000 boot 0x0 starts 1000 lives 3" --seed "$seed" --count 10000 --counts
+            tail -n +2 "$work/out" >> "$work/all"
+        done
+        if awk '{ sum[$1 " " $2 " " $3] += $NF }
+            END { exit sum["node_hw_state return 0"] < 500 || sum["node_hw_state return 1"] < 40 ||
+                sum["node_hw_state return 2"] < 3 || sum["affinity_info return 0"] < 100 ||
+                sum["affinity_info return 1"] < 10 || sum["affinity_info return 2"] < 3 }' "$work/all"; then pass; else
+            fail "storms on $tree ask seldom: $(grep -hE '^(node_hw_state|affinity_info) return' "$work/all" | tr '\n' ',')"
+        fi
+    done
 }
 
 # one_of_each TALLIES NAME: so many tallies are counted, each once, and the sum is the number of events

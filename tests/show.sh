@@ -78,28 +78,35 @@ shown_ends() {
     expect "show of an empty script" 3 "line 1: script fault 1"
 }
 
-# ./psci show says how wide the terminal is, and asks for colors there; the words come first, and
-# elsewhere auto is never
+# ./psci show says how wide the terminal is, if that is known, and asks for colors there; the words come
+# first, and elsewhere auto is never
 terminal_words() {
     local words wanted
-    {
-        sed -n '/^terminal_words()/,/^}/p' psci
-        echo 'stty cols 97 <&1 2> /dev/null; terminal_words "${@:2}"; echo "${words[*]}" > "$1"'
-    } > "$work/asks"
-    bash "$work/asks" "$work/out" --color auto --json > "$work/none"
+    has_python ./psci || return 0
+    cat > "$work/asks" << 'END'
+import os, sys
+sys.path.insert(0, "tools")
+from front import commands
+if sys.argv[2] != "-":
+    os.system(f"stty cols {sys.argv[2]} <&1 2> /dev/null")
+with open(sys.argv[1], "w") as file:
+    print(*commands.terminal_words(sys.argv[3:]), file=file)
+END
+    python3 -B "$work/asks" "$work/out" - --color auto --json > "$work/none"
     echo "--color never --json" > "$work/lines"
     answers "./psci show beside a terminal"
     [ -n "$(type -P script)" ] || { skip "./psci show on a terminal" script; return; }
     while IFS='|' read -r words wanted; do
-        command script -qec "bash $work/asks $work/out $words" /dev/null < /dev/null > "$work/none"
+        command script -qec "python3 -B $work/asks $work/out $words" /dev/null < /dev/null > "$work/none"
         echo "$wanted" > "$work/lines"
         answers "./psci show $words on a terminal"
     done << 'EOF'
-|--width 97 --color always
---json|--json --width 97 --color always
---width 50|--width 50 --color always
---color auto|--color always --width 97
---color=never|--color=never --width 97
+97|--width 97 --color always
+97 --json|--json --width 97 --color always
+97 --width 50|--width 50 --color always
+97 --color auto|--color always --width 97
+97 --color=never|--color=never --width 97
+0 --json|--json --color always
 EOF
 }
 
@@ -161,11 +168,17 @@ completed() {
 ./psci show --color a|auto always
 ./psci draw --|--page --from --to --cores --clock --help
 ./psci show --c|--color --cores --changes --clock
+./psci show --s|--script
+./psci replay LIC|LICENSE
+./psci pl|plain
+./psci help d|draw
 ./psci tr|try
+./psci c|compare
+./psci compare --|--quick --script --help
 ./psci prove l|lib
 ./psci prove lib --target a|aarch64
 EOF
-    for option in $(options) $(view_options) --seeds --unproved --target; do
+    for option in $(options) $(view_options) --seeds --unproved --target --quick --script; do
         if grep -q -- "$option" completions/psci.bash &&
             sed 's/\\-/-/g' docs/psci.1 | grep -- "$option" > "$work/none"; then pass; else
             fail "$option is not in completions/psci.bash, or not in docs/psci.1"

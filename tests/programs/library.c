@@ -53,6 +53,7 @@ static struct { uint64_t before; struct psci_poller it; uint64_t after; } poller
 static const char *text;
 static struct psci_board board;
 static struct psci_message fields;
+static struct { uint64_t before; struct psci_stop it; unsigned char after[8]; } stop;
 static uint16_t core;
 static uint64_t x[4];
 static uint32_t life, number, cause, code;
@@ -69,6 +70,7 @@ static void do_encode(void) { psci_encode(&fields, &frame.it); }
 static void do_close(void) { psci_close(&place.it); }
 static void do_smc(void) { psci_smc(&place.it, core, x[0], x[1], x[2], x[3], &answer.it); }
 static void do_enter(void) { psci_enter(&place.it, core, life, number, cause, &answer.it); }
+static void do_stop(void) { psci_stop(&place.it, core, x[0], &stop.it); }
 static void do_take(void) { code = psci_take(&place.it, frame.it.bytes, length); }
 static void do_outstanding(void) { psci_outstanding(&place.it, core, &frame.it); }
 static void do_open_poller(void) { code = psci_open_poller(&place.it, &poller.it); }
@@ -92,7 +94,11 @@ static void make(void (*call)(void)) {
     place.before = place.after = answer.before = answer.after = frame.before = 0x1122334455667788;
     poller.before = poller.after = 0x1122334455667788;
     memset(frame.after, PAINT, sizeof frame.after);
+    memset(stop.after, PAINT, sizeof stop.after);
+    stop.before = place.before;
     on_painted(call);
+    want("what stands round a stop", 1, stop.before == 0x1122334455667788
+        && stop.after[0] == PAINT && stop.after[7] == PAINT);
     want("what stands round a place", 1, place.before == 0x1122334455667788
         && place.after == 0x1122334455667788);
     want("what stands round a poller", 1, poller.before == 0x1122334455667788
@@ -119,6 +125,15 @@ static uint32_t smc(uint16_t caller, uint64_t x0, uint64_t x1, uint64_t x2, uint
     core = caller, x[0] = x0, x[1] = x1, x[2] = x2, x[3] = x3;
     make(do_smc);
     return answer.it.what;
+}
+
+/* The stop of a core after a call with this x0: its depths by level, then whether a wake-up may end it. */
+static uint32_t stop_of(uint16_t caller, uint64_t x0) {
+    core = caller, x[0] = x0;
+    memset(&stop.it, PAINT, sizeof stop.it);
+    make(do_stop);
+    return (uint32_t)stop.it.depths[0] << 16 | stop.it.depths[1] << 12 | stop.it.depths[2] << 8
+        | stop.it.depths[3] << 4 | stop.it.wakes;
 }
 
 static uint32_t enter(uint16_t entering, uint32_t of_life, uint32_t by, uint32_t because) {
@@ -165,6 +180,7 @@ static void empty_place(void) {
     want("an empty place, status", PSCI_NO_FIRMWARE, psci_status(&none, 0, 0));
     want("an empty place, hardware", PSCI_NO_FIRMWARE, psci_hw(&none, 0, 0));
     want("an empty place, life", 0, psci_life(&none));
+    want("an empty place, a stop", 0, stop_of(0, 0xc4000001));
     psci_close(&none);
     want("an empty place, closed", 1, !none.full && !none.firmware);
 }
@@ -243,6 +259,23 @@ static void boards(void) {
     want("a new firmware", 0, psci_life(&place.it));
     make(do_close);
     want("cores of none", 0, psci_cores(&place.it));
+}
+
+/* What a stop is, by the message of its core and the word of its call. */
+static void stops(void) {
+    want("opened", PSCI_OPENED, open_text(small));
+    enter(0, 1, 1, PSCI_BOOT);
+    want("a core that runs", 0, stop_of(0, 0xc4000001));
+    want("all go down", PSCI_STOP, smc(0, 0xc4000001, 0x02010333, 0x40000000, 0));
+    want("by CPU_SUSPEND of 64 bits", 0x33301, stop_of(0, 0xc4000001));
+    want("by that of 32 bits", 0x33301, stop_of(0, 0x84000001));
+    want("by SYSTEM_SUSPEND", 0x33301, stop_of(0, 0x1234567884000000 + 14));
+    want("by CPU_OFF", 0x33300, stop_of(0, 0x84000002));
+    want("by an entry", 0x33300, stop_of(0, 0));
+    want("another core", 0, stop_of(1, 0xc4000001));
+    want("the system", 0, stop_of(4, 0xc4000001));
+    want("no core", 0, stop_of(5, 0xc4000001));
+    make(do_close);
 }
 
 /* Frames and their fields, one from the other. */
@@ -498,6 +531,7 @@ int main(void) {
     make(do_close);
     pool_give(memory, size);
     boards();
+    stops();
     frames();
     pool_give(memory, size);
     pollers();

@@ -38,6 +38,8 @@ class Refused(Exception):
 
 def run(main, name):
     """Runs a command: what it cannot do is said in a line, with the statuses of the program."""
+    if not sys.stdout:
+        end(name, "write fault", 4)
     try:
         main()
         sys.stdout.flush()

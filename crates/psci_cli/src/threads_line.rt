@@ -87,8 +87,8 @@ fn write_cores<W: Write>(to: &mut W, entries: &[FwEntry], polls: &[Polled]) -> i
     Ok(())
 }
 
-/// Writes how many calls and entries the firmware's book has of a core, and how often its thread has
-/// read a status without the lock.
+/// Writes how many calls and entries the firmware's book has of a core, and how often its thread
+/// has read a status without the lock.
 fn write_core<W: Write>(to: &mut W, entries: &[FwEntry], polled: &Polled) -> io::Result<()>
     ensures { OnOk result (Appends (W.contents to.old) (W.contents to.new)
         (core_line entries.now polled.now)) }

@@ -10,8 +10,8 @@ use std::alloc::{AllocError, Global};
 
 const ABOUT_THREADS: &str = "Start a thread for each core, and audit what they did";
 
-const LONG_ABOUT_THREADS: &str =
-    "Starts a thread for each core of a board of at most 64 cores, and one for the link, which loses,
+const LONG_ABOUT_THREADS: &str = "\
+Starts a thread for each core of a board of at most 64 cores, and one for the link, which loses,
 repeats and reorders messages. Then an audit holds what the books of firmware and power controller
 say against the rules: it has to be one legal run. Standard output has one line: `threads firmware F
 controller C audited A` (F entries in the firmware's book, C in the power controller's, A in the

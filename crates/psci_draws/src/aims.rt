@@ -2,6 +2,7 @@
 
 use crate::draws::{Draws, Mood};
 use crate::exits::{count_at, is_last_exit};
+use crate::plain::affinity;
 use crate::requests::registers;
 use crate::sight::Sight;
 use crate::states::deepest;
@@ -21,6 +22,15 @@ impl Draws {
             .find(|number| sight.place(*number) == Some(place))
     }
 
+    /// A core that sleeps, if there is one, the first from any on.
+    pub fn sleeper<S: Sight>(&mut self, sight: &S) -> Option<u16> {
+        let cores = sight.board().cores();
+        let first = self.core(cores);
+        (first..cores)
+            .chain(0..first)
+            .find(|number| sight.is_asleep(*number))
+    }
+
     /// A reset of the core that is being worn out: it is started, and has not been started as often
     /// as may be.
     fn wearing<S: Sight>(&mut self, sight: &S) -> Option<Event> {
@@ -38,10 +48,11 @@ impl Draws {
         if sight.is_halting() && !self.one_in(16) {
             return self.errand(sight);
         }
-        match self.below(8) {
+        match self.below(10) {
             0 | 1 => Event::Deliver((sight.messages() as u64).saturating_sub(1)),
             2 => Event::Take((sight.acks() as u64).saturating_sub(1)),
             3 | 4 => self.arrival(sight),
+            5 => self.poll(sight),
             _ => self.errand(sight),
         }
     }
@@ -60,9 +71,36 @@ impl Draws {
         if seldom && !self.one_in(4) {
             return Event::Take((sight.acks() as u64).saturating_sub(1));
         }
-        match self.some_at(sight, Place::Stopped) {
+        let sleeper = self.sleeper(sight);
+        match sleeper.or_else(|| self.some_at(sight, Place::Stopped)) {
             Some(core) => Event::Wake(u64::from(core)),
             None => self.plain(sight),
+        }
+    }
+
+    /// A running core asks about a domain above a core, mostly above one that sleeps.
+    fn poll<S: Sight>(&mut self, sight: &S) -> Event {
+        let Some(number) = self.some_at(sight, Place::Running) else {
+            return self.arrival(sight);
+        };
+        let target = self.polled(sight);
+        let level = self.below(sight.board().height().saturating_add(1));
+        let request = if self.one_in(4) {
+            Request::AffinityInfo { target, level }
+        } else {
+            Request::NodeHwState { target, level }
+        };
+        Event::Call(u64::from(number), registers(request, true))
+    }
+
+    /// The affinity word of a core that sleeps, mostly, if there is one; else of any core.
+    fn polled<S: Sight>(&mut self, sight: &S) -> u64 {
+        if self.one_in(4) {
+            return self.good_target(sight.board());
+        }
+        match self.sleeper(sight) {
+            Some(core) => affinity(sight.board(), core),
+            None => self.good_target(sight.board()),
         }
     }
 

@@ -199,6 +199,14 @@ impl Draws {
         self.call(sight.board())
     }
 
+    /// The core to wake or reset: half of the time one that sleeps, if there is one; else this.
+    fn roused<S: Sight>(&mut self, sight: &S, core: u64) -> u64 {
+        if self.one_in(2) {
+            return core;
+        }
+        self.sleeper(sight).map_or(core, u64::from)
+    }
+
     /// Any event, of any core, message or acknowledgement, also of one that is not there.
     pub fn plain<S: Sight>(&mut self, sight: &S) -> Event {
         let number = self.core(sight.board().cores().saturating_add(1));
@@ -207,8 +215,8 @@ impl Draws {
             0..=11 => Event::Call(core, self.call_of(sight, number)),
             12..=15 => Event::Deliver(self.index(sight.messages())),
             16..=19 => Event::Take(self.index(sight.acks())),
-            20 => Event::Wake(core),
-            21 => Event::Reset(core),
+            20 => Event::Wake(self.roused(sight, core)),
+            21 => Event::Reset(self.roused(sight, core)),
             _ => Event::Enter(core),
         }
     }

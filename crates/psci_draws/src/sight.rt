@@ -13,6 +13,9 @@ pub trait Sight {
     /// Whether the core of this number was asked on and has not entered since.
     fn is_pending(&self, number: u16) -> bool;
 
+    /// Whether the core of this number is stopped, and ON to the firmware: it sleeps, or goes off.
+    fn is_asleep(&self, number: u16) -> bool;
+
     /// How often the core of this number was started in this life.
     fn starts(&self, number: u16) -> u32;
 

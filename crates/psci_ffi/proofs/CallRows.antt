@@ -1,6 +1,7 @@
--- Worked examples: what a call and an acknowledgement from C are answered and leave in a place, what an
--- opening leaves, and the wrong things that none of them leaves.
-use Rattle.std.proofs.Common.{◌≡◌, ℕ, pos, Bool, true, false, List, [], ◌∷◌, ◌<◌, refl, sym, ap, ◌∙◌, subst, arith}
+-- Worked examples: what a call and an acknowledgement from C are answered and leave in a place,
+-- what an opening leaves, and the wrong things that none of them leaves.
+use Rattle.std.proofs.Common.{◌≡◌, ℕ, pos, Bool, true, false, List, [], ◌∷◌, ◌<◌, refl, sym, ap}
+use Rattle.std.proofs.Common.{◌∙◌, subst, arith}
 use Rattle.std.specs.Prelude.{None, Some, Result, Ok, Err, replicate}
 use Rattle.psci_board.specs.Board.{BoardValue, cores}
 use Rattle.psci_board.specs.declared.fault.BoardFault.{BoardFault}
@@ -53,7 +54,7 @@ apart p e = let n : ◌≡◌ {A = ℕ} 1 0 = ap full e in omega arith
 apart' : (p : PolledView) → ◌≡◌ {A = Kept} None (Some p) → ⊥
 apart' p e = let n : ◌≡◌ {A = ℕ} 0 1 = ap full e in omega arith
 
--- What a call is answered --------------------------------------------------------------------------
+-- What a call is answered ---------------------------------------------------------------------
 
 abbrev returned : ℕ → Answer
 returned code =
@@ -78,7 +79,7 @@ unfolding computing
 no-core-4 p is was =
     of (λ b v. shown (answer b v 4 version)) p.firmware booted is was
 
--- What a call leaves -------------------------------------------------------------------------------
+-- What a call leaves --------------------------------------------------------------------------
 
 no-call-leaves-all : (k : Kept) → IsAfter k 0 None k
 no-call-leaves-all k = refl
@@ -103,7 +104,7 @@ leaves-nothing-else : (p q : PolledView) → IsAfter (Some p) 0 (Some on-3) (Som
     → IsNext p 0 on-3 q
 leaves-nothing-else p q h = h
 
--- Refusals -----------------------------------------------------------------------------------------
+-- Refusals ------------------------------------------------------------------------------------
 
 no-call-is-no-change : (p : PolledView) → IsSameRefused (Some p) 0 None None → ⊥
 no-call-is-no-change p h = apart' p h
@@ -128,7 +129,7 @@ accepted-and-changed p k is was =
     subst (λ (r : FwReply). IsSameIf r (Some p) k)
     (sym (of (λ b v. answer b v 0 on-3) p.firmware booted is was)) free
 
--- Opening ------------------------------------------------------------------------------------------
+-- Opening -------------------------------------------------------------------------------------
 
 abbrev Said : Type 0
 Said = Result BoardValue BoardFault
@@ -181,7 +182,7 @@ no-fault k h = let e : ◌≡◌ {A = ℕ} 0 1 = ap which h.0 in omega arith
 faulty-and-emptied : (p : PolledView) → Opens (Err Uneven) (Err Uneven) (Some p) None → ⊥
 faulty-and-emptied p h = apart' p h.1
 
--- Acknowledgements ---------------------------------------------------------------------------------
+-- Acknowledgements ----------------------------------------------------------------------------
 
 -- core 3 is to be started
 abbrev start : MessageValue

@@ -131,9 +131,9 @@ not-counted : frame_given (record (fields_of (Message down)) {
 }) ≡ Some (Message down)
 not-counted = refl
 
--- No such kind, in either half; a core beyond a byte; a Down of no part, of five, of a depth of 0 and
--- of 4, of a depth above the one below, of a level that is left out; a Start with a part; more applied
--- than there is.
+-- No such kind, in either half; a core beyond a byte; a Down of no part, of five, of a depth of 0
+-- and of 4, of a depth above the one below, of a level that is left out; a Start with a part; more
+-- applied than there is.
 no-frame : map frame_given (
     plain 0 0 ∷ plain 5 0 ∷ plain 50 0 ∷
     record (plain 2 0) { core = 256 } ∷

@@ -1,4 +1,5 @@
--- Worked examples: boards that C gives as a struct, and the first fault of each struct that gives none.
+-- Worked examples: boards that C gives as a struct, and the first fault of each struct that gives
+-- none.
 use Rattle.std.proofs.Common.{◌≡◌, ℕ, ◌-◌, List, [], ◌∷◌, ◌++◌, length, map, refl}
 use Rattle.std.specs.Prelude.{Result, Ok, Err, replicate}
 use Rattle.psci_board.specs.psci_format.declared.format.Format.TheVariants.{Original, Extended}
@@ -112,7 +113,8 @@ fault_in (Err fault) = fault ∷ []
 abbrev faults : List GivenBoard → List (List BoardFault)
 faults gs = map (λ g. fault_in (board_of_given g)) gs
 
--- no level, four levels, more nodes on a level than there is room for, on the lowest and on the next
+-- no level, four levels, more nodes on a level than there is room for, on the lowest and on the
+-- next
 no_levels : faults (
     record given { height = 0 } ∷
     record given { height = 4 } ∷

@@ -12,5 +12,6 @@ pub mod GivenBoards
 mod GivenRows
 mod PollerRows
 mod ReaderRows
+mod StopRows
 pub mod Switching
 pub mod Taking

@@ -32,7 +32,7 @@ use Rattle.psci_ffi.specs.Pollers.{HasPolledIn, IsFilled, IsOpenedFor, OpensPoll
 use Rattle.psci_ffi.specs.Shown.{IsNew, IsNext}
 use Rattle.psci_ffi.specs.Watching.{HasPolled, IsWatchOf, WatchView}
 
--- Firmware, and who polls it ------------------------------------------------------------------------
+-- Firmware, and who polls it ------------------------------------------------------------------
 
 abbrev table : ℕ → TableId
 table atom = record {
@@ -92,7 +92,7 @@ has-seen-nothing : (f : FirmwareValue) → IsWatchOf (view f asked-rows)
 has-seen-nothing f w =
     let e : ◌≡◌ {A = ℕ} 99 2 = ap (λ (s : List (List Item)). last (row s 0)) w.seen in omega arith
 
--- A poll --------------------------------------------------------------------------------------------
+-- A poll --------------------------------------------------------------------------------------
 
 abbrev old : WatchView
 old = watch board (table 2) asked-seen
@@ -153,7 +153,7 @@ no-such-core-is-off : HasPolled old 2 (code (pos 1)) old → ⊥
 unfolding computing
 no-such-core-is-off p = let e : ◌≡◌ {A = ℕ} 1 9 = ap number-in p.answer.0 in omega arith
 
--- What C gets ---------------------------------------------------------------------------------------
+-- What C gets ---------------------------------------------------------------------------------
 
 abbrev empty : KeptWatch
 empty = None
@@ -247,7 +247,7 @@ empty-poller-is-filled h = let e : ◌≡◌ {A = ℕ} 1 0 = ap is-full h.1 in o
 poller-is-emptied : HasPolledIn (Some old) 2 (negsuc 1) None → ⊥
 poller-is-emptied h = h
 
--- A new firmware ------------------------------------------------------------------------------------
+-- A new firmware ------------------------------------------------------------------------------
 
 abbrev first-rows : Rows
 first-rows = (Off ∷ []) ∷ (Off ∷ []) ∷ (Off ∷ []) ∷ (Off ∷ []) ∷ []
@@ -273,7 +273,7 @@ new-without-core-3 : (f : FirmwareValue)
     → IsNew board (view f ((Off ∷ []) ∷ (Off ∷ []) ∷ (Off ∷ []) ∷ [])) → ⊥
 new-without-core-3 f n = let e : ◌≡◌ {A = ℕ} 3 4 = ap length n.written in omega arith
 
--- A call --------------------------------------------------------------------------------------------
+-- A call --------------------------------------------------------------------------------------
 
 abbrev values : List Step → Values
 values steps = values_of board (history steps)
@@ -371,7 +371,7 @@ next-is-not-written f g is was now n =
     ∙ ap (λ (u : Values). length (written_then u.life (seen g) 3 (Off ∷ []))) was
     ∙ ap (λ (u : Values). length (written_then 1 u 3 (Off ∷ []))) now in omega arith
 
--- An acknowledgement --------------------------------------------------------------------------------
+-- An acknowledgement --------------------------------------------------------------------------
 
 -- core 3 goes off in life 1
 abbrev going : Values

@@ -1,6 +1,7 @@
 -- The board that a struct of C gives, or the first fault of the struct.
 use Rattle.std.specs.Prelude.{ℕ, ◌^◌, ◌-◌, ◌%◌, ◌||◌, ◌&&◌, not, Bool, true, List, [], ◌∷◌, length}
-use Rattle.std.specs.Prelude.{map, take, Option, Some, None, Result, Ok, Err, nat_lt, nat_le, ◌==◌, if◌then◌else◌}
+use Rattle.std.specs.Prelude.{map, take, Option, Some, None, Result, Ok, Err, nat_lt, nat_le, ◌==◌}
+use Rattle.std.specs.Prelude.{if◌then◌else◌}
 use Rattle.std.specs.List.{list_any, list_all}
 use Rattle.psci_board.specs.psci_format.declared.format.Format.{Format}
 use Rattle.psci_board.specs.psci_format.declared.format.Format.TheVariants.{Original, Extended}

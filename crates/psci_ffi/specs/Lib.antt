@@ -11,4 +11,5 @@ pub mod Pollers
 pub mod Readers
 pub mod Shown
 pub mod Slot
+pub mod Stops
 pub mod Watching

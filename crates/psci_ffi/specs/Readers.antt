@@ -66,7 +66,8 @@ nodes_read None level = 0
 nodes_read (Some f) level =
     if nat_le level (height f.firmware.board) then nodes f.firmware.board level else 0
 
--- how many children a power domain has: none below a core, or below one that the board does not have
+-- how many children a power domain has: none below a core, or below one that the board does not
+-- have
 abbrev pub children_read : Kept → Node → ℕ
 children_read None node = 0
 children_read (Some f) node = children f.firmware.board node

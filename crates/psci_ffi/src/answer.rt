@@ -88,7 +88,9 @@ fn plain(what: u32, message: SomeFrame) -> Answer
     }
 }
 
-/// Writes a reply, as C sees it. The message is read where it stands.
+/// Writes a reply, as C sees it. The message is read where it stands. Compiled into its callers, so
+/// that a reply has no room of its own.
+#[inline(always)]
 pub fn write_answer(answer: &mut Answer, held: &Held, made: Result<Reaction, FwFault>)
     ensures { answer.new
         ≡ shown (reply_in held.now.firmware.board (seen held.now.firmware) made) }

@@ -1,6 +1,6 @@
 //! What a power controller does with a message, a wake-up or a reset, and what it comes down to.
 
-ghost use Rattle.std.specs.Prelude.{◌≡◌, ◌<◌, ◌≤◌, length, true, slice_get};
+ghost use Rattle.std.specs.Prelude.{◌≡◌, ◌<◌, ◌≤◌, length, true, slice_get, take};
 ghost use Rattle.psci_board.specs.Board.{cores, domain_of, height};
 ghost use Rattle.psci_ctl.specs.Seen.{seen};
 ghost use Rattle.psci_ctl_spec.specs.declared.call.CtlCall.TheVariants as calls;
@@ -33,9 +33,9 @@ pub fn give(controller: &mut Controller, bytes: &[u8], answer: &mut ControllerAn
     ensures message { (m : MessageValue)
         → IsDelivered m controller.old bytes.now answer.new controller.new }
 {
-    match decode(bytes, controller.board()) {
-        Err(fault) => refuse(answer, frame_code(fault)),
-        Ok(frame) => give_frame(controller, &frame, answer),
+    match &decode(bytes, controller.board()) {
+        Err(fault) => refuse(answer, frame_code(*fault)),
+        Ok(frame) => give_frame(controller, frame, answer),
     }
 }
 
@@ -116,8 +116,8 @@ fn write_applied(
     write_ack(&mut answer.ack, ack);
     match message.kind {
         Kind::Down => {
-            let parts = message.parts.first(ack.applied as usize);
-            write_switched(answer, controller.board(), message.core, parts.as_slice());
+            let parts = first_of(message.parts.as_slice(), ack.applied);
+            write_switched(answer, controller.board(), message.core, parts);
         }
         Kind::Start if ack.applied == 0 => write_plain(answer, NOTHING),
         Kind::Start => write_started(answer, START, controller, message.core),
@@ -126,6 +126,13 @@ fn write_applied(
         }
         Kind::Off | Kind::Reset => write_plain(answer, OFF),
     }
+}
+
+/// The first of some parts, so many where there are as many, where they stand.
+fn first_of(parts: &[Part], many: u8) -> &[Part]
+    ensures { result.now ≡ take many parts.now }
+{
+    &parts[..(many as usize).min(parts.len())]
 }
 
 /// Writes that the domains of these parts are switched.

@@ -1,4 +1,5 @@
-//! The same for a power controller, which has a slot of its own: C can hold no type with a parameter.
+//! The same for a power controller, which has a slot of its own: C can hold no type with a
+//! parameter.
 
 ghost use Rattle.std.specs.Prelude.{◌≡◌, None, Some};
 ghost use Rattle.psci_ffi.specs.ControllerSlot.{IsFull, KeptController, kept_coded, slot_owns};

@@ -11,8 +11,8 @@ use psci_link::decode;
 use std::alloc::Global;
 
 /// Reads the fields of the frame that these bytes are on the board of the firmware, of a message or
-/// of an acknowledgement: 0. Else 33 to 40, the number of the frame's first fault, or 16 where there
-/// is no firmware, and nothing is written.
+/// of an acknowledgement: 0. Else 33 to 40, the number of the frame's first fault, or 16 where
+/// there is no firmware, and nothing is written.
 #[unsafe(no_mangle)]
 pub extern "C" fn psci_decode(
     alloc: Global,

@@ -21,8 +21,9 @@ const MOST_NAMED: u16 = 256;
 /// The deepest depth, power-down.
 const POWER_DOWN: u8 = 3;
 
-/// Writes the frame of these fields, of a message or of an acknowledgement; none where they are those
-/// of no frame. Parts that are not counted are not looked at, nor is a part of an acknowledgement.
+/// Writes the frame of these fields, of a message or of an acknowledgement; none where they are
+/// those of no frame. Parts that are not counted are not looked at, nor is a part of an
+/// acknowledgement.
 #[unsafe(no_mangle)]
 pub extern "C" fn psci_encode(fields: &Fields, frame: &mut SomeFrame)
     ensures { frame.new ≡ frame_spelled (frame_given fields.now) }

@@ -151,7 +151,15 @@ impl Held {
         self.polled.firmware().status(node)
     }
 
-    /// `Firmware::outstanding`, copied.
+    /// `Firmware::outstanding`, where it stands.
+    pub fn message(&self, number: u16) -> Option<&Message>
+        ensures { option_map (λ message. message.now) result
+            ≡ message_shown self.now.firmware.board (seen self.now.firmware) number }
+    {
+        self.polled.firmware().outstanding(number)
+    }
+
+    /// The same, copied.
     pub fn outstanding(&self, number: u16) -> Option<Message>
         ensures { result ≡ message_shown self.now.firmware.board (seen self.now.firmware) number }
     {

@@ -1,8 +1,9 @@
 //! The firmware and the power controller for C, kept between calls in places of the caller's.
 //!
-//! - A *place* is memory of the caller's that holds a firmware, or a power controller, or is empty; all
-//!   zero is empty.
-//! - A *poller* is such a place for one who polls: it reads status words without the firmware's lock.
+//! - A *place* is memory of the caller's that holds a firmware, or a power controller, or is empty;
+//! all zero is empty.
+//! - A *poller* is such a place for one who polls: it reads status words without the firmware's
+//! lock.
 //! - An *answer* is what came of a call, as C sees it, with the frame of the message that is sent.
 //! - A *refusal* is an answer from 16 on: the caller's mistake has a number, and nothing changed.
 #![tactic(auto)]
@@ -34,4 +35,5 @@ mod poller_slot;
 mod polling;
 mod readers;
 mod slot;
+mod stop;
 mod watch;

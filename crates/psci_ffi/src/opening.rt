@@ -27,8 +27,9 @@ pub extern "C" fn psci_open(alloc: Global, place: &mut Place, text: &[u8]) -> u3
 
 /// The same, of the board that the struct gives: 0. Else the number of the struct's first fault, as
 /// of the text that says the same, or 8 where memory lacks, and nothing changes. 1 says that there
-/// are not one to three levels, that one has more than 256 nodes, or that no format has this number;
-/// 2 that a level has not as many nodes as the one above has children, or the highest not one.
+/// are not one to three levels, that one has more than 256 nodes, or that no format has this
+/// number; 2 that a level has not as many nodes as the one above has children, or the highest not
+/// one.
 #[unsafe(no_mangle)]
 pub extern "C" fn psci_open_board(alloc: Global, place: &mut Place, board: &GivenBoard) -> u32
     ensures { Opens (opened_said result) (board_of_given board.now) place.old.slot.kept
@@ -61,8 +62,8 @@ fn open_board(alloc: Global, place: &mut Place, given: &GivenBoard) -> Result<()
     Ok(renew(alloc, place, board)?)
 }
 
-/// The board of a text. It has a frame of its own, which is gone from the stack when the firmware is
-/// made.
+/// The board of a text. It has a frame of its own, which is gone from the stack when the firmware
+/// is made.
 #[inline(never)]
 pub fn read(alloc: Global, text: &[u8]) -> Result<Board, BoardFault>
     ensures { Answers result (board_of text.now) }

@@ -76,9 +76,9 @@ pub extern "C" fn psci_granted(alloc: Global, place: &mut Place, level: u32, ind
     granted
 }
 
-/// The state of the hardware of a core (level 0) or power domain, as far as the power controller has
-/// confirmed it: 0 HW_ON, 1 HW_OFF, 2 HW_STANDBY; 18 before any core has entered, 16 where there is
-/// no firmware. A node that the board does not have is on.
+/// The state of the hardware of a core (level 0) or power domain, as far as the power controller
+/// has confirmed it: 0 HW_ON, 1 HW_OFF, 2 HW_STANDBY; 18 before any core has entered, 16 where
+/// there is no firmware. A node that the board does not have is on.
 #[unsafe(no_mangle)]
 pub extern "C" fn psci_hw(alloc: Global, place: &mut Place, level: u32, index: u16) -> u32
     ensures hw { result

@@ -2,7 +2,7 @@
 
 use psci_abi::{Regs, read};
 use psci_board::{Board, Core, Memory, Node};
-use psci_fw_spec::{FwFault, Hw, Outcome, Start, Status};
+use psci_fw_spec::{FwFault, Hw, Outcome, Start, Status, SuspendMode};
 use psci_fw_state::State;
 use psci_messages::{Ack, Message, Taken};
 use std::alloc::Global;
@@ -210,6 +210,13 @@ impl Firmware {
     {
         let life = self.state.life();
         (life != 0).then_some(life)
+    }
+
+    /// Who coordinates the power domains, as PSCI_SET_SUSPEND_MODE last set it in this life.
+    pub fn mode(&self) -> SuspendMode
+        ensures { result ≡ (seen self.now).mode }
+    {
+        self.state.mode()
     }
 
     /// Whether SYSTEM_OFF, SYSTEM_RESET or SYSTEM_RESET2 was accepted in this life.

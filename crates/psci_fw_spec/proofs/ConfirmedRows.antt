@@ -9,9 +9,10 @@ use Rattle.psci_fw_spec.specs.Lives.{first_confirmed}
 use Rattle.psci_fw_spec.specs.Values.{Values}
 use Rattle.psci_fw_spec.proofs.Lopsided.{lopsided}
 use Rattle.psci_fw_spec.proofs.Steps.{Step, board, boot, computing, enter_boot, enter_on}
-use Rattle.psci_fw_spec.proofs.Steps.{enter_wake, history_of, kept_after, off, on, on_3, one_core}
+use Rattle.psci_fw_spec.proofs.Steps.{enter_wake, history_of, off, on, on_3, one_core}
 use Rattle.psci_fw_spec.proofs.Steps.{part, set_mode, starts, stops, suspend, system_reset}
 use Rattle.psci_fw_spec.proofs.Steps.{system_suspend, take, take_down, tall, uneven, with_entry}
+use Rattle.psci_fw_spec.proofs.ValueRows.{kept_after}
 
 -- of cores 0 to 3 and of one beyond the last, and of the domains of each level above
 abbrev pub shown_confirmed : Values → List (List Bool)

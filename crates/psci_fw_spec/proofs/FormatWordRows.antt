@@ -7,8 +7,8 @@ use Rattle.psci_messages.specs.Message.{MessageValue}
 use Rattle.psci_fw_spec.specs.declared.outcome.Outcome.{Outcome}
 use Rattle.psci_fw_spec.specs.CpuSuspend.{cpu_suspend}
 use Rattle.psci_fw_spec.specs.Outcomes.{returns}
-use Rattle.psci_fw_spec.proofs.Steps.{board, boot, computing, history_of, kept_after, one_core}
-use Rattle.psci_fw_spec.proofs.Steps.{tall}
+use Rattle.psci_fw_spec.proofs.Steps.{board, boot, computing, history_of, one_core, tall}
+use Rattle.psci_fw_spec.proofs.ValueRows.{kept_after}
 
 -- the same board, with power state words in the extended format
 abbrev pub extended : BoardValue → BoardValue

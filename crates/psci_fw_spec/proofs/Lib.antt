@@ -4,6 +4,7 @@ mod Answered
 mod Arrivals
 mod Asked
 mod Callers
+mod CallsStories
 mod Changing
 mod Claimed
 mod ConfirmedRows
@@ -15,6 +16,7 @@ mod EffectRows
 pub mod Endings
 mod Entered
 mod EntryRows
+mod ExamplesStories
 mod FormatRows
 mod FormatWordRows
 mod Granting
@@ -27,6 +29,7 @@ mod LastLifeRows
 mod LeftBy
 mod LegalRows
 mod LifeRows
+mod LivesStories
 mod Lopsided
 mod LopsidedRows
 mod LopsidedValueRows
@@ -39,10 +42,13 @@ mod OffRows
 mod OneMore
 mod OpeningsSay
 mod OsInitiatedRows
+mod OsInitiatedStories
+mod PeersStories
 mod PendingCores
 mod PhasesSay
 mod RefusalRows
 mod Reset2Rows
+mod SafeStories
 mod SameReplies
 mod Says
 mod SlotsSay
@@ -51,10 +57,11 @@ mod StatusesRows
 mod StatusesSay
 mod Steps
 mod StopValueRows
-mod StoryRows
 mod Stopping
 mod SuspendRows
+mod SuspendStories
 mod SystemRows
+mod SystemStories
 mod Targets
 mod Updates
 mod ValueRows

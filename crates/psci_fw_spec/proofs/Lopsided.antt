@@ -3,8 +3,8 @@
 use Rattle.std.proofs.Common.{◌≡◌, ℕ, List, [], ◌∷◌}
 use Rattle.psci_board.specs.Board.{BoardValue}
 use Rattle.psci_fw_spec.specs.History.{values_of}
-use Rattle.psci_fw_spec.proofs.Steps.{Step, board, history_of, kept_after, smc}
-use Rattle.psci_fw_spec.proofs.ValueRows.{Shown, shown}
+use Rattle.psci_fw_spec.proofs.Steps.{Step, board, history_of, smc}
+use Rattle.psci_fw_spec.proofs.ValueRows.{Shown, kept_after, shown}
 
 -- a group of a cluster of two cores and a cluster of one, and a group of one core: 0x000, 0x001;
 -- 0x100; 0x10000

@@ -1,6 +1,6 @@
--- Worked examples: no core is special. One run is told of the cores of two clusters of one shape, and
--- it is answered in the same way whichever cores they are: with the clusters swapped, and with the
--- cores of a cluster swapped. The boot core stands in a cluster by itself.
+-- Worked examples: no core is special. One run is told of the cores of two clusters of one shape,
+-- and it is answered in the same way whichever cores they are: with the clusters swapped, and with
+-- the cores of a cluster swapped. The boot core stands in a cluster by itself.
 use Rattle.std.proofs.Common.{ℕ, ◌+◌, ◌*◌, ◌/◌, ◌%◌, List, [], ◌∷◌, false, refl}
 use Rattle.psci_board.specs.Board.{BoardValue}
 use Rattle.psci_messages.specs.declared.kind.Kind.TheVariants.{Reset}

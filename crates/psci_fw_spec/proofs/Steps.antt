@@ -141,10 +141,8 @@ features word = smc 0 0x8400000a word 0 0
 
 -- a core enters: life, number of its start
 abbrev pub enter_by : Cause → ℕ → ℕ → ℕ → Step
-enter_by cause c life number = record {
-  core = c;
-  call = Enter (record { life = life; number = number; cause = cause });
-}
+enter_by cause c life number =
+    record { core = c; call = Enter (record { life = life; number = number; cause = cause }) }
 
 abbrev pub enter_boot : ℕ → ℕ → ℕ → Step
 enter_boot c life number = enter_by Boot c life number
@@ -298,8 +296,3 @@ by_values b v (s ∷ ss) =
 pub record AreAnswered (b : BoardValue) (rows : List Row) : Type 0 where
   pub history : by_history b (map (λ r. r.step) rows) ≡ map (λ r. r.reply) rows
   pub values : by_values b (start_of_life b 0) (map (λ r. r.step) rows) ≡ map (λ r. r.reply) rows
-
--- the values that are kept from call to call, after the calls and replies of a history
-abbrev pub kept_after : BoardValue → List FwExchange → Values
-kept_after b [] = start_of_life b 0
-kept_after b (e ∷ h) = after b e.core e.call e.reply (kept_after b h)

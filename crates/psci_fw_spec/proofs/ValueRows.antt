@@ -11,17 +11,23 @@ use Rattle.psci_fw_spec.specs.declared.mode.SuspendMode.TheVariants.{Platform}
 use Rattle.psci_fw_spec.specs.declared.opening.Opening.{Opening}
 use Rattle.psci_fw_spec.specs.declared.status.Status.{Status}
 use Rattle.psci_fw_spec.specs.declared.status.Status.TheVariants as statuses
+use Rattle.psci_fw_spec.specs.After.{after}
 use Rattle.psci_fw_spec.specs.Exchange.{FwExchange}
 use Rattle.psci_fw_spec.specs.History.{life, values_of}
-use Rattle.psci_fw_spec.specs.Lives.{first_granted, first_opening}
+use Rattle.psci_fw_spec.specs.Lives.{first_granted, first_opening, start_of_life}
 use Rattle.psci_fw_spec.specs.Phases.{Away, Phase, Running}
 use Rattle.psci_fw_spec.specs.Phases as phases
 use Rattle.psci_fw_spec.specs.Values.{Values}
 use Rattle.psci_fw_spec.proofs.Steps.{Step, affinity, board, boot, computing, enter_boot, enter_on}
-use Rattle.psci_fw_spec.proofs.Steps.{enter_wake, history_of, kept_after, message, off, on, on_3}
+use Rattle.psci_fw_spec.proofs.Steps.{enter_wake, history_of, message, off, on, on_3}
 use Rattle.psci_fw_spec.proofs.Steps.{part, set_mode, starts, stops_still, suspend, system_off}
 use Rattle.psci_fw_spec.proofs.Steps.{system_suspend, take, take_down, tall, uneven, value}
 use Rattle.psci_fw_spec.proofs.Steps.{version, with_entry}
+
+-- the values that are kept from call to call, after the calls and replies of a history
+abbrev pub kept_after : BoardValue → List FwExchange → Values
+kept_after b [] = start_of_life b 0
+kept_after b (e ∷ h) = after b e.core e.call e.reply (kept_after b h)
 
 -- the values of cores 0 to 3 and of one beyond the last; of the domains of each level, and of one
 -- beyond the last of them; of the slots of the cores and of the system

@@ -172,6 +172,14 @@ fn is_answered(controller: &mut Controller, step: Step) -> bool {
             number < cores && controller.wake(Core { number }, halted) == kick
         }
         Step::Reset(number, kick) => number < cores && controller.reset(Core { number }) == kick,
+        _ => is_shown(controller, step),
+    }
+}
+
+/// Whether the controller shows what a step says of it that does nothing.
+fn is_shown(controller: &Controller, step: Step) -> bool {
+    let cores = controller.board().cores();
+    match step {
         Step::Life(life) => controller.life() == life,
         Step::Starts(number, starts) => number < cores
             && controller.starts(Core { number }) == starts,
@@ -181,6 +189,7 @@ fn is_answered(controller: &mut Controller, step: Step) -> bool {
             let node = Core { number }.node();
             has(controller.board(), node) && controller.depth(node) == depth
         }
+        _ => false,
     }
 }
 

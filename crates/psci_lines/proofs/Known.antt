@@ -1,9 +1,9 @@
 -- What a read or a write in steps does to the known bytes.
-use Rattle.std.proofs.lemmas.Bool.Decides.{nat_tests}
-use Rattle.std.proofs.Common.{◌≡◌, ◌<◌, ◌==◌, ◌||◌, ◌&&◌, Bool, arith, ℕ, ◌+◌, List, ◌++◌, take}
+use Rattle.std.proofs.Common.{ℕ, ◌+◌, List, ◌++◌, take}
 use Rattle.std.proofs.Common.{drop, ap, sym, ◌∙◌, Option, Some, None, Result, Ok, Err, OnErr}
 use Rattle.std.proofs.Common.{append_assoc, subst}
 use Rattle.std.proofs.Math.Seq.{take-add}
+use Rattle.std.specs.Prelude.{IfErr}
 use Rattle.std.specs.Io.KnownBytes.{Appends, Consumes, Keeps}
 
 -- writing more behind what was written
@@ -38,10 +38,16 @@ wrote done count bytes a b c f g =
     let P : List ℕ → Type 0 = λ x. Appends a c x in
     subst P (sym (take-add done count bytes)) (appends_more a b c _ _ f g)
 
--- taking some bytes is no failure
-pub sound_write : (n : ℕ) (old more : Bool) → 0 < n → (old || (n == 0 && more)) ≡ old
-sound_write n old more h = grind (arith, nat_tests)
+-- of what a fault is and why it came, what it is
+pub fault_alone : {A E : Type 0} (r : Result A E) (P : E → Type 0) (Q : Type 0)
+    → IfErr r (λ e. P e × Q) → IfErr r P
+fault_alone (Ok x) P Q h = tt
+fault_alone (Err e) P Q h = h.0
 
 pub on_err : {A E : Type 0} (r : Result A E) (P : Type 0) → P → OnErr r P
 on_err (Ok x) P h = tt
 on_err (Err e) P h = h
+
+pub on_err_as : {A E : Type 0} (r : Result A E) {P Q : Type 0} → (P → Q) → OnErr r P → OnErr r Q
+on_err_as (Ok x) f h = tt
+on_err_as (Err e) f h = f h

@@ -12,7 +12,7 @@ use Rattle.psci_script.specs.declared.fault.ScriptFault.TheVariants.{Line}
 use Rattle.psci_script.specs.declared.grammar.Line.{Line as LineSays}
 use Rattle.psci_lines.specs.Block.{ReadAhead}
 use Rattle.psci_lines.specs.Limits.{block_room}
-use Rattle.psci_script.specs.Lines.{lines, AreWhole}
+use Rattle.psci_script.specs.Lines.{AreWhole}
 use Rattle.psci_lines.specs.Progress.{IsLineFront}
 use Rattle.psci_script.specs.Script.{transcript, board_line}
 

@@ -12,7 +12,8 @@ use Rattle.psci_script.specs.declared.grammar.Line.TheVariants.{Blank, Event as 
 use Rattle.psci_script.specs.Lines.{lines, AreWhole}
 use Rattle.psci_script.specs.Script.{transcript, transcript_of_lines, transcript_of_rest}
 use Rattle.psci_lines.specs.Answered.{Answered}
-use Rattle.psci_lines.specs.Progress.{Progress, IsLineFront}
+use Rattle.psci_lines.specs.declared.progress.Progress.{Progress as Fields}
+use Rattle.psci_lines.specs.Progress.{IsFresh, IsLineFront, Progress}
 use Rattle.psci_lines.specs.Run.{AreSound, Follows, IsWithinBlock}
 use Rattle.psci_lines.specs.ScriptRun.{GoesOn, ScriptRun, events_of, run_of, run_of_lines}
 use Rattle.psci_lines.specs.ScriptRun.{with_record}
@@ -21,6 +22,12 @@ use Rattle.psci_script.specs.psci_world_spec.Legal.{run_from}
 -- What may be told of a run, or before there is one. Of a replay these are its answer lines.
 abbrev pub Telling : Type 1
 Telling = Option ScriptRun → List ℕ → Type 0
+
+-- a replay that has not begun, of which nothing is told as long as there is no run
+pub record IsUntold {S K : Type 0} (told : Telling) (left : S → Option (List ℕ))
+    (taken : K → Option (List ℕ)) (p : Fields S K) : Type 0 where
+  pub fresh : IsFresh left taken p
+  pub nothing : told None []
 
 -- How a script comes out: its run, if it has a board, and its end.
 pub record Account : Type 0 where

@@ -98,10 +98,10 @@ impl Answers {
             (K.taken sink.new) self.old.waiting) }
         ensures none_wait { OnOk result (self.new ≡ record self.old { waiting = [] }) }
         ensures sound { OnOk result (K.failed sink.new ≡ K.failed sink.old) }
-        ensures fault { IfErr result (λ fault. fault ≡ Write) }
+        ensures gave_up { IfErr result (λ fault. (fault ≡ Write)
+            × GaveUp (K.failed sink.new) (K.interruptions sink.new)) }
         ensures front { OnErr result ((n : ℕ)
             × Appends (K.taken sink.old) (K.taken sink.new) (take n self.old.waiting)) }
-        ensures cause { OnErr result (GaveUp (K.failed sink.new) (K.interruptions sink.new)) }
     {
         write_all(sink, self.waiting.as_slice())?;
         self.waiting.clear();

@@ -80,11 +80,10 @@ impl Block {
         ensures bytes { IfOk result (λ some. Refills some self.old self.new (S.left source.old)
             (S.left source.new)) }
         ensures sound { OnOk result (S.failed source.new ≡ S.failed source.old) }
-        ensures fault { IfErr result (λ fault. fault ≡ Read) }
-        ensures kept { OnErr result (Keeps (S.left source.old) (S.left source.new)) }
-        ensures waiting { OnErr result (self.new ≡ self.old) }
-        ensures going { OnErr result (self.old.ended ≡ false) }
-        ensures cause { OnErr result (GaveUp (S.failed source.new) (S.interruptions source.new)) }
+        ensures gave_up { IfErr result (λ fault. (fault ≡ Read)
+            × GaveUp (S.failed source.new) (S.interruptions source.new)) }
+        ensures stays { OnErr result (Keeps (S.left source.old) (S.left source.new)
+            × (self.new ≡ self.old) × (self.old.ended ≡ false)) }
     {
         if self.ended {
             return Ok(false);

@@ -1,6 +1,7 @@
 //! How far a replay has come.
 
-ghost use Rattle.std.specs.Prelude.{◌≡◌, ◌<◌, length, IfErr, OnOk};
+ghost use Rattle.std.specs.Prelude.{◌≡◌, ◌+◌, ◌<◌, ◌≤◌, length, IfErr, OnOk};
+ghost use Rattle.psci_script.specs.Limits.{longest_line};
 ghost use Rattle.psci_lines.specs.Limits.{block_room};
 ghost use Rattle.psci_lines.specs.Progress.{FindsLine, OnlyGivenUp, ReadsAhead, SameDevices};
 ghost use Rattle.psci_lines.specs.Progress.{StaySound, progress, progress_of};
@@ -9,6 +10,19 @@ use crate::answers::Answers;
 use crate::block::Block;
 use crate::device::{Sink, Source};
 use psci_script::{Extent, Front, MOST_LINES, ReplayFault, ScriptFault, cut, last_line};
+
+/// The line of so many bytes with its line feed behind it.
+// In place, as is what calls it.
+#[inline(always)]
+fn whole_line(length: usize) -> Extent
+    requires { length ≤ longest_line }
+    ensures { result ≡ record { line = length; taken = length + 1 } }
+{
+    Extent {
+        line: length,
+        taken: length + 1,
+    }
+}
 
 /// A replay on its way: its devices, the bytes that were read ahead, and the answers so far.
 #[derive(Drop)]
@@ -79,12 +93,7 @@ impl<'d, 'b, S: Source, K: Sink> Progress<'d, 'b, S, K> {
                 return Err(ScriptFault::TooMany.at(number));
             }
             match cut(unread) {
-                Front::Whole(length) => {
-                    return Ok(Some(Extent {
-                        line: length,
-                        taken: length + 1,
-                    }));
-                }
+                Front::Whole(length) => return Ok(Some(whole_line(length))),
                 Front::Long => return Err(ScriptFault::Long.at(number)),
                 Front::Part => {}
             }

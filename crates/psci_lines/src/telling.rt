@@ -5,12 +5,12 @@ ghost use Rattle.std.specs.Prelude.{Option};
 ghost use Rattle.std.specs.Prelude.{None, Some, IfOk, IfErr, OnOk};
 ghost use Rattle.psci_script.specs.Limits.{most_lines};
 ghost use Rattle.psci_script.specs.Line.{line_of};
-ghost use Rattle.psci_lines.specs.Progress.{IsFresh, IsLine, OnlyGivenUp};
+ghost use Rattle.psci_lines.specs.Progress.{IsLine, OnlyGivenUp};
 ghost use Rattle.psci_lines.specs.Progress.{SameDevices, StaySound, progress_of};
 ghost use Rattle.psci_lines.specs.Run.{IsNoDevice, LineRefused};
 ghost use Rattle.psci_lines.specs.Run.{is_write_fault};
 ghost use Rattle.psci_lines.specs.ScriptRun.{ScriptRun};
-ghost use Rattle.psci_lines.specs.Told.{EndsBy, Goes, IsUnderWay, LineTold, Runs, Tells};
+ghost use Rattle.psci_lines.specs.Told.{EndsBy, Goes, IsUnderWay, IsUntold, LineTold, Runs, Tells};
 
 use crate::answers::Answers;
 use crate::block::Block;
@@ -55,17 +55,14 @@ fn open<F: Copy, T: Teller<F>, S: Source, K: Sink>(
     alloc: Global,
     form: F,
 ) -> Result<(), ReplayFault>
-    requires fresh { IsFresh S.left K.taken progress.old }
-    requires nothing { T.told form None [] }
+    requires { IsUntold (T.told form) S.left K.taken progress.old }
     ensures devices { SameDevices progress.old progress.new }
     ensures sound { StaySound S.failed K.failed progress.old progress.new }
     ensures ok { OnOk result (Goes (T.told form) None 0 (S.left progress.old.source.now)
         (K.taken progress.old.sink.now) (progress_of S.left K.taken progress.new)) }
-    ensures err { IfErr result (λ fault. EndsBy (T.told form) fault
+    ensures err { IfErr result (λ fault. IsNoDevice fault × EndsBy (T.told form) fault
         (S.left progress.old.source.now) (K.taken progress.old.sink.now)
         (progress_of S.left K.taken progress.new)) }
-    ensures fault { IfErr result (λ fault. IsNoDevice fault) }
-    ensures count { OnOk result (progress.new.answers.now.events ≡ 0) }
 {
     T::open(alloc, form, progress.answers)?;
     Ok(())
@@ -164,8 +161,7 @@ fn run_lines<F: Copy, T: Teller<F>, S: Source, K: Sink>(
     alloc: Global,
     form: F,
 ) -> Result<Replayed, ReplayFault>
-    requires fresh { IsFresh S.left K.taken progress.old }
-    requires nothing { T.told form None [] }
+    requires { IsUntold (T.told form) S.left K.taken progress.old }
     ensures devices { SameDevices progress.old progress.new }
     ensures sound { OnOk result (StaySound S.failed K.failed progress.old progress.new) }
     ensures runs { Runs (T.told form) result
@@ -192,8 +188,7 @@ fn complete<F: Copy, T: Teller<F>, S: Source, K: Sink>(
     alloc: Global,
     form: F,
 ) -> Result<Replayed, ReplayFault>
-    requires fresh { IsFresh S.left K.taken progress.old }
-    requires nothing { T.told form None [] }
+    requires { IsUntold (T.told form) S.left K.taken progress.old }
     ensures devices { SameDevices progress.old progress.new }
     ensures sound { OnOk result (StaySound S.failed K.failed progress.old progress.new) }
     ensures tells { Tells (T.told form) result

@@ -2,9 +2,10 @@
 
 ghost use Rattle.std.specs.Prelude.{◌≡◌, ◌<◌, ◌≤◌, ◌⊎◌, ℕ, length, take, true, IfOk, OnOk, OnErr};
 ghost use Rattle.std.specs.Prelude.{IfErr};
-ghost use Rattle.std.specs.Io.KnownBytes.{Appends, Consumes, Keeps, IsAtEnd};
+ghost use Rattle.std.specs.Io.KnownBytes.{Appends, Keeps};
 ghost use Rattle.psci_script.specs.declared.fault.ReplayFault.TheVariants.{Read, Write};
-ghost use Rattle.psci_lines.specs.Device.{GaveUp};
+ghost use Rattle.psci_lines.specs.declared.device.Io.TheVariants.{Bytes};
+ghost use Rattle.psci_lines.specs.Device.{GaveUp, Gives, Takes};
 
 use crate::device::{Io, Sink, Source};
 use crate::limits::MOST_INTERRUPTIONS;
@@ -14,14 +15,12 @@ use psci_script::ReplayFault;
 ///
 /// It is a read fault where the device failed, or was interrupted 1,000 times in a row.
 pub fn read_some<S: Source>(source: &mut S, buffer: &mut [u8]) -> Result<usize, ReplayFault>
-    ensures within { IfOk result (λ n. n ≤ length buffer.new) }
-    ensures bytes { IfOk result (λ n. Consumes (S.left source.old) (S.left source.new)
-        (take n buffer.new)) }
-    ensures end { IfOk result (λ n. n ≡ 0 → 0 < length buffer.new → IsAtEnd (S.left source.new)) }
+    ensures bytes { IfOk result (λ n. Gives (Bytes n) buffer.new
+        (S.left source.old) (S.left source.new)) }
     ensures sound { OnOk result (S.failed source.new ≡ S.failed source.old) }
-    ensures fault { IfErr result (λ fault. fault ≡ Read) }
+    ensures gave_up { IfErr result (λ fault. (fault ≡ Read)
+        × GaveUp (S.failed source.new) (S.interruptions source.new)) }
     ensures kept { OnErr result (Keeps (S.left source.old) (S.left source.new)) }
-    ensures cause { OnErr result (GaveUp (S.failed source.new) (S.interruptions source.new)) }
 {
     for _ in 0..MOST_INTERRUPTIONS {
         match source.read(buffer) {
@@ -33,6 +32,29 @@ pub fn read_some<S: Source>(source: &mut S, buffer: &mut [u8]) -> Result<usize, 
     Err(ReplayFault::Read)
 }
 
+/// Writes bytes from the front: how many, one at least.
+///
+/// It is a write fault where the device failed, took none of them, or was interrupted 1,000 times
+/// in a row; nothing was written then.
+fn write_some<K: Sink>(sink: &mut K, bytes: &[u8]) -> Result<usize, ReplayFault>
+    requires { 0 < length bytes.now }
+    ensures bytes { IfOk result (λ n. (0 < n) × Takes (Bytes n) bytes.now
+        (K.taken sink.old) (K.taken sink.new)) }
+    ensures sound { OnOk result (K.failed sink.new ≡ K.failed sink.old) }
+    ensures gave_up { IfErr result (λ fault. (fault ≡ Write)
+        × GaveUp (K.failed sink.new) (K.interruptions sink.new)) }
+    ensures kept { OnErr result (Keeps (K.taken sink.old) (K.taken sink.new)) }
+{
+    for _ in 0..MOST_INTERRUPTIONS {
+        match sink.write(bytes) {
+            Io::Bytes(count) if count > 0 => return Ok(count),
+            Io::Bytes(_) | Io::Failed => return Err(ReplayFault::Write),
+            Io::Interrupted => {}
+        }
+    }
+    Err(ReplayFault::Write)
+}
+
 /// Writes all of the bytes.
 ///
 /// It is a write fault where the device failed, took none of some bytes, or was interrupted 1,000
@@ -40,30 +62,14 @@ pub fn read_some<S: Source>(source: &mut S, buffer: &mut [u8]) -> Result<usize, 
 pub fn write_all<K: Sink>(sink: &mut K, bytes: &[u8]) -> Result<(), ReplayFault>
     ensures all { OnOk result (Appends (K.taken sink.old) (K.taken sink.new) bytes.now) }
     ensures sound { OnOk result (K.failed sink.new ≡ K.failed sink.old) }
-    ensures fault { IfErr result (λ fault. fault ≡ Write) }
+    ensures gave_up { IfErr result (λ fault. (fault ≡ Write)
+        × GaveUp (K.failed sink.new) (K.interruptions sink.new)) }
     ensures front { OnErr result ((n : ℕ)
         × Appends (K.taken sink.old) (K.taken sink.new) (take n bytes.now)) }
-    ensures cause { OnErr result (GaveUp (K.failed sink.new) (K.interruptions sink.new)) }
 {
     let mut done = 0;
-    let mut interruptions: u32 = 0;
     while done < bytes.len() {
-        match sink.write(&bytes[done..]) {
-            Io::Failed => return Err(ReplayFault::Write),
-            Io::Bytes(count) => {
-                if count == 0 {
-                    return Err(ReplayFault::Write);
-                }
-                done += count;
-                interruptions = 0;
-            }
-            Io::Interrupted => {
-                interruptions += 1;
-                if interruptions == MOST_INTERRUPTIONS {
-                    return Err(ReplayFault::Write);
-                }
-            }
-        }
+        done += write_some(sink, &bytes[done..])?;
     }
     Ok(())
 }

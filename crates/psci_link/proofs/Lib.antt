@@ -7,4 +7,5 @@ pub mod Frames
 pub mod Headings
 mod KindRows
 pub mod Places
+mod Reading
 pub mod Written

@@ -140,17 +140,21 @@ frame_in (headings.Ack kind stale) bytes = Ack (record {
 abbrev pub is_unused_after : ℕ → List ℕ → Bool
 is_unused_after n bytes = list_all (λ byte. byte == 0) (drop (PART_LEN * n) (part_fields_in bytes))
 
+-- the first fault of the parts of a frame
+abbrev pub fault_of_parts : BoardValue → List Part → Option FrameFault
+fault_of_parts b parts =
+    if not (is_falling 3 parts) then Some faults.Depth
+    else (if not (is_climbing 0 parts && is_within (height b) parts) then Some faults.Level
+    else None)
+
 -- the first fault of bytes of this kind
 unfoldable pub fault_of_kind : BoardValue → List ℕ → Heading → Option FrameFault
 fault_of_kind b bytes heading =
     let n = parts_of heading (count_in bytes) in
-    let parts = parts_in n (part_fields_in bytes) in
     if not (allows_count heading (count_in bytes)) then Some faults.Count
     else (if not (is_unused_after n bytes) then Some faults.Unused
     else (if not (nat_lt (slice_index bytes 3) (cores b)) then Some faults.Core
-    else (if not (is_falling 3 parts) then Some faults.Depth
-    else (if not (is_climbing 0 parts && is_within (height b) parts) then Some faults.Level
-    else None))))
+    else fault_of_parts b (parts_in n (part_fields_in bytes))))
 
 -- the first fault, where the kind byte says this
 abbrev pub fault_at : BoardValue → List ℕ → Option Heading → Option FrameFault

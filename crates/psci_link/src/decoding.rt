@@ -6,13 +6,13 @@ ghost use Rattle.std.specs.Prelude.{length, drop, slice_index};
 ghost use Rattle.psci_link.specs.declared.frame.Frame.TheVariants as frames;
 ghost use Rattle.psci_link.specs.declared.heading.Heading.TheVariants as headings;
 ghost use Rattle.psci_messages.specs.Message.{ArePartsOf, is_climbing, is_falling, most_applied};
-ghost use Rattle.psci_link.specs.Heading.{parts_of, IsHeld, HasHeading};
+ghost use Rattle.psci_link.specs.Heading.{parts_of, HasHeading};
 ghost use Rattle.psci_board.specs.Board.{BoardValue};
 ghost use Rattle.std.specs.List.{list_all};
 ghost use Rattle.std.specs.Prelude.{◌==◌, ◌&&◌};
 ghost use Rattle.psci_link.specs.Frame.{frame_bytes, IsFrame, IsOf, is_within, part_in, parts_in};
 ghost use Rattle.psci_link.specs.Frame.{word_at};
-ghost use Rattle.psci_link.specs.Frame.{part_fields_in, count_in, fault_of_kind};
+ghost use Rattle.psci_link.specs.Frame.{part_fields_in, count_in, fault_of_kind, fault_of_parts};
 ghost use Rattle.psci_link.specs.Frame.{first_fault, frame_in};
 
 use crate::encoding::MAGIC;
@@ -36,8 +36,7 @@ pub fn decode(bytes: &[u8], board: &Board) -> Result<Frame, FrameFault>
         (λ fault. first_fault board.now bytes.now ≡ Some fault) }
 {
     let heading = heading_in(bytes)?;
-    let parts = parts_on(board, heading, bytes)?;
-    Ok(frame_with(heading, bytes, parts))
+    frame_on(board, heading, bytes)
 }
 
 /// What kind of frame bytes are, if they have the length and the beginning of one.
@@ -56,13 +55,38 @@ fn heading_in(bytes: &[u8]) -> Result<Heading, FrameFault>
     Heading::of(bytes[KIND_AT]).ok_or(FrameFault::Kind)
 }
 
-/// The parts of a frame of this kind on this board, if nothing else is wrong with it.
-#[tactic(auto, unfolding(crate::specs::Frame::fault_of_kind))]
-fn parts_on(board: &Board, heading: Heading, bytes: &[u8]) -> Result<Parts, FrameFault>
+/// The frame of this kind that the bytes are on this board, or their first fault.
+fn frame_on(board: &Board, heading: Heading, bytes: &[u8]) -> Result<Frame, FrameFault>
     requires { length bytes.now ≡ 53 }
-    ensures parts { IfOk result (λ parts. parts
-        ≡ parts_in (parts_of heading (count_in bytes.now)) (part_fields_in bytes.now)) }
+    ensures frame { IfOk result (λ frame. frame ≡ frame_in heading bytes.now) }
     ensures fault { MatchResult result (λ _. fault_of_kind board.now bytes.now heading ≡ None)
+        (λ fault. fault_of_kind board.now bytes.now heading ≡ Some fault) }
+{
+    match heading {
+        Heading::Message(kind) => {
+            let used = used_on(board, heading, bytes)?;
+            let (_, places) = bytes.split_at(HEADER_LEN);
+            let parts = parts_in(used, places);
+            check_parts(board, parts.as_slice())?;
+            Ok(Frame::Message(message_with(kind, bytes, parts)))
+        }
+        Heading::Ack(kind, stale) => {
+            used_on(board, heading, bytes)?;
+            Ok(Frame::Ack(ack_with(kind, stale, bytes)))
+        }
+    }
+}
+
+/// How many places of parts a frame of this kind uses, if its count, the bytes that are not used
+/// and its core are right on this board.
+#[tactic(auto, unfolding(crate::specs::Frame::fault_of_kind))]
+fn used_on(board: &Board, heading: Heading, bytes: &[u8]) -> Result<u8, FrameFault>
+    requires { length bytes.now ≡ 53 }
+    ensures used { IfOk result (λ used. used ≡ parts_of heading (count_in bytes.now)) }
+    ensures few { IfOk result (λ used. used ≤ 4) }
+    ensures fault { MatchResult result
+        (λ used. fault_of_kind board.now bytes.now heading
+        ≡ fault_of_parts board.now (parts_in used (part_fields_in bytes.now)))
         (λ fault. fault_of_kind board.now bytes.now heading ≡ Some fault) }
 {
     let count = bytes[COUNT_AT];
@@ -70,38 +94,29 @@ fn parts_on(board: &Board, heading: Heading, bytes: &[u8]) -> Result<Parts, Fram
         return Err(FrameFault::Count);
     }
     let used = heading.parts(count);
-    let (_, places) = bytes.split_at(HEADER_LEN);
-    let (_, unused) = places.split_at(PART_LEN * used as usize);
+    let (_, unused) = bytes.split_at(HEADER_LEN + PART_LEN * used as usize);
     if !is_zero(unused) {
         return Err(FrameFault::Unused);
     }
     if u16::from(bytes[CORE_AT]) >= board.cores() {
         return Err(FrameFault::Core);
     }
-    let parts = parts_in(used, places);
-    let levels = parts.as_slice();
-    if !is_falling(3, levels) {
-        return Err(FrameFault::Depth);
-    }
-    if !has_levels(board.height(), levels) {
-        return Err(FrameFault::Level);
-    }
-    Ok(parts)
+    Ok(used)
 }
 
-/// The frame of this kind that the bytes hold, with its parts.
-#[tactic(auto, unfolding(crate::specs::Frame::frame_in))]
-fn frame_with(heading: Heading, bytes: &[u8], parts: Parts) -> Frame
-    requires whole { length bytes.now ≡ 53 }
-    requires parts { parts
-        ≡ parts_in (parts_of heading (count_in bytes.now)) (part_fields_in bytes.now) }
-    requires held { IsHeld heading (count_in bytes.now) parts }
-    ensures { result ≡ frame_in heading bytes.now }
+/// The first fault of the parts of a message on this board, if they have one.
+fn check_parts(board: &Board, parts: &[Part]) -> Result<(), FrameFault>
+    requires { length parts.now ≤ 4 }
+    ensures { MatchResult result (λ _. fault_of_parts board.now parts.now ≡ None)
+        (λ fault. fault_of_parts board.now parts.now ≡ Some fault) }
 {
-    match heading {
-        Heading::Message(kind) => Frame::Message(message_with(kind, bytes, parts)),
-        Heading::Ack(kind, stale) => Frame::Ack(ack_with(kind, stale, bytes)),
+    if !is_falling(3, parts) {
+        return Err(FrameFault::Depth);
     }
+    if !has_levels(board.height(), parts) {
+        return Err(FrameFault::Level);
+    }
+    Ok(())
 }
 
 /// The message of this kind that the bytes hold, with its parts.

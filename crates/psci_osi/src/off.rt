@@ -31,8 +31,7 @@ fn highest_off(tree: &Tree, board: &Board, core: Core) -> u32
         → off_wish board.now (view_of tree.now) core.number level ≡ 3 }
     ensures last { result < height board.now
         → off_wish board.now (view_of tree.now) core.number (result + 1) ≡ 0 }
-    ensures inside { result ≤ height board.now }
-    ensures levels { height board.now ≤ 3 }
+    ensures inside { (result ≤ height board.now) × (height board.now ≤ 3) }
 {
     law_paths();
     let path = board.path(core);

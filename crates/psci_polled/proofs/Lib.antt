@@ -3,8 +3,10 @@ pub mod Counting
 pub mod Last
 mod NamingRows
 pub mod Past
+mod PastRows
 mod PollRows
 mod PolledRows
 pub mod Staying
 pub mod Steps
+pub mod Weighing
 mod WritingRows

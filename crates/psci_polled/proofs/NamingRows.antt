@@ -1,5 +1,6 @@
 -- Worked examples: which core's status a call may change, by its effect and by its outcome.
-use Rattle.std.proofs.Common.{◌≡◌, ℕ, pos, negsuc, true, false, List, [], ◌∷◌, map, None, Some, refl}
+use Rattle.std.proofs.Common.{◌≡◌, ℕ, pos, negsuc, true, false, List, [], ◌∷◌, map, None, Some}
+use Rattle.std.proofs.Common.{refl}
 use Rattle.std.specs.Prelude.{Bool, Option}
 use Rattle.psci_messages.specs.declared.kind.Kind.{Kind}
 use Rattle.psci_messages.specs.declared.kind.Kind.TheVariants as kinds
@@ -128,7 +129,7 @@ was_gone : named_by (before (off 3 ∷ takes kinds.Down 3 1 1 ∷ [])) ≡ nobod
 unfolding computing
 was_gone = refl
 
--- an acknowledgement of the Start by which core 1 is on its way; by which core 3 has entered already
+-- an acknowledgement of the Start by which core 1 is on its way; by which core 3 entered before
 start_is_taken : named_by (before (on 3 1 ∷ takes kinds.Start 1 2 0 ∷ []))
     ≡ false ∷ true ∷ false ∷ false ∷ []
 unfolding computing

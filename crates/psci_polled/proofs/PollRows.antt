@@ -33,7 +33,8 @@ gain_one true i j = omega arith
 gain_one false i j = omega arith
 
 -- two items more; one of another core
-two_are_loaded : IsLoaded seen (((2, On) ∷ (1, Pending) ∷ (0, Off) ∷ []) ∷ ((0, Off) ∷ []) ∷ []) 0 On
+two_are_loaded :
+    IsLoaded seen (((2, On) ∷ (1, Pending) ∷ (0, Off) ∷ []) ∷ ((0, Off) ∷ []) ∷ []) 0 On
     → ⊥
 two_are_loaded h =
     let e : 3 ≡ length (gain (h.0, On) ((0, Off) ∷ [])) =

@@ -1,5 +1,6 @@
 -- What the calls of a polled firmware have to show, over plain values.
-use Rattle.std.proofs.Common.{◌≡◌, ◌≢◌, ℕ, ◌<◌, List, false, refl, sym, ap, ◌∙◌, subst, replicate, [], ◌∷◌}
+use Rattle.std.proofs.Common.{◌≡◌, ◌≢◌, ℕ, ◌<◌, List, false, refl, sym, ap, ◌∙◌, subst, replicate}
+use Rattle.std.proofs.Common.{[], ◌∷◌}
 use Rattle.std.proofs.Common.{Option, zero, suc, arith}
 use Rattle.atomic_table.specs.Seated.{TableId}
 use Rattle.psci_board.specs.Board.{BoardValue, IsBoard, cores}
@@ -60,12 +61,13 @@ pub polled_next : (f f' : FirmwareValue) (table table' : TableId) (rows rows' : 
     → ((core : ℕ) → core < n
     → row rows' core ≡ written_then before (seen f') core (row rows core))
     → IsPolled f' table' rows' n
-polled_next f f' table table' rows rows' n c before call reply more p answered is same kept was wrote =
+polled_next f f' table table' rows rows' n c before call reply more p answered is same kept was
+    wrote =
     record {
       board = subst IsBoard (sym same) p.board;
       past = subst (λ (x : BoardValue). IsPast x (seen f') rows') (sym same)
-          (past_more f.board (seen f) (seen f') rows rows' n c call reply more p.past p.count answered
-          is (subst (λ (l : ℕ). (core : ℕ) → core < n
+          (past_more f.board (seen f) (seen f') rows rows' n c call reply more p.past p.count
+          answered is (subst (λ (l : ℕ). (core : ℕ) → core < n
           → row rows' core ≡ written_then l (seen f') core (row rows core)) was wrote));
       words = ap (λ (t : TableId). t.words) kept ∙ p.words ∙ ap cores (sym same);
       count = p.count ∙ ap cores (sym same);
@@ -76,7 +78,8 @@ pub others_stay : (f f' : FirmwareValue) (table : TableId) (rows : List (List St
     (n c before : ℕ) (call : FwCall) (reply : FwReply) (changed : Option Core) → More
     → IsPolled f table rows n → seen f' ≡ after f.board c call reply (seen f)
     → before ≡ (seen f).life
-    → ((core : ℕ) → is_named changed core ≡ false → names (effect_of f.board c call reply) core ≡ false)
+    → ((core : ℕ) → is_named changed core ≡ false → names (effect_of f.board c call reply) core
+    ≡ false)
     → (core : ℕ) → core < n → is_named changed core ≡ false → (seen f').life ≡ before
     → (seen f').life ≢ 0 → added ((seen f').status core) (row rows core) ≡ row rows core
 others_stay f f' table rows n c before call reply changed more p is was named core small other same

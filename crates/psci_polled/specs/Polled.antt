@@ -18,8 +18,8 @@ pub record PolledView : Type 0 where
   pub table : TableId
   pub written : List (List Status)
 
--- A past of values and of what was written: a legal history that left these values, in which what was
--- written of each core are its statuses.
+-- A past of values and of what was written: a legal history that left these values, in which what
+-- was written of each core are its statuses.
 pub record IsPast (b : BoardValue) (v : Values) (rows : List (List Status)) : Type 0 where
   pub history : List FwExchange
   pub legal : IsLegal b history

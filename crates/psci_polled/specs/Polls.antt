@@ -7,8 +7,8 @@ use Rattle.psci_fw_spec.specs.declared.status.Status.{Status}
 use Rattle.psci_fw_spec.specs.AffinityInfo.{status_code}
 use Rattle.psci_status.specs.Lists.{Begins, Item, Rises, gain, row}
 
--- one load of a core's word: of the core one item more was seen at most, the last is the status, and
--- serials rise
+-- one load of a core's word: of the core one item more was seen at most, the last is the status,
+-- and serials rise
 abbrev pub IsLoaded : List (List Item) → List (List Item) → ℕ → Status → Type 0
 IsLoaded seen seen' core status =
     (serial : ℕ)

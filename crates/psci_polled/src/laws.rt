@@ -12,8 +12,8 @@ ghost use Rattle.psci_polled.specs.Writing.{most_statuses};
 use psci_fw_laws::{law_invariant, law_kept, law_numbers};
 
 /// Where a call leaves the life, the status of every core stays but of the one that the call names:
-/// the target of an accepted CPU_ON, a core that entered and goes on, the core of an acknowledgement
-/// that was used.
+/// the target of an accepted CPU_ON, a core that entered and goes on, the core of an
+/// acknowledgement that was used.
 pub fn law_statuses_stay()
     ensures { (b : BoardValue) (e : FwExchange) (h : List FwExchange) (core : ℕ)
         → life b (e ∷ h) ≡ life b h → names (effect b e) core ≡ false

@@ -14,7 +14,8 @@ use psci_status::{Reader, StatusWords};
 pub fn affinity_core(words: &StatusWords, board: &Board, reader: &mut Reader, word: u64) -> Code
     requires words { (table words.now).words ≡ cores board.now }
     requires reader { table_of_reader reader.old ≡ table words.now }
-    ensures answer { IsPolledAs (core_of board.now word) (seen reader.old) (seen reader.new) result }
+    ensures answer { IsPolledAs (core_of board.now word) (seen reader.old) (seen reader.new)
+        result }
     ensures reader { table_of_reader reader.new ≡ table_of_reader reader.old }
 {
     match board.core_of(word) {

@@ -217,8 +217,10 @@ impl PolledFirmware {
         requires words { table words.now ≡ self.old.table }
         requires reader { table_of_reader reader.old ≡ table words.now }
         ensures table { table_of_reader reader.new ≡ table_of_reader reader.old }
-        ensures saw { (core : ℕ) → Within (row self.old.written core) (row (seen_by reader.old) core) }
-        ensures seen { seen_by reader.new ≡ gains (seen_by reader.old) (map newest self.old.written) }
+        ensures saw { (core : ℕ)
+            → Within (row self.old.written core) (row (seen_by reader.old) core) }
+        ensures seen { seen_by reader.new
+            ≡ gains (seen_by reader.old) (map newest self.old.written) }
         ensures stand { (core : ℕ)
             → Within (row self.old.written core) (row (seen_by reader.new) core) }
         ensures last { (core : ℕ) → core < cores self.old.firmware.board

@@ -6,13 +6,13 @@ pub mod KeptLines
 mod KeptRows
 mod LimitRows
 mod LineRows
+mod LinesStories
 mod NumberRows
 pub mod LineFeeds
 mod ReadRows
 mod ScriptRows
 mod Scripts
 pub mod SpelledLines
-mod StoryRows
 mod TextRows
 mod WordRows
 pub mod Words

@@ -11,5 +11,7 @@ pub mod Places
 pub mod PollRows
 pub mod Polling
 pub mod Stays
+pub mod Unnamed
+pub mod Walking
 pub mod WritingRows
 pub mod Written

@@ -12,7 +12,7 @@ use Rattle.psci_shared.specs.Agree.{Agree, AllAgree, AllStandFrom, StandsAt}
 use Rattle.psci_shared.specs.Books.{BookView}
 use Rattle.psci_shared.specs.Gathers.{items_of}
 use Rattle.psci_shared.specs.Passes.{PassView}
-use Rattle.psci_shared.specs.Places.{AllPlaced, places, places_of}
+use Rattle.psci_shared.specs.Places.{AllPlaced, AllRise, RisesFrom, places, places_of}
 use Rattle.psci_shared.proofs.Places as lists
 
 found : (entries : List FwEntry) (place : ℕ) (core : Core) (i : FwItem)
@@ -33,6 +33,17 @@ all_rise : (b : BookView) (ps : List PassView) → AllAgree b ps
     → lists.AllRising (length b.entries) (map places_of ps)
 all_rise b [] h = tt
 all_rise b (p ∷ ps) h = (rises b.entries p.core 0 p.items h.0.1, all_rise b ps h.1)
+
+-- the places of a pass that agrees rise
+stand_rise : (entries : List FwEntry) (core : Core) (from : ℕ) (is : List FwItem)
+    → AllStandFrom entries core from is → RisesFrom from (places is)
+stand_rise entries core from [] h = tt
+stand_rise entries core from (i ∷ is) h =
+    (h.0.0, stand_rise entries core (i.place + 1) is h.1)
+
+pub agree_rise : (b : BookView) (ps : List PassView) → AllAgree b ps → AllRise (map places_of ps)
+agree_rise b [] h = tt
+agree_rise b (p ∷ ps) h = (stand_rise b.entries p.core 0 p.items h.0.1, agree_rise b ps h.1)
 
 total_same : (ps : List PassView) → lists.total (map places_of ps) ≡ items_of ps
 total_same [] = refl

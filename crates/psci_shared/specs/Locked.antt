@@ -1,18 +1,31 @@
 -- What a call does under the lock.
-use Rattle.std.specs.Prelude.{◌≡◌, ℕ, List, length, Option}
+use Rattle.std.specs.Prelude.{◌≡◌, ℕ, List, length}
 use Rattle.psci_fw.specs.psci_board.Board.{BoardValue}
 use Rattle.psci_fw.specs.psci_board.declared.node.Core.{Core}
 use Rattle.psci_fw.specs.psci_fw_spec.declared.call.FwCall.{FwCall}
 use Rattle.psci_fw.specs.psci_fw_spec.declared.reply.FwReply.{FwReply}
+use Rattle.psci_fw.specs.psci_fw_spec.declared.reply.FwReply.TheVariants as replies
+use Rattle.psci_fw.specs.psci_fw_spec.Values.{Values}
+use Rattle.psci_fw.specs.Reactions.{reply_in}
 use Rattle.psci_status.specs.Lists.{Item, gains}
+use Rattle.psci_shared.specs.declared.done.Done.{Done}
+use Rattle.psci_shared.specs.declared.done.Said.{Said}
+use Rattle.psci_shared.specs.declared.done.Said.TheVariants.{Reacted, Taken}
 use Rattle.psci_shared.specs.declared.entry.FwEntry.{FwEntry}
 use Rattle.psci_shared.specs.Books.{BookView, answer_after, entered, entry}
 use Rattle.psci_shared.specs.Passes.{Fits, PassView, called, item}
 use Rattle.psci_shared.specs.Writing.{AllLast, Stand, named_by}
 
--- the reply is one to such a call, which by it may name this core
-abbrev pub IsNamed : Core → FwCall → FwReply → Option Core → Type 0
-IsNamed core call reply named = Fits call reply × (named ≡ named_by core call reply)
+-- what was said as a reply, with the message that stands in its slot
+abbrev pub reply_said : BoardValue → Values → Said → FwReply
+reply_said b v (Reacted reacted) = reply_in b v reacted
+reply_said b v (Taken taken) = replies.Taken taken
+
+-- the reply is one to such a call, which by it may name this core; and it was said, and left these
+-- values
+abbrev pub IsDone : Core → FwCall → FwReply → BoardValue → Values → Done → Type 0
+IsDone core call reply b v done =
+    Fits call reply × (done.named ≡ named_by core call reply) × (reply_said b v done.said ≡ reply)
 
 -- the reply is the one answer after these entries, and one to such a call
 abbrev pub IsReply : BoardValue → List FwEntry → ℕ → FwCall → FwReply → Type 0

@@ -1,5 +1,6 @@
 -- Places of a book, and how often they stand in the passes.
-use Rattle.std.specs.Prelude.{◌≡◌, ◌<◌, ℕ, ◌==◌, ◌&&◌, ◌||◌, not, Bool, true, false}
+use Rattle.std.specs.Prelude.{◌≡◌, ◌<◌, ◌≤◌, ◌+◌, ℕ, ◌==◌, nat_lt, ◌&&◌, ◌||◌, not, Bool, true, false}
+use Rattle.std.specs.Prelude.{if◌then◌else◌}
 use Rattle.std.specs.Prelude.{List, [], ◌∷◌, map, length, sum_by, count_by}
 use Rattle.psci_shared.specs.declared.entry.FwItem.{FwItem}
 use Rattle.psci_shared.specs.Books.{BookView}
@@ -24,6 +25,26 @@ apart_from places (ps ∷ rest) = apart places ps && apart_from places rest
 abbrev pub all_apart : List (List ℕ) → Bool
 all_apart [] = true
 all_apart (ps ∷ rest) = apart_from ps rest && all_apart rest
+
+-- the places rise, and none is below this one
+abbrev pub RisesFrom : ℕ → List ℕ → Type 0
+RisesFrom from [] = Unit {0}
+RisesFrom from (p ∷ ps) = (from ≤ p) × RisesFrom (p + 1) ps
+
+-- the places of each list rise
+abbrev pub AllRise : List (List ℕ) → Type 0
+AllRise [] = Unit {0}
+AllRise (ps ∷ rest) = RisesFrom 0 ps × AllRise rest
+
+-- what is left of a list from the first place on that is not below this one
+abbrev pub not_below : ℕ → List ℕ → List ℕ
+not_below place [] = []
+not_below place (p ∷ ps) = if nat_lt p place then not_below place ps else p ∷ ps
+
+-- whether the first place of a list is this one
+abbrev pub begins_at : ℕ → List ℕ → Bool
+begins_at place [] = false
+begins_at place (p ∷ ps) = p == place
 
 -- how often a place stands in lists of places
 abbrev pub times : ℕ → List (List ℕ) → ℕ

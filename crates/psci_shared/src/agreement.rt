@@ -3,7 +3,8 @@
 ghost use Rattle.std.specs.Prelude.{◌≡◌, ◌↔◌, IsTrue, slice_get, option_map, map};
 ghost use Rattle.psci_shared.specs.Agree.{Agree, Agrees, AllAgree, AllStandFrom, IsOf};
 ghost use Rattle.psci_shared.specs.Agree.{StandsAt, StandsFrom};
-ghost use Rattle.psci_shared.specs.Places.{all_apart, apart, apart_from, has_place, places};
+ghost use Rattle.psci_shared.specs.Places.{AllRise, RisesFrom, all_apart, apart};
+ghost use Rattle.psci_shared.specs.Places.{apart_from, begins_at, not_below, places};
 ghost use Rattle.psci_shared.specs.Places.{places_of};
 
 use crate::book::FwBook;
@@ -14,6 +15,7 @@ use crate::same::{is_same_call, is_same_reply};
 use psci_status::Core;
 
 /// Whether the passes agree with the book, and no two have one place.
+#[tactic(auto, using(crate::proofs::Placed::agree_rise))]
 pub fn agree<N: Named>(book: &FwBook<N>, passes: &[Pass<N>]) -> bool
     ensures { IsTrue result ↔ Agree book.now passes.now }
 {
@@ -77,6 +79,7 @@ fn is_of(entry: &FwEntry, core: Core, item: &FwItem) -> bool
 }
 
 fn all_apart<N: Named>(passes: &[Pass<N>]) -> bool
+    requires { AllRise (map places_of passes.now) }
     ensures { result ≡ all_apart (map places_of passes.now) }
 {
     match passes {
@@ -86,34 +89,47 @@ fn all_apart<N: Named>(passes: &[Pass<N>]) -> bool
 }
 
 fn apart_from<N: Named>(one: &Pass<N>, others: &[Pass<N>]) -> bool
+    requires { RisesFrom 0 (places_of one.now) × AllRise (map places_of others.now) }
     ensures { result ≡ apart_from (places_of one.now) (map places_of others.now) }
 {
-    for other in others {
-        if !apart(one.items(), other.items()) {
-            return false;
-        }
+    match others {
+        [] => true,
+        [first, rest @ ..] => apart(one.items(), first.items()) && apart_from(one, rest),
     }
-    true
 }
 
+/// Whether no place is in both lists, whose places rise. Each is walked through once.
 fn apart(one: &[FwItem], other: &[FwItem]) -> bool
+    requires { RisesFrom 0 (places one.now) × RisesFrom 0 (places other.now) }
     ensures { result ≡ apart (places one.now) (places other.now) }
 {
+    let mut left = other;
     for item in one {
-        if has_place(other, item.place) {
+        left = not_below(left, item.place);
+        if begins_at(left, item.place) {
             return false;
         }
     }
     true
 }
 
-fn has_place(items: &[FwItem], place: u32) -> bool
-    ensures { result ≡ has_place place (places items.now) }
+/// The items from the first on whose place is not below this one.
+fn not_below(items: &[FwItem], place: u32) -> &[FwItem]
+    ensures { places result.now ≡ not_below place (places items.now) }
 {
-    for item in items {
-        if item.place == place {
-            return true;
+    for from in 0..items.len() {
+        if items[from].place >= place {
+            return &items[from..];
         }
     }
-    false
+    &[]
+}
+
+fn begins_at(items: &[FwItem], place: u32) -> bool
+    ensures { result ≡ begins_at place (places items.now) }
+{
+    match items {
+        [] => false,
+        [first, ..] => first.place == place,
+    }
 }

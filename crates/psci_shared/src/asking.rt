@@ -4,15 +4,16 @@ ghost use Rattle.std.specs.Prelude.{◌≡◌, ◌<◌, ◌+◌, [], ◌∷◌, 
 ghost use Rattle.std.specs.Prelude.{vec_len, vec_capacity};
 ghost use Rattle.psci_fw.specs.Seen.{seen};
 ghost use Rattle.psci_fw.specs.psci_fw_spec.After.{after};
-ghost use Rattle.psci_fw.specs.psci_fw_spec.Answer.{answer, reply_of};
+ghost use Rattle.psci_fw.specs.psci_fw_spec.Answer.{answer};
+ghost use Rattle.psci_fw.specs.Reactions.{outcome_in, reply_in};
 ghost use Rattle.psci_polled.specs.Naming.{asked_by};
 ghost use Rattle.psci_shared.specs.Books.{entry};
-ghost use Rattle.psci_shared.specs.Locked.{IsNamed};
+ghost use Rattle.psci_shared.specs.Locked.{IsDone};
 ghost use Rattle.psci_shared.specs.Passes.{Fits, item};
 
-use crate::entry::{FwEntry, FwItem, quiet, same_outcome};
-use psci_fw::{Firmware, FwCall, FwFault, FwReply, Outcome};
-use psci_polled::asked_on;
+use crate::done::{Done, Said};
+use crate::entry::{FwEntry, FwItem, quiet};
+use psci_fw::{Act, Firmware, FwCall, FwFault, FwReply, Reaction};
 use psci_status::Core;
 
 /// The firmware's reply to a call of this core.
@@ -36,7 +37,7 @@ pub(crate) fn ask(firmware: &mut Firmware, core: Core, call: &FwCall) -> FwReply
 
 /// The firmware's reply to a call of this core goes into the book and into the list of a pass. Each
 /// kind of reply is written to its places where it is found, so that none of them is moved on the
-/// way; the core that the call may name is given back.
+/// way.
 pub(crate) fn ask_for<A>(
     firmware: &mut Firmware,
     entries: &mut Vec<FwEntry>,
@@ -45,7 +46,7 @@ pub(crate) fn ask_for<A>(
     ticket: u64,
     core: Core,
     call: FwCall,
-) -> Option<Core>
+) -> Done
     requires room { (vec_len entries.old < vec_capacity entries.old)
         × (vec_len items.old < vec_capacity items.old) }
     ensures entries { entries.new.items ≡ entries.old.items ++ entry ticket core call
@@ -56,24 +57,29 @@ pub(crate) fn ask_for<A>(
         × (vec_len items.new ≡ vec_len items.old + 1) }
     ensures same_room { (vec_capacity entries.new ≡ vec_capacity entries.old)
         × (vec_capacity items.new ≡ vec_capacity items.old) }
-    ensures named { IsNamed core call
-        (answer firmware.old.board (seen firmware.old) core.number call) result }
+    ensures done { IsDone core call
+        (answer firmware.old.board (seen firmware.old) core.number call) firmware.new.board
+        (seen firmware.new) result }
     ensures after { seen firmware.new ≡ after firmware.old.board core.number call
         (answer firmware.old.board (seen firmware.old) core.number call) (seen firmware.old) }
     ensures board { firmware.new.board ≡ firmware.old.board }
 {
     match call {
         FwCall::Smc(regs) => {
-            let answered = firmware.smc(core, regs);
-            let named = asked_in(&answered);
-            record::<A>(entries, items, place, ticket, core, call, &answered);
-            named
+            let reacted = firmware.smc_in_slot(core, regs);
+            record::<A>(firmware, entries, items, place, ticket, core, call, reacted);
+            Done {
+                named: asked_in(firmware, reacted),
+                said: Said::Reacted(reacted),
+            }
         }
         FwCall::Enter(start) => {
-            let answered = firmware.enter(core, start);
-            let named = answered.is_ok().then_some(core);
-            record::<A>(entries, items, place, ticket, core, call, &answered);
-            named
+            let reacted = firmware.enter_in_slot(core, start);
+            record::<A>(firmware, entries, items, place, ticket, core, call, reacted);
+            Done {
+                named: reacted.is_ok().then_some(core),
+                said: Said::Reacted(reacted),
+            }
         }
         FwCall::Take(ack) => {
             let named = Some(ack.core);
@@ -81,57 +87,66 @@ pub(crate) fn ask_for<A>(
             let call = FwCall::Take(ack);
             items.push_reserved(FwItem::of(place, call.copy(), FwReply::Taken(taken)));
             entries.push_reserved(FwEntry::of(ticket, core, call, FwReply::Taken(taken)));
-            named
+            Done {
+                named,
+                said: Said::Taken(taken),
+            }
         }
     }
 }
 
-/// The core that a secure monitor call asks on.
-fn asked_in(answered: &Result<Outcome, FwFault>) -> Option<Core>
-    ensures { MatchResult answered.now (λ outcome. result ≡ asked_by outcome)
+/// The core that a secure monitor call asks on, whose message stands in its slot.
+fn asked_in(firmware: &Firmware, reacted: Result<Reaction, FwFault>) -> Option<Core>
+    ensures { MatchResult reacted
+        (λ r. result ≡ asked_by (outcome_in firmware.now.board (seen firmware.now) r))
         (λ _. result ≡ None) }
 {
-    match answered {
-        Ok(outcome) => asked_on(outcome),
-        Err(_) => None,
+    let reaction = reacted.ok()?;
+    match (reaction.act, reaction.slot) {
+        (Act::Return(_), Some(number)) => {
+            firmware.outstanding(number).map(|message| message.core)
+        }
+        _ => None,
     }
 }
 
-/// Writes down an outcome or a refusal. Where there is no message, none is copied.
+/// Writes down what came of a call. A message is copied from its slot, and where there is none,
+/// none is.
 fn record<A>(
+    firmware: &Firmware,
     entries: &mut Vec<FwEntry>,
     items: &mut Vec<FwItem>,
     place: u32,
     ticket: u64,
     core: Core,
     call: FwCall,
-    answered: &Result<Outcome, FwFault>,
+    reacted: Result<Reaction, FwFault>,
 )
     requires room { (vec_len entries.old < vec_capacity entries.old)
         × (vec_len items.old < vec_capacity items.old) }
-    ensures entries { entries.new.items
-        ≡ entries.old.items ++ entry ticket core call (reply_of answered.now) ∷ [] }
-    ensures items { items.new.items
-        ≡ items.old.items ++ item place call (reply_of answered.now) ∷ [] }
+    ensures entries { entries.new.items ≡ entries.old.items ++ entry ticket core call
+        (reply_in firmware.now.board (seen firmware.now) reacted) ∷ [] }
+    ensures items { items.new.items ≡ items.old.items ++ item place call
+        (reply_in firmware.now.board (seen firmware.now) reacted) ∷ [] }
     ensures more { (vec_len entries.new ≡ vec_len entries.old + 1)
         × (vec_len items.new ≡ vec_len items.old + 1) }
     ensures same_room { (vec_capacity entries.new ≡ vec_capacity entries.old)
         × (vec_capacity items.new ≡ vec_capacity items.old) }
 {
-    match answered {
-        Ok(Outcome { act, message: None }) => {
-            items.push_reserved(FwItem::of(place, call.copy(), FwReply::Out(quiet(*act))));
-            entries.push_reserved(FwEntry::of(ticket, core, call, FwReply::Out(quiet(*act))));
+    match reacted {
+        Ok(Reaction { act, slot: None }) => {
+            items.push_reserved(FwItem::of(place, call.copy(), FwReply::Out(quiet(act))));
+            entries.push_reserved(FwEntry::of(ticket, core, call, FwReply::Out(quiet(act))));
         }
-        Ok(outcome) => {
-            let reply = FwReply::Out(same_outcome(outcome));
+        Ok(reaction) => {
+            let reply = FwReply::Out(firmware.outcome(reaction));
             items.push_reserved(FwItem::of(place, call.copy(), reply));
-            let reply = FwReply::Out(same_outcome(outcome));
+            let reply = FwReply::Out(firmware.outcome(reaction));
             entries.push_reserved(FwEntry::of(ticket, core, call, reply));
         }
         Err(fault) => {
-            items.push_reserved(FwItem::of(place, call.copy(), FwReply::Fault(*fault)));
-            entries.push_reserved(FwEntry::of(ticket, core, call, FwReply::Fault(*fault)));
+            items.push_reserved(FwItem::of(place, call.copy(), FwReply::Fault(fault)));
+            entries.push_reserved(FwEntry::of(ticket, core, call, FwReply::Fault(fault)));
         }
     }
 }

@@ -1,7 +1,8 @@
 //! The firmware with all that it was asked and answered.
 
 use crate::asking::{ask, ask_for};
-use crate::entry::{BookFull, FwEntry, FwItem, same_reply};
+use crate::done::{Done, Said, reply_of};
+use crate::entry::{BookFull, FwEntry, FwItem};
 use crate::named::Named;
 use psci_fw::{Firmware, FwCall, FwReply, law_values};
 use psci_status::{Board, Core, Memory};
@@ -36,7 +37,7 @@ ghost use Rattle.psci_fw.specs.Seen.{seen};
 ghost use Rattle.psci_fw.specs.psci_fw_spec.History.{life, values_of};
 ghost use Rattle.psci_fw.specs.psci_fw_spec.Legal.{IsLegal};
 ghost use Rattle.psci_shared.specs.Passes.{Fits, item};
-ghost use Rattle.psci_shared.specs.Locked.{IsNamed};
+ghost use Rattle.psci_shared.specs.Locked.{IsDone, reply_said};
 ghost use Rattle.psci_shared.specs.declared.entry.FwEntry.{FwEntry};
 ghost use Rattle.psci_shared.specs.Books.{answer_after, entered, entry, history_of};
 
@@ -82,9 +83,8 @@ impl<N: Named> FwBook<N> {
         Ok(reply)
     }
 
-    /// The same for a pass, in whose list the call goes as well: with the reply in both alone, and the
-    /// core that the call may name. `A` is for the compiler, as in all that is done under the lock: so
-    /// each kind of call has its own.
+    /// The same for a pass, in whose list the call goes as well; the message stays in its slot. `A` is
+    /// for the compiler, as in all that is done under the lock: so each kind of call has its own.
     #[tactic(auto, using(crate::proofs::Histories::history_more))]
     pub(crate) fn carry_out<A>(
         &mut self,
@@ -93,11 +93,12 @@ impl<N: Named> FwBook<N> {
         ticket: u64,
         core: Core,
         call: FwCall,
-    ) -> Result<Option<Core>, BookFull>
+    ) -> Result<Done, BookFull>
         requires place { place ≡ length self.old.entries }
         requires room { vec_len items.old < vec_capacity items.old }
-        ensures named { IfOk result (λ named. IsNamed core call
-            (answer_after N.board self.old.entries core.number call) named) }
+        ensures done { IfOk result (λ done. IsDone core call
+            (answer_after N.board self.old.entries core.number call) N.board
+            (values_of N.board (history_of self.new.entries)) done) }
         ensures book { OnOk result (self.new ≡ entered self.old
             (entry ticket core call (answer_after N.board self.old.entries core.number call))) }
         ensures items { OnOk result (items.new.items ≡ items.old.items
@@ -120,13 +121,12 @@ impl<N: Named> FwBook<N> {
         Ok(ask_for::<A>(firmware, entries, items, place, ticket, core, call))
     }
 
-    /// The reply of the last entry.
-    pub(crate) fn last_reply(&self) -> FwReply
-        requires { 0 < length self.now.entries }
-        ensures { (past : List FwEntry) (last : FwEntry) → self.now.entries ≡ past ++ last ∷ []
-            → result ≡ last.reply }
+    /// The reply to the last call, of which this was said.
+    pub(crate) fn reply_of(&self, said: Said) -> FwReply
+        ensures { result
+            ≡ reply_said N.board (values_of N.board (history_of self.now.entries)) said }
     {
-        same_reply(&self.entries[self.entries.len() - 1].reply)
+        reply_of(&self.firmware, said)
     }
 
     /// How many entries there are.

@@ -64,25 +64,3 @@ pub(crate) fn quiet(act: Act) -> Outcome
 {
     Outcome { act, message: None }
 }
-
-/// An equal outcome, with the whole room of its message.
-pub(crate) fn same_outcome(outcome: &Outcome) -> Outcome
-    ensures { result ≡ outcome.now }
-{
-    Outcome {
-        act: outcome.act,
-        message: outcome.message,
-    }
-}
-
-/// An equal reply.
-pub(crate) fn same_reply(reply: &FwReply) -> FwReply
-    ensures { result ≡ reply.now }
-{
-    match reply {
-        FwReply::Out(Outcome { act, message: None }) => FwReply::Out(quiet(*act)),
-        FwReply::Out(outcome) => FwReply::Out(same_outcome(outcome)),
-        FwReply::Taken(taken) => FwReply::Taken(*taken),
-        FwReply::Fault(fault) => FwReply::Fault(*fault),
-    }
-}

@@ -12,6 +12,7 @@
 mod agreement;
 mod asking;
 mod book;
+mod done;
 mod entry;
 mod fault;
 mod gather;

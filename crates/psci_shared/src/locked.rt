@@ -11,6 +11,7 @@ ghost use Rattle.psci_shared.specs.Passes.{Fits, called, item, told};
 ghost use Rattle.psci_shared.specs.Writing.{AllLast, IsWritten, Stand};
 
 use crate::book::FwBook;
+use crate::done::Done;
 use crate::entry::BookFull;
 use crate::named::Named;
 use crate::pass::Pass;
@@ -107,11 +108,11 @@ impl<N: Named> FwLocked<N> {
         }
         let before = book.life();
         match book.carry_out::<A>(&mut pass.items, place, ticket, pass.core, call) {
-            Ok(named) => {
+            Ok(Done { named, said }) => {
                 total.add(&mut pass.share, 1);
                 write_all::<N, A>(words, writer, book, before, named, *count);
                 words.meet(writer, &mut pass.reader);
-                Ok(book.last_reply())
+                Ok(book.reply_of(said))
             }
             Err(BookFull) => {
                 pass.told_full = true;

@@ -12,7 +12,7 @@ use psci_polled::write_changed;
 use psci_status::{Core, StatusWords, Writer};
 
 /// Writes what the last call has changed of the statuses, by the life before it and the core that
-/// it may name.
+/// it may name. One that names no core has changed none, and has begun no life.
 pub(crate) fn write_all<N: Named, A>(
     words: &StatusWords,
     writer: &mut Writer,
@@ -31,5 +31,8 @@ pub(crate) fn write_all<N: Named, A>(
     ensures log { (core : ℕ) → core < cores N.board → row (written writer.new) core
         ≡ written_after N.board book.now.entries before core (row (written writer.old) core) }
 {
+    if named.is_none() {
+        return;
+    }
     write_changed(words, writer, book.firmware(), before, named, count);
 }

@@ -4,7 +4,8 @@ ghost use Rattle.std.specs.Prelude.{◌≡◌, ◌↔◌, IsTrue, slice_get, opt
 ghost use Rattle.psci_shared_ctl.specs.Agree.{Agree, Agrees, AllAgree, AllStandFrom, IsOf};
 ghost use Rattle.psci_shared_ctl.specs.Agree.{StandsAt, StandsFrom};
 ghost use Rattle.psci_shared_ctl.specs.Places.{places, places_of};
-ghost use Rattle.psci_shared.specs.Places.{all_apart, apart, apart_from, has_place};
+ghost use Rattle.psci_shared.specs.Places.{AllRise, RisesFrom, all_apart, apart};
+ghost use Rattle.psci_shared.specs.Places.{apart_from, begins_at, not_below};
 
 use crate::book::CtlBook;
 use crate::entry::{CtlEntry, CtlItem, is_same_call, is_same_reply};
@@ -12,6 +13,7 @@ use crate::pass::CtlPass;
 use psci_shared::Named;
 
 /// Whether the passes agree with the book, and no two have one place.
+#[tactic(auto, using(crate::proofs::Placed::agree_rise))]
 pub fn agree<N: Named>(book: &CtlBook<N>, passes: &[CtlPass<N>]) -> bool
     ensures { IsTrue result ↔ Agree book.now passes.now }
 {
@@ -75,6 +77,7 @@ fn is_of(entry: &CtlEntry, item: &CtlItem) -> bool
 }
 
 fn all_apart<N: Named>(passes: &[CtlPass<N>]) -> bool
+    requires { AllRise (map places_of passes.now) }
     ensures { result ≡ all_apart (map places_of passes.now) }
 {
     match passes {
@@ -84,34 +87,47 @@ fn all_apart<N: Named>(passes: &[CtlPass<N>]) -> bool
 }
 
 fn apart_from<N: Named>(one: &CtlPass<N>, others: &[CtlPass<N>]) -> bool
+    requires { RisesFrom 0 (places_of one.now) × AllRise (map places_of others.now) }
     ensures { result ≡ apart_from (places_of one.now) (map places_of others.now) }
 {
-    for other in others {
-        if !apart(one.items(), other.items()) {
-            return false;
-        }
+    match others {
+        [] => true,
+        [first, rest @ ..] => apart(one.items(), first.items()) && apart_from(one, rest),
     }
-    true
 }
 
+/// Whether no place is in both lists, whose places rise. Each is walked through once.
 fn apart(one: &[CtlItem], other: &[CtlItem]) -> bool
+    requires { RisesFrom 0 (places one.now) × RisesFrom 0 (places other.now) }
     ensures { result ≡ apart (places one.now) (places other.now) }
 {
+    let mut left = other;
     for item in one {
-        if has_place(other, item.place) {
+        left = not_below(left, item.place);
+        if begins_at(left, item.place) {
             return false;
         }
     }
     true
 }
 
-fn has_place(items: &[CtlItem], place: u32) -> bool
-    ensures { result ≡ has_place place (places items.now) }
+/// The items from the first on whose place is not below this one.
+fn not_below(items: &[CtlItem], place: u32) -> &[CtlItem]
+    ensures { places result.now ≡ not_below place (places items.now) }
 {
-    for item in items {
-        if item.place == place {
-            return true;
+    for from in 0..items.len() {
+        if items[from].place >= place {
+            return &items[from..];
         }
     }
-    false
+    &[]
+}
+
+fn begins_at(items: &[CtlItem], place: u32) -> bool
+    ensures { result ≡ begins_at place (places items.now) }
+{
+    match items {
+        [] => false,
+        [first, ..] => first.place == place,
+    }
 }

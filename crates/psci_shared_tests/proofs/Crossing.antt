@@ -27,8 +27,10 @@ module _ (N : RattleType) (named : Named.Ghosts N.Denot) (ledger : Ledger.Ghosts
       ShrRef a.mir a.lft R ∷ ShrRef b.mir b.lft (Shared.the_row c N named ledger) ∷
       Pass.the_row N named ledger ∷ [] in
       recorded_send (field_at name rows).row _ _ (type_at name rows).to_one
-      (struct_send (shape (type_at name rows))
-      (shr_send _ _ _ y, (shr_send _ _ _ (shared N named ledger c), (pass.the_send N named ledger, tt))))
+      (struct_send (shape (type_at name rows)) (
+        shr_send _ _ _ y,
+        (shr_send _ _ _ (shared N named ledger c), (pass.the_send N named ledger, tt)),
+      ))
 
   -- a closure's: the runtime, the firmware, a pass and a number
   pub captured_calls :

@@ -13,7 +13,7 @@ use Rattle.psci_script.specs.declared.grammar.Line.TheVariants.{Event as Says}
 use Rattle.psci_lines.proofs.ScriptRows.{reading}
 use Rattle.psci_show.specs.declared.form.Form.{Form}
 use Rattle.psci_show.specs.declared.form.Form.TheVariants.{Lines, Json}
-use Rattle.psci_show.specs.Shown.{HasRows, IsHeading, IsRow, IsShown, front, number_text}
+use Rattle.psci_show.specs.Shown.{HasRows, IsEventRow, IsHeading, IsShown, front, number_text}
 
 -- lines of 80 columns, with a legend and without
 abbrev with_legend : Form
@@ -64,11 +64,11 @@ front_in_json = refl
 
 -- A row -------------------------------------------------------------------------------------------
 
-row : IsRow plain 7 wake (codes "   7  R.. a wake-up\n")
+row : IsEventRow plain 7 wake (codes "   7  R.. a wake-up\n")
 unfolding digits reading
 row = record { line = codes "wake 3"; says = refl; more = codes "  R.. a wake-up\n"; is = refl }
 
-row_in_json : IsRow Json 7 wake (codes "{\"number\": 7, \"line\": \"wake 3\"}\n")
+row_in_json : IsEventRow Json 7 wake (codes "{\"number\": 7, \"line\": \"wake 3\"}\n")
 unfolding digits reading
 row_in_json = record { line = codes "wake 3"; says = refl; more = codes "\"}\n"; is = refl }
 
@@ -76,11 +76,11 @@ fourth : List ℕ → ℕ
 fourth (a ∷ b ∷ c ∷ d ∷ rest) = d
 fourth other = 0
 
-row_of_another_number : IsRow plain 7 wake (codes "   8  R.. a wake-up\n") → ⊥
+row_of_another_number : IsEventRow plain 7 wake (codes "   8  R.. a wake-up\n") → ⊥
 unfolding digits fourth
 row_of_another_number k = let e : ◌≡◌ {A = ℕ} 56 55 = ap fourth k.is in omega arith
 
-row_of_another_event : (text : List ℕ) (k : IsRow Json 7 wake text)
+row_of_another_event : (text : List ℕ) (k : IsEventRow Json 7 wake text)
     → ¬ (line_of k.line ≡ Some (Says (Wake 3))) → ⊥
 row_of_another_event text k differs = differs k.says
 

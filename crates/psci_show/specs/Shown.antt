@@ -28,7 +28,7 @@ front (Lines layout) number line = number_text number
 front Json number line = object_start number ++ line
 
 -- the row of a record, the newest of so many
-pub record IsRow (form : Form) (number : ℕ) (r : Record) (row : List ℕ) : Type 0 where
+pub record IsEventRow (form : Form) (number : ℕ) (r : Record) (row : List ℕ) : Type 0 where
   -- a line that says the event
   pub line : List ℕ
   pub says : line_of line ≡ Some (Says r.event)
@@ -46,7 +46,7 @@ abbrev pub HasRows : Form → List Record → List ℕ → Type 0
 HasRows form [] text = IsHeading form text
 HasRows form (r ∷ past) text =
     (before : List ℕ) × (row : List ℕ) × HasRows form past before
-    × IsRow form (length (r ∷ past)) r row × (text ≡ before ++ row)
+    × IsEventRow form (length (r ∷ past)) r row × (text ≡ before ++ row)
 
 -- what stands before the script is read: in lines the legend, where it is asked for
 abbrev pub IsOpening : Form → List ℕ → Type 0

@@ -97,8 +97,7 @@ impl fmt::Display for AnswerText<'_> {
             } => write!(f, "{} {}", ActText(act), SentText(sent)),
             Said::Kick(start) => write!(f, "started {}", start.number),
             Said::Acked { index, ack } => {
-                let applied = ack.applied;
-                let stale = stale_word(ack.stale);
+                let (applied, stale) = (ack.applied, stale_word(ack.stale));
                 write!(f, "ack #{index} applied {applied}{stale}")
             }
             Said::Taken(taken) => f.write_str(taken_word(*taken)),

@@ -112,28 +112,18 @@ impl fmt::Display for ModeText {
 
 impl fmt::Display for OpeningText<'_> {
     fn fmt<W: fmt::Write>(&self, f: &mut fmt::Formatter<W>) -> fmt::Result {
-        let board = self.board;
-        match self.request {
-            Request::CpuSuspend {
-                state,
-                entry,
-                context,
-            } => {
-                let back = EntryText { entry, context };
+        let OpeningText { board, request } = *self;
+        let Some(back) = entry_of(request) else {
+            return Ok(());
+        };
+        match request {
+            Request::CpuSuspend { state, .. } => {
                 write!(f, " {}", StateText { board, state, back })
             }
-            Request::CpuOn {
-                target,
-                entry,
-                context,
-            } => {
-                let core = core_target(board, target);
-                write!(f, " of {core}, {}", EntryText { entry, context })
+            Request::CpuOn { target, .. } => {
+                write!(f, " of {}, {back}", target_text(board, target, 0))
             }
-            Request::SystemSuspend { entry, context } => {
-                write!(f, " {}", EntryText { entry, context })
-            }
-            _ => Ok(()),
+            _ => write!(f, " {back}"),
         }
     }
 }
@@ -142,14 +132,9 @@ impl fmt::Display for ArgumentsText<'_> {
     fn fmt<W: fmt::Write>(&self, f: &mut fmt::Formatter<W>) -> fmt::Result {
         let ArgumentsText { board, request } = *self;
         match request {
-            Request::AffinityInfo {
-                target: word,
-                level,
+            Request::AffinityInfo { target, level } | Request::NodeHwState { target, level } => {
+                write!(f, " of {}", target_text(board, target, level))
             }
-            | Request::NodeHwState {
-                target: word,
-                level,
-            } => write!(f, " of {}", TargetText { board, word, level }),
             Request::Features { word } => write!(f, " of {}", FunctionText(u64::from(word))),
             Request::SetSuspendMode { mode } => write!(f, " {}", ModeText(mode)),
             Request::SystemReset2 { reset_type, .. } => write!(f, " of type 0x{reset_type:x}"),
@@ -165,12 +150,18 @@ impl fmt::Display for ArgumentsText<'_> {
     }
 }
 
-/// The core that an affinity word names.
-fn core_target(board: &Board, word: u64) -> TargetText<'_> {
-    TargetText {
-        board,
-        word,
-        level: 0,
+/// What an affinity word names at a level.
+fn target_text(board: &Board, word: u64, level: u32) -> TargetText<'_> {
+    TargetText { board, word, level }
+}
+
+/// Where a function says that a core enters, if it says so.
+fn entry_of(request: Request) -> Option<EntryText> {
+    match request {
+        Request::CpuSuspend { entry, context, .. }
+        | Request::CpuOn { entry, context, .. }
+        | Request::SystemSuspend { entry, context } => Some(EntryText { entry, context }),
+        _ => None,
     }
 }
 

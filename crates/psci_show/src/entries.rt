@@ -6,7 +6,7 @@ ghost use Rattle.psci_world.specs.psci_board.Board.{HasNode, cores, height};
 use crate::depth::Depths;
 use crate::domain::NodeText;
 use crate::run::Run;
-use crate::state::CoreState;
+use crate::state::Activity;
 use psci_world::{Core, Node};
 use std::alloc::AllocError;
 use std::fmt;
@@ -41,8 +41,8 @@ fn write_core(out: &mut String, run: &Run, core: Core) -> Result<(), AllocError>
     let depths = run.depths(node);
     let marked = MarkedText(depths);
     match (state, depths.depth == depths.granted) {
-        (CoreState::Off, true) => Ok(()),
-        (CoreState::Off, false) => write!(out, ";\n{name}: {marked}"),
+        (Activity::Off, true) => Ok(()),
+        (Activity::Off, false) => write!(out, ";\n{name}: {marked}"),
         (_, true) => write!(out, ";\n{name}: {letter}"),
         (_, false) => write!(out, ";\n{name}: {letter} {marked}"),
     }

@@ -57,21 +57,28 @@ fn write_what(out: &mut String, event: &Event) -> Result<(), AllocError> {
     }
 }
 
-/// Writes the words of an event and of its answer, behind the members of the event.
-fn write_words(out: &mut String, run: &Run, item: &Record) -> Result<(), AllocError> {
-    let board = run.world().board();
-    let messages = run.world().messages();
-    let asked = AskedText {
-        board,
-        messages,
+/// What an event of a run asks.
+fn asked_in<'a>(run: &'a Run, item: &Record) -> AskedText<'a> {
+    AskedText {
+        board: run.world().board(),
+        messages: run.world().messages(),
         answered: run.answered(),
         event: item.event,
-    };
-    let said = SaidText {
-        board,
-        messages,
+    }
+}
+
+/// What an event of a run is answered.
+fn said_in<'a>(run: &'a Run, item: &'a Record) -> SaidText<'a> {
+    SaidText {
+        board: run.world().board(),
+        messages: run.world().messages(),
         item,
-    };
+    }
+}
+
+/// Writes the words of an event and of its answer, behind the members of the event.
+fn write_words(out: &mut String, run: &Run, item: &Record) -> Result<(), AllocError> {
+    let (asked, said) = (asked_in(run, item), said_in(run, item));
     let answer = AnswerText(&item.said);
     write!(
         out,

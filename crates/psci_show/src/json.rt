@@ -4,21 +4,21 @@ ghost use Rattle.std.specs.Prelude.{◌≤◌};
 ghost use Rattle.psci_world.specs.psci_board.Board.{height};
 
 use crate::domain::NodeText;
-use crate::state::CoreState;
+use crate::state::Activity;
 use psci_world::{Board, Kind, Node, Place};
 use std::alloc::AllocError;
 
 /// The word of a state.
-pub fn state_word(state: CoreState) -> &'static str {
+pub fn state_word(state: Activity) -> &'static str {
     match state {
-        CoreState::Running => "running",
-        CoreState::Started => "started",
-        CoreState::Standby => "standby",
-        CoreState::Retention => "retention",
-        CoreState::PowerDown => "power-down",
-        CoreState::GoingOff => "going off",
-        CoreState::Off => "off",
-        CoreState::Pending => "pending",
+        Activity::Running => "running",
+        Activity::Started => "started",
+        Activity::Standby => "standby",
+        Activity::Retention => "retention",
+        Activity::PowerDown => "power-down",
+        Activity::GoingOff => "going off",
+        Activity::Off => "off",
+        Activity::Pending => "pending",
     }
 }
 

@@ -1,12 +1,12 @@
 //! What letters and depths mean.
 
 use crate::names::depth_name;
-use crate::state::CoreState;
+use crate::state::Activity;
 use std::fmt;
 
 /// The line of a state.
 #[derive(Clone, Copy)]
-struct StateLine(CoreState);
+struct StateLine(Activity);
 
 /// The line of a depth that is not 0.
 #[derive(Clone, Copy)]
@@ -28,16 +28,16 @@ struct DepthLines;
 pub struct Legend;
 
 /// What a core does that is in this state.
-fn meaning(state: CoreState) -> &'static str {
+fn meaning(state: Activity) -> &'static str {
     match state {
-        CoreState::Running => "runs",
-        CoreState::Started => "was started, and has not entered",
-        CoreState::Standby => "is suspended to standby",
-        CoreState::Retention => "is suspended to retention",
-        CoreState::PowerDown => "is suspended to power-down",
-        CoreState::GoingOff => "goes off, which is not acknowledged yet",
-        CoreState::Off => "is off",
-        CoreState::Pending => "is to be started by a CPU_ON",
+        Activity::Running => "runs",
+        Activity::Started => "was started, and has not entered",
+        Activity::Standby => "is suspended to standby",
+        Activity::Retention => "is suspended to retention",
+        Activity::PowerDown => "is suspended to power-down",
+        Activity::GoingOff => "goes off, which is not acknowledged yet",
+        Activity::Off => "is off",
+        Activity::Pending => "is to be started by a CPU_ON",
     }
 }
 
@@ -59,20 +59,20 @@ impl fmt::Display for DepthLine {
 
 impl fmt::Display for FirstStates {
     fn fmt<W: fmt::Write>(&self, f: &mut fmt::Formatter<W>) -> fmt::Result {
-        let running = StateLine(CoreState::Running);
-        let started = StateLine(CoreState::Started);
-        let standby = StateLine(CoreState::Standby);
-        let retention = StateLine(CoreState::Retention);
+        let running = StateLine(Activity::Running);
+        let started = StateLine(Activity::Started);
+        let standby = StateLine(Activity::Standby);
+        let retention = StateLine(Activity::Retention);
         write!(f, "{running}{started}{standby}{retention}")
     }
 }
 
 impl fmt::Display for LastStates {
     fn fmt<W: fmt::Write>(&self, f: &mut fmt::Formatter<W>) -> fmt::Result {
-        let down = StateLine(CoreState::PowerDown);
-        let going = StateLine(CoreState::GoingOff);
-        let off = StateLine(CoreState::Off);
-        let pending = StateLine(CoreState::Pending);
+        let down = StateLine(Activity::PowerDown);
+        let going = StateLine(Activity::GoingOff);
+        let off = StateLine(Activity::Off);
+        let pending = StateLine(Activity::Pending);
         write!(f, "{down}{going}{off}{pending}")
     }
 }

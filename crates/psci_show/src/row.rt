@@ -4,23 +4,23 @@ ghost use Rattle.std.specs.Prelude.{◌≤◌, ◌<◌, ◌^◌};
 ghost use Rattle.psci_world.specs.psci_board.Board.{height};
 
 use crate::run::Run;
-use crate::state::CoreState;
+use crate::state::Activity;
 use psci_world::{Board, Core, Node};
 use std::alloc::AllocError;
 
 /// The color of a state, as a terminal counts them.
-fn color_of(state: CoreState) -> u8 {
+fn color_of(state: Activity) -> u8 {
     match state {
-        CoreState::Running => 32,
-        CoreState::GoingOff => 33,
-        CoreState::Standby | CoreState::Retention | CoreState::PowerDown => 34,
-        CoreState::Started | CoreState::Pending => 36,
-        CoreState::Off => 90,
+        Activity::Running => 32,
+        Activity::GoingOff => 33,
+        Activity::Standby | Activity::Retention | Activity::PowerDown => 34,
+        Activity::Started | Activity::Pending => 36,
+        Activity::Off => 90,
     }
 }
 
 /// Writes the letter of a state.
-fn write_letter(out: &mut String, state: CoreState, color: bool) -> Result<(), AllocError> {
+fn write_letter(out: &mut String, state: Activity, color: bool) -> Result<(), AllocError> {
     let letter = state.letter();
     if color {
         let number = color_of(state);

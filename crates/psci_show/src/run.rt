@@ -2,7 +2,7 @@
 
 use crate::depth::Depths;
 use crate::sleep::{Sleep, note};
-use crate::state::CoreState;
+use crate::state::Activity;
 use crate::words::Words;
 use psci_world::{Board, Core, Event, Memory, Node, Record, Said, World};
 use std::alloc::{AllocError, Global};
@@ -92,11 +92,11 @@ impl Run {
     }
 
     /// The state of a core.
-    pub fn state(&self, core: Core) -> CoreState
+    pub fn state(&self, core: Core) -> Activity
         requires { core.number < cores self.now.board }
     {
         let sleep = self.sleeps.get(usize::from(core.number)).copied().flatten();
-        CoreState::of(&self.world, core, sleep)
+        Activity::of(&self.world, core, sleep)
     }
 
     /// The depths of a power domain: without a life it is powered down, as granted.

@@ -40,7 +40,7 @@ impl Texts {
     }
 
     /// What stands before the script is read.
-    fn opening(&mut self, form: Form) -> Result<(), AllocError>
+    fn legend(&mut self, form: Form) -> Result<(), AllocError>
         ensures { OnOk result (IsShown form None self.new.out.items) }
     {
         self.clear();
@@ -117,7 +117,7 @@ impl Teller<Form> for Showing {
     /// What the letters mean, where that is asked for.
     fn open(alloc: Global, form: Form, answers: &mut Answers) -> Result<(), AllocError> {
         let mut texts = Texts::new(alloc);
-        texts.opening(form)?;
+        texts.legend(form)?;
         answers.put(&texts.out)
     }
 

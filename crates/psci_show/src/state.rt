@@ -8,7 +8,7 @@ use psci_world::{Core, Place, Status, World};
 
 /// What a core does.
 #[derive(Clone, Copy)]
-pub enum CoreState {
+pub enum Activity {
     /// It runs.
     Running,
     /// It was started, and has not entered.
@@ -27,59 +27,59 @@ pub enum CoreState {
     Pending,
 }
 
-impl CoreState {
+impl Activity {
     /// The state of a core after the world's records, of which this is its sleep.
-    pub fn of(world: &World, core: Core, sleep: Option<Sleep>) -> CoreState
+    pub fn of(world: &World, core: Core, sleep: Option<Sleep>) -> Activity
         requires { core.number < cores world.now.board }
     {
         match world.place(core) {
-            Place::Started => CoreState::Started,
-            Place::Running => CoreState::Running,
-            Place::Stopped if is_told(world) => CoreState::stopped(world, core, sleep),
-            Place::Stopped => CoreState::Off,
+            Place::Started => Activity::Started,
+            Place::Running => Activity::Running,
+            Place::Stopped if is_told(world) => Activity::stopped(world, core, sleep),
+            Place::Stopped => Activity::Off,
         }
     }
 
     /// The state of a core that stopped.
-    fn stopped(world: &World, core: Core, sleep: Option<Sleep>) -> CoreState
+    fn stopped(world: &World, core: Core, sleep: Option<Sleep>) -> Activity
         requires { core.number < cores world.now.board }
     {
         let firmware = world.firmware();
         match sleep {
-            Some(sleep) if firmware.life() == Some(sleep.life) => CoreState::asleep(sleep.depth),
-            _ => CoreState::by(firmware.status(core.node())),
+            Some(sleep) if firmware.life() == Some(sleep.life) => Activity::asleep(sleep.depth),
+            _ => Activity::by(firmware.status(core.node())),
         }
     }
 
     /// The state of a core that suspended to this depth.
-    fn asleep(depth: u8) -> CoreState {
+    fn asleep(depth: u8) -> Activity {
         match depth {
-            1 => CoreState::Standby,
-            2 => CoreState::Retention,
-            _ => CoreState::PowerDown,
+            1 => Activity::Standby,
+            2 => Activity::Retention,
+            _ => Activity::PowerDown,
         }
     }
 
     /// The state of a core that stopped and is not suspended, by its status.
-    fn by(status: Option<Status>) -> CoreState {
+    fn by(status: Option<Status>) -> Activity {
         match status {
-            Some(Status::On) => CoreState::GoingOff,
-            Some(Status::Pending) => CoreState::Pending,
-            Some(Status::Off) | None => CoreState::Off,
+            Some(Status::On) => Activity::GoingOff,
+            Some(Status::Pending) => Activity::Pending,
+            Some(Status::Off) | None => Activity::Off,
         }
     }
 
     /// Its letter.
     pub fn letter(self) -> &'static str {
         match self {
-            CoreState::Running => "R",
-            CoreState::Started => "S",
-            CoreState::Standby => "b",
-            CoreState::Retention => "r",
-            CoreState::PowerDown => "d",
-            CoreState::GoingOff => "g",
-            CoreState::Off => ".",
-            CoreState::Pending => "P",
+            Activity::Running => "R",
+            Activity::Started => "S",
+            Activity::Standby => "b",
+            Activity::Retention => "r",
+            Activity::PowerDown => "d",
+            Activity::GoingOff => "g",
+            Activity::Off => ".",
+            Activity::Pending => "P",
         }
     }
 }

@@ -4,7 +4,7 @@ use crate::call::CallText;
 use crate::message::{MessageText, SentText};
 use crate::names::returned_name;
 use psci_world::{Board, Message};
-use psci_world_spec::{Act, Code, Event, Record, Request, Said, Sent, Taken, read};
+use psci_world_spec::{Act, Code, Event, Record, Regs, Request, Said, Sent, Taken, read};
 use std::fmt;
 
 /// What a record says, of a run on this board: what was asked, and what was answered.
@@ -117,36 +117,78 @@ fn taken_words(taken: Taken) -> &'static str {
     }
 }
 
+/// The message of this number, as it is named.
+fn message_text(messages: &[Message], number: u64) -> MessageText<'_> {
+    MessageText {
+        number,
+        message: message_at(messages, number),
+    }
+}
+
+impl AskedText<'_> {
+    /// The call of a core.
+    fn call(&self, core: u64, regs: Regs) -> CallText<'_> {
+        let board = self.board;
+        CallText { board, core, regs }
+    }
+
+    /// The message of the acknowledgement of this number.
+    fn of(&self, number: u64) -> OfText<'_> {
+        OfText {
+            messages: self.messages,
+            number: answered_at(self.answered, number),
+        }
+    }
+}
+
+impl SaidText<'_> {
+    /// What the core does next, by the function that it called.
+    fn act(&self, act: Act) -> ActText {
+        ActText {
+            request: request_in(&self.item.event),
+            act,
+        }
+    }
+
+    /// The message after an act, where one was sent.
+    fn with<'a>(&self, sent: Option<&'a Sent>) -> WithText<'a> {
+        WithText {
+            height: self.board.height(),
+            sent,
+        }
+    }
+
+    /// How much of the message was applied that was delivered.
+    fn applied(&self, applied: u8) -> AppliedText {
+        AppliedText {
+            parts: parts_in(self.messages, &self.item.event),
+            applied,
+        }
+    }
+}
+
 impl fmt::Display for OfText<'_> {
     fn fmt<W: fmt::Write>(&self, f: &mut fmt::Formatter<W>) -> fmt::Result {
         let Some(number) = self.number else {
             return Ok(());
         };
-        let message = message_at(self.messages, number);
-        write!(f, ", of {}", MessageText { number, message })
+        write!(f, ", of {}", message_text(self.messages, number))
     }
 }
 
 impl fmt::Display for AskedText<'_> {
     fn fmt<W: fmt::Write>(&self, f: &mut fmt::Formatter<W>) -> fmt::Result {
         match self.event {
-            Event::Call(core, regs) => {
-                let board = self.board;
-                CallText { board, core, regs }.fmt(f)
-            }
+            Event::Call(core, regs) => self.call(core, regs).fmt(f),
             Event::Enter(core) => write!(f, "core {core} enters"),
             Event::Wake(core) => write!(f, "a wake-up of core {core}"),
             Event::Reset(core) => write!(f, "core {core} is reset"),
             Event::Deliver(number) => {
-                let message = message_at(self.messages, number);
-                let named = MessageText { number, message };
+                let named = message_text(self.messages, number);
                 write!(f, "the power controller gets {named}")
             }
             Event::Take(number) => {
-                let of = OfText {
-                    messages: self.messages,
-                    number: answered_at(self.answered, number),
-                };
+                let of = self.of(number);
                 write!(f, "the firmware gets acknowledgement {number}{of}")
             }
         }
@@ -203,22 +245,12 @@ impl fmt::Display for SaidText<'_> {
     fn fmt<W: fmt::Write>(&self, f: &mut fmt::Formatter<W>) -> fmt::Result {
         match &self.item.said {
             Said::Fw { act, sent } => {
-                let act = ActText {
-                    request: request_in(&self.item.event),
-                    act: *act,
-                };
-                let with = WithText {
-                    height: self.board.height(),
-                    sent: sent.as_ref(),
-                };
+                let (act, with) = (self.act(*act), self.with(sent.as_ref()));
                 write!(f, "{act}{with}")
             }
             Said::Kick(start) => write!(f, "the core is started, number {}", start.number),
             Said::Acked { index, ack } => {
-                let applied = AppliedText {
-                    parts: parts_in(self.messages, &self.item.event),
-                    applied: ack.applied,
-                };
+                let applied = self.applied(ack.applied);
                 let late = if ack.stale { ", stale" } else { "" };
                 write!(f, "acknowledgement {index}: {applied}{late}")
             }

@@ -25,6 +25,15 @@ impl Sight for Seen<'_> {
         self.0.firmware().status(node) == Some(Status::Pending)
     }
 
+    fn is_asleep(&self, number: u16) -> bool {
+        let node = Node {
+            level: 0,
+            place: number,
+        };
+        let is_on = self.0.firmware().status(node) == Some(Status::On);
+        is_on && self.place(number) == Some(Place::Stopped)
+    }
+
     fn starts(&self, number: u16) -> u32 {
         match self.0.board().core(number) {
             Some(core) => self.0.controller().starts(core),

@@ -29,21 +29,30 @@ pub enum Answer {
 impl Answer {
     /// Whether it is what the core does next, and what is sent.
     pub fn is(&self, act: Act, sent: Option<&Message>) -> bool {
+        act == self.act() && self.is_sent(sent)
+    }
+
+    /// What the core does next.
+    fn act(&self) -> Act {
         match *self {
-            Answer::Returns(code) => act == Act::Return(Code(code)) && sent.is_none(),
-            Answer::Asks(core, life, number) => {
-                act == Act::Return(Code::SUCCESS) && is(sent, Kind::Start, core, life, number, &[])
-            }
-            Answer::Goes(address, context) => {
-                act == Act::Enter { address, context } && sent.is_none()
-            }
-            Answer::Resumes => act == Act::Resume && sent.is_none(),
-            Answer::Stops => act == Act::Stop && sent.is_none(),
+            Answer::Returns(code) => Act::Return(Code(code)),
+            Answer::Asks(..) => Act::Return(Code::SUCCESS),
+            Answer::Goes(address, context) => Act::Enter { address, context },
+            Answer::Resumes => Act::Resume,
+            Answer::Stops | Answer::Down(..) | Answer::Halts(..) => Act::Stop,
+        }
+    }
+
+    /// Whether it is what is sent.
+    fn is_sent(&self, sent: Option<&Message>) -> bool {
+        match *self {
+            Answer::Asks(core, life, number) => is(sent, Kind::Start, core, life, number, &[]),
             Answer::Down(core, life, number, claimed) => {
-                act == Act::Stop && is(sent, Kind::Down, core, life, number, claimed)
+                is(sent, Kind::Down, core, life, number, claimed)
             }
-            Answer::Halts(kind, core, life, number) => {
-                act == Act::Stop && is(sent, kind, core, life, number, &[])
+            Answer::Halts(kind, core, life, number) => is(sent, kind, core, life, number, &[]),
+            Answer::Returns(_) | Answer::Goes(..) | Answer::Resumes | Answer::Stops => {
+                sent.is_none()
             }
         }
     }

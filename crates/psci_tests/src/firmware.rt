@@ -156,28 +156,21 @@ fn is_answered(firmware: &mut Firmware, step: Step) -> bool {
     match step {
         Step::Call(core, regs, answer) => is_call(firmware, core, regs, Ok(answer)),
         Step::CallRefused(core, regs, fault) => is_call(firmware, core, regs, Err(fault)),
-        Step::Enter(core, life, number, answer) => {
-            is_entry(firmware, core, wake(life, number), Ok(answer))
-        }
+        Step::Enter(core, life, number, answer) => wakes(firmware, core, life, number, Ok(answer)),
         Step::EntryRefused(core, life, number, fault) => {
-            is_entry(firmware, core, wake(life, number), Err(fault))
+            wakes(firmware, core, life, number, Err(fault))
         }
-        Step::Reset(core, life, number, answer) => {
-            let cause = Cause::Reset;
-            is_entry(
-                firmware,
-                core,
-                Start {
-                    life,
-                    number,
-                    cause,
-                },
-                Ok(answer),
-            )
-        }
+        Step::Reset(core, life, number, answer) => resets(firmware, core, life, number, answer),
         Step::Take(kind, core, number, applied, stale, taken) => {
             take(firmware, kind, core, number, applied, stale) == Some(taken)
         }
+        _ => is_shown(firmware, step),
+    }
+}
+
+/// Whether the firmware shows what a step says of it that does nothing.
+fn is_shown(firmware: &Firmware, step: Step) -> bool {
+    match step {
         Step::Shows(level, place, status) => firmware.status(Node { level, place }) == status,
         Step::Grants(level, place, depth) => firmware.granted(Node { level, place }) == depth,
         Step::Hardware(level, place, hw) => firmware.hw(Node { level, place }) == hw,
@@ -186,15 +179,44 @@ fn is_answered(firmware: &mut Firmware, step: Step) -> bool {
         Step::Waits(number, waiting) => firmware.outstanding(number).is_some() == waiting,
         Step::Life(life) => firmware.life() == life,
         Step::Halting(halting) => firmware.halting() == halting,
+        _ => false,
     }
 }
 
-fn wake(life: u32, number: u32) -> Start {
-    Start {
-        life,
-        number,
-        cause: Cause::Wake,
-    }
+/// A core enters after a wake-up, and is answered so or refused.
+fn wakes(
+    firmware: &mut Firmware,
+    core: u16,
+    life: u32,
+    number: u32,
+    wanted: Result<Answer, FwFault>,
+) -> bool {
+    let cause = Cause::Wake;
+    is_entry(
+        firmware,
+        core,
+        Start {
+            life,
+            number,
+            cause,
+        },
+        wanted,
+    )
+}
+
+/// A core enters after a reset, and is answered so.
+fn resets(firmware: &mut Firmware, core: u16, life: u32, number: u32, answer: Answer) -> bool {
+    let cause = Cause::Reset;
+    is_entry(
+        firmware,
+        core,
+        Start {
+            life,
+            number,
+            cause,
+        },
+        Ok(answer),
+    )
 }
 
 /// A core calls, and is answered so or refused.

@@ -6,7 +6,7 @@ use psci_abi::Regs;
 use psci_board::{Board, Core};
 use psci_machine::Machine;
 use psci_messages::{Ack, Kind, Taken};
-use psci_world::{Cause, Event, Place, Record, Said, Start, run};
+use psci_world::{Act, Cause, Event, Place, Record, Said, Sent, run};
 use std::alloc::Global;
 use std::test::Fail;
 
@@ -65,21 +65,10 @@ enum Wanted {
 /// Whether this was said.
 fn is_said(said: &Said, wanted: Wanted) -> bool {
     match (said, wanted) {
-        (Said::Fw { act, sent: None }, Wanted::Fw(answer)) => answer.is(*act, None),
-        (
-            Said::Fw {
-                act,
-                sent: Some(sent),
-            },
-            Wanted::Sent(index, answer),
-        ) => { sent.index == index && answer.is(*act, Some(&sent.message)) }
+        (Said::Fw { act, sent }, Wanted::Fw(answer)) => sent.is_none() && answer.is(*act, None),
+        (Said::Fw { act, sent }, Wanted::Sent(index, answer)) => is_sent(*act, sent, index, answer),
         (Said::Kick(start), Wanted::Kick(number, cause)) => {
-            *start
-                == Start {
-                    life: 1,
-                    number,
-                    cause,
-                }
+            (start.life, start.number, start.cause) == (1, number, cause)
         }
         (Said::Acked { index, ack }, Wanted::Acked(count, kind, core, life, number, applied)) => {
             *index == count && is_ack(ack, kind, core, life, number, applied)
@@ -88,6 +77,11 @@ fn is_said(said: &Said, wanted: Wanted) -> bool {
         (Said::Ignored, Wanted::Ignored) | (Said::Absent, Wanted::Absent) => true,
         _ => false,
     }
+}
+
+/// Whether it is this answer, and what was sent has this number.
+fn is_sent(act: Act, sent: &Option<Sent>, index: u64, answer: Answer) -> bool {
+    sent.as_ref().is_some_and(|it| it.index == index && answer.is(act, Some(&it.message)))
 }
 
 /// Whether it is this acknowledgement, which is not stale.

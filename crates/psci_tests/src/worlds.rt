@@ -154,14 +154,19 @@ fn is_answered(world: &mut World, step: Step) -> bool {
         }
         Step::NothingSent => world.message(0).is_none() && world.ack(0).is_none(),
         Step::Agrees => agrees(world),
-        Step::AllDown => NODES.iter().all(|(level, place)| {
-            let node = Node {
-                level: *level,
-                place: *place,
-            };
-            world.firmware().granted(node) == 3
-        }),
+        Step::AllDown => are_all_down(world),
     }
+}
+
+/// Each domain was granted power-down.
+fn are_all_down(world: &World) -> bool {
+    NODES.iter().all(|(level, place)| {
+        let node = Node {
+            level: *level,
+            place: *place,
+        };
+        world.firmware().granted(node) == 3
+    })
 }
 
 /// The event happens, and its record is the last one.

@@ -18,6 +18,8 @@ mod lossy;
 mod meeting;
 #[cfg(test)]
 mod serving;
+#[cfg(test)]
+mod starting;
 
 #[cfg(test)]
 mod tests {
@@ -25,6 +27,7 @@ mod tests {
     use crate::counted::is_counted;
     use crate::forged::{is_illegal_at, is_ticket_twice, judged};
     use crate::lossy::Travel;
+    use crate::starting::starts_after_the_end;
     use psci_threads::{AuditFault, BenchFault};
     use std::test::*;
 
@@ -64,6 +67,13 @@ mod tests {
         assert_eq!(rt; served(rt.alloc(), BOARD, [1, 0], 1), Err(BenchFault::Gate));
         assert_eq!(rt; served(rt.alloc(), BOARD, [0, 1], 2), Err(BenchFault::Gate));
         assert_eq!(rt; served(rt.alloc(), BOARD, [1, 0], 2), Err(BenchFault::Gate));
+        Ok(())
+    }
+
+    #[test]
+    fn the_last_to_come_starts(rt: HostRuntime) -> Result<(), Fail> {
+        assert_eq!(rt; starts_after_the_end(rt.alloc(), 0), Ok(true));
+        assert_eq!(rt; starts_after_the_end(rt.alloc(), 1), Ok(false));
         Ok(())
     }
 

@@ -18,7 +18,8 @@ abbrev pub AreSeen : BoardValue → List PassView → List Polled → Type 0
 AreSeen b ps [] = Unit {0}
 AreSeen b ps (q ∷ qs) = IsSeenByOne b ps q.seen.items × AreSeen b ps qs
 
--- what each thread saw of a core is that one of the core's statuses after these entries, by its serial
+-- what each thread saw of a core is that one of the core's statuses after these entries, by its
+-- serial
 abbrev pub AllInHistory : BoardValue → List FwEntry → List Polled → Type 0
 AllInHistory b entries [] = Unit {0}
 AllInHistory b entries (q ∷ qs) = AreInHistory b entries q.seen.items × AllInHistory b entries qs

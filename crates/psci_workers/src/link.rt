@@ -5,7 +5,7 @@ ghost use Rattle.psci_link.specs.Frame.{IsOf};
 ghost use Rattle.psci_link.specs.declared.frame.Frame.TheVariants as frames;
 
 use crate::cut::Cut;
-use crate::outstanding::outstanding;
+use crate::outstanding::Outstanding;
 use crate::platform::{Ending, Platform, Returned, fault_of};
 use crate::watch::Watch;
 use psci_draws::Draws;
@@ -36,6 +36,8 @@ pub(crate) struct Link<N: Named, M: Named> {
     lost: Vec<Core>,
     /// How often in a row frames of each core were lost.
     losses: Vec<u32>,
+    /// What the firmware waits for to be acknowledged.
+    outstanding: Outstanding,
 }
 
 /// A frame that the link carries.
@@ -66,6 +68,7 @@ impl<N: Named, M: Named> Link<N, M> {
             carried: Vec::new(alloc),
             lost: Vec::new(alloc),
             losses,
+            outstanding: Outstanding::new(alloc, cores)?,
         })
     }
 
@@ -88,6 +91,7 @@ impl<N: Named, M: Named> Link<N, M> {
             carried: _,
             lost: _,
             losses: _,
+            outstanding: _,
         } = self;
         Returned {
             watch,
@@ -137,10 +141,11 @@ impl<N: Named, M: Named> Link<N, M> {
             return Ok(());
         }
         let core = self.lost.remove(0);
-        let message = platform
+        let outstanding = &mut self.outstanding;
+        platform
             .firmware
-            .look(rt, |entries| outstanding(entries, core));
-        if let Some(message) = message {
+            .look(rt, |entries| outstanding.read(entries));
+        if let Some(message) = self.outstanding.of(core) {
             let bytes = encode(&Frame::Message(message));
             self.carried.push(Carried {
                 bytes,

@@ -1,64 +1,94 @@
-//! The message of a core that is outstanding, read off the firmware's book.
+//! The messages of cores that are outstanding, read off the firmware's book.
 
 use psci_fw::{FwCall, FwReply};
 use psci_messages::{Ack, Kind, Message, Taken};
 use psci_shared::{Core, FwEntry};
+use std::alloc::{AllocError, Global};
 
-/// What an entry says of a core's message.
-enum Step {
-    /// It sends this one, which is outstanding from then on.
-    Sends(Message),
-    /// None is outstanding from then on.
-    Empties,
-    /// So many parts of it were applied.
-    Applies(u8),
-    /// Nothing.
-    Nothing,
+/// The last message of a core.
+#[derive(Clone, Copy)]
+struct Slot {
+    /// None once the core has entered since, or an acknowledgement was used that says that it is
+    /// carried out or out of date.
+    message: Option<Message>,
+    /// How many of its parts were applied.
+    applied: u8,
 }
 
-/// The last message of a core, if it is outstanding: since it was sent the core has not entered,
-/// and no acknowledgement was used that says that it is carried out or out of date.
-pub(crate) fn outstanding(entries: &[FwEntry], core: Core) -> Option<Message> {
-    let mut applied = 0;
-    for entry in entries.iter().rev() {
-        match step_of(entry, core) {
-            Step::Sends(message) if usize::from(applied) < message.parts.as_slice().len().max(1) =>
-                {
-                    return Some(message);
+/// What is outstanding of each core, as far as the book was read. Each entry is read once, so what
+/// it takes to follow a run grows as its book does.
+#[derive(Drop)]
+pub(crate) struct Outstanding {
+    slots: Vec<Slot>,
+    /// How many entries were read.
+    read: usize,
+}
+
+impl Outstanding {
+    /// Of so many cores, before any entry.
+    pub(crate) fn new(alloc: Global, cores: u16) -> Result<Outstanding, AllocError> {
+        let mut slots = Vec::with_capacity(alloc, usize::from(cores))?;
+        for _ in 0..cores {
+            slots.push(Slot::EMPTY)?;
+        }
+        Ok(Outstanding { slots, read: 0 })
+    }
+
+    /// Reads the entries that were not read yet.
+    pub(crate) fn read(&mut self, entries: &[FwEntry]) {
+        for place in self.read..entries.len() {
+            self.follow(&entries[place]);
+        }
+        self.read = entries.len();
+    }
+
+    /// The message of a core, if it is outstanding.
+    pub(crate) fn of(&self, core: Core) -> Option<Message> {
+        let Slot { message, applied } = *self.slots.get(usize::from(core.number))?;
+        let message = message?;
+        (usize::from(applied) < message.parts.as_slice().len().max(1)).then_some(message)
+    }
+
+    /// Reads one entry more.
+    fn follow(&mut self, entry: &FwEntry) {
+        match (&entry.call, &entry.reply) {
+            (FwCall::Take(ack), FwReply::Taken(Taken::Used)) => self.used(ack),
+            (call, FwReply::Out(outcome)) => {
+                if let FwCall::Enter(_) = call {
+                    self.put(entry.core, Slot::EMPTY);
                 }
-            Step::Sends(_) | Step::Empties => return None,
-            Step::Applies(parts) => applied = applied.max(parts),
-            Step::Nothing => {}
+                if let Some(message) = outcome.message {
+                    let sent = Slot {
+                        message: Some(message),
+                        applied: 0,
+                    };
+                    self.put(message.core, sent);
+                }
+            }
+            _ => {}
         }
     }
-    None
-}
 
-/// What an entry says of the message of a core.
-fn step_of(entry: &FwEntry, core: Core) -> Step {
-    match (&entry.call, &entry.reply) {
-        (FwCall::Take(ack), FwReply::Taken(Taken::Used)) if ack.core == core => used(ack),
-        (_, FwReply::Out(outcome)) => match &outcome.message {
-            Some(message) if message.core == core => Step::Sends(*message),
-            _ => entered(entry, core),
-        },
-        _ => Step::Nothing,
+    /// An acknowledgement was used.
+    fn used(&mut self, ack: &Ack) {
+        if ack.stale || ack.kind != Kind::Down {
+            self.put(ack.core, Slot::EMPTY);
+        } else if let Some(slot) = self.slots.get_mut(usize::from(ack.core.number)) {
+            slot.applied = slot.applied.max(ack.applied);
+        }
+    }
+
+    fn put(&mut self, core: Core, sent: Slot) {
+        if let Some(slot) = self.slots.get_mut(usize::from(core.number)) {
+            *slot = sent;
+        }
     }
 }
 
-/// What an entry says that sends nothing: the core's own entry empties its slot.
-fn entered(entry: &FwEntry, core: Core) -> Step {
-    match entry.call {
-        FwCall::Enter(_) if entry.core == core => Step::Empties,
-        _ => Step::Nothing,
-    }
-}
-
-/// What an acknowledgement says that was used.
-fn used(ack: &Ack) -> Step {
-    if ack.stale || ack.kind != Kind::Down {
-        Step::Empties
-    } else {
-        Step::Applies(ack.applied)
-    }
+impl Slot {
+    /// Nothing is outstanding.
+    const EMPTY: Slot = Slot {
+        message: None,
+        applied: 0,
+    };
 }

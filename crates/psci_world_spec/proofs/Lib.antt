@@ -1,7 +1,14 @@
 pub mod Answered
+mod CallsStories
+mod ExamplesStories
 mod HardwareRows
 mod HistoryRows
+mod LivesStories
+mod OsInitiatedStories
+mod PeersStories
 mod PlaceRows
 pub mod Runs
+mod SafeStories
 pub mod Scripts
-mod StoryRows
+mod SuspendStories
+mod SystemStories

@@ -18,5 +18,6 @@ loop-polled-preserved g c =
     grind (arith, common_steps, c.polled-item.is, c.loop-polled-test.true) in
     subst (λ bs. Appends before after bs)
     (sym (one_more entries polls i c.polled-item.result longer))
-    (Appends-trans _ _ _ (cores_text entries (take i polls)) (core_line entries c.polled-item.result)
-    c.loop-polled.invariant (c.in_ok-write_core.ensures {u = tt}))
+    (Appends-trans _ _ _ (cores_text entries (take i polls))
+    (core_line entries c.polled-item.result) c.loop-polled.invariant
+    (c.in_ok-write_core.ensures {u = tt}))

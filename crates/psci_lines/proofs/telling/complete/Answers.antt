@@ -25,7 +25,7 @@ returns-in_err-write_to-clause-tells g c =
     tells_so told c.from_residual.result c.in_err-write_to.field-0.0
     first s.left before after c.from_residual.ensures
     (subst (λ (e : ReplayFault). Tells told (Err e) first s.left before after)
-    (sym w.fault)
+    (sym w.gave_up.0)
     (finish_part told c.run_lines-ended.result first before after s w.front.0
     (sym c.if-is_write_fault.ensures) c.run_lines-ended.ensures.runs w.front.1))
 

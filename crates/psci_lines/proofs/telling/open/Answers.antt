@@ -14,11 +14,13 @@ returns-in_err-open-clause-err g c =
     let told = g.T.Teller.told c.args.form in
     let first = g.S.Source.left p.source.now in
     let before = g.K.Sink.taken p.sink.now in
-    if_err_so c.from_residual.result Memory _ c.from_residual.ensures
-    (subst (λ (a : Answered). EndsBy told Memory first before
-    (progress p.block.now first a before)) (sym (c.in_err-open.ensures {u = tt}).err)
-    (subst (λ (s : Progress). EndsBy told Memory first before s) (sym c.requires.fresh)
-    (not_opened told first before c.requires.nothing)))
+    if_err_so c.from_residual.result Memory _ c.from_residual.ensures (
+      tt,
+      subst (λ (a : Answered). EndsBy told Memory first before
+          (progress p.block.now first a before)) (sym (c.in_err-open.ensures {u = tt}).err)
+          (subst (λ (s : Progress). EndsBy told Memory first before s) (sym c.requires.fresh)
+          (not_opened told first before c.requires.nothing)),
+    )
 
 pub returns-clause-ok : goal.returns-clause-ok
 returns-clause-ok g c =
@@ -31,8 +33,3 @@ returns-clause-ok g c =
     (sym (ap (λ (s : Progress). s.block) c.requires.fresh))
     (opened told first before c.open.new.answers is.ok
     (is.events ∙ ap (λ (s : Progress). s.answered.events) c.requires.fresh))
-
-pub returns-clause-count : goal.returns-clause-count
-returns-clause-count g c =
-    (c.in_ok-open.ensures {u = tt}).events
-    ∙ ap (λ (s : Progress). s.answered.events) c.requires.fresh

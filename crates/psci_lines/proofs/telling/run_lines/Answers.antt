@@ -9,4 +9,4 @@ returns-clause-runs g c =
 
 pub tell_lines-requires : goal.tell_lines-requires
 tell_lines-requires g c =
-    (c.in_ok-teller.ensures {u = tt}).count ∙ (c.in_ok-open.ensures {u = tt}).count
+    (c.in_ok-teller.ensures {u = tt}).count ∙ (c.in_ok-open.ensures {u = tt}).ok.events

@@ -1,4 +1,4 @@
-use Rattle.std.proofs.Common.{◌≡◌, ◌+◌, ◌-◌, ◌*◌, ◌≤◌, ◌<◌, length, take}
+use Rattle.std.proofs.Common.{◌≡◌, ◌-◌, ◌≤◌, length, take}
 use Rattle.std.specs.Io.KnownBytes.{Appends}
 use Rattle.psci_lines.proofs.transfer.write_all.Given as goal
 
@@ -7,9 +7,7 @@ invariant-loop-done g l = record {
   inside : l.done ≤ length l.bytes;
   taken : Appends (g.K.Sink.taken l.fn.sink) (g.K.Sink.taken l.sink) (take l.done l.bytes);
   failed : g.K.Sink.failed l.sink ≡ g.K.Sink.failed l.fn.sink;
-  interrupted : l.interruptions ≤ g.K.Sink.interruptions l.sink;
-  few : l.interruptions < 1000;
 }
 
 abbrev pub decreases-loop-done : goal.decreases-loop-done
-decreases-loop-done g l = 1001 * (length l.bytes - l.done) + (1000 - l.interruptions)
+decreases-loop-done g l = length l.bytes - l.done

@@ -11,6 +11,6 @@ returns c =
     ∙ ap (own_claims c.args.board.now (view_of c.args.tree.now) c.args.core.number)
     c.deepest.ensures.value
     ∙ own-off c.args.board.now (view_of c.args.tree.now) c.args.core.number
-    c.highest_off-highest.result c.highest_off-highest.ensures.levels
-    c.highest_off-highest.ensures.inside c.highest_off-highest.ensures.off
+    c.highest_off-highest.result c.highest_off-highest.ensures.inside.1
+    c.highest_off-highest.ensures.inside.0 c.highest_off-highest.ensures.off
     c.highest_off-highest.ensures.last

@@ -1,8 +1,9 @@
-use Rattle.std.proofs.Common.{ℕ, ◌∙◌, sym, subst}
+use Rattle.std.proofs.Common.{ℕ, ◌∙◌, sym, subst, rules}
 use Rattle.std.specs.Prelude.{◌<◌}
 use Rattle.psci_fw.specs.Seen.{seen}
 use Rattle.psci_status.specs.Seats.{written}
 use Rattle.psci_shared.proofs.Stays.{others_stay, written_by_values}
+use Rattle.psci_shared.proofs.Unnamed.{nothing_to_write}
 use Rattle.psci_shared.proofs.writing.write_all.Goals as goal
 
 pub write_changed-requires-clause-others : goal.write_changed-requires-clause-others
@@ -17,3 +18,8 @@ returns-clause-log g c = λ core small.
     (subst (λ (n : ℕ). core < n) (sym c.requires.cores.0) small)
     ∙ written_by_values g.N.Named.board c.args.book.now.entries c.args.before
     (seen c.firmware.result.now) core _ c.firmware.ensures.values
+
+pub returns-then-is_none-clause-log : goal.returns-then-is_none-clause-log
+returns-then-is_none-clause-log g c = λ core small.
+    nothing_to_write g.N.Named.board (written c.args.writer.now) c.args.book.now.entries
+    c.args.before c.args.named c.requires.behind (search rules) core small

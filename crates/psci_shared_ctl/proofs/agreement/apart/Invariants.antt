@@ -1,9 +1,13 @@
+-- The places from here on, and what is left of the other list, decide.
 use Rattle.std.proofs.Common.{◌≡◌, drop}
-use Rattle.psci_shared.specs.Places.{apart}
+use Rattle.psci_shared.specs.Places.{RisesFrom, apart}
 use Rattle.psci_shared_ctl.specs.Places.{places}
 use Rattle.psci_shared_ctl.proofs.agreement.apart.Given as goal
 
 abbrev pub invariant-loop-item : goal.invariant-loop-item
-invariant-loop-item l =
-    apart (places (drop l.item-index l.one)) (places l.other)
-    ≡ apart (places l.one) (places l.other)
+invariant-loop-item l = record {
+  same : apart (places (drop l.item-index l.one)) (places l.left)
+      ≡ apart (places l.one) (places l.other);
+  left : RisesFrom 0 (places l.left);
+  rest : RisesFrom 0 (places (drop l.item-index l.one));
+}

@@ -20,34 +20,37 @@ returns-clause-bytes g c =
     (arith, w, v.len, m.len, i.bytes.ok.0, c.read_some.auto.buffer, c.requires) in
     record {
       bytes = take n buffer;
-      appended = refilled _ _ _ _ _ _ _ _ (omega (arith, w, v.len, m.len, i.bytes.ok.0)) e.within
-          (omega (arith, w, v.len, m.len, i.bytes.ok.0, c.read_some.auto.buffer, e.within)) (ap
+      appended = refilled _ _ _ _ _ _ _ _ (omega (arith, w, v.len, m.len, i.bytes.ok.0)) e.bytes.0
+          (omega (arith, w, v.len, m.len, i.bytes.ok.0, c.read_some.auto.buffer, e.bytes.0)) (ap
           (λ x. take (i.to - i.from) x) (v.value ∙ m.items)
           ∙ moved i.bytes.items i.from i.to c.self.invariant.0 c.self.invariant.1 ∙ now);
-      from = e.bytes;
+      from = e.bytes.1;
       came = λ t. (
-        some_came n buffer e.within t,
+        some_came n buffer e.bytes.0 t,
         ap (λ (r : ReadAhead). r.ended)
             (sym c.self.view_is) ∙ c.if-self.false,
         counted n t,
       );
       none = λ t. (none_came n buffer t, not_counted n t);
-      at_end = λ _ t. end_came n buffer _ e.end room t;
+      at_end = λ _ t. end_came n buffer _ e.bytes.2 room t;
     }
 
-pub returns-in_err-count-clause-waiting : goal.returns-in_err-count-clause-waiting
-returns-in_err-count-clause-waiting g c =
+pub returns-in_err-count-clause-stays : goal.returns-in_err-count-clause-stays
+returns-in_err-count-clause-stays g c =
     let i = c.self.inside in
     let v = c.deref_mut.ensures in
     let m = c.copy_within.ensures in
     let now = ap (λ (r : ReadAhead). r.unread) c.self.view_is in
     let w = waiting_length i.bytes.items c.args.self.now.unread i.from i.to c.self.invariant.0
     c.self.invariant.1 now in
-    on_err c.from_residual.result _ (ap (λ
-    (u : List ℕ). let r : ReadAhead = record { unread = u; ended = i.ended } in r)
-    (unfilled (i.to - i.from) _ _ _ c.read_some.new.buffer _ _ (omega
-    (arith, w, v.len, m.len, i.bytes.ok.0)) (omega
-    (arith, w, v.len, m.len, i.bytes.ok.0, c.read_some.auto.buffer)) (ap (λ x. take
-    (i.to - i.from) x) (v.value ∙ m.items)
-    ∙ moved i.bytes.items i.from i.to c.self.invariant.0 c.self.invariant.1))
-    ∙ c.self.view_is)
+    on_err c.from_residual.result _ (
+      (c.in_err-count.ensures {u = tt}).kept,
+      ap (λ (u : List ℕ). let r : ReadAhead = record { unread = u; ended = i.ended } in r)
+          (unfilled (i.to - i.from) _ _ _ c.read_some.new.buffer _ _
+          (omega (arith, w, v.len, m.len, i.bytes.ok.0))
+          (omega (arith, w, v.len, m.len, i.bytes.ok.0, c.read_some.auto.buffer))
+          (ap (λ x. take (i.to - i.from) x) (v.value ∙ m.items)
+          ∙ moved i.bytes.items i.from i.to c.self.invariant.0 c.self.invariant.1))
+          ∙ c.self.view_is,
+      ap (λ (r : ReadAhead). r.ended) (sym c.self.view_is) ∙ c.if-self.false,
+    )

@@ -5,8 +5,12 @@ use Rattle.psci_lines.specs.Progress.{progress_of}
 use Rattle.psci_lines.proofs.Ahead.{ahead_none, ahead_more, same_more, sound_more}
 use Rattle.psci_lines.proofs.Finding.{finds_fault, finds_last, last_extent, reads_as}
 use Rattle.psci_lines.proofs.progress.Progress.next_line.Goals as goal
-use Rattle.psci_lines.proofs.progress.Progress.next_line.Goals.{else-not-is_empty-via-then-not-is_empty+else-number-gt-MOST_LINES}
-use Rattle.psci_lines.proofs.progress.Progress.next_line.Goals.{else-not-is_empty-via-else-not-is_empty}
+use Rattle.psci_lines.proofs.progress.Progress.next_line.Goals.{
+  else-not-is_empty-via-then-not-is_empty+else-number-gt-MOST_LINES,
+}
+use Rattle.psci_lines.proofs.progress.Progress.next_line.Goals.{
+  else-not-is_empty-via-else-not-is_empty,
+}
 
 pub loop-unread-init : goal.loop-unread-init
 loop-unread-init g c = record {

@@ -11,20 +11,26 @@ use Rattle.psci_polled.proofs.polled.PolledFirmware.smc_in_slot.Goals as goal
 
 pub returns-in_err-reaction-clause-written : goal.returns-in_err-reaction-clause-written
 returns-in_err-reaction-clause-written c =
-    written_still c.args.self.now c.self.inside.firmware c.smc_in_slot.new.self _ _ c.self.inside.cores
-    c.self.invariant c.self.view_is c.in_err-reaction.ensures.refused
+    written_still c.args.self.now c.self.inside.firmware c.smc_in_slot.new.self _ _
+    c.self.inside.cores c.self.invariant c.self.view_is c.in_err-reaction.ensures.refused
 
 pub write_changed-requires-clause-others : goal.write_changed-requires-clause-others
 write_changed-requires-clause-others c =
-    others_stay c.self.inside.firmware c.smc_in_slot.new.self _ _ c.self.inside.cores c.args.core.number
-    c.life_of-before.result (calls.Smc c.args.regs) (replies.Out (outcome_in c.smc_in_slot.new.self.board (seen c.smc_in_slot.new.self) c.in_ok-reaction.reaction)) c.asked_in-asked.result
-    c.law_values.ensures.more c.self.invariant c.in_ok-reaction.ensures.after c.life_of-before.ensures
-    (λ core other. names_smc c.self.inside.firmware.board c.args.core.number core c.args.regs (outcome_in c.smc_in_slot.new.self.board (seen c.smc_in_slot.new.self) c.in_ok-reaction.reaction) (subst (λ (o : Option Core). is_named o core ≡ false) c.asked_in-asked.ensures other))
+    others_stay c.self.inside.firmware c.smc_in_slot.new.self _ _ c.self.inside.cores
+    c.args.core.number c.life_of-before.result (calls.Smc c.args.regs)
+    (replies.Out (outcome_in c.smc_in_slot.new.self.board (seen c.smc_in_slot.new.self)
+    c.in_ok-reaction.reaction)) c.asked_in-asked.result c.law_values.ensures.more c.self.invariant
+    c.in_ok-reaction.ensures.after c.life_of-before.ensures
+    (λ core other. names_smc c.self.inside.firmware.board c.args.core.number core c.args.regs
+    (outcome_in c.smc_in_slot.new.self.board (seen c.smc_in_slot.new.self)
+    c.in_ok-reaction.reaction)
+    (subst (λ (o : Option Core). is_named o core ≡ false) c.asked_in-asked.ensures other))
 
 pub invariant_of-self-2 : goal.invariant_of-self-2
 invariant_of-self-2 c =
     polled_next c.self.inside.firmware c.smc_in_slot.new.self _ _ _ _ c.self.inside.cores
-    c.args.core.number c.life_of-before.result (calls.Smc c.args.regs) (replies.Out (outcome_in c.smc_in_slot.new.self.board (seen c.smc_in_slot.new.self) c.in_ok-reaction.reaction))
-    c.law_values.ensures.more c.self.invariant c.in_ok-reaction.ensures.answer
-    c.in_ok-reaction.ensures.after c.in_ok-reaction.ensures.board c.write_changed.ensures.table
-    c.life_of-before.ensures c.write_changed.ensures.log
+    c.args.core.number c.life_of-before.result (calls.Smc c.args.regs)
+    (replies.Out (outcome_in c.smc_in_slot.new.self.board (seen c.smc_in_slot.new.self)
+    c.in_ok-reaction.reaction)) c.law_values.ensures.more c.self.invariant
+    c.in_ok-reaction.ensures.answer c.in_ok-reaction.ensures.after c.in_ok-reaction.ensures.board
+    c.write_changed.ensures.table c.life_of-before.ensures c.write_changed.ensures.log

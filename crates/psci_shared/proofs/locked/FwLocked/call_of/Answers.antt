@@ -17,7 +17,7 @@ write_all-requires-clause-behind g c =
       _,
       ap (λ (k : BookView). k.entries) c.in-Ok.ensures.book,
       c.life-before.ensures,
-      c.in-Ok.ensures.named.1,
+      c.in-Ok.ensures.done.1,
       old.written,
     )
 

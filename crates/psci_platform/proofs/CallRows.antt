@@ -1,0 +1,239 @@
+-- What the firmware is asked for calls of real machines.
+use Rattle.std.proofs.Common.{◌≡◌, ℕ, List, [], ◌∷◌, true, false, refl, map, replicate}
+use Rattle.std.specs.Prelude.{filter, nat_lt}
+use Rattle.psci_platform.specs.declared.functions.Functions.{Functions}
+use Rattle.psci_abi.specs.declared.registers.Regs.{Regs}
+use Rattle.psci_fw_spec.specs.declared.mode.SuspendMode.TheVariants.{Platform, OsInitiated}
+use Rattle.psci_platform.specs.declared.asked.Asked.{Asked}
+use Rattle.psci_platform.specs.declared.asked.Asked.TheVariants as asks
+use Rattle.psci_platform.specs.Calls.{asked_for, regs_for}
+use Rattle.psci_platform.specs.Described.{DescriptionValue}
+use Rattle.psci_platform.proofs.Machines.{all_functions, hamoa, hamoa_board, mt8365, mt8370}
+use Rattle.psci_platform.proofs.Machines.{mt8370_board}
+use Rattle.psci_platform.proofs.Machines.{rk3399, rk3399_board}
+
+-- registers x0 to x3
+abbrev regs : ℕ → ℕ → ℕ → ℕ → Regs
+regs x0 x1 x2 x3 = record { x0 = x0; x1 = x1; x2 = x2; x3 = x3 }
+
+-- what the firmware is called with for a call of MT8370
+abbrev of_mt8370 : Regs → Regs
+of_mt8370 r = regs_for mt8370 mt8370_board Platform r
+
+-- and what else RK3399 asks
+abbrev asks_rk3399 : Regs → Asked
+asks_rk3399 r = asked_for rk3399 Platform r
+
+-- Arguments -----------------------------------------------------------------------------------
+
+cpu_on : of_mt8370 (regs 0xC4000003 0x700 0x40001000 7) ≡ regs 0xC4000003 5 0x40001000 7
+unfolding regs_for
+cpu_on = refl
+
+-- an SMC32 call has the low half of a register
+narrow_cpu_on : of_mt8370 (regs 0x84000003 0x100000700 0x40001000 7)
+    ≡ regs 0x84000003 5 0x40001000 7
+unfolding regs_for
+narrow_cpu_on = refl
+
+wide_cpu_on : of_mt8370 (regs 0xC4000003 0x100000700 0x40001000 7)
+    ≡ regs 0xC4000003 0xFFFFFFFF 0x40001000 7
+unfolding regs_for
+wide_cpu_on = refl
+
+cpu_suspend : of_mt8370 (regs 0xC4000001 0x01010010 0x40001000 7)
+    ≡ regs 0xC4000001 0x01010033 0x40001000 7
+unfolding regs_for
+cpu_suspend = refl
+
+no_such_word : of_mt8370 (regs 0x84000001 0x01010033 0x40001000 7)
+    ≡ regs 0x84000001 0xFFFFFFFF 0x40001000 7
+unfolding regs_for
+no_such_word = refl
+
+affinity_info : regs_for hamoa hamoa_board Platform (regs 0xC4000004 0x10300 0 0)
+    ≡ regs 0xC4000004 0x103 0 0
+unfolding regs_for
+affinity_info = refl
+
+affinity_info_of_a_cluster : regs_for hamoa hamoa_board Platform (regs 0xC4000004 0x20000 1 0)
+    ≡ regs 0xC4000004 0x200 1 0
+unfolding regs_for
+affinity_info_of_a_cluster = refl
+
+node_hw_state : regs_for (record hamoa { functions = all_functions }) hamoa_board Platform
+    (regs 0x8400000D 0x20000 1 0) ≡ regs 0x8400000D 0x200 1 0
+unfolding regs_for
+node_hw_state = refl
+
+vendor_reset : regs_for rk3399 rk3399_board Platform (regs 0x84000012 0x80000001 9 0)
+    ≡ regs 0x84000012 0 9 0
+unfolding regs_for
+vendor_reset = refl
+
+other_reset : regs_for rk3399 rk3399_board Platform (regs 0x84000012 0x80000002 9 0)
+    ≡ regs 0x84000012 0x80000002 9 0
+unfolding regs_for
+other_reset = refl
+
+-- what is no name of a core, a state or a function stays
+system_suspend : regs_for rk3399 rk3399_board Platform (regs 0xC400000E 0x40001000 7 0)
+    ≡ regs 0xC400000E 0x40001000 7 0
+unfolding regs_for
+system_suspend = refl
+
+set_suspend_mode : of_mt8370 (regs 0x8400000F 1 0 0) ≡ regs 0x8400000F 1 0 0
+unfolding regs_for
+set_suspend_mode = refl
+
+version : of_mt8370 (regs 0x84000000 0x700 0 0) ≡ regs 0x84000000 0x700 0 0
+unfolding regs_for
+version = refl
+
+-- Functions -----------------------------------------------------------------------------------
+
+-- no function, or every one but this
+abbrev without_any : DescriptionValue
+without_any = record rk3399 {
+  functions = record {
+    cpu_suspend = false;
+    cpu_off = false;
+    cpu_on = false;
+    system_off = false;
+    system_reset = false;
+    node_hw_state = false;
+    system_suspend = false;
+    system_reset2 = false;
+  };
+}
+
+abbrev called : DescriptionValue → ℕ → ℕ
+called d x0 = (regs_for d rk3399_board Platform (regs x0 0 0 0)).x0
+
+-- what PSCI_FEATURES asks about
+abbrev features : DescriptionValue → ℕ → ℕ
+features d word = (regs_for d rk3399_board Platform (regs 0x8400000A word 0 0)).x1
+
+abbrev words : List ℕ
+words =
+    0x84000001 ∷ 0xC4000001 ∷ 0x84000002 ∷ 0x84000003 ∷ 0xC4000003 ∷ 0x84000008 ∷ 0x84000009
+    ∷ 0x8400000D ∷ 0xC400000D ∷ 0x8400000E ∷ 0xC400000E ∷ 0x8400000F ∷ 0x84000012 ∷ 0xC4000012 ∷ []
+
+none_is_there : map (called without_any) words ≡ replicate 14 0
+unfolding regs_for
+none_is_there = refl
+
+no_feature_is_there : map (features without_any) words ≡ replicate 14 0
+unfolding regs_for
+no_feature_is_there = refl
+
+all_are_there : map (called (record rk3399 { functions = all_functions })) words ≡ words
+unfolding regs_for
+all_are_there = refl
+
+all_features_are_there : map (features (record rk3399 { functions = all_functions })) words ≡ words
+unfolding regs_for
+all_features_are_there = refl
+
+-- these are always there
+abbrev others : List ℕ
+others = 0x84000000 ∷ 0x84000004 ∷ 0xC4000004 ∷ 0x84000006 ∷ 0x8400000A ∷ []
+
+others_are_there : map (called without_any) others ≡ others
+unfolding regs_for
+others_are_there = refl
+
+other_features_are_there : map (features without_any) others ≡ others
+unfolding regs_for
+other_features_are_there = refl
+
+-- each function by itself
+abbrev only : Functions → List ℕ
+only f = filter (λ x. nat_lt 0 x) (map (called (record rk3399 { functions = f })) words)
+
+only_cpu_suspend : only (record without_any.functions { cpu_suspend = true })
+    ≡ 0x84000001 ∷ 0xC4000001 ∷ 0x8400000F ∷ []
+unfolding regs_for
+only_cpu_suspend = refl
+
+only_cpu_off : only (record without_any.functions { cpu_off = true }) ≡ 0x84000002 ∷ []
+unfolding regs_for
+only_cpu_off = refl
+
+only_cpu_on : only (record without_any.functions { cpu_on = true }) ≡ 0x84000003 ∷ 0xC4000003 ∷ []
+unfolding regs_for
+only_cpu_on = refl
+
+only_system_off : only (record without_any.functions { system_off = true }) ≡ 0x84000008 ∷ []
+unfolding regs_for
+only_system_off = refl
+
+only_system_reset : only (record without_any.functions { system_reset = true }) ≡ 0x84000009 ∷ []
+unfolding regs_for
+only_system_reset = refl
+
+only_node_hw_state : only (record without_any.functions { node_hw_state = true })
+    ≡ 0x8400000D ∷ 0xC400000D ∷ []
+unfolding regs_for
+only_node_hw_state = refl
+
+only_system_suspend : only (record without_any.functions { system_suspend = true })
+    ≡ 0x8400000E ∷ 0xC400000E ∷ []
+unfolding regs_for
+only_system_suspend = refl
+
+only_system_reset2 : only (record without_any.functions { system_reset2 = true })
+    ≡ 0x84000012 ∷ 0xC4000012 ∷ []
+unfolding regs_for
+only_system_reset2 = refl
+
+-- What else is asked --------------------------------------------------------------------------
+
+asks_cluster : asks_rk3399 (regs 0xC4000001 0x01010000 0 0) ≡ asks.States (1 ∷ 1 ∷ 0 ∷ 0 ∷ [])
+unfolding asked_for
+asks_cluster = refl
+
+asks_no_state : asks_rk3399 (regs 0xC4000001 0x01010033 0 0) ≡ asks.Nothing
+unfolding asked_for
+asks_no_state = refl
+
+asks_second_state : asked_for mt8365 OsInitiated (regs 0x84000001 0x01010004 0 0)
+    ≡ asks.States (1 ∷ 2 ∷ 0 ∷ 0 ∷ [])
+unfolding asked_for
+asks_second_state = refl
+
+asks_refused_state : asked_for mt8365 Platform (regs 0x84000001 0x01010004 0 0)
+    ≡ asks.Nothing
+unfolding asked_for
+asks_refused_state = refl
+
+asks_system : asks_rk3399 (regs 0x8400000E 0 0 0) ≡ asks.States (1 ∷ 1 ∷ 1 ∷ 0 ∷ [])
+unfolding asked_for
+asks_system = refl
+
+asks_reset : asks_rk3399 (regs 0xC4000012 0x80000001 9 0) ≡ asks.Reset 0x80000001
+unfolding asked_for
+asks_reset = refl
+
+asks_other_reset : asks_rk3399 (regs 0xC4000012 0x80000002 9 0) ≡ asks.Nothing
+unfolding asked_for
+asks_other_reset = refl
+
+asks_for_nothing : asks_rk3399 (regs 0x84000002 0x01010000 0 0) ≡ asks.Nothing
+unfolding asked_for
+asks_for_nothing = refl
+
+-- nothing is asked of a function that is not there
+asks_no_suspend : asked_for without_any Platform (regs 0xC4000001 0x01010000 0 0)
+    ≡ asks.Nothing
+unfolding asked_for
+asks_no_suspend = refl
+
+asks_no_system : asked_for without_any Platform (regs 0x8400000E 0 0 0) ≡ asks.Nothing
+unfolding asked_for
+asks_no_system = refl
+
+asks_no_reset : asked_for without_any Platform (regs 0xC4000012 0x80000001 9 0)
+    ≡ asks.Nothing
+unfolding asked_for
+asks_no_reset = refl

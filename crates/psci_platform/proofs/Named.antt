@@ -1,0 +1,50 @@
+-- The MPIDR of a core names this core.
+use Rattle.std.proofs.Common.{◌≡◌, ◌==◌, ℕ, ◌*◌, ◌/◌, ◌^◌, ◌<◌, Bool, true, false, not, List}
+use Rattle.std.proofs.Common.{length, None, Some, refl, arith}
+use Rattle.std.proofs.lemmas.Bool.Decides.{nat_tests}
+use Rattle.std.proofs.lemmas.List.Sums.{position_or_len_is}
+use Rattle.std.specs.List.{list_all, position, position_or_len}
+use Rattle.std.specs.Prelude.{nat_le, nat_lt, slice_index}
+use Rattle.psci_board.specs.Board.{BoardValue, cores, height}
+use Rattle.psci_platform.specs.Cores.{core_named}
+use Rattle.psci_platform.specs.Described.{DescriptionValue}
+use Rattle.psci_platform.specs.Faults.{fault_of, has_same, is_mpidr}
+use Rattle.psci_platform.proofs.Checked.{past, some_count}
+use Rattle.psci_platform.proofs.Counted.{differ}
+
+none_same : (d : DescriptionValue) (b : BoardValue) (boot : ℕ) → fault_of d b boot ≡ None
+    → has_same d.mpidrs ≡ false
+unfolding fault_of
+none_same d b boot none =
+    let count = past (not (length d.mpidrs == cores b)) _ _ none in
+    let fields = past (not (list_all is_mpidr d.mpidrs)) _ _ count.1 in
+    (past (has_same d.mpidrs) _ _ fields.1).0
+
+-- an MPIDR has other fields than one that is another
+other : (m x : ℕ) (t : Bool) → (m == x) ≡ t → (m ≡ x → ⊥)
+    → (m / 2 ^ (8 * 0) == x / 2 ^ (8 * 0)) ≡ false
+other m x true e apart = absurd (apart (grind (arith, nat_tests)))
+other m x false e apart = grind (arith, nat_tests)
+
+named : (mpidrs : List ℕ) (c : ℕ) → has_same mpidrs ≡ false → c < length mpidrs
+    → position (λ mpidr. mpidr / 2 ^ (8 * 0) == slice_index mpidrs c / 2 ^ (8 * 0)) mpidrs
+    ≡ Some c
+named mpidrs c none below =
+    let x = slice_index mpidrs c in
+    let test : (slice_index mpidrs c / 2 ^ (8 * 0) == x / 2 ^ (8 * 0)) ≡ true =
+    grind (arith, nat_tests) in
+    let first : position_or_len (λ mpidr. mpidr / 2 ^ (8 * 0) == x / 2 ^ (8 * 0)) mpidrs ≡ c =
+    position_or_len_is _ mpidrs c 0 (omega (arith, below))
+    (λ k before. other (slice_index mpidrs k) x (slice_index mpidrs k == x) refl
+    (λ same. differ mpidrs k c none before below same))
+    (λ _. test) in
+    let size : nat_lt c (length mpidrs) ≡ true = grind (arith, nat_tests) in
+    rw (first, size) refl
+
+pub core_is_named : (d : DescriptionValue) (b : BoardValue) (boot c : ℕ)
+    → fault_of d b boot ≡ None → c < cores b
+    → core_named d b (slice_index d.mpidrs c) 0 ≡ Some c
+core_is_named d b boot c none inside =
+    let count = some_count d b boot none in
+    let low : nat_le 0 (height b) ≡ true = grind (arith, nat_tests) in
+    rw low (named d.mpidrs c (none_same d b boot none) (omega (arith, inside, count)))

@@ -1,0 +1,14 @@
+-- The MPIDRs of a description that has no fault name its cores.
+use Rattle.psci_platform.proofs.Checked.{boot_is_first, some_count}
+use Rattle.psci_platform.proofs.Named.{core_is_named}
+use Rattle.psci_platform.proofs.law.law_mpidrs.Goals as goal
+
+pub returns-clause-count : goal.returns-clause-count
+returns-clause-count c = some_count
+
+pub returns-clause-boot : goal.returns-clause-boot
+returns-clause-boot c = λ d b boot board none.
+    boot_is_first d b boot ((c.law_sizes.ensures b board).some 0) none
+
+pub returns-clause-core : goal.returns-clause-core
+returns-clause-core c = core_is_named

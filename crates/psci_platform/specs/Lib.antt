@@ -1,0 +1,10 @@
+pub mod Calls
+pub mod Cores
+pub mod Described
+pub mod Faults
+pub mod Platforms
+pub mod States
+pub use Rattle.psci_abi.specs as psci_abi
+pub use Rattle.psci_board.specs as psci_board
+pub use Rattle.psci_fw_spec.specs as psci_fw_spec
+pub use Rattle.psci_state.specs as psci_state

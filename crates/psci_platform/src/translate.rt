@@ -1,0 +1,128 @@
+//! The call of the firmware for a call of a platform.
+
+ghost use Rattle.std.specs.Prelude.{◌≡◌, length, if◌then◌else◌};
+ghost use Rattle.psci_abi.specs.Calls.{function_of};
+ghost use Rattle.psci_board.specs.Board.{cores};
+ghost use Rattle.psci_platform.specs.declared.asked.Asked.TheVariants as asks;
+ghost use Rattle.psci_platform.specs.Calls.{asked_by, asked_for, asks_states, feature_word};
+ghost use Rattle.psci_platform.specs.Calls.{first_argument, is_vendors, regs_for, reset_word};
+
+use crate::asked::Asked;
+use crate::class::LEVELS;
+use crate::description::Description;
+use psci_abi::{Regs, Request, read};
+use psci_board::Board;
+use psci_fw_spec::SuspendMode;
+
+/// A function word that no function has.
+const NO_FUNCTION: u32 = 0;
+
+/// A call as the firmware is asked, and what the platform is asked beside it.
+#[derive(Clone, Copy, Debug, PartialEq, Eq)]
+pub struct Call {
+    /// The registers that the firmware is called with.
+    pub regs: Regs,
+    /// Which of the platform's states or resets the caller named.
+    pub asked: Asked,
+}
+
+impl Description {
+    /// The call of the firmware for a call of the platform.
+    #[tactic(auto, unfolding(crate::specs::Calls::regs_for, crate::specs::Calls::asked_for))]
+    pub fn translate(&self, board: &Board, mode: SuspendMode, regs: Regs) -> Call
+        requires { length self.now.mpidrs ≡ cores board.now }
+        ensures regs { result.regs ≡ regs_for self.now board.now mode regs }
+        ensures asked { result.asked ≡ asked_for self.now mode regs }
+    {
+        let request = read(regs);
+        if !self.functions.has(request) {
+            return Call {
+                regs: Regs {
+                    x0: u64::from(NO_FUNCTION),
+                    ..regs
+                },
+                asked: Asked::Nothing,
+            };
+        }
+        let (x1, asked) = self.first_argument(board, mode, regs.x1, request);
+        Call {
+            regs: Regs { x1, ..regs },
+            asked,
+        }
+    }
+
+    /// The first argument that the firmware is asked with, and what the platform is asked.
+    fn first_argument(
+        &self,
+        board: &Board,
+        mode: SuspendMode,
+        x1: u64,
+        request: Request,
+    ) -> (u64, Asked)
+        requires { length self.now.mpidrs ≡ cores board.now }
+        ensures argument { result.0 ≡ first_argument self.now board.now mode x1 request }
+        ensures asked { result.1 ≡ asked_by self.now mode request }
+    {
+        match request {
+            Request::CpuSuspend { state, .. } => {
+                let states = self.states_of(mode, state);
+                let word = self.word_for(board.format(), states);
+                (u64::from(word), asks_states(states))
+            }
+            Request::CpuOn { target, .. } => (self.core_word(board, target, 0), Asked::Nothing),
+            Request::AffinityInfo { target, level } | Request::NodeHwState { target, level } => {
+                (self.core_word(board, target, level), Asked::Nothing)
+            }
+            Request::Features { word } => (u64::from(self.feature_word(word)), Asked::Nothing),
+            Request::SystemReset2 { reset_type, .. } => self.reset(reset_type),
+            Request::SystemSuspend { .. } => (x1, Asked::States(self.system)),
+            _ => (x1, Asked::Nothing),
+        }
+    }
+
+    /// The function word that the firmware is asked about.
+    fn feature_word(&self, word: u32) -> u32
+        ensures { result ≡ feature_word self.now word }
+    {
+        if self.functions.has(function(word)) {
+            word
+        } else {
+            NO_FUNCTION
+        }
+    }
+
+    /// The reset type that the firmware is asked for, and what the platform is asked.
+    fn reset(&self, reset_type: u32) -> (u64, Asked)
+        ensures word { result.0 ≡ reset_word self.now reset_type }
+        ensures asked { result.1
+            ≡ (if is_vendors self.now reset_type then asks.Reset reset_type else asks.Nothing) }
+    {
+        if self.resets.contains(&reset_type) {
+            (0, Asked::Reset(reset_type))
+        } else {
+            (u64::from(reset_type), Asked::Nothing)
+        }
+    }
+}
+
+/// The function of a word, whatever its arguments.
+fn function(word: u32) -> Request
+    ensures { result ≡ function_of word 0 0 0 }
+{
+    read(Regs {
+        x0: u64::from(word),
+        x1: 0,
+        x2: 0,
+        x3: 0,
+    })
+}
+
+/// States that are asked for, if there are some.
+fn asks_states(states: Option<[u8; LEVELS]>) -> Asked
+    ensures { result ≡ asks_states states }
+{
+    match states {
+        Some(states) => Asked::States(states),
+        None => Asked::Nothing,
+    }
+}

@@ -1,8 +1,0 @@
-use Rattle.std.proofs.Common.{◌≡◌, drop}
-use Rattle.psci_shared.specs.Places.{has_place, places}
-use Rattle.psci_shared.proofs.agreement.has_place.Given as goal
-
-abbrev pub invariant-loop-item : goal.invariant-loop-item
-invariant-loop-item l =
-    has_place l.place (places (drop l.item-index l.items))
-    ≡ has_place l.place (places l.items)

@@ -1,0 +1,15 @@
+//! The start of a run that is over before all threads have looked.
+
+use psci_threads::BenchFault;
+use psci_traffic::Wire;
+use std::alloc::Global;
+
+/// Whether a thread starts that comes when the run is to end already, where so many workers are to
+/// come beside it. With none it is the last to come, and what the others had to do may be done.
+pub(crate) fn starts_after_the_end(alloc: Global, workers: u16) -> Result<bool, BenchFault> {
+    let Ok(wire) = Wire::new(alloc, workers) else {
+        return Err(BenchFault::Memory);
+    };
+    wire.give_up();
+    Ok(wire.starts_with_all())
+}

@@ -1,0 +1,25 @@
+/* The interrupt controller, of version 2 or 3. Secure interrupts (group 0, FIQs) are the monitor's:
+ * the bell, by which who has written into shared memory has another core look there, and the timer.
+ * In the normal world they trap to EL3, and in EL3 they end a WFI. All others are the normal world's. */
+#ifndef GIC_H
+#define GIC_H
+
+#include <stdbool.h>
+
+enum { BELL = 15, TIMER = 29 };
+/* Of the 32 interrupts that each core has for itself: all but SGIs 8 to 15 and the secure timer. */
+#define NORMAL_WORLD (~(0xff00u | 1u << TIMER))
+
+void gic_start(void);               /* once after a reset, by one core */
+void gic_start_core(unsigned core); /* by each core that comes out of reset */
+void gic_ring(unsigned core);
+
+/* What rang is answered, and rings no more: whether the timer of this core did. */
+bool gic_answer(void);
+
+/* An interrupt of the normal world is there for this core. */
+bool gic_wakes(void);
+
+/* None is there from now on, until the normal world turns its interface on again. */
+void gic_bell_alone(void);
+#endif

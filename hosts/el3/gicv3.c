@@ -1,0 +1,63 @@
+/* GICv3: a redistributor in memory for each core, and its interface in system registers. */
+#include "board.h"
+#include "gic.h"
+
+#define IAR0 "s3_0_c12_c8_0"
+#define EOIR0 "s3_0_c12_c8_1"
+#define SGI0R "s3_0_c12_c11_7"
+#define SRE_EL1 "s3_0_c12_c12_5"
+#define SRE_EL2 "s3_4_c12_c9_5"
+#define SRE_EL3 "s3_6_c12_c12_5"
+#define IGRPEN0 "s3_0_c12_c12_6"
+#define IGRPEN1_EL3 "s3_6_c12_c12_7"
+#define PMR "s3_0_c4_c6_0"
+
+void gic_start(void) {
+    mmio32(GICD) = 0x30; /* affinity routing in both worlds */
+    for (unsigned at = 1; at < 32; at++) {
+        mmio32(GICD + 0x80 + 4 * at) = ~0u; /* IGROUPR: shared interrupts are the normal world's */
+        mmio32(GICD + 0xd00 + 4 * at) = 0;  /* IGRPMODR */
+    }
+    mmio32(GICD) = 0x37;
+}
+
+void gic_start_core(unsigned core) {
+    uintptr_t mine = GICR + (uintptr_t)GICR_SIZE * core, private = mine + 0x10000;
+    mmio32(mine + 0x14) &= ~2u; /* WAKER: the core no longer sleeps */
+    while (mmio32(mine + 0x14) & 4) {
+    }
+    mmio32(private + 0x80) = NORMAL_WORLD;
+    mmio32(private + 0xd00) = 0;
+    mmio32(private + 0x100) = 1u << BELL | 1u << TIMER;
+    write_register(SRE_EL3, 15);
+    write_register(SRE_EL2, 15);
+    write_register(SRE_EL1, 7);
+    write_register(PMR, 0xff);
+    write_register(IGRPEN0, 1);
+    gic_bell_alone();
+}
+
+void gic_bell_alone(void) { write_register(IGRPEN1_EL3, 0); }
+
+void gic_ring(unsigned core) {
+    uint64_t mpidr = mpidr_of(core);
+    __asm__ volatile("dsb sy" ::: "memory");
+    write_register(SGI0R, (mpidr >> 8 & 0xff) << 16 | BELL << 24 | 1u << (mpidr & 15));
+}
+
+bool gic_answer(void) {
+    bool is_time = false;
+    uint64_t id;
+    while ((id = read_register(IAR0)) < 1020) {
+        if (id == TIMER) {
+            write_register("cntps_ctl_el1", 0);
+            is_time = true;
+        }
+        write_register(EOIR0, id);
+    }
+    __asm__ volatile("dsb sy" ::: "memory");
+    return is_time;
+}
+
+/* In EL3 an interrupt of the normal world is a FIQ, too. */
+bool gic_wakes(void) { return read_register("isr_el1") & 0xc0; }

@@ -1,0 +1,115 @@
+/* The lock, and the mailbox with its bell. */
+#include "console.h"
+#include "gic.h"
+#include "link.h"
+#include "record.h"
+#include "string.h"
+
+struct shared shared;
+struct psci_place firmware;
+static bool taken;
+
+void lock(void) {
+    while (__atomic_test_and_set(&taken, __ATOMIC_ACQUIRE)) {
+    }
+}
+
+void unlock(void) { __atomic_clear(&taken, __ATOMIC_RELEASE); }
+
+/* A bad link, for trials: of so many frames one is lost. */
+static bool is_lost(void) {
+#ifdef LOSE
+    static uint32_t many;
+    return __atomic_add_fetch(&many, 1, __ATOMIC_RELAXED) % LOSE == 0;
+#else
+    return false;
+#endif
+}
+
+bool put_frame(struct ring *ring, const uint8_t *frame) {
+    uint32_t end = ring->end;
+    if (is_lost() || end - LOAD(ring->first) == MOST_FRAMES) {
+        COUNT(dropped);
+        return false;
+    }
+    memcpy(ring->frames[end % MOST_FRAMES], frame, PSCI_FRAME_LEN);
+    STORE(ring->end, end + 1);
+    return true;
+}
+
+bool has_frame(const struct ring *ring) { return ring->first != LOAD(ring->end); }
+
+bool get_frame(struct ring *ring, uint8_t *frame) {
+    uint32_t first = ring->first;
+    if (!has_frame(ring))
+        return false;
+    memcpy(frame, ring->frames[first % MOST_FRAMES], PSCI_FRAME_LEN);
+    STORE(ring->first, first + 1);
+    return true;
+}
+
+/* How long after it was sent a message goes again: 20 milliseconds. */
+static uint64_t period(void) { return read_register("cntfrq_el0") / 50; }
+
+static void start_timer(void) {
+    write_register("cntps_tval_el1", period());
+    write_register("cntps_ctl_el1", 1);
+}
+
+void post(const struct psci_frame *message) {
+    if (!message->some)
+        return;
+    COUNT(messages);
+    put_frame(&shared.messages, message->bytes);
+    gic_ring(SCP);
+    start_timer();
+}
+
+/* Apart from the loop, which most calls find empty. */
+__attribute__((noinline)) static void take_ack(void) {
+    uint8_t frame[PSCI_FRAME_LEN];
+    get_frame(&shared.acks, frame);
+    uint32_t what = psci_take(&firmware, frame, PSCI_FRAME_LEN);
+    COUNT(acks);
+    record_take(frame, what);
+    if (what > PSCI_OLD) {
+        COUNT(refused);
+        say("# el3: an acknowledgement was refused: %u\n", what);
+    }
+}
+
+void take_acks(void) {
+    while (has_frame(&shared.acks))
+        take_ack();
+}
+
+static void send_again(void) {
+    static struct psci_frame before[CORES + 1];
+    static uint64_t last;
+    uint64_t now = read_register("cntpct_el0");
+    bool is_time = now - last >= period(), some = false;
+    for (unsigned number = 0; number <= CORES; number++) {
+        struct psci_frame frame;
+        psci_outstanding(&firmware, number, &frame);
+        if (is_time && frame.some && memcmp(&frame, &before[number], sizeof frame) == 0) {
+            COUNT(again);
+            put_frame(&shared.messages, frame.bytes);
+            gic_ring(SCP);
+        }
+        if (is_time)
+            before[number] = frame;
+        some = some || frame.some;
+    }
+    if (is_time)
+        last = now;
+    if (some)
+        start_timer();
+}
+
+void serve_link(bool is_time) {
+    lock();
+    take_acks();
+    if (is_time)
+        send_again();
+    unlock();
+}

@@ -1,0 +1,35 @@
+/* QEMU's machine `virt` with secure=on, virtualization=on, gic-version=2 or 3: what stands where. */
+#ifndef MACHINE_H
+#define MACHINE_H
+
+#define ROW (GIC * 8 - 8)      /* cores that differ in the lowest field of MPIDR alone: 8 or 16 */
+#define GICD 0x08000000
+#define GICC 0x08010000        /* version 2 */
+#define GICR 0x080a0000        /* version 3: so many bytes for each core */
+#define GICR_SIZE 0x20000
+#define UART 0x09040000        /* the secure PL011: QEMU's second -serial */
+#define PINS 0x090b0000        /* the secure PL061: pin 0 powers the machine off, pin 1 resets it */
+#define MEMORY 0x40000000      /* of the normal world */
+#define MEMORY_END 0x60000000
+#define KERNEL 0x40200000      /* where the boot core enters, */
+#define DEVICE_TREE 0x47000000 /* and what it gets in x0 */
+
+/* Memory that the normal world can't reach. A reset of the machine leaves what it holds. */
+#define SECURE_MEMORY 0x0e000000
+#define STACKS 0x0e200000
+#define STACK 0x4000           /* of each core */
+#define RECORD_START 0x0e400000
+#define RECORD_END 0x0f000000
+
+#ifndef __ASSEMBLER__
+#include <stdint.h>
+
+#define mmio32(address) (*(volatile uint32_t *)(uintptr_t)(address))
+#define read_register(name) \
+    ({ uint64_t it_; __asm__ volatile("mrs %0, " name : "=r"(it_)::"memory"); it_; })
+#define write_register(name, value) \
+    __asm__ volatile("msr " name ", %0\n isb" ::"r"((uint64_t)(value)) : "memory")
+
+static inline void wait_for_interrupt(void) { __asm__ volatile("dsb sy\n wfi" ::: "memory"); }
+#endif
+#endif

@@ -1,0 +1,194 @@
+/* The system control processor, on the core that the operating system is not shown: it carries out what
+ * the proved power controller decides. */
+#include "console.h"
+#include "gic.h"
+#include "link.h"
+#include "monitor.h"
+#include "record.h"
+#include "string.h"
+
+/* Of each core a Down that waits for its core's stop. */
+static struct psci_frame waiting[CORES];
+
+/* Of each core the last start in whose stop it was woken. */
+static uint64_t heard[CORES];
+
+static uint64_t present_start(unsigned core) {
+    return start_word(psci_ctl_life(&kept.controller), psci_ctl_starts(&kept.controller, core));
+}
+
+/* It does in its stop, and before its first start. */
+static bool stands_still(unsigned core) {
+    return LOAD(shared.doors[core].stopped) == shared.doors[core].opened;
+}
+
+/* What the power hardware does ------------------------------------------------------------------ */
+
+/* The core comes out of reset, and finds this start. */
+static void open_door(const struct psci_ctl_start *start) {
+    struct door *door = &shared.doors[start->core];
+    door->start = *start;
+    STORE(door->opened, start_word(start->life, start->number));
+    gic_ring(start->core);
+}
+
+/* A domain goes to its depth. QEMU's cores keep their power, so a switch that would cut a core which
+ * executes is counted. */
+static void switch_domain(const struct psci_ctl_domain *domain) {
+    for (unsigned core = 0; core < CORES; core++)
+        if (core / width_of(domain->level) == domain->index && !stands_still(core)) {
+            COUNT(cuts);
+            say("# el3: POWER CUT: core %u executes below domain %u of level %u\n", core,
+                domain->index, domain->level);
+        }
+}
+
+static void tell_tally(void) {
+    const struct tally *it = &kept.tally;
+    say("# calls handled %u, answered beside it %u, stops %u, entries %u, resumes %u, parks %u\n",
+        it->calls, it->beside, it->stops, it->entries, it->resumes, it->parks);
+    say("# messages %u, acknowledgements %u, wakes %u, Downs that waited %u, sent again %u, lost %u\n",
+        it->messages, it->acks, it->wakes, it->waited, it->again, it->dropped);
+    say("# refused %u, power cuts %u\n", it->refused, it->cuts);
+}
+
+/* The machine goes off or is reset, by a pin. */
+static _Noreturn void end_life(bool resets) {
+    unsigned pin = resets ? 1 : 0;
+    while (record_tell()) {
+    }
+    tell_tally();
+    STORE(kept.boot, WARM);
+    mmio32(PINS + 0x400) |= 1u << pin; /* DIR */
+    mmio32(PINS + (4u << pin)) = 0;
+    mmio32(PINS + (4u << pin)) = 1u << pin;
+    for (;;)
+        wait_for_interrupt();
+}
+
+/* An acknowledgement goes back, and a core that executes is rung. Where none does, the next one that
+ * enters takes it. */
+static void acknowledge(const struct psci_frame *ack) {
+    if (!ack->some)
+        return;
+    put_frame(&shared.acks, ack->bytes);
+    for (unsigned core = 0; core < CORES; core++)
+        if (!stands_still(core)) {
+            gic_ring(core);
+            return;
+        }
+}
+
+/* The domains of an answer, before anything of it is seen. */
+static void switch_power(const struct psci_ctl_answer *answer) {
+    for (unsigned k = 0; k < answer->many; k++)
+        switch_domain(&answer->domains[k]);
+    if (answer->what >= PSCI_CTL_NO_PLACE) {
+        COUNT(refused);
+        say("# el3: the power controller refused: %u\n", answer->what);
+    }
+}
+
+/* And then: the acknowledgement goes back, a core is started, or the life ends. */
+static void obey(const struct psci_ctl_answer *answer) {
+    acknowledge(&answer->ack);
+    if (answer->what == PSCI_CTL_START)
+        open_door(&answer->start);
+    if (answer->what == PSCI_CTL_OFF || answer->what == PSCI_CTL_RESTART)
+        end_life(answer->what == PSCI_CTL_RESTART);
+}
+
+/* What comes to it --------------------------------------------------------------------------- */
+
+static bool ends_the_life(const uint8_t *frame) {
+    return frame[2] == PSCI_OFF || frame[2] == PSCI_RESET_SYSTEM;
+}
+
+/* Off and Reset are carried out with the lock in hand: no core is inside a call then, nor makes one. */
+static void deliver(const uint8_t *frame) {
+    struct psci_ctl_answer answer;
+    bool ends = ends_the_life(frame);
+    if (ends)
+        lock();
+    psci_ctl_deliver(&kept.controller, frame, PSCI_FRAME_LEN, &answer);
+    switch_power(&answer);
+    record_deliver(frame, &answer);
+    obey(&answer);
+    if (ends)
+        unlock();
+}
+
+static uint32_t number_at(const uint8_t *bytes) {
+    return (uint32_t)bytes[0] << 24 | bytes[1] << 16 | bytes[2] << 8 | bytes[3];
+}
+
+/* The rule that a Down waits: one of its core's present start is delivered only once the core stands in
+ * its stop of that start. One of an earlier start is stale, and goes at once, as all else does. */
+static bool has_to_wait(const uint8_t *frame) {
+    unsigned core = frame[3];
+    return frame[2] == PSCI_DOWN && core < CORES && !stands_still(core)
+        && start_word(number_at(frame + 4), number_at(frame + 8)) == present_start(core);
+}
+
+static bool serve_message(void) {
+    struct psci_frame frame = {.some = true};
+    if (!get_frame(&shared.messages, frame.bytes))
+        return false;
+    if (has_to_wait(frame.bytes)) {
+        COUNT(waited);
+        waiting[frame.bytes[3]] = frame;
+    } else {
+        deliver(frame.bytes);
+    }
+    return true;
+}
+
+static bool serve_waiting(void) {
+    for (unsigned core = 0; core < CORES; core++)
+        if (waiting[core].some && !has_to_wait(waiting[core].bytes)) {
+            waiting[core].some = false;
+            deliver(waiting[core].bytes);
+            return true;
+        }
+    return false;
+}
+
+/* An interrupt waits for the core in its stop of this start, of which nothing was heard before. */
+static bool is_woken(unsigned core) {
+    const struct door *door = &shared.doors[core];
+    return door->opened && stands_still(core) && LOAD(door->woken) == door->opened
+        && heard[core] != door->opened;
+}
+
+static void wake(unsigned core) {
+    struct psci_ctl_answer answer;
+    uint32_t halted = shared.doors[core].start.number;
+    heard[core] = shared.doors[core].opened;
+    psci_ctl_wake(&kept.controller, core, halted, &answer);
+    COUNT(wakes);
+    switch_power(&answer);
+    record_wake(core, halted, &answer);
+    obey(&answer);
+}
+
+static bool serve_wake(void) {
+    for (unsigned core = 0; core < CORES; core++)
+        if (is_woken(core)) {
+            wake(core);
+            return true;
+        }
+    return false;
+}
+
+/* As a life begins, the boot core finds its start. */
+void control_power(void) {
+    struct psci_ctl_start start;
+    psci_ctl_started(&kept.controller, 0, &start);
+    open_door(&start);
+    for (;;) {
+        gic_answer();
+        while (serve_message() || serve_waiting() || serve_wake() || record_tell()) {
+        }
+        wait_for_interrupt();
+    }
+}

@@ -1,0 +1,56 @@
+/* What the cores and the system control processor share, in secure memory. */
+#ifndef SHARED_H
+#define SHARED_H
+
+#include "board.h"
+#include "psci_ctl.h"
+
+#define LOAD(place) __atomic_load_n(&(place), __ATOMIC_SEQ_CST)
+#define STORE(place, value) __atomic_store_n(&(place), value, __ATOMIC_SEQ_CST)
+
+/* A start of a core, in one word; 0 is none. */
+static inline uint64_t start_word(uint32_t life, uint32_t number) {
+    return (uint64_t)life << 32 | number;
+}
+
+/* A core and the power controller. Each word has one writer. */
+struct door {
+    struct psci_ctl_start start; /* the controller: the core's last start, and then */
+    uint64_t opened;             /* that it is to enter by this one */
+    uint64_t stopped;            /* the core, last of all: it stands in its stop of this start */
+    uint64_t woken;              /* the core: an interrupt is there for it, in its stop of this start */
+};
+
+/* Frames in the order in which they were made, of one writer (the holder of the lock, or the system
+ * control processor) and one reader. One that is full drops what comes. */
+enum { MOST_FRAMES = 256 };
+struct ring {
+    uint8_t frames[MOST_FRAMES][PSCI_FRAME_LEN];
+    uint32_t first, end;
+};
+
+struct shared {
+    struct door doors[CORES];
+    struct ring messages, acks;
+};
+extern struct shared shared;
+
+/* How often what happened. */
+struct tally {
+    uint32_t calls, beside, stops, entries, resumes, parks, messages, acks, waited, again, dropped;
+    uint32_t wakes, cuts, refused;
+};
+
+/* What a reset of the machine leaves: the power controller counts lives on. */
+struct kept {
+    uint32_t boot; /* 0 as the power comes on, WARM as a reset begins, READY once core 0 is through */
+    struct psci_ctl_place controller;
+    struct tally tally;
+};
+enum { READY = 0x52454459, WARM = 0x5741524d };
+extern struct kept kept;
+
+/* Of a tally, which several cores may count at once. */
+#define COUNT(what) ((void)__atomic_fetch_add(&kept.tally.what, 1, __ATOMIC_RELAXED))
+
+#endif

@@ -1,0 +1,47 @@
+/* What core 0 does after each reset of the machine. A core may have been anywhere: the firmware is made
+ * anew. The power controller is made once, as the power comes on, and counts lives on. */
+#include "console.h"
+#include "gic.h"
+#include "link.h"
+#include "monitor.h"
+#include "pool.h"
+#include "record.h"
+#include "string.h"
+
+extern char data_start[], data_end[], data_load[], bss_start[], bss_end[], kept_start[], kept_end[];
+
+struct kept kept __attribute__((section(".kept")));
+
+/* The heaps, which the library asks as it opens and at no other time. */
+enum { HEAP = 4096 + 1792 * CORES + 32 * CORES * CORES };
+static unsigned char heap[HEAP] __attribute__((aligned(16)));
+static unsigned char kept_heap[HEAP] __attribute__((aligned(16), section(".kept")));
+
+static void check(const char *what, uint32_t opened) {
+    if (opened == PSCI_OPENED)
+        return;
+    say("# el3: %s did not open: %u\n", what, opened);
+    for (;;)
+        wait_for_interrupt();
+}
+
+static void open_controller(void) {
+    memset(kept_start, 0, kept_end - kept_start);
+    pool_give(kept_heap, sizeof kept_heap);
+    check("the power controller", psci_ctl_open_board(&kept.controller, &board));
+    say("# el3: heap of the power controller: %u\n", (unsigned)pool_taken());
+    record_board();
+}
+
+void start_machine(void) {
+    bool is_warm = kept.boot == WARM;
+    memcpy(data_start, data_load, data_end - data_start);
+    memset(bss_start, 0, bss_end - bss_start);
+    if (!is_warm)
+        open_controller();
+    pool_give(heap, sizeof heap);
+    check("the firmware", psci_open_board(&firmware, &board));
+    if (!is_warm)
+        say("# el3: heap of the firmware: %u of %u\n", (unsigned)pool_taken(), HEAP);
+    gic_start();
+}

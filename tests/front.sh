@@ -1,0 +1,265 @@
+# Tests of ./psci beside the program, sourced by ../test: which program it runs, what it says at once, how
+# it tells faults, and its own commands.
+
+# the name that was typed stands in help and in what is said of a faulty command line
+typed_name() {
+    ./psci --help > "$work/out" 2> "$work/err"
+    echo $? > "$work/got"
+    expect "./psci --help" 0
+    ./psci storm --seed 1 > "$work/all" 2>&1
+    ./psci storm --seeds 1..2 >> "$work/all" 2>&1
+    grep -h '^Usage: ' "$work/out" "$work/all" > "$work/usage"
+    cat > "$work/lines" << 'END'
+Usage: psci <COMMAND>
+Usage: psci storm --seed <seed> --count <count>
+Usage: psci storm --seed <seed> --count <count>
+END
+    for word in "storm --seeds" show draw try plain prove; do
+        if grep -q "^  $word " "$work/out"; then pass; else fail "./psci --help without $word"; fi
+    done
+    mv "$work/usage" "$work/out"
+    answers "the name in usages"
+}
+
+# front_of FOLDER WORD..: runs a faulty script by the command ./psci of this folder
+front_of() {
+    local at=$1 lines=tests/scripts/lines/event-of-no-form
+    shift
+    (cd "$at" && ./psci "$@") < "$lines.psci" > "$work/out" 2> "$work/err"
+    echo $? > "$work/got"
+    cp "$lines.out" "$work/lines"
+}
+
+# a folder with ./psci and what that reads, and the sources of each crate
+fresh_copy() {
+    local name
+    for name in crates/*/{src,specs,proofs}; do
+        [ -d "$name" ] || continue
+        mkdir -p "$1/${name%/*}"
+        cp -r "$name" "$1/${name%/*}"
+    done
+    mkdir -p "$1/docs" "$1/tests"
+    cp psci crates.txt HANDLES "$1"
+    cp -r tools "$1"
+    cp docs/FORMATS.md "$1/docs"
+    cp -r tests/texts "$1/tests"
+    git init -q "$1"
+}
+
+# ./psci hands words, streams and status on. Where no program is proved, or by --unproved, it does the
+# same, and first says what that is worth; what it compiled for that, it does not compile again.
+front() {
+    local fault unproved compiled begun fresh=$work/fresh
+    has_python ./psci || return 0
+    fault=$(cat tests/scripts/lines/event-of-no-form.err)$'\n'$(cat tests/texts/event-of-no-form.told)
+    unproved="psci: nothing of this run is proved; ./psci prove proves and builds the program"
+    compiled="psci: compiling it, which takes about half a minute and is kept for the next run"
+    front_of . replay
+    expect "./psci replay" 3 "$fault"
+    answers "./psci replay"
+    fresh_copy "$fresh"
+    export XDG_CACHE_HOME=$work/cache
+    front_of "$fresh" replay
+    expect "./psci replay without a proved program" 3 "$unproved"$'\n'"$compiled"$'\n'"$fault"
+    answers "./psci replay without a proved program"
+    begun=$(processor_time)
+    front_of . --unproved replay
+    expect "./psci --unproved replay, the second time" 3 "$unproved"$'\n'"$fault"
+    answers "./psci --unproved replay, the second time"
+    [ $(($(processor_time) - begun)) -le 500 ] || fail "the second unproved run took more than 5 seconds"
+    touch "$fresh/crates/psci_replay/src/main.rt"
+    front_of "$fresh" replay
+    expect "./psci replay of the same sources" 3 "$unproved"$'\n'"$fault"
+    echo "// Nothing." >> "$fresh/crates/psci_replay/src/main.rt"
+    front_of "$fresh" replay
+    expect "./psci replay of other sources" 3 "$unproved"$'\n'"$compiled"$'\n'"$fault"
+    unset XDG_CACHE_HOME
+    whole_unproved
+}
+
+# the whole program is compiled once for every command, and answers as the proved one does
+whole_unproved() {
+    local words
+    export XDG_CACHE_HOME=$work/cache
+    ./psci --unproved storm --seed 1 --count 300 --keep "$work/kept" > "$work/out" 2> "$work/err"
+    "$program" storm --seed 1 --count 300 > "$work/lines"
+    answers "./psci --unproved storm"
+    "$program" replay < "$work/kept" > "$work/lines"
+    for words in "replay $work/kept" "--unproved replay $work/kept"; do
+        # shellcheck disable=SC2086
+        ./psci $words > "$work/out" 2> "$work/err"
+        answers "./psci $words"
+    done
+    unset XDG_CACHE_HOME
+    if grep -q compiling "$work/err"; then fail "the program of replay is compiled beside the whole one"; fi
+}
+
+# Without the whole program ./psci replays by the one that only replays, while no source of a crate
+# below it is newer. Here another command stands for it, and one that fails for the kit's.
+replaying() {
+    local fresh=$work/replaying name at=crates/psci_replay/out
+    has_python ./psci || return 0
+    for name in crates/*/src; do
+        mkdir -p "$fresh/$name"
+        echo "//! Nothing." > "$fresh/$name/lib.rt"
+    done
+    cp psci crates.txt "$fresh"
+    cp -r tools "$fresh"
+    mkdir -p "$fresh/$at" "$fresh/kit/bin"
+    printf '#!/bin/sh\nexit 1\n' > "$fresh/kit/bin/rt"
+    echo "no kit" > "$fresh/kit/KIT-ID"
+    chmod +x "$fresh/kit/bin/rt"
+    printf '#!/bin/sh\necho replayed\n' > "$fresh/$at/psci_replay"
+    chmod +x "$fresh/$at/psci_replay"
+    touch -d "1 minute" "$fresh/crates/psci_storm/src/lib.rt"
+    front_of "$fresh" replay
+    echo replayed > "$work/lines"
+    expect "./psci replay by the program that only replays" 0
+    answers "./psci replay by the program that only replays"
+    touch -d "1 minute" "$fresh/crates/psci_present/src/lib.rt"
+    PATH=$fresh/kit/bin:$PATH front_of "$fresh" replay
+    if head -n 1 "$work/err" | grep -q "^psci: nothing of this run is proved"; then pass; else
+        fail "./psci replay by a program that is older than a source: $(head -n 1 "$work/err")"
+    fi
+}
+
+# processor_time: what all that this script ran has taken so far, in hundredths of a second
+processor_time() { awk '{ sub(/.*\) /, ""); print $14 + $15 }' "/proc/$$/stat"; }
+
+# what is said at once, without a program, is what the program says; and it is said at once
+wording() {
+    local word begun
+    by_python wording
+    begun=$(processor_time)
+    for word in --help "help show" stom "storm --sead 1" drwa "help draw" "prove --help" --version; do
+        # shellcheck disable=SC2086
+        PATH=$(dirname "$(type -P python3)"):/usr/bin:/bin ./psci --unproved $word > "$work/out" 2> "$work/err"
+        if [ -s "$work/out" ] || [ -s "$work/err" ]; then pass; else fail "./psci $word says nothing"; fi
+        if grep -q "nothing of this run" "$work/err"; then fail "./psci $word runs the program"; fi
+    done
+    [ $(($(processor_time) - begun)) -le 800 ] || fail "help and wrong words take more than a second each"
+    if ./psci help show | grep -q -- --changes && ./psci show --help | grep -q -- --changes; then pass; else
+        fail "./psci help show without the options of views"
+    fi
+    ./psci --version > "$work/out"
+    echo "psci 0.1.0" > "$work/lines"
+    answers "./psci --version"
+}
+
+# faults in words, and scripts by name
+by_names() {
+    by_python faults-told
+    by_python scripts-by-name
+}
+
+# scripts by name of a file, a link to ./psci, and streams that are closed or full
+files_and_streams() {
+    local words
+    has_python ./psci || return 0
+    cp examples/start-second-core.out "$work/lines"
+    ./psci replay examples/start-second-core.psci > "$work/out" 2> "$work/err"
+    echo $? > "$work/got"
+    expect "./psci replay FILE" 0
+    answers "./psci replay FILE"
+    mkdir -p "$work/path"
+    ln -sf "$top/psci" "$work/path/psci"
+    (cd / && PATH=$work/path:$PATH psci replay "$top/examples/start-second-core.psci") > "$work/out" 2> "$work/err"
+    answers "psci by a link in PATH"
+    (sleep 1; cat examples/start-second-core.psci) | ./psci replay > "$work/out" 2> "$work/err"
+    answers "./psci replay of a slow pipe"
+    : > "$work/empty"
+    ./psci show "$work/empty" > "$work/out" 2> "$work/err"
+    echo $? > "$work/got"
+    if [ "$(cat "$work/got")" = 3 ] && grep -q "line 1 has to be the board" "$work/err"; then pass; else
+        fail "./psci show of an empty script"
+    fi
+    ./psci replay "$work/none" > "$work/out" 2> "$work/err"
+    echo $? > "$work/got"
+    expect "./psci replay of no file" 4 "psci: cannot read $work/none: No such file or directory"
+    ./psci storm --seed 1 --count 1 --keep "$work/none/kept" > "$work/out" 2> "$work/err"
+    echo $? > "$work/got"
+    expect "./psci storm --keep in no folder" 4 \
+        "write fault"$'\n'"psci: --keep $work/none/kept: No such file or directory"
+    for words in "draw examples/late-acknowledgement.psci" "draw --page examples/late-acknowledgement.psci" \
+        "storm --seeds 1..3 --count 5" "show --changes examples/late-acknowledgement.psci" --help \
+        "replay examples/late-acknowledgement.psci"; do
+        # shellcheck disable=SC2086
+        ./psci $words 2> "$work/err" >&-
+        echo $? > "$work/got"
+        closed_or_full "./psci $words, closed"
+        has_full "./psci $words, full" || continue
+        # shellcheck disable=SC2086
+        ./psci $words 2> "$work/err" > /dev/full
+        echo $? > "$work/got"
+        closed_or_full "./psci $words, full"
+    done
+}
+
+# closed_or_full NAME: a write fault was told, in one line
+closed_or_full() {
+    if [ "$(cat "$work/got")" = 4 ] && grep -qxE "(psci [a-z]+: )?write fault" "$work/err" &&
+        [ "$(wc -l < "$work/err")" = 1 ]; then pass; else
+        fail "$1 (status $(cat "$work/got")): $(head -n 1 "$work/err")"
+    fi
+}
+
+# boards whose line in a script would be too long: the longest that is kept is replayed
+long_boards() {
+    local range=0x0000000000000000-0x0000000000001000 limits board
+    has_python ./psci || return 0
+    limits="exec $range $range $range $range boot 0x0000000000000000 starts 4294967295 lives 65535"
+    board="(16 16 16 16 16 16 1 1 1 1 1 1 1 1 1 1) $limits"
+    ./psci storm --seed 1 --count 5 --board "$board" --keep "$work/kept" > "$work/out" 2> "$work/err"
+    ./psci replay "$work/kept" > "$work/out" 2> "$work/err"
+    echo $? > "$work/got"
+    expect "a kept storm on a board of ${#board} bytes" 0
+    ./psci storm --seed 1 --count 5 --board "${board/ 1 / 16 }" --keep "$work/kept" > "$work/out" 2> "$work/err"
+    echo $? > "$work/got"
+    expect "a kept storm on a board of $((${#board} + 1)) bytes" 2 \
+        "psci: --keep: the board's text has $((${#board} + 1)) bytes, and a line of a script takes a board of 250"
+    [ "${#board}" = 250 ] || fail "the longest board of the test has ${#board} bytes"
+}
+
+has_parallel() { command -v parallel > /dev/null || { skip "$1" parallel; false; }; }
+
+# storms of several seeds: each has its line, in order, also where two jobs make them side by side;
+# known lines, by which no part of a seed or of the count is cut
+many_storms() {
+    local seed
+    : > "$work/lines"
+    for seed in 8 9 10 11; do
+        run storm --seed "$seed" --count 300
+        echo "seed $seed $(cat "$work/out")" >> "$work/lines"
+    done
+    ./psci storm --seeds 8..11 --count 300 > "$work/out" 2> "$work/err"
+    echo $? > "$work/got"
+    expect "storms of four seeds" 0
+    answers "storms of four seeds"
+    seq 8 11 | xargs -P 2 -I{} sh -c 'echo seed {} "$("$0" storm --seed {} --count 300)"' "$program" |
+        sort -n -k 2 > "$work/out" 2> "$work/err"
+    answers "storms by two jobs"
+    if has_parallel "storms by two processors"; then
+        seq 8 11 | parallel --will-cite -k -j 2 \
+            echo seed {} '$('"$program"' storm --seed {} --count 300)' > "$work/out" 2> "$work/err"
+        answers "storms by two processors"
+    fi
+    for words in "--seeds 1" "--seeds 2..1" "--seeds 1..x" "--seeds" "--seeds 1..2 --keep f" "--seeds 1..2 --seed 1"; do
+        # shellcheck disable=SC2086
+        ./psci storm --count 1 $words > "$work/out" 2> "$work/err"
+        if [ $? = 2 ] && [ ! -s "$work/out" ] && [ -s "$work/err" ]; then pass; else fail "./psci storm $words"; fi
+    done
+    # known lines: the second model has answered the kept scripts with as many events and messages
+    cat > "$work/known" << 'END'
+1 storm events 10008 sent 497 quiet 2
+2 storm events 10002 sent 768 quiet 1
+36 storm events 10000 sent 437 halting
+4294967297 storm events 10002 sent 787 quiet 1
+18446744073709551615 storm events 10003 sent 583 quiet 1
+END
+    while read -r seed words; do
+        run storm --seed "$seed" --count 10000
+        echo "$words" > "$work/lines"
+        answers "the storm of seed $seed"
+    done < "$work/known"
+}
+

@@ -1,0 +1,73 @@
+# Tests of the archive that tools/release makes, sourced by ../test: what is in it, by its sums, and that
+# its program runs where nothing else is.
+
+release() {
+    local top_of name folder=$work/release
+    has_python tools/release || return 0
+    mkdir -p "$folder/room"
+    # it refuses archives that are not there, or older than a source
+    tools/release --into "$folder" > "$work/out" 2>&1 || for name in x86_64 aarch64; do
+        ./psci prove lib --target "$name" < /dev/null > "$work/lib" 2>&1
+    done
+    if ! tools/release --into "$folder" > "$work/out" 2>&1; then
+        fail "tools/release: $(tail -n 1 "$work/out")"
+        return
+    fi
+    cp "$folder"/*.tar.gz "$work/first.tar.gz"
+    tools/release --into "$folder" > "$work/out" 2>&1
+    if cmp -s "$work/first.tar.gz" "$folder"/*.tar.gz; then pass; else fail "two archives of the same files differ"; fi
+    if (cd "$folder" && sha256sum -c --quiet ./*.sha256) > "$work/none" 2>&1; then pass; else fail "the sum of the archive"; fi
+    tar -C "$folder/room" -xzf "$folder"/*.tar.gz
+    top_of=$(echo "$folder"/room/*)
+    (cd "$top_of" && sha256sum -c --quiet SHA256SUMS) > "$work/out" 2>&1 || fail "the sums in the archive"
+    (cd "$top_of" && find . -type f ! -name SHA256SUMS ! -path './licenses/*' | sed 's|^\./||' | LC_ALL=C sort) > "$work/out"
+    {
+        printf '%s\n' LICENSE README bin/psci lib/x86_64/libpsci_ffi.a lib/aarch64/libpsci_ffi{,-strict-align}.a \
+            share/man/man1/psci.1 share/bash-completion/completions/psci
+        for name in include/*.h; do echo "$name"; done
+    } | LC_ALL=C sort > "$work/lines"
+    answers "the files of the archive"
+    for name in clap itoa memchr; do
+        if [ -n "$(find "$top_of/licenses/$name" -type f)" ]; then pass; else fail "the license of $name is not there"; fi
+    done
+    in_an_empty_folder "$top_of"
+    library_of_the_archive "$top_of"
+}
+
+# in_an_empty_folder ARCHIVE: the program answers where there is nothing but it, and the loader and the C
+# library that it names
+in_an_empty_folder() {
+    local root=$work/root file name
+    mkdir -p "$root"
+    cp "$1/bin/psci" "$root/psci"
+    ldd "$1/bin/psci" | grep -oE '/[^ ]+' > "$work/needed"
+    while read -r file; do
+        mkdir -p "$root${file%/*}"
+        cp -L "$file" "$root$file"
+    done < "$work/needed"
+    (unshare -r true) 2> "$work/none" || [ "$(id -u)" = 0 ] || { skip "the program in an empty folder" unshare; return; }
+    for name in start-second-core late-acknowledgement; do
+        if [ "$(id -u)" = 0 ]; then
+            chroot "$root" /psci replay < "examples/$name.psci" > "$work/out" 2> "$work/err"
+        else
+            unshare -r chroot "$root" /psci replay < "examples/$name.psci" > "$work/out" 2> "$work/err"
+        fi
+        echo $? > "$work/got"
+        cp "examples/$name.out" "$work/lines"
+        expect "the program of the archive in an empty folder" 0
+        answers "the program of the archive in an empty folder"
+    done
+    if grep -qvE '/(ld-linux-x86-64|libc|libm|libgcc_s)\.so' "$work/needed"; then
+        fail "the program needs more than the C library: $(tr '\n' ' ' < "$work/needed")"
+    fi
+}
+
+# library_of_the_archive ARCHIVE: a host of this machine is built of what is in it
+library_of_the_archive() {
+    [ -n "$(type -P cc)" ] || { skip "a host of the archive" cc; return; }
+    cp examples/lost-message.out "$work/lines"
+    : > "$work/out"
+    cc -O2 -pthread -I"$1/include" -Ihosts -o "$work/host" hosts/loop.c hosts/pool.c "$1/lib/x86_64/libpsci_ffi.a" \
+        2> "$work/err" && "$work/host" examples/lost-message.psci > "$work/out"
+    answers "a host of the archive"
+}

@@ -1,0 +1,208 @@
+"""The record of a port's run (docs/RECORD.md): its script, and what the port answered to each event."""
+import re
+from collections import namedtuple
+
+FRAME_LEN = 53
+KINDS = {1: "down", 2: "start", 3: "off", 4: "reset"}
+ACKS = {kind | said: (kind, said) for kind in KINDS for said in (0x10, 0x20)}
+BOOT, ON, WAKE, RESET = range(4)
+# CPU_ON, AFFINITY_INFO and NODE_HW_STATE
+TARGETS = (0x84000003, 0xC4000003, 0x84000004, 0xC4000004, 0x8400000D, 0xC400000D)
+NOBODY = 2**64 - 1
+
+DEC, HEX = r"(0|[1-9]\d{0,9})", r"(0x[0-9a-f]{1,16})"
+FRAME = rf"((?:[0-9a-f]{{2}}){{1,{FRAME_LEN}}})"
+ANSWER = (r"(return -?\d+|stop|enter 0x[0-9a-f]+ 0x[0-9a-f]+|resume|refused \d+)"
+          rf"(?: {FRAME})?")
+START = r"(started \d+|ignored|refused \d+)"
+LINES = {
+    "call": rf"call {DEC} {HEX} {HEX} {HEX} {HEX} -> {ANSWER}",
+    "enter": rf"enter {DEC} {DEC} {DEC} {DEC} -> {ANSWER}",
+    "take": rf"take {FRAME} -> (used|old|refused \d+)",
+    "deliver": rf"deliver {FRAME} -> (?:{FRAME}|(ignored|refused \d+))",
+    "stands": rf"stands {DEC} {DEC}",
+    "wake": rf"wake {DEC} {DEC} -> {START}",
+    "reset": rf"reset {DEC} -> {START}",
+}
+PATTERNS = {word: re.compile(pattern) for word, pattern in LINES.items()}
+
+# where it stands in the record, its line of the script, and what the port said
+Event = namedtuple("Event", "line text said")
+
+
+class Fault(Exception):
+    """A line that is no line of a record, or a record without a board."""
+
+
+class Impossible(Exception):
+    """What no run can have at this place, whatever was answered before."""
+
+
+def bytes_of(digits):
+    return bytes.fromhex(digits).ljust(FRAME_LEN, b"\0")
+
+
+def number(frame, at, size=4):
+    return int.from_bytes(frame[at:at + size], "big")
+
+
+def said_of(frame, index):
+    """A message as answer lines have it."""
+    if frame[2] not in KINDS:
+        return f"#{index} frame {frame.hex()}"
+    said = f"#{index} {KINDS[frame[2]]} {frame[3]} life {number(frame, 4)} number {number(frame, 8)}"
+    fields = [frame[at:at + 10] for at in range(13, 13 + 10 * min(frame[12], 4), 10)]
+    parts = [f" {it[0]}:{it[1]}:{number(it, 2, 8)}" for it in fields]
+    return said + " parts" * bool(parts) + "".join(parts)
+
+
+def affinities(tree):
+    """The affinity words of a board's cores, in their order."""
+    members = re.findall(r"\([^()]*\)|\d+", tree[1:-1] if tree[:1] == "(" else tree)
+    groups = [[int(it) for it in re.findall(r"\d+", member)] for member in members]
+    if "(" not in tree[1:]:
+        groups = [[size for group in groups for size in group]]
+    return [group << 16 | cluster << 8 | core for group, sizes in enumerate(groups)
+            for cluster, size in enumerate(sizes) for core in range(size)]
+
+
+class Record:
+    """The events of a record, in order, up to the first that no run can have."""
+
+    def __init__(self, lines):
+        self.board, self.words, self.events, self.impossible = None, None, [], None
+        self.sent, self.acks = {}, {}
+        self.many_sent = self.many_acks = 0
+        self.life, self.starts, self.found = 1, {0: 1}, {0: (1, 1, BOOT)}
+        # of each core the start in whose stop it stands, if the record tells of that
+        self.stops, self.tells_stops = {}, False
+        for at, line in enumerate(lines, 1):
+            line = line.rstrip("\r\n")
+            if line and line[0] != "#" and not self.read(at, line):
+                break
+        if self.board is None:
+            raise Fault("line 1: the record names no board")
+
+    def read(self, at, line):
+        """Whether the record goes on."""
+        word = line.partition(" ")[0]
+        if word in ("board", "mpidr", "tells"):
+            self.head(at, line)
+            return True
+        match = PATTERNS[word].fullmatch(line) if word in PATTERNS else None
+        if match is None or self.board is None:
+            raise Fault(f"line {at}: not a line of a record")
+        try:
+            text, said = getattr(self, word)(*match.groups())
+        except Impossible as why:
+            self.impossible = Event(at, line.partition(" -> ")[0], str(why))
+            return False
+        if text:
+            self.events.append(Event(at, text, said))
+        return True
+
+    def head(self, at, line):
+        if not self.events and self.board is None and line.startswith("board "):
+            self.board = line
+        elif not self.events and self.board is not None and line == "tells stands":
+            self.tells_stops = True
+        elif not self.events and self.board is not None and re.fullmatch(f"mpidr( {HEX})+", line):
+            words = [int(it, 16) for it in line.split()[1:]]
+            cores = affinities(self.board.removeprefix("board ").partition(" exec")[0])
+            if len(words) != len(cores):
+                raise Fault(f"line {at}: not a line of a record")
+            self.words = dict(zip(words, cores))
+        else:
+            raise Fault(f"line {at}: not a line of a record")
+
+    # ---- the firmware
+
+    def outcome(self, answer, frame):
+        said = "resume 0" if answer == "resume" else answer
+        if frame:
+            message = bytes_of(frame)
+            said += " " + said_of(message, self.many_sent)
+            self.sent[message] = self.many_sent
+            self.many_sent += 1
+        return said
+
+    def call(self, core, x0, x1, x2, x3, answer, frame):
+        word = int(x0, 16) % 2**32
+        if self.words is not None and word in TARGETS:
+            target = int(x1, 16) % 2**(64 if word >> 30 & 1 else 32)
+            x1 = hex(self.words.get(target, NOBODY))
+        return f"call {core} {x0} {x1} {x2} {x3}", self.outcome(answer, frame)
+
+    def enter(self, core, life, start, cause, answer, frame):
+        by, found = (int(life), int(start), int(cause)), self.found.get(int(core))
+        if found and by != found:
+            raise Impossible("it entered by start {1} of life {0}, cause {2}; ".format(*by) +
+                             "its last one is start {1} of life {0}, cause {2}".format(*found))
+        return f"enter {core}", self.outcome(answer, frame)
+
+    def take(self, frame, said):
+        if bytes_of(frame) not in self.acks:
+            raise Impossible("no acknowledgement of these bytes was made before")
+        return f"take {self.acks[bytes_of(frame)]}", said
+
+    def stands(self, core, start):
+        self.stops[int(core)] = int(start)
+        return None, None
+
+    # ---- the power controller
+
+    def stops_in(self, core, start):
+        """Whether the core stands in its stop of this start, where that is the last one."""
+        return (not self.tells_stops or start != self.starts.get(core, 0)
+                or self.stops.get(core) == start)
+
+    def deliver(self, frame, ack, said):
+        message = bytes_of(frame)
+        if message not in self.sent:
+            raise Impossible("no message of these bytes was sent before")
+        if message[2] == 1 and number(message, 4) == self.life and not self.stops_in(
+                message[3], number(message, 8)):
+            raise Impossible(f"core {message[3]} was taken down before it stood in its stop")
+        return f"deliver {self.sent[message]}", said or self.acknowledged(message, bytes_of(ack))
+
+    def acknowledged(self, message, ack):
+        kind, said = ACKS.get(ack[2], (0, 0))
+        if kind != message[2] or ack[:2] + ack[3:12] != message[:2] + message[3:12] or any(ack[13:]):
+            raise Impossible("its acknowledgement is that of another message")
+        self.acks[ack] = self.many_acks
+        self.many_acks += 1
+        if kind == 2 and said == 0x10:
+            self.started(message[3], self.starts.get(message[3], 0) + 1, ON)
+        elif kind in (3, 4):
+            self.life, self.starts, self.stops = self.life + 1, {0: 1}, {}
+            self.found = {0: (self.life, 1, BOOT)}
+        return f"ack #{self.many_acks - 1} applied {ack[12]}" + " stale" * (said == 0x20)
+
+    def started(self, core, start, cause):
+        self.starts[core], self.found[core] = start, (self.life, start, cause)
+
+    def kicked(self, core, said, cause):
+        if said.startswith("started "):
+            self.started(int(core), int(said.split()[1]), cause)
+        return said
+
+    def wake(self, core, halted, said):
+        if not self.stops_in(int(core), int(halted)):
+            raise Impossible(f"core {core} was woken before it stood in its stop")
+        if int(halted) == self.starts.get(int(core), 0):
+            return f"wake {core}", self.kicked(core, said, WAKE)
+        if said != "ignored":
+            raise Impossible(f"it was started by a wake-up of start {halted}, which is not its last one")
+        return None, said
+
+    def reset(self, core, said):
+        return f"reset {core}", self.kicked(core, said, RESET)
+
+    # ---- what is made of it
+
+    def script(self, many=None):
+        events = self.events[:many]
+        return f"{self.board}\n" + "".join(f"{it.text}\n" for it in events)
+
+    def answers(self):
+        return [f"{at} {it.said}" for at, it in enumerate(self.events, 1)]
