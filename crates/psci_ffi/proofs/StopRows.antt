@@ -98,6 +98,27 @@ unfolding computing
 another-core p is was =
     both (λ b v. stop_sent (message_shown b v 0) 0xc4000001) p.firmware went-off is was
 
+-- core 3 was on alone in its cluster, and the core alone stands by
+abbrev stood-by : Values
+stood-by = values (boots 2 ∷ on 0 0x101 ∷ enters causes.On 3 2 4 ∷ asks 3 0xc4000001 1 ∷ [])
+
+standby-of-the-core : (p : PolledView) → p.firmware.board ≡ board → seen p.firmware ≡ stood-by
+    → stop_read (Some p) 3 0xc4000001 ≡ stop (1 ∷ 0 ∷ 0 ∷ 0 ∷ []) true
+unfolding computing
+standby-of-the-core p is was =
+    both (λ b v. stop_sent (message_shown b v 3) 0xc4000001) p.firmware stood-by is was
+
+-- in OS-initiated mode core 3 took its cluster down with it
+abbrev went-down : Values
+went-down = values (boots 2 ∷ asks 0 0x8400000f 1 ∷ on 0 0x101 ∷ enters causes.On 3 2 4
+    ∷ asks 3 0x84000001 0x1010033 ∷ [])
+
+down-with-its-cluster : (p : PolledView) → p.firmware.board ≡ board → seen p.firmware ≡ went-down
+    → stop_read (Some p) 3 0x84000001 ≡ stop (3 ∷ 3 ∷ 0 ∷ 0 ∷ []) true
+unfolding computing
+down-with-its-cluster p is was =
+    both (λ b v. stop_sent (message_shown b v 3) 0x84000001) p.firmware went-down is was
+
 abbrev ended : Values
 ended = values (boots 2 ∷ system_off 0 ∷ [])
 

@@ -55,10 +55,10 @@ enum Job<N: Named, M: Named> {
 /// travel is drawn from the seed, but the order of threads is the machine's, so runs differ.
 ///
 /// A book has room for four entries for each call, or for fewer where the lists of all passes would
-/// hold more than a hundred million: on a board of 64 cores for 1,538,461. A call that finds its
-/// book full is not entered. The thread that made it stops there and ends the run for all, and what
-/// was entered before is handed back. So a core may have made fewer calls than asked for, which its
-/// entries tell.
+/// hold more than a hundred million: that of 64 cores for 1,538,461 at most. What finds its book
+/// full is not entered. A core's thread to which that happens stops there and ends the run for all;
+/// the link drops the frame. What was entered is handed back, so a core may have made fewer calls
+/// than asked for, which its entries tell.
 ///
 /// The entries of each book tell a legal history of the board, and what each core's thread saw of a
 /// core by polls is that one of the core's statuses after the firmware's entries, by its serial.
