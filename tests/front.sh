@@ -176,6 +176,14 @@ files_and_streams() {
     ./psci replay "$work/none" > "$work/out" 2> "$work/err"
     echo $? > "$work/got"
     expect "./psci replay of no file" 4 "psci: cannot read $work/none: No such file or directory"
+    for words in replay show draw plain; do
+        ./psci "$words" "$work/path" > "$work/out" 2> "$work/err"
+        echo $? > "$work/got"
+        expect "./psci $words of a folder" 4 "psci: cannot read $work/path: Is a directory"
+        ./psci "$words" < "$work/path" > "$work/out" 2> "$work/err"
+        echo $? > "$work/got"
+        expect "./psci $words < a folder" 4 "psci: standard input is a folder, and no script"
+    done
     ./psci storm --seed 1 --count 1 --keep "$work/none/kept" > "$work/out" 2> "$work/err"
     echo $? > "$work/got"
     expect "./psci storm --keep in no folder" 4 \

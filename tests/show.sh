@@ -92,12 +92,12 @@ if sys.argv[2] != "-":
 with open(sys.argv[1], "w") as file:
     print(*commands.terminal_words(sys.argv[3:]), file=file)
 END
-    python3 -B "$work/asks" "$work/out" - --color auto --json > "$work/none"
+    python3 -B "$work/asks" "$work/out" - --color auto --json > /dev/null
     echo "--color never --json" > "$work/lines"
     answers "./psci show beside a terminal"
     [ -n "$(type -P script)" ] || { skip "./psci show on a terminal" script; return; }
     while IFS='|' read -r words wanted; do
-        command script -qec "python3 -B $work/asks $work/out $words" /dev/null < /dev/null > "$work/none"
+        command script -qec "python3 -B $work/asks $work/out $words" /dev/null < /dev/null > /dev/null
         echo "$wanted" > "$work/lines"
         answers "./psci show $words on a terminal"
     done << 'EOF'
@@ -180,7 +180,7 @@ completed() {
 EOF
     for option in $(options) $(view_options) --seeds --unproved --target --quick --script; do
         if grep -q -- "$option" completions/psci.bash &&
-            sed 's/\\-/-/g' docs/psci.1 | grep -- "$option" > "$work/none"; then pass; else
+            sed 's/\\-/-/g' docs/psci.1 | grep -- "$option" > /dev/null; then pass; else
             fail "$option is not in completions/psci.bash, or not in docs/psci.1"
         fi
     done

@@ -1,4 +1,5 @@
 """Runs the program on a script, and says in words which fault it named."""
+import errno
 import os
 import select
 import signal
@@ -68,6 +69,8 @@ def opened(path):
     if path == "-":
         return 0
     try:
+        if os.path.isdir(path):
+            raise IsADirectoryError(errno.EISDIR, os.strerror(errno.EISDIR))
         return os.open(path, os.O_RDONLY)
     except OSError as fault:
         raise Stopped(f"cannot read {path}: {fault.strerror}", 4) from fault

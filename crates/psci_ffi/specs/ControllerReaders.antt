@@ -23,6 +23,7 @@ life_read (Some c) = life_number (seen c).life
 abbrev pub starts_of : ControllerValue → ℕ → ℕ
 starts_of c core = if nat_lt core (cores c.board) then (seen c).starts core else 0
 
+-- the same of a place: none where it is empty
 abbrev pub starts_read : KeptController → ℕ → ℕ
 starts_read None core = 0
 starts_read (Some c) core = starts_of c core
@@ -31,6 +32,7 @@ starts_read (Some c) core = starts_of c core
 abbrev pub started_of : ControllerValue → ℕ → Option Start
 started_of c core = if nat_lt core (cores c.board) then last_start (seen c) core else None
 
+-- the same of a place: none where it is empty
 abbrev pub started_read : KeptController → ℕ → Option Start
 started_read None core = None
 started_read (Some c) core = started_of c core

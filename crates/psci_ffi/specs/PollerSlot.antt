@@ -9,16 +9,20 @@ use Rattle.std.specs.Global.{Global}
 use Rattle.std.specs.contracts.impls.GlobalAllocator.TheImpl.{ghosts}
 use Rattle.psci_ffi.specs.contracts.watch.Watch.{the_row}
 
+-- what a slot keeps: what one who polls reads the status words by, or nothing
 abbrev pub KeptWatch : Type 0
 KeptWatch = Option the_row.Denot
 
+-- at this address a slot owns a box of what is kept, and nothing where it is empty
 abbrev pub slot_owns : Global → Ptr → KeptWatch → Fml
 slot_owns alloc p None = ftrue
 slot_owns alloc p (Some x) = box_owns (ghosts.dealloc_token alloc) the_row p x
 
+-- how the logic codes what is kept
 abbrev pub kept_coded : Coded KeptWatch
 kept_coded = coded_option the_row.coded
 
+-- a slot is full
 abbrev pub IsFull : KeptWatch → Type 0
 IsFull None = ⊥
 IsFull (Some x) = Unit {0}

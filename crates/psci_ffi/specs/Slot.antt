@@ -9,16 +9,20 @@ use Rattle.std.specs.Global.{Global}
 use Rattle.std.specs.contracts.impls.GlobalAllocator.TheImpl.{ghosts}
 use Rattle.psci_ffi.specs.contracts.held.Held.{the_row}
 
+-- what a slot keeps: a firmware, or nothing
 abbrev pub Kept : Type 0
 Kept = Option the_row.Denot
 
+-- at this address a slot owns a box of what is kept, and nothing where it is empty
 abbrev pub slot_owns : Global → Ptr → Kept → Fml
 slot_owns alloc p None = ftrue
 slot_owns alloc p (Some x) = box_owns (ghosts.dealloc_token alloc) the_row p x
 
+-- how the logic codes what is kept
 abbrev pub kept_coded : Coded Kept
 kept_coded = coded_option the_row.coded
 
+-- a slot is full
 abbrev pub IsFull : Kept → Type 0
 IsFull None = ⊥
 IsFull (Some x) = Unit {0}

@@ -54,10 +54,11 @@ times place lists = sum_by (λ places. count_by (λ p. p == place) places) lists
 abbrev pub EachOnce : ℕ → List (List ℕ) → Type 0
 EachOnce number lists = (place : ℕ) → place < number → times place lists ≡ 1
 
--- the places of items, and of a pass
+-- the places of items
 abbrev pub places : List FwItem → List ℕ
 places is = map (λ i. i.place) is
 
+-- the places of the items of a pass
 abbrev pub places_of : PassView → List ℕ
 places_of p = places p.items
 

@@ -5,10 +5,11 @@ use Rattle.psci_shared_ctl.specs.declared.entry.CtlItem.{CtlItem}
 use Rattle.psci_shared_ctl.specs.Books.{BookView}
 use Rattle.psci_shared_ctl.specs.Passes.{PassView}
 
--- the places of items, and of a pass
+-- the places of items
 abbrev pub places : List CtlItem → List ℕ
 places is = map (λ i. i.place) is
 
+-- the places of the items of a pass
 abbrev pub places_of : PassView → List ℕ
 places_of p = places p.items
 

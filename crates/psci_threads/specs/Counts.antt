@@ -17,9 +17,11 @@ acts (asks.Smc regs) by core = by == core
 acts (asks.Enter start) by core = by == core
 acts (asks.Take ack) by core = false
 
+-- an entry of the book is a call of this core
 abbrev pub is_call_by : Core → FwEntry → Bool
 is_call_by core e = calls e.call e.core.number core.number
 
+-- an entry of the book is a call of this core, or this core entered by it
 abbrev pub is_by : Core → FwEntry → Bool
 is_by core e = acts e.call e.core.number core.number
 
