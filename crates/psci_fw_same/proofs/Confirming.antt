@@ -1,6 +1,6 @@
 -- What an acknowledgement confirms, exactly, and what NODE_HW_STATE says then.
 use Rattle.std.proofs.Common.{◌≡◌, ◌⊎◌, ℕ, zero, suc, ◌<◌, Bool, true, false, ◌&&◌, ◌==◌, cond}
-use Rattle.std.proofs.Common.{Option, None, Some, refl, ap, sym, ◌∙◌, subst, arith, inl, inr}
+use Rattle.std.proofs.Common.{Option, None, Some, refl, ap, sym, ◌∙◌, arith, inl, inr}
 use Rattle.std.specs.Prelude.{nat_lt, option_and_then, slice_get}
 use Rattle.std.specs.List.{sum_by}
 use Rattle.std.proofs.lemmas.Bool.{and_from, and_parts, eq-eqb, eqb-true, lt-ltb, ltb-true}
@@ -11,7 +11,7 @@ use Rattle.psci_messages.specs.declared.kind.Kind.{Kind}
 use Rattle.psci_messages.specs.declared.kind.Kind.TheVariants.{Down, Start, Off as GoesOff, Reset}
 use Rattle.psci_messages.specs.Message.{AckValue, MessageValue}
 use Rattle.psci_messages.specs.OnlyIf.{only_if}
-use Rattle.psci_messages.specs.Slots.{OfCore, is_kind, slot_of}
+use Rattle.psci_messages.specs.Slots.{is_kind, slot_of}
 use Rattle.psci_fw_spec.specs.Changes.{confirms_on, with_acknowledgement}
 use Rattle.psci_fw_spec.specs.Confirmed.{applied_part, is_made_at}
 use Rattle.psci_fw_spec.specs.NodeHwState.{hw_at, node_hw}

@@ -23,3 +23,5 @@ pub mod Twins
 pub mod Histories
 pub mod Refusing
 pub mod Confirming
+mod BesideRows
+mod CarriedOutRows

@@ -1,6 +1,6 @@
 -- Why an OS-initiated request is refused, exactly.
 use Rattle.std.proofs.Common.{◌≡◌, ℕ, zero, suc, ◌+◌, ◌-◌, ◌<◌, ◌≤◌, Bool, true, false, not, ◌==◌}
-use Rattle.std.proofs.Common.{cond, List, [], ◌∷◌, filter, length, None, Some, Ok, Err, refl, ap}
+use Rattle.std.proofs.Common.{cond, List, filter, length, None, Some, Ok, Err, refl, ap}
 use Rattle.std.proofs.Common.{sym, ◌∙◌, subst, arith, inl, inr}
 use Rattle.std.specs.Prelude.{nat_lt, slice_index}
 use Rattle.std.specs.List.{list_all, list_any, range_with_len}
@@ -128,9 +128,10 @@ module _ (b : BoardValue) (v : PowerView) (caller : ℕ) (ask : List ℕ) (paths
       let top : ℕ = up b (suc level) caller in
       let start : ℕ = first_child b (suc level) top in
       let under : suc level - 1 ≡ level = omega arith in
-      let one = any_one (is_beside v f level (up b level caller) (own_wish ask (suc level))) start
-      (children_at b (suc level) top)
-      (sym (shallow_at-any b v f caller ask (suc level) level under) ∙ e) in
+      let test : ℕ → Bool = is_beside v f level (up b level caller) (own_wish ask (suc level)) in
+      let found : list_any test (range_with_len start (children_at b (suc level) top)) ≡ true =
+      subst (λ t. t ≡ true) (shallow_at-any b v f caller ask (suc level) level under) e in
+      let one = any_one test start (children_at b (suc level) top) found in
       let i : ℕ = one.number in
       let tests = and_parts (not (i == up b level caller)) _ one.at in
       let rest = and_parts (nat_lt (v.granted level i) (own_wish ask (suc level))) _ tests.1 in
