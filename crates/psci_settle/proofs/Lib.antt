@@ -44,6 +44,7 @@ pub mod Resting
 -- All steps together; worked examples, and records that break each clause alone.
 pub mod Settled
 mod Failing
+mod AxisRows
 mod NameRows
 mod RestRows
 mod SettledRows
