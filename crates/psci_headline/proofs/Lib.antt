@@ -33,7 +33,10 @@ pub mod States
 pub mod StatesReal
 pub mod TakingUp
 pub mod ToldHw
+mod ToldHwAxisRows
 mod ToldHwRows
 pub mod ToldOff
+mod ToldOffAxisRows
 mod ToldOffRows
+pub mod ToldTest
 pub mod Waiting

@@ -1,14 +1,13 @@
--- Worked examples: power states of the extended format, moments that are not safe, and runs that
--- are.
-use Rattle.std.proofs.Common.{[], ◌∷◌, false, refl}
+-- Worked examples: boards of the extended format, moments that are not safe, and runs that are.
+use Rattle.std.proofs.Common.{[], ◌∷◌, pos, false, refl}
 use Rattle.psci_fw_laws.specs.psci_abi.psci_format.declared.format.Format.TheVariants.{Extended}
 use Rattle.psci_fw_laws.specs.psci_messages.declared.kind.Kind.TheVariants.{Down}
 use Rattle.psci_world_spec.specs.declared.event.Event.TheVariants.{Enter, Wake, Reset, Deliver}
 use Rattle.psci_world_spec.specs.declared.event.Event.TheVariants.{Take}
-use Rattle.psci_world_spec.proofs.Scripts.{acked, board, call, enters, off, on_3, part, retention}
-use Rattle.psci_world_spec.proofs.Scripts.{sends, stops}
-use Rattle.psci_safe.proofs.Checking.{◌⇒◌, Asked, Breaks, IsSafeRun, Legal, Once, Open, Real}
-use Rattle.psci_safe.proofs.Checking.{computing}
+use Rattle.psci_world_spec.proofs.Scripts.{acked, board, call, enters, nothing, off, on_3, part}
+use Rattle.psci_world_spec.proofs.Scripts.{resumes, retention, returns, sends, stops, version}
+use Rattle.psci_safe.proofs.Checking.{◌⇒◌, Asked, Breaks, IsSafeRun, Legal, Once, One, Open}
+use Rattle.psci_safe.proofs.Checking.{Powered, PoweredDown, Real, Stopped, computing}
 
 -- a core comes on, sleeps, wakes, goes off, is OFF and comes on again
 whole_run : IsSafeRun (record board { format = Extended })
@@ -23,6 +22,33 @@ cluster_down : IsSafeRun (record board { format = Extended })
     ∷ Take 1 ∷ Wake 3 ∷ Enter 3 ∷ [])
 unfolding computing
 cluster_down = refl
+
+-- a core that is powered down goes on without a start
+goes_on : Breaks (record board { format = Extended }) Powered
+    (Legal (Enter 0 ∷ on_3 ∷ Deliver 0 ∷ Enter 3 ∷ off 3 ∷ Deliver 1 ∷ []) ∷ Enter 3 ⇒ resumes
+    ∷ [])
+unfolding computing
+goes_on = refl
+
+-- a core that was woken is answered before it has entered
+off_core_runs : Breaks (record board { format = Extended }) Stopped
+    (Legal (Enter 0 ∷ Wake 3 ∷ []) ∷ version 3 ⇒ returns (pos 65537) nothing ∷ [])
+unfolding computing
+off_core_runs = refl
+
+-- a core that goes off is put in retention, and is OFF
+off_in_retention : Breaks (record board { format = Extended }) PoweredDown
+    (Legal (Enter 0 ∷ on_3 ∷ Deliver 0 ∷ Enter 3 ∷ []) ∷ off 3
+    ⇒ stops (sends 1 Down 3 1 1 (part 0 2 1 ∷ [])) ∷ Legal (Deliver 1 ∷ Take 1 ∷ []) ∷ [])
+unfolding computing
+off_in_retention = refl
+
+-- a core goes off twice in one start
+off_twice : Breaks (record board { format = Extended }) One
+    (Legal (Enter 0 ∷ on_3 ∷ Deliver 0 ∷ Enter 3 ∷ off 3 ∷ []) ∷ off 3
+    ⇒ stops (sends 2 Down 3 1 1 (part 0 3 1 ∷ [])) ∷ [])
+unfolding computing
+off_twice = refl
 
 -- a core asks for retention of its cluster, which is powered down
 cluster_deeper_than_asked : Breaks (record board { format = Extended }) Asked

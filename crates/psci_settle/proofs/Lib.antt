@@ -44,9 +44,10 @@ pub mod Resting
 -- All steps together; worked examples, and records that break each clause alone.
 pub mod Settled
 mod Failing
-mod AxisRows
+mod LivesRows
 mod NameRows
 mod RestRows
 mod SettledRows
+mod StartsRows
 mod SettleRows
 mod WaitingRows
