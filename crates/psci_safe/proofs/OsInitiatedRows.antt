@@ -80,6 +80,15 @@ system_deeper_than_the_claiming_core : Breaks tall Asked
 unfolding computing
 system_deeper_than_the_claiming_core = refl
 
+-- a core takes its group down, and then the boot core the system
+system_down_on_three_levels : IsSafeRun tall
+    (Enter 0 ∷ call 0 0x8400000f 1 0 0 ∷ call 0 0xc4000003 0x10100 0x40001000 7 ∷ Deliver 0
+    ∷ Enter 3 ∷ call 3 0xc4000001 0x02010333 0x40004000 2
+    ∷ call 0 0xc4000001 0x03013333 0x40000100 0 ∷ Deliver 1 ∷ Deliver 2 ∷ Take 1 ∷ Take 2 ∷ Wake 0
+    ∷ Enter 0 ∷ [])
+unfolding computing
+system_down_on_three_levels = refl
+
 -- another core of the group is in retention, and the group is powered down
 group_deeper_than_another_core : Breaks tall Asked
     (Legal (Enter 0 ∷ call 0 0x8400000f 1 0 0 ∷ call 0 0xc4000003 0x100 0x40001000 7 ∷ Deliver 0

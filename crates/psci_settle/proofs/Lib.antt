@@ -47,7 +47,10 @@ mod Failing
 mod LivesRows
 mod NameRows
 mod RestRows
+mod SettledFormatRows
+mod SettledLivesRows
 mod SettledRows
+mod SettledStartsRows
 mod StartsRows
 mod SettleRows
 mod WaitingRows

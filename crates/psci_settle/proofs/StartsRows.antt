@@ -9,7 +9,7 @@ use Rattle.psci_world_laws.specs.psci_world_spec.declared.event.Event.TheVariant
 use Rattle.psci_world_laws.specs.psci_world_spec.declared.event.Event.TheVariants.{Wake}
 use Rattle.psci_world_laws.proofs.world_spec.Scripts as scripts
 use Rattle.psci_world_laws.proofs.world_spec.Scripts.{acked, board, call, off, on_3, retention}
-use Rattle.psci_world_laws.proofs.world_spec.Scripts.{system_off}
+use Rattle.psci_world_laws.proofs.world_spec.Scripts.{system_off, tall}
 use Rattle.psci_settle.proofs.Failing.{◌⇒◌, Agree, Entered, IsUnrest, Legal, Own, System}
 use Rattle.psci_settle.proofs.Failing.{apart, failing, past_from, some_none}
 
@@ -132,6 +132,20 @@ boot_core_own_down : IsUnrest board
     ∷ [])) (Own 0)
 unfolding scripts.computing
 boot_core_own_down = record { only = refl; broken = λ r. some_none _ refl (r.own 0 (omega arith)) }
+
+-- on three levels: a core has gone off with its group
+group_gone_off : failing tall
+    (past_from tall [] (Legal (Enter 0 ∷ call 0 0xc4000003 0x10100 0x40001000 7 ∷ Deliver 0
+    ∷ Enter 3 ∷ off 3 ∷ Deliver 1 ∷ Take 1 ∷ []) ∷ [])) ≡ []
+unfolding scripts.computing
+group_gone_off = refl
+
+-- and the system is suspended
+system_suspended : failing tall
+    (past_from tall [] (Legal (Enter 0 ∷ call 0 0xc400000e 0x40000200 9 0 ∷ Deliver 0 ∷ Take 0
+    ∷ []) ∷ [])) ≡ []
+unfolding scripts.computing
+system_suspended = refl
 
 -- Extended format ---------------------------------------------------------------------------------
 
