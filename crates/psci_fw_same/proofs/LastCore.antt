@@ -31,7 +31,7 @@ any-map : {X : Type 0} (f : X → Bool) (h : ℕ → X) (ks : List ℕ)
 any-map f h [] = refl
 any-map f h (k ∷ ks) = ap (λ (r : Bool). f (h k) || r) (any-map f h ks)
 
-any-flat_map : {X : Type 0} (f : X → Bool) (h : ℕ → List X) (ks : List ℕ)
+pub any-flat_map : {X : Type 0} (f : X → Bool) (h : ℕ → List X) (ks : List ℕ)
     → list_any f (flat_map h ks) ≡ list_any (λ k. list_any f (h k)) ks
 any-flat_map f h [] = refl
 any-flat_map f h (k ∷ ks) =
@@ -39,19 +39,19 @@ any-flat_map f h (k ∷ ks) =
     ∙ (list_any-append f (h k) (flat_map h ks)
     ∙ ap (λ (r : Bool). list_any f (h k) || r) (any-flat_map f h ks))
 
-some-any : {X : Type 0} (xs : List X) → nat_lt 0 (length xs) ≡ list_any (λ x. true) xs
+pub some-any : {X : Type 0} (xs : List X) → nat_lt 0 (length xs) ≡ list_any (λ x. true) xs
 some-any [] = refl
 some-any (x ∷ xs) = lt-ltb 0 (suc (length xs)) (omega arith)
 
 -- Shallow domains -------------------------------------------------------------------------------
 
 -- whether the domain of this place is shallow, and passes a test
-abbrev is_beside : PowerView → (Node → Bool) → ℕ → ℕ → ℕ → ℕ → Bool
+abbrev pub is_beside : PowerView → (Node → Bool) → ℕ → ℕ → ℕ → ℕ → Bool
 is_beside w f level own depth k =
     not (k == own) && (nat_lt (w.granted level k) depth && f (record { level = level; place = k }))
 
 -- a test over the shallow domains of a level goes over all children
-shallow_at-any : (b : BoardValue) (w : PowerView) (f : Node → Bool) (c : ℕ) (ask : List ℕ)
+pub shallow_at-any : (b : BoardValue) (w : PowerView) (f : Node → Bool) (c : ℕ) (ask : List ℕ)
     (level under : ℕ) → level - 1 ≡ under
     → list_any f (shallow_at b w c ask level)
     ≡ list_any (is_beside w f under (up b under c) (own_wish ask level))

@@ -1,3 +1,5 @@
+pub mod Beside
+pub mod CarriedOut
 pub mod Renumbered
 pub use Rattle.psci_fw_spec.specs.psci_abi as psci_abi
 pub use Rattle.psci_board.specs as psci_board

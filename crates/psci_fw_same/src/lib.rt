@@ -1,5 +1,6 @@
-//! No core is special to the firmware: what it answers and keeps does not depend on which numbers
-//! the cores have.
+//! What the firmware's answers depend on, and on nothing else. No core is special to it: what it
+//! answers and keeps does not depend on which numbers the cores have. And it refuses and confirms
+//! exactly where it has to.
 //!
 //! - To *renumber* cores is to tell of each by another number, and of each domain by another place,
 //!   so that every domain above a core is told by its other place too. The board stays as it is.
@@ -8,6 +9,8 @@
 //!   names the core or domain of the other number.
 #![tactic(auto)]
 
+mod exactly;
 mod laws;
 
+pub use exactly::{law_confirmed_exactly, law_hw_exactly, law_refused_exactly};
 pub use laws::{law_no_core_is_special, law_renumberings};

@@ -25,12 +25,18 @@ pub mod OffIsDown
 pub mod Picked
 pub mod Quiet
 pub mod Records
+pub mod Returned
 pub mod Safety
 pub mod Slept
 pub mod Sound
 pub mod States
 pub mod StatesReal
 pub mod TakingUp
+pub mod ToldHw
+mod ToldHwAxisRows
+mod ToldHwRows
 pub mod ToldOff
+mod ToldOffAxisRows
 mod ToldOffRows
+pub mod ToldTest
 pub mod Waiting

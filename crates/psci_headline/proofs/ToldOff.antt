@@ -1,7 +1,7 @@
 -- What AFFINITY_INFO answers with OFF: each core of the domain is reported OFF.
 use Rattle.std.proofs.Common.{◌≡◌, ℕ, zero, suc, ◌+◌, ◌<◌, ◌≤◌, Bool, true, false, ◌==◌, ◌||◌, cond}
-use Rattle.std.proofs.Common.{List, ◌∷◌, ◌++◌, filter, Option, None, Some, refl, ap, sym, ◌∙◌}
-use Rattle.std.proofs.Common.{subst, arith, pos, inl, inr, not, option_map}
+use Rattle.std.proofs.Common.{List, ◌∷◌, filter, Option, None, Some, refl, ap, sym, ◌∙◌}
+use Rattle.std.proofs.Common.{subst, arith, pos, inl, inr, option_map}
 use Rattle.std.specs.Prelude.{nat_le, nat_lt}
 use Rattle.std.specs.Ordering.{int_eq}
 use Rattle.std.specs.List.{list_any, range_with_len}
@@ -11,7 +11,6 @@ use Rattle.std.proofs.lemmas.Bool.{lt-ltb}
 use Rattle.std.proofs.lemmas.Option.{same_Some}
 use Rattle.psci_world_laws.specs.psci_abi.Calls.{request_of}
 use Rattle.psci_world_laws.specs.psci_abi.declared.code.Code.{Code}
-use Rattle.psci_world_laws.specs.psci_abi.declared.registers.Regs.{Regs}
 use Rattle.psci_world_laws.specs.psci_abi.declared.request.Request.{Request}
 use Rattle.psci_world_laws.specs.psci_abi.declared.request.Request.TheVariants as requests
 use Rattle.psci_world_laws.specs.psci_board.Board.{BoardValue, below, cores, has_node, height}
@@ -19,34 +18,24 @@ use Rattle.psci_world_laws.specs.psci_board.Board.{node_of, nodes}
 use Rattle.psci_world_laws.specs.psci_board.Board.{size_below, up}
 use Rattle.psci_world_laws.specs.psci_board.Laws.{PathLaws}
 use Rattle.psci_world_laws.specs.psci_board.declared.node.Node.{Node}
-use Rattle.psci_world_laws.specs.psci_fw_spec.declared.call.FwCall.TheVariants.{Smc}
-use Rattle.psci_world_laws.specs.psci_fw_spec.declared.fault.FwFault.{FwFault}
-use Rattle.psci_world_laws.specs.psci_fw_spec.declared.fault.FwFault.TheVariants.{NoCore, NoLife}
-use Rattle.psci_world_laws.specs.psci_fw_spec.declared.fault.FwFault.TheVariants.{NotRunning}
 use Rattle.psci_world_laws.specs.psci_fw_spec.declared.outcome.Act.TheVariants as acts
-use Rattle.psci_world_laws.specs.psci_fw_spec.declared.outcome.Outcome.{Outcome}
-use Rattle.psci_world_laws.specs.psci_fw_spec.declared.reply.FwReply.TheVariants as replies
 use Rattle.psci_world_laws.specs.psci_fw_spec.declared.status.Status.{Status}
 use Rattle.psci_world_laws.specs.psci_fw_spec.declared.status.Status.TheVariants.{On, Off, Pending}
 use Rattle.psci_world_laws.specs.psci_fw_spec.AffinityInfo.{affinity_of, is_on, is_pending_status}
 use Rattle.psci_world_laws.specs.psci_fw_spec.AffinityInfo.{node_status}
 use Rattle.psci_world_laws.specs.psci_fw_spec.AffinityInfo.{status_code, status_over}
-use Rattle.psci_world_laws.specs.psci_fw_spec.Answer.{answer, reply_or}
-use Rattle.psci_world_laws.specs.psci_fw_spec.Calls.{call_fault, function_outcome, outcome_of}
 use Rattle.psci_world_laws.specs.psci_fw_spec.Legal.{IsLegal}
-use Rattle.psci_world_laws.specs.psci_fw_spec.Outcomes.{stops}
-use Rattle.psci_world_laws.specs.psci_fw_spec.Phases.{is_running}
 use Rattle.psci_world_laws.specs.psci_fw_spec.Values.{Values}
 use Rattle.psci_world_laws.specs.psci_world_spec.declared.event.Event.{Event}
 use Rattle.psci_world_laws.specs.psci_world_spec.declared.event.Event.TheVariants.{Call}
 use Rattle.psci_world_laws.specs.psci_world_spec.declared.said.Record.{Record}
 use Rattle.psci_world_laws.specs.psci_world_spec.declared.said.Said.{Said}
 use Rattle.psci_world_laws.specs.psci_world_spec.declared.said.Said.TheVariants.{Fw}
-use Rattle.psci_world_laws.specs.psci_world_spec.Histories.{acks, call, controller_values}
 use Rattle.psci_world_laws.specs.psci_world_spec.Histories.{firmware_history}
-use Rattle.psci_world_laws.specs.psci_world_spec.Histories.{firmware_values, outcome_in}
+use Rattle.psci_world_laws.specs.psci_world_spec.Histories.{firmware_values}
 use Rattle.psci_safe.specs.Safe.{OffIsDown}
 use Rattle.psci_headline.specs.ToldOff.{AllOff, asked_of, told_off}
+use Rattle.psci_headline.proofs.Returned.{Extended, IsReturned, returned}
 use Rattle.psci_headline.proofs.Slept.{report}
 
 -- Lists that no test finds ----------------------------------------------------------------------
@@ -144,89 +133,38 @@ code_off On e = let no : false ≡ true = e in absurd (cc)
 code_off Off e = refl
 code_off Pending e = let no : false ≡ true = e in absurd (cc)
 
-if_so : (t : Bool) (o : Option Node) (n : Node) → cond t o None ≡ Some n
+pub if_so : (t : Bool) (o : Option Node) (n : Node) → cond t o None ≡ Some n
     → (t ≡ true) × (o ≡ Some n)
 if_so true o n e = (refl, e)
 if_so false o n e = absurd (cc)
 
-no_node : (t : Bool) (n : Node) → cond t None None ≡ Some n → ⊥
+pub no_node : (t : Bool) (n : Node) → cond t None None ≡ Some n → ⊥
 no_node true n e = absurd (cc)
 no_node false n e = absurd (cc)
 
--- what a function returned that is no halting life's stop
-by_request : (b : BoardValue) (v : Values) (d : ℕ) (r : Request) (code : Code) (o : Outcome)
-    (n : Node) → 0 < v.life → o.act ≡ acts.Return code → o ≡ function_outcome b v d r
-    → cond (int_eq code.0 (pos 1)) (asked_of b r) None ≡ Some n → IsToldOff b v n
-by_request b v d (requests.AffinityInfo word level) code o n begun act is told =
+-- what a function returned
+by_request : (b : BoardValue) (v : Values) (d : ℕ) (r : Request) (code : Code) (n : Node)
+    → IsReturned b v d r code → cond (int_eq code.0 (pos 1)) (asked_of b r) None ≡ Some n
+    → IsToldOff b v n
+by_request b v d (requests.AffinityInfo word level) code n is told =
     let both = if_so (int_eq code.0 (pos 1)) (node_of b word level) n told in
-    let said : acts.Return code ≡ acts.Return (affinity_of b v (node_of b word level)) =
-    sym act ∙ ap (λ (x : Outcome). x.act) is in
+    let said : acts.Return code ≡ acts.Return (affinity_of b v (node_of b word level)) = is.by in
     let same : code ≡ affinity_of b v (node_of b word level) = cc in
     let named : code ≡ affinity_of b v (Some n) = same ∙ ap (affinity_of b v) both.1 in
     record {
-      begun = begun;
+      begun = is.begun;
       low = low_node b word level n both.1;
       off = code_off (node_status b v.status n)
           (ap (λ (x : Code). int_eq x.0 (pos 1)) (sym named) ∙ both.0);
     }
-by_request b v d r code o n begun act is told = absurd (no_node (int_eq code.0 (pos 1)) n told)
-
-by_halting : (b : BoardValue) (v : Values) (d : ℕ) (r : Request) (code : Code) (o : Outcome)
-    (n : Node) (t : Bool) → 0 < v.life → o.act ≡ acts.Return code
-    → o ≡ cond t stops (function_outcome b v d r)
-    → cond (int_eq code.0 (pos 1)) (asked_of b r) None ≡ Some n → IsToldOff b v n
-by_halting b v d r code o n true begun act is told =
-    let no : acts.Return code ≡ acts.Stop = sym act ∙ ap (λ (x : Outcome). x.act) is in
-    absurd (cc)
-by_halting b v d r code o n false begun act is told =
-    by_request b v d r code o n begun act is told
-
-by_outcome : (b : BoardValue) (v : Values) (d : ℕ) (r : Request) (code : Code) (o : Outcome)
-    (n : Node) → 0 < v.life → o.act ≡ acts.Return code → o ≡ outcome_of b v d r
-    → cond (int_eq code.0 (pos 1)) (asked_of b r) None ≡ Some n → IsToldOff b v n
-unfolding outcome_of
-by_outcome b v d r code o n begun act is told =
-    by_halting b v d r code o n v.halting begun act is told
-
--- a call that is no fault is made in a life
-some_life : (life : ℕ) (s t u : Bool) → (life == 0) ≡ t
-    → cond (not s) (Some NoCore) (cond t (Some NoLife) (cond u None (Some NotRunning))) ≡ None
-    → 0 < life
-some_life zero false t u is e = absurd (cc)
-some_life zero true true u is e = absurd (cc)
-some_life zero true false u is e = let no : true ≡ false = is in absurd (cc)
-some_life (suc life) s t u is e = omega arith
-
-by_fault : (b : BoardValue) (v : Values) (d : ℕ) (r : Request) (code : Code) (o : Outcome)
-    (n : Node) (f : Option FwFault) → call_fault b v d ≡ f → o.act ≡ acts.Return code
-    → replies.Out o ≡ reply_or f (outcome_of b v d r)
-    → cond (int_eq code.0 (pos 1)) (asked_of b r) None ≡ Some n → IsToldOff b v n
-by_fault b v d r code o n (Some fault) none act e told = absurd (cc)
-by_fault b v d r code o n None none act e told =
-    let same : o ≡ outcome_of b v d r = cc in
-    by_outcome b v d r code o n
-    (some_life v.life (nat_lt d (cores b)) (v.life == 0) (is_running (v.phase d)) refl none) act
-    same told
-
-by_answer : (b : BoardValue) (v : Values) (d : ℕ) (regs : Regs) (code : Code) (o : Outcome)
-    (n : Node) → o.act ≡ acts.Return code → replies.Out o ≡ answer b v d (Smc regs)
-    → cond (int_eq code.0 (pos 1)) (asked_of b (request_of regs)) None ≡ Some n
-    → IsToldOff b v n
-unfolding answer
-by_answer b v d regs code o n act e told =
-    by_fault b v d (request_of regs) code o n (call_fault b v d) refl act e told
-
--- the history after a record, whose event says this
-abbrev Extended : BoardValue → List Record → Event → Said → Type 0
-Extended b past event said =
-    IsLegal b (call (controller_values b past) (acks past) event said ++ firmware_history b past)
+by_request b v d r code n is told = absurd (no_node (int_eq code.0 (pos 1)) n told)
 
 by_record : (b : BoardValue) (past : List Record) (n : Node) (event : Event) (said : Said)
     → Extended b past event said → told_off b event said ≡ Some n
     → IsToldOff b (firmware_values b past) n
 by_record b past n (Call d regs) (Fw (acts.Return code) m) valid told =
-    by_answer b (firmware_values b past) d regs code (outcome_in (acts.Return code) m) n refl
-    valid.0 told
+    by_request b (firmware_values b past) d (request_of regs) code n
+    (returned b past d regs code m valid) told
 by_record b past n event said valid told = absurd (cc)
 
 told_by : (b : BoardValue) (r : Record) (past : List Record) (n : Node)

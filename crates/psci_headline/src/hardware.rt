@@ -1,14 +1,20 @@
-//! Hardware states that are said of domains: the law is the contract of a function that does
+//! Hardware states that are said of domains: each law is the contract of a function that does
 //! nothing.
 
-ghost use Rattle.std.specs.Prelude.{List};
-ghost use Rattle.psci_world_laws.specs.psci_board.Board.{BoardValue, IsBoard};
+ghost use Rattle.std.specs.Prelude.{◌≡◌, ◌∷◌, ◌<◌, List, Some};
+ghost use Rattle.psci_world_laws.specs.psci_board.Board.{BoardValue, HasNode, IsBoard};
+ghost use Rattle.psci_world_laws.specs.psci_board.declared.node.Node.{Node};
+ghost use Rattle.psci_safe.specs.Hardware.{said_hw};
 ghost use Rattle.psci_safe.specs.Safe.{StatesWereReal};
+ghost use Rattle.psci_headline.specs.ToldHw.{WasSoDeep, is_off_depth, is_standby_depth, told_hw};
+ghost use Rattle.psci_world_laws.specs.psci_fw_spec.declared.hw.Hw.TheVariants.{Off, Standby};
 ghost use Rattle.psci_world_laws.specs.psci_world_spec.declared.said.Record.{Record};
+ghost use Rattle.psci_world_laws.specs.psci_world_spec.Histories.{firmware_values};
 ghost use Rattle.psci_world_laws.specs.psci_world_spec.Legal.{IsLegalPast};
 
 use psci_world_laws::{
-    law_acknowledged, law_agreement, law_invariant, law_kept, law_known_below, law_paths, law_sent,
+    law_acknowledged, law_agreement, law_controlled, law_invariant, law_kept, law_known_below,
+    law_limits, law_paths, law_sent,
 };
 
 /// In a legal run a domain that NODE_HW_STATE says is off was powered down at some moment of this
@@ -25,4 +31,27 @@ pub fn law_states_real()
     law_sent();
     law_agreement();
     law_acknowledged();
+}
+
+/// In a legal run, where a record answers NODE_HW_STATE of a core or domain with HW_OFF, its depth
+/// was 3 at some moment of this life, by the starts that the firmware then knew of; where it answers
+/// HW_STANDBY, the depth was 1 or 2.
+pub fn law_told_hw()
+    ensures off { (b : BoardValue) (r : Record) (past : List Record) (n : Node) → IsBoard b
+        → IsLegalPast b (r ∷ past) → told_hw b 1 r.event r.said ≡ Some n
+        → WasSoDeep b is_off_depth past n }
+    ensures standby { (b : BoardValue) (r : Record) (past : List Record) (n : Node) → IsBoard b
+        → IsLegalPast b (r ∷ past) → told_hw b 2 r.event r.said ≡ Some n
+        → WasSoDeep b is_standby_depth past n }
+    // So it is with what NODE_HW_STATE says at a moment, whether a core asks or not.
+    ensures said_off { (b : BoardValue) (past : List Record) (n : Node) → IsBoard b
+        → IsLegalPast b past → HasNode b n → 0 < (firmware_values b past).life
+        → said_hw b past n ≡ Off → WasSoDeep b is_off_depth past n }
+    ensures said_standby { (b : BoardValue) (past : List Record) (n : Node) → IsBoard b
+        → IsLegalPast b past → HasNode b n → 0 < (firmware_values b past).life
+        → said_hw b past n ≡ Standby → WasSoDeep b is_standby_depth past n }
+{
+    law_limits();
+    law_controlled();
+    law_states_real();
 }

@@ -10,7 +10,7 @@ mod openings;
 mod powered_down;
 
 pub use affinity::law_told_off;
-pub use hardware::law_states_real;
+pub use hardware::{law_states_real, law_told_hw};
 pub use laws::law_safe;
 pub use live::{law_asked_claims, law_claimed_depths, law_live_claims, law_none_executes};
 pub use openings::law_one_entry;

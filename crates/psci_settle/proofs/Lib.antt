@@ -44,8 +44,13 @@ pub mod Resting
 -- All steps together; worked examples, and records that break each clause alone.
 pub mod Settled
 mod Failing
+mod LivesRows
 mod NameRows
 mod RestRows
+mod SettledFormatRows
+mod SettledLivesRows
 mod SettledRows
+mod SettledStartsRows
+mod StartsRows
 mod SettleRows
 mod WaitingRows

@@ -24,21 +24,21 @@ use Rattle.psci_settle.proofs.Failing.{Saying, added_by, apart, other_events, so
 use Rattle.psci_settle.proofs.Failing.{unsettled}
 
 -- the records that these events add to those
-abbrev adds : BoardValue → List Event → List Event → List Record
+abbrev pub adds : BoardValue → List Event → List Event → List Record
 adds b first more = added_by b (run_from b [] first) more
 
 -- what fails where these events come after those, with so many rounds
-abbrev fails_after : BoardValue → List Event → List Event → ℕ → List Saying
+abbrev pub fails_after : BoardValue → List Event → List Event → ℕ → List Saying
 fails_after b first more rounds =
     unsettled b (run_from b [] first) (adds b first more) rounds
 
 -- just this fails
-abbrev Fails : BoardValue → List Event → List Event → ℕ → Saying → Type 0
+abbrev pub Fails : BoardValue → List Event → List Event → ℕ → Saying → Type 0
 Fails b first more rounds s =
     IsUnsettled b (run_from b [] first) (adds b first more) rounds s
 
 -- events after events are legal
-abbrev is_legal : (b : BoardValue) (first more : List Event)
+abbrev pub is_legal : (b : BoardValue) (first more : List Event)
     → IsLegalPast b (run_from b (run_from b [] first) more)
 is_legal b first more =
     stays_legal b (run_from b [] first) more (stays_legal b [] first tt)
@@ -243,7 +243,7 @@ last_down_twice = record {
 -- Delivered less often --------------------------------------------------------------------------
 
 -- one item, if there is one, is not two
-one_at_most : (t : Bool) (r : Record) → length (cond t (r ∷ []) []) ≡ 2 → ⊥
+pub one_at_most : (t : Bool) (r : Record) → length (cond t (r ∷ []) []) ≡ 2 → ⊥
 one_at_most true r = apart 1 2 refl
 one_at_most false r = apart 0 2 refl
 

@@ -1,0 +1,88 @@
+-- What a record says that a call returned is what its function answers, in a life.
+use Rattle.std.proofs.Common.{◌≡◌, ℕ, zero, suc, ◌<◌, Bool, true, false, ◌==◌, cond, List, ◌++◌}
+use Rattle.std.proofs.Common.{Option, None, Some, refl, ap, sym, ◌∙◌, arith, not}
+use Rattle.std.specs.Prelude.{nat_lt}
+use Rattle.psci_world_laws.specs.psci_abi.Calls.{request_of}
+use Rattle.psci_world_laws.specs.psci_abi.declared.code.Code.{Code}
+use Rattle.psci_world_laws.specs.psci_abi.declared.registers.Regs.{Regs}
+use Rattle.psci_world_laws.specs.psci_abi.declared.request.Request.{Request}
+use Rattle.psci_world_laws.specs.psci_board.Board.{BoardValue, cores}
+use Rattle.psci_world_laws.specs.psci_fw_spec.declared.call.FwCall.TheVariants.{Smc}
+use Rattle.psci_world_laws.specs.psci_fw_spec.declared.fault.FwFault.{FwFault}
+use Rattle.psci_world_laws.specs.psci_fw_spec.declared.fault.FwFault.TheVariants.{NoCore, NoLife}
+use Rattle.psci_world_laws.specs.psci_fw_spec.declared.fault.FwFault.TheVariants.{NotRunning}
+use Rattle.psci_world_laws.specs.psci_fw_spec.declared.outcome.Act.TheVariants as acts
+use Rattle.psci_world_laws.specs.psci_fw_spec.declared.outcome.Outcome.{Outcome}
+use Rattle.psci_world_laws.specs.psci_fw_spec.declared.reply.FwReply.TheVariants as replies
+use Rattle.psci_world_laws.specs.psci_fw_spec.Answer.{answer, reply_or}
+use Rattle.psci_world_laws.specs.psci_fw_spec.Calls.{call_fault, function_outcome, outcome_of}
+use Rattle.psci_world_laws.specs.psci_fw_spec.Legal.{IsLegal}
+use Rattle.psci_world_laws.specs.psci_fw_spec.Outcomes.{stops}
+use Rattle.psci_world_laws.specs.psci_fw_spec.Phases.{is_running}
+use Rattle.psci_world_laws.specs.psci_fw_spec.Values.{Values}
+use Rattle.psci_world_laws.specs.psci_world_spec.declared.event.Event.{Event}
+use Rattle.psci_world_laws.specs.psci_world_spec.declared.event.Event.TheVariants.{Call}
+use Rattle.psci_world_laws.specs.psci_world_spec.declared.said.Record.{Record}
+use Rattle.psci_world_laws.specs.psci_world_spec.declared.said.Said.{Said}
+use Rattle.psci_world_laws.specs.psci_world_spec.declared.said.Said.TheVariants.{Fw}
+use Rattle.psci_world_laws.specs.psci_world_spec.declared.said.Sent.{Sent}
+use Rattle.psci_world_laws.specs.psci_world_spec.Histories.{acks, call, controller_values}
+use Rattle.psci_world_laws.specs.psci_world_spec.Histories.{firmware_history}
+use Rattle.psci_world_laws.specs.psci_world_spec.Histories.{firmware_values, outcome_in}
+
+-- A core is answered this code to its request, in a life.
+pub record IsReturned (b : BoardValue) (v : Values) (d : ℕ) (r : Request) (code : Code)
+    : Type 0 where
+  pub begun : 0 < v.life
+  pub by : acts.Return code ≡ (function_outcome b v d r).act
+
+by_halting : (b : BoardValue) (v : Values) (d : ℕ) (r : Request) (code : Code) (o : Outcome)
+    (t : Bool) → 0 < v.life → o.act ≡ acts.Return code
+    → o ≡ cond t stops (function_outcome b v d r) → IsReturned b v d r code
+by_halting b v d r code o true begun act is =
+    let no : acts.Return code ≡ acts.Stop = sym act ∙ ap (λ (x : Outcome). x.act) is in
+    absurd (cc)
+by_halting b v d r code o false begun act is =
+    record { begun = begun; by = sym act ∙ ap (λ (x : Outcome). x.act) is }
+
+by_outcome : (b : BoardValue) (v : Values) (d : ℕ) (r : Request) (code : Code) (o : Outcome)
+    → 0 < v.life → o.act ≡ acts.Return code → o ≡ outcome_of b v d r → IsReturned b v d r code
+unfolding outcome_of
+by_outcome b v d r code o begun act is = by_halting b v d r code o v.halting begun act is
+
+-- a call that is no fault is made in a life
+some_life : (life : ℕ) (s t u : Bool) → (life == 0) ≡ t
+    → cond (not s) (Some NoCore) (cond t (Some NoLife) (cond u None (Some NotRunning))) ≡ None
+    → 0 < life
+some_life zero false t u is e = absurd (cc)
+some_life zero true true u is e = absurd (cc)
+some_life zero true false u is e = let no : true ≡ false = is in absurd (cc)
+some_life (suc life) s t u is e = omega arith
+
+by_fault : (b : BoardValue) (v : Values) (d : ℕ) (r : Request) (code : Code) (o : Outcome)
+    (f : Option FwFault) → call_fault b v d ≡ f → o.act ≡ acts.Return code
+    → replies.Out o ≡ reply_or f (outcome_of b v d r) → IsReturned b v d r code
+by_fault b v d r code o (Some fault) none act e = absurd (cc)
+by_fault b v d r code o None none act e =
+    let same : o ≡ outcome_of b v d r = cc in
+    by_outcome b v d r code o
+    (some_life v.life (nat_lt d (cores b)) (v.life == 0) (is_running (v.phase d)) refl none) act
+    same
+
+by_answer : (b : BoardValue) (v : Values) (d : ℕ) (regs : Regs) (code : Code) (o : Outcome)
+    → o.act ≡ acts.Return code → replies.Out o ≡ answer b v d (Smc regs)
+    → IsReturned b v d (request_of regs) code
+unfolding answer
+by_answer b v d regs code o act e =
+    by_fault b v d (request_of regs) code o (call_fault b v d) refl act e
+
+-- the history after a record, whose event says this
+abbrev pub Extended : BoardValue → List Record → Event → Said → Type 0
+Extended b past event said =
+    IsLegal b (call (controller_values b past) (acks past) event said ++ firmware_history b past)
+
+pub returned : (b : BoardValue) (past : List Record) (d : ℕ) (regs : Regs) (code : Code)
+    (m : Option Sent) → Extended b past (Call d regs) (Fw (acts.Return code) m)
+    → IsReturned b (firmware_values b past) d (request_of regs) code
+returned b past d regs code m valid =
+    by_answer b (firmware_values b past) d regs code (outcome_in (acts.Return code) m) refl valid.0

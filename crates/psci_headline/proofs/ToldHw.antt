@@ -1,0 +1,209 @@
+-- What NODE_HW_STATE answers with HW_OFF or HW_STANDBY: the domain was so deep at some moment.
+use Rattle.std.proofs.Common.{◌≡◌, ℕ, zero, suc, ◌+◌, ◌<◌, ◌≤◌, Bool, true, false, not, ◌==◌, cond}
+use Rattle.std.proofs.Common.{List, [], ◌∷◌, Option, None, Some, refl, ap, sym, ◌∙◌, subst}
+use Rattle.std.proofs.Common.{arith, pos, inl, inr, option_map}
+use Rattle.std.specs.Prelude.{nat_le, nat_lt}
+use Rattle.std.specs.Ordering.{int_eq}
+use Rattle.std.specs.List.{find, range_with_len}
+use Rattle.std.proofs.lemmas.Bool.{and_from, and_parts, cases_Bool, leb-true, lt-ltb, or_left}
+use Rattle.std.proofs.lemmas.Bool.{or_right}
+use Rattle.std.proofs.lemmas.Option.{same_Some}
+use Rattle.psci_world_laws.specs.psci_abi.Calls.{request_of}
+use Rattle.psci_world_laws.specs.psci_abi.declared.code.Code.{Code}
+use Rattle.psci_world_laws.specs.psci_abi.declared.request.Request.{Request}
+use Rattle.psci_world_laws.specs.psci_abi.declared.request.Request.TheVariants as requests
+use Rattle.psci_world_laws.specs.psci_board.Board.{BoardValue, HasNode, height, node_of, nodes}
+use Rattle.psci_world_laws.specs.psci_board.declared.node.Node.{Node}
+use Rattle.psci_world_laws.specs.psci_ctl_spec.Replies.{is_this_life}
+use Rattle.psci_world_laws.specs.psci_ctl_spec.Values.{starts_below}
+use Rattle.psci_world_laws.specs.psci_fw_spec.declared.hw.Hw.{Hw}
+use Rattle.psci_world_laws.specs.psci_fw_spec.declared.hw.Hw.TheVariants.{On, Off, Standby}
+use Rattle.psci_world_laws.specs.psci_fw_spec.declared.outcome.Act.TheVariants as acts
+use Rattle.psci_world_laws.specs.psci_fw_spec.Legal.{IsLegal}
+use Rattle.psci_world_laws.specs.psci_fw_spec.NodeHwState.{hw_at, hw_code, hw_state_of, node_hw}
+use Rattle.psci_world_laws.specs.psci_fw_spec.Values.{Values}
+use Rattle.psci_world_laws.specs.psci_world_spec.declared.event.Event.{Event}
+use Rattle.psci_world_laws.specs.psci_world_spec.declared.event.Event.TheVariants.{Call}
+use Rattle.psci_world_laws.specs.psci_world_spec.declared.said.Record.{Record}
+use Rattle.psci_world_laws.specs.psci_world_spec.declared.said.Said.{Said}
+use Rattle.psci_world_laws.specs.psci_world_spec.declared.said.Said.TheVariants.{Fw}
+use Rattle.psci_world_laws.specs.psci_world_spec.Histories.{controller_values, firmware_history}
+use Rattle.psci_world_laws.specs.psci_world_spec.Histories.{firmware_values}
+use Rattle.psci_world_laws.specs.psci_world_spec.Legal.{IsLegalPast}
+use Rattle.psci_safe.specs.Hardware.{is_hw, is_in_state, known_starts, said_hw, was_in_state}
+use Rattle.psci_safe.specs.Safe.{StatesWereReal}
+use Rattle.psci_headline.specs.ToldHw.{WasSoDeep, hw_asked_of, is_off_depth, is_so_deep}
+use Rattle.psci_headline.specs.ToldHw.{is_standby_depth, told_hw, was_so_deep}
+use Rattle.psci_headline.proofs.Returned.{Extended, IsReturned, returned}
+use Rattle.psci_headline.proofs.ToldOff.{if_so, no_node}
+
+-- How deep ------------------------------------------------------------------------------------
+
+-- a depth of this state is one of these
+abbrev IsOf : Hw → (ℕ → Bool) → Type 0
+IsOf h is = (depth : ℕ) → depth ≤ 3 → is_hw (hw_at depth) h ≡ true → is depth ≡ true
+
+of_off : IsOf Off is_off_depth
+of_off zero low e = let no : false ≡ true = e in absurd (cc)
+of_off (suc zero) low e = let no : false ≡ true = e in absurd (cc)
+of_off (suc (suc zero)) low e = let no : false ≡ true = e in absurd (cc)
+of_off (suc (suc (suc zero))) low e = refl
+of_off (suc (suc (suc (suc depth)))) low e = absurd (omega (arith, low))
+
+of_standby : IsOf Standby is_standby_depth
+of_standby zero low e = let no : false ≡ true = e in absurd (cc)
+of_standby (suc zero) low e = refl
+of_standby (suc (suc zero)) low e = refl
+of_standby (suc (suc (suc zero))) low e = let no : false ≡ true = e in absurd (cc)
+of_standby (suc (suc (suc (suc depth)))) low e = absurd (omega (arith, low))
+
+-- no domain is deeper than power-down, after each legal past
+abbrev pub AreShallow : BoardValue → Type 0
+AreShallow b = (past : List Record) → IsLegalPast b past → (level place : ℕ)
+    → (controller_values b past).depth level place ≤ 3
+
+module _ (b : BoardValue) (life sum : ℕ) (h : Hw) (is : ℕ → Bool) (each : IsOf h is) (n : Node)
+    (shallow : AreShallow b) where
+  -- a domain that is in this state has such a depth
+  so_deep : (past : List Record) → IsLegalPast b past → is_in_state b life sum h past n ≡ true
+      → is_so_deep b life sum is past n ≡ true
+  so_deep past legal e =
+      let v = controller_values b past in
+      let both = and_parts (is_this_life v.life life) _ e in
+      let rest = and_parts (starts_below b v.starts n == sum) _ both.1 in
+      and_from _ _ both.0 (and_from _ _ rest.0
+      (each (v.depth n.level n.place) (shallow past legal n.level n.place) rest.1))
+
+  -- and one that was has had it
+  pub once_deep : (past : List Record) → IsLegalPast b past
+      → was_in_state b life sum h past n ≡ true → was_so_deep b life sum is past n ≡ true
+  unfolding was_in_state was_so_deep
+  once_deep [] legal e = so_deep [] legal e
+  once_deep (r ∷ past) legal e = elim (cases_Bool (is_in_state b life sum h (r ∷ past) n)) [
+    | inl now ↦ or_left _ _ (so_deep (r ∷ past) legal now)
+    | inr not_now ↦
+        let before = rw not_now at e in
+        or_right _ _ (once_deep past legal.1 before)
+  ]
+
+-- What is said --------------------------------------------------------------------------------
+
+-- a domain that NODE_HW_STATE says is in this state, which is not on, has had such a depth
+pub said_deep : (b : BoardValue) (past : List Record) (n : Node) (h : Hw) (is : ℕ → Bool)
+    → IsOf h is → not (hw_code h == 0) ≡ true → AreShallow b → IsLegalPast b past
+    → StatesWereReal b past → HasNode b n → 0 < (firmware_values b past).life
+    → said_hw b past n ≡ h → WasSoDeep b is past n
+said_deep b past n h is each other shallow legal real has begun said =
+    let v = firmware_values b past in
+    let asleep = and_from (nat_lt 0 v.life) (not (hw_code (said_hw b past n) == 0))
+    (lt-ltb 0 v.life begun) (ap (λ x. not (hw_code x == 0)) said ∙ other) in
+    once_deep b v.life (known_starts b past n) h is each n shallow past legal
+    (subst (λ x. was_in_state b v.life (known_starts b past n) x past n ≡ true) said
+    (real n has asleep))
+
+pub said_off : (b : BoardValue) (past : List Record) (n : Node) → AreShallow b
+    → IsLegalPast b past → StatesWereReal b past → HasNode b n
+    → 0 < (firmware_values b past).life → said_hw b past n ≡ Off → WasSoDeep b is_off_depth past n
+said_off b past n = said_deep b past n Off is_off_depth of_off refl
+
+pub said_standby : (b : BoardValue) (past : List Record) (n : Node) → AreShallow b
+    → IsLegalPast b past → StatesWereReal b past → HasNode b n
+    → 0 < (firmware_values b past).life → said_hw b past n ≡ Standby
+    → WasSoDeep b is_standby_depth past n
+said_standby b past n = said_deep b past n Standby is_standby_depth of_standby refl
+
+-- The domain that a word names ----------------------------------------------------------------
+
+-- what is found among the numbers from one on is one of them
+find_inside : (p : ℕ → Bool) (a count i : ℕ) → find p (range_with_len a count) ≡ Some i
+    → i < a + count
+find_inside p a zero i e = absurd (cc)
+find_inside p a (suc count) i e = elim (cases_Bool (p a)) [
+  | inl here ↦
+      let found = rw here at e in
+      let same : a ≡ i = same_Some a i found in
+      omega (arith, same)
+  | inr other ↦
+      let later = rw other at e in
+      omega (arith, find_inside p (a + 1) count i later)
+]
+
+node_at : (b : BoardValue) (level : ℕ) (t : Bool) (o : Option ℕ) (n : Node)
+    → nat_le level (height b) ≡ t → ((i : ℕ) → o ≡ Some i → i < nodes b level)
+    → cond t (option_map (λ i. record { level = level; place = i }) o) None ≡ Some n
+    → HasNode b n
+node_at b level false o n is inside e = absurd (cc)
+node_at b level true None n is inside e = absurd (cc)
+node_at b level true (Some i) n is inside e =
+    subst (HasNode b) (same_Some _ n e)
+    (record { level = leb-true _ _ is; place = inside i refl })
+
+named_node : (b : BoardValue) (word level : ℕ) (n : Node) → node_of b word level ≡ Some n
+    → HasNode b n
+unfolding node_of
+named_node b word level n e =
+    node_at b level (nat_le level (height b)) _ n refl
+    (λ i at. omega (arith, find_inside _ 0 (nodes b level) i at)) e
+
+-- The answer ----------------------------------------------------------------------------------
+
+-- What is so of the firmware's values where NODE_HW_STATE answers this of a domain.
+pub record IsToldHw (b : BoardValue) (v : Values) (state : ℕ) (n : Node) : Type 0 where
+  pub begun : 0 < v.life
+  pub node : HasNode b n
+  pub code : int_eq (pos (hw_code (node_hw v n))) (pos state) ≡ true
+
+by_request : (b : BoardValue) (v : Values) (d : ℕ) (r : Request) (code : Code) (state : ℕ)
+    (n : Node) → IsReturned b v d r code
+    → cond (int_eq code.0 (pos state)) (hw_asked_of b r) None ≡ Some n → IsToldHw b v state n
+by_request b v d (requests.NodeHwState word level) code state n is told =
+    let both = if_so (int_eq code.0 (pos state)) (node_of b word level) n told in
+    let said : acts.Return code ≡ acts.Return (hw_state_of v (node_of b word level)) = is.by in
+    let same : code ≡ hw_state_of v (node_of b word level) = cc in
+    let named : code ≡ hw_state_of v (Some n) = same ∙ ap (hw_state_of v) both.1 in
+    record {
+      begun = is.begun;
+      node = named_node b word level n both.1;
+      code = ap (λ (x : Code). int_eq x.0 (pos state)) (sym named) ∙ both.0;
+    }
+by_request b v d r code state n is told = absurd (no_node (int_eq code.0 (pos state)) n told)
+
+by_record : (b : BoardValue) (past : List Record) (state : ℕ) (n : Node) (event : Event)
+    (said : Said) → Extended b past event said → told_hw b state event said ≡ Some n
+    → IsToldHw b (firmware_values b past) state n
+by_record b past state n (Call d regs) (Fw (acts.Return code) m) valid told =
+    by_request b (firmware_values b past) d (request_of regs) code state n
+    (returned b past d regs code m valid) told
+by_record b past state n event said valid told = absurd (cc)
+
+told_by : (b : BoardValue) (r : Record) (past : List Record) (state : ℕ) (n : Node)
+    → IsLegal b (firmware_history b (r ∷ past)) → told_hw b state r.event r.said ≡ Some n
+    → IsToldHw b (firmware_values b past) state n
+unfolding firmware_history
+told_by b r past state n valid told = by_record b past state n r.event r.said valid told
+
+off_by : (h : Hw) → int_eq (pos (hw_code h)) (pos 1) ≡ true → h ≡ Off
+off_by On e = let no : false ≡ true = e in absurd (cc)
+off_by Off e = refl
+off_by Standby e = let no : false ≡ true = e in absurd (cc)
+
+standby_by : (h : Hw) → int_eq (pos (hw_code h)) (pos 2) ≡ true → h ≡ Standby
+standby_by On e = let no : false ≡ true = e in absurd (cc)
+standby_by Off e = let no : false ≡ true = e in absurd (cc)
+standby_by Standby e = refl
+
+pub was_off : (b : BoardValue) (r : Record) (past : List Record) (n : Node) → AreShallow b
+    → IsLegalPast b past → IsLegal b (firmware_history b (r ∷ past)) → StatesWereReal b past
+    → told_hw b 1 r.event r.said ≡ Some n → WasSoDeep b is_off_depth past n
+was_off b r past n shallow legal valid real told =
+    let is = told_by b r past 1 n valid told in
+    said_off b past n shallow legal real is.node is.begun
+    (off_by (node_hw (firmware_values b past) n) is.code)
+
+pub was_standby : (b : BoardValue) (r : Record) (past : List Record) (n : Node) → AreShallow b
+    → IsLegalPast b past → IsLegal b (firmware_history b (r ∷ past)) → StatesWereReal b past
+    → told_hw b 2 r.event r.said ≡ Some n → WasSoDeep b is_standby_depth past n
+was_standby b r past n shallow legal valid real told =
+    let is = told_by b r past 2 n valid told in
+    said_standby b past n shallow legal real is.node is.begun
+    (standby_by (node_hw (firmware_values b past) n) is.code)

@@ -1,0 +1,81 @@
+-- Whether all cores of a domain are off, as a test that computes, and says the same.
+use Rattle.std.proofs.Common.{◌≡◌, ℕ, zero, suc, ◌+◌, ◌<◌, ◌≤◌, Bool, true, false, ◌==◌, ◌&&◌, ◌||◌}
+use Rattle.std.proofs.Common.{not, List, refl, ap, sym, ◌∙◌, arith, inl, inr}
+use Rattle.std.specs.List.{list_all, range_with_len}
+use Rattle.std.proofs.lemmas.Bool.{and_from, and_parts, cases_Bool, cases_eq, eqb-true, eq-eqb}
+use Rattle.std.proofs.lemmas.Bool.{or_cases, or_left, or_right}
+use Rattle.psci_world_laws.specs.psci_board.Board.{BoardValue, cores, up}
+use Rattle.psci_world_laws.specs.psci_board.declared.node.Node.{Node}
+use Rattle.psci_world_laws.specs.psci_world_spec.declared.place.Place.{Place}
+use Rattle.psci_world_laws.specs.psci_world_spec.declared.place.Place.TheVariants.{Running, Started}
+use Rattle.psci_world_laws.specs.psci_world_spec.declared.place.Place.TheVariants.{Stopped}
+use Rattle.psci_world_laws.specs.psci_world_spec.declared.said.Record.{Record}
+use Rattle.psci_world_laws.specs.psci_world_spec.Histories.{firmware_values}
+use Rattle.psci_world_laws.specs.psci_world_spec.Places.{place}
+use Rattle.psci_safe.specs.Moments.{was_powered_down}
+use Rattle.psci_safe.specs.Test.{executes_outside}
+use Rattle.psci_headline.specs.ToldOff.{AllOff}
+
+-- a core is below no such domain, or does not run and was powered down since it last went on
+abbrev pub is_off_in : BoardValue → List Record → Node → ℕ → Bool
+is_off_in b past n c = not (up b n.level c == n.place)
+    || (not (executes_outside (place b past c))
+    && was_powered_down b (firmware_values b past).life past c)
+
+-- each core is
+abbrev pub is_all_off : BoardValue → List Record → Node → Bool
+is_all_off b past n = list_all (is_off_in b past n) (range_with_len 0 (cores b))
+
+all_at : (test : ℕ → Bool) (a count c : ℕ) → list_all test (range_with_len a count) ≡ true
+    → a ≤ c → c < a + count → test c ≡ true
+all_at test a zero c e low high = absurd (omega (arith, low, high))
+all_at test a (suc count) c e low high =
+    let both = and_parts (test a) (list_all test (range_with_len (a + 1) count)) e in
+    elim (cases_eq a c) [
+      | inl same ↦ ap test (sym same) ∙ both.0
+      | inr other ↦
+          all_at test (a + 1) count c both.1 (omega (arith, low, other)) (omega (arith, high))
+    ]
+
+at_all : (test : ℕ → Bool) (a count : ℕ) → ((c : ℕ) → a ≤ c → c < a + count → test c ≡ true)
+    → list_all test (range_with_len a count) ≡ true
+at_all test a zero each = refl
+at_all test a (suc count) each =
+    and_from _ _ (each a (omega arith) (omega arith))
+    (at_all test (a + 1) count (λ c low high. each c (omega (arith, low)) (omega (arith, high))))
+
+runs_not : (p : Place) → not (executes_outside p) ≡ true → p ≡ Running → ⊥
+runs_not Started e same = absurd (cc)
+runs_not Running e same = let no : false ≡ true = e in absurd (cc)
+runs_not Stopped e same = absurd (cc)
+
+not_runs : (p : Place) → (p ≡ Running → ⊥) → not (executes_outside p) ≡ true
+not_runs Started none = refl
+not_runs Running none = absurd (none refl)
+not_runs Stopped none = refl
+
+-- the test passes where all are off
+pub tested_off : (b : BoardValue) (past : List Record) (n : Node) → is_all_off b past n ≡ true
+    → AllOff b past n
+tested_off b past n e c on at =
+    let test = all_at (is_off_in b past n) 0 (cores b) c e (omega arith) (omega (arith, on)) in
+    elim (or_cases (not (up b n.level c == n.place)) _ test) [
+      | inl other ↦
+          let no : false ≡ true = sym (ap not (eq-eqb _ _ at)) ∙ other in absurd (cc)
+      | inr rest ↦
+          let both = and_parts (not (executes_outside (place b past c)))
+          (was_powered_down b (firmware_values b past).life past c) rest in
+          (runs_not (place b past c) both.0, both.1)
+    ]
+
+-- and nowhere else
+pub off_tested : (b : BoardValue) (past : List Record) (n : Node) → AllOff b past n
+    → is_all_off b past n ≡ true
+off_tested b past n all =
+    at_all (is_off_in b past n) 0 (cores b) (λ c low high.
+    elim (cases_Bool (up b n.level c == n.place)) [
+      | inl at ↦
+          let off = all c (omega (arith, high)) (eqb-true _ _ at) in
+          or_right _ _ (and_from _ _ (not_runs (place b past c) off.0) off.1)
+      | inr other ↦ or_left _ _ (ap not other)
+    ])
