@@ -24,7 +24,8 @@ class Description:
     def __init__(self, facts, boot=None, ranges=()):
         self.facts, self.unknown, self.ranges = facts, [], list(ranges)
         self.cores = self.in_order(boot)
-        self.made_up, self.paths = 0, self.paths_of()
+        self.made_up = 0
+        self.paths = self.paths_of()
         self.height = max(len(path) for path in self.paths.values())
         self.tree = self.nested(self.cores, 0)
         # of each level the words of its states, and the classes of these
