@@ -6,7 +6,8 @@ it is, whole. Its level is that of its power domain; without one it is what its 
 """
 from collections import Counter
 
-from .facts import NoBoard
+from .facts import Facts, NoBoard
+from .reader import Fault
 
 RETENTION, POWER_DOWN = "retention", "power-down"
 MOST_HEIGHT, MOST_BELOW, MOST_CORES, MOST_RANGES, MOST_STATES = 3, 16, 256, 4, 15
@@ -231,3 +232,11 @@ class Description:
         if reason:
             raise NoBoard(reason)
         return "".join(f"{it}\n" for it in self.lines())
+
+
+def described(data, boot=None, ranges=()):
+    """The text of the machine of a device tree's bytes; raises why there is none."""
+    try:
+        return Description(Facts(data), boot, ranges).text()
+    except Fault as fault:
+        raise NoBoard(f"it is no device tree that can be read: {fault}") from fault
