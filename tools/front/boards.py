@@ -70,6 +70,27 @@ def read_board(text, at=0):
     return tree, ranges, limits
 
 
+def number(text):
+    """The number of the first fault of a board text, or nothing."""
+    try:
+        tree, ranges, limits = read_board(text)
+    except Wrong:
+        return 1
+    members = tree.members or []
+    groups = [it for _, it in members if isinstance(it, list)]
+    sizes = [cores for _, cores in tree.clusters()]
+    boot, starts, lives = (limits[it][1] for it in ("boot", "starts", "lives"))
+    holds = (
+        (2, groups and len(groups) < len(members)),
+        (3, any(not 1 <= it <= 16 for it in [*sizes, *map(len, groups), len(members) or 1])),
+        (4, sum(sizes) > 256),
+        (5, len(ranges) > 4 or any(first >= end for _, first, end in ranges)),
+        (6, boot % 4 or not any(first <= boot < end for _, first, end in ranges)),
+        (7, not (1 <= starts < 2 ** 32 and 1 <= lives < 2 ** 16)),
+    )
+    return next((it for it, is_so in holds if is_so), None)
+
+
 def place(number, text, at=0):
     """Where the fault of this number is in a board text."""
     tree, ranges, limits = read_board(text, at)

@@ -5,7 +5,7 @@ import sys
 
 import repo
 
-from . import plain, running, storms, wording
+from . import machine_runs, plain, running, storms, wording
 from .programs import REPLAYER, WHOLE, Stopped, built, complain, is_current, kit, say, unproved
 from .running import write
 
@@ -42,6 +42,10 @@ More options of ./psci show:
   --vcd          Write value changes, which wave viewers open
   --clock FILE   Take the times of a trace from this file
 """
+MORE_OF_REPLAY = """
+More options of ./psci replay:
+  --machine FILE  The script has the calls of the machine that this file describes (docs/BOARDS.md)
+"""
 PROVE_HELP = """Proves what ./psci runs, and builds it. What was proved is kept in ~/.cache/gumdarts/proved.
 
 Usage: psci prove                           the program of replay: from nothing about 12 minutes
@@ -52,7 +56,7 @@ The minutes are those of four processors with 3 GiB each.
 """
 PLAIN_HELP = """Makes a script by name a plain one, which `replay` and `show` answer: line for line.
 
-Usage: psci plain [FILE]
+Usage: psci plain [--machine MACHINE] [FILE]
 
 Example:
   printf '%s\\n' 'board (2 2) exec 0x40000000-0x40100000 boot 0x40000000 starts 1000 lives 3' \\
@@ -61,7 +65,7 @@ writes the calls
   call 0 0xC4000003 0x101 0x40001000 0x7
   call 0 0xC4000001 0x1010033
 
-docs/FORMATS.md has every name.
+docs/FORMATS.md has every name. With --machine the script has the calls of that machine (docs/BOARDS.md).
 """
 
 
@@ -90,9 +94,14 @@ class Front:
         return {"replay": self.replay, "show": self.show, "storm": self.storm}.get(name, self.drawn)(words)
 
     def replay(self, words):
+        words, path = machine_of(words)
         words, script = script_of(words)
         said(words)
-        return running.run(self.program(REPLAYER), words, script)
+        machine = path and machine_runs.machine_in(path)
+        program = self.program(REPLAYER)
+        if machine:
+            return machine_runs.run(program, machine, script)
+        return running.run(program, words, script)
 
     def show(self, words):
         words, script = script_of(words)
@@ -156,9 +165,13 @@ class Front:
         """Makes a script by name a plain one."""
         if "--help" in words or "-h" in words:
             return write(PLAIN_HELP)
+        words, path = machine_of(words)
         words, script = script_of(words)
         if words[1:]:
             raise Stopped("plain takes no word but a file", 2)
+        if path:
+            machine = machine_runs.machine_in(path)
+            return machine_runs.run(self.program(REPLAYER), machine, script, is_plain=True)
         try:
             return write("\n".join(plain.lines(running.text_of(script), plain.plain_call)))
         except plain.Fault as fault:
@@ -226,8 +239,7 @@ def said(words, ends=True):
         status = 2
     else:
         status = write(text)
-        if "show" in words:
-            write(MORE_OF_SHOW)
+        write(MORE_OF_SHOW if "show" in words else MORE_OF_REPLAY if "replay" in words else "")
     if ends:
         sys.exit(status)
     return status
@@ -245,6 +257,23 @@ def value_of(words, option):
         if word.startswith(f"{option}="):
             return word.partition("=")[2]
     return None
+
+
+def machine_of(words):
+    """The words without `--machine FILE`, and that file; nothing without it."""
+    kept, path, words = [], None, list(words)
+    while words:
+        word = words.pop(0)
+        name, equals, value = word.partition("=")
+        if name != "--machine":
+            kept.append(word)
+            continue
+        if path is not None:
+            raise Stopped("--machine stands twice", 2)
+        path = value if equals else words.pop(0) if words else ""
+        if not path:
+            raise Stopped("--machine needs the file of a machine's text", 2)
+    return kept, path
 
 
 def script_of(words):

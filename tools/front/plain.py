@@ -146,19 +146,24 @@ def argument(board, kind, word, at):
     return [f"{found[0] if kind == 'core' else found:#x}"]
 
 
-def plain_call(board, line):
-    """The plain line of a call by name; one that is plain already, or faulty, as it is."""
-    match = re.match(r"call ([0-9]+) ([a-z][^ ]*)", line)
-    if not match:
-        return line
-    name, at = match[2], match.start(2)
+def called(name, at):
+    """The function word of a name in a call, which stands at this place."""
     if name in ("suspend", "suspend.32"):
         name = f"cpu_{name}"
     word = word_of(name[5:] if name.startswith("psci_") else name)
     if word is None:
         like = near(name, list(FUNCTIONS))
         raise Wrong(at, f"unknown function '{name}'" + (f": is {like[-1]} meant?" if like else ""))
-    takes, registers, at = FUNCTIONS[NAMES[word].partition(".")[0]].takes, [], match.end()
+    return word
+
+
+def plain_call(board, line):
+    """The plain line of a call by name; one that is plain already, or faulty, as it is."""
+    match = re.match(r"call ([0-9]+) ([a-z][^ ]*)", line)
+    if not match:
+        return line
+    word, at = called(match[2], match.start(2)), match.end()
+    name, takes, registers = NAMES[word], FUNCTIONS[NAMES[word].partition(".")[0]].takes, []
     for given in line[at:].split(" ")[1:]:
         at += 1
         if len(registers) >= len(takes):

@@ -4,7 +4,8 @@ import re
 
 TOP = os.path.dirname(os.path.dirname(os.path.dirname(os.path.abspath(__file__))))
 # what the tables of faults in docs/FORMATS.md begin with
-TABLES = {"board": "| Number | Fault | Where |", "script": "| Number | Script fault | Where |"}
+TABLES = {"board": "| Number | Fault | Where |", "script": "| Number | Script fault | Where |",
+          "machine": "| Number | Machine fault | Where |"}
 
 
 def words_of(kind):

@@ -69,8 +69,11 @@ def affinities(tree):
 class Record:
     """The events of a record, in order, up to the first that no run can have."""
 
-    def __init__(self, lines):
+    def __init__(self, lines, translator=None):
+        """The record of these lines. Where there is a translator (tools/front/machine_runs.py), its calls
+        are in the words of that machine."""
         self.board, self.words, self.events, self.impossible = None, None, [], None
+        self.translator = translator
         self.sent, self.acks = {}, {}
         self.many_sent = self.many_acks = 0
         self.life, self.starts, self.found = 1, {0: 1}, {0: (1, 1, BOOT)}
@@ -103,6 +106,8 @@ class Record:
 
     def head(self, at, line):
         if not self.events and self.board is None and line.startswith("board "):
+            if self.translator and line != f"board {self.translator.machine.text}":
+                raise Fault(f"line {at}: this is not the board of the machine")
             self.board = line
         elif not self.events and self.board is not None and line == "tells stands":
             self.tells_stops = True
@@ -111,6 +116,8 @@ class Record:
             cores = affinities(self.board.removeprefix("board ").partition(" exec")[0])
             if len(words) != len(cores):
                 raise Fault(f"line {at}: not a line of a record")
+            if self.translator and words != self.translator.machine.mpidrs:
+                raise Fault(f"line {at}: these are not the MPIDRs of the machine")
             self.words = dict(zip(words, cores))
         else:
             raise Fault(f"line {at}: not a line of a record")
@@ -128,10 +135,19 @@ class Record:
 
     def call(self, core, x0, x1, x2, x3, answer, frame):
         word = int(x0, 16) % 2**32
+        if self.translator:
+            text = self.translator.call(f"call {core} {x0} {x1} {x2} {x3}")
+            return text, self.heeded(text, self.outcome(answer, frame))
         if self.words is not None and word in TARGETS:
             target = int(x1, 16) % 2**(64 if word >> 30 & 1 else 32)
             x1 = hex(self.words.get(target, NOBODY))
         return f"call {core} {x0} {x1} {x2} {x3}", self.outcome(answer, frame)
+
+    def heeded(self, text, said):
+        """What was said, of which the machine's words keep what they depend on."""
+        if self.translator:
+            self.translator.heed(text, f"{len(self.events) + 1} {said}")
+        return said
 
     def enter(self, core, life, start, cause, answer, frame):
         by, found = (int(life), int(start), int(cause)), self.found.get(int(core))
@@ -163,7 +179,8 @@ class Record:
         if message[2] == 1 and number(message, 4) == self.life and not self.stops_in(
                 message[3], number(message, 8)):
             raise Impossible(f"core {message[3]} was taken down before it stood in its stop")
-        return f"deliver {self.sent[message]}", said or self.acknowledged(message, bytes_of(ack))
+        text = f"deliver {self.sent[message]}"
+        return text, self.heeded(text, said or self.acknowledged(message, bytes_of(ack)))
 
     def acknowledged(self, message, ack):
         kind, said = ACKS.get(ack[2], (0, 0))
