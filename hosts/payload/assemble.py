@@ -1,0 +1,101 @@
+#!/usr/bin/env python3
+"""Makes an image of the payload and a list of calls: assemble.py PAYLOAD LIST IMAGE
+
+A list has a line for each step:
+    CORE call  X0 [X1 X2 X3]           a call that returns
+    CORE stop  X0 [..]                 a call that may not: the next step begins as it is made
+    CORE sleep X0 [..] for MICROSECONDS   a suspend with the core's timer set; it ends as the call returns, or the core enters
+    CORE poll  X0 [..] until CODE      asks until it gets this code, for 300 ms at most
+    CORE await CORE TIMES              until that core has entered so often, for 300 ms at most
+    CORE delay MICROSECONDS
+    CORE storm SEED MANY STANDBY DOWN  so many drawn calls of each core, with these power states (0: none)
+    reset                              what follows is played after the reset of the system
+A step begins when all before it are over, for 3 s at most; one that begins with + runs beside the one before.
+Words are numbers, E0 to E15 (the payload's entry points), E1+2, B+16 or B-16 (beside where it is loaded), and names
+of functions, as CPU_ON_64.
+"""
+import os
+import struct
+import sys
+import zlib
+
+sys.dont_write_bytecode = True
+TOP = os.path.dirname(os.path.dirname(os.path.dirname(os.path.abspath(__file__))))
+sys.path[:0] = [f"{TOP}/tools", f"{TOP}/model"]
+from judge.words import word_of
+
+KINDS = ("call", "stop", "poll", "sleep", "delay", "await", "storm")
+# a word that counts from the entry points, or from where the image is
+FROM_ENTRIES, FROM_IMAGE = 1, 16
+# a list has this room in the image
+MOST = 0x10000
+
+
+def word(text):
+    """A word's value, and from where it counts."""
+    if text[0] == "E" and text[1:2].isdigit():
+        entry, _, more = text[1:].partition("+")
+        return 8 * int(entry) + int(more or "0", 0), FROM_ENTRIES
+    if text[0] == "B":
+        return int(text[1:], 0) % 2**64, FROM_IMAGE
+    try:
+        return int(text, 0) % 2**64, 0
+    except ValueError:
+        return word_of(text), 0
+
+
+def step(core, kind, words, need, life):
+    """The bytes of a step."""
+    more = 0
+    if kind in ("sleep", "poll"):
+        more = word(words[-1])[0]
+        words = words[:-2]
+    elif kind in ("await", "delay", "storm"):
+        at = 0 if kind == "delay" else 1
+        more = int(words[at], 0)
+        words = words[:at] + words[at + 1:]
+    values = [word(it) for it in words] + [(0, 0)] * (4 - len(words))
+    relative = sum(origin << at for at, (_, origin) in enumerate(values))
+    return struct.pack("<IBBBB5Q", need, core, KINDS.index(kind), relative, life, *[it for it, _ in values], more)
+
+
+def steps(lines):
+    """The bytes of all steps, and how many they are."""
+    made, need, life = [], 0, 0
+    for number, line in enumerate(lines, 1):
+        text = line.partition("#")[0].strip()
+        if text == "reset":
+            life += 1
+        elif text:
+            if text[0] != "+":
+                need = len(made)
+            try:
+                core, kind, *words = text.lstrip("+ ").split()
+                made.append(step(int(core), kind, words, need, life))
+            except (ValueError, IndexError):
+                sys.exit(f"assemble.py: line {number}: no line of a list has this form")
+    return b"".join(made), len(made)
+
+
+def image(payload, lines):
+    """The payload with this list behind it."""
+    body, many = steps(lines)
+    whole = struct.pack("<II", many, zlib.crc32(body) | 1) + body
+    if len(whole) > MOST:
+        sys.exit("assemble.py: the list is too long")
+    return payload + whole
+
+
+def main():
+    if len(sys.argv) != 4:
+        sys.exit(__doc__)
+    with open(sys.argv[1], "rb") as file:
+        payload = file.read()
+    with open(sys.argv[2], encoding="ascii") as file:
+        whole = image(payload, file)
+    with open(sys.argv[3], "wb") as file:
+        file.write(whole)
+
+
+if __name__ == "__main__":
+    main()

@@ -1,0 +1,26 @@
+/* The machine, as the device tree has it. */
+#ifndef PAYLOAD_MACHINE_H
+#define PAYLOAD_MACHINE_H
+#include <stdint.h>
+
+enum { MOST_CORES = 16 }; /* head.S, too */
+
+struct machine {
+    uint32_t is_smc, gic_version, cores;
+    uint32_t timer; /* the number of the timer's interrupt */
+    uint64_t uart, uart_is_8250;
+    uint64_t gic, gic_of_core; /* the distributor; the CPU interface, or the redistributors */
+};
+
+extern struct machine machine;
+extern uint64_t affinities[MOST_CORES]; /* of each core, in rising order */
+extern char head[], entries[];
+
+/* Reads a device tree; says whether it is one that has all that is needed. */
+int read_tree(const void *tree);
+
+static inline uint32_t load(uint64_t at) { return *(volatile uint32_t *)at; }
+static inline void store(uint64_t at, uint32_t value) { *(volatile uint32_t *)at = value; }
+static inline void store_byte(uint64_t at, uint8_t value) { *(volatile uint8_t *)at = value; }
+
+#endif

@@ -1,0 +1,191 @@
+#include "play.h"
+#include "clock.h"
+#include "record.h"
+
+enum { STEP_TIME = 3000000, ENTRY_TIME = 300000, POLL_TIME = 300000 };
+
+uint64_t conduit_call(uint64_t x[4], uint32_t is_smc);
+void booted(const void *tree);
+void entered(uint64_t core, uint64_t at, uint64_t context);
+void exception(uint64_t syndrome, uint64_t address);
+
+uint8_t stacks[MOST_CORES << 13] __attribute__((aligned(16)));
+struct core cores[MOST_CORES];
+static volatile uint32_t done;
+static uint32_t life;
+/* what a reset of the system leaves: which list it was, and how many lives it has had */
+static struct { volatile uint32_t name, lives; } survived __attribute__((section(".survives")));
+
+static void copy4(uint64_t *to, const uint64_t *from) {
+    for (int at = 0; at < 4; at++) to[at] = from[at];
+}
+
+static void ask_in_storm(uint32_t core, const uint64_t x[4]) {
+    struct entry *entry = new_entry();
+    while (!entry) __asm__("wfi");
+    entry->core = core;
+    entry->number = cores[core].number++;
+    copy4(entry->before, x);
+    copy4(entry->behind, x);
+    entry->begin = tick();
+    entry->kind = KEPT_OPEN;
+    entry->lost = conduit_call(entry->behind, machine.is_smc);
+    entry->end = tick();
+    __atomic_thread_fence(__ATOMIC_SEQ_CST);
+    entry->kind = KEPT_CALL;
+}
+
+void ask(uint32_t core, const uint64_t x[4], enum told told) {
+    uint64_t y[4], lost;
+    uint32_t number, begin, end;
+    if (storm.is_on) {
+        ask_in_storm(core, x);
+        return;
+    }
+    copy4(y, x);
+    number = cores[core].number++;
+    begin = tick();
+    LINE("open", core, number, begin, x[0], x[1], x[2], x[3]);
+    if (told == GOING) add(&done, 1);
+    if (told == TOLD) begin = tick();
+    lost = conduit_call(y, machine.is_smc);
+    end = tick();
+    LINE("call", core, number, begin, end, 1, x[0], x[1], x[2], x[3], y[0], y[1], y[2], y[3], lost);
+}
+
+void ask_with_timer(uint32_t core, const uint64_t x[4], uint64_t microseconds) {
+    timer_set(microseconds);
+    ask(core, x, ANNOUNCED);
+    timer_clear();
+}
+
+/* Asks until it gets this answer, or for a while: a line for each run of alike answers. */
+static void poll(uint32_t core, const uint64_t x[4], uint64_t wanted) {
+    uint64_t end = after(POLL_TIME), many = 0, first = 0, last = 0, y[4], was[4] = {0}, lost = 0;
+    do {
+        uint64_t begin = tick(), now_lost;
+        copy4(y, x);
+        now_lost = conduit_call(y, machine.is_smc);
+        if (many && y[0] != was[0]) {
+            LINE("call", core, cores[core].number++, first, last, many, x[0], x[1], x[2], x[3], was[0], was[1], was[2], was[3], lost);
+            many = lost = 0;
+        }
+        if (!many++) first = begin;
+        last = tick();
+        lost |= now_lost;
+        copy4(was, y);
+    } while (was[0] != wanted && !is_past(end));
+    LINE("call", core, cores[core].number++, first, last, many, x[0], x[1], x[2], x[3], was[0], was[1], was[2], was[3], lost);
+}
+
+static void await(uint32_t core, uint32_t target, uint32_t times) {
+    uint64_t end = after(ENTRY_TIME);
+    while (cores[target].entries < times && !is_past(end)) {}
+    if (cores[target].entries < times) LINE("lacks", core, cores[core].number++, tick(), target, times);
+}
+
+static void delay(uint64_t microseconds) {
+    uint64_t end = after(microseconds);
+    while (!is_past(end)) {}
+}
+
+static void suspend(uint32_t core, const uint64_t x[4], uint64_t microseconds) {
+    cores[core].is_asleep = 1; /* it may end by an entry */
+    ask_with_timer(core, x, microseconds);
+    cores[core].is_asleep = 0;
+}
+
+static void play(uint32_t core, const struct step *step) {
+    uint64_t x[4];
+    for (int at = 0; at < 4; at++)
+        x[at] = step->x[at] + (step->relative >> at & 1 ? (uintptr_t)entries : step->relative >> (at + 4) & 1 ? (uintptr_t)head : 0);
+    switch (step->kind) {
+    case CALL: ask(core, x, TOLD); break;
+    case STOP: ask(core, x, GOING); return;
+    case POLL: poll(core, x, step->more); break;
+    case SUSPEND: suspend(core, x, step->more); break;
+    case DELAY: delay(step->more); break;
+    case AWAIT: await(core, (uint32_t)x[0], (uint32_t)step->more); break;
+    case STORM:
+        storm.seed = x[0], storm.standby = x[1], storm.down = x[2], storm.many = step->more;
+        storm_begins();
+        storm_of(core);
+        storm_ends();
+        break;
+    }
+    add(&done, 1);
+}
+
+/* Plays the steps of this core, each as soon as those before it are over. */
+static void play_all(uint32_t core) {
+    for (;;) {
+        uint32_t at = cores[core].next;
+        while (at < list.steps && list.step[at].core != core) at++;
+        if (at >= list.steps || list.step[at].life != life) break;
+        uint64_t end = after(STEP_TIME);
+        uint32_t is_late = 0;
+        while (done < list.step[at].need && !is_late) is_late = is_past(end);
+        if (is_late) {
+            LINE("late", core, at);
+            add(&done, list.step[at].need - done);
+        }
+        cores[core].next = at + 1;
+        play(core, &list.step[at]);
+    }
+    if (storm.is_on) storm_of(core);
+}
+
+/* Begins with the first step of this life: it counts the resets of the same list. */
+static void begin_life(void) {
+    uint32_t last = list.steps ? list.step[list.steps - 1].life : 0, first = 0;
+    life = survived.name == list.name && survived.lives <= last ? survived.lives : 0;
+    survived.name = list.name;
+    survived.lives = life + 1;
+    while (first < list.steps && list.step[first].life != life) first++;
+    for (uint32_t core = 0; core < MOST_CORES; core++) cores[core].next = first;
+    done = first;
+}
+
+void booted(const void *tree) {
+    /* where a loader hands over none, it stands at the beginning of the memory */
+    if ((uintptr_t)tree < 4096 || (uintptr_t)tree & 7 || *(const uint32_t *)tree != __builtin_bswap32(0xd00dfeed))
+        tree = (const void *)((uintptr_t)head & ~0x3ffffffful);
+    if (!read_tree(tree)) return;
+    begin_life();
+    LINE("head", 1, (uintptr_t)head, (uintptr_t)entries, machine.is_smc, machine.cores, 0);
+    interrupts_ready();
+    cores[0].entries = 1;
+    play_all(0);
+}
+
+void entered(uint64_t core, uint64_t at, uint64_t context) {
+    struct core *mine = &cores[core];
+    struct entry *entry = storm.is_on ? new_entry() : 0;
+    if (entry) {
+        *entry = (struct entry){0, (uint32_t)core, mine->number++, 0, tick(), {at, context}, {0}, 0};
+        entry->kind = KEPT_ENTER;
+    } else {
+        uint32_t time = tick();
+        LINE("enter", core, mine->number++, time, at, context);
+    }
+    add(&mine->entries, 1);
+    interrupts_ready();
+    if (mine->is_asleep) {
+        mine->is_asleep = 0;
+        add(&done, 1);
+    }
+    if (storm.is_on && core == 0) { /* it was powered down in its storm */
+        storm_of(0);
+        storm_ends();
+        add(&done, 1);
+    }
+    play_all((uint32_t)core);
+}
+
+void exception(uint64_t syndrome, uint64_t address) {
+    uint64_t affinity, core = 0;
+    __asm__("mrs %0, mpidr_el1" : "=r"(affinity));
+    while (core < machine.cores && affinities[core] != (affinity & 0xff00fffffful)) core++;
+    line_alone("fault", (const uint64_t[]){core, syndrome, address}, 3);
+    for (;;) __asm__("wfi");
+}

@@ -1,0 +1,1 @@
+"""Judges a record of the calls of any PSCI firmware, which is a black box (docs/JUDGE.md)."""

@@ -1,0 +1,88 @@
+"""The command line of the judge."""
+import argparse
+import os
+import sys
+
+from . import profile, record, report
+from .groups import grouped
+from .verdict import AGREES, DIFFERS, UNDECIDED, judged
+
+STATUS = {AGREES: 0, DIFFERS: 6, UNDECIDED: 7}
+COMMAND, RECORD, READ = 2, 3, 4
+ENDING = """
+Exit status: 0 where all agree, or where a baseline has just the groups that were seen; 6 where a record
+differs, or otherwise than the baseline; 7 where one is undecided and none differs; 2, 3 and 4 for the
+words, a record or profile of no form, and a file that cannot be read or written.
+"""
+
+
+def words_of(words):
+    parser = argparse.ArgumentParser(prog="psci compare", allow_abbrev=False, epilog=ENDING,
+                                     formatter_class=argparse.RawDescriptionHelpFormatter,
+                                     description="Judges records of the calls of any PSCI firmware.")
+    add = parser.add_argument
+    add("records", metavar="RECORD", nargs="+", help="docs/JUDGE.md has its lines")
+    add("--profile", metavar="FILE", help="what the firmware declares of itself")
+    add("--declare", action="store_true", help="print the profile's line of functions, as PSCI_FEATURES has it")
+    add("--each", action="store_true", help="print each difference")
+    add("--baseline", metavar="FILE", help="groups that are known; new and vanished ones fail")
+    add("--write-baseline", metavar="FILE", help="keep the groups that were seen")
+    add("--tap", action="store_true", help="print TAP alone")
+    add("--junit", metavar="FILE", help="write JUnit's XML")
+    add("--bound", metavar="N", type=int, default=20000, help="states for one answer, 20000")
+    add("--limit", metavar="SECONDS", type=float, default=60, help="seconds for one record, 60")
+    add("--whole", action="store_true", help="search without reductions from the start")
+    return parser.parse_args(words)
+
+
+def end(status, text):
+    print(f"psci compare: {text}", file=sys.stderr)
+    sys.exit(status)
+
+
+def names_of(paths):
+    """Short names of records: the last folder and the file, without its ending."""
+    return ["/".join(os.path.splitext(os.path.abspath(it))[0].split("/")[-2:]) for it in paths]
+
+
+def judge(words, lives_of, peer):
+    verdicts = [judged(name, lives, peer, words.bound, words.limit, words.whole) for name, lives in lives_of]
+    groups = grouped(verdicts)
+    known = report.read_baseline(words.baseline) if words.baseline else None
+    if words.write_baseline:
+        report.write_baseline(words.write_baseline, groups)
+    if words.junit:
+        with open(words.junit, "w", encoding="utf-8") as file:
+            file.write(report.junit(verdicts, known or set()))
+    if words.tap:
+        print("\n".join(report.tap(verdicts, known or set())))
+    else:
+        print("\n".join(report.lines(verdicts, groups, words.each)))
+    found = {it.word for it in verdicts}
+    if known is not None:
+        changes = report.against(known, groups)
+        if not words.tap:
+            print("\n".join(changes or ["the groups are those of the baseline"]))
+        found = (found - {DIFFERS}) | {DIFFERS if changes else AGREES}
+    return max((STATUS[it] for it in found), key=(0, 7, 6).index)
+
+
+def main(words):
+    words = words_of(words)
+    try:
+        lives_of = []
+        for name, path in zip(names_of(words.records), words.records):
+            try:
+                lives_of.append((name, record.read(path)))
+            except record.Unreadable as fault:
+                end(RECORD, f"{path}: {fault}")
+        if words.declare:
+            print(profile.declared([life for _, lives in lives_of for life in lives]))
+            return 0
+        if not words.profile:
+            end(COMMAND, "a record of calls needs --profile FILE; docs/JUDGE.md says what stands there")
+        return judge(words, lives_of, profile.read(words.profile))
+    except (profile.Wrong, ValueError) as fault:
+        end(RECORD, fault)
+    except OSError as fault:
+        end(READ, f"{fault.filename}: {fault.strerror}")

@@ -1,0 +1,179 @@
+"""Reads a record of calls: the operations of each core, life by life."""
+from collections import namedtuple
+
+from .words import LOW, SLEEPS, STOPS, code_of, name_of
+
+MARK, END = "psci: ", " ."
+INFINITE = float("inf")
+# how many numbers each kind of line has
+FIELDS = {"head": 6, "call": 14, "open": 7, "enter": 5, "late": 2, "lacks": 5, "fault": 3}
+FORM = 1
+# registers that a call has to keep by every version of the calling convention, x18 to x30
+KEPT = 0x7FFC0000
+# what a record says that is no answer: kind is "fault" or "note"
+Remark = namedtuple("Remark", "kind what text")
+
+
+class Unreadable(Exception):
+    """This is no record of calls; the text says why."""
+
+
+class Operation:
+    """What a core did: a call with its answer, an entry, the end of a standby, or a look whether
+    another core has entered. It took effect between `begin` and `end`.
+
+    `want` is ("return", code), ("stop",), ("enter", address, context), ("resume",),
+    ("absent", core), or ("any",) for a call that is open at the end."""
+    __slots__ = ("core", "at", "begin", "end", "regs", "want", "text", "is_halved")
+
+    def __init__(self, core, begin, end, regs, want, text):
+        self.core, self.begin, self.end, self.regs, self.want, self.text = core, begin, end, regs, want, text
+        self.at, self.is_halved = 0, False
+
+    @property
+    def word(self):
+        return self.regs[0] & LOW if self.regs else None
+
+
+class Life:
+    """What was recorded from a start of the machine to its end."""
+
+    def __init__(self, head):
+        self.head, self.operations, self.remarks = head, {}, []
+        # suspends from which no core came back
+        self.broken = []
+
+    def ordered(self):
+        """The operations that came to an end, as their ends follow each other."""
+        every = [it for mine in self.operations.values() for it in mine if it.end < INFINITE]
+        return sorted(every, key=lambda it: (it.end, it.core, it.at))
+
+
+def lines_of(file):
+    """The kinds and numbers of the lines that are the record's."""
+    for number, text in enumerate(file, 1):
+        text = text.strip()
+        if not (text.startswith(MARK) and text.endswith(END)):
+            continue
+        kind, *numbers = text[len(MARK):-len(END)].split(" ")
+        try:
+            numbers = [int(it, 16) for it in numbers]
+        except ValueError:
+            raise Unreadable(f"line {number}: a number is none") from None
+        if len(numbers) != FIELDS.get(kind):
+            raise Unreadable(f"line {number}: no line of a record has this form")
+        yield kind, numbers
+
+
+def is_of_calls(path):
+    """Whether a file is a record of calls."""
+    with open(path, encoding="ascii", errors="replace") as file:
+        return any(line.startswith(MARK + "head ") for line in file)
+
+
+def read(path):
+    """The lives of a record."""
+    lives, raw = [], None
+    with open(path, encoding="ascii", errors="replace") as file:
+        for kind, numbers in lines_of(file):
+            if kind == "head":
+                if numbers[0] != FORM:
+                    raise Unreadable(f"the record has form {numbers[0]}, and this reads form {FORM}")
+                if numbers[5] != 0:
+                    raise Unreadable("the core that booted is not core 0")
+                raw = {}
+                lives.append((Life(numbers), raw))
+            elif raw is None:
+                raise Unreadable("no line psci: head stands before the first other one")
+            else:
+                keep(lives[-1][0], raw, kind, numbers)
+    if not lives:
+        raise Unreadable("it has no line psci: head")
+    for life, raw in lives:
+        gather(life, raw)
+    return [life for life, _ in lives]
+
+
+def keep(life, raw, kind, numbers):
+    """Keeps a line by its core and number; an open call gives way to what came of it."""
+    if kind == "late":
+        life.remarks.append(Remark("note", "late", f"core {numbers[0]}: step {numbers[1]} did not end in time"))
+    elif kind == "fault":
+        text = f"core {numbers[0]}: exception, syndrome {numbers[1]:#x}, at {numbers[2]:#x}"
+        life.remarks.append(Remark("fault", "exception", text))
+    else:
+        key = numbers[0], numbers[1]
+        if key not in raw or raw[key][0] == "open":
+            raw[key] = kind, numbers
+
+
+def gather(life, raw):
+    """Makes operations of the lines."""
+    of_core = {}
+    for core, number in sorted(raw):
+        of_core.setdefault(core, []).append(raw[core, number])
+    for core, lines in of_core.items():
+        mine = life.operations[core] = []
+        for at, (kind, numbers) in enumerate(lines):
+            is_last = at + 1 == len(lines)
+            mine += {"call": called, "open": opened, "enter": entered, "lacks": lacked}[kind](life, numbers, is_last)
+        for at, it in enumerate(mine):
+            it.at = at
+            if it.want == ("stop",) and at + 1 < len(mine):
+                it.end = mine[at + 1].end
+
+
+def told(core, regs):
+    return f"core {core}: {name_of(regs[0])} " + " ".join(f"{it:#x}" for it in regs[1:])
+
+
+def called(life, numbers, _is_last):
+    """A call that came back; two operations where it is a run of polls, or may be a standby."""
+    core, _, begin, end, many = numbers[:5]
+    regs, results, lost = numbers[5:9], numbers[9:13], numbers[13]
+    code = code_of(regs[0], results[0])
+    first = Operation(core, begin, end, regs, ("return", code), told(core, regs))
+    look_at_registers(life, first, results, lost)
+    if many > 1:
+        return [first, Operation(core, begin, end, regs, ("return", code), first.text + " (the last poll)")]
+    if first.word in SLEEPS and code == 0:
+        first.is_halved = True
+        return [first, Operation(core, None, end, None, ("resume",), first.text + " (it goes on)")]
+    return [first]
+
+
+def look_at_registers(life, operation, results, lost):
+    regs = operation.regs
+    if lost & KEPT:
+        names = ", ".join(f"x{it}" for it in range(18, 31) if lost >> it & 1)
+        life.remarks.append(Remark("fault", "registers that are to be kept", f"{operation.text}: {names}"))
+    elif lost:
+        life.remarks.append(Remark("note", "x4 to x17 changed, as version 1.0 of the convention lets them",
+                                   operation.text))
+    if results[1:] != regs[1:]:
+        life.remarks.append(Remark("note", "x1 to x3 changed", operation.text))
+    if not regs[0] & 1 << 30 and results[0] > LOW:
+        life.remarks.append(Remark("note", "the upper half of a 32-bit result is not zero", operation.text))
+
+
+def opened(life, numbers, is_last):
+    """A call that did not come back: the core stopped, or the record ended."""
+    core, _, begin, regs = *numbers[:3], numbers[3:]
+    operation = Operation(core, begin, INFINITE, regs, ("any",) if is_last else ("stop",), told(core, regs))
+    if is_last and operation.word in SLEEPS:
+        life.broken.append(operation)
+    elif is_last and operation.word not in STOPS:
+        life.remarks.append(Remark("note", "never came back", operation.text))
+    return [operation]
+
+
+def entered(_life, numbers, _is_last):
+    core, _, at, address, context = numbers
+    return [Operation(core, None, at, None, ("enter", address, context),
+                      f"core {core} enters {address:#x} {context:#x}")]
+
+
+def lacked(_life, numbers, _is_last):
+    core, _, at, target, times = numbers
+    return [Operation(core, None, at, None, ("absent", target),
+                      f"core {core} waits for entry {times} of core {target}")]

@@ -1,0 +1,65 @@
+"""The verdict on a record."""
+import time
+from collections import namedtuple
+
+from . import after
+from .search import Search, Undecided
+
+# operation, what ours answers, and whether an earlier difference of the record came first
+Difference = namedtuple("Difference", "operation ours is_later")
+AGREES, DIFFERS, UNDECIDED = "agrees", "differs", "undecided"
+
+
+class Verdict:
+    """What was found of a record: its differences, remarks, and why it is undecided, if it is."""
+
+    def __init__(self, name):
+        self.name, self.answers, self.differences, self.remarks = name, 0, [], []
+        self.undecided, self.seconds, self.tried = None, 0.0, 0
+
+    @property
+    def word(self):
+        certain = self.differences or any(it.kind == "fault" for it in self.remarks)
+        return DIFFERS if certain else UNDECIDED if self.undecided else AGREES
+
+    def add(self, operation, ours, is_first_of_life=False):
+        self.differences.append(Difference(operation, ours, bool(self.differences) and not is_first_of_life))
+
+
+def judged(name, lives, profile, bound=20000, limit=60.0, is_whole=False):
+    """The verdict on the lives of a record."""
+    verdict, began = Verdict(name), time.monotonic()
+    for life in lives:
+        verdict.remarks += life.remarks
+        look_at_life(verdict, life, profile, bound, began + limit, is_whole)
+    verdict.seconds = time.monotonic() - began
+    return verdict
+
+
+def look_at_life(verdict, life, profile, bound, until, is_whole):
+    search, has_differed, at = Search(life, profile, bound, until, is_whole), False, 0
+    ordered = life.ordered()
+    try:
+        while at < len(ordered):
+            ours = search.answer(ordered[at])
+            if ours is not None and not search.is_whole:
+                # reductions only make it faster: what they find is looked for once more without them,
+                # from the beginning, or behind an earlier difference from here
+                if not has_differed:
+                    search, at = Search(life, profile, bound, until, is_whole=True), 0
+                    continue
+                search.is_whole = True
+                ours = search.answer(ordered[at])
+            if ours is not None:
+                verdict.add(ordered[at], ours, not has_differed)
+                has_differed = True
+                after.go_on(search, ordered[at])
+            if has_differed:
+                search.is_whole = is_whole
+            at += 1
+    except Undecided as why:
+        verdict.undecided = f"{why}, at {ordered[at].text}"
+    verdict.answers += at
+    verdict.tried = max(verdict.tried, search.tried)
+    for operation in life.broken:
+        verdict.add(operation, ["a wake-up"], not has_differed)
