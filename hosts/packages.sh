@@ -36,3 +36,35 @@ fetch_guest() {
     for image in linux-image-*.deb busybox-static*.deb; do dpkg-deb -x "$image" packages; done
     cd - > /dev/null
 }
+
+has_kexec() { [ -e "$cache/kexec/fetched" ]; }
+
+# The command kexec of the guest, with the libraries that it names, into $cache/kexec.
+fetch_kexec() {
+    local package packages=(kexec-tools libc6 zlib1g libxenmisc4.17 libxencall1 libxentoolcore1
+        libxendevicemodel1 libxenevtchn1 libxenforeignmemory1 libxengnttab1 libxentoollog1)
+    mkdir -p "$cache/kexec"
+    cd "$cache/kexec"
+    own_apt
+    say "downloading kexec and its libraries (4 MB)"
+    for package in "${packages[@]}"; do
+        apt-get download -qq "$package" || stop "no package $package of arm64 can be had"
+        dpkg-deb -x "${package}"_*.deb .
+    done
+    touch fetched
+    cd - > /dev/null
+}
+
+# for_kexec KERNEL INITRAMFS [NAME=FILE..]: makes the guest's file system anew with what it needs for
+# kexec: the command, its libraries, the kernel, and the file system as it was. NAMEs are in both.
+for_kexec() {
+    local hosts library libraries=(ld-linux-aarch64.so.1 libc.so.6 libz.so.1 libxenctrl.so.4.17) further
+    libraries+=(libxen{call,toolcore,devicemodel,evtchn,foreignmemory,gnttab,toollog}.so.1)
+    further=(kernel="$1" initramfs="$2" bin/kexec="$cache/kexec/sbin/kexec" "${@:3}")
+    for library in "${libraries[@]}"; do
+        further+=("lib/$library=$(find "$cache/kexec" -name "$library" -print -quit)")
+    done
+    hosts=$(dirname "${BASH_SOURCE[0]}")
+    "$hosts/qemu/initramfs" "$cache/packages/bin/busybox" "$hosts/qemu/init" "${further[@]}" > "$2.both"
+    mv "$2.both" "$2"
+}

@@ -47,12 +47,23 @@ wrong_records() {
 el3_faults() {
     local file copy=$work/el3-copy
     command -v patch > /dev/null || { skip "faults of hosts/el3" patch; return; }
+    command -v aarch64-linux-gnu-gcc > /dev/null ||
+        skip "compiling faults of hosts/el3" aarch64-linux-gnu-gcc
     for file in hosts/el3/faults/*.patch; do
         rm -rf "$copy"
         cp -r hosts/el3 "$copy"
-        if patch -s -d "$copy" -p1 < "$file" && ! diff -rq hosts/el3 "$copy" > "$work/out"; then pass; else
-            fail "$file"
-        fi
+        if patch -s -d "$copy" -p1 < "$file" && ! diff -rq hosts/el3 "$copy" > "$work/out" &&
+            compiles "$copy"; then pass; else fail "$file"; fi
+    done
+}
+
+# compiles FOLDER: whether this port does, where there is a compiler, with its record and without
+compiles() {
+    local flags
+    command -v aarch64-linux-gnu-gcc > /dev/null || return 0
+    for flags in "" "-DRECORD -DLOSE=5"; do
+        make -s -C "$1" TOP="$PWD" OUT="$work/el3-objects" FLAGS="$flags" clean objects \
+            >> "$work/out" 2>&1 || return
     done
 }
 
@@ -95,6 +106,8 @@ el3_live() {
     live extended --board "(2 2) $rest lives 65535 format extended" each idle
     live three-lives --board "(2 2) $rest lives 3" each reboot
     live sixteen --board "((4 4) (4 4)) $rest lives 65535" boot-core idle
+    [ -e "$cache/kexec/fetched" ] || { skip "kexec at EL3" "$cache/kexec"; return; }
+    live kexec each kexec each boot-core idle suspend-5
 }
 
 # live NAME WORD..: a run, which has to end well and to be answered as by the program

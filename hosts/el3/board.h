@@ -38,10 +38,11 @@ static inline uint64_t mpidr_of(unsigned core) { return core / ROW << 8 | core %
 /* The core of these fields, which may be off the board. */
 static inline unsigned core_of(uint64_t mpidr) { return (mpidr & 255) + (mpidr >> 8 & 255) * ROW; }
 
+/* Its number, which reset.S has put there. */
 static inline unsigned this_core(void) {
-    uint64_t mpidr;
-    __asm__("mrs %0, mpidr_el1" : "=r"(mpidr));
-    return core_of(mpidr & 0xff00ffffff);
+    uint64_t core;
+    __asm__("mrs %0, tpidr_el3" : "=r"(core));
+    return core;
 }
 
 /* The board's affinity word for the core that this one names on the machine; else one of no core. */

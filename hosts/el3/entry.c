@@ -32,48 +32,52 @@ void wait_for_start(unsigned core, bool wakes) {
     }
 }
 
-/* The registers of a core that begins. Nobody has asked for the first entry of a life: there the boot
- * core gets what Linux wants in x0. */
-static void begin(struct context *context, uint64_t address, uint64_t x0) {
-    *context = (struct context){.x = {x0}, .elr = address, .spsr = 0x3c9}; /* EL2, all masked */
+/* Nobody has asked for the first entry of a life: there the boot core gets what Linux wants in x0. */
+static _Noreturn void begin(const struct psci_ctl_start *start, const struct psci_answer *answer) {
+    COUNT(entries);
     begin_normal_world();
+    leave_for(answer->address, start->cause == PSCI_BOOT ? DEVICE_TREE : answer->context);
 }
 
-/* Enters by the start that stands at the core's door, and again after each stop, until it goes on. */
-void enter(unsigned core, struct context *context) {
-    struct door *door = &shared.doors[core];
+/* The entry by the start that stands at the core's door. */
+static void enter_once(unsigned core, struct psci_ctl_start *start, struct psci_answer *answer) {
+    used[core] = LOAD(shared.doors[core].opened);
+    *start = shared.doors[core].start;
+    lock();
+    take_acks();
+    psci_enter(&firmware, core, start->life, start->number, start->cause, answer);
+    record_enter(core, start, answer);
+    post(&answer->message);
+    unlock();
+}
+
+/* A core that parks, or whose entry was refused, waits for its next start, and enters by that. */
+void enter(unsigned core) {
+    struct psci_ctl_start start;
     struct psci_answer answer;
     for (;;) {
-        used[core] = LOAD(door->opened);
-        struct psci_ctl_start start = door->start;
-        lock();
-        take_acks();
-        psci_enter(&firmware, core, start.life, start.number, start.cause, &answer);
-        record_enter(core, &start, &answer);
-        post(&answer.message);
-        unlock();
+        enter_once(core, &start, &answer);
         switch (answer.what) {
-        case PSCI_ENTER:
-            COUNT(entries);
-            begin(context, answer.address, start.cause == PSCI_BOOT ? DEVICE_TREE : answer.context);
-            return;
-        case PSCI_RESUME:
-            COUNT(resumes);
-            context->x[0] = 0;
-            return;
-        case PSCI_STOP:
-            COUNT(parks);
-            wait_for_start(core, false);
-            break;
+        case PSCI_ENTER: begin(&start, &answer);
+        case PSCI_RESUME: COUNT(resumes); return;
+        case PSCI_STOP: COUNT(parks); break;
         default:
             COUNT(refused);
             say("# el3: the entry of core %u was refused: %u\n", core, answer.what);
-            wait_for_start(core, false);
         }
+        wait_for_start(core, false);
     }
 }
 
-void on_reset(struct context *context) {
+/* The firmware lets a core resume only from standby or retention, so never after a reset. */
+static _Noreturn void lost_registers(unsigned core) {
+    COUNT(refused);
+    say("# el3: core %u resumes, and has no registers to go on with\n", core);
+    for (;;)
+        wait_for_interrupt();
+}
+
+void on_reset(void) {
     unsigned core = this_core();
     if (core == 0 && LOAD(kept.boot) != READY) {
         start_machine();
@@ -86,5 +90,6 @@ void on_reset(struct context *context) {
         control_power();
     if (LOAD(shared.doors[core].opened) == used[core])
         wait_for_start(core, false);
-    enter(core, context);
+    enter(core);
+    lost_registers(core);
 }

@@ -7,14 +7,8 @@
 
 struct shared shared;
 struct psci_place firmware;
-static bool taken;
-
-void lock(void) {
-    while (__atomic_test_and_set(&taken, __ATOMIC_ACQUIRE)) {
-    }
-}
-
-void unlock(void) { __atomic_clear(&taken, __ATOMIC_RELEASE); }
+struct psci_poller pollers[CORES];
+uint32_t taken;
 
 /* A bad link, for trials: of so many frames one is lost. */
 static bool is_lost(void) {
@@ -37,11 +31,9 @@ bool put_frame(struct ring *ring, const uint8_t *frame) {
     return true;
 }
 
-bool has_frame(const struct ring *ring) { return ring->first != LOAD(ring->end); }
-
 bool get_frame(struct ring *ring, uint8_t *frame) {
     uint32_t first = ring->first;
-    if (!has_frame(ring))
+    if (first == LOAD(ring->end))
         return false;
     memcpy(frame, ring->frames[first % MOST_FRAMES], PSCI_FRAME_LEN);
     STORE(ring->first, first + 1);
@@ -56,17 +48,14 @@ static void start_timer(void) {
     write_register("cntps_ctl_el1", 1);
 }
 
-void post(const struct psci_frame *message) {
-    if (!message->some)
-        return;
+void send(const struct psci_frame *message) {
     COUNT(messages);
     put_frame(&shared.messages, message->bytes);
     gic_ring(SCP);
     start_timer();
 }
 
-/* Apart from the loop, which most calls find empty. */
-__attribute__((noinline)) static void take_ack(void) {
+void take_ack(void) {
     uint8_t frame[PSCI_FRAME_LEN];
     get_frame(&shared.acks, frame);
     uint32_t what = psci_take(&firmware, frame, PSCI_FRAME_LEN);
@@ -76,11 +65,6 @@ __attribute__((noinline)) static void take_ack(void) {
         COUNT(refused);
         say("# el3: an acknowledgement was refused: %u\n", what);
     }
-}
-
-void take_acks(void) {
-    while (has_frame(&shared.acks))
-        take_ack();
 }
 
 static void send_again(void) {

@@ -4,20 +4,37 @@
 
 #include "shared.h"
 
+#include <stdbool.h>
+
 extern struct psci_place firmware;
 
+/* Each core's own way to ask for the status of a core, without the lock. */
+extern struct psci_poller pollers[CORES];
+
 /* Around each call of the firmware. It works since a core turns its MMU and caches on before. */
-void lock(void);
-void unlock(void);
+extern uint32_t taken;
+static inline void lock(void) {
+    while (__atomic_exchange_n(&taken, 1, __ATOMIC_ACQUIRE)) {
+    }
+}
+static inline void unlock(void) { __atomic_store_n(&taken, 0, __ATOMIC_RELEASE); }
 
 /* Of a ring: whether there was room, or a frame. */
 bool put_frame(struct ring *, const uint8_t *frame);
-bool has_frame(const struct ring *);
+static inline bool has_frame(const struct ring *ring) { return ring->first != PEEK(ring->end); }
 bool get_frame(struct ring *, uint8_t *frame);
 
-/* Under the lock: a message into the mailbox; all that was acknowledged. */
-void post(const struct psci_frame *message);
-void take_acks(void);
+/* Under the lock: a message into the mailbox, if there is one; all that was acknowledged. */
+void send(const struct psci_frame *message);
+static inline void post(const struct psci_frame *message) {
+    if (message->some)
+        send(message);
+}
+void take_ack(void);
+static inline void take_acks(void) {
+    while (has_frame(&shared.acks))
+        take_ack();
+}
 
 /* Somebody rang, or this core's secure timer: takes what was acknowledged, and at the timer's ring what
  * was outstanding a while ago, and is still, goes into the mailbox once more. */

@@ -17,7 +17,8 @@
 /* Memory that the normal world can't reach. A reset of the machine leaves what it holds. */
 #define SECURE_MEMORY 0x0e000000
 #define STACKS 0x0e200000
-#define STACK 0x4000           /* of each core */
+#define STACK (1 << STACK_BITS) /* of each core */
+#define STACK_BITS 14
 #define RECORD_START 0x0e400000
 #define RECORD_END 0x0f000000
 

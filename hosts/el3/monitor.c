@@ -5,12 +5,22 @@
 #include "monitor.h"
 #include "record.h"
 
-enum { CPU_ON = 3, AFFINITY_INFO = 4, NODE_HW_STATE = 13 };
+enum { CPU_ON = 3, AFFINITY_INFO = 4, FEATURES = 10, NODE_HW_STATE = 13 };
 #define SMC64 0x40000000u
 
 /* The function of a word in the range of PSCI. */
 static unsigned function_of(uint64_t word) { return word & 0x1f; }
 static bool is_psci(uint64_t word) { return (word & 0xbfffffe0) == 0x84000000; }
+
+/* AFFINITY_INFO of a core, which is asked in a row by who waits for it. */
+static bool is_poll(const uint64_t *x) {
+    return function_of(x[0]) == AFFINITY_INFO && (uint32_t)x[2] == 0;
+}
+
+/* Whether there is SMCCC_VERSION, which is a fact of the machine and not the firmware's to say. */
+static bool asks_of_smccc(const uint64_t *x) {
+    return function_of(x[0]) == FEATURES && (uint32_t)x[1] == SMCCC_VERSION && !(x[0] & SMC64);
+}
 
 static bool names_a_core(unsigned function) {
     return function == CPU_ON || function == AFFINITY_INFO || function == NODE_HW_STATE;
@@ -34,34 +44,51 @@ static bool keeps_registers(const struct psci_stop *how) {
 }
 
 /* Caches are cleaned here, as deep as the core goes. QEMU has none. */
-static void stop(unsigned core, struct context *context, const struct psci_stop *how) {
+static void stop(unsigned core, const struct psci_stop *how) {
     COUNT(stops);
     wait_for_start(core, how->wakes);
     if (!keeps_registers(how))
         cold();
-    enter(core, context);
+    enter(core);
 }
 
-static void on_call(unsigned core, struct context *context) {
-    uint64_t *x = context->x, word = x[0];
-    struct psci_answer answer;
-    struct psci_stop how;
+static void refused(unsigned core, const struct psci_answer *answer) {
+    COUNT(refused);
+    say("# el3: a call of core %u was refused: %u\n", core, answer->what);
+}
+
+/* The answer and, where the core is to stop, how; and the message stands in the mailbox. */
+static void ask(unsigned core, const uint64_t *x, struct psci_answer *answer, struct psci_stop *how) {
     lock();
     take_acks();
-    psci_smc(&firmware, core, word, target_of(x), x[2], x[3], &answer);
-    psci_stop(&firmware, core, word, &how);
-    record_call(core, x, &answer);
-    post(&answer.message);
+    psci_smc(&firmware, core, x[0], target_of(x), x[2], x[3], answer);
+    if (answer->what == PSCI_STOP)
+        psci_stop(&firmware, core, x[0], how);
+    record_call(core, x, answer);
+    post(&answer->message);
     unlock();
-    COUNT(calls);
-    switch (answer.what) {
-    case PSCI_RETURN: x[0] = register_of(answer.code, word); break;
-    case PSCI_STOP: stop(core, context, &how); break;
-    default:
-        COUNT(refused);
-        say("# el3: a call of core %u was refused: %u\n", core, answer.what);
-        x[0] = ~0ull;
+}
+
+/* What goes into x0. */
+static uint64_t on_call(unsigned core, const uint64_t *x) {
+    struct psci_answer answer;
+    struct psci_stop how;
+    ask(core, x, &answer, &how);
+    if (answer.what == PSCI_RETURN)
+        return register_of(answer.code, x[0]);
+    if (answer.what != PSCI_STOP) {
+        refused(core, &answer);
+        return ~0ull;
     }
+    stop(core, &how);
+    return 0;
+}
+
+/* It is answered by one load, without the lock: who holds it is not waited for. */
+static uint64_t on_poll(unsigned core, const uint64_t *x) {
+    int32_t code = psci_poll(&pollers[core], target_of(x));
+    record_poll(core, x, code);
+    return register_of(code, x[0]);
 }
 
 void on_unexpected(uint64_t vector, uint64_t esr, uint64_t elr, uint64_t far) {
@@ -71,16 +98,15 @@ void on_unexpected(uint64_t vector, uint64_t esr, uint64_t elr, uint64_t far) {
 }
 
 void on_exception(struct context *context, uint64_t esr) {
-    if (esr >> 26 != 0x17) { /* no SMC of AArch64 */
-        on_unexpected(8, esr, context->elr, 0);
-    } else if (answer_smccc(context->x)) {
-        COUNT(beside);
-    } else if (is_psci(context->x[0])) {
-        on_call(this_core(), context);
-    } else {
-        COUNT(beside);
-        context->x[0] = ~0ull;
-    }
+    uint64_t *x = context->x;
+    if (esr >> 26 != 0x17) /* no SMC of AArch64 */
+        on_unexpected(8, esr, read_register("elr_el3"), 0);
+    else if (!is_psci(x[0]) || asks_of_smccc(x))
+        x[0] = answer_beside(x);
+    else if (is_poll(x))
+        x[0] = on_poll(this_core(), x);
+    else
+        x[0] = on_call(this_core(), x);
 }
 
 void on_fiq(void) { serve_link(gic_answer()); }

@@ -5,7 +5,7 @@
 #include "string.h"
 
 #ifdef RECORD
-enum kind { CALL, ENTER, TAKE, STANDS, DELIVER, WAKE };
+enum kind { CALL, POLL, ENTER, TAKE, STANDS, DELIVER, WAKE };
 
 /* What happened, and with an answer of the firmware or of the power controller what came of it. */
 struct event {
@@ -81,6 +81,12 @@ void record_take(const uint8_t *frame, uint32_t what) {
     put_event(&event);
 }
 
+void record_poll(unsigned core, const uint64_t *x, int32_t code) {
+    struct event event = {.kind = POLL, .core = core, .what = code};
+    memcpy(event.x, x, sizeof event.x);
+    put_event(&event);
+}
+
 void record_stands(unsigned core, uint32_t number) {
     put_event(&(struct event){.kind = STANDS, .core = core, .number = number});
 }
@@ -124,6 +130,10 @@ static void say_event(const struct event *event) {
     case CALL:
         say_part("call %u %x %x %x %x -> ", event->core, x[0], x[1], x[2], x[3]);
         say_answer(&event->answer);
+        break;
+    case POLL:
+        say_part("poll %u %x %x %x -> ", event->core, x[0], x[1], x[2]);
+        say_part(event->what == PSCI_NO_FIRMWARE ? "refused 16" : "return %d", event->what);
         break;
     case ENTER:
         say_part("enter %u %u %u %u -> ", event->core, event->start.life, event->start.number,

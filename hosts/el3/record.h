@@ -15,6 +15,9 @@ void record_call(unsigned core, const uint64_t *x, const struct psci_answer *);
 void record_enter(unsigned core, const struct psci_ctl_start *, const struct psci_answer *);
 void record_take(const uint8_t *frame, uint32_t what);
 
+/* Without the lock: what a core was told of a core's status. */
+void record_poll(unsigned core, const uint64_t *x, int32_t code);
+
 /* By a core, before anybody can see that it stands in its stop of this start. */
 void record_stands(unsigned core, uint32_t number);
 
@@ -29,6 +32,7 @@ bool record_tell(void);
 #define record_call(core, x, answer) ((void)(x))
 #define record_enter(core, start, answer) ((void)(start))
 #define record_take(frame, what) ((void)(frame))
+#define record_poll(core, x, code) ((void)(x))
 #define record_stands(core, number) ((void)(number))
 #define record_deliver(frame, answer) ((void)(frame))
 #define record_wake(core, halted, answer) ((void)(halted))

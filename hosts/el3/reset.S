@@ -2,6 +2,41 @@
 #include "context.h"
 #include "machine.h"
 
+        .macro  save_context    /* x0 is where it stands */
+        stp     x0, x1, [sp, #-CONTEXT_SIZE]!
+        stp     x2, x3, [sp, #16]
+        stp     x4, x5, [sp, #32]
+        stp     x6, x7, [sp, #48]
+        stp     x8, x9, [sp, #64]
+        stp     x10, x11, [sp, #80]
+        stp     x12, x13, [sp, #96]
+        stp     x14, x15, [sp, #112]
+        stp     x16, x17, [sp, #128]
+        stp     x18, x30, [sp, #144]
+        mov     x0, sp
+        .endm
+
+        .macro  leave           /* to the normal world, as its context says */
+        ldp     x2, x3, [sp, #16]
+        ldp     x4, x5, [sp, #32]
+        ldp     x6, x7, [sp, #48]
+        ldp     x8, x9, [sp, #64]
+        ldp     x10, x11, [sp, #80]
+        ldp     x12, x13, [sp, #96]
+        ldp     x14, x15, [sp, #112]
+        ldp     x16, x17, [sp, #128]
+        ldp     x18, x30, [sp, #144]
+        ldp     x0, x1, [sp], #CONTEXT_SIZE
+        eret
+        .endm
+
+        .macro  own_stack a, b  /* the stack of this core, whose number is in TPIDR_EL3 */
+        mrs     \a, tpidr_el3
+        ldr     \b, =STACKS + STACK
+        add     \b, \b, \a, lsl #STACK_BITS
+        mov     sp, \b
+        .endm
+
         .section .text.reset, "ax"
         .global reset
 reset:  b       cold
@@ -17,74 +52,32 @@ vectors:
         unexpected_at \n
         .endr
         .balign 128             /* synchronous, of a lower level in AArch64 */
-        b       from_call
+        save_context
+        mrs     x1, esr_el3
+        bl      on_exception
+        leave
         unexpected_at 9         /* IRQ: not routed here */
         .balign 128             /* FIQ: the bell, or the secure timer */
-        b       from_fiq
+        save_context
+        bl      on_fiq
+        leave
         .irp    n, 11,12,13,14,15
         unexpected_at \n
         .endr
 
         .text
-/* The stack of a core begins with the context of its normal world. */
-        .macro  save_context
-        sub     sp, sp, #CONTEXT_SIZE
-        stp     x0, x1, [sp, #0]
-        stp     x2, x3, [sp, #16]
-        stp     x4, x5, [sp, #32]
-        stp     x6, x7, [sp, #48]
-        stp     x8, x9, [sp, #64]
-        stp     x10, x11, [sp, #80]
-        stp     x12, x13, [sp, #96]
-        stp     x14, x15, [sp, #112]
-        stp     x16, x17, [sp, #128]
-        stp     x18, x19, [sp, #144]
-        stp     x20, x21, [sp, #160]
-        stp     x22, x23, [sp, #176]
-        stp     x24, x25, [sp, #192]
-        stp     x26, x27, [sp, #208]
-        stp     x28, x29, [sp, #224]
-        str     x30, [sp, #240]
-        mrs     x0, elr_el3
-        mrs     x1, spsr_el3
-        stp     x0, x1, [sp, #CONTEXT_ELR]
-        mrs     x0, sp_el0
-        str     x0, [sp, #CONTEXT_SP_EL0]
-        mov     x0, sp
-        .endm
-
-from_call:
-        save_context
-        mrs     x1, esr_el3
-        bl      on_exception
-        b       leave
-from_fiq:
-        save_context
-        bl      on_fiq
-
-leave:                          /* to the normal world, as its context says */
-        ldr     x0, [sp, #CONTEXT_SP_EL0]
-        msr     sp_el0, x0
-        ldp     x0, x1, [sp, #CONTEXT_ELR]
+/* _Noreturn void leave_for(uint64_t address, uint64_t x0): enters the normal world there, at EL2
+ * with all interrupts masked. No other register says anything, and the stack is empty again. */
+        .global leave_for
+leave_for:
         msr     elr_el3, x0
-        msr     spsr_el3, x1
-        ldp     x0, x1, [sp, #0]
-        ldp     x2, x3, [sp, #16]
-        ldp     x4, x5, [sp, #32]
-        ldp     x6, x7, [sp, #48]
-        ldp     x8, x9, [sp, #64]
-        ldp     x10, x11, [sp, #80]
-        ldp     x12, x13, [sp, #96]
-        ldp     x14, x15, [sp, #112]
-        ldp     x16, x17, [sp, #128]
-        ldp     x18, x19, [sp, #144]
-        ldp     x20, x21, [sp, #160]
-        ldp     x22, x23, [sp, #176]
-        ldp     x24, x25, [sp, #192]
-        ldp     x26, x27, [sp, #208]
-        ldp     x28, x29, [sp, #224]
-        ldr     x30, [sp, #240]
-        add     sp, sp, #CONTEXT_SIZE
+        mov     x2, #0x3c9
+        msr     spsr_el3, x2
+        mov     x0, x1
+        own_stack x1, x2
+        .irp    n, 1,2,3,4,5,6,7,8,9,10,11,12,13,14,15,16,17,18,19,20,21,22,23,24,25,26,27,28,29,30
+        mov     x\n, #0
+        .endr
         eret
 
 unexpected:
@@ -118,19 +111,14 @@ cold:
         msr     cptr_el3, xzr
         msr     mdcr_el3, xzr
         isb
-        mrs     x0, mpidr_el1
+        mrs     x0, mpidr_el1           /* the number of the core, which is kept in TPIDR_EL3 */
         and     x1, x0, #0xff
         ubfx    x0, x0, #8, #8
         mov     x2, #ROW
         madd    x0, x0, x2, x1
-        add     x0, x0, #1
-        mov     x2, #STACK
-        ldr     x3, =STACKS
-        madd    x0, x0, x2, x3
-        sub     sp, x0, #CONTEXT_SIZE
-        mov     x0, sp
+        msr     tpidr_el3, x0
+        own_stack x0, x1
         bl      on_reset
-        b       leave
 
 #ifdef STRICT                           /* SCTLR_EL3.A: an access that is not aligned is a fault */
         .set    SCTLR, 0x30c5183f

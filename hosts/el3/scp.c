@@ -7,8 +7,14 @@
 #include "record.h"
 #include "string.h"
 
-/* Of each core a Down that waits for its core's stop. */
-static struct psci_frame waiting[CORES];
+/* A message of the firmware, as it came, and its fields. */
+struct message {
+    uint8_t frame[PSCI_FRAME_LEN];
+    struct psci_message fields;
+};
+
+/* Of each core a Down that waits for its core's stop, if one does. */
+static struct { bool some; struct message down; } waiting[CORES];
 
 /* Of each core the last start in whose stop it was woken. */
 static uint64_t heard[CORES];
@@ -45,8 +51,8 @@ static void switch_domain(const struct psci_ctl_domain *domain) {
 
 static void tell_tally(void) {
     const struct tally *it = &kept.tally;
-    say("# calls handled %u, answered beside it %u, stops %u, entries %u, resumes %u, parks %u\n",
-        it->calls, it->beside, it->stops, it->entries, it->resumes, it->parks);
+    say("# stops %u, entries %u, resumes %u, parks %u\n", it->stops, it->entries, it->resumes,
+        it->parks);
     say("# messages %u, acknowledgements %u, wakes %u, Downs that waited %u, sent again %u, lost %u\n",
         it->messages, it->acks, it->wakes, it->waited, it->again, it->dropped);
     say("# refused %u, power cuts %u\n", it->refused, it->cuts);
@@ -100,54 +106,56 @@ static void obey(const struct psci_ctl_answer *answer) {
 
 /* What comes to it --------------------------------------------------------------------------- */
 
-static bool ends_the_life(const uint8_t *frame) {
-    return frame[2] == PSCI_OFF || frame[2] == PSCI_RESET_SYSTEM;
+/* The next message, if there is one. What is no frame of the board has no kind: it goes on to the power
+ * controller, which refuses it. */
+static bool get_message(struct message *message) {
+    message->fields = (struct psci_message){0};
+    if (!get_frame(&shared.messages, message->frame))
+        return false;
+    psci_decode(&kept.reader, message->frame, PSCI_FRAME_LEN, &message->fields);
+    return true;
 }
 
 /* Off and Reset are carried out with the lock in hand: no core is inside a call then, nor makes one. */
-static void deliver(const uint8_t *frame) {
+static void deliver(const struct message *message) {
     struct psci_ctl_answer answer;
-    bool ends = ends_the_life(frame);
+    bool ends = message->fields.kind == PSCI_OFF || message->fields.kind == PSCI_RESET_SYSTEM;
     if (ends)
         lock();
-    psci_ctl_deliver(&kept.controller, frame, PSCI_FRAME_LEN, &answer);
+    psci_ctl_deliver(&kept.controller, message->frame, PSCI_FRAME_LEN, &answer);
     switch_power(&answer);
-    record_deliver(frame, &answer);
+    record_deliver(message->frame, &answer);
     obey(&answer);
     if (ends)
         unlock();
 }
 
-static uint32_t number_at(const uint8_t *bytes) {
-    return (uint32_t)bytes[0] << 24 | bytes[1] << 16 | bytes[2] << 8 | bytes[3];
-}
-
 /* The rule that a Down waits: one of its core's present start is delivered only once the core stands in
  * its stop of that start. One of an earlier start is stale, and goes at once, as all else does. */
-static bool has_to_wait(const uint8_t *frame) {
-    unsigned core = frame[3];
-    return frame[2] == PSCI_DOWN && core < CORES && !stands_still(core)
-        && start_word(number_at(frame + 4), number_at(frame + 8)) == present_start(core);
+static bool has_to_wait(const struct psci_message *it) {
+    return it->kind == PSCI_DOWN && !stands_still(it->core)
+        && start_word(it->life, it->number) == present_start(it->core);
 }
 
 static bool serve_message(void) {
-    struct psci_frame frame = {.some = true};
-    if (!get_frame(&shared.messages, frame.bytes))
+    struct message message;
+    if (!get_message(&message))
         return false;
-    if (has_to_wait(frame.bytes)) {
+    if (has_to_wait(&message.fields)) {
         COUNT(waited);
-        waiting[frame.bytes[3]] = frame;
+        waiting[message.fields.core].some = true;
+        waiting[message.fields.core].down = message;
     } else {
-        deliver(frame.bytes);
+        deliver(&message);
     }
     return true;
 }
 
 static bool serve_waiting(void) {
     for (unsigned core = 0; core < CORES; core++)
-        if (waiting[core].some && !has_to_wait(waiting[core].bytes)) {
+        if (waiting[core].some && !has_to_wait(&waiting[core].down.fields)) {
             waiting[core].some = false;
-            deliver(waiting[core].bytes);
+            deliver(&waiting[core].down);
             return true;
         }
     return false;

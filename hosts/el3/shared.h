@@ -6,6 +6,7 @@
 #include "psci_ctl.h"
 
 #define LOAD(place) __atomic_load_n(&(place), __ATOMIC_SEQ_CST)
+#define PEEK(place) __atomic_load_n(&(place), __ATOMIC_RELAXED) /* what is behind it, LOAD shows */
 #define STORE(place, value) __atomic_store_n(&(place), value, __ATOMIC_SEQ_CST)
 
 /* A start of a core, in one word; 0 is none. */
@@ -37,7 +38,7 @@ extern struct shared shared;
 
 /* How often what happened. */
 struct tally {
-    uint32_t calls, beside, stops, entries, resumes, parks, messages, acks, waited, again, dropped;
+    uint32_t stops, entries, resumes, parks, messages, acks, waited, again, dropped;
     uint32_t wakes, cuts, refused;
 };
 
@@ -45,6 +46,7 @@ struct tally {
 struct kept {
     uint32_t boot; /* 0 as the power comes on, WARM as a reset begins, READY once core 0 is through */
     struct psci_ctl_place controller;
+    struct psci_place reader; /* the control processor's own: it reads frames by it, and makes no call */
     struct tally tally;
 };
 enum { READY = 0x52454459, WARM = 0x5741524d };

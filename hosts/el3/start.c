@@ -15,7 +15,7 @@ struct kept kept __attribute__((section(".kept")));
 /* The heaps, which the library asks as it opens and at no other time. */
 enum { HEAP = 4096 + 1792 * CORES + 32 * CORES * CORES };
 static unsigned char heap[HEAP] __attribute__((aligned(16)));
-static unsigned char kept_heap[HEAP] __attribute__((aligned(16), section(".kept")));
+static unsigned char kept_heap[2 * HEAP] __attribute__((aligned(16), section(".kept")));
 
 static void check(const char *what, uint32_t opened) {
     if (opened == PSCI_OPENED)
@@ -25,11 +25,19 @@ static void check(const char *what, uint32_t opened) {
         wait_for_interrupt();
 }
 
+static void open_firmware(void) {
+    pool_give(heap, sizeof heap);
+    check("the firmware", psci_open_board(&firmware, &board));
+    for (unsigned core = 0; core < CORES; core++)
+        check("a poller", psci_open_poller(&firmware, &pollers[core]));
+}
+
 static void open_controller(void) {
     memset(kept_start, 0, kept_end - kept_start);
     pool_give(kept_heap, sizeof kept_heap);
     check("the power controller", psci_ctl_open_board(&kept.controller, &board));
     say("# el3: heap of the power controller: %u\n", (unsigned)pool_taken());
+    check("the reader of frames", psci_open_board(&kept.reader, &board));
     record_board();
 }
 
@@ -39,8 +47,7 @@ void start_machine(void) {
     memset(bss_start, 0, bss_end - bss_start);
     if (!is_warm)
         open_controller();
-    pool_give(heap, sizeof heap);
-    check("the firmware", psci_open_board(&firmware, &board));
+    open_firmware();
     if (!is_warm)
         say("# el3: heap of the firmware: %u of %u\n", (unsigned)pool_taken(), HEAP);
     gic_start();

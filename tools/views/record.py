@@ -1,14 +1,18 @@
 """The record of a port's run (docs/RECORD.md): its script, and what the port answered to each event."""
 import re
 from collections import namedtuple
+from functools import cached_property
+
+from views.polls import Polls
 
 FRAME_LEN = 53
 KINDS = {1: "down", 2: "start", 3: "off", 4: "reset"}
 ACKS = {kind | said: (kind, said) for kind in KINDS for said in (0x10, 0x20)}
 BOOT, ON, WAKE, RESET = range(4)
-# CPU_ON, AFFINITY_INFO and NODE_HW_STATE
-TARGETS = (0x84000003, 0xC4000003, 0x84000004, 0xC4000004, 0x8400000D, 0xC400000D)
-NOBODY = 2**64 - 1
+AFFINITY_INFO = (0x84000004, 0xC4000004)
+# these, CPU_ON and NODE_HW_STATE
+TARGETS = (*AFFINITY_INFO, 0x84000003, 0xC4000003, 0x8400000D, 0xC400000D)
+NOBODY, INVALID_PARAMETERS = 2**64 - 1, -2
 
 DEC, HEX = r"(0|[1-9]\d{0,9})", r"(0x[0-9a-f]{1,16})"
 FRAME = rf"((?:[0-9a-f]{{2}}){{1,{FRAME_LEN}}})"
@@ -17,6 +21,7 @@ ANSWER = (r"(return -?\d+|stop|enter 0x[0-9a-f]+ 0x[0-9a-f]+|resume|refused \d+)
 START = r"(started \d+|ignored|refused \d+)"
 LINES = {
     "call": rf"call {DEC} {HEX} {HEX} {HEX} {HEX} -> {ANSWER}",
+    "poll": rf"poll {DEC} {HEX} {HEX} {HEX} -> (?:return (-?\d+)|(refused \d+))",
     "enter": rf"enter {DEC} {DEC} {DEC} {DEC} -> {ANSWER}",
     "take": rf"take {FRAME} -> (used|old|refused \d+)",
     "deliver": rf"deliver {FRAME} -> (?:{FRAME}|(ignored|refused \d+))",
@@ -74,6 +79,7 @@ class Record:
         are in the words of that machine."""
         self.board, self.words, self.events, self.impossible = None, None, [], None
         self.translator = translator
+        self.polls, self.at = Polls(), 0
         self.sent, self.acks = {}, {}
         self.many_sent = self.many_acks = 0
         self.life, self.starts, self.found = 1, {0: 1}, {0: (1, 1, BOOT)}
@@ -95,6 +101,7 @@ class Record:
         match = PATTERNS[word].fullmatch(line) if word in PATTERNS else None
         if match is None or self.board is None:
             raise Fault(f"line {at}: not a line of a record")
+        self.at = at
         try:
             text, said = getattr(self, word)(*match.groups())
         except Impossible as why:
@@ -102,6 +109,8 @@ class Record:
             return False
         if text:
             self.events.append(Event(at, text, said))
+        if word in ("call", "enter", "take"):
+            self.polls.event(len(self.events), word, match[1])
         return True
 
     def head(self, at, line):
@@ -113,14 +122,17 @@ class Record:
             self.tells_stops = True
         elif not self.events and self.board is not None and re.fullmatch(f"mpidr( {HEX})+", line):
             words = [int(it, 16) for it in line.split()[1:]]
-            cores = affinities(self.board.removeprefix("board ").partition(" exec")[0])
-            if len(words) != len(cores):
+            if len(words) != len(self.cores):
                 raise Fault(f"line {at}: not a line of a record")
             if self.translator and words != self.translator.machine.mpidrs:
                 raise Fault(f"line {at}: these are not the MPIDRs of the machine")
-            self.words = dict(zip(words, cores))
+            self.words = dict(zip(words, self.cores))
         else:
             raise Fault(f"line {at}: not a line of a record")
+
+    @cached_property
+    def cores(self):
+        return affinities(self.board.removeprefix("board ").partition(" exec")[0])
 
     # ---- the firmware
 
@@ -133,14 +145,18 @@ class Record:
             self.many_sent += 1
         return said
 
+    def named(self, word, x1):
+        """The board's affinity word for that of the machine."""
+        target = int(x1, 16) % 2**(64 if word >> 30 & 1 else 32)
+        return target if self.words is None else self.words.get(target, NOBODY)
+
     def call(self, core, x0, x1, x2, x3, answer, frame):
         word = int(x0, 16) % 2**32
         if self.translator:
             text = self.translator.call(f"call {core} {x0} {x1} {x2} {x3}")
             return text, self.heeded(text, self.outcome(answer, frame))
         if self.words is not None and word in TARGETS:
-            target = int(x1, 16) % 2**(64 if word >> 30 & 1 else 32)
-            x1 = hex(self.words.get(target, NOBODY))
+            x1 = hex(self.named(word, x1))
         return f"call {core} {x0} {x1} {x2} {x3}", self.outcome(answer, frame)
 
     def heeded(self, text, said):
@@ -148,6 +164,20 @@ class Record:
         if self.translator:
             self.translator.heed(text, f"{len(self.events) + 1} {said}")
         return said
+
+    def poll(self, core, x0, x1, x2, code, refused):
+        word = int(x0, 16) % 2**32
+        if word not in AFFINITY_INFO or int(x2, 16) % 2**32:
+            raise Impossible("a poll is AFFINITY_INFO of a core, with level 0")
+        if refused:
+            raise Impossible(f"it was {refused}: no firmware is polled")
+        target = self.named(word, x1)
+        if target in self.cores:
+            text = f"poll {core} {x0} {x1} {x2}"
+            self.polls.add(self.at, text, core, self.cores.index(target), int(code))
+        elif int(code) != INVALID_PARAMETERS:
+            raise Impossible(f"it was answered {code}; its target is no core, which is -2")
+        return None, None
 
     def enter(self, core, life, start, cause, answer, frame):
         by, found = (int(life), int(start), int(cause)), self.found.get(int(core))
