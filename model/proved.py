@@ -185,7 +185,7 @@ class Examples:
         """The abbreviations of a file; yields nothing, and keeps its theorems."""
         self.theorems, kinds = [], {}
         for part in self.parts(name):
-            head = re.match(r"(abbrev |unfoldable )?(?:pub )?([A-Za-z_0-9]+)((?: [a-z][A-Za-z_0-9]*)*)\s*([:=])\s*", part)
+            head = re.match(r"(abbrev |unfoldable )?(?:pub )?(\w+)((?: [a-z]\w*)*)\s*([:=])\s*", part)
             if not head:
                 raise ValueError(part)
             words, rest = head[2], part[head.end():]

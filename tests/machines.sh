@@ -27,7 +27,8 @@ machine_records() {
     while IFS='|' read -r want text change; do
         status=0
         sed "$change" "$work/words.record" > "$work/run.record"
-        ./psci compare --machine tests/records/machine.machine "$work/run.record" > "$work/out" 2> "$work/err" || status=$?
+        ./psci compare --machine tests/records/machine.machine "$work/run.record" \
+            > "$work/out" 2> "$work/err" || status=$?
         if [ "$status" = "$want" ] && grep -qF -- "$text" "$work/out" "$work/err"; then pass; else
             fail "./psci compare --machine, $change (status $status, wanted $want with '$text')"
             head -n 5 "$work/out" "$work/err"
@@ -42,7 +43,8 @@ wrong_machines() { by_python wrong-machines; }
 board_trees() { by_python board-trees; }
 device_trees() {
     has_python "device trees" || return
-    tests/device-trees "$program" "$work" --found || { skip "device trees" "package of Debian's kernel for arm64"; return; }
+    tests/device-trees "$program" "$work" --found ||
+        { skip "device trees" "package of Debian's kernel for arm64"; return; }
     if timeout 1800 tests/device-trees "$program" "$work" > "$work/out" 2>&1; then pass; else
         fail tests/device-trees
         tail -n 20 "$work/out"
