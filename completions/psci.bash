@@ -11,7 +11,7 @@ _psci() {
     done
     COMPREPLY=()
     case $before in
-        --keep | --clock | --script) mapfile -t COMPREPLY < <(compgen -f -- "$word"); return ;;
+        --keep | --clock | --script | --machine) mapfile -t COMPREPLY < <(compgen -f -- "$word"); return ;;
         --color) mapfile -t COMPREPLY < <(compgen -W "auto always never" -- "$word"); return ;;
         --target) mapfile -t COMPREPLY < <(compgen -W "x86_64 aarch64" -- "$word"); return ;;
         --board | --seed | --seeds | --count | --width | --from | --to | --cores | --port) return ;;
@@ -31,13 +31,13 @@ _psci() {
             compgen -f -- "$word") ;;
         compare)
             case $word in
-                -*) mapfile -t COMPREPLY < <(compgen -W "--quick --script --help" -- "$word") ;;
+                -*) mapfile -t COMPREPLY < <(compgen -W "--quick --machine --script --help" -- "$word") ;;
                 *) mapfile -t COMPREPLY < <(compgen -f -- "$word") ;;
             esac ;;
         try) mapfile -t COMPREPLY < <(compgen -W "--port --help" -- "$word") ;;
         help) mapfile -t COMPREPLY < <(compgen -W "replay storm threads show draw try plain compare prove" -- "$word") ;;
         prove) mapfile -t COMPREPLY < <(compgen -W "all lib --target --help" -- "$word") ;;
-        replay | plain) mapfile -t COMPREPLY < <(compgen -W "--help" -- "$word"; compgen -f -- "$word") ;;
+        replay | plain) mapfile -t COMPREPLY < <(compgen -W "--machine --help" -- "$word"; compgen -f -- "$word") ;;
     esac
 }
 

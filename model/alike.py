@@ -208,7 +208,8 @@ def scripts():
         machine, fault = said_here(texts[0])
         calls, lines = machine and Calls(machine), texts[1].splitlines()
         events = [it for it in lines[1:] if it and it[0] != "#"]
-        answers = "".join(f"{at} {calls.named(calls.answer(it))}\n" for at, it in enumerate(events, 1)) if machine else ""
+        said = [calls.named(calls.answer(it)) for it in events] if machine else []
+        answers = "".join(f"{at} {it}\n" for at, it in enumerate(said, 1))
         if fault or lines[0] != f"board {machine.text}" or answers != texts[2]:
             print(f"{base}: the model answers\n{fault or answers}")
             bad += 1

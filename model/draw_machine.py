@@ -54,7 +54,8 @@ class DrawMachine(random.Random):
         number = states[0] - 1
         is_down = 0 <= number < len(classes[0]) and classes[0][number] == "power-down"
         word = self.word(is_extended, is_down ^ (self.randrange(24) == 0))
-        mask = self.choice(("", "", "", "/0xffffffff", "/0xffffff00", "/0xfffffffe", "/0xfeffffff"))
+        mask = self.choice(("", "", "", "/0xffffffff", "/0xffffff00", "/0xfffffffe", "/0xfeffffff",
+                            "/0xfffeffff", "/0xbfffffff"))
         if mask and self.randrange(6):
             word &= int(mask[1:], 16)
         return f"word {word:#x}{mask} {' '.join(map(str, states))}"

@@ -174,7 +174,8 @@ completed() {
 ./psci help d|draw
 ./psci tr|try
 ./psci c|compare
-./psci compare --|--quick --script --help
+./psci compare --|--quick --machine --script --help
+./psci replay --|--machine --help
 ./psci prove l|lib
 ./psci prove lib --target a|aarch64
 EOF

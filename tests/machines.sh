@@ -1,0 +1,52 @@
+# Tests of machines that have words of their own (docs/BOARDS.md), beside the built program, sourced by ../test:
+# their texts and calls, stored ones of ten boards, records, and descriptions from device trees.
+
+# each fault of a text, calls as they are made and answered, wrong words
+machine_texts() { by_python machine-texts; }
+
+# what Linux would ask of each of ten boards
+machine_boards() {
+    local file name
+    has_python "boards of examples/boards" || return
+    for file in examples/boards/*.machine; do
+        name=${file%.machine}
+        ./psci replay --machine "$file" "$name.calls" > "$work/out" 2> "$work/err"
+        if [ $? = 0 ] && cmp -s "$name.answers" "$work/out"; then pass; else
+            fail "$name"
+            diff "$name.answers" "$work/out" | head -n 5
+            head -n 3 "$work/err"
+        fi
+    done
+}
+
+# a record in a machine's words, and what is said of ways to spoil it
+machine_records() {
+    local want text change status
+    has_python "records of machines" || return
+    sed 's/^call 0 0xc4000001 0x2 /call 0 0xc4000001 0x44 /' tests/records/short.record > "$work/words.record"
+    while IFS='|' read -r want text change; do
+        status=0
+        sed "$change" "$work/words.record" > "$work/run.record"
+        ./psci compare --machine tests/records/machine.machine "$work/run.record" \
+            > "$work/out" 2> "$work/err" || status=$?
+        if [ "$status" = "$want" ] && grep -qF -- "$text" "$work/out" "$work/err"; then pass; else
+            fail "./psci compare --machine, $change (status $status, wanted $want with '$text')"
+            head -n 5 "$work/out" "$work/err"
+        fi
+    done < tests/records/spoiled-words.txt
+}
+
+# faults that are planted in what reads and translates, each of which has to be seen
+wrong_machines() { by_python wrong-machines; }
+
+# small device trees of our own, and all of a kernel package, where one is here
+board_trees() { by_python board-trees; }
+device_trees() {
+    has_python "device trees" || return
+    tests/device-trees "$program" "$work" --found ||
+        { skip "device trees" "package of Debian's kernel for arm64"; return; }
+    if timeout 1800 tests/device-trees "$program" "$work" > "$work/out" 2>&1; then pass; else
+        fail tests/device-trees
+        tail -n 20 "$work/out"
+    fi
+}
