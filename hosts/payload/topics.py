@@ -9,7 +9,7 @@ import sys
 TARGETS = ("0", "1", "3", "4", "7", "0x100", "0x101", "0x10000", "0x1000000", "0x40000000", "0x80000000", "0x80000001",
            "0xffffff", "0xffffffff", "0x100000000", "0x100000001", "0xffffffff00000000", "-1")
 LEVELS = ("2", "3", "4", "255", "0xffffffff", "0x100000000", "0x100000001")
-ENTRIES = ("0", "2", "3", "E0+1", "E0+2", "E0+3", "0x09000000", "0x08000000", "0x0e0a0000", "0x40000000", "0x3ffffffc",
+ENTRIES = ("0", "2", "3", "E0+1", "E0+2", "E0+3", "0x09000000", "0x08000000", "0x0e0a0000", "0x3ffffffc",
            "0x80000000", "0x7ffffffd", "0x100000000", "0x8000000000000000", "0xffffffffffffffff", "0xfffffffffffffffc")
 # power state words of both formats, good ones of some platform, and some of none
 STANDBYS = ("1", "2", "0", "0x80000000", "0x40000000", "0x1000001", "0x1000011", "0x2000111", "0x3000000", "0x100000001")

@@ -22,7 +22,7 @@ def theirs_of(operation):
 
 
 def in_words(answers):
-    return " or ".join(sorted({it.split(" 0x")[0].replace("enter", "enters") for it in answers}))
+    return " or ".join(sorted({it.split(" 0x")[0].replace("enter", "enters otherwise") for it in answers}))
 
 
 class Case:
@@ -72,7 +72,7 @@ RULES = (
     (lambda it: it.of(fw.CPU_ON) and it.pair(0, -4), "habit", "CPU_ON: the target counts as off inside its CPU_OFF"),
     (lambda it: it.of(fw.CPU_ON) and it.pair(-4, -5, 0), "habit",
      "CPU_ON: the target counts as ON before it has entered; ON_PENDING is never told"),
-    (lambda it: it.of(fw.CPU_ON) and it.pair(-2, -9), "habit",
+    (lambda it: it.of(fw.CPU_ON) and it.code == -2 and "-9" in it.ours, "habit",
      "CPU_ON: a bad entry point is INVALID_ADDRESS from version 1.0 on"),
     (lambda it: it.of(fw.CPU_ON) and it.pair(0, -9), "choice",
      "CPU_ON: INVALID_ADDRESS where the firmware knows it; the profile says which entry points there are"),
