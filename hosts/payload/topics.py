@@ -147,7 +147,9 @@ def lives(reset):
     """What a reset of the system leaves: all cores but one are off, and nothing is pending."""
     again = ["0 call VERSION", "0 call SET_SUSPEND_MODE 0", "0 call AFFINITY_INFO_64 1", "0 call AFFINITY_INFO_64 2",
              "0 call CPU_ON_64 1 E2 0x22", "0 await 1 1", "1 call AFFINITY_INFO_64 0"]
-    return CORE_1_ON + ["0 call CPU_ON_64 2 E3 0x33", f"0 stop {reset}", "reset", *again, f"0 stop {reset}", "reset", *again]
+    # where the reset is not there, the call comes back, and the machine goes off
+    ends = [f"0 stop {reset}", "0 stop SYSTEM_OFF", "reset"]
+    return [*CORE_1_ON, "0 call CPU_ON_64 2 E3 0x33", *ends, *again, *ends, *again]
 
 
 def storm(seed, down_word="0"):
