@@ -31,7 +31,8 @@ _psci() {
             compgen -f -- "$word") ;;
         compare)
             case $word in
-                -*) mapfile -t COMPREPLY < <(compgen -W "--quick --machine --script --help" -- "$word") ;;
+                -*) mapfile -t COMPREPLY < <(compgen -W "--quick --machine --script --profile --declare \
+                    --each --times --baseline --write-baseline --tap --junit --bound --limit --whole --help" -- "$word") ;;
                 *) mapfile -t COMPREPLY < <(compgen -f -- "$word") ;;
             esac ;;
         try) mapfile -t COMPREPLY < <(compgen -W "--port --help" -- "$word") ;;

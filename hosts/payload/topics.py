@@ -9,7 +9,7 @@ import sys
 TARGETS = ("0", "1", "3", "4", "7", "0x100", "0x101", "0x10000", "0x1000000", "0x40000000", "0x80000000", "0x80000001",
            "0xffffff", "0xffffffff", "0x100000000", "0x100000001", "0xffffffff00000000", "-1")
 LEVELS = ("2", "3", "4", "255", "0xffffffff", "0x100000000", "0x100000001")
-ENTRIES = ("0", "2", "3", "E0+1", "E0+2", "E0+3", "0x09000000", "0x08000000", "0x0e0a0000", "0x40000000", "0x3ffffffc",
+ENTRIES = ("0", "2", "3", "E0+1", "E0+2", "E0+3", "0x09000000", "0x08000000", "0x0e0a0000", "0x3ffffffc",
            "0x80000000", "0x7ffffffd", "0x100000000", "0x8000000000000000", "0xffffffffffffffff", "0xfffffffffffffffc")
 # power state words of both formats, good ones of some platform, and some of none
 STANDBYS = ("1", "2", "0", "0x80000000", "0x40000000", "0x1000001", "0x1000011", "0x2000111", "0x3000000", "0x100000001")
@@ -147,7 +147,9 @@ def lives(reset):
     """What a reset of the system leaves: all cores but one are off, and nothing is pending."""
     again = ["0 call VERSION", "0 call SET_SUSPEND_MODE 0", "0 call AFFINITY_INFO_64 1", "0 call AFFINITY_INFO_64 2",
              "0 call CPU_ON_64 1 E2 0x22", "0 await 1 1", "1 call AFFINITY_INFO_64 0"]
-    return CORE_1_ON + ["0 call CPU_ON_64 2 E3 0x33", f"0 stop {reset}", "reset", *again, f"0 stop {reset}", "reset", *again]
+    # where the reset is not there, the call comes back, and the machine goes off
+    ends = [f"0 stop {reset}", "0 stop SYSTEM_OFF", "reset"]
+    return [*CORE_1_ON, "0 call CPU_ON_64 2 E3 0x33", *ends, *again, *ends, *again]
 
 
 def storm(seed, down_word="0"):

@@ -8,7 +8,7 @@ uint64_t affinities[MOST_CORES];
 
 /* what was seen of a node, and how many cells numbers of its children have */
 struct node {
-    const char *compatible, *method, *device_type;
+    const char *compatible, *method, *device_type, *status;
     const uint32_t *reg, *interrupts;
     uint32_t compatible_length, interrupts_length, address_cells, size_cells;
 };
@@ -49,6 +49,7 @@ static void keep_gic(const struct node *node, const struct node *above, uint32_t
 
 /* A node is over: keeps what it says. */
 static void keep(const struct node *node, const struct node *above) {
+    if (node->status && same(node->status, "disabled")) return; /* as what is the secure world's */
     uint64_t at = node->reg ? cells(node->reg, above->address_cells) : 0;
     if (node->device_type && same(node->device_type, "cpu") && node->reg) keep_core(at);
     if (node->method) machine.is_smc = same(node->method, "smc");
@@ -65,6 +66,7 @@ static void property(struct node *node, const char *name, const uint32_t *value,
     if (same(name, "compatible")) node->compatible = (const char *)value, node->compatible_length = length;
     if (same(name, "method")) node->method = (const char *)value;
     if (same(name, "device_type")) node->device_type = (const char *)value;
+    if (same(name, "status")) node->status = (const char *)value;
     if (same(name, "reg")) node->reg = value;
     if (same(name, "interrupts")) node->interrupts = value, node->interrupts_length = length;
     if (same(name, "#address-cells")) node->address_cells = big(value);

@@ -24,7 +24,7 @@ More commands of ./psci:
   draw                       Draw a script as SVG, or with --page as a page for runs of any size
   try                        Serve a page on this machine that runs scripts as one types
   plain                      Make a script by name, as `call 0 cpu_on 3`, a plain one
-  compare                    Hold the record of a port's run to the program
+  compare                    Hold the record of a port's run to the program, or judge any firmware's calls
   prove                      Prove and build the program of replay
   prove all                  Prove and build the program of every command
   prove lib                  Prove the C library, and build it into out/lib, for --target x86_64 or aarch64

@@ -25,6 +25,7 @@ def words_of(words):
     add("--profile", metavar="FILE", help="what the firmware declares of itself")
     add("--declare", action="store_true", help="print the profile's line of functions, as PSCI_FEATURES has it")
     add("--each", action="store_true", help="print each difference")
+    add("--times", action="store_true", help="print the seconds and states of each search")
     add("--baseline", metavar="FILE", help="groups that are known; new and vanished ones fail")
     add("--write-baseline", metavar="FILE", help="keep the groups that were seen")
     add("--tap", action="store_true", help="print TAP alone")
@@ -57,7 +58,7 @@ def judge(words, lives_of, peer):
     if words.tap:
         print("\n".join(report.tap(verdicts, known or set())))
     else:
-        print("\n".join(report.lines(verdicts, groups, words.each)))
+        print("\n".join(report.lines(verdicts, groups, words.each, words.times)))
     found = {it.word for it in verdicts}
     if known is not None:
         changes = report.against(known, groups)

@@ -22,7 +22,7 @@ def theirs_of(operation):
 
 
 def in_words(answers):
-    return " or ".join(sorted({it.split(" 0x")[0].replace("enter", "enters") for it in answers}))
+    return " or ".join(sorted({it.split(" 0x")[0].replace("enter", "enters otherwise") for it in answers}))
 
 
 class Case:
@@ -65,14 +65,14 @@ RULES = (
      "PSCI_FEATURES: a mandatory function is said to be absent"),
     (lambda it: it.of(fw.FEATURES), "choice",
      "PSCI_FEATURES: it tells of a function otherwise than the profile: correct the profile, or the firmware"),
-    (lambda it: it.of(fw.CPU_ON) and it.pair(0, -5), "fault",
+    (lambda it: it.of(fw.CPU_ON) and it.code == 0 and "-5" in it.ours, "fault",
      "CPU_ON: ON_PENDING while a CPU_ON is being processed; one caller's entry is lost"),
-    (lambda it: it.of(fw.CPU_ON) and it.code == 0 and "-2" in it.ours, "fault",
+    (lambda it: it.of(fw.CPU_ON) and it.code in (0, -4, -5) and "-2" in it.ours, "fault",
      "CPU_ON: INVALID_PARAMETERS where the target is no core; unused fields are zero"),
     (lambda it: it.of(fw.CPU_ON) and it.pair(0, -4), "habit", "CPU_ON: the target counts as off inside its CPU_OFF"),
     (lambda it: it.of(fw.CPU_ON) and it.pair(-4, -5, 0), "habit",
      "CPU_ON: the target counts as ON before it has entered; ON_PENDING is never told"),
-    (lambda it: it.of(fw.CPU_ON) and it.pair(-2, -9), "habit",
+    (lambda it: it.of(fw.CPU_ON) and it.code == -2 and "-9" in it.ours, "habit",
      "CPU_ON: a bad entry point is INVALID_ADDRESS from version 1.0 on"),
     (lambda it: it.of(fw.CPU_ON) and it.pair(0, -9), "choice",
      "CPU_ON: INVALID_ADDRESS where the firmware knows it; the profile says which entry points there are"),

@@ -77,8 +77,9 @@ def declared(lives):
     for life in lives:
         for mine in life.operations.values():
             for it in mine:
-                if it.regs and it.word in fw.FEATURES and it.want[0] == "return":
-                    words[it.regs[1] & LOW] = it.want[1]
+                is_asked = it.regs and it.word in fw.FEATURES and it.regs[1] <= LOW
+                if is_asked and it.want[0] == "return":
+                    words[it.regs[1]] = it.want[1]
     there = sorted(word for word, code in words.items() if code >= 0)
     return "functions " + " ".join(name_of(it) if name_of(it).endswith("_64") or name_of(it)[0] != "0"
                                    else f"{it:x}" for it in there)

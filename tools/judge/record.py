@@ -1,7 +1,7 @@
 """Reads a record of calls: the operations of each core, life by life."""
 from collections import namedtuple
 
-from .words import LOW, SLEEPS, STOPS, code_of, name_of
+from .words import ENDS, LOW, SLEEPS, STOPS, code_of, name_of
 
 MARK, END = "psci: ", " ."
 INFINITE = float("inf")
@@ -42,6 +42,8 @@ class Life:
         self.head, self.operations, self.remarks = head, {}, []
         # suspends from which no core came back
         self.broken = []
+        # whether a core ended it, by a call from which none comes back
+        self.is_ended = False
 
     def ordered(self):
         """The operations that came to an end, as their ends follow each other."""
@@ -121,6 +123,7 @@ def gather(life, raw):
             it.at = at
             if it.want == ("stop",) and at + 1 < len(mine):
                 it.end = mine[at + 1].end
+        life.is_ended |= bool(mine) and mine[-1].want == ("any",) and mine[-1].word in ENDS
 
 
 def told(core, regs):

@@ -10,11 +10,12 @@ def counted(number, word):
     return f"{number} {word}{'' if number == 1 else 's'}"
 
 
-def summary(verdict):
+def summary(verdict, has_times):
     later = sum(it.is_later for it in verdict.differences)
     return (f"{verdict.word:9} {verdict.name}: {counted(verdict.answers, 'answer')}, "
             f"{counted(len(verdict.differences), 'difference')}" + f", {later} of them later" * bool(later)
-            + f"; {verdict.undecided}" * bool(verdict.undecided) + f" ({verdict.seconds:.1f} s)")
+            + f"; {verdict.undecided}" * bool(verdict.undecided)
+            + f" ({verdict.seconds:.1f} s, {verdict.tried} states at most)" * has_times)
 
 
 def each(verdict):
@@ -44,9 +45,9 @@ def of_notes(verdicts):
         yield f"note   {count:4} x {what}; the first: {first[what]}"
 
 
-def lines(verdicts, groups, has_each):
+def lines(verdicts, groups, has_each, has_times):
     for verdict in verdicts:
-        yield summary(verdict)
+        yield summary(verdict, has_times)
         if has_each:
             yield from each(verdict)
     yield from of_groups(groups)

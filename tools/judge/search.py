@@ -11,7 +11,7 @@ import firmware as fw
 
 from .peer import Flat
 from .state import State
-from .steps import Steps, said
+from .steps import Steps, is_due, said
 from .words import LOW, arguments_of
 
 # how many operations of a core the reduction looks ahead, and how far states are covered
@@ -32,7 +32,7 @@ def shows_above(operation):
 class Search:
     def __init__(self, life, profile, bound=20000, until=None, is_whole=False):
         self.profile, self.bound, self.until, self.is_whole = profile, bound, until, is_whole
-        self.steps = Steps(life.operations)
+        self.steps = Steps(life.operations, life.head[2])
         every = [it for mine in life.operations.values() for it in mine]
         board = profile.board
         if not is_whole and not any(map(shows_above, every)):
@@ -117,7 +117,7 @@ class Search:
         if state.position[core] != operation.at:
             return
         if operation.want[0] == "absent":
-            if state.firmware.status[operation.want[1]] == fw.PENDING:
+            if is_due(state, operation.want[1]):
                 seen.add("enter")
         elif operation.regs is not None:
             if state.place[core] == "running":

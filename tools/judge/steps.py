@@ -1,6 +1,9 @@
 """What may happen next in a state, step by step."""
 import firmware as fw
 
+# how many entry points a payload has, eight bytes apart
+ENTRIES = 16
+
 
 def fits(outcome, want):
     """Whether an outcome of the definitions is what was recorded."""
@@ -13,6 +16,11 @@ def fits(outcome, want):
     return want == (outcome.act,)
 
 
+def is_due(state, core):
+    """Whether a CPU_ON of this core was accepted, and its entry is still to be seen."""
+    return state.firmware.status[core] == fw.PENDING or state.place[core] == "unseen"
+
+
 def said(outcome):
     if outcome.act == "return":
         return f"{outcome.values[0]}"
@@ -20,10 +28,11 @@ def said(outcome):
 
 
 class Steps:
-    """The steps of a machine whose cores did these operations."""
+    """The steps of a machine whose cores did these operations; a payload's entries stand from one on."""
 
-    def __init__(self, operations):
+    def __init__(self, operations, entries):
         self.operations = operations
+        self.entries = range(entries, entries + 8 * ENTRIES, 8)
 
     def next_of(self, state, core):
         mine, at = self.operations.get(core, ()), state.position[core]
@@ -34,7 +43,7 @@ class Steps:
         for message in list(state.firmware.slots.values()):
             if message.kind in ("start", "down") and message.core in cores:
                 yield from self.delivered(state, message)
-        for ack in state.acks:
+        for ack in sorted(state.acks):
             if ack.core in cores:
                 it = state.copy()
                 if it.firmware.take(ack) == "used":
@@ -72,6 +81,8 @@ class Steps:
         it.forget_old_acks()
         next_one = self.next_of(state, core)
         it.place[core] = "stopped" if outcome.act == "stop" else "running"
+        if next_one is None and outcome.act == "enter" and outcome.values[0] in self.entries:
+            it.place[core] = "unseen"
         if outcome.act == "stop" or next_one is None:
             yield it
         elif fits(outcome, next_one.want):
@@ -85,7 +96,7 @@ class Steps:
             if next_one is None or state.place[core] != "running":
                 continue
             if next_one.want[0] == "absent":
-                if next_one.end <= now and state.firmware.status[next_one.want[1]] != fw.PENDING:
+                if next_one.end <= now and not is_due(state, next_one.want[1]):
                     it = state.copy()
                     it.advance(core)
                     yield it

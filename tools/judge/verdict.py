@@ -59,6 +59,8 @@ def look_at_life(verdict, life, profile, bound, until, is_whole):
             at += 1
     except Undecided as why:
         verdict.undecided = f"{why}, at {ordered[at].text}"
+    if not life.is_ended:
+        verdict.undecided = verdict.undecided or "the record breaks off"
     verdict.answers += at
     verdict.tried = max(verdict.tried, search.tried)
     for operation in life.broken:
