@@ -2,13 +2,12 @@
 -- are the board's.
 use Rattle.std.proofs.Common.{◌≡◌, refl, ℕ, zero, suc, ◌+◌, ◌≤◌, true, ◌==◌, nat_le}
 use Rattle.std.proofs.Common.{List, [], ◌∷◌, length, take, ap, arith, Some}
-use Rattle.std.specs.Prelude.{slice_get, Result, Ok, Err}
+use Rattle.std.specs.Prelude.{slice_get}
 use Rattle.std.proofs.lemmas.Bool.{and_from, and_parts, eqb-true, leb-true}
 use Rattle.std.proofs.lemmas.Option.{none-some, same_Some}
 use Rattle.psci_board.specs.Board.{BoardValue, height}
 use Rattle.psci_parts.specs.declared.part.Part.{Part}
 use Rattle.psci_ctl_spec.specs.Legal.{IsOfBoard}
-use Rattle.psci_link.specs.declared.fault.FrameFault.{FrameFault}
 use Rattle.psci_link.specs.declared.frame.Frame.{Frame}
 use Rattle.psci_link.specs.declared.frame.Frame.TheVariants as frames
 use Rattle.psci_link.specs.Frame.{IsOf, is_within}
@@ -63,11 +62,12 @@ pub of_board : (b : BoardValue) (m : MessageValue) → IsMessage m → IsOf b (f
 of_board b m is of =
     record { core = of.0; levels = few m.kind (height b) m.parts is.parts of.1 }
 
--- the frame that was read, if one was
-abbrev frame_read : Frame → Result Frame FrameFault → Frame
-frame_read f (Ok g) = g
-frame_read f (Err fault) = f
+-- the message that a frame is, if it is one
+abbrev message_of : MessageValue → Frame → MessageValue
+message_of m (frames.Message n) = n
+message_of m (frames.Ack a) = m
 
 -- one is read, and no other
-pub one_frame : (f g : Frame) → ◌≡◌ {A = Result Frame FrameFault} (Ok f) (Ok g) → f ≡ g
-one_frame f g same = ap (frame_read f) same
+pub one_message : (m n : MessageValue)
+    → ◌≡◌ {A = Frame} (frames.Message m) (frames.Message n) → m ≡ n
+one_message m n same = ap (message_of m) same

@@ -12,7 +12,6 @@ use Rattle.psci_fw_spec.specs.After.{after}
 use Rattle.psci_fw_spec.specs.Answer.{answer}
 use Rattle.psci_fw_spec.specs.Taking.{taken_by}
 use Rattle.psci_fw_spec.specs.Values.{Values}
-use Rattle.psci_link.specs.declared.fault.FrameFault.{FrameFault}
 use Rattle.psci_link.specs.declared.frame.Frame.{Frame}
 use Rattle.psci_link.specs.declared.frame.Frame.TheVariants as frames
 use Rattle.psci_messages.specs.declared.taken.Taken.{Taken}
@@ -35,16 +34,14 @@ is_refused (Err e) = Unit {0}
 pub not-both : {A E : Type 0} {e : E} {x : A} → ◌≡◌ {A = Result A E} (Err e) (Ok x) → ⊥
 not-both same = subst is_refused same tt
 
--- the acknowledgement that was read, if one was
-abbrev ack_read : AckValue → Result Frame FrameFault → AckValue
-ack_read a (Ok (frames.Ack b)) = b
-ack_read a (Ok (frames.Message m)) = a
-ack_read a (Err fault) = a
+-- the acknowledgement that a frame is, if it is one
+abbrev ack_of : AckValue → Frame → AckValue
+ack_of a (frames.Ack b) = b
+ack_of a (frames.Message m) = a
 
 -- one is read, and no other
-pub one-ack : (a b : AckValue)
-    → ◌≡◌ {A = Result Frame FrameFault} (Ok (frames.Ack a)) (Ok (frames.Ack b)) → a ≡ b
-one-ack a b same = ap (ack_read a) same
+pub one-ack : (a b : AckValue) → ◌≡◌ {A = Frame} (frames.Ack a) (frames.Ack b) → a ≡ b
+one-ack a b same = ap (ack_of a) same
 
 -- what a reply says of an acknowledgement, if it does
 abbrev reply_taken : FwReply → Taken

@@ -10,7 +10,6 @@ ghost use Rattle.psci_link.specs.Frame.{IsOf, is_within};
 ghost use Rattle.psci_messages.specs.declared.start.Cause.{Cause};
 ghost use Rattle.psci_messages.specs.Message.{AckValue, MessageValue};
 ghost use Rattle.psci_ffi.specs.ControllerCalls.{IsDelivered, IsFaulty, IsMade, IsMisplaced};
-ghost use Rattle.psci_ffi.specs.ControllerCalls.{IsRefused, not_a_message};
 ghost use Rattle.psci_ffi.specs.ControllerShown.{ack_frame, domain_shown, effect_shown, switched};
 ghost use Rattle.psci_ffi.specs.Shown.{no_frame};
 
@@ -22,7 +21,7 @@ use crate::controller_answer::{
 };
 use psci_board::{Board, Core, Node, law_paths};
 use psci_ctl::{Ack, Controller, Delivery, Kick, Kind, Message, Part};
-use psci_link::{Frame, decode};
+use psci_link::{Heading, heading_on, message_in};
 
 /// Delivers the message whose frame these bytes are. What comes of it is written where it stays, so
 /// that a call takes little stack.
@@ -33,23 +32,10 @@ pub fn give(controller: &mut Controller, bytes: &[u8], answer: &mut ControllerAn
     ensures message { (m : MessageValue)
         → IsDelivered m controller.old bytes.now answer.new controller.new }
 {
-    match &decode(bytes, controller.board()) {
-        Err(fault) => refuse(answer, frame_code(*fault)),
-        Ok(frame) => give_frame(controller, frame, answer),
-    }
-}
-
-/// Delivers a message, if this frame of the board is one.
-fn give_frame(controller: &mut Controller, frame: &Frame, answer: &mut ControllerAnswer)
-    requires { IsOf controller.old.board frame.now }
-    ensures ack { (a : AckValue) → frame.now ≡ frames.Ack a
-        → IsRefused controller.old not_a_message answer.new controller.new }
-    ensures message { (m : MessageValue) → frame.now ≡ frames.Message m
-        → IsMade controller.old (calls.Deliver m) answer.new controller.new }
-{
-    match frame {
-        Frame::Ack(_) => refuse(answer, NOT_A_MESSAGE),
-        Frame::Message(message) => deliver(controller, message, answer),
+    match heading_on(bytes, controller.board()) {
+        Err(fault) => refuse(answer, frame_code(fault)),
+        Ok(Heading::Ack(..)) => refuse(answer, NOT_A_MESSAGE),
+        Ok(Heading::Message(kind)) => deliver(controller, &message_in(kind, bytes), answer),
     }
 }
 

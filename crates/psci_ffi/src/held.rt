@@ -3,7 +3,7 @@
 use crate::common::Common;
 use psci_board::{Board, Core, Memory, Node};
 use psci_fw::{Cause, FwFault, Hw, Reaction, Regs, Start, Status, Taken};
-use psci_link::{Frame, decode};
+use psci_link::{Heading, ack_in, heading_on};
 use psci_messages::{Ack, Message};
 use psci_polled::{PolledFirmware, Reader};
 use std::alloc::Global;
@@ -115,10 +115,12 @@ impl Held {
             → IsMisplaced m bytes.now result self.old self.new }
         ensures ack { (a : AckValue) → IsAcknowledged a bytes.now result self.old self.new }
     {
-        match decode(bytes, &self.common.board) {
+        match heading_on(bytes, &self.common.board) {
             Err(fault) => frame_code(fault),
-            Ok(Frame::Message(_)) => NOT_AN_ACK,
-            Ok(Frame::Ack(ack)) => taken_code(self.take_ack(ack)),
+            Ok(Heading::Message(_)) => NOT_AN_ACK,
+            Ok(Heading::Ack(kind, stale)) => {
+                taken_code(self.take_ack(ack_in(kind, stale, bytes)))
+            }
         }
     }
 

@@ -1,11 +1,12 @@
 -- How frames are spelled, and what bytes hold: known frames, and which bytes each field has.
-use Rattle.std.proofs.Common.{◌≡◌, [], ◌∷◌, refl}
+use Rattle.std.proofs.Common.{◌≡◌, [], ◌∷◌, arith, refl}
 use Rattle.std.specs.Prelude.{true, false, replicate, slice_set}
 use Rattle.psci_messages.specs.declared.kind.Kind.TheVariants.{Down, Start, Off, Reset}
 use Rattle.psci_link.specs.declared.frame.Frame.{Frame}
 use Rattle.psci_link.specs.declared.frame.Frame.TheVariants.{Message, Ack}
 use Rattle.psci_link.specs.declared.heading.Heading.TheVariants as headings
 use Rattle.psci_link.specs.Frame.{part_fields, frame_bytes, kind_byte, part_bytes, frame_in}
+use Rattle.psci_link.specs.Frame.{IsHeldIn, heading_for}
 use Rattle.psci_link.proofs.FaultRows.{down, acknowledged}
 
 abbrev down_frame : Frame
@@ -27,6 +28,21 @@ acknowledged_frame = Ack (record {
   applied = 2;
   stale = false;
 })
+
+down_heading : heading_for down_frame ≡ headings.Message Down
+down_heading = refl
+
+acknowledged_heading : heading_for acknowledged_frame ≡ headings.Ack Down false
+acknowledged_heading = refl
+
+down_holds : IsHeldIn (headings.Message Down) down
+down_holds = record { some = omega arith; most = omega arith; levels = refl; depths = refl }
+
+acknowledged_holds : IsHeldIn (headings.Ack Down false) acknowledged
+acknowledged_holds = omega arith
+
+acknowledged_holds_more : IsHeldIn (headings.Ack Down false) (slice_set acknowledged 12 5) → ⊥
+acknowledged_holds_more more = omega (arith, more)
 
 down_spelled : frame_bytes down_frame ≡ down
 unfolding part_fields

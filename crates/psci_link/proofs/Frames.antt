@@ -19,7 +19,7 @@ use Rattle.psci_link.specs.declared.heading.Heading.TheVariants as headings
 use Rattle.psci_messages.specs.Message.{is_climbing, is_falling, most_applied}
 use Rattle.psci_link.specs.Heading.{is_magic, heading_of, HasHeading}
 use Rattle.psci_link.specs.Frame.{part_fields, frame_bytes, IsFrame, IsOf, is_within, parts_in}
-use Rattle.psci_link.specs.Frame.{word_at}
+use Rattle.psci_link.specs.Frame.{word_at, heading_for}
 use Rattle.psci_link.specs.Frame.{part_fields_in, count_in, AreBytes, frame_in, first_fault}
 use Rattle.psci_link.proofs.Headings.{heading_of-byte, is-held, counted}
 use Rattle.psci_link.proofs.Places.{AreBytes-drop, AreBytes-take, four_bytes-fit, generations-fit}
@@ -27,11 +27,6 @@ use Rattle.psci_link.proofs.Places.{length-parts_in, parts-in-places, length-pla
 use Rattle.psci_link.proofs.Faults.{HasNoFault, passed, has-no-fault, is-without-fault}
 use Rattle.psci_link.proofs.Faults.{first_fault-heading, one-heading, heading-among}
 use Rattle.psci_link.proofs.Written.{frame-written, frame-is-of}
-
--- what the kind byte of a frame says
-abbrev pub heading_for : Frame → Heading
-heading_for (Message m) = headings.Message m.kind
-heading_for (Ack a) = headings.Ack a.kind a.stale
 
 pub spelled-heading : (f : Frame) → IsFrame f → HasHeading (frame_bytes f) (heading_for f)
 spelled-heading (Message m) fits = record {
@@ -126,14 +121,19 @@ pub not-refused : (b : BoardValue) (f : Frame) (bytes : List ℕ) (fault : Frame
 not-refused b f bytes fault fits of same refused =
     none-some fault (sym (spelled-faultless b f fits of) ∙ ap (first_fault b) same ∙ refused)
 
+-- what the kind byte of bytes says that spell a frame
+pub heading-spelled : (f : Frame) (bytes : List ℕ) (h : Heading) → IsFrame f
+    → frame_bytes f ≡ bytes → HasHeading bytes h → h ≡ heading_for f
+heading-spelled f bytes h fits same has =
+    one-heading bytes h (heading_for f) has
+    (subst (λ (xs : List ℕ). HasHeading xs (heading_for f)) same (spelled-heading f fits))
+
 -- bytes that spell a frame hold it
 pub is-read : (f : Frame) (bytes : List ℕ) (h : Heading) → IsFrame f → frame_bytes f ≡ bytes
     → HasHeading bytes h
     → frame_in h bytes ≡ f
 is-read f bytes h fits same has =
-    let here : HasHeading bytes (heading_for f)
-    = subst (λ (xs : List ℕ). HasHeading xs (heading_for f)) same (spelled-heading f fits) in
-    ap (λ (i : Heading). frame_in i bytes) (one-heading bytes h (heading_for f) has here)
+    ap (λ (i : Heading). frame_in i bytes) (heading-spelled f bytes h fits same has)
     ∙ (ap (frame_in (heading_for f)) (sym same) ∙ spelled-held f fits)
 
 pub length-spelling : (f : Frame) → IsFrame f → length (frame_bytes f) ≡ 53

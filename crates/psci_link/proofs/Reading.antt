@@ -1,76 +1,63 @@
 -- What is read of bytes of one kind: what is held is spelled so, and what is refused is not
 -- spelled so.
-use Rattle.std.proofs.Common.{◌≡◌, ◌∙◌, ◌≤◌, Bool, List, ℕ, None, Some, ap, sym}
-use Rattle.std.specs.Prelude.{Result, Ok, Err, IfOk, MatchResult}
+use Rattle.std.proofs.Common.{◌≡◌, ◌∙◌, List, ℕ, None, ap, arith, sym}
+use Rattle.std.specs.Prelude.{Result, Ok, ◌≤◌}
 use Rattle.psci_board.specs.Board.{BoardValue}
 use Rattle.psci_link.specs.declared.fault.FrameFault.{FrameFault}
 use Rattle.psci_link.specs.declared.frame.Frame.{Frame}
 use Rattle.psci_link.specs.declared.heading.Heading.{Heading}
 use Rattle.psci_link.specs.declared.heading.Heading.TheVariants as headings
-use Rattle.psci_link.specs.Heading.{HasHeading}
+use Rattle.psci_link.specs.Heading.{HasHeading, parts_of}
 use Rattle.psci_messages.specs.declared.kind.Kind.{Kind}
-use Rattle.psci_messages.specs.Message.{ArePartsOf, most_applied}
-use Rattle.psci_parts.specs.declared.part.Part.{Part}
-use Rattle.psci_link.proofs.Headings.{is-held}
-use Rattle.psci_link.proofs.Places.{length-parts_in}
-use Rattle.std.proofs.lemmas.Bool.{leb-true}
-use Rattle.psci_link.specs.Frame.{AreBytes, IsFrame, IsOf, frame_bytes, frame_in, fault_of_kind}
-use Rattle.psci_link.specs.Frame.{first_fault, fault_of_parts, count_in, parts_in, part_fields_in}
+use Rattle.psci_link.specs.Frame.{AreBytes, IsFrame, IsHeldIn, IsOf, frame_bytes, frame_in}
+use Rattle.psci_link.specs.Frame.{fault_of_kind, first_fault, heading_for}
+use Rattle.psci_link.specs.Frame.{count_in, parts_in, part_fields_in}
 use Rattle.psci_link.proofs.Faults.{has-no-fault, first_fault-heading}
-use Rattle.psci_link.proofs.Frames.{not-refused, is-read}
+use Rattle.psci_link.proofs.Frames.{heading-spelled, is-read}
+use Rattle.psci_link.proofs.Headings.{counted, is-held}
+use Rattle.psci_link.proofs.Places.{length-parts_in}
 use Rattle.psci_link.proofs.Written.{frame-written, frame-is-of}
 
-pub read-on : (b : BoardValue) (bytes : List ℕ) (h : Heading) → AreBytes bytes → HasHeading bytes h
-    → (r : Result Frame FrameFault) → IfOk r (λ frame. frame ≡ frame_in h bytes)
-    → MatchResult r (λ _. fault_of_kind b bytes h ≡ None)
-    (λ fault. fault_of_kind b bytes h ≡ Some fault)
-    → IfOk r (λ frame. (frame_bytes frame ≡ bytes) × IsOf b frame)
-read-on b bytes h fits has (Ok frame) held none =
-    let sound = has-no-fault b bytes h none in
+-- what is read is spelled so, and the board's
+pub read-whole : (b : BoardValue) (bytes : List ℕ) (h : Heading) → AreBytes bytes
+    → HasHeading bytes h → (frame : Frame) → frame ≡ frame_in h bytes → first_fault b bytes ≡ None
+    → (frame_bytes frame ≡ bytes) × IsOf b frame
+read-whole b bytes h fits has frame held none =
+    let sound = has-no-fault b bytes h (sym (first_fault-heading b bytes h has) ∙ none) in
     rw held (frame-written b bytes h fits has sound, frame-is-of b bytes h sound)
-read-on b bytes h fits has (Err fault) held some = tt
 
-pub spelled-on : (b : BoardValue) (bytes : List ℕ) (h : Heading) → HasHeading bytes h
-    → (r : Result Frame FrameFault) → IfOk r (λ frame. frame ≡ frame_in h bytes)
-    → MatchResult r (λ _. fault_of_kind b bytes h ≡ None)
-    (λ fault. fault_of_kind b bytes h ≡ Some fault)
-    → (f : Frame) → IsFrame f → IsOf b f → frame_bytes f ≡ bytes → r ≡ Ok f
-spelled-on b bytes h has (Ok frame) held none f fits of same =
-    ap Ok (held ∙ is-read f bytes h fits same has)
-spelled-on b bytes h has (Err fault) held some f fits of same =
-    absurd (not-refused b f bytes fault fits of same (first_fault-heading b bytes h has ∙ some))
+-- a frame that is spelled so is read
+pub spelled-whole : (bytes : List ℕ) (h : Heading) → HasHeading bytes h → (frame : Frame)
+    → frame ≡ frame_in h bytes → (f : Frame) → IsFrame f → frame_bytes f ≡ bytes
+    → ◌≡◌ {A = Result Frame FrameFault} (Ok frame) (Ok f)
+spelled-whole bytes h has frame held f fits same = ap Ok (held ∙ is-read f bytes h fits same has)
 
-pub fault-on : (b : BoardValue) (bytes : List ℕ) (h : Heading) → HasHeading bytes h
-    → (r : Result Frame FrameFault) → MatchResult r (λ _. fault_of_kind b bytes h ≡ None)
-    (λ fault. fault_of_kind b bytes h ≡ Some fault)
-    → MatchResult r (λ _. first_fault b bytes ≡ None) (λ fault. first_fault b bytes ≡ Some fault)
-fault-on b bytes h has (Ok frame) none = first_fault-heading b bytes h has ∙ none
-fault-on b bytes h has (Err fault) some = first_fault-heading b bytes h has ∙ some
+-- a frame that is spelled so has this kind
+pub spelled-kind : (bytes : List ℕ) (h : Heading) → HasHeading bytes h → (f : Frame) → IsFrame f
+    → frame_bytes f ≡ bytes → ◌≡◌ {A = Result Heading FrameFault} (Ok h) (Ok (heading_for f))
+spelled-kind bytes h has f fits same = ap Ok (heading-spelled f bytes h fits same has)
 
--- an acknowledgement without a fault has an allowed count
-pub ack-counted : (b : BoardValue) (bytes : List ℕ) (kind : Kind) (stale : Bool) (used : ℕ)
-    → used ≡ 0
-    → fault_of_kind b bytes (headings.Ack kind stale)
-    ≡ fault_of_parts b (parts_in used (part_fields_in bytes))
-    → count_in bytes ≤ most_applied kind
-ack-counted b bytes kind stale used none same =
-    let clear = ap (λ (n : ℕ). fault_of_parts b (parts_in n (part_fields_in bytes))) none in
-    let sound = has-no-fault b bytes (headings.Ack kind stale) (same ∙ clear) in
-    leb-true (count_in bytes) (most_applied kind) sound.allowed
+-- bytes without a fault hold what a frame of their kind keeps
+pub held-in : (b : BoardValue) (bytes : List ℕ) (h : Heading) → fault_of_kind b bytes h ≡ None
+    → IsHeldIn h bytes
+held-in b bytes h none =
+    let sound = has-no-fault b bytes h none in
+    let n = parts_of h (count_in bytes) in
+    is-held h (count_in bytes) (parts_in n (part_fields_in bytes))
+    (length-parts_in n (part_fields_in bytes)) sound.allowed sound.falling sound.climbing
 
--- the parts of a message without a fault go with its kind
-pub message-held : (b : BoardValue) (bytes : List ℕ) (kind : Kind) (used : ℕ) (parts : List Part)
-    → used ≡ count_in bytes
-    → fault_of_kind b bytes (headings.Message kind)
-    ≡ fault_of_parts b (parts_in used (part_fields_in bytes))
-    → parts ≡ parts_in used (part_fields_in bytes) → fault_of_parts b parts ≡ None
-    → ArePartsOf kind parts
-message-held b bytes kind used parts many same read clear =
-    let n = count_in bytes in
-    let ps = parts_in n (part_fields_in bytes) in
-    let held : parts ≡ ps = read ∙ ap (λ (i : ℕ). parts_in i (part_fields_in bytes)) many in
-    let none : fault_of_parts b (parts_in used (part_fields_in bytes)) ≡ None
-    = ap (fault_of_parts b) (sym read) ∙ clear in
-    let sound = has-no-fault b bytes (headings.Message kind) (same ∙ none) in
-    rw held (is-held (headings.Message kind) n ps (length-parts_in n (part_fields_in bytes))
-    sound.allowed sound.falling sound.climbing)
+-- they hold a frame of the board
+pub of-board : (b : BoardValue) (bytes : List ℕ) (h : Heading) → fault_of_kind b bytes h ≡ None
+    → IsOf b (frame_in h bytes)
+of-board b bytes h none = frame-is-of b bytes h (has-no-fault b bytes h none)
+
+-- a message has at most four parts
+pub few-held : (kind : Kind) (bytes : List ℕ) → IsHeldIn (headings.Message kind) bytes
+    → count_in bytes ≤ 4
+few-held kind bytes held =
+    let parts = parts_in (count_in bytes) (part_fields_in bytes) in
+    omega (
+      arith,
+      (counted kind parts held).few,
+      length-parts_in (count_in bytes) (part_fields_in bytes),
+    )

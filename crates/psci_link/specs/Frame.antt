@@ -20,7 +20,7 @@ use Rattle.psci_link.specs.declared.heading.Heading.{Heading}
 use Rattle.psci_link.specs.declared.heading.Heading.TheVariants as headings
 use Rattle.psci_messages.specs.Message.{MessageValue, AckValue, IsMessage, IsAck, is_climbing}
 use Rattle.psci_messages.specs.Message.{is_falling}
-use Rattle.psci_link.specs.Heading.{is_magic, heading_of, allows_count, parts_of}
+use Rattle.psci_link.specs.Heading.{is_magic, heading_of, allows_count, parts_of, IsHeld}
 
 -- Spelling ------------------------------------------------------------------------------------
 
@@ -35,6 +35,11 @@ kind_code Reset = 4
 abbrev pub kind_byte : Frame → ℕ
 kind_byte (Message m) = kind_code m.kind
 kind_byte (Ack a) = (if a.stale then 32 else 16) + kind_code a.kind
+
+-- what the kind byte says
+abbrev pub heading_for : Frame → Heading
+heading_for (Message m) = headings.Message m.kind
+heading_for (Ack a) = headings.Ack a.kind a.stale
 
 -- the bytes before the parts
 abbrev pub header : ℕ → Core → ℕ → ℕ → ℕ → List ℕ
@@ -115,6 +120,11 @@ part_fields_in bytes = drop HEADER_LEN bytes
 -- the count
 abbrev pub count_in : List ℕ → ℕ
 count_in bytes = slice_index bytes 12
+
+-- these bytes hold what a frame of this kind keeps
+abbrev pub IsHeldIn : Heading → List ℕ → Type 0
+IsHeldIn h bytes =
+    IsHeld h (count_in bytes) (parts_in (parts_of h (count_in bytes)) (part_fields_in bytes))
 
 -- the frame of this kind that these bytes hold
 unfoldable pub frame_in : Heading → List ℕ → Frame

@@ -5,7 +5,7 @@ ghost use Rattle.std.specs.Prelude.{MatchResult, IfOk, IfErr};
 ghost use Rattle.std.specs.Prelude.{length, drop, slice_index};
 ghost use Rattle.psci_link.specs.declared.frame.Frame.TheVariants as frames;
 ghost use Rattle.psci_link.specs.declared.heading.Heading.TheVariants as headings;
-ghost use Rattle.psci_messages.specs.Message.{ArePartsOf, is_climbing, is_falling, most_applied};
+ghost use Rattle.psci_messages.specs.Message.{is_climbing, is_falling};
 ghost use Rattle.psci_link.specs.Heading.{parts_of, HasHeading};
 ghost use Rattle.psci_board.specs.Board.{BoardValue};
 ghost use Rattle.std.specs.List.{list_all};
@@ -13,7 +13,7 @@ ghost use Rattle.std.specs.Prelude.{◌==◌, ◌&&◌};
 ghost use Rattle.psci_link.specs.Frame.{frame_bytes, IsFrame, IsOf, is_within, part_in, parts_in};
 ghost use Rattle.psci_link.specs.Frame.{word_at};
 ghost use Rattle.psci_link.specs.Frame.{part_fields_in, count_in, fault_of_kind, fault_of_parts};
-ghost use Rattle.psci_link.specs.Frame.{first_fault, frame_in};
+ghost use Rattle.psci_link.specs.Frame.{IsHeldIn, first_fault, frame_in, heading_for};
 
 use crate::encoding::MAGIC;
 use crate::fault::FrameFault;
@@ -35,8 +35,30 @@ pub fn decode(bytes: &[u8], board: &Board) -> Result<Frame, FrameFault>
     ensures fault { MatchResult result (λ _. first_fault board.now bytes.now ≡ None)
         (λ fault. first_fault board.now bytes.now ≡ Some fault) }
 {
+    let heading = heading_on(bytes, board)?;
+    Ok(frame_with(heading, bytes))
+}
+
+/// What kind of frame of this board the bytes are, or their first fault. It takes no room for a
+/// frame: `message_in` and `ack_in` read what the caller wants of it.
+pub fn heading_on(bytes: &[u8], board: &Board) -> Result<Heading, FrameFault>
+    ensures heading { IfOk result (HasHeading bytes.now) }
+    ensures held { IfOk result (λ heading. IsHeldIn heading bytes.now) }
+    // The frame that they hold is the board's, and no other is spelled so.
+    ensures of { IfOk result (λ heading. IsOf board.now (frame_in heading bytes.now)) }
+    ensures one { IfOk result (λ heading. (frame : Frame) → IsFrame frame
+        → frame_bytes frame ≡ bytes.now → frame_in heading bytes.now ≡ frame) }
+    // A frame of the board that is spelled so is of this kind.
+    ensures spelled { (frame : Frame) → IsFrame frame → IsOf board.now frame
+        → frame_bytes frame ≡ bytes.now → result ≡ Ok (heading_for frame) }
+    ensures fault { MatchResult result (λ _. first_fault board.now bytes.now ≡ None)
+        (λ fault. first_fault board.now bytes.now ≡ Some fault) }
+{
     let heading = heading_in(bytes)?;
-    frame_on(board, heading, bytes)
+    match check(board, heading, bytes) {
+        Err(fault) => Err(fault),
+        Ok(()) => Ok(heading),
+    }
 }
 
 /// What kind of frame bytes are, if they have the length and the beginning of one.
@@ -55,26 +77,20 @@ fn heading_in(bytes: &[u8]) -> Result<Heading, FrameFault>
     Heading::of(bytes[KIND_AT]).ok_or(FrameFault::Kind)
 }
 
-/// The frame of this kind that the bytes are on this board, or their first fault.
-fn frame_on(board: &Board, heading: Heading, bytes: &[u8]) -> Result<Frame, FrameFault>
+/// The first fault of bytes of this kind on this board, if they have one.
+fn check(board: &Board, heading: Heading, bytes: &[u8]) -> Result<(), FrameFault>
     requires { length bytes.now ≡ 53 }
-    ensures frame { IfOk result (λ frame. frame ≡ frame_in heading bytes.now) }
-    ensures fault { MatchResult result (λ _. fault_of_kind board.now bytes.now heading ≡ None)
+    ensures { MatchResult result (λ _. fault_of_kind board.now bytes.now heading ≡ None)
         (λ fault. fault_of_kind board.now bytes.now heading ≡ Some fault) }
 {
-    match heading {
-        Heading::Message(kind) => {
-            let used = used_on(board, heading, bytes)?;
-            let (_, places) = bytes.split_at(HEADER_LEN);
-            let parts = parts_in(used, places);
-            check_parts(board, parts.as_slice())?;
-            Ok(Frame::Message(message_with(kind, bytes, parts)))
-        }
-        Heading::Ack(kind, stale) => {
-            used_on(board, heading, bytes)?;
-            Ok(Frame::Ack(ack_with(kind, stale, bytes)))
-        }
+    let used = used_on(board, heading, bytes)?;
+    if used == 0 {
+        return Ok(());
     }
+    let (_, places) = bytes.split_at(HEADER_LEN);
+    let parts = parts_in(used, places);
+    check_parts(board, parts.as_slice())?;
+    Ok(())
 }
 
 /// How many places of parts a frame of this kind uses, if its count, the bytes that are not used
@@ -119,12 +135,23 @@ fn check_parts(board: &Board, parts: &[Part]) -> Result<(), FrameFault>
     Ok(())
 }
 
-/// The message of this kind that the bytes hold, with its parts.
+/// The frame of this kind that the bytes hold.
+fn frame_with(heading: Heading, bytes: &[u8]) -> Frame
+    requires heading { HasHeading bytes.now heading }
+    requires held { IsHeldIn heading bytes.now }
+    ensures { result ≡ frame_in heading bytes.now }
+{
+    match heading {
+        Heading::Message(kind) => Frame::Message(message_in(kind, bytes)),
+        Heading::Ack(kind, stale) => Frame::Ack(ack_in(kind, stale, bytes)),
+    }
+}
+
+/// The message of this kind that the bytes hold, as `heading_on` finds them.
 #[tactic(auto, unfolding(crate::specs::Frame::frame_in))]
-fn message_with(kind: Kind, bytes: &[u8], parts: Parts) -> Message
-    requires whole { length bytes.now ≡ 53 }
-    requires parts { parts ≡ parts_in (count_in bytes.now) (part_fields_in bytes.now) }
-    requires held { ArePartsOf kind parts }
+pub fn message_in(kind: Kind, bytes: &[u8]) -> Message
+    requires heading { HasHeading bytes.now (headings.Message kind) }
+    requires held { IsHeldIn (headings.Message kind) bytes.now }
     ensures { frames.Message result ≡ frame_in (headings.Message kind) bytes.now }
 {
     Message {
@@ -132,15 +159,15 @@ fn message_with(kind: Kind, bytes: &[u8], parts: Parts) -> Message
         core: core_in(bytes),
         life: number_at(bytes, LIFE_AT),
         number: number_at(bytes, NUMBER_AT),
-        parts,
+        parts: counted_parts(bytes),
     }
 }
 
-/// The acknowledgement of a message of this kind that the bytes hold.
+/// The acknowledgement of a message of this kind that the bytes hold, as `heading_on` finds them.
 #[tactic(auto, unfolding(crate::specs::Frame::frame_in))]
-fn ack_with(kind: Kind, stale: bool, bytes: &[u8]) -> Ack
-    requires whole { length bytes.now ≡ 53 }
-    requires held { count_in bytes.now ≤ most_applied kind }
+pub fn ack_in(kind: Kind, stale: bool, bytes: &[u8]) -> Ack
+    requires heading { HasHeading bytes.now (headings.Ack kind stale) }
+    requires held { IsHeldIn (headings.Ack kind stale) bytes.now }
     ensures { frames.Ack result ≡ frame_in (headings.Ack kind stale) bytes.now }
 {
     Ack {
@@ -151,6 +178,16 @@ fn ack_with(kind: Kind, stale: bool, bytes: &[u8]) -> Ack
         applied: bytes[COUNT_AT],
         stale,
     }
+}
+
+/// The parts that these bytes count.
+fn counted_parts(bytes: &[u8]) -> Parts
+    requires whole { length bytes.now ≡ 53 }
+    requires few { count_in bytes.now ≤ 4 }
+    ensures { result ≡ parts_in (count_in bytes.now) (part_fields_in bytes.now) }
+{
+    let (_, places) = bytes.split_at(HEADER_LEN);
+    parts_in(bytes[COUNT_AT], places)
 }
 
 /// The core whose number these bytes hold.

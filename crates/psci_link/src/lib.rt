@@ -12,10 +12,11 @@ mod frame;
 mod heading;
 mod laws;
 
-pub use decoding::decode;
+pub use decoding::{ack_in, decode, heading_on, message_in};
 pub use encoding::{encode, encode_message};
 pub use fault::FrameFault;
 pub use frame::{FRAME_LEN, Frame};
+pub use heading::Heading;
 pub use laws::law_frames;
 pub use psci_messages::{Ack, Cause, Kind, Message, Slots, Start, Taken, law_parts, law_slots};
 pub use psci_parts::{Part, Parts};

@@ -24,13 +24,10 @@ returns-in-Err-clause-ack c = λ a read.
 
 pub returns-in-Ok-Ack-clause-ack : goal.returns-in-Ok-Ack-clause-ack
 returns-in-Ok-Ack-clause-ack c = λ a read.
-    let same = ap (λ (x : Common). x.board) c.deref.ensures
-    ∙ (c.self.invariant.0 ∙ ap (λ (p : PolledView). p.firmware.board) c.self.view_is) in
-    let spelled = rw c.in-Ok-Ack.field-0-is at c.in-Ok-Ack.ensures.spelled in
-    let one = one-ack c.in-Ok-Ack.ack a (spelled (frames.Ack a) read.0
-    (of-same c.deref.result.now.board c.args.self.now.firmware.board (frames.Ack a) same read.1)
-    read.2) in
-    is-taken c.args.self.now c.take_ack.new.self c.in-Ok-Ack.ack a c.take_ack.result
+    let held = rw c.in-Ok-Ack.field-0-is at c.in-Ok-Ack.ensures.one in
+    let one = one-ack c.ack_in.result a
+    (c.ack_in.ensures ∙ held (frames.Ack a) read.0 read.2) in
+    is-taken c.args.self.now c.take_ack.new.self c.ack_in.result a c.take_ack.result
     c.taken_code.result one c.taken_code.ensures (c.take_ack.ensures.answer 0)
     (c.take_ack.ensures.after 0) c.take_ack.ensures.board c.take_ack.ensures.table
     c.take_ack.ensures.written
