@@ -41,8 +41,8 @@ pub fn audit(alloc: Global, board: &Board, trace: &Trace) -> Result<u64, AuditFa
     }
 }
 
-/// The world in which a trace happened, if its tickets fit and the merged list is legal: a record for
-/// each entry of that list, in order, with the same reply.
+/// The world in which a trace happened, if its tickets fit and the merged list is legal: a record
+/// for each entry of that list, in order, with the same reply.
 pub fn retell(alloc: Global, board: &Board, trace: &Trace) -> Result<Retold, AuditFault>
     ensures ok { IfOk result
         (λ r. IsSound board.now trace.now.firmware.items trace.now.controller.items r.audited) }

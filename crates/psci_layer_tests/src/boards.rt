@@ -9,6 +9,8 @@ use psci_ctl::Controller;
 use psci_messages::Slots;
 use psci_text::{hex, literal, number};
 use psci_tree::Tree;
+use std::alloc::Global;
+use std::process::Abort;
 use std::test::Fail;
 
 /// The longest trees and the most ranges that a board may have.
@@ -87,6 +89,13 @@ fn words_and_numbers(rt: HostRuntime) {
     assert!(rt; hex(b"0x00000000000000000").is_none());
 }
 
+/// The layers stand on a board.
+fn layers_stand(rt: &impl Abort, alloc: Global, text: &str, board: &Board) {
+    assert!(rt; Tree::new(alloc, board).is_ok(), "{text}");
+    assert!(rt; Slots::new(alloc, board.cores()).is_ok(), "{text}");
+    assert!(rt; Controller::new(alloc, board).is_ok(), "{text}");
+}
+
 #[test]
 fn boards_are_read_and_copied(rt: HostRuntime) -> Result<(), Fail> {
     for (text, height, cores) in BOARDS {
@@ -94,9 +103,7 @@ fn boards_are_read_and_copied(rt: HostRuntime) -> Result<(), Fail> {
         assert_eq!(rt; (board.height(), board.cores()), (height, cores), "{text}");
         let copy = board.copy(rt.alloc())?;
         assert_eq!(rt; (copy.height(), copy.cores()), (height, cores), "{text}");
-        assert!(rt; Tree::new(rt.alloc(), &board).is_ok(), "{text}");
-        assert!(rt; Slots::new(rt.alloc(), cores).is_ok(), "{text}");
-        assert!(rt; Controller::new(rt.alloc(), &board).is_ok(), "{text}");
+        layers_stand(&rt, rt.alloc(), text, &board);
     }
     let (text, _, _) = BOARDS[4];
     let board = Board::read(rt.alloc(), text)?;

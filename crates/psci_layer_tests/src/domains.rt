@@ -82,17 +82,21 @@ enum Claim {
     Off(&'static [(u8, u64)]),
 }
 
-/// Tells a story of a board.
-fn tell(
-    rt: &impl Abort,
-    alloc: Global,
-    name: &str,
-    text: &str,
-    story: &[Step],
-) -> Result<(), Fail> {
-    let board = Board::read(alloc, text)?;
-    let mut tree = Tree::new(alloc, &board)?;
-    take_steps(rt, name, &board, &mut tree, 0, story);
+/// What happens on a board, from the start of a life on.
+#[derive(Clone, Copy)]
+struct Story {
+    name: &'static str,
+    board: &'static str,
+    steps: &'static [Step],
+}
+
+/// Tells stories.
+fn tell(rt: &impl Abort, alloc: Global, stories: &[Story]) -> Result<(), Fail> {
+    for story in stories {
+        let board = Board::read(alloc, story.board)?;
+        let mut tree = Tree::new(alloc, &board)?;
+        take_steps(rt, story.name, &board, &mut tree, 0, story.steps);
+    }
     Ok(())
 }
 
@@ -126,10 +130,7 @@ fn is_answered(board: &Board, tree: &mut Tree, step: Step) -> bool
             tree.reset_life();
             true
         }
-        Step::Domain(level, place, keeps) => {
-            let node = Node { level, place };
-            has(board, node) && is_kept(tree, node, keeps)
-        }
+        Step::Domain(level, place, keeps) => has_kept(board, tree, Node { level, place }, keeps),
         Step::Claims(number, claim) => {
             number < board.cores() && is_claimed(board, tree, Core { number }, claim)
         }
@@ -166,6 +167,13 @@ fn grant_deepest(tree: &mut Tree, core: Core) -> u8
     before
 }
 
+/// Whether the board has a domain, and it keeps this.
+fn has_kept(board: &Board, tree: &Tree, node: Node, keeps: Keeps) -> bool
+    requires { tree.now.levels ≡ board.now.levels }
+{
+    has(board, node) && is_kept(tree, node, keeps)
+}
+
 /// Whether a domain keeps this.
 fn is_kept(tree: &Tree, node: Node, keeps: Keeps) -> bool
     requires { HasNodeIn tree.now.levels node }
@@ -187,22 +195,32 @@ fn is_claimed(board: &Board, tree: &Tree, core: Core, claim: Claim) -> bool
     requires levels { tree.now.levels ≡ board.now.levels }
     requires core { core.number < cores board.now }
 {
-    let ask = |word| Ask::read(word, Format::Original, board.height());
     match claim {
         Claim::Platform(parts) => are_parts(&claims(tree, board, core), parts),
-        Claim::Own(word, parts) => match ask(word) {
-            Ok(ask) => are_parts(&own_parts(tree, board, core, ask), parts),
-            Err(_) => false,
-        },
-        Claim::Checked(word, parts) => match ask(word) {
-            Ok(ask) => check(tree, board, core, ask).is_ok_and(|claim| are_parts(&claim, parts)),
-            Err(_) => false,
-        },
-        Claim::Refused(word, reason) => match ask(word) {
-            Ok(ask) => check(tree, board, core, ask).is_err_and(|refusal| refusal == reason),
-            Err(_) => false,
-        },
         Claim::Off(parts) => are_parts(&off_parts(tree, board, core), parts),
+        Claim::Own(word, _) | Claim::Checked(word, _) | Claim::Refused(word, _) => {
+            match Ask::read(word, Format::Original, board.height()) {
+                Ok(ask) => is_claimed_by(board, tree, core, ask, claim),
+                Err(_) => false,
+            }
+        }
+    }
+}
+
+/// Whether a core claims this that asks so.
+fn is_claimed_by(board: &Board, tree: &Tree, core: Core, ask: Ask, claim: Claim) -> bool
+    requires levels { tree.now.levels ≡ board.now.levels }
+    requires core { core.number < cores board.now }
+{
+    match claim {
+        Claim::Own(_, parts) => are_parts(&own_parts(tree, board, core, ask), parts),
+        Claim::Checked(_, parts) => {
+            check(tree, board, core, ask).is_ok_and(|claim| are_parts(&claim, parts))
+        }
+        Claim::Refused(_, reason) => {
+            check(tree, board, core, ask).is_err_and(|refusal| refusal == reason)
+        }
+        Claim::Platform(_) | Claim::Off(_) => false,
     }
 }
 

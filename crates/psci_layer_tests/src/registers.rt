@@ -59,6 +59,29 @@ const FEATURES: [(u32, Format, i32); 6] = [
     (0x8400_000a, Format::Original, 0),
 ];
 
+/// Codes, whether the register that has them is wide, and what stands in it.
+const CODES: [(i32, bool, u64); 3] = [
+    (-1, false, 0x0000_0000_ffff_ffff),
+    (-1, true, 0xffff_ffff_ffff_ffff),
+    (65537, true, 65537),
+];
+
+/// Function words, and the register that says INVALID_ADDRESS to their callers.
+const RESULTS: [(u64, u64); 2] = [
+    (0x8400_0003, 0x0000_0000_ffff_fff7),
+    (0xc400_0003, 0xffff_ffff_ffff_fff7),
+];
+
+/// A function word, and no arguments.
+fn alone(x0: u64) -> Regs {
+    Regs {
+        x0,
+        x1: 0,
+        x2: 0,
+        x3: 0,
+    }
+}
+
 #[test]
 fn registers_are_read_and_written(rt: HostRuntime) {
     for ([x0, x1, x2, x3], request) in REQUESTS {
@@ -67,23 +90,10 @@ fn registers_are_read_and_written(rt: HostRuntime) {
     for (word, format, flags) in FEATURES {
         assert_eq!(rt; features(word, format), flags, "{word:x}");
     }
-    for (code, wide, register) in [
-        (-1, false, 0x0000_0000_ffff_ffff),
-        (-1, true, 0xffff_ffff_ffff_ffff),
-        (65537, true, 65537),
-    ] {
+    for (code, wide, register) in CODES {
         assert_eq!(rt; Code(code).register(wide), register);
     }
-    for (x0, register) in [
-        (0x8400_0003, 0x0000_0000_ffff_fff7),
-        (0xc400_0003, 0xffff_ffff_ffff_fff7),
-    ] {
-        let regs = Regs {
-            x0,
-            x1: 0,
-            x2: 0,
-            x3: 0,
-        };
-        assert_eq!(rt; regs.result(Code::INVALID_ADDRESS), register);
+    for (x0, register) in RESULTS {
+        assert_eq!(rt; alone(x0).result(Code::INVALID_ADDRESS), register);
     }
 }

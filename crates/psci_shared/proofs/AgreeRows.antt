@@ -162,7 +162,8 @@ placed : map (λ place. times place (map places_of (pass false 0 ours ∷ pass f
     (0 ∷ 1 ∷ 2 ∷ 3 ∷ []) ≡ 1 ∷ 1 ∷ 1 ∷ 0 ∷ []
 placed = refl
 
-placed_wrongly : map (λ place. times place (map places_of (pass false 0 ours ∷ pass false 0 ours ∷ [])))
+placed_wrongly : map
+    (λ place. times place (map places_of (pass false 0 ours ∷ pass false 0 ours ∷ [])))
     (0 ∷ 1 ∷ []) ≡ 2 ∷ 0 ∷ []
 placed_wrongly = refl
 
@@ -215,6 +216,7 @@ last_call_first : history_of entries
 unfolding history_of
 last_call_first = refl
 
-one_more_entry : entered (record { entries = []; room = 3 }) (entry 5 (core 0) (ask 1) (Fault NoLife))
+one_more_entry : entered (record { entries = []; room = 3 })
+    (entry 5 (core 0) (ask 1) (Fault NoLife))
     ≡ record { entries = entry 5 (core 0) (ask 1) (Fault NoLife) ∷ []; room = 3 }
 one_more_entry = refl

@@ -107,7 +107,7 @@ pass n items seen = record {
 abbrev fresh : ℕ → PassView
 fresh n = pass n [] (((0, Off) ∷ []) ∷ ((0, Off) ∷ []) ∷ [])
 
--- Core 0 asks core 1 on, in life 1 ------------------------------------------------------------------
+-- Core 0 asks core 1 on, in life 1 ---------------------------------------------------------------
 
 abbrev booted : List FwEntry
 booted = enters 1 ∷ []
@@ -136,7 +136,8 @@ core_1_is_asked_on : IsAnsweredAfter board booted 5 (fresh 0)
 unfolding computing
 core_1_is_asked_on = ((refl, tt), refl, refl, on_stands, on_is_last)
 
-so_it_is_answered : IsAnswered board (fresh 0) (pass 0 (item 1 on accepted ∷ []) seen_on) on accepted
+so_it_is_answered : IsAnswered board (fresh 0) (pass 0 (item 1 on accepted ∷ []) seen_on) on
+    accepted
 unfolding computing
 so_it_is_answered = (booted, 5, ((refl, tt), refl, refl, on_stands, on_is_last))
 
@@ -212,7 +213,8 @@ core_1_was_never_on h = never_on (h.3 1 (omega arith))
 not_off_then : Within (On ∷ Pending ∷ Off ∷ []) ((2, On) ∷ (1, Off) ∷ []) → ⊥
 not_off_then (i, above, (inl e, over, more)) = let s : ◌≡◌ {A = ℕ} 1 2 = e.0 in omega arith
 not_off_then (i, above, (inr (inl e), over, more)) = let s : Off ≡ Pending = e.1 in cc
-not_off_then (i, above, (inr (inr (inl e)), over, more)) = let s : ◌≡◌ {A = ℕ} 1 0 = e.0 in omega arith
+not_off_then (i, above, (inr (inr (inl e)), over, more)) =
+    let s : ◌≡◌ {A = ℕ} 1 0 = e.0 in omega arith
 not_off_then (i, above, (inr (inr (inr e)), over, more)) = e
 
 core_0_was_not_off_then : IsAnsweredAfter board booted 5 (fresh 0)
@@ -228,8 +230,8 @@ last (i ∷ is) = i.0
 
 -- a pass has not seen what the call made of its target; or what its caller is
 target_is_not_seen : IsAnsweredAfter board booted 5 (fresh 0)
-    (pass 0 (item 1 on accepted ∷ []) (((2, On) ∷ (0, Off) ∷ []) ∷ ((0, Off) ∷ []) ∷ [])) on accepted
-    → ⊥
+    (pass 0 (item 1 on accepted ∷ []) (((2, On) ∷ (0, Off) ∷ []) ∷ ((0, Off) ∷ []) ∷ [])) on
+    accepted → ⊥
 unfolding computing
 target_is_not_seen h =
     let e : ◌≡◌ {A = ℕ} 0 1 = ap last (h.4 1 (omega arith)).1 in omega arith
@@ -241,7 +243,7 @@ unfolding computing
 caller_is_not_seen h =
     let e : ◌≡◌ {A = ℕ} 1 2 = ap last (h.4 0 (omega arith)).1 in omega arith
 
--- Core 1 is refused, in life 2 ----------------------------------------------------------------------
+-- Core 1 is refused, in life 2 -------------------------------------------------------------------
 
 abbrev twice : List FwEntry
 twice = enters 1 ∷ enters 2 ∷ []
@@ -287,11 +289,11 @@ unfolding computing
 another_fault h = let e : ◌≡◌ {A = ℕ} 4 5 = ap kind h.1 in omega arith
 
 -- what the firmware refuses is entered as well
-refused_without_an_item : IsAnsweredFault board 9 (pass 1 (item_0 ∷ []) []) (pass 1 (item_0 ∷ []) [])
-    version (Fw NotRunning) → ⊥
+refused_without_an_item : IsAnsweredFault board 9 (pass 1 (item_0 ∷ []) [])
+    (pass 1 (item_0 ∷ []) []) version (Fw NotRunning) → ⊥
 refused_without_an_item h = let e : ◌≡◌ {A = ℕ} 1 2 = ap length h.2.2 in omega arith
 
--- The first calls -----------------------------------------------------------------------------------
+-- The first calls --------------------------------------------------------------------------------
 
 -- an acknowledgement before any life, and the first entry: the book was empty
 abbrev after_take : List FwEntry
@@ -334,8 +336,11 @@ seen_entry = ((2, On) ∷ (1, Pending) ∷ (0, Off) ∷ []) ∷ ((0, Off) ∷ []
 
 entry_stands : Stand board booted seen_entry
 unfolding computing
-entry_stands zero h =
-    (inl (refl, refl), omega arith, (inr (inl (refl, refl)), omega arith, (inr (inr (inl (refl, refl))), tt, tt)))
+entry_stands zero h = (
+  inl (refl, refl),
+  omega arith,
+  (inr (inl (refl, refl)), omega arith, (inr (inr (inl (refl, refl))), tt, tt)),
+)
 entry_stands (suc zero) h = (inl (refl, refl), tt, tt)
 entry_stands (suc (suc core)) h = tt
 
@@ -345,8 +350,8 @@ entry_is_last zero h = ((1, Pending) ∷ (0, Off) ∷ [], refl)
 entry_is_last (suc zero) h = ([], refl)
 entry_is_last (suc (suc core)) h = let k : suc (suc core) < 2 = h in absurd (omega arith)
 
-first_entry : IsAnsweredAfter board [] 1 (fresh 0) (pass 0 (item 0 (starts 1) boots ∷ []) seen_entry)
-    (starts 1) boots
+first_entry : IsAnsweredAfter board [] 1 (fresh 0)
+    (pass 0 (item 0 (starts 1) boots ∷ []) seen_entry) (starts 1) boots
 unfolding computing
 first_entry = (tt, refl, refl, entry_stands, entry_is_last)
 
@@ -365,7 +370,7 @@ first_is_illegal : IsAnsweredAfter board (early ∷ enters 1 ∷ []) 1 (fresh 0)
 unfolding computing
 first_is_illegal h = let e : ◌≡◌ {A = ℕ} 1 4 = ap kind h.0.1.0 in omega arith
 
--- A book that is full -------------------------------------------------------------------------------
+-- A book that is full ----------------------------------------------------------------------------
 
 full_with_two : IsFull board 2
 unfolding computing

@@ -1,5 +1,5 @@
--- Worked examples of the one core whose status a call may change while its life goes on, and of what
--- is written when the last call was not yet.
+-- Worked examples of the one core whose status a call may change while its life goes on, and of
+-- what is written when the last call was not yet.
 use Rattle.std.proofs.Common.{◌≡◌, ℕ, zero, suc, ◌<◌, List, [], ◌∷◌, pos, negsuc}
 use Rattle.std.proofs.Common.{Bool, true, false, refl, arith, Option, Some, None}
 use Rattle.psci_fw.specs.psci_abi.psci_format.declared.format.Format.TheVariants.{Original}
@@ -103,7 +103,8 @@ refused = refl
 
 -- Other functions ---------------------------------------------------------------------------------
 
-version : named 0 (smc 0x84000000 0) (ends (acts.Return (record { 0 = pos 0x10001 })) None) ≡ no_core
+version : named 0 (smc 0x84000000 0) (ends (acts.Return (record { 0 = pos 0x10001 })) None)
+    ≡ no_core
 version = refl
 
 -- whatever is sent beside a return code, if it is not a CPU_ON

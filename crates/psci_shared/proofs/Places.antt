@@ -106,7 +106,8 @@ one_of_two k (p ∷ ps) qs e =
     let parts = and_parts (not (has_place p qs)) (apart ps qs) e in
     elim (cases_eq p k) [
       | inl is ↦
-          inr (not_has k qs (subst (λ (m : ℕ). has_place m qs ≡ false) is (not-true (has_place p qs) parts.0)))
+          inr (not_has k qs (subst (λ (m : ℕ). has_place m qs ≡ false) is
+          (not-true (has_place p qs) parts.0)))
       | inr ne ↦ elim (one_of_two k ps qs parts.1) [
         | inl none ↦ inl (let a : once p k ≡ 0 = once_other p k ne in omega arith)
         | inr none ↦ inr none

@@ -1,7 +1,7 @@
--- Worked examples of a run of a pass: calls and polls, what it keeps of what it saw, and why no pass
--- is made.
-use Rattle.std.proofs.Common.{◌≡◌, inl, inr, ℕ, ◌<◌, ◌≤◌, true, false, List, [], ◌∷◌, length, refl, ap, arith}
-use Rattle.std.proofs.Common.{Some, None}
+-- Worked examples of a run of a pass: calls and polls, what it keeps of what it saw, and why no
+-- pass is made.
+use Rattle.std.proofs.Common.{◌≡◌, inl, inr, ℕ, ◌<◌, ◌≤◌, true, false, List, [], ◌∷◌, length}
+use Rattle.std.proofs.Common.{refl, ap, arith, Some, None}
 use Rattle.psci_fw.specs.psci_abi.psci_format.declared.format.Format.TheVariants.{Original}
 use Rattle.psci_fw.specs.psci_board.Board.{BoardValue}
 use Rattle.psci_fw.specs.psci_fw_spec.declared.call.FwCall.{FwCall}

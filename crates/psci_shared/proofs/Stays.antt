@@ -46,8 +46,8 @@ pub others_stay : (b : BoardValue) (log : List (List Status)) (entries : List Fw
     → (core : ℕ) → core < cores b → is_named changed core ≡ false → v.life ≡ before
     → v.life ≢ 0 → added (v.status core) (row log core) ≡ row log core
 unfolding values_of
-others_stay b log entries before changed v (past, last, is, was, named, wrote) at core small other same
-    some =
+others_stay b log entries before changed v (past, last, is, was, named, wrote) at core small
+    other same some =
     let h = history_of past in
     let e = exchange_of last in
     let more : history_of entries ≡ e ∷ h = ap history_of is ∙ history_more past last in

@@ -1,5 +1,6 @@
--- Worked examples of what is written of each core, of what a pass has seen of it, and of what a pass
--- is answered. The boot core has entered: it was OFF, ON_PENDING and ON, and the others are OFF.
+-- Worked examples of what is written of each core, of what a pass has seen of it, and of what a
+-- pass is answered. The boot core has entered: it was OFF, ON_PENDING and ON, and the others are
+-- OFF.
 use Rattle.std.proofs.Common.{◌≡◌, inl, inr, ℕ, zero, suc, ◌<◌, ◌≤◌, List, [], ◌∷◌, length, pos}
 use Rattle.std.proofs.Common.{negsuc, Bool, true, false, refl, ap, arith, Some, None}
 use Rattle.std.specs.Prelude.{nat_lt, if◌then◌else◌}
@@ -77,7 +78,8 @@ first_written zero h = refl
 first_written (suc zero) h = refl
 first_written (suc (suc core)) h = let k : suc (suc core) < 2 = h in absurd (omega arith)
 
--- one status more: another one, the same, and one that opens a life; of the boot core, and of another
+-- one status more: another one, the same, and one that opens a life; of the boot core, and of
+-- another
 another_status : one_more false 0 Pending (Off ∷ []) ≡ Pending ∷ Off ∷ []
 another_status = refl
 

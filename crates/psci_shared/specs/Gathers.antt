@@ -19,7 +19,8 @@ abbrev pub IsCause : GatherCause → Type 0 → ℕ → ℕ → Type 0
 IsCause Astray Agree came made = Agree → ⊥
 IsCause Missing Agree came made = Agree × (came < made)
 
--- a pass that was told of these: of each core it has seen what it had seen, and one item more at most
+-- a pass that was told of these: of each core it has seen what it had seen, and one item more at
+-- most
 abbrev pub met : List (List Item) → PassView → PassView
 met notes p = record p { seen = gains p.seen notes }
 

@@ -1,5 +1,6 @@
 -- Passes as contracts see them.
-use Rattle.std.specs.Prelude.{◌≡◌, ◌≤◌, ◌<◌, ℕ, List, [], ◌∷◌, ◌++◌, Bool, true, false, slice_set, Option, None, Some, pos}
+use Rattle.std.specs.Prelude.{◌≡◌, ◌≤◌, ◌<◌, ℕ, List, [], ◌∷◌, ◌++◌, Bool, true, false}
+use Rattle.std.specs.Prelude.{slice_set, Option, None, Some, pos}
 use Rattle.psci_fw.specs.psci_abi.Codes.{invalid_parameters}
 use Rattle.psci_fw.specs.psci_abi.declared.code.Code.{Code}
 use Rattle.psci_fw.specs.psci_board.Board.{BoardValue, cores}
@@ -38,8 +39,8 @@ called p i seen = record p { items = p.items ++ i ∷ []; seen = seen }
 abbrev pub told : PassView → PassView
 told p = record p { told_full = true }
 
--- a pass that read the status of a core with its serial: it has now seen one item more of it at most,
--- the last is that item, and serials rise
+-- a pass that read the status of a core with its serial: it has now seen one item more of it at
+-- most, the last is that item, and serials rise
 abbrev pub IsReadAt : PassView → PassView → ℕ → ℕ → Status → Type 0
 IsReadAt p p' core serial status =
     (p' ≡ record p { seen = slice_set p.seen core (gain (serial, status) (row p.seen core)) })

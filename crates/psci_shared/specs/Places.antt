@@ -1,5 +1,6 @@
 -- Places of a book, and how often they stand in the passes.
-use Rattle.std.specs.Prelude.{◌≡◌, ◌<◌, ◌≤◌, ◌+◌, ℕ, ◌==◌, nat_lt, ◌&&◌, ◌||◌, not, Bool, true, false}
+use Rattle.std.specs.Prelude.{◌≡◌, ◌<◌, ◌≤◌, ◌+◌, ℕ, ◌==◌, nat_lt, ◌&&◌, ◌||◌}
+use Rattle.std.specs.Prelude.{not, Bool, true, false}
 use Rattle.std.specs.Prelude.{if◌then◌else◌}
 use Rattle.std.specs.Prelude.{List, [], ◌∷◌, map, length, sum_by, count_by}
 use Rattle.psci_shared.specs.declared.entry.FwItem.{FwItem}

@@ -42,12 +42,14 @@ abbrev pub Goes : BoardValue → PassView → List PassView → PassView → Typ
 Goes b p [] p' = p' ≡ p
 Goes b p (q ∷ qs) p' = IsStep b p q × Goes b q qs p'
 
--- the status is one of the core's after these entries, by its serial
+-- the status is one of the core's after these entries, by its
+-- serial
 abbrev pub IsOneOf : BoardValue → List FwEntry → ℕ → Status → Type 0
 IsOneOf b entries core status =
     (serial : ℕ) × Stands (statuses b (history_of entries) core) (serial, status)
 
--- what was seen of a core of the board is that one of its statuses after these entries, by its serial
+-- what was seen of a core of the board is that one of its statuses after these entries, by its
+-- serial
 abbrev pub IsInHistory : BoardValue → List FwEntry → Sighting → Type 0
 IsInHistory b entries s =
     (s.core.number < cores b)

@@ -44,8 +44,8 @@ written_after b entries before core written =
     else one_more (not (life b (history_of entries) == before)) core
     (status b (history_of entries) core) written
 
--- the core that a call may name, by its reply: the target of an accepted CPU_ON, a core that enters,
--- or that of an acknowledgement
+-- the core that a call may name, by its reply: the target of an accepted CPU_ON, a core that
+-- enters, or that of an acknowledgement
 abbrev pub named_by : Core → FwCall → FwReply → Option Core
 named_by core (Smc regs) (Out o) = asked_by o
 named_by core (Enter start) (Out o) = Some core

@@ -83,8 +83,9 @@ impl<N: Named> FwBook<N> {
         Ok(reply)
     }
 
-    /// The same for a pass, in whose list the call goes as well; the message stays in its slot. `A` is
-    /// for the compiler, as in all that is done under the lock: so each kind of call has its own.
+    /// The same for a pass, in whose list the call goes as well; the message stays in its slot. `A`
+    /// is for the compiler, as in all that is done under the lock: so each kind of call has its
+    /// own.
     #[tactic(auto, using(crate::proofs::Histories::history_more))]
     pub(crate) fn carry_out<A>(
         &mut self,

@@ -58,7 +58,8 @@ impl FwItem {
 #[derive(Clone, Copy, Debug, PartialEq, Eq, Drop)]
 pub struct BookFull;
 
-/// An outcome that sends nothing. Where there is no message, none is copied: its room stays as it is.
+/// An outcome that sends nothing. Where there is no message, none is copied: its room stays as it
+/// is.
 pub(crate) fn quiet(act: Act) -> Outcome
     ensures { result ≡ record { act = act; message = None } }
 {

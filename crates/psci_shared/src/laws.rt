@@ -20,9 +20,10 @@ ghost use Rattle.psci_shared.specs.Passes.{IsAffinity, PassView};
 ghost use Rattle.psci_shared.specs.Polls.{Goes, IsAmong, IsOneOf};
 ghost use Rattle.psci_shared.specs.Writing.{AllLast, HasSeen, Stand};
 
-/// A pass that has seen the last status of each core, as after each call of its own that is entered,
-/// has seen the firmware's status last, in every life. So right after an accepted CPU_ON it has seen
-/// ON_PENDING of the target, and after an entry from which its core goes on ON of that core.
+/// A pass that has seen the last status of each core, as after each call of its own that is
+/// entered, has seen the firmware's status last, in every life. So right after an accepted CPU_ON
+/// it has seen ON_PENDING of the target, and after an entry from which its core goes on ON of that
+/// core.
 pub fn law_own_calls()
     ensures status { (b : BoardValue) (entries : List FwEntry) (seen : List (List Item)) (core : ℕ)
         → AllLast b entries seen → life b (history_of entries) ≢ 0 → core < cores b

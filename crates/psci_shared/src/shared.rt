@@ -167,7 +167,8 @@ impl<'t, N: Named> SharedFirmware<'t, N> {
         ensures err { IfErr result (λ fault.
             IsRefused pass.old pass.new (calls.Enter start) fault) }
         ensures answered { MatchResult result
-            (λ outcome. IsAnswered N.board pass.old pass.new (calls.Enter start) (replies.Out outcome))
+            (λ outcome. IsAnswered N.board pass.old pass.new
+            (calls.Enter start) (replies.Out outcome))
             (λ fault. IsAnsweredFault N.board N.room pass.old pass.new (calls.Enter start) fault) }
     {
         match self.call::<R, Start>(rt, pass, FwCall::Enter(start)) {
@@ -281,8 +282,9 @@ impl<'t, N: Named> SharedFirmware<'t, N> {
         })
     }
 
-    /// A call for the pass's core, under the lock. Where nobody holds it, it is taken at once. `A` is
-    /// what is asked: this is compiled once for each kind of call, and then asks no more which it is.
+    /// A call for the pass's core, under the lock. Where nobody holds it, it is taken at once. `A`
+    /// is what is asked: this is compiled once for each kind of call, and then asks no more which
+    /// it is.
     fn call<R: Wait, A>(
         &self,
         rt: &R,
@@ -327,8 +329,8 @@ fn locked_of<N: Named>(book: FwBook<N>, writer: Writer, count: u16, blank: Blank
     }
 }
 
-/// One pass more, where there is memory for it and a part of the ledger. There always is such a part
-/// while fewer than 1,000 passes were made, which the count beside the lock says as well.
+/// One pass more, where there is memory for it and a part of the ledger. There always is such a
+/// part while fewer than 1,000 passes were made, which the count beside the lock says as well.
 fn new_pass<N: Named>(
     alloc: Global,
     words: &StatusWords,

@@ -78,7 +78,7 @@ entries = resets 1 ∷ resets 2 ∷ []
 abbrev pass : List CtlItem → PassView
 pass items = record { room = 4; told_full = false; items = items }
 
--- A call --------------------------------------------------------------------------------------------
+-- A call -----------------------------------------------------------------------------------------
 
 -- the first of all; of another core behind an item; one that is ignored; a message
 first_of_all : IsAnswered board (pass []) (pass (item 0 (reset 1) (reset_to 1) ∷ [])) (reset 1)
@@ -182,7 +182,7 @@ first_is_illegal : IsAnsweredAfter board (resets 2 ∷ resets 2 ∷ []) (pass []
 unfolding computing
 first_is_illegal h = let e : ◌≡◌ {A = ℕ} 2 1 = ap number_in h.0.2.0 in omega arith
 
--- A book that is full -------------------------------------------------------------------------------
+-- A book that is full ----------------------------------------------------------------------------
 
 full_with_two : IsFull board 2
 unfolding computing
@@ -209,7 +209,7 @@ full_of_illegal_entries h is =
     subst (λ (es : List CtlEntry). IsLegal board (history_of es)) is h.1 in
     let e : ◌≡◌ {A = ℕ} 2 1 = ap number_in l.0 in omega arith
 
--- Passes --------------------------------------------------------------------------------------------
+-- Passes -----------------------------------------------------------------------------------------
 
 a_new_pass : first 4 ≡ record { room = 4; told_full = false; items = [] }
 a_new_pass = refl

@@ -62,7 +62,8 @@ number_in (Kick kicks.Ignored) = 0
 number_in (Delivery delivery) = 0
 
 -- the second reset is answered as the first; a core that the board does not have is reset
-answered_as_the_first : (c : ControllerValue) → IsTied board 1001 c (resets 1 1 ∷ resets 1 1 ∷ []) 4 3 → ⊥
+answered_as_the_first : (c : ControllerValue)
+    → IsTied board 1001 c (resets 1 1 ∷ resets 1 1 ∷ []) 4 3 → ⊥
 unfolding computing
 answered_as_the_first c h = let e : ◌≡◌ {A = ℕ} 1 2 = ap number_in h.legal.0 in omega arith
 

@@ -8,8 +8,8 @@ use Rattle.psci_shared_ctl.specs.declared.entry.CtlEntry.{CtlEntry}
 use Rattle.psci_shared_ctl.specs.Books.{history_of}
 use Rattle.psci_shared_ctl.specs.Passes.{PassView, item}
 
--- the reply is the one reply after these entries, which tell a legal history; and the item has their
--- number as its place
+-- the reply is the one reply after these entries, which tell a legal history; and the item has
+-- their number as its place
 abbrev pub IsAnsweredAfter : BoardValue → List CtlEntry → PassView → PassView → CtlCall → CtlReply
     → Type 0
 IsAnsweredAfter b entries p p' call reply =

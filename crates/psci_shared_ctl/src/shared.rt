@@ -267,8 +267,8 @@ fn locked_of<N: Named>(book: CtlBook<N>, blank: Blank) -> CtlLocked<N>
     }
 }
 
-/// One pass more, where there is memory for it and a part of the ledger. There always is such a part
-/// while fewer than 1,000 passes were made, which the count beside the lock says as well.
+/// One pass more, where there is memory for it and a part of the ledger. There always is such a
+/// part while fewer than 1,000 passes were made, which the count beside the lock says as well.
 fn new_pass<N: Named>(alloc: Global, locked: &mut CtlLocked<N>, room: u32) -> Option<CtlPass<N>>
     requires { room ≡ N.room }
     ensures pass { IfSome result (λ p. p ≡ first room) }

@@ -41,6 +41,13 @@ fn tell_of_starts<N: Named, R: Wait>(
     two_wake_ups(rt, alloc, shared, core)
 }
 
+/// The first start of a core, by a wake-up.
+const WOKEN: Start = Start {
+    life: 1,
+    number: 1,
+    cause: Cause::Wake,
+};
+
 /// A core that was not started yet is woken, and is started; it is not woken a second time. Then
 /// the book with its two entries is full, and a reset is refused. The core's start is known.
 fn two_wake_ups<N: Named, R: Wait>(
@@ -56,15 +63,10 @@ fn two_wake_ups<N: Named, R: Wait>(
     let second = shared.wake(rt, &mut pass, core, 0).ok()?;
     let is_refused = shared.reset(rt, &mut pass, core).is_err();
     let last = shared.started(rt, core);
-    let start = Start {
-        life: 1,
-        number: 1,
-        cause: Cause::Wake,
-    };
-    let right = first == Kick::Started(start)
+    let right = first == Kick::Started(WOKEN)
         && second == Kick::Ignored
         && is_refused
-        && last == Some(start)
+        && last == Some(WOKEN)
         && are_first_two(&pass);
     let mut passes = Vec::with_capacity(alloc, 1).ok()?;
     passes.push(pass).ok()?;

@@ -44,12 +44,7 @@ pub(crate) fn three_calls<N: Named, R: Wait>(
 ) -> Option<bool> {
     let mut first = shared.pass(Core { number: 0 }).ok()?;
     let mut second = shared.pass(Core { number: 1 }).ok()?;
-    let entered = shared.enter(rt, &mut first, FIRST).ok()?.act;
-    let called = shared.smc(rt, &mut first, VERSION).ok()?.act;
-    let refused = shared.smc(rt, &mut second, VERSION).err()?;
-    let right = entered == ENTERS
-        && called == Act::Return(Code(65537))
-        && refused == CallFault::Fw(FwFault::NotRunning);
+    let right = are_answered(rt, &shared, &mut first, &mut second)?;
     let mut passes = Vec::with_capacity(alloc, 2).ok()?;
     passes.push(first).ok()?;
     if both {
@@ -59,6 +54,23 @@ pub(crate) fn three_calls<N: Named, R: Wait>(
         Ok(books) => Some(right && both && has_places(&books)),
         Err(fault) => Some(right && !both && fault.cause == GatherCause::Missing),
     }
+}
+
+/// Whether core 0 enters and gets its version, and core 1 is refused, which does not run.
+fn are_answered<N: Named, R: Wait>(
+    rt: &R,
+    shared: &SharedFirmware<'_, N>,
+    first: &mut Pass<N>,
+    second: &mut Pass<N>,
+) -> Option<bool> {
+    let entered = shared.enter(rt, first, FIRST).ok()?.act;
+    let called = shared.smc(rt, first, VERSION).ok()?.act;
+    let refused = shared.smc(rt, second, VERSION).err()?;
+    Some(
+        entered == ENTERS
+            && called == Act::Return(Code(65537))
+            && refused == CallFault::Fw(FwFault::NotRunning),
+    )
 }
 
 /// Whether the first pass has the places 0 and 1 and the second one place 2.
@@ -132,13 +144,6 @@ pub(crate) fn statuses_are_read<N: Named, R: Wait>(
     let pending = shared.affinity_core(&mut first, 0x101);
     let seen = shared.affinity_core(&mut other, 0x101);
     let nobody = shared.affinity_core(&mut other, 0x200);
-    Some(
-        before == Code(1)
-            && own == Code(0)
-            && off == Code(1)
-            && asked == Act::Return(Code(0))
-            && pending == Code(2)
-            && seen == Code(2)
-            && nobody == Code(-2),
-    )
+    let statuses = [before, own, off, pending, seen, nobody];
+    Some(asked == Act::Return(Code(0)) && statuses == [1, 0, 1, 2, 2, -2].map(Code))
 }

@@ -26,11 +26,22 @@ pub(crate) fn two_threads<N: Named + Send + Sync, R: Threads + Wait + Sync>(
     );
     let each = calls as usize;
     let counted = first.items().len() == each + 1 && second.items().len() == each;
+    let entries = gathered(alloc, shared, first, second)?;
+    Some(answered && refused && counted && entries == 2 * each + 1)
+}
+
+/// How many entries the book has once both passes are gathered.
+fn gathered<N: Named>(
+    alloc: Global,
+    shared: SharedFirmware<'_, N>,
+    first: Pass<N>,
+    second: Pass<N>,
+) -> Option<usize> {
     let mut passes = Vec::with_capacity(alloc, 2).ok()?;
     passes.push(first).ok()?;
     passes.push(second).ok()?;
     let books = shared.gather(passes).ok()?;
-    Some(answered && refused && counted && books.book.len() as usize == 2 * each + 1)
+    Some(books.book.len() as usize)
 }
 
 /// An entry and so many calls of PSCI_VERSION, and whether each had its answer.
@@ -92,11 +103,8 @@ pub(crate) fn poll_in_two_threads<N: Named + Send + Sync, R: Threads + Wait + Sy
     let mut second = second;
     let own = shared.affinity_core(&mut first, 0x101);
     let other = shared.affinity_core(&mut second, 0x101);
-    let mut passes = Vec::with_capacity(alloc, 2).ok()?;
-    passes.push(first).ok()?;
-    passes.push(second).ok()?;
-    let books = shared.gather(passes).ok()?;
-    Some(asked && polled && own == Code(2) && other == Code(2) && books.book.len() == 2)
+    let entries = gathered(alloc, shared, first, second)?;
+    Some(asked && polled && own == Code(2) && other == Code(2) && entries == 2)
 }
 
 /// Enters and asks the last core on, and whether that core then reads ON_PENDING, the own core ON

@@ -1,6 +1,6 @@
--- Worked examples of the rule: a run that keeps it, and for each of its clauses one that breaks just
--- that. Two cores have words; the first was OFF, ON_PENDING and ON, the other OFF alone. The first
--- seat is the writer's, the second a reader's, and the third one that was taken in.
+-- Worked examples of the rule: a run that keeps it, and for each of its clauses one that breaks
+-- just that. Two cores have words; the first was OFF, ON_PENDING and ON, the other OFF alone. The
+-- first seat is the writer's, the second a reader's, and the third one that was taken in.
 use Rattle.std.proofs.lemmas.Bool.{false≢true}
 use Rattle.std.proofs.Common.{◌≡◌, inl, inr, ℕ, zero, suc, ◌<◌, List, [], ◌∷◌, length}
 use Rattle.std.proofs.Common.{true, false, refl, sym, ap, subst, arith}
@@ -89,15 +89,15 @@ log_is_short k =
 -- a word holds the serial before the last
 word_is_late : Kept 2 (run (4 ∷ 1 ∷ []) (writer ∷ [])) → ⊥
 word_is_late k =
-    let e : ◌≡◌ {A = ℕ} 4 8 = subst (λ (l : List (List Status)). IsWord (row l 0) 4) (sym (the_log _ _ k))
-    (k.words 0 (omega arith)) in
+    let e : ◌≡◌ {A = ℕ} 4 8 = subst (λ (l : List (List Status)). IsWord (row l 0) 4)
+    (sym (the_log _ _ k)) (k.words 0 (omega arith)) in
     omega arith
 
 -- a word holds another status than the last
 word_is_other : Kept 2 (run (8 ∷ 2 ∷ []) (writer ∷ [])) → ⊥
 word_is_other k =
-    let e : ◌≡◌ {A = ℕ} 2 1 = subst (λ (l : List (List Status)). IsWord (row l 1) 2) (sym (the_log _ _ k))
-    (k.words 1 (omega arith)) in
+    let e : ◌≡◌ {A = ℕ} 2 1 = subst (λ (l : List (List Status)). IsWord (row l 1) 2)
+    (sym (the_log _ _ k)) (k.words 1 (omega arith)) in
     omega arith
 
 -- two seats write

@@ -1,4 +1,5 @@
--- What was written of each core, and what was seen of it: a list for each core, the last item first.
+-- What was written of each core, and what was seen of it: a list for each core, the last item
+-- first.
 use Rattle.std.specs.Prelude.{◌≡◌, ◌⊎◌, ℕ, ◌*◌, ◌+◌, ◌/◌, ◌%◌, ◌<◌, List, [], ◌∷◌, length}
 use Rattle.std.specs.Prelude.{slice_index_or, nat_lt, ◌==◌, if◌then◌else◌}
 use Rattle.psci_fw_spec.specs.declared.status.Status.{Status}

@@ -69,7 +69,8 @@ firmware_counted_otherwise b t five six is = let e = is.firmware in omega (arith
 
 controller_counted_otherwise : (b : BoardValue) (t : Threaded)
     → length t.trace.controller.items ≡ 5 → t.controller ≡ 4 → IsAudited b t → ⊥
-controller_counted_otherwise b t five four is = let e = is.controller in omega (arith, five, four, e)
+controller_counted_otherwise b t five four is =
+    let e = is.controller in omega (arith, five, four, e)
 
 -- all of the merged list is audited
 audited_a_part : (b : BoardValue) (t : Threaded)

@@ -31,9 +31,9 @@ pub struct Threaded {
     pub polls: Vec<Polled>,
 }
 
-/// Runs a thread for each core, which makes so many calls at most, and one for the link; then audits
-/// what they did. The gate is asked before each call. Which calls are made and how frames travel is
-/// drawn from the seed, but the order of threads is the machine's, so runs differ.
+/// Runs a thread for each core, which makes so many calls at most, and one for the link; then
+/// audits what they did. The gate is asked before each call. Which calls are made and how frames
+/// travel is drawn from the seed, but the order of threads is the machine's, so runs differ.
 ///
 /// What each core's thread saw by polls stands in the audited run: it is a status that the core had
 /// after the entries of the firmware's book, by its serial.

@@ -49,7 +49,8 @@ pub(crate) fn ran<R: Threads + Wait + Sync, G: Gate + Sync>(
     threads(rt, alloc, &board, seed, count, gate)
 }
 
-/// Whether each of so many cores has made so many calls in a run, and looked at others between them.
+/// Whether each of so many cores has made so many calls in a run, and looked at others between
+/// them.
 fn is_done(run: &Threaded, cores: u16, count: u64) -> bool {
     let entries = run.trace.firmware.as_slice();
     run.polls.len() == usize::from(cores)

@@ -29,8 +29,8 @@ pub(crate) fn is_ticket_twice<R: Threads + Wait + Sync>(
     Ok(audit(alloc, &board, &run.trace) == Err(AuditFault::Ticket))
 }
 
-/// Whether the trace of a run is refused at the place of the first entry of the firmware's book, once
-/// that has another reply.
+/// Whether the trace of a run is refused at the place of the first entry of the firmware's book,
+/// once that has another reply.
 pub(crate) fn is_illegal_at<R: Threads + Wait + Sync>(
     rt: &R,
     alloc: Global,

@@ -1,5 +1,5 @@
-//! Tests of core threads over a lossy link, and of what their audit refuses. They start threads, and
-//! end the same whatever the schedule.
+//! Tests of core threads over a lossy link, and of what their audit refuses. They start threads,
+//! and end the same whatever the schedule.
 //!
 //! - A *travel* is what became of the frames of runs: how many were lost, came again or overtook.
 //! - A *meeting* is a gate that lets the second calls of cores 0 and 1 go on together alone.

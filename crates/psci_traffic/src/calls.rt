@@ -9,8 +9,8 @@ use psci_abi::Request;
 use psci_board::{Board, Core};
 use psci_draws::{Draws, affinity};
 
-/// The call of this number of a core, which may go off or not. The first calls are the same whatever
-/// the seed, later ones are drawn.
+/// The call of this number of a core, which may go off or not. The first calls are the same
+/// whatever the seed, later ones are drawn.
 pub fn request_of(
     draws: &mut Draws,
     board: &Board,
@@ -25,11 +25,7 @@ pub fn request_of(
     ensures lives { EndsLife result → ⊥ }
 {
     if core.number == 0 && call == 0 && board.cores() > 1 {
-        return Request::CpuOn {
-            target: affinity(board, 1),
-            entry: board.boot(),
-            context: 1,
-        };
+        return first_call(board);
     }
     if call < 2 {
         return Request::Version;
@@ -40,6 +36,18 @@ pub fn request_of(
             Request::Version
         }
         request => request,
+    }
+}
+
+/// Core 1 is asked on, at the board's boot address.
+fn first_call(board: &Board) -> Request
+    requires { 1 < cores board.now }
+    ensures { (target : ℕ) × (result ≡ CpuOn target board.now.boot 1) }
+{
+    Request::CpuOn {
+        target: affinity(board, 1),
+        entry: board.boot(),
+        context: 1,
     }
 }
 

@@ -116,8 +116,8 @@ impl Wire {
         let _before = self.up.fetch_sub(1, Ordering::SeqCst);
     }
 
-    /// A worker is no longer up if another one is, which can ask the others on; else it stays up, and
-    /// the answer is false.
+    /// A worker is no longer up if another one is, which can ask the others on; else it stays up,
+    /// and the answer is false.
     pub fn step_down(&self) -> bool {
         let mut up = self.up.load(Ordering::SeqCst);
         for _ in 0..AT_ONCE {

@@ -73,9 +73,9 @@ has_seen : (b : BoardValue) (p p' : PassView) (s : Sighting) → s.core.number <
 has_seen b p p' s small is =
     (small, polling.among_begun (s.serial, s.status) (row p'.seen s.core.number) is.1)
 
-kept_read : (b : BoardValue) (p p' : PassView) (s : Sighting) (ss : List Sighting) → s.core.number < cores b
-    → IsReadAt p p' s.core.number s.serial s.status → HaveAllSeen b p.seen ss
-    → HaveAllSeen b p'.seen ss
+kept_read : (b : BoardValue) (p p' : PassView) (s : Sighting) (ss : List Sighting)
+    → s.core.number < cores b → IsReadAt p p' s.core.number s.serial s.status
+    → HaveAllSeen b p.seen ss → HaveAllSeen b p'.seen ss
 kept_read b p p' s ss small is =
     all_kept b p.seen p'.seen ss
     (λ item core. polling.read_keeps item p p' s.core.number s.serial s.status core is)

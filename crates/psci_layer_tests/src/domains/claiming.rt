@@ -103,64 +103,62 @@ const CORE_GOES_OFF: [Step; 8] = [
     Step::Claims(0, Claim::Off(&[(3, 1)])),
 ];
 
+/// In platform-coordinated mode.
+const PLATFORM_STORIES: [Story; 4] = [
+    Story {
+        name: "last core",
+        board: TWO_CLUSTERS,
+        steps: &LAST_CORE_TAKES_THE_PATH_DOWN,
+    },
+    Story {
+        name: "pending core",
+        board: TWO_CLUSTERS,
+        steps: &PENDING_CORE_KEEPS_ITS_DOMAINS,
+    },
+    Story {
+        name: "no deeper than asked",
+        board: TWO_CLUSTERS,
+        steps: &NO_DEEPER_THAN_ASKED,
+    },
+    Story {
+        name: "uneven board",
+        board: UNEVEN,
+        steps: &CLAIMS_OF_AN_UNEVEN_BOARD,
+    },
+];
+
 #[test]
 fn platform_coordinates_claims(rt: HostRuntime) -> Result<(), Fail> {
-    let alloc = rt.alloc();
-    tell(
-        &rt,
-        alloc,
-        "last core",
-        TWO_CLUSTERS,
-        &LAST_CORE_TAKES_THE_PATH_DOWN,
-    )?;
-    tell(
-        &rt,
-        alloc,
-        "pending core",
-        TWO_CLUSTERS,
-        &PENDING_CORE_KEEPS_ITS_DOMAINS,
-    )?;
-    tell(
-        &rt,
-        alloc,
-        "no deeper than asked",
-        TWO_CLUSTERS,
-        &NO_DEEPER_THAN_ASKED,
-    )?;
-    tell(
-        &rt,
-        alloc,
-        "uneven board",
-        UNEVEN,
-        &CLAIMS_OF_AN_UNEVEN_BOARD,
-    )
+    tell(&rt, rt.alloc(), &PLATFORM_STORIES)
 }
+
+/// In OS-initiated mode.
+const OS_STORIES: [Story; 4] = [
+    Story {
+        name: "last core",
+        board: TWO_CLUSTERS,
+        steps: &LAST_CORE_OF_THE_SYSTEM,
+    },
+    Story {
+        name: "pending core",
+        board: TWO_CLUSTERS,
+        steps: &PENDING_CORE_DENIES,
+    },
+    Story {
+        name: "last core of a group",
+        board: UNEVEN,
+        steps: &LAST_CORE_OF_A_GROUP,
+    },
+    Story {
+        name: "core goes off",
+        board: TWO_CLUSTERS,
+        steps: &CORE_GOES_OFF,
+    },
+];
 
 #[test]
 fn operating_system_initiates_claims(rt: HostRuntime) -> Result<(), Fail> {
-    let alloc = rt.alloc();
-    tell(
-        &rt,
-        alloc,
-        "last core",
-        TWO_CLUSTERS,
-        &LAST_CORE_OF_THE_SYSTEM,
-    )?;
-    tell(
-        &rt,
-        alloc,
-        "pending core",
-        TWO_CLUSTERS,
-        &PENDING_CORE_DENIES,
-    )?;
-    tell(
-        &rt,
-        alloc,
-        "last core of a group",
-        UNEVEN,
-        &LAST_CORE_OF_A_GROUP,
-    )?;
-    tell(&rt, alloc, "core goes off", TWO_CLUSTERS, &CORE_GOES_OFF)
+    tell(&rt, rt.alloc(), &OS_STORIES)
 }
 
 /// Parts are added, copied, and given back.

@@ -148,31 +148,41 @@ const NEW_LIFE: [Step; 21] = [
     Step::Domain(3, 0, Keeps::Granted(0)),
 ];
 
+/// All of them.
+const STORIES: [Story; 6] = [
+    Story {
+        name: "two clusters",
+        board: TWO_CLUSTERS,
+        steps: &TWO_CLUSTERS_RECOUNTED,
+    },
+    Story {
+        name: "asks of an uneven board",
+        board: UNEVEN,
+        steps: &ASKS_OF_AN_UNEVEN_BOARD,
+    },
+    Story {
+        name: "asks end at the height",
+        board: TWO_CLUSTERS,
+        steps: &ASKS_END_AT_THE_HEIGHT,
+    },
+    Story {
+        name: "known starts",
+        board: UNEVEN,
+        steps: &KNOWN_STARTS,
+    },
+    Story {
+        name: "paths cleared",
+        board: UNEVEN,
+        steps: &PATHS_CLEARED,
+    },
+    Story {
+        name: "new life",
+        board: UNEVEN,
+        steps: &NEW_LIFE,
+    },
+];
+
 #[test]
 fn domains_are_recounted(rt: HostRuntime) -> Result<(), Fail> {
-    let alloc = rt.alloc();
-    tell(
-        &rt,
-        alloc,
-        "two clusters",
-        TWO_CLUSTERS,
-        &TWO_CLUSTERS_RECOUNTED,
-    )?;
-    tell(
-        &rt,
-        alloc,
-        "asks of an uneven board",
-        UNEVEN,
-        &ASKS_OF_AN_UNEVEN_BOARD,
-    )?;
-    tell(
-        &rt,
-        alloc,
-        "asks end at the height",
-        TWO_CLUSTERS,
-        &ASKS_END_AT_THE_HEIGHT,
-    )?;
-    tell(&rt, alloc, "known starts", UNEVEN, &KNOWN_STARTS)?;
-    tell(&rt, alloc, "paths cleared", UNEVEN, &PATHS_CLEARED)?;
-    tell(&rt, alloc, "new life", UNEVEN, &NEW_LIFE)
+    tell(&rt, rt.alloc(), &STORIES)
 }

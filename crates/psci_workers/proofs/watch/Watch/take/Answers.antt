@@ -5,4 +5,5 @@ use Rattle.psci_workers.proofs.watch.Watch.take.Goals as goal
 
 pub invariant_of-self : goal.invariant_of-self
 invariant_of-self g c =
-    kept_taken g.N.Named.board _ _ (Take c.args.ack) Taken c.take.result _ c.take.ensures.ok c.take.ensures.err c.self.invariant
+    kept_taken g.N.Named.board _ _ (Take c.args.ack) Taken c.take.result _
+    c.take.ensures.ok c.take.ensures.err c.self.invariant
