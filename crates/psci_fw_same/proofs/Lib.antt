@@ -21,6 +21,7 @@ mod SwapRows
 mod ValueRows
 pub mod Twins
 pub mod Histories
+pub mod Passing
 pub mod Refusing
 pub mod Confirming
 mod BesideRows

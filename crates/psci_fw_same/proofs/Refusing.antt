@@ -1,11 +1,11 @@
 -- Why an OS-initiated request is refused, exactly.
 use Rattle.std.proofs.Common.{◌≡◌, ℕ, zero, suc, ◌+◌, ◌-◌, ◌<◌, ◌≤◌, Bool, true, false, not, ◌==◌}
-use Rattle.std.proofs.Common.{cond, List, filter, length, None, Some, Ok, Err, refl, ap}
+use Rattle.std.proofs.Common.{cond, List, length, None, Some, Ok, Err, refl, ap}
 use Rattle.std.proofs.Common.{sym, ◌∙◌, subst, arith, inl, inr}
 use Rattle.std.specs.Prelude.{nat_lt, slice_index}
-use Rattle.std.specs.List.{list_all, list_any, range_with_len}
-use Rattle.std.proofs.lemmas.Bool.{and_from, and_parts, cases_Bool, cases_eq, eq-eqb, eqb-true}
-use Rattle.std.proofs.lemmas.Bool.{lt-ltb, ltb-true, ne_eqb, or_left, or_right}
+use Rattle.std.specs.List.{list_any, range_with_len}
+use Rattle.std.proofs.lemmas.Bool.{and_from, and_parts, cases_Bool, eq-eqb, eqb-true}
+use Rattle.std.proofs.lemmas.Bool.{lt-ltb, ltb-true, ne_eqb}
 use Rattle.psci_board.specs.Board.{BoardValue, children_at, cores, first_child, height, nodes, up}
 use Rattle.psci_board.specs.Laws.{ChildLaws, PathLaws}
 use Rattle.psci_board.specs.declared.node.Node.{Node}
@@ -15,76 +15,8 @@ use Rattle.psci_claims.specs.LastCore.{answer_by, last_core_check, refusal, shal
 use Rattle.psci_claims.specs.View.{PowerView, is_idle}
 use Rattle.psci_claims.specs.declared.osi.Osi.TheVariants.{Denied, Invalid}
 use Rattle.psci_fw_same.specs.Beside.{AreAwake, HasSleeper, IsInTheWay, NobodyAwake}
+use Rattle.psci_fw_same.proofs.Passing.{all_one, any_one, one_all, one_any}
 use Rattle.psci_fw_same.proofs.LastCore.{any-flat_map, is_beside, shallow_at-any, some-any}
-
--- Tests over numbers in a row -------------------------------------------------------------------
-
--- A number in this row that passes a test.
-record HasOne (p : ℕ → Bool) (a count : ℕ) : Type 0 where
-  pub number : ℕ
-  pub low : a ≤ number
-  pub high : number < a + count
-  pub at : p number ≡ true
-
-any_one : (p : ℕ → Bool) (a count : ℕ) → list_any p (range_with_len a count) ≡ true
-    → HasOne p a count
-any_one p a zero e = absurd (cc)
-any_one p a (suc count) e = elim (cases_Bool (p a)) [
-  | inl here ↦ record { number = a; low = omega arith; high = omega arith; at = here }
-  | inr other ↦
-      let later = rw other at e in
-      let rest = any_one p (a + 1) count later in
-      record {
-        number = rest.number;
-        low = omega (arith, rest.low);
-        high = omega (arith, rest.high);
-        at = rest.at;
-      }
-]
-
-one_any : (p : ℕ → Bool) (a count k : ℕ) → a ≤ k → k < a + count → p k ≡ true
-    → list_any p (range_with_len a count) ≡ true
-one_any p a zero k low high e = absurd (omega (arith, low, high))
-one_any p a (suc count) k low high e = elim (cases_eq a k) [
-  | inl same ↦ or_left _ _ (ap p same ∙ e)
-  | inr other ↦
-      or_right _ _ (one_any p (a + 1) count k (omega (arith, low, other)) (omega (arith, high)) e)
-]
-
-all_one : (p test : ℕ → Bool) (a count c : ℕ)
-    → list_all p (filter test (range_with_len a count)) ≡ true → a ≤ c → c < a + count
-    → test c ≡ true → p c ≡ true
-all_one p test a zero c e low high t = absurd (omega (arith, low, high))
-all_one p test a (suc count) c e low high t = elim (cases_Bool (test a)) [
-  | inl kept ↦
-      let all = rw kept at e in
-      let both = and_parts (p a) _ all in
-      elim (cases_eq a c) [
-        | inl same ↦ ap p (sym same) ∙ both.0
-        | inr other ↦
-            all_one p test (a + 1) count c both.1 (omega (arith, low, other)) (omega (arith, high))
-            t
-      ]
-  | inr dropped ↦
-      let rest = rw dropped at e in
-      elim (cases_eq a c) [
-        | inl same ↦ let no : false ≡ true = sym dropped ∙ ap test same ∙ t in absurd (cc)
-        | inr other ↦
-            all_one p test (a + 1) count c rest (omega (arith, low, other)) (omega (arith, high)) t
-      ]
-]
-
-one_all : (p test : ℕ → Bool) (a count : ℕ)
-    → ((c : ℕ) → a ≤ c → c < a + count → test c ≡ true → p c ≡ true)
-    → list_all p (filter test (range_with_len a count)) ≡ true
-one_all p test a zero each = refl
-one_all p test a (suc count) each =
-    let rest = one_all p test (a + 1) count (λ c low high. each c (omega (arith, low))
-    (omega (arith, high))) in
-    elim (cases_Bool (test a)) [
-      | inl kept ↦ rw kept (and_from _ _ (each a (omega arith) (omega arith) kept) rest)
-      | inr dropped ↦ rw dropped rest
-    ]
 
 -- Domains in the way ----------------------------------------------------------------------------
 

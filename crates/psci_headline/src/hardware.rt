@@ -34,8 +34,8 @@ pub fn law_states_real()
 }
 
 /// In a legal run, where a record answers NODE_HW_STATE of a core or domain with HW_OFF, its depth
-/// was 3 at some moment of this life, by the starts that the firmware then knew of; where it answers
-/// HW_STANDBY, the depth was 1 or 2.
+/// was 3 at some moment of this life, by the starts that the firmware then knew of; where it
+/// answers HW_STANDBY, the depth was 1 or 2.
 pub fn law_told_hw()
     ensures off { (b : BoardValue) (r : Record) (past : List Record) (n : Node) → IsBoard b
         → IsLegalPast b (r ∷ past) → told_hw b 1 r.event r.said ≡ Some n

@@ -53,4 +53,5 @@ mod SettledRows
 mod SettledStartsRows
 mod StartsRows
 mod SettleRows
+mod ToldRows
 mod WaitingRows

@@ -12,7 +12,7 @@ use Rattle.psci_world_laws.proofs.world_spec.Scripts.{system_off, system_reset, 
 use Rattle.psci_settle.specs.Drained.{deliveries}
 use Rattle.psci_settle.specs.Settling.{begun, is_halting, is_waiting, round, rounds, settled}
 
-unfoldable computing : Unit {0}
+unfoldable pub computing : Unit {0}
 unfolding scripts.computing settled begun round is_waiting rounds
 computing = tt
 
