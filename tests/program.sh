@@ -475,6 +475,29 @@ storm_counts() {
     fi
 }
 
+# on each kind of board each tally that can come there comes at least as often as tests/tally-floors.txt
+# has it; and it is told where one comes less often, or comes where it cannot
+tally_floors() {
+    has_python tests/tally-floors || return 0
+    if tests/tally-floors "$program" > "$work/out" 2> "$work/err"; then pass; else
+        fail tests/tally-floors
+        head -n 20 "$work/out" "$work/err"
+    fi
+    sed '/^board one-cluster/!{/^board/d}; s/^\(version return 65537:\) *[0-9]*/\1 999999/
+        s/^\(cpu_on return 0:\) *[0-9]*/\1 l/; s/^\(cpu_off stop:\) *[0-9]*/\1 x/' \
+        tests/tally-floors.txt > "$work/floors"
+    tests/tally-floors "$program" "$work/floors" > "$work/all" 2> "$work/err"
+    echo $? > "$work/got"
+    expect "tests/tally-floors of a wrong table" 1
+    sed 's/came [0-9]* times/came N times/; s/, though: .*/, though/; $d' "$work/all" > "$work/out"
+    cat > "$work/lines" << 'END'
+one-cluster: version return 65537 came N times, and the floor is 999999
+one-cluster: cpu_off stop has x for a floor
+one-cluster: cpu_on return 0 came N times, though
+END
+    answers "what tests/tally-floors tells"
+}
+
 # on each kind of board, running cores ask about what sleeps: in five storms NODE_HW_STATE answers HW_ON,
 # HW_OFF and HW_STANDBY at least so often, and AFFINITY_INFO each of its answers
 polled_storms() {
