@@ -96,7 +96,8 @@ off_os_initiated = refl
 
 -- not powered down yet, in OS-initiated mode
 going_off_os_initiated : is_all_off board
-    (after board (Enter 0 ∷ call 0 0x8400000f 1 0 0 ∷ on_3 ∷ Deliver 0 ∷ Enter 3 ∷ off 3 ∷ [])) (at 0 3) ≡ false
+    (after board (Enter 0 ∷ call 0 0x8400000f 1 0 0 ∷ on_3 ∷ Deliver 0 ∷ Enter 3 ∷ off 3 ∷ []))
+    (at 0 3) ≡ false
 unfolding computing was_powered_down
 going_off_os_initiated = refl
 
@@ -165,7 +166,8 @@ off_extended = refl
 
 -- not powered down yet, on a board of the extended format
 going_off_extended : is_all_off (record board { format = Extended })
-    (after (record board { format = Extended }) (Enter 0 ∷ on_3 ∷ Deliver 0 ∷ Enter 3 ∷ off 3 ∷ [])) (at 0 3) ≡ false
+    (after (record board { format = Extended }) (Enter 0 ∷ on_3 ∷ Deliver 0 ∷ Enter 3 ∷ off 3 ∷ []))
+    (at 0 3) ≡ false
 unfolding computing was_powered_down
 going_off_extended = refl
 
@@ -183,12 +185,14 @@ going_off_system = refl
 
 -- powered down, in a halting life
 off_in_a_halting_life : is_all_off board
-    (after board (Enter 0 ∷ on_3 ∷ Deliver 0 ∷ Enter 3 ∷ off 3 ∷ Deliver 1 ∷ system_off 0 ∷ [])) (at 0 3) ≡ true
+    (after board (Enter 0 ∷ on_3 ∷ Deliver 0 ∷ Enter 3 ∷ off 3 ∷ Deliver 1 ∷ system_off 0 ∷ []))
+    (at 0 3) ≡ true
 unfolding computing was_powered_down
 off_in_a_halting_life = refl
 
 -- not powered down yet, in a halting life
 going_off_in_a_halting_life : is_all_off board
-    (after board (Enter 0 ∷ on_3 ∷ Deliver 0 ∷ Enter 3 ∷ off 3 ∷ system_off 0 ∷ [])) (at 0 3) ≡ false
+    (after board (Enter 0 ∷ on_3 ∷ Deliver 0 ∷ Enter 3 ∷ off 3 ∷ system_off 0 ∷ []))
+    (at 0 3) ≡ false
 unfolding computing was_powered_down
 going_off_in_a_halting_life = refl
