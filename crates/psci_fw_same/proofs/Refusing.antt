@@ -41,8 +41,8 @@ module _ (b : BoardValue) (v : PowerView) (caller : ℕ) (ask : List ℕ) (paths
       let first = subst (λ p. first_child b (suc level) p ≤ up b level c) way.joined
       (kids.first c level way.core way.low) in
       let last = subst
-      (λ p. up b level c < first_child b (suc level) p + children_at b (suc level) p) way.joined
-      (kids.last c level way.core way.low) in
+      (λ p. up b level c < first_child b (suc level) p + children_at b (suc level) p)
+      way.joined (kids.last c level way.core way.low) in
       let test = and_from _ _ (ap not (ne_eqb (up b level c) (up b level caller) way.apart))
       (and_from _ _ (lt-ltb _ _ way.less) at) in
       any-flat_map f (shallow_at b v caller ask) (range_with_len 1 (height b))

@@ -18,10 +18,9 @@ ghost use Rattle.psci_fw_same.specs.CarriedOut.{IsCarriedOut};
 
 use psci_board::{law_children, law_paths};
 
-/// An OS-initiated request is accepted exactly where nothing is in its way: where each domain
-/// beside the caller's path was granted what is asked of its parent. It is refused as invalid
-/// exactly where nobody is awake below some domain in the way, and denied where below each of them
-/// somebody is.
+/// An OS-initiated request is accepted where nothing is in its way: where each domain beside the
+/// caller's path was granted what is asked of its parent. It is refused as invalid exactly where
+/// nobody is awake below some domain in the way, and denied where below each of them somebody is.
 pub fn law_refused_exactly()
     ensures accepted { (b : BoardValue) (v : PowerView) (core : ℕ) (ask : List ℕ) → IsBoard b
         → core < cores b → ((level c : ℕ) → IsInTheWay b v core ask level c → ⊥)
