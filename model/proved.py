@@ -82,6 +82,8 @@ class Parser:
 
     def atom(self):
         word = self.take()
+        if word is None:
+            raise ValueError("it ends too early")
         if word == "(":
             inner = self.expression()
             self.take(")")
@@ -182,24 +184,27 @@ class Examples:
         return [it for it in re.split(r"\n(?=[^\s)}])", text) if it.strip()]
 
     def read(self, name):
-        """The abbreviations of a file; yields nothing, and keeps its theorems."""
+        """Reads a file: its abbreviations, as far as this language has their words, and its theorems."""
         self.theorems, kinds = [], {}
         for part in self.parts(name):
             head = re.match(r"(abbrev |unfoldable )?(?:pub )?(\w+)((?: [a-z]\w*)*)\s*([:=])\s*", part)
             if not head:
-                raise ValueError(part)
+                continue
             words, rest = head[2], part[head.end():]
             if head[4] == ":":
                 kinds[words] = rest
             elif rest.strip() == "refl":
                 self.theorems.append((words, kinds[words]))
             elif rest.strip() != "tt":
-                body = Parser(tokens_of(rest)).expression()
+                try:
+                    body = Parser(tokens_of(rest)).expression()
+                except ValueError:
+                    continue
                 arguments = head[3].split()
                 self.names[words] = lazy(lambda names, a=arguments, b=body: curried(a, b, self.names))
 
     def rows(self):
-        """Each theorem by its name, and its two sides; the name alone where it is of a name unknown here."""
+        """Each theorem by its name, and its two sides; nothing in their place where a word of it is unknown."""
         for path in sorted(glob.glob(f"{PROOFS}/*Rows.antt")):
             name = os.path.basename(path)[:-len(".antt")]
             self.names = dict(self.shared)
@@ -207,5 +212,5 @@ class Examples:
             for theorem, text in self.theorems:
                 try:
                     yield f"{name} {theorem}", Parser(tokens_of(text)).expression()(self.names)
-                except KeyError:
+                except (KeyError, ValueError):
                     yield f"{name} {theorem}", None

@@ -167,28 +167,30 @@ class Description:
             here = [(word, self.class_of(word, level)) for word in self.words if levels[word.word] == level]
             if level and here:
                 self.unknown.append(f"the classes of level {level}: a word says the core's alone")
+            for word in self.words:
+                if levels[word.word] > level and not any(self.goes_with(word, level, kind) for _, kind in here):
+                    self.unknown.append(f"the state of level {level} under {word.word:#010x}: one is made up")
+                    here.append((None, self.kind_below(word)))
             self.states[level] = sorted(here, key=lambda it: it[1] == POWER_DOWN)
         if any(kind == RETENTION for here in self.states.values() for _, kind in here):
             self.unknown.append("whether a state is standby or retention")
         for word in self.words:
             level = levels[word.word]
-            below = [self.deepest(word, it) for it in range(level)]
             own = [it for it, _ in self.states[level]].index(word) + 1
-            self.rows[word.word] = [*below, own]
+            self.rows[word.word] = [*(self.deepest(word, it) for it in range(level)), own]
+
+    def kind_below(self, word):
+        """The class of the core under a word, and of what is made up between them."""
+        return POWER_DOWN if self.is_down(word) else RETENTION
+
+    def goes_with(self, word, level, kind):
+        """Whether a state of this class may be under the word's: the core's is what StateType says."""
+        return kind == self.kind_below(word) or bool(level and self.is_down(word))
 
     def deepest(self, word, level):
-        """The deepest state of a level below a word's that goes with it, which is made if there is none."""
-        wanted = POWER_DOWN if self.is_down(word) else RETENTION
-        for number in range(len(self.states[level]), 0, -1):
-            kind = self.states[level][number - 1][1]
-            if kind == wanted or (level and wanted == POWER_DOWN):
-                return number
-        self.unknown.append(f"the state of level {level} under {word.word:#010x}: a state of its own is made up")
-        # of the rows so far none has a state of this class, so the numbers before it stay
-        if wanted == RETENTION and self.states[level]:
-            raise NoBoard(f"the word {word.word:#010x} retains its core, which has no such state by itself")
-        self.states[level].append((None, wanted))
-        return len(self.states[level])
+        """The deepest state of a level below a word's that goes with it."""
+        return max(number for number, (_, kind) in enumerate(self.states[level], 1)
+                   if self.goes_with(word, level, kind))
 
     # ---- the text
 

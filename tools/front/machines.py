@@ -80,7 +80,7 @@ class Lines:
             raise Wrong(0, f"a second line '{word}'")
         reader.at = len(word)
         self.line, self.places = number, []
-        getattr(self, word.replace("-", "_"))(reader)
+        getattr(self, f"read_{word.replace('-', '_')}")(reader)
         end_of(reader)
         self.machine.places[word].append(self.places)
 
@@ -121,16 +121,16 @@ class Lines:
 
     # ---- each line, by its word
 
-    def core(self, reader):
+    def read_core(self, reader):
         self.machine.mpidrs.append(self.number(reader, "an MPIDR", 2 ** 64))
 
-    def boot(self, reader):
+    def read_boot(self, reader):
         self.machine.boot = self.number(reader, "the MPIDR of the boot core", 2 ** 64)
 
-    def levels(self, reader):
+    def read_levels(self, reader):
         self.machine.levels = self.number(reader, "how many levels can be taken down", 2 ** 32, False)
 
-    def class_(self, reader):
+    def read_class(self, reader):
         level = self.number(reader, "a level, 0 to 3", LEVELS, False)
         if self.classed[level] is not None:
             raise Wrong(len("class "), f"a second line of the classes of level {level}")
@@ -143,7 +143,7 @@ class Lines:
         self.machine.places[f"class {level}"] = [self.places]
         self.machine.classes[level] = found + found[-1:] * (STATES - len(found))
 
-    def word(self, reader):
+    def read_word(self, reader):
         word, mask = self.number(reader, "a power state word", 2 ** 32), 2 ** 32 - 1
         # without bits that count they stand where the word does
         self.places += self.places
@@ -155,10 +155,10 @@ class Lines:
                 raise Wrong(self.places[-1].at, "the bits that count are 32 at most")
         self.machine.rows.append(Row(word, mask, self.states(reader)))
 
-    def system_suspend(self, reader):
+    def read_system_suspend(self, reader):
         self.machine.system = self.states(reader)
 
-    def functions(self, reader):
+    def read_functions(self, reader):
         found = []
         while not reader.is_done():
             found.append(self.name(reader, FUNCTIONS, "a function"))
@@ -166,7 +166,7 @@ class Lines:
                 raise Wrong(self.places[-1].at, f"{found[-1]} a second time")
         self.machine.functions = frozenset(found)
 
-    def reset(self, reader):
+    def read_reset(self, reader):
         self.machine.resets.append(self.number(reader, "a reset type", 2 ** 32))
 
     def missing_class(self):
@@ -177,9 +177,6 @@ class Lines:
                 return where, (f"state {number} of level {level}, which has "
                                f"{f'the states 0 to {count - 1}' if count > 1 else 'no line of classes'}")
         return None
-
-
-setattr(Lines, "class", Lines.class_)
 
 
 def board_of(text):
