@@ -174,7 +174,8 @@ completed() {
 ./psci help d|draw
 ./psci tr|try
 ./psci c|compare
-./psci compare --|--quick --script --help
+./psci compare --|--quick --script --profile --declare --each --times --baseline --write-baseline --tap --junit --bound --limit --whole --help
+./psci compare --q|--quick
 ./psci prove l|lib
 ./psci prove lib --target a|aarch64
 EOF
