@@ -54,9 +54,11 @@ void ask(uint32_t core, const uint64_t x[4], enum told told) {
 }
 
 void ask_with_timer(uint32_t core, const uint64_t x[4], uint64_t microseconds) {
+    cores[core].has_timer = 1;
     timer_set(microseconds);
     ask(core, x, ANNOUNCED);
     timer_clear();
+    cores[core].has_timer = 0;
 }
 
 /* Asks until it gets this answer, or for a while: a line for each run of alike answers. */
@@ -177,6 +179,7 @@ void entered(uint64_t core, uint64_t at, uint64_t context) {
     }
     add(&mine->entries, 1);
     interrupts_ready();
+    mine->has_timer = 0;
     if (mine->is_asleep) {
         mine->is_asleep = 0;
         add(&done, 1);

@@ -21,7 +21,7 @@ extern struct list list;
 
 /* of each core: its next step, the number of its next line, and how often it entered */
 struct core {
-    volatile uint32_t next, number, entries, is_asleep;
+    volatile uint32_t next, number, entries, is_asleep, has_timer;
 };
 extern struct core cores[MOST_CORES];
 
