@@ -77,15 +77,20 @@ judged_model() {
 
 # QEMU's own firmware, asked now: the groups that do not hang on how its threads ran
 judged_live() {
-    local tool
+    local tool profile
     has_python "QEMU's own firmware" || return
     for tool in qemu-system-aarch64 aarch64-linux-gnu-gcc make; do
         command -v "$tool" > /dev/null || { skip "QEMU's own firmware" "$tool"; return; }
     done
-    make -s -C "$payload" "OUT=$work/payload" > "$work/out" 2>&1 || { fail "make -C $payload"; cat "$work/out"; return; }
+    if ! make -s -C "$payload" "OUT=$work/payload" > "$work/out" 2>&1; then
+        fail "make -C $payload"
+        head -n 5 "$work/out"
+        return
+    fi
     "$payload/run" --on qemu --seconds 60 --payload "$work/payload/payload.bin" --out "$work/live" \
         affinity features words standby lives > "$work/out" 2>&1 || fail "$payload/run"
-    judged_as 6 "fault    1 x FEATURES of CPU_ON: theirs -1; ours 0" --profile "$(profile_of qemu)" "$work"/live/*.record
-    judged_as 0 "agrees    live/lives: 17 answers" --profile "$(profile_of qemu)" "$work/live/lives.record"
-    judged_as 0 "agrees    live/standby" --profile "$(profile_of qemu)" "$work/live/standby.record"
+    profile=$(profile_of qemu)
+    judged_as 6 "fault    1 x FEATURES of CPU_ON: theirs -1; ours 0" --profile "$profile" "$work"/live/*.record
+    judged_as 0 "agrees    live/lives:" --profile "$profile" "$work/live/lives.record"
+    judged_as 0 "agrees    live/standby" --profile "$profile" "$work/live/standby.record"
 }

@@ -174,7 +174,8 @@ completed() {
 ./psci help d|draw
 ./psci tr|try
 ./psci c|compare
-./psci compare --|--quick --machine --script --help
+./psci compare --|--quick --machine --script --profile --declare --each --times --baseline --write-baseline --tap --junit --bound --limit --whole --help
+./psci compare --q|--quick
 ./psci replay --|--machine --help
 ./psci prove l|lib
 ./psci prove lib --target a|aarch64

@@ -4,7 +4,8 @@
 A list has a line for each step:
     CORE call  X0 [X1 X2 X3]           a call that returns
     CORE stop  X0 [..]                 a call that may not: the next step begins as it is made
-    CORE sleep X0 [..] for MICROSECONDS   a suspend with the core's timer set; it ends as the call returns, or the core enters
+    CORE sleep X0 [..] for MICROSECONDS
+                                       a suspend with the core's timer set, until it returns, or the core enters
     CORE poll  X0 [..] until CODE      asks until it gets this code, for 300 ms at most
     CORE await CORE TIMES              until that core has entered so often, for 300 ms at most
     CORE delay MICROSECONDS

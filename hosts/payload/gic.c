@@ -4,7 +4,14 @@
 
 enum { DISTRIBUTOR_ENABLE = 0, GROUPS = 0x80, ENABLES = 0x100, PRIORITIES = 0x400 };
 enum { CORE_CONTROL = 0, CORE_MASK = 4 };
-enum { REDISTRIBUTOR = 0x20000, SGI_FRAME = 0x10000, TYPE = 8, WAKER = 0x14, ASLEEP = 2, CHILDREN_ASLEEP = 4 };
+enum {
+    REDISTRIBUTOR = 0x20000,
+    SGI_FRAME = 0x10000,
+    TYPE = 8,
+    WAKER = 0x14,
+    ASLEEP = 2,
+    CHILDREN_ASLEEP = 4
+};
 enum { BOTH_GROUPS_3 = 0x12, PRIORITY = 0x80, ALL = 0xff };
 
 static void version_2(void) {
@@ -20,7 +27,8 @@ static uint64_t redistributor(void) {
     uint64_t affinity, at = machine.gic_of_core;
     __asm__("mrs %0, mpidr_el1" : "=r"(affinity));
     uint32_t mine = (affinity & 0xffffff) | (affinity >> 32 & 0xff) << 24;
-    for (uint32_t core = 0; core < machine.cores && load(at + TYPE + 4) != mine; core++) at += REDISTRIBUTOR;
+    for (uint32_t core = 0; core < machine.cores && load(at + TYPE + 4) != mine; core++)
+        at += REDISTRIBUTOR;
     return at;
 }
 
@@ -36,10 +44,11 @@ static void version_3(void) {
     if (level == 8) __asm__ volatile("msr S3_4_C12_C9_5, %0\n isb" ::"r"(9ul)); /* ICC_SRE_EL2 */
     __asm__ volatile("msr S3_0_C12_C12_5, %0\n isb" ::"r"(1ul));                /* ICC_SRE_EL1 */
     __asm__ volatile("msr S3_0_C4_C6_0, %0" ::"r"((uint64_t)ALL));              /* ICC_PMR_EL1 */
-    __asm__ volatile("msr S3_0_C12_C12_7, %0\n isb" ::"r"(1ul));                /* ICC_IGRPEN1_EL1 */
+    __asm__ volatile("msr S3_0_C12_C12_7, %0\n isb" ::"r"(1ul)); /* ICC_IGRPEN1_EL1 */
 }
 
 void interrupts_ready(void) {
     timer_clear();
-    if (machine.gic_version == 3) version_3(); else version_2();
+    if (machine.gic_version == 3) version_3();
+    else version_2();
 }

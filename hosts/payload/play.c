@@ -54,9 +54,11 @@ void ask(uint32_t core, const uint64_t x[4], enum told told) {
 }
 
 void ask_with_timer(uint32_t core, const uint64_t x[4], uint64_t microseconds) {
+    cores[core].has_timer = 1;
     timer_set(microseconds);
     ask(core, x, ANNOUNCED);
     timer_clear();
+    cores[core].has_timer = 0;
 }
 
 /* Asks until it gets this answer, or for a while: a line for each run of alike answers. */
@@ -67,7 +69,8 @@ static void poll(uint32_t core, const uint64_t x[4], uint64_t wanted) {
         copy4(y, x);
         now_lost = conduit_call(y, machine.is_smc);
         if (many && y[0] != was[0]) {
-            LINE("call", core, cores[core].number++, first, last, many, x[0], x[1], x[2], x[3], was[0], was[1], was[2], was[3], lost);
+            LINE("call", core, cores[core].number++, first, last, many, x[0], x[1], x[2], x[3],
+                 was[0], was[1], was[2], was[3], lost);
             many = lost = 0;
         }
         if (!many++) first = begin;
@@ -75,13 +78,15 @@ static void poll(uint32_t core, const uint64_t x[4], uint64_t wanted) {
         lost |= now_lost;
         copy4(was, y);
     } while (was[0] != wanted && !is_past(end));
-    LINE("call", core, cores[core].number++, first, last, many, x[0], x[1], x[2], x[3], was[0], was[1], was[2], was[3], lost);
+    LINE("call", core, cores[core].number++, first, last, many, x[0], x[1], x[2], x[3], was[0],
+         was[1], was[2], was[3], lost);
 }
 
 static void await(uint32_t core, uint32_t target, uint32_t times) {
     uint64_t end = after(ENTRY_TIME);
     while (cores[target].entries < times && !is_past(end)) {}
-    if (cores[target].entries < times) LINE("lacks", core, cores[core].number++, tick(), target, times);
+    if (cores[target].entries < times)
+        LINE("lacks", core, cores[core].number++, tick(), target, times);
 }
 
 static void delay(uint64_t microseconds) {
@@ -98,7 +103,9 @@ static void suspend(uint32_t core, const uint64_t x[4], uint64_t microseconds) {
 static void play(uint32_t core, const struct step *step) {
     uint64_t x[4];
     for (int at = 0; at < 4; at++)
-        x[at] = step->x[at] + (step->relative >> at & 1 ? (uintptr_t)entries : step->relative >> (at + 4) & 1 ? (uintptr_t)head : 0);
+        x[at] = step->x[at] + (step->relative >> at & 1         ? (uintptr_t)entries
+                               : step->relative >> (at + 4) & 1 ? (uintptr_t)head
+                                                                : 0);
     switch (step->kind) {
     case CALL: ask(core, x, TOLD); break;
     case STOP: ask(core, x, GOING); return;
@@ -148,7 +155,8 @@ static void begin_life(void) {
 
 void booted(const void *tree) {
     /* where a loader hands over none, it stands at the beginning of the memory */
-    if ((uintptr_t)tree < 4096 || (uintptr_t)tree & 7 || *(const uint32_t *)tree != __builtin_bswap32(0xd00dfeed))
+    if ((uintptr_t)tree < 4096 || (uintptr_t)tree & 7 ||
+        *(const uint32_t *)tree != __builtin_bswap32(0xd00dfeed))
         tree = (const void *)((uintptr_t)head & ~0x3ffffffful);
     if (!read_tree(tree)) return;
     begin_life();
@@ -162,7 +170,8 @@ void entered(uint64_t core, uint64_t at, uint64_t context) {
     struct core *mine = &cores[core];
     struct entry *entry = storm.is_on ? new_entry() : 0;
     if (entry) {
-        *entry = (struct entry){0, (uint32_t)core, mine->number++, 0, tick(), {at, context}, {0}, 0};
+        *entry =
+            (struct entry){0, (uint32_t)core, mine->number++, 0, tick(), {at, context}, {0}, 0};
         entry->kind = KEPT_ENTER;
     } else {
         uint32_t time = tick();
@@ -170,6 +179,7 @@ void entered(uint64_t core, uint64_t at, uint64_t context) {
     }
     add(&mine->entries, 1);
     interrupts_ready();
+    mine->has_timer = 0;
     if (mine->is_asleep) {
         mine->is_asleep = 0;
         add(&done, 1);

@@ -21,18 +21,19 @@ extern struct list list;
 
 /* of each core: its next step, the number of its next line, and how often it entered */
 struct core {
-    volatile uint32_t next, number, entries, is_asleep;
+    volatile uint32_t next, number, entries, is_asleep, has_timer;
 };
 extern struct core cores[MOST_CORES];
 
-/* Makes a call and tells of it. ANNOUNCED ones are told before, since they may not come back; with those
- * that are GOING the next step begins at once. */
+/* Makes a call and tells of it. ANNOUNCED ones are told before, since they may not come back; with
+ * those that are GOING the next step begins at once. */
 enum told { TOLD, ANNOUNCED, GOING };
 void ask(uint32_t core, const uint64_t x[4], enum told told);
 /* The same, with the timer set. */
 void ask_with_timer(uint32_t core, const uint64_t x[4], uint64_t microseconds);
 
-/* A storm: each core draws so many calls by the seed, and goes off; core 0 then writes what was kept. */
+/* A storm: each core draws so many calls by the seed, and goes off; core 0 then writes what was
+ * kept. */
 struct storm {
     volatile uint32_t is_on;
     volatile uint64_t seed, many, standby, down;

@@ -2,7 +2,13 @@
 #include "clock.h"
 #include "machine.h"
 
-enum { MOST_ENTRIES = 6000, UART_FLAGS = 0x18, UART_FULL = 0x20, STATUS_8250 = 5, EMPTY_8250 = 0x20 };
+enum {
+    MOST_ENTRIES = 6000,
+    UART_FLAGS = 0x18,
+    UART_FULL = 0x20,
+    STATUS_8250 = 5,
+    EMPTY_8250 = 0x20
+};
 
 static struct entry kept[MOST_ENTRIES];
 static volatile uint32_t many_kept, is_writing;
@@ -52,8 +58,10 @@ struct entry *new_entry(void) {
 static void write_entry(const struct entry *it) {
     const uint64_t *x = it->before, *y = it->behind;
     if (it->kind == KEPT_CALL)
-        LINE("call", it->core, it->number, it->begin, it->end, 1, x[0], x[1], x[2], x[3], y[0], y[1], y[2], y[3], it->lost);
-    if (it->kind == KEPT_OPEN) LINE("open", it->core, it->number, it->begin, x[0], x[1], x[2], x[3]);
+        LINE("call", it->core, it->number, it->begin, it->end, 1, x[0], x[1], x[2], x[3], y[0],
+             y[1], y[2], y[3], it->lost);
+    if (it->kind == KEPT_OPEN)
+        LINE("open", it->core, it->number, it->begin, x[0], x[1], x[2], x[3]);
     if (it->kind == KEPT_ENTER) LINE("enter", it->core, it->number, it->end, x[0], x[1]);
 }
 

@@ -7,12 +7,14 @@
 void line(const char *kind, const uint64_t *numbers, uint32_t many);
 /* As before, when nobody else can write: from an exception. */
 void line_alone(const char *kind, const uint64_t *numbers, uint32_t many);
-#define LINE(kind, ...) do { \
-    const uint64_t numbers_[] = {__VA_ARGS__}; \
-    line(kind, numbers_, sizeof numbers_ / sizeof *numbers_); \
-} while (0)
+#define LINE(kind, ...) \
+    do { \
+        const uint64_t numbers_[] = {__VA_ARGS__}; \
+        line(kind, numbers_, sizeof numbers_ / sizeof *numbers_); \
+    } while (0)
 
-/* In a storm lines are kept in memory, and written at its end: else writing them would be the storm. */
+/* In a storm lines are kept in memory, and written at its end: else writing them would be the
+ * storm. */
 enum kept { KEPT_OPEN = 1, KEPT_CALL, KEPT_ENTER };
 struct entry {
     volatile uint32_t kind;

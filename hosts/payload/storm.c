@@ -4,7 +4,12 @@
 #include "record.h"
 
 enum { VERSION = 0x84000000, CPU_SUSPEND, CPU_OFF, CPU_ON, AFFINITY_INFO };
-enum { FEATURES = 0x8400000a, NODE_HW_STATE = 0x8400000d, SMC64 = 0x40000000, LAST_FUNCTION = 0x14 };
+enum {
+    FEATURES = 0x8400000a,
+    NODE_HW_STATE = 0x8400000d,
+    SMC64 = 0x40000000,
+    LAST_FUNCTION = 0x14
+};
 
 struct storm storm;
 static volatile uint32_t drawn[MOST_CORES];
@@ -33,8 +38,11 @@ static void drawn_call(uint32_t core, uint64_t bits) {
     uint32_t kind = bits % 16;
     if (kind < 4) ask(core, (uint64_t[]){CPU_ON | width, target, entry, context}, TOLD);
     else if (kind < 9) ask(core, (uint64_t[]){AFFINITY_INFO | width, target, 0, 0}, TOLD);
-    else if (kind == 9) ask(core, (uint64_t[]){NODE_HW_STATE | width, target, (bits >> 12 & 3) % 3, 0}, TOLD);
-    else if (kind == 10) ask(core, (uint64_t[]){FEATURES, (VERSION + (bits >> 8) % LAST_FUNCTION) | width, 0, 0}, TOLD);
+    else if (kind == 9)
+        ask(core, (uint64_t[]){NODE_HW_STATE | width, target, (bits >> 12 & 3) % 3, 0}, TOLD);
+    else if (kind == 10)
+        ask(core, (uint64_t[]){FEATURES, (VERSION + (bits >> 8) % LAST_FUNCTION) | width, 0, 0},
+            TOLD);
     else if (kind == 11 && core) ask(core, (uint64_t[]){CPU_OFF, 0, 0, 0}, ANNOUNCED);
     else if (kind < 14 && storm.standby)
         ask_with_timer(core, (uint64_t[]){CPU_SUSPEND | width, storm.standby, 0, 0}, waits);
@@ -54,6 +62,11 @@ void storm_of(uint32_t core) {
 void storm_ends(void) {
     uint64_t end = after(100000);
     while (!is_past(end)) {}
+    end = after(3000000);
+    for (uint32_t core = 0; core < machine.cores; core++) {
+        while (cores[core].has_timer && !is_past(end)) {}
+        if (cores[core].has_timer) LINE("late", core, 0);
+    }
     storm.is_on = 0;
     write_entries();
 }

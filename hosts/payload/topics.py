@@ -12,13 +12,15 @@ LEVELS = ("2", "3", "4", "255", "0xffffffff", "0x100000000", "0x100000001")
 ENTRIES = ("0", "2", "3", "E0+1", "E0+2", "E0+3", "0x09000000", "0x08000000", "0x0e0a0000", "0x3ffffffc",
            "0x80000000", "0x7ffffffd", "0x100000000", "0x8000000000000000", "0xffffffffffffffff", "0xfffffffffffffffc")
 # power state words of both formats, good ones of some platform, and some of none
-STANDBYS = ("1", "2", "0", "0x80000000", "0x40000000", "0x1000001", "0x1000011", "0x2000111", "0x3000000", "0x100000001")
-DOWNS = ("0x10000", "0x10002", "0x10003", "0x1010022", "0x1010033", "0x2010333", "0x3010000", "0x4010003", "0x40000003",
-         "0x40000033", "0x20000", "0xffffffff")
+STANDBYS = ("1", "2", "0", "0x80000000", "0x40000000", "0x1000001", "0x1000011", "0x2000111",
+            "0x3000000", "0x100000001")
+DOWNS = ("0x10000", "0x10002", "0x10003", "0x1010022", "0x1010033", "0x2010333", "0x3010000",
+         "0x4010003", "0x40000003", "0x40000033", "0x20000", "0xffffffff")
 BOTH = ("64", "32")
-OTHERS = ("MIGRATE_32", "MIGRATE_64", "MIGRATE_INFO_TYPE", "0xc4000006", "MIGRATE_INFO_UP_CPU_32", "MIGRATE_INFO_UP_CPU_64",
-          "CPU_FREEZE", "CPU_DEFAULT_SUSPEND_32", "STAT_RESIDENCY_32", "STAT_RESIDENCY_64", "STAT_COUNT_32", "STAT_COUNT_64",
-          "MEM_PROTECT", "MEM_PROTECT_CHECK_RANGE_32", "MEM_PROTECT_CHECK_RANGE_64")
+OTHERS = ("MIGRATE_32", "MIGRATE_64", "MIGRATE_INFO_TYPE", "0xc4000006", "MIGRATE_INFO_UP_CPU_32",
+          "MIGRATE_INFO_UP_CPU_64", "CPU_FREEZE", "CPU_DEFAULT_SUSPEND_32", "STAT_RESIDENCY_32",
+          "STAT_RESIDENCY_64", "STAT_COUNT_32", "STAT_COUNT_64", "MEM_PROTECT",
+          "MEM_PROTECT_CHECK_RANGE_32", "MEM_PROTECT_CHECK_RANGE_64")
 CORE_1_ON = ["0 call CPU_ON_64 1 E1 0x11", "0 await 1 1"]
 CORE_1_OFF = ["1 stop CPU_OFF", "0 poll AFFINITY_INFO_64 1 0 until 1"]
 
@@ -64,8 +66,8 @@ def on_entry(entry):
 
 def refusals():
     """Calls to which two refusals apply, and more."""
-    made = CORE_1_ON + [f"0 call CPU_ON_{width} {target} {entry} 1" for width in BOTH for target in ("0", "1", "0x77")
-                        for entry in ("E1", "E1+2", "E1+1")]
+    made = CORE_1_ON + [f"0 call CPU_ON_{width} {target} {entry} 1" for width in BOTH
+                        for target in ("0", "1", "0x77") for entry in ("E1", "E1+2", "E1+1")]
     made += [f"0 sleep CPU_SUSPEND_{width} {it} {entry} 1 for 300" for width in BOTH for it in ("0x20000", "0xfcfe0000")
              for entry in ("E1", "E1+2")]
     return made + ["0 sleep SYSTEM_SUSPEND_64 E1+2 1 for 300", "0 sleep SYSTEM_SUSPEND_32 E1+1 1 for 300",
@@ -124,8 +126,8 @@ def mode():
                                                        "0x100000001", "0")]
     asks = ["0 sleep CPU_SUSPEND_64 0x1010033 E2 5 for 300", "0 sleep CPU_SUSPEND_64 0x10003 E2 5 for 300",
             "0 sleep CPU_SUSPEND_64 0x1000011 0 0 for 300"]
-    return (modes + ["0 call CPU_ON_64 1 E1 0x11", "0 call SET_SUSPEND_MODE 1", "0 await 1 1", "0 call SET_SUSPEND_MODE 1",
-                     "1 call SET_SUSPEND_MODE 1", "0 call SET_SUSPEND_MODE 0", *asks, *CORE_1_OFF, *asks,
+    return (modes + ["0 call CPU_ON_64 1 E1 0x11", "0 call SET_SUSPEND_MODE 1", "0 await 1 1",
+                     "0 call SET_SUSPEND_MODE 1", "1 call SET_SUSPEND_MODE 1", "0 call SET_SUSPEND_MODE 0", *asks, *CORE_1_OFF, *asks,
                      "0 call SET_SUSPEND_MODE 0"])
 
 
@@ -139,8 +141,8 @@ def hardware_state():
     made = [f"0 call NODE_HW_STATE_{width} {it} {level}" for width in BOTH
             for it in ("0", "1", "4", "0x100", "0x10000", "0x80000000", "0x100000000")
             for level in ("0", "1", "2", "3", "0xffffffff", "0x100000000")]
-    return made + ["0 call CPU_ON_64 1 E1 0x11", "0 call NODE_HW_STATE_64 1 0", "0 await 1 1", "0 call NODE_HW_STATE_64 1 0",
-                   *CORE_1_OFF, "0 delay 2000", "0 call NODE_HW_STATE_64 1 0", "0 call NODE_HW_STATE_64 1 1"]
+    return made + ["0 call CPU_ON_64 1 E1 0x11", "0 call NODE_HW_STATE_64 1 0", "0 await 1 1",
+                   "0 call NODE_HW_STATE_64 1 0", *CORE_1_OFF, "0 delay 2000", "0 call NODE_HW_STATE_64 1 0", "0 call NODE_HW_STATE_64 1 1"]
 
 
 def lives(reset):
@@ -158,8 +160,9 @@ def storm(seed, down_word="0"):
 
 def topics():
     """Each list by its name, without its last line."""
-    made = {it.__name__.replace("_", "-"): it() for it in (features, words, affinity, on_targets, refusals, on_race, on_twice, off,
-                                                           standby, system_suspend, mode, others, hardware_state)}
+    whole = (features, words, affinity, on_targets, refusals, on_race, on_twice, off, standby,
+             system_suspend, mode, others, hardware_state)
+    made = {it.__name__.replace("_", "-"): it() for it in whole}
     made.update({f"on-entry-{at:02}": on_entry(it) for at, it in enumerate(ENTRIES)})
     made.update({f"down-{at:02}": down(it) for at, it in enumerate(DOWNS)})
     made["lives"], made["lives-warm"] = lives("SYSTEM_RESET"), lives("SYSTEM_RESET2_64 0 0")

@@ -54,16 +54,20 @@ static void keep(const struct node *node, const struct node *above) {
     if (node->device_type && same(node->device_type, "cpu") && node->reg) keep_core(at);
     if (node->method) machine.is_smc = same(node->method, "smc");
     if (is_compatible(node, "arm,pl011") && !machine.uart) machine.uart = at;
-    if (is_compatible(node, "ns16550a") && !machine.uart) machine.uart = at, machine.uart_is_8250 = 1;
+    if (is_compatible(node, "ns16550a") && !machine.uart)
+        machine.uart = at, machine.uart_is_8250 = 1;
     if (is_compatible(node, "arm,gic-v3")) keep_gic(node, above, 3);
-    if (is_compatible(node, "arm,cortex-a15-gic") || is_compatible(node, "arm,gic-400")) keep_gic(node, above, 2);
-    /* the second interrupt is that of the physical timer of EL1; the first cell says that it is a core's own */
+    if (is_compatible(node, "arm,cortex-a15-gic") || is_compatible(node, "arm,gic-400"))
+        keep_gic(node, above, 2);
+    /* the second interrupt is that of the physical timer of EL1; the first cell says that it is a
+     * core's own */
     if (is_compatible(node, "arm,armv8-timer") && node->interrupts_length >= 24)
         machine.timer = 16 + big(node->interrupts + 4);
 }
 
 static void property(struct node *node, const char *name, const uint32_t *value, uint32_t length) {
-    if (same(name, "compatible")) node->compatible = (const char *)value, node->compatible_length = length;
+    if (same(name, "compatible"))
+        node->compatible = (const char *)value, node->compatible_length = length;
     if (same(name, "method")) node->method = (const char *)value;
     if (same(name, "device_type")) node->device_type = (const char *)value;
     if (same(name, "status")) node->status = (const char *)value;

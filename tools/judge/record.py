@@ -93,6 +93,9 @@ def read(path):
         raise Unreadable("it has no line psci: head")
     for life, raw in lives:
         gather(life, raw)
+        # a suspend that is open as the system goes off may just have begun: a step has to be late, too
+        if not any(it.what == "late" for it in life.remarks):
+            life.broken = []
     return [life for life, _ in lives]
 
 
