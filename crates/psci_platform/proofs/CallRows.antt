@@ -8,6 +8,7 @@ use Rattle.psci_platform.specs.declared.asked.Asked.{Asked}
 use Rattle.psci_platform.specs.declared.asked.Asked.TheVariants as asks
 use Rattle.psci_platform.specs.Calls.{asked_for, regs_for}
 use Rattle.psci_platform.specs.Described.{DescriptionValue}
+use Rattle.psci_platform.proofs.Machines.{calling}
 use Rattle.psci_platform.proofs.Machines.{all_functions, hamoa, hamoa_board, mt8365, mt8370}
 use Rattle.psci_platform.proofs.Machines.{mt8370_board}
 use Rattle.psci_platform.proofs.Machines.{rk3399, rk3399_board}
@@ -18,7 +19,7 @@ regs x0 x1 x2 x3 = record { x0 = x0; x1 = x1; x2 = x2; x3 = x3 }
 
 -- what the firmware is called with for a call of MT8370
 abbrev of_mt8370 : Regs → Regs
-of_mt8370 r = regs_for mt8370 mt8370_board Platform r
+of_mt8370 r = regs_for mt8370 mt8370_board 0 Platform r
 
 -- and what else RK3399 asks
 abbrev asks_rk3399 : Regs → Asked
@@ -27,67 +28,67 @@ asks_rk3399 r = asked_for rk3399 Platform r
 -- Arguments -----------------------------------------------------------------------------------
 
 cpu_on : of_mt8370 (regs 0xC4000003 0x700 0x40001000 7) ≡ regs 0xC4000003 5 0x40001000 7
-unfolding regs_for
+unfolding calling
 cpu_on = refl
 
 -- an SMC32 call has the low half of a register
 narrow_cpu_on : of_mt8370 (regs 0x84000003 0x100000700 0x40001000 7)
     ≡ regs 0x84000003 5 0x40001000 7
-unfolding regs_for
+unfolding calling
 narrow_cpu_on = refl
 
 wide_cpu_on : of_mt8370 (regs 0xC4000003 0x100000700 0x40001000 7)
     ≡ regs 0xC4000003 0xFFFFFFFF 0x40001000 7
-unfolding regs_for
+unfolding calling
 wide_cpu_on = refl
 
 cpu_suspend : of_mt8370 (regs 0xC4000001 0x01010010 0x40001000 7)
     ≡ regs 0xC4000001 0x01010033 0x40001000 7
-unfolding regs_for
+unfolding calling
 cpu_suspend = refl
 
 no_such_word : of_mt8370 (regs 0x84000001 0x01010033 0x40001000 7)
     ≡ regs 0x84000001 0xFFFFFFFF 0x40001000 7
-unfolding regs_for
+unfolding calling
 no_such_word = refl
 
-affinity_info : regs_for hamoa hamoa_board Platform (regs 0xC4000004 0x10300 0 0)
+affinity_info : regs_for hamoa hamoa_board 0 Platform (regs 0xC4000004 0x10300 0 0)
     ≡ regs 0xC4000004 0x103 0 0
-unfolding regs_for
+unfolding calling
 affinity_info = refl
 
-affinity_info_of_a_cluster : regs_for hamoa hamoa_board Platform (regs 0xC4000004 0x20000 1 0)
+affinity_info_of_a_cluster : regs_for hamoa hamoa_board 0 Platform (regs 0xC4000004 0x20000 1 0)
     ≡ regs 0xC4000004 0x200 1 0
-unfolding regs_for
+unfolding calling
 affinity_info_of_a_cluster = refl
 
-node_hw_state : regs_for (record hamoa { functions = all_functions }) hamoa_board Platform
+node_hw_state : regs_for (record hamoa { functions = all_functions }) hamoa_board 0 Platform
     (regs 0x8400000D 0x20000 1 0) ≡ regs 0x8400000D 0x200 1 0
-unfolding regs_for
+unfolding calling
 node_hw_state = refl
 
-vendor_reset : regs_for rk3399 rk3399_board Platform (regs 0x84000012 0x80000001 9 0)
+vendor_reset : regs_for rk3399 rk3399_board 0 Platform (regs 0x84000012 0x80000001 9 0)
     ≡ regs 0x84000012 0 9 0
-unfolding regs_for
+unfolding calling
 vendor_reset = refl
 
-other_reset : regs_for rk3399 rk3399_board Platform (regs 0x84000012 0x80000002 9 0)
+other_reset : regs_for rk3399 rk3399_board 0 Platform (regs 0x84000012 0x80000002 9 0)
     ≡ regs 0x84000012 0x80000002 9 0
-unfolding regs_for
+unfolding calling
 other_reset = refl
 
 -- what is no name of a core, a state or a function stays
-system_suspend : regs_for rk3399 rk3399_board Platform (regs 0xC400000E 0x40001000 7 0)
+system_suspend : regs_for rk3399 rk3399_board 0 Platform (regs 0xC400000E 0x40001000 7 0)
     ≡ regs 0xC400000E 0x40001000 7 0
-unfolding regs_for
+unfolding calling
 system_suspend = refl
 
 set_suspend_mode : of_mt8370 (regs 0x8400000F 1 0 0) ≡ regs 0x8400000F 1 0 0
-unfolding regs_for
+unfolding calling
 set_suspend_mode = refl
 
 version : of_mt8370 (regs 0x84000000 0x700 0 0) ≡ regs 0x84000000 0x700 0 0
-unfolding regs_for
+unfolding calling
 version = refl
 
 -- Functions -----------------------------------------------------------------------------------
@@ -108,11 +109,11 @@ without_any = record rk3399 {
 }
 
 abbrev called : DescriptionValue → ℕ → ℕ
-called d x0 = (regs_for d rk3399_board Platform (regs x0 0 0 0)).x0
+called d x0 = (regs_for d rk3399_board 0 Platform (regs x0 0 0 0)).x0
 
 -- what PSCI_FEATURES asks about
 abbrev features : DescriptionValue → ℕ → ℕ
-features d word = (regs_for d rk3399_board Platform (regs 0x8400000A word 0 0)).x1
+features d word = (regs_for d rk3399_board 0 Platform (regs 0x8400000A word 0 0)).x1
 
 abbrev words : List ℕ
 words =
@@ -120,19 +121,19 @@ words =
     ∷ 0x8400000D ∷ 0xC400000D ∷ 0x8400000E ∷ 0xC400000E ∷ 0x8400000F ∷ 0x84000012 ∷ 0xC4000012 ∷ []
 
 none_is_there : map (called without_any) words ≡ replicate 14 0
-unfolding regs_for
+unfolding calling
 none_is_there = refl
 
 no_feature_is_there : map (features without_any) words ≡ replicate 14 0
-unfolding regs_for
+unfolding calling
 no_feature_is_there = refl
 
 all_are_there : map (called (record rk3399 { functions = all_functions })) words ≡ words
-unfolding regs_for
+unfolding calling
 all_are_there = refl
 
 all_features_are_there : map (features (record rk3399 { functions = all_functions })) words ≡ words
-unfolding regs_for
+unfolding calling
 all_features_are_there = refl
 
 -- these are always there
@@ -140,11 +141,11 @@ abbrev others : List ℕ
 others = 0x84000000 ∷ 0x84000004 ∷ 0xC4000004 ∷ 0x84000006 ∷ 0x8400000A ∷ []
 
 others_are_there : map (called without_any) others ≡ others
-unfolding regs_for
+unfolding calling
 others_are_there = refl
 
 other_features_are_there : map (features without_any) others ≡ others
-unfolding regs_for
+unfolding calling
 other_features_are_there = refl
 
 -- each function by itself
@@ -153,38 +154,38 @@ only f = filter (λ x. nat_lt 0 x) (map (called (record rk3399 { functions = f }
 
 only_cpu_suspend : only (record without_any.functions { cpu_suspend = true })
     ≡ 0x84000001 ∷ 0xC4000001 ∷ 0x8400000F ∷ []
-unfolding regs_for
+unfolding calling
 only_cpu_suspend = refl
 
 only_cpu_off : only (record without_any.functions { cpu_off = true }) ≡ 0x84000002 ∷ []
-unfolding regs_for
+unfolding calling
 only_cpu_off = refl
 
 only_cpu_on : only (record without_any.functions { cpu_on = true }) ≡ 0x84000003 ∷ 0xC4000003 ∷ []
-unfolding regs_for
+unfolding calling
 only_cpu_on = refl
 
 only_system_off : only (record without_any.functions { system_off = true }) ≡ 0x84000008 ∷ []
-unfolding regs_for
+unfolding calling
 only_system_off = refl
 
 only_system_reset : only (record without_any.functions { system_reset = true }) ≡ 0x84000009 ∷ []
-unfolding regs_for
+unfolding calling
 only_system_reset = refl
 
 only_node_hw_state : only (record without_any.functions { node_hw_state = true })
     ≡ 0x8400000D ∷ 0xC400000D ∷ []
-unfolding regs_for
+unfolding calling
 only_node_hw_state = refl
 
 only_system_suspend : only (record without_any.functions { system_suspend = true })
     ≡ 0x8400000E ∷ 0xC400000E ∷ []
-unfolding regs_for
+unfolding calling
 only_system_suspend = refl
 
 only_system_reset2 : only (record without_any.functions { system_reset2 = true })
     ≡ 0x84000012 ∷ 0xC4000012 ∷ []
-unfolding regs_for
+unfolding calling
 only_system_reset2 = refl
 
 -- What else is asked --------------------------------------------------------------------------

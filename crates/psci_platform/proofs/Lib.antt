@@ -1,5 +1,6 @@
 pub mod Addresses
 pub mod Asks
+pub mod Booting
 mod CallRows
 pub mod Checked
 mod CoreRows
@@ -10,4 +11,9 @@ mod FunctionFaultRows
 pub mod Machines
 pub mod Missing
 pub mod Named
+pub mod Requests
 mod StateRows
+mod SwapRows
+pub mod Swapped
+pub mod Swapping
+pub mod Unmoved

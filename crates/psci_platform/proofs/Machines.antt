@@ -4,21 +4,28 @@ use Rattle.std.proofs.Common.{ℕ, List, [], ◌∷◌, ◌++◌, true, false, r
 use Rattle.std.specs.Prelude.{Option}
 use Rattle.psci_abi.specs.psci_format.declared.format.Format.{Format}
 use Rattle.psci_abi.specs.psci_format.declared.format.Format.TheVariants.{Original, Extended}
-use Rattle.psci_board.specs.Board.{BoardValue}
+use Rattle.psci_board.specs.Board.{BoardValue, up}
 use Rattle.psci_platform.specs.declared.class.Class.{Class}
 use Rattle.psci_platform.specs.declared.class.Class.TheVariants.{Running, Retention}
 use Rattle.psci_platform.specs.declared.class.Class.TheVariants.{PowerDown}
+use Rattle.psci_platform.specs.Calls.{regs_for}
 use Rattle.psci_platform.specs.Described.{DescriptionValue}
 use Rattle.psci_platform.specs.declared.fault.PlatformFault.{PlatformFault}
 use Rattle.psci_platform.specs.declared.functions.Functions.{Functions}
 use Rattle.psci_platform.specs.declared.row.Row.{Row}
 use Rattle.psci_platform.specs.Faults.{boot_fault_of, fault_of, never_falls, row_fault_of}
 use Rattle.psci_platform.specs.Faults.{state_fault_of}
+use Rattle.psci_platform.specs.Swaps.{is_symmetric, moved}
 
 -- what an example unfolds to compute a fault
 unfoldable pub checking : Unit {0}
-unfolding fault_of boot_fault_of row_fault_of state_fault_of never_falls
+unfolding fault_of boot_fault_of row_fault_of state_fault_of never_falls is_symmetric moved up
 checking = tt
+
+-- what an example unfolds to compute the registers of a call
+unfoldable pub calling : Unit {0}
+unfolding regs_for moved up
+calling = tt
 
 -- a board of these levels and this format
 abbrev pub board : List (List ℕ) → Format → BoardValue

@@ -22,11 +22,11 @@ unknown_if : (t : Bool) (r s : Regs) → t ≡ false
 unknown_if true r s e = cc
 unknown_if false r s e = refl
 
-pub no_function_is_known : (d : DescriptionValue) (b : BoardValue) (mode : SuspendMode)
-    (regs : Regs) → is_there d.functions (request_of regs) ≡ false
-    → request_of (regs_for d b mode regs) ≡ Unknown
+pub no_function_is_known : (d : DescriptionValue) (b : BoardValue) (boot : ℕ)
+    (mode : SuspendMode) (regs : Regs) → is_there d.functions (request_of regs) ≡ false
+    → request_of (regs_for d b boot mode regs) ≡ Unknown
 unfolding regs_for
-no_function_is_known d b mode regs e =
+no_function_is_known d b boot mode regs e =
     unknown_if (is_there d.functions (request_of regs)) _ regs e
 
 pub no_power_state : (format : Format) (height : ℕ)

@@ -43,28 +43,31 @@ is_vendors d reset_type = list_any (λ own. own == reset_type) d.resets
 abbrev pub reset_word : DescriptionValue → ℕ → ℕ
 reset_word d reset_type = if is_vendors d reset_type then 0 else reset_type
 
--- the first argument that the firmware is asked with
-abbrev pub first_argument : DescriptionValue → BoardValue → SuspendMode → ℕ → Request → ℕ
-first_argument d b mode x1 (requests.CpuSuspend state entry_point context) =
+-- the first argument that the firmware is asked with, where the core at this place boots
+abbrev pub first_argument : DescriptionValue → BoardValue → ℕ → SuspendMode → ℕ → Request → ℕ
+first_argument d b boot mode x1 (requests.CpuSuspend state entry_point context) =
     word_for d b.format (states_of d mode state)
-first_argument d b mode x1 (requests.CpuOn target entry_point context) = core_word d b target 0
-first_argument d b mode x1 (requests.AffinityInfo target level) = core_word d b target level
-first_argument d b mode x1 (requests.NodeHwState target level) = core_word d b target level
-first_argument d b mode x1 (requests.Features word) = feature_word d word
-first_argument d b mode x1 (requests.SystemReset2 reset_type cookie) = reset_word d reset_type
-first_argument d b mode x1 request = x1
+first_argument d b boot mode x1 (requests.CpuOn target entry_point context) =
+    core_word d b boot target 0
+first_argument d b boot mode x1 (requests.AffinityInfo target level) =
+    core_word d b boot target level
+first_argument d b boot mode x1 (requests.NodeHwState target level) =
+    core_word d b boot target level
+first_argument d b boot mode x1 (requests.Features word) = feature_word d word
+first_argument d b boot mode x1 (requests.SystemReset2 reset_type cookie) = reset_word d reset_type
+first_argument d b boot mode x1 request = x1
 
 -- The registers that the firmware is called with for a request of a platform. A function that is
 -- not there has a word that no function has; else only the first argument changes.
-abbrev pub regs_asking : DescriptionValue → BoardValue → SuspendMode → Regs → Request → Regs
-regs_asking d b mode regs request =
+abbrev pub regs_asking : DescriptionValue → BoardValue → ℕ → SuspendMode → Regs → Request → Regs
+regs_asking d b boot mode regs request =
     if is_there d.functions request
-    then record regs { x1 = first_argument d b mode regs.x1 request }
+    then record regs { x1 = first_argument d b boot mode regs.x1 request }
     else record regs { x0 = no_function }
 
 -- the registers that the firmware is called with
-unfoldable pub regs_for : DescriptionValue → BoardValue → SuspendMode → Regs → Regs
-regs_for d b mode regs = regs_asking d b mode regs (request_of regs)
+unfoldable pub regs_for : DescriptionValue → BoardValue → ℕ → SuspendMode → Regs → Regs
+regs_for d b boot mode regs = regs_asking d b boot mode regs (request_of regs)
 
 -- states that are asked for, if there are some
 abbrev pub asks_states : Option (List ℕ) → Asked

@@ -1,12 +1,13 @@
 -- MPIDRs of a platform, and the affinity words of the board for them.
 use Rattle.std.specs.Prelude.{ℕ, ◌*◌, ◌/◌, ◌^◌, ◌==◌, nat_le, nat_lt, unwrap_or, if◌then◌else◌}
-use Rattle.std.specs.Prelude.{Option, Some, None}
+use Rattle.std.specs.Prelude.{Option, Some, None, option_map}
 use Rattle.std.specs.List.{position}
 use Rattle.psci_board.specs.Board.{BoardValue, address, child_number, domain_of, height}
 use Rattle.psci_platform.specs.Described.{DescriptionValue}
+use Rattle.psci_platform.specs.Swaps.{swap_for}
 
--- the first core whose MPIDR has the fields of a word, at this level and above: none where the
--- board has no such level
+-- the first core, in the order of the tree, whose MPIDR has the fields of a word, at this level and
+-- above: none where the board has no such level
 abbrev pub core_named : DescriptionValue → BoardValue → ℕ → ℕ → Option ℕ
 core_named d b word level =
     if nat_le level (height b)
@@ -28,7 +29,16 @@ abbrev pub word_if : BoardValue → Option ℕ → ℕ
 word_if b None = no_core
 word_if b (Some core) = address b 0 core
 
+-- the place of the boot core in the order of the tree, by its MPIDR; 0 where no core has it
+abbrev pub boot_place : DescriptionValue → BoardValue → ℕ → ℕ
+boot_place d b boot = unwrap_or (core_named d b boot 0) 0
+
+-- The number that the firmware has for the core that an MPIDR names, where the core at this place
+-- boots: the swap of the boot core with core 0 is the firmware's.
+abbrev pub number_named : DescriptionValue → BoardValue → ℕ → ℕ → ℕ → Option ℕ
+number_named d b boot mpidr level = option_map (swap_for b boot 0) (core_named d b mpidr level)
+
 -- The affinity word of the board for an MPIDR. At level 0 it names the core, and at a level above
 -- the power domain over the core: fields below the level are not looked at.
-abbrev pub core_word : DescriptionValue → BoardValue → ℕ → ℕ → ℕ
-core_word d b mpidr level = word_if b (core_named d b mpidr level)
+abbrev pub core_word : DescriptionValue → BoardValue → ℕ → ℕ → ℕ → ℕ
+core_word d b boot mpidr level = word_if b (number_named d b boot mpidr level)

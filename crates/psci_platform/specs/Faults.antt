@@ -9,11 +9,13 @@ use Rattle.psci_abi.specs.psci_format.declared.format.Format.TheVariants.{Origin
 use Rattle.psci_board.specs.Board.{BoardValue, cores, height}
 use Rattle.psci_state.specs.Ask.{is_ask, deepest_of, power_down}
 use Rattle.psci_platform.specs.declared.class.TheConstants.{STATES}
+use Rattle.psci_platform.specs.Cores.{boot_place}
 use Rattle.psci_platform.specs.Described.{DescriptionValue}
 use Rattle.psci_platform.specs.declared.fault.PlatformFault.{PlatformFault}
 use Rattle.psci_platform.specs.declared.fault.PlatformFault.TheVariants as faults
 use Rattle.psci_platform.specs.declared.row.Row.{Row}
 use Rattle.psci_platform.specs.States.{depth_at, depths_of}
+use Rattle.psci_platform.specs.Swaps.{is_symmetric}
 
 -- MPIDRs --------------------------------------------------------------------------------------
 
@@ -28,6 +30,10 @@ has_same mpidrs = list_any (λ x. nat_lt 1 (count_by (λ y. y == x) mpidrs)) mpi
 -- some core is the boot core
 abbrev pub has_boot : List ℕ → ℕ → Bool
 has_boot mpidrs boot = list_any (λ x. x == boot) mpidrs
+
+-- the boot core is the first one of the tree, or is swapped with it
+abbrev pub is_first : DescriptionValue → BoardValue → ℕ → Bool
+is_first d b boot = slice_index d.mpidrs 0 == boot || is_symmetric b (boot_place d b boot)
 
 -- States --------------------------------------------------------------------------------------
 
@@ -137,7 +143,7 @@ row_fault_of d b =
 unfoldable pub boot_fault_of : DescriptionValue → BoardValue → ℕ → Option PlatformFault
 boot_fault_of d b boot =
     (if not (has_boot d.mpidrs boot) then Some faults.NoBootCore
-    else (if not (slice_index d.mpidrs 0 == boot) then Some faults.LateBootCore
+    else (if not (is_first d b boot) then Some faults.LateBootCore
     else (if nat_lt (height b) d.levels then Some faults.TooManyLevels
     else (if not (list_all (rises d) (0 ∷ 1 ∷ 2 ∷ 3 ∷ [])) then Some faults.FallingClass
     else row_fault_of d b))))

@@ -1,12 +1,15 @@
 //! The faults of a description, in their order.
 
-ghost use Rattle.std.specs.Prelude.{◌≡◌};
-ghost use Rattle.psci_platform.specs.Faults.{boot_fault_of, fault_of, row_fault_of, state_fault_of};
+ghost use Rattle.std.specs.Prelude.{◌≡◌, length};
+ghost use Rattle.psci_board.specs.Board.{cores};
+ghost use Rattle.psci_platform.specs.Faults.{boot_fault_of, fault_of, is_first, row_fault_of};
+ghost use Rattle.psci_platform.specs.Faults.{state_fault_of};
 
 use crate::description::Description;
 use crate::fault::PlatformFault;
 use crate::mpidrs::{are_mpidrs, first_of, has_boot, has_same};
 use crate::rows::{are_row_words, has_same_word};
+use crate::swap::is_symmetric;
 use psci_board::Board;
 
 /// How many rows there may be.
@@ -33,12 +36,13 @@ impl Description {
     /// The first fault of the boot core and what follows it.
     #[tactic(auto, unfolding(crate::specs::Faults::boot_fault_of))]
     fn boot_fault(&self, board: &Board, boot: u64) -> Option<PlatformFault>
+        requires { length self.now.mpidrs ≡ cores board.now }
         ensures { result ≡ boot_fault_of self.now board.now boot }
     {
         if !has_boot(&self.mpidrs, boot) {
             return Some(PlatformFault::NoBootCore);
         }
-        if first_of(&self.mpidrs) != boot {
+        if !self.is_first(board, boot) {
             return Some(PlatformFault::LateBootCore);
         }
         if self.levels > board.height() {
@@ -48,6 +52,14 @@ impl Description {
             return Some(PlatformFault::FallingClass);
         }
         self.row_fault(board)
+    }
+
+    /// Whether the boot core is the first one of the tree, or is swapped with it.
+    fn is_first(&self, board: &Board, boot: u64) -> bool
+        requires { length self.now.mpidrs ≡ cores board.now }
+        ensures { result ≡ is_first self.now board.now boot }
+    {
+        first_of(&self.mpidrs) == boot || is_symmetric(board, self.boot_core(board, boot))
     }
 
     /// The first fault of the rows and what follows them.

@@ -1,11 +1,14 @@
 //! MPIDRs of a platform, and the affinity words of the board for them.
 
-ghost use Rattle.std.specs.Prelude.{◌≡◌, ◌<◌, ◌^◌, ◌/◌, ◌==◌, length, IfSome, option_map};
+ghost use Rattle.std.specs.Prelude.{◌≡◌, ◌<◌, ◌^◌, ◌/◌, ◌==◌, true, length, IfSome, option_map};
 ghost use Rattle.std.specs.List.{position};
 ghost use Rattle.psci_board.specs.Board.{address, cores};
-ghost use Rattle.psci_platform.specs.Cores.{core_named, core_word, field_of};
+ghost use Rattle.psci_platform.specs.Cores.{boot_place, core_named, core_word, field_of};
+ghost use Rattle.psci_platform.specs.Cores.{number_named};
+ghost use Rattle.psci_platform.specs.Swaps.{is_symmetric};
 
 use crate::description::Description;
+use crate::swap::other_core;
 use psci_board::{Board, Core, law_parents, law_paths, law_sizes, law_words};
 
 /// An affinity word that names no core and no power domain of any board.
@@ -13,18 +16,47 @@ const NO_CORE: u64 = 0xFFFF_FFFF;
 
 impl Description {
     /// The affinity word of the board for an MPIDR at this level.
-    pub fn core_word(&self, board: &Board, mpidr: u64, level: u32) -> u64
-        requires { length self.now.mpidrs ≡ cores board.now }
-        ensures { result ≡ core_word self.now board.now mpidr level }
+    pub fn core_word(&self, board: &Board, boot: Core, mpidr: u64, level: u32) -> u64
+        requires count { length self.now.mpidrs ≡ cores board.now }
+        requires boot { boot.number < cores board.now }
+        requires symmetric { is_symmetric board.now boot.number ≡ true }
+        ensures { result ≡ core_word self.now board.now boot.number mpidr level }
     {
-        match self.core_named(board, mpidr, level) {
+        match self.number_named(board, boot, mpidr, level) {
             Some(core) => affinity_word(board, core),
             None => NO_CORE,
         }
     }
 
-    /// The first core whose MPIDR has the fields of a word, at this level and above. The board has
-    /// such a level, or there is none.
+    /// The core that an MPIDR names at this level, by the firmware's number.
+    pub fn number_named(&self, board: &Board, boot: Core, mpidr: u64, level: u32) -> Option<Core>
+        requires count { length self.now.mpidrs ≡ cores board.now }
+        requires boot { boot.number < cores board.now }
+        requires symmetric { is_symmetric board.now boot.number ≡ true }
+        ensures core { option_map (λ core. core.number) result
+            ≡ number_named self.now board.now boot.number mpidr level }
+        ensures inside { IfSome result (λ core. core.number < cores board.now) }
+    {
+        let core = self.core_named(board, mpidr, level)?;
+        Some(other_core(board, boot, core))
+    }
+
+    /// The boot core, by its place in the order of the tree; core 0 where no core has the MPIDR.
+    pub fn boot_core(&self, board: &Board, boot: u64) -> Core
+        requires { length self.now.mpidrs ≡ cores board.now }
+        ensures place { result.number ≡ boot_place self.now board.now boot }
+        ensures inside { result.number < cores board.now }
+    {
+        law_sizes();
+        let _cores = board.cores();
+        match self.core_named(board, boot, 0) {
+            Some(core) => core,
+            None => Core { number: 0 },
+        }
+    }
+
+    /// The first core, in the order of the tree, whose MPIDR has the fields of a word, at this
+    /// level and above. The board has such a level, or there is none.
     pub fn core_named(&self, board: &Board, word: u64, level: u32) -> Option<Core>
         requires { length self.now.mpidrs ≡ cores board.now }
         ensures core { option_map (λ core. core.number) result

@@ -13,7 +13,7 @@ pub enum PlatformFault {
     SameMpidr,
     #[error("no core has the MPIDR of the boot core")]
     NoBootCore,
-    #[error("the boot core is not the first one of the tree")]
+    #[error("the tree looks another way from the boot core than from its first core")]
     LateBootCore,
     #[error("the platform takes down more levels than the board has")]
     TooManyLevels,

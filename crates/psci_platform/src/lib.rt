@@ -25,6 +25,7 @@ mod row;
 mod rows;
 mod state_checks;
 mod states;
+mod swap;
 mod translate;
 
 pub use asked::Asked;
@@ -33,7 +34,7 @@ pub use description::Description;
 pub use fault::PlatformFault;
 pub use firmware::PlatformFirmware;
 pub use functions::Functions;
-pub use law::{law_missing, law_mpidrs};
+pub use law::{law_boot_core, law_missing, law_mpidrs};
 pub use platform::Platform;
 pub use psci_abi::Regs;
 pub use psci_board::Board;

@@ -2,9 +2,11 @@
 
 use crate::description::Description;
 use crate::fault::PlatformFault;
+use crate::law::law_boot_core;
+use crate::swap::{moved, other_core};
 use crate::translate::Call;
 use psci_abi::Regs;
-use psci_board::{Board, Core};
+use psci_board::{Board, Core, Node};
 use psci_fw_spec::SuspendMode;
 use std::marker::Model;
 
@@ -14,6 +16,8 @@ pub struct Platform {
     description: Description,
     board: Board,
     boot: u64,
+    /// The boot core, by its place in the order of the tree.
+    boot_core: Core,
 }
 
 impl Model for Platform {
@@ -25,25 +29,29 @@ impl Model for Platform {
       description = p.description;
       board = p.board;
       boot = p.boot;
+      place = p.boot_core.number;
     } };
 
     ghost invariant = { λ p. IsPlatform (record {
       description = p.description;
       board = p.board;
       boot = p.boot;
+      place = p.boot_core.number;
     }) };
 }
 
 ghost use Rattle.std.specs.Prelude.{◌≡◌, ◌<◌, None, Some, IfOk, IfSome, MatchResult, option_map};
 ghost use Rattle.std.specs.Prelude.{slice_get};
 ghost use Rattle.psci_board.specs.Board.{cores};
-ghost use Rattle.psci_platform.specs.Cores.{core_named};
+ghost use Rattle.psci_platform.specs.Cores.{boot_place, number_named};
 ghost use Rattle.psci_platform.specs.Calls.{asked_for, regs_for};
 ghost use Rattle.psci_platform.specs.Faults.{fault_of};
+ghost use Rattle.psci_platform.specs.Swaps.{moved, swap_for};
 
 impl Platform {
     /// The platform of this description and this board, whose boot core has this MPIDR; or the
     /// first fault of the description.
+    #[tactic(auto, using(crate::proofs::Checked::some_count))]
     pub fn new(description: Description, board: Board, boot: u64) -> Result<Platform, PlatformFault>
         ensures fault { let fault = fault_of description board boot in
             MatchResult result (λ p. fault ≡ None) (λ e. fault ≡ Some e) }
@@ -51,16 +59,22 @@ impl Platform {
           description = description;
           board = board;
           boot = boot;
+          place = boot_place description board boot;
         }) }
     {
-        match description.fault(&board, boot) {
-            Some(fault) => Err(fault),
-            None => Ok(Platform {
-                description,
-                board,
-                boot,
-            }),
+        law_boot_core();
+        let _cores = board.cores();
+        if let Some(fault) = description.fault(&board, boot) {
+            return Err(fault);
         }
+        let boot_core = description.boot_core(&board, boot);
+        let platform = Platform {
+            description,
+            board,
+            boot,
+            boot_core,
+        };
+        Ok(platform)
     }
 
     /// The board.
@@ -74,17 +88,28 @@ impl Platform {
     #[tactic(auto, using(crate::proofs::Checked::some_count))]
     pub fn core(&self, mpidr: u64) -> Option<Core>
         ensures core { option_map (λ core. core.number) result
-            ≡ core_named self.now.description self.now.board mpidr 0 }
+            ≡ number_named self.now.description self.now.board self.now.place mpidr 0 }
         ensures inside { IfSome result (λ core. core.number < cores self.now.board) }
     {
-        self.description.core_named(&self.board, mpidr, 0)
+        self.description
+            .number_named(&self.board, self.boot_core, mpidr, 0)
     }
 
     /// The MPIDR of a core, if the platform has it: of one that a message names.
     pub fn mpidr(&self, core: Core) -> Option<u64>
-        ensures { result ≡ slice_get self.now.description.mpidrs core.number }
+        ensures { result ≡ slice_get self.now.description.mpidrs
+            (swap_for self.now.board self.now.place 0 core.number) }
     {
-        self.description.mpidrs.get(core.number as usize).copied()
+        let place = other_core(&self.board, self.boot_core, core).number;
+        self.description.mpidrs.get(place as usize).copied()
+    }
+
+    /// The place, in the order of the tree, of a core or power domain of the firmware, and the
+    /// firmware's of one of the tree: twice is not at all.
+    pub fn place(&self, node: Node) -> Node
+        ensures { result ≡ moved self.now.board self.now.place node }
+    {
+        moved(&self.board, self.boot_core, node)
     }
 
     /// The call of the firmware for a call of the platform, in this mode of the firmware.
@@ -95,9 +120,10 @@ impl Platform {
     #[tactic(auto, using(crate::proofs::Checked::some_count))]
     pub fn translate(&self, mode: SuspendMode, regs: Regs) -> Call
         ensures regs { result.regs
-            ≡ regs_for self.now.description self.now.board mode regs }
+            ≡ regs_for self.now.description self.now.board self.now.place mode regs }
         ensures asked { result.asked ≡ asked_for self.now.description mode regs }
     {
-        self.description.translate(&self.board, mode, regs)
+        self.description
+            .translate(&self.board, self.boot_core, mode, regs)
     }
 }

@@ -1,17 +1,18 @@
 //! The call of the firmware for a call of a platform.
 
-ghost use Rattle.std.specs.Prelude.{◌≡◌, length, if◌then◌else◌};
+ghost use Rattle.std.specs.Prelude.{◌≡◌, ◌<◌, true, length, if◌then◌else◌};
 ghost use Rattle.psci_abi.specs.Calls.{function_of};
 ghost use Rattle.psci_board.specs.Board.{cores};
 ghost use Rattle.psci_platform.specs.declared.asked.Asked.TheVariants as asks;
 ghost use Rattle.psci_platform.specs.Calls.{asked_by, asked_for, asks_states, feature_word};
 ghost use Rattle.psci_platform.specs.Calls.{first_argument, is_vendors, regs_for, reset_word};
+ghost use Rattle.psci_platform.specs.Swaps.{is_symmetric};
 
 use crate::asked::Asked;
 use crate::class::LEVELS;
 use crate::description::Description;
 use psci_abi::{Regs, Request, read};
-use psci_board::Board;
+use psci_board::{Board, Core};
 use psci_fw_spec::SuspendMode;
 
 /// A function word that no function has.
@@ -29,9 +30,11 @@ pub struct Call {
 impl Description {
     /// The call of the firmware for a call of the platform.
     #[tactic(auto, unfolding(crate::specs::Calls::regs_for, crate::specs::Calls::asked_for))]
-    pub fn translate(&self, board: &Board, mode: SuspendMode, regs: Regs) -> Call
-        requires { length self.now.mpidrs ≡ cores board.now }
-        ensures regs { result.regs ≡ regs_for self.now board.now mode regs }
+    pub fn translate(&self, board: &Board, boot: Core, mode: SuspendMode, regs: Regs) -> Call
+        requires count { length self.now.mpidrs ≡ cores board.now }
+        requires boot { boot.number < cores board.now }
+        requires symmetric { is_symmetric board.now boot.number ≡ true }
+        ensures regs { result.regs ≡ regs_for self.now board.now boot.number mode regs }
         ensures asked { result.asked ≡ asked_for self.now mode regs }
     {
         let request = read(regs);
@@ -44,7 +47,7 @@ impl Description {
                 asked: Asked::Nothing,
             };
         }
-        let (x1, asked) = self.first_argument(board, mode, regs.x1, request);
+        let (x1, asked) = self.first_argument(board, boot, mode, regs.x1, request);
         Call {
             regs: Regs { x1, ..regs },
             asked,
@@ -55,12 +58,16 @@ impl Description {
     fn first_argument(
         &self,
         board: &Board,
+        boot: Core,
         mode: SuspendMode,
         x1: u64,
         request: Request,
     ) -> (u64, Asked)
-        requires { length self.now.mpidrs ≡ cores board.now }
-        ensures argument { result.0 ≡ first_argument self.now board.now mode x1 request }
+        requires count { length self.now.mpidrs ≡ cores board.now }
+        requires boot { boot.number < cores board.now }
+        requires symmetric { is_symmetric board.now boot.number ≡ true }
+        ensures argument { result.0
+            ≡ first_argument self.now board.now boot.number mode x1 request }
         ensures asked { result.1 ≡ asked_by self.now mode request }
     {
         match request {
@@ -69,9 +76,11 @@ impl Description {
                 let word = self.word_for(board.format(), states);
                 (u64::from(word), asks_states(states))
             }
-            Request::CpuOn { target, .. } => (self.core_word(board, target, 0), Asked::Nothing),
+            Request::CpuOn { target, .. } => {
+                (self.core_word(board, boot, target, 0), Asked::Nothing)
+            }
             Request::AffinityInfo { target, level } | Request::NodeHwState { target, level } => {
-                (self.core_word(board, target, level), Asked::Nothing)
+                (self.core_word(board, boot, target, level), Asked::Nothing)
             }
             Request::Features { word } => (u64::from(self.feature_word(word)), Asked::Nothing),
             Request::SystemReset2 { reset_type, .. } => self.reset(reset_type),

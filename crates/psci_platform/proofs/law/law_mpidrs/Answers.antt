@@ -1,5 +1,6 @@
 -- The MPIDRs of a description that has no fault name its cores.
-use Rattle.psci_platform.proofs.Checked.{boot_is_first, some_count}
+use Rattle.psci_platform.proofs.Booting.{boot_is_zero}
+use Rattle.psci_platform.proofs.Checked.{some_count}
 use Rattle.psci_platform.proofs.Named.{core_is_named}
 use Rattle.psci_platform.proofs.law.law_mpidrs.Goals as goal
 
@@ -8,7 +9,11 @@ returns-clause-count c = some_count
 
 pub returns-clause-boot : goal.returns-clause-boot
 returns-clause-boot c = λ d b boot board none.
-    boot_is_first d b boot ((c.law_sizes.ensures b board).some 0) none
+    boot_is_zero d b boot (record {
+      sizes = c.law_sizes.ensures b board;
+      paths = c.law_paths.ensures b board;
+      parents = c.law_parents.ensures b board;
+    }) none
 
 pub returns-clause-core : goal.returns-clause-core
 returns-clause-core c = core_is_named

@@ -1,0 +1,281 @@
+-- A swap that passes its test is a renumbering of the board.
+use Rattle.std.proofs.Common.{◌≡◌, ℕ, zero, suc, ◌+◌, ◌-◌, ◌==◌, ◌<◌, ◌≤◌, ◌&&◌, ◌||◌, nat_lt}
+use Rattle.std.proofs.Common.{Bool, true, false, List, [], ◌∷◌, length, drop, sum, refl, sym, ap}
+use Rattle.std.proofs.Common.{◌∙◌, arith, inl, inr, Option, None, Some}
+use Rattle.std.specs.List.{list_all, range_with_len}
+use Rattle.std.proofs.lemmas.Bool.{cases_lt, eqb-true, le-ltb, lt-ltb, ltb-true}
+use Rattle.psci_board.specs.Board.{BoardValue, IsBoard, IsTree, cores, group_of, height, nodes}
+use Rattle.psci_board.specs.Board.{parent, place_above, size_below, up}
+use Rattle.psci_board.specs.declared.node.Node.{Node}
+use Rattle.psci_board.specs.Laws.{PathLaws}
+use Rattle.psci_board.proofs.Groups.{sum-cons}
+use Rattle.psci_fw_same.specs.Renumbered.{IsRenumbering}
+use Rattle.psci_platform.specs.Swaps.{goes_along, is_swapped, is_symmetric, moved, swap_for}
+
+-- Tests -----------------------------------------------------------------------------------------
+
+pub left : (s t : Bool) → (s && t) ≡ true → s ≡ true
+left true t e = refl
+left false t e = absurd (cc)
+
+pub right : (s t : Bool) → (s && t) ≡ true → t ≡ true
+right true t e = e
+right false t e = absurd (cc)
+
+none_right : (s t : Bool) → t ≡ false → (s && t) ≡ false
+none_right true t e = e
+none_right false t e = refl
+
+second : (s t : Bool) → s ≡ false → (s || t) ≡ true → t ≡ true
+second true t never e = absurd (cc)
+second false t never e = e
+
+pub all_of : (p : ℕ → Bool) (a n : ℕ) → ((k : ℕ) → a ≤ k → k < a + n → p k ≡ true)
+    → list_all p (range_with_len a n) ≡ true
+all_of p a zero each = refl
+all_of p a (suc n) each =
+    rw (each a (omega arith) (omega arith))
+    (all_of p (a + 1) n (λ k low high. each k (omega (arith, low)) (omega (arith, high))))
+
+pub not_all : (p : ℕ → Bool) (a n k : ℕ) → a ≤ k → k < a + n → p k ≡ false
+    → list_all p (range_with_len a n) ≡ false
+not_all p a zero k low high e = absurd (omega arith)
+not_all p a (suc n) k low high e = elim (cases_lt a k) [
+  | inl more ↦
+      none_right (p a) (list_all p (range_with_len (a + 1) n))
+      (not_all p (a + 1) n k (omega arith) (omega arith) e)
+  | inr here ↦
+      let same : k ≡ a = omega arith in
+      rw (ap p (sym same) ∙ e) refl
+]
+
+pub all_at : (p : ℕ → Bool) (a n k : ℕ) → list_all p (range_with_len a n) ≡ true → a ≤ k
+    → k < a + n → p k ≡ true
+all_at p a zero k e low high = absurd (omega arith)
+all_at p a (suc n) k e low high = elim (cases_lt a k) [
+  | inl more ↦
+      all_at p (a + 1) n k (right (p a) _ e) (omega arith) (omega arith)
+  | inr here ↦
+      let same : k ≡ a = omega arith in
+      rw same (left (p a) (list_all p (range_with_len (a + 1) n)) e)
+]
+
+-- Outside of the tree ---------------------------------------------------------------------------
+
+-- a node without a parent stays
+stays : (b : BoardValue) (boot : ℕ) (n : Node) → parent b n ≡ None → moved b boot n ≡ n
+unfolding moved
+stays b boot n e = rw e refl
+
+stays_high : (b : BoardValue) (boot level place : ℕ) → height b ≤ level
+    → swap_for b boot level place ≡ place
+stays_high b boot level place h =
+    let none : parent b (record { level = level; place = place }) ≡ None =
+    rw (le-ltb level (height b) h) refl in
+    ap (λ (n : Node). n.place) (stays b boot (record { level = level; place = place }) none)
+
+no_parent : (b : BoardValue) (level place : ℕ) → nodes b level ≤ place
+    → parent b (record { level = level; place = place }) ≡ None
+no_parent b level place h = elim (cases_lt level (height b)) [
+  | inl i ↦ rw (lt-ltb level (height b) i, le-ltb place (nodes b level) h) refl
+  | inr i ↦ rw (le-ltb level (height b) i) refl
+]
+
+stays_past : (b : BoardValue) (boot level place : ℕ) → nodes b level ≤ place
+    → swap_for b boot level place ≡ place
+stays_past b boot level place h =
+    ap (λ (n : Node). n.place)
+    (stays b boot (record { level = level; place = place }) (no_parent b level place h))
+
+-- past the last core there is no domain
+group_past : (w : List ℕ) (i : ℕ) → sum w ≤ i → length w ≤ group_of w i
+group_past [] i h = omega arith
+group_past (n ∷ ns) i h =
+    let all : sum (n ∷ ns) ≡ n + sum ns = sum-cons n ns in
+    let rest : length ns ≤ group_of ns (i - n) = group_past ns (i - n) (omega arith) in
+    let over : nat_lt i n ≡ false = le-ltb i n (omega arith) in
+    rw over (omega arith)
+
+place_past : (levels : List (List ℕ)) (l c : ℕ) → IsTree levels → l ≤ length levels
+    → size_below levels ≤ c → size_below (drop l levels) ≤ place_above levels l c
+place_past levels zero c tree low h = h
+place_past [] (suc l) c tree low h = absurd (omega arith)
+place_past (w ∷ ws) (suc l) c tree low h =
+    let rest : length w ≤ group_of w c = group_past w c h in
+    let many : length w ≡ size_below ws = tree.0 in
+    place_past ws l (group_of w c) tree.3 (omega arith) (omega arith)
+
+up_past : (b : BoardValue) (l c : ℕ) → IsBoard b → l ≤ height b → cores b ≤ c
+    → nodes b l ≤ up b l c
+unfolding up
+up_past b l c board low h = place_past b.levels l c board.tree low h
+
+-- Cores of the board ----------------------------------------------------------------------------
+
+-- what the test says of a core
+record Swapped (b : BoardValue) (boot c : ℕ) : Type 0 where
+  inside : swap_for b boot 0 c < cores b
+  back : swap_for b boot 0 (swap_for b boot 0 c) ≡ c
+  first : goes_along b boot c 1 ≡ true
+  second : goes_along b boot c 2 ≡ true
+  third : goes_along b boot c 3 ≡ true
+
+swapped : (b : BoardValue) (boot c : ℕ) → is_swapped b boot c ≡ true → Swapped b boot c
+swapped b boot c e =
+    let there : Bool = nat_lt (swap_for b boot 0 c) (cores b) in
+    let again : Bool = swap_for b boot 0 (swap_for b boot 0 c) == c in
+    let third : Bool = goes_along b boot c 3 && true in
+    let high : Bool = goes_along b boot c 2 && third in
+    let all : Bool = goes_along b boot c 1 && high in
+    let rest : (again && all) ≡ true = right there (again && all) e in
+    let alongs : all ≡ true = right again all rest in
+    let above : high ≡ true = right (goes_along b boot c 1) high alongs in
+    record {
+      inside = ltb-true (swap_for b boot 0 c) (cores b) (left there (again && all) e);
+      back = eqb-true (swap_for b boot 0 (swap_for b boot 0 c)) c (left again all rest);
+      first = left (goes_along b boot c 1) high alongs;
+      second = left (goes_along b boot c 2) third above;
+      third = left (goes_along b boot c 3) true (right (goes_along b boot c 2) third above);
+    }
+
+swapped_core : (b : BoardValue) (boot c : ℕ) → is_symmetric b boot ≡ true → c < cores b
+    → Swapped b boot c
+unfolding is_symmetric
+swapped_core b boot c e h =
+    swapped b boot c
+    (all_at (is_swapped b boot) 0 (cores b) c (right (swap_for b boot 0 boot == 0) _ e)
+    (omega arith) (omega arith))
+
+pub core_inside : (b : BoardValue) (boot c : ℕ) → is_symmetric b boot ≡ true → c < cores b
+    → swap_for b boot 0 c < cores b
+core_inside b boot c e h = (swapped_core b boot c e h).inside
+
+goes : (b : BoardValue) (boot c level : ℕ) → level ≤ height b → goes_along b boot c level ≡ true
+    → up b level (swap_for b boot 0 c) ≡ swap_for b boot level (up b level c)
+goes b boot c level h e =
+    eqb-true (up b level (swap_for b boot 0 c)) (swap_for b boot level (up b level c))
+    (second (nat_lt (height b) level) _ (le-ltb (height b) level h) e)
+
+along : (b : BoardValue) (boot c level : ℕ) → PathLaws b → Swapped b boot c → level ≤ height b
+    → level ≤ 3 → up b level (swap_for b boot 0 c) ≡ swap_for b boot level (up b level c)
+along b boot c zero paths is h most =
+    paths.core (swap_for b boot 0 c) ∙ ap (swap_for b boot 0) (sym (paths.core c))
+along b boot c (suc zero) paths is h most = goes b boot c 1 h is.first
+along b boot c (suc (suc zero)) paths is h most = goes b boot c 2 h is.second
+along b boot c (suc (suc (suc zero))) paths is h most = goes b boot c 3 h is.third
+along b boot c (suc (suc (suc (suc level)))) paths is h most = absurd (omega (arith, most))
+
+-- The renumbering -------------------------------------------------------------------------------
+
+-- What the proofs stand on.
+record Laws (b : BoardValue) (boot : ℕ) : Type 0 where
+  board : IsBoard b
+  paths : PathLaws b
+  is : is_symmetric b boot ≡ true
+
+moved_up : (b : BoardValue) (boot c level : ℕ) → Laws b boot → c < cores b → level ≤ height b
+    → up b level (swap_for b boot 0 c) ≡ swap_for b boot level (up b level c)
+moved_up b boot c level laws h i =
+    let high : height b ≤ 3 = laws.board.high in
+    along b boot c level laws.paths (swapped_core b boot c laws.is h) i (omega arith)
+
+-- a node of the board has a core below it, by which it moves and comes back
+record Moves (b : BoardValue) (boot level place : ℕ) : Type 0 where
+  inside : swap_for b boot level place < nodes b level
+  back : swap_for b boot level (swap_for b boot level place) ≡ place
+
+moves : (b : BoardValue) (boot level place : ℕ) → Laws b boot → level ≤ height b
+    → place < nodes b level → Moves b boot level place
+moves b boot level place laws h i =
+    let n : Node = record { level = level; place = place } in
+    let found = laws.paths.some_core n (record { level = h; place = i }) in
+    let c : ℕ = found.0 in
+    let at : up b level c ≡ place = found.2 in
+    let core = swapped_core b boot c laws.is found.1 in
+    let there : up b level (swap_for b boot 0 c) ≡ swap_for b boot level place =
+    moved_up b boot c level laws found.1 h ∙ ap (swap_for b boot level) at in
+    let again : up b level c ≡ swap_for b boot level (up b level (swap_for b boot 0 c)) =
+    ap (up b level) (sym core.back) ∙ moved_up b boot (swap_for b boot 0 c) level laws core.inside h
+    in
+    let below : up b level (swap_for b boot 0 c) < nodes b level =
+    laws.paths.inside (swap_for b boot 0 c) level core.inside h in
+    record {
+      inside = rw (← there) below;
+      back = sym (sym at ∙ (again ∙ ap (swap_for b boot level) there));
+    }
+
+back : (b : BoardValue) (boot level place : ℕ) → Laws b boot
+    → swap_for b boot level (swap_for b boot level place) ≡ place
+back b boot level place laws = elim (cases_lt (height b) level) [
+  | inl h ↦
+      let stay = stays_high b boot level place (omega (arith, h)) in
+      ap (swap_for b boot level) stay ∙ stay
+  | inr h ↦ elim (cases_lt place (nodes b level)) [
+    | inl i ↦ (moves b boot level place laws h i).back
+    | inr i ↦
+        let stay = stays_past b boot level place i in
+        ap (swap_for b boot level) stay ∙ stay
+  ]
+]
+
+inside : (b : BoardValue) (boot level place : ℕ) → Laws b boot
+    → nat_lt (swap_for b boot level place) (nodes b level) ≡ nat_lt place (nodes b level)
+inside b boot level place laws = elim (cases_lt (height b) level) [
+  | inl h ↦
+      ap (λ (k : ℕ). nat_lt k (nodes b level)) (stays_high b boot level place (omega (arith, h)))
+  | inr h ↦ elim (cases_lt place (nodes b level)) [
+    | inl i ↦
+        lt-ltb (swap_for b boot level place) (nodes b level)
+        (moves b boot level place laws h i).inside
+        ∙ sym (lt-ltb place (nodes b level) i)
+    | inr i ↦ ap (λ (k : ℕ). nat_lt k (nodes b level)) (stays_past b boot level place i)
+  ]
+]
+
+-- from the system up cores have one domain
+system_up : (b : BoardValue) (x y k : ℕ) → PathLaws b → x < cores b → y < cores b
+    → (level : ℕ) → level ≡ k + height b → up b level x ≡ up b level y
+system_up b x y zero paths h i level e =
+    let at : level ≡ height b = omega (arith, e) in
+    ap (λ (l : ℕ). up b l x) at
+    ∙ (paths.system x h ∙ (sym (paths.system y i) ∙ ap (λ (l : ℕ). up b l y) (sym at)))
+system_up b x y (suc k) paths h i level e =
+    let at : level ≡ suc (k + height b) = omega (arith, e) in
+    ap (λ (l : ℕ). up b l x) at
+    ∙ (paths.joined x y (k + height b) (system_up b x y k paths h i (k + height b) refl)
+    ∙ ap (λ (l : ℕ). up b l y) (sym at))
+
+above_system : (b : BoardValue) (x y level : ℕ) → PathLaws b → x < cores b → y < cores b
+    → height b ≤ level → up b level x ≡ up b level y
+above_system b x y level paths h i high =
+    system_up b x y (level - height b) paths h i level (omega (arith, high))
+
+above : (b : BoardValue) (boot level c : ℕ) → Laws b boot
+    → up b level (swap_for b boot 0 c) ≡ swap_for b boot level (up b level c)
+above b boot level c laws = elim (cases_lt (height b) level) [
+  | inl high ↦ elim (cases_lt c (cores b)) [
+    | inl h ↦
+        above_system b (swap_for b boot 0 c) c level laws.paths
+        (swapped_core b boot c laws.is h).inside h (omega (arith, high))
+        ∙ sym (stays_high b boot level (up b level c) (omega (arith, high)))
+    | inr h ↦
+        ap (up b level) (stays_past b boot 0 c h)
+        ∙ sym (stays_high b boot level (up b level c) (omega (arith, high)))
+  ]
+  | inr low ↦ elim (cases_lt c (cores b)) [
+    | inl h ↦ moved_up b boot c level laws h low
+    | inr h ↦
+        ap (up b level) (stays_past b boot 0 c h)
+        ∙ sym (stays_past b boot level (up b level c) (up_past b level c laws.board low h))
+  ]
+]
+
+pub renumbers_by_swap : (b : BoardValue) (boot : ℕ) → IsBoard b → PathLaws b
+    → is_symmetric b boot ≡ true → IsRenumbering b (swap_for b boot)
+renumbers_by_swap b boot board paths is =
+    let laws : Laws b boot = record { board = board; paths = paths; is = is } in
+    record {
+      back = λ level place. back b boot level place laws;
+      inside = λ level place. inside b boot level place laws;
+      above = λ level c. above b boot level c laws;
+    }

@@ -1,0 +1,131 @@
+-- Where the boot core is core 0, nothing is swapped.
+use Rattle.std.proofs.Common.{◌≡◌, ℕ, zero, suc, ◌+◌, ◌==◌, ◌<◌, ◌≤◌, ◌&&◌, ◌||◌, nat_lt, Bool}
+use Rattle.std.proofs.Common.{true, false, if◌then◌else◌, [], ◌∷◌, refl, sym, ap, ◌∙◌, arith}
+use Rattle.std.proofs.Common.{inl, inr, Option, None, Some, unwrap_or}
+use Rattle.std.specs.List.{list_all, range_with_len}
+use Rattle.std.specs.Prelude.{option_map}
+use Rattle.std.proofs.lemmas.Bool.{cases_eq, cases_lt, eq-eqb, le-ltb, lt-ltb, ne_eqb}
+use Rattle.std.proofs.lemmas.Option.{none-some, same_Some}
+use Rattle.psci_board.specs.Board.{BoardValue, child, child_number, children, cores, domain_of}
+use Rattle.psci_board.specs.Board.{first_child, height, parent, up}
+use Rattle.psci_board.specs.declared.node.Node.{Node}
+use Rattle.psci_board.specs.Laws.{ParentLaws, PathLaws, SizeLaws}
+use Rattle.psci_fw_same.specs.Renumbered.{swap}
+use Rattle.psci_platform.proofs.Swapped.{all_of}
+use Rattle.psci_platform.specs.Swaps.{goes_along, is_on_path, is_swapped, is_symmetric, moved}
+use Rattle.psci_platform.specs.Swaps.{moved_in, number_of, other_number, swap_for}
+
+-- What the proofs stand on.
+pub record Laws (b : BoardValue) : Type 0 where
+  pub sizes : SizeLaws b
+  pub paths : PathLaws b
+  pub parents : ParentLaws b
+
+up_first : (b : BoardValue) (l : ℕ) → Laws b → l ≤ height b → up b l 0 ≡ 0
+up_first b l laws h =
+    let n : Node = record { level = l; place = 0 } in
+    let found = laws.paths.some_core n (record { level = h; place = laws.sizes.some l }) in
+    let at : up b l found.0 ≡ 0 = found.2 in
+    let less : up b l 0 ≤ up b l found.0 = laws.paths.ordered 0 found.0 l (omega arith) in
+    omega (arith, at, less)
+
+-- the place of a node, where there is one
+abbrev place_in : Option Node → ℕ
+place_in None = 0
+place_in (Some n) = n.place
+
+-- a child of this place has no greater number
+child_place : (b : BoardValue) (n m : Node) (k : ℕ) → child b n k ≡ Some m → k ≤ m.place
+child_place b n m k e = elim (cases_lt k (children b n)) [
+  | inl h ↦
+      let is = ap place_in (rw (lt-ltb k (children b n) h) at e) in
+      omega (arith, is)
+  | inr h ↦ absurd (none-some m (rw (le-ltb k (children b n) h) at e))
+]
+
+-- the first node of a level is the first of its siblings
+first_number : (b : BoardValue) (l : ℕ) → Laws b → number_of b (domain_of b 0 l) ≡ 0
+first_number b l laws = elim (cases_lt l (height b)) [
+  | inl h ↦
+      let m : Node = domain_of b 0 l in
+      let n : Node = domain_of b 0 (suc l) in
+      let over : parent b m ≡ Some n = laws.parents.path 0 l (laws.sizes.some 0) h in
+      let k = laws.parents.numbered n m over in
+      let down = laws.parents.child n m k.0 over k.1 in
+      let least : k.0 ≤ up b l 0 = child_place b n m k.0 down in
+      let zero : up b l 0 ≡ 0 = up_first b l laws (omega (arith, h)) in
+      ap (λ (o : Option ℕ). unwrap_or o 0) k.1 ∙ omega (arith, least, zero)
+  | inr h ↦ rw (le-ltb l (height b) h) refl
+]
+
+swap_none : (m : ℕ) → swap 0 0 m ≡ m
+swap_none m = elim (cases_eq m 0) [
+  | inl e ↦ rw (eq-eqb m 0 e) (sym e)
+  | inr d ↦ rw (ne_eqb m 0 d) refl
+]
+
+if_same : (t : Bool) (x y : ℕ) → x ≡ y → (if t then x else y) ≡ y
+if_same true x y e = e
+if_same false x y e = refl
+
+own_number : (b : BoardValue) (above n : Node) → Laws b → other_number b 0 above n ≡ number_of b n
+own_number b above n laws =
+    if_same (is_on_path b 0 above) _ (number_of b n)
+    (ap (λ (x : ℕ). swap 0 x (number_of b n)) (first_number b n.level laws)
+    ∙ swap_none (number_of b n))
+
+own_child : (b : BoardValue) (above n : Node) → Laws b → parent b n ≡ Some above
+    → child b above (number_of b n) ≡ Some n
+own_child b above n laws e =
+    let k = laws.parents.numbered above n e in
+    ap (child b above) (ap (λ (o : Option ℕ). unwrap_or o 0) k.1)
+    ∙ laws.parents.child above n k.0 e k.1
+
+own_in : (b : BoardValue) (levels : ℕ) (n : Node) (o : Option Node) → Laws b → parent b n ≡ o
+    → moved_in b 0 levels n ≡ n
+own_in b zero n o laws e = refl
+own_in b (suc levels) n None laws e = rw e refl
+own_in b (suc levels) n (Some above) laws e =
+    let same : moved_in b 0 levels above ≡ above =
+    own_in b levels above (parent b above) laws refl in
+    let there : child b (moved_in b 0 levels above) (other_number b 0 above n) ≡ Some n =
+    ap (λ (m : Node). child b m (other_number b 0 above n)) same
+    ∙ (ap (child b above) (own_number b above n laws) ∙ own_child b above n laws e) in
+    rw e (rw there refl)
+
+pub own : (b : BoardValue) (n : Node) → Laws b → moved b 0 n ≡ n
+unfolding moved
+own b n laws = own_in b 3 n (parent b n) laws refl
+
+pub own_place : (b : BoardValue) (level place : ℕ) → Laws b → swap_for b 0 level place ≡ place
+own_place b level place laws =
+    ap (λ (n : Node). n.place) (own b (record { level = level; place = place }) laws)
+
+-- The test --------------------------------------------------------------------------------------
+
+or_right : (s t : Bool) → t ≡ true → (s || t) ≡ true
+or_right true t e = refl
+or_right false t e = e
+
+goes : (b : BoardValue) (c level : ℕ) → Laws b → goes_along b 0 c level ≡ true
+goes b c level laws =
+    or_right (nat_lt (height b) level) _
+    (eq-eqb (up b level (swap_for b 0 0 c)) (swap_for b 0 level (up b level c))
+    (ap (up b level) (own_place b 0 c laws) ∙ sym (own_place b level (up b level c) laws)))
+
+stays : (b : BoardValue) (c : ℕ) → Laws b → c < cores b → is_swapped b 0 c ≡ true
+stays b c laws h =
+    let is : swap_for b 0 0 c ≡ c = own_place b 0 c laws in
+    let inside : nat_lt (swap_for b 0 0 c) (cores b) ≡ true =
+    ap (λ (k : ℕ). nat_lt k (cores b)) is ∙ lt-ltb c (cores b) h in
+    let back : (swap_for b 0 0 (swap_for b 0 0 c) == c) ≡ true =
+    eq-eqb (swap_for b 0 0 (swap_for b 0 0 c)) c (ap (swap_for b 0 0) is ∙ is) in
+    rw (inside, back, goes b c 1 laws, goes b c 2 laws, goes b c 3 laws) refl
+
+pub boots_first : (b : BoardValue) → Laws b → is_symmetric b 0 ≡ true
+unfolding is_symmetric
+boots_first b laws =
+    let first : (swap_for b 0 0 0 == 0) ≡ true =
+    eq-eqb (swap_for b 0 0 0) 0 (own_place b 0 0 laws) in
+    rw first (all_of (is_swapped b 0) 0 (cores b) (λ k low high.
+    stays b k laws (omega (arith, high))))
