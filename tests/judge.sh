@@ -90,7 +90,7 @@ judged_live() {
     "$payload/run" --on qemu --seconds 60 --payload "$work/payload/payload.bin" --out "$work/live" \
         affinity features words standby lives > "$work/out" 2>&1 || fail "$payload/run"
     profile=$(profile_of qemu)
-    judged_as 6 "fault    1 x FEATURES of CPU_ON: theirs -1; ours 0" --profile "$profile" "$work"/live/*.record
+    judged_as 6 "1 x FEATURES of CPU_ON: theirs -1; ours 0" --profile "$profile" "$work"/live/*.record
     judged_as 0 "agrees    live/lives:" --profile "$profile" "$work/live/lives.record"
     judged_as 0 "agrees    live/standby" --profile "$profile" "$work/live/standby.record"
 }
