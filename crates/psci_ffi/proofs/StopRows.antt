@@ -3,6 +3,7 @@ use Rattle.std.proofs.Common.{◌≡◌, ℕ, Bool, true, false, List, [], ◌�
 use Rattle.std.specs.Prelude.{None, Some}
 use Rattle.psci_board.specs.Board.{BoardValue}
 use Rattle.psci_fw.specs.Seen.{FirmwareValue, seen}
+use Rattle.psci_fw_spec.specs.psci_claims.LastCore.{last_core_check, refusal, shallow, shallow_at}
 use Rattle.psci_fw_spec.specs.History.{values_of}
 use Rattle.psci_fw_spec.specs.Values.{Values}
 use Rattle.psci_fw_state.specs.Seen.{message_shown}
@@ -115,7 +116,7 @@ went-down = values (boots 2 ∷ asks 0 0x8400000f 1 ∷ on 0 0x101 ∷ enters ca
 
 down-with-its-cluster : (p : PolledView) → p.firmware.board ≡ board → seen p.firmware ≡ went-down
     → stop_read (Some p) 3 0x84000001 ≡ stop (3 ∷ 3 ∷ 0 ∷ 0 ∷ []) true
-unfolding computing
+unfolding computing last_core_check refusal shallow shallow_at
 down-with-its-cluster p is was =
     both (λ b v. stop_sent (message_shown b v 3) 0x84000001) p.firmware went-down is was
 
