@@ -25,20 +25,19 @@ fn start(life: u32, number: u32) -> Message {
     }
 }
 
-/// The domain of this level goes down.
-fn part(level: u32, generation: u64) -> Part {
-    Part {
-        level,
-        depth: 3,
-        generation,
-    }
-}
-
 /// Core 3 goes down, and its cluster with it.
 fn down(number: u32, generation: u64) -> Message {
     let mut parts = Parts::new();
-    parts.push(part(0, generation));
-    parts.push(part(1, generation));
+    parts.push(Part {
+        level: 0,
+        depth: 3,
+        generation,
+    });
+    parts.push(Part {
+        level: 1,
+        depth: 3,
+        generation,
+    });
     Message {
         kind: Kind::Down,
         core: CORE_3,

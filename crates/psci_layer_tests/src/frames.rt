@@ -1,9 +1,9 @@
 //! Known frames, and bytes that were tampered with.
 
-use crate::slots::{done, down};
-use psci_board::Board;
+use crate::slots::down;
+use psci_board::{Board, Core};
 use psci_link::{FRAME_LEN, Frame, FrameFault, decode, encode};
-use std::process::Abort;
+use psci_messages::{Ack, Kind, Message};
 use std::test::Fail;
 
 /// Core 3 goes down with its cluster.
@@ -40,7 +40,14 @@ fn known_frames(rt: HostRuntime) -> Result<(), Fail> {
     let message = Frame::Message(down());
     assert!(rt; encode(&message) == DOWN);
     assert!(rt; decode(&DOWN, &board) == Ok(message.copy()));
-    let ack = Frame::Ack(done(2));
+    let ack = Frame::Ack(Ack {
+        kind: Kind::Down,
+        core: Core { number: 3 },
+        life: 1,
+        number: 1,
+        applied: 2,
+        stale: false,
+    });
     assert!(rt; encode(&ack) == DONE);
     assert!(rt; decode(&DONE, &board) == Ok(ack.copy()));
     assert!(rt; ack != message);
@@ -50,33 +57,25 @@ fn known_frames(rt: HostRuntime) -> Result<(), Fail> {
     Ok(())
 }
 
-/// Core 3's frame has a fault once the byte at a place is another one.
-const FAULTS: [(usize, u8, FrameFault); 9] = [
-    (0, 0x51, FrameFault::Magic),
-    (1, 0x45, FrameFault::Magic),
-    (2, 0x05, FrameFault::Kind),
-    (12, 0, FrameFault::Count),
-    (12, 5, FrameFault::Count),
-    (52, 1, FrameFault::Unused),
-    (3, 4, FrameFault::Core),
-    (14, 4, FrameFault::Depth),
-    (23, 2, FrameFault::Level),
-];
-
-/// Core 3's frame, with another byte at a place.
-fn altered(place: usize, byte: u8) -> [u8; FRAME_LEN] {
-    let mut bytes = DOWN;
-    if let Some(old) = bytes.get_mut(place) {
-        *old = byte;
-    }
-    bytes
-}
-
 #[test]
 fn faults_and_other_lengths(rt: HostRuntime) -> Result<(), Fail> {
     let board = Board::read(rt.alloc(), SMALL)?;
-    for (place, byte, fault) in FAULTS {
-        assert!(rt; decode(&altered(place, byte), &board) == Err(fault));
+    for (place, byte, fault) in [
+        (0, 0x51, FrameFault::Magic),
+        (1, 0x45, FrameFault::Magic),
+        (2, 0x05, FrameFault::Kind),
+        (12, 0, FrameFault::Count),
+        (12, 5, FrameFault::Count),
+        (52, 1, FrameFault::Unused),
+        (3, 4, FrameFault::Core),
+        (14, 4, FrameFault::Depth),
+        (23, 2, FrameFault::Level),
+    ] {
+        let mut bytes = DOWN;
+        if let Some(altered) = bytes.get_mut(place) {
+            *altered = byte;
+        }
+        assert!(rt; decode(&bytes, &board) == Err(fault));
     }
     for length in 0..FRAME_LEN {
         assert!(rt; decode(&DOWN[..length], &board) == Err(FrameFault::Length));
@@ -96,22 +95,20 @@ fn is_sound(bytes: &[u8], board: &Board) -> bool {
     }
 }
 
-/// One byte of each frame is altered, to each value at each place.
-fn one_byte_is_altered(rt: &impl Abort, small: &Board, large: &Board) {
+#[test]
+fn one_and_two_bytes_altered(rt: HostRuntime) -> Result<(), Fail> {
+    let small = Board::read(rt.alloc(), SMALL)?;
+    let large = Board::read(rt.alloc(), LARGE)?;
     for frame in [DOWN, DONE, WHOLE] {
         for place in 0..FRAME_LEN {
             for byte in 0..=255 {
                 let mut bytes = frame;
                 bytes[place] = byte;
-                assert!(rt; is_sound(&bytes, small));
-                assert!(rt; is_sound(&bytes, large));
+                assert!(rt; is_sound(&bytes, &small));
+                assert!(rt; is_sound(&bytes, &large));
             }
         }
     }
-}
-
-/// Two bytes of each frame are altered, as they are drawn.
-fn two_bytes_are_altered(rt: &impl Abort, small: &Board, large: &Board) {
     let mut drawn: u32 = 1;
     for frame in [DOWN, DONE, WHOLE] {
         for _ in 0..20_000 {
@@ -121,17 +118,9 @@ fn two_bytes_are_altered(rt: &impl Abort, small: &Board, large: &Board) {
                 let [place, byte, ..] = drawn.to_be_bytes();
                 bytes[usize::from(place) % FRAME_LEN] = byte;
             }
-            assert!(rt; is_sound(&bytes, small));
-            assert!(rt; is_sound(&bytes, large));
+            assert!(rt; is_sound(&bytes, &small));
+            assert!(rt; is_sound(&bytes, &large));
         }
     }
-}
-
-#[test]
-fn one_and_two_bytes_altered(rt: HostRuntime) -> Result<(), Fail> {
-    let small = Board::read(rt.alloc(), SMALL)?;
-    let large = Board::read(rt.alloc(), LARGE)?;
-    one_byte_is_altered(&rt, &small, &large);
-    two_bytes_are_altered(&rt, &small, &large);
     Ok(())
 }

@@ -1,31 +1,29 @@
 //! A message until it is acknowledged.
 
-ghost use Rattle.std.specs.Prelude.{◌≡◌, ◌≤◌, length};
+ghost use Rattle.std.specs.Prelude.{◌≡◌, ◌≤◌};
 ghost use Rattle.psci_messages.specs.Slots.{slot_of};
 ghost use Rattle.psci_messages.specs.Slots.Slot.{OfCore};
 
 use psci_board::Core;
 use psci_claims::{Part, Parts};
 use psci_messages::{Ack, Kind, Message, Slots, Taken};
-use std::process::Abort;
 use std::test::Fail;
-
-/// The domain of this level goes down.
-fn part(level: u32) -> Part {
-    Part {
-        level,
-        depth: 3,
-        generation: 1,
-    }
-}
 
 /// Core 3 goes down with its cluster.
 pub(crate) fn down() -> Message
     ensures { slot_of result.kind result.core ≡ OfCore 3 }
 {
     let mut parts = Parts::new();
-    parts.push(part(0));
-    parts.push(part(1));
+    parts.push(Part {
+        level: 0,
+        depth: 3,
+        generation: 1,
+    });
+    parts.push(Part {
+        level: 1,
+        depth: 3,
+        generation: 1,
+    });
     Message {
         kind: Kind::Down,
         core: Core { number: 3 },
@@ -36,7 +34,7 @@ pub(crate) fn down() -> Message
 }
 
 /// So many parts of it were applied.
-pub(crate) fn done(applied: u8) -> Ack
+fn done(applied: u8) -> Ack
     requires { applied ≤ 4 }
 {
     Ack {
@@ -62,18 +60,11 @@ fn a_message_until_it_is_acknowledged(rt: HostRuntime) -> Result<(), Fail> {
     assert_eq!(rt; slots.take_ack(done(2)), Taken::Used);
     assert!(rt; slots.outstanding(3).is_none());
     assert_eq!(rt; slots.take_ack(done(2)), Taken::Old);
-    is_forgotten(&rt, &mut slots);
-    Ok(())
-}
-
-/// A message is forgotten as its core enters, and as a life begins.
-fn is_forgotten(rt: &impl Abort, slots: &mut Slots)
-    requires { length slots.old.cores ≡ 4 }
-{
-    slots.put(down());
+    slots.put(message.copy());
     slots.clear(Core { number: 3 });
     assert!(rt; slots.outstanding(3).is_none());
-    slots.put(down());
+    slots.put(message);
     slots.clear_all();
     assert!(rt; slots.outstanding(3).is_none());
+    Ok(())
 }
