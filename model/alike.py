@@ -258,4 +258,4 @@ def scripts():
             print(f"{base}: the model answers\n{fault or answers}")
             bad += 1
     print(f"{len(paths) - bad} machines are answered as wanted, {bad} not")
-    return 1 if bad or len(paths) < 10 else 0
+    return 1 if bad or len(paths) < 12 else 0
