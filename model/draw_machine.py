@@ -5,7 +5,8 @@ import firmware as fw
 from machine import CLASSES, FUNCTIONS
 
 LIMITS = "exec 0x40000000-0x40100000 boot 0x40000000 starts 1000 lives 3"
-TREES = ("1", "4", "16", "(2 2)", "(4 4)", "(1 3 2)", "((1 2) (2))", "((2 2) (2 2))", "((1) (1))")
+TREES = ("1", "4", "16", "(2 2)", "(4 4)", "(1 3 2)", "(2 4 2)", "((1 2) (2))", "((2 2) (2 2))", "((1) (1))",
+         "((2 1 1 2) (2 2))", "((1 2 3) (1 3 2))", "((1 2) (1 2) (2 1))")
 DEEP = ["power-down"]
 
 
@@ -75,7 +76,8 @@ class DrawMachine(random.Random):
         is_extended, mpidrs = self.randrange(2), self.mpidrs(tree)
         classes = [self.classes() if level else self.classes() or DEEP for level in range(4)]
         lines = [f"core {it:#x}" for it in mpidrs]
-        lines += [f"boot {self.rarely(mpidrs[0], mpidrs[-1], 0x9900) if mpidrs else 0:#x}",
+        boot = self.choice((mpidrs[0], mpidrs[0], self.choice(mpidrs))) if mpidrs else 0
+        lines += [f"boot {self.rarely(boot, 0x9900):#x}",
                   f"levels {self.rarely(height, height - 1, height + 1, 0)}"]
         lines += [f"class {level} {' '.join(it)}" for level, it in enumerate(classes) if it]
         many = self.rarely(self.choice((0, 1, 1, 2, 3)), 63, 64, 65)

@@ -92,6 +92,32 @@ def has(m, states):
     return all(it < 16 for it in states) and not any(states[level] for level in (1, 2, 3) if level > m.levels)
 
 
+# ---- the boot core, of which the firmware takes the number to be 0
+
+def moved(m, node):
+    """What a domain is swapped with, which need be none of the board: core 0 and the boot core, and the domains
+    above them, trade numbers with each other among their siblings, and every other one keeps its own."""
+    level, fields = node
+    if level == m.board.height:
+        return node
+    first, boot = m.board.path(0), m.board.path(m.mpidrs.index(m.boot))
+    number, above = fields[0], (level + 1, fields[1:])
+    if above in (first[level + 1], boot[level + 1]):
+        pair = [0, boot[level][1][0]]
+        number = pair[1 - pair.index(number)] if number in pair else number
+    return level, (number, *moved(m, above)[1])
+
+
+def other(m, core):
+    """The firmware's number of a core, and the core of a number of the firmware."""
+    return m.board.places.index(moved(m, (0, m.board.places[core]))[1])
+
+
+def symmetric(m):
+    """Each core and domain of the board is swapped with one of the board, and that with it."""
+    return all(moved(m, node) in m.board.nodes and moved(m, moved(m, node)) == node for node in m.board.nodes)
+
+
 def fault(m):
     """The number of the first fault of a description, 0 where there is none."""
     zero, down = (0xB0000000, 1 << 30) if m.board.extended else (0xFCFE0000, 1 << 16)
@@ -101,7 +127,7 @@ def fault(m):
         all(mpidr & 0xFF00FFFFFF == mpidr for mpidr in m.mpidrs),
         len(set(m.mpidrs)) == len(m.mpidrs),
         m.boot in m.mpidrs,
-        m.mpidrs[:1] == [m.boot],
+        m.boot in m.mpidrs[:len(m.board.cores)] and symmetric(m),
         m.levels <= m.board.height,
         all(line[0] == 0 and line == sorted(line) for line in m.depths),
         len(m.rows) <= 64,
@@ -127,12 +153,12 @@ def lacks(m, word):
 
 
 def named(m, word, level):
-    """The board's affinity word for an MPIDR."""
+    """The board's affinity word for an MPIDR, as the firmware numbers its cores."""
     if level > m.board.height:
         return NOTHING
     for core, mpidr in enumerate(m.mpidrs):
         if mpidr >> 8 * level == word >> 8 * level:
-            return sum(field << 8 * at for at, field in enumerate(m.board.places[core]))
+            return sum(field << 8 * at for at, field in enumerate(m.board.places[other(m, core)]))
     return NOTHING
 
 

@@ -1,10 +1,10 @@
 # Tests of machines that have words of their own (docs/BOARDS.md), beside the built program, sourced by ../test:
-# their texts and calls, stored ones of ten boards, records, and descriptions from device trees.
+# their texts and calls, stored ones of twelve boards, records, and descriptions from device trees.
 
 # each fault of a text, calls as they are made and answered, wrong words
 machine_texts() { by_python machine-texts; }
 
-# what Linux would ask of each of ten boards
+# what Linux would ask of each of ten boards, and calls of two whose boot core is not the first
 machine_boards() {
     local file name
     has_python "boards of examples/boards" || return

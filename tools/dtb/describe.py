@@ -6,12 +6,15 @@ it is, whole. Its level is that of its power domain; without one it is what its 
 """
 from collections import Counter
 
+from front import machine_faults, machines
+
 from .facts import Facts, NoBoard
 from .reader import Fault
 
 RETENTION, POWER_DOWN = "retention", "power-down"
 MOST_HEIGHT, MOST_BELOW, MOST_CORES, MOST_RANGES, MOST_STATES = 3, 16, 256, 4, 15
 ANYWHERE = (0x40000000, 0x80000000)
+LATE_BOOT_CORE = 5
 
 
 def fields_of(mpidr):
@@ -22,9 +25,10 @@ def fields_of(mpidr):
 class Description:
     """A description in the making: lines, and what is not told."""
 
-    def __init__(self, facts, boot=None, ranges=()):
+    def __init__(self, facts, boot=None, ranges=(), is_first=False):
         self.facts, self.unknown, self.ranges = facts, [], list(ranges)
-        self.cores = self.in_order(boot)
+        self.cores = self.in_order(boot, is_first)
+        self.boot = self.cores[0].mpidr if boot is None else boot
         self.made_up = 0
         self.paths = self.paths_of()
         self.height = max(len(path) for path in self.paths.values())
@@ -35,15 +39,15 @@ class Description:
         self.is_extended = self.format()
         self.number_states()
 
-    def in_order(self, boot):
-        """The cores, the boot core first."""
+    def in_order(self, boot, is_first):
+        """The cores in the tree's order; or the boot core first, and so are the domains above it."""
         cores = self.facts.cores
         if boot is None:
             self.unknown.append("which core boots: the first one in the tree is taken")
             return cores
         if boot not in [it.mpidr for it in cores]:
             raise NoBoard(f"it has no core with the MPIDR {boot:#x}")
-        return sorted(cores, key=lambda core: core.mpidr != boot)
+        return sorted(cores, key=lambda core: is_first and core.mpidr != boot)
 
     # ---- the tree of power domains
 
@@ -218,7 +222,7 @@ class Description:
         yield board
         yield f"# {self.facts.model}"
         yield from (f"core {it.mpidr:#x}" for it in cores)
-        yield f"boot {cores[0].mpidr:#x}"
+        yield f"boot {self.boot:#x}"
         yield f"levels {self.height - self.made_up}"
         for level, here in self.states.items():
             if here:
@@ -236,9 +240,22 @@ class Description:
         return "".join(f"{it}\n" for it in self.lines())
 
 
-def described(data, boot=None, ranges=()):
-    """The text of the machine of a device tree's bytes; raises why there is none."""
+def is_late(text):
+    """Whether a text has the fault that the tree has to be written with the boot core first."""
     try:
-        return Description(Facts(data), boot, ranges).text()
+        machine_faults.checked(text)
+    except machines.Fault as fault:
+        return fault.kind == "machine" and fault.number == LATE_BOOT_CORE
+    return False
+
+
+def described(data, boot=None, ranges=()):
+    """The text of the machine of a device tree's bytes, in its order where the boot core may stand there;
+    raises why there is none."""
+    try:
+        text = Description(Facts(data), boot, ranges).text()
+        if boot is not None and is_late(text):
+            text = Description(Facts(data), boot, ranges, True).text()
+        return text
     except Fault as fault:
         raise NoBoard(f"it is no device tree that can be read: {fault}") from fault

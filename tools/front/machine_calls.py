@@ -5,6 +5,7 @@ itself, and where its own order has it.
 """
 from . import plain
 from .machine_faults import depths, is_ask
+from .machine_swap import other_word
 from .machines import FUNCTIONS
 
 NO_FUNCTION, NO_STATE, NO_CORE = 0, 0xFFFFFFFF, 0xFFFFFFFF
@@ -35,9 +36,9 @@ def core_named(machine, word, level):
 
 
 def core_word(machine, word, level):
-    """The board's affinity word for an MPIDR at a level."""
+    """The board's affinity word for an MPIDR at a level: the firmware's, whichever core boots."""
     core = core_named(machine, word, level)
-    return NO_CORE if core is None else machine.cores[core]
+    return NO_CORE if core is None else other_word(machine, machine.cores[core])
 
 
 def can_ask(machine, mode, states):

@@ -1,5 +1,6 @@
 """The faults of a machine's description, in their order, each with where it stands."""
 from . import machines
+from .machine_swap import is_symmetric
 from .machines import At, Fault
 
 MOST_ROWS = 64
@@ -69,7 +70,7 @@ def no_boot_core(machine):
 
 
 def late_boot_core(machine):
-    if machine.mpidrs[0] != machine.boot:
+    if not is_symmetric(machine):
         yield place(machine, "boot", 0)
 
 

@@ -2,7 +2,8 @@
 
 Each line is translated as it comes, since which states can be asked for depends on the suspend mode,
 which the answers before it say. The script has the lines that docs/FORMATS.md has, but its calls are the
-machine's; a core may be named by its MPIDR, in hexadecimal, and a function by its name.
+machine's; a core may be named by its MPIDR, in hexadecimal, and a function by its name. In decimal it has
+the firmware's number, which is 0 of the boot core.
 """
 import os
 import re
@@ -14,6 +15,7 @@ from . import plain, told
 from .machine_calls import PLATFORM, function_of, translated
 from .programs import Stopped, complain
 from .machine_faults import checked
+from .machine_swap import other_core
 from .machines import Fault
 from .reader import Wrong
 from .running import ended, tell
@@ -90,7 +92,7 @@ class Translator:
         mpidr = int(match[1], 16)
         if mpidr not in self.machine.mpidrs:
             raise Wrong(match.start(1), f"no core of the machine has the MPIDR {match[1]}")
-        words.replace(match, 1, str(self.machine.mpidrs.index(mpidr)))
+        words.replace(match, 1, str(other_core(self.machine, self.machine.mpidrs.index(mpidr))))
 
     def call(self, line):
         """The plain call, whose registers are those that the firmware is called with."""
@@ -121,7 +123,7 @@ class Translator:
         """An answer in the machine's words: the MPIDR of a core, and which states or which reset of
         the vendor a stop is of."""
         def named(match):
-            return f"{match[1]}{self.machine.mpidrs[int(match[2])]:#x}"
+            return f"{match[1]}{self.machine.mpidrs[other_core(self.machine, int(match[2]))]:#x}"
 
         said = re.sub(r"(#\d+ (?:down|start|off|reset) )(\d+)", named, answer)
         if self.asked is None or not re.match(r"\d+ stop #", said):
