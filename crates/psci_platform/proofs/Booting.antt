@@ -50,7 +50,7 @@ boots d b boot none =
       ap (λ (m : ℕ). core_named d b m 0) (sym at.2) ∙ core_is_named d b boot at.0 none inside,
     )
 
-place_is : (d : DescriptionValue) (b : BoardValue) (boot k : ℕ) → core_named d b boot 0 ≡ Some k
+pub place_is : (d : DescriptionValue) (b : BoardValue) (boot k : ℕ) → core_named d b boot 0 ≡ Some k
     → boot_place d b boot ≡ k
 place_is d b boot k e = ap (λ (o : Option ℕ). unwrap_or o 0) e
 

@@ -7,7 +7,7 @@ use Rattle.std.specs.List.{count_by, list_any}
 use Rattle.std.specs.Prelude.{nat_lt, slice_index}
 use Rattle.psci_platform.specs.Faults.{has_same}
 
-counted_cons : (q : ℕ → Bool) (x : ℕ) (xs : List ℕ)
+pub counted_cons : (q : ℕ → Bool) (x : ℕ) (xs : List ℕ)
     → count_by q (x ∷ xs) ≡ cond (q x) 1 0 + count_by q xs
 counted_cons q x xs = sum_by-cons _ x xs
 

@@ -219,6 +219,13 @@ type_does_not_count : fault (with_word 0x00000000 0xFFFEFFFF) ≡ Some faults.Wr
 unfolding checking
 type_does_not_count = refl
 
+-- nor of a row in retention, whose words have a zero there
+type_of_retention_does_not_count : fault (record (with_word 0x00000000 0xFFFEFFFF) {
+  classes = level (Retention ∷ []) 14 ∷ down ∷ down ∷ down ∷ [];
+}) ≡ Some faults.WrongType
+unfolding checking
+type_of_retention_does_not_count = refl
+
 type_is_bit_30_in_the_extended_format : fault_of (with_word 0x00010000 0xFFFFFFFF)
     (record rk3399_board { format = Extended }) 0 ≡ Some faults.WrongType
 unfolding checking

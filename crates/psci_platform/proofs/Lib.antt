@@ -8,9 +8,14 @@ pub mod Counted
 mod FaultOrderRows
 mod FaultRows
 mod FunctionFaultRows
+mod IdentityRows
 pub mod Machines
 pub mod Missing
 pub mod Named
+pub mod OwnCalls
+pub mod OwnCores
+pub mod OwnFaults
+pub mod OwnStates
 pub mod Requests
 mod StateRows
 mod SwapRows

@@ -2,6 +2,7 @@ pub mod Calls
 pub mod Cores
 pub mod Described
 pub mod Faults
+pub mod Identity
 pub mod Platforms
 pub mod States
 pub mod Swaps

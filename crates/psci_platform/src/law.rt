@@ -6,10 +6,12 @@ ghost use Rattle.psci_abi.specs.Calls.{request_of};
 ghost use Rattle.psci_abi.specs.declared.registers.Regs.{Regs};
 ghost use Rattle.psci_abi.specs.declared.request.Request.TheVariants.{Unknown};
 ghost use Rattle.psci_abi.specs.psci_format.declared.format.Format.{Format};
-ghost use Rattle.psci_board.specs.Board.{BoardValue, IsBoard, core_of, cores, node_of};
+ghost use Rattle.psci_board.specs.Board.{BoardValue, IsBoard, address, core_of, cores, node_of};
 ghost use Rattle.psci_fw_same.specs.Renumbered.{CallsBy, IsRenumbering, reply_by, values_by};
 ghost use Rattle.psci_fw_spec.specs.declared.call.FwCall.TheVariants as calls;
 ghost use Rattle.psci_fw_spec.specs.declared.mode.SuspendMode.{SuspendMode};
+ghost use Rattle.psci_fw_spec.specs.declared.reply.FwReply.{FwReply};
+ghost use Rattle.psci_fw_spec.specs.After.{after};
 ghost use Rattle.psci_fw_spec.specs.Answer.{answer};
 ghost use Rattle.psci_fw_spec.specs.Values.{Values};
 ghost use Rattle.psci_state.specs.PowerState.{ask_of};
@@ -18,11 +20,13 @@ ghost use Rattle.psci_platform.specs.Cores.{boot_place, core_named, no_core};
 ghost use Rattle.psci_platform.specs.Cores.{number_named};
 ghost use Rattle.psci_platform.specs.Faults.{fault_of};
 ghost use Rattle.psci_platform.specs.Described.{DescriptionValue};
+ghost use Rattle.psci_platform.specs.Identity.{identity};
 ghost use Rattle.psci_platform.specs.States.{no_state};
 ghost use Rattle.psci_platform.specs.Swaps.{is_symmetric, swap_for};
 
 use psci_board::{law_parents, law_paths, law_sizes, law_words};
 use psci_fw_same::law_no_core_is_special;
+use psci_state::law_power_states;
 
 /// What a platform does not have is nothing to the firmware, whatever the board: a function that is
 /// not there is unknown, the word for a wrong power state is none, and the word for a wrong MPIDR
@@ -86,4 +90,30 @@ pub fn law_boot_core()
     law_parents();
     law_words();
     law_no_core_is_special();
+}
+
+/// A platform that names everything as the firmware does is the firmware: with the identity of a
+/// board each call of each core, whatever its registers, is answered as the firmware answers it
+/// untranslated, and leaves the same values.
+pub fn law_identity()
+    // The identity has no fault, and core 0 boots.
+    ensures faultless { (b : BoardValue) → IsBoard b
+        → fault_of (identity b) b (address b 0 0) ≡ None }
+    ensures boot { (b : BoardValue) → IsBoard b
+        → boot_place (identity b) b (address b 0 0) ≡ 0 }
+    // Each call is answered alike.
+    ensures answers { (b : BoardValue) (v : Values) (c : ℕ) (regs : Regs) → IsBoard b
+        → answer b v c (calls.Smc (regs_for (identity b) b 0 v.mode regs))
+        ≡ answer b v c (calls.Smc regs) }
+    // And it leaves the same, whatever was replied.
+    ensures after { (b : BoardValue) (v : Values) (c : ℕ) (regs : Regs) (mode : SuspendMode)
+        (reply : FwReply) → IsBoard b
+        → after b c (calls.Smc (regs_for (identity b) b 0 mode regs)) reply v
+        ≡ after b c (calls.Smc regs) reply v }
+{
+    law_sizes();
+    law_paths();
+    law_parents();
+    law_words();
+    law_power_states();
 }

@@ -34,7 +34,7 @@ pub use description::Description;
 pub use fault::PlatformFault;
 pub use firmware::PlatformFirmware;
 pub use functions::Functions;
-pub use law::{law_boot_core, law_missing, law_mpidrs};
+pub use law::{law_boot_core, law_identity, law_missing, law_mpidrs};
 pub use platform::Platform;
 pub use psci_abi::Regs;
 pub use psci_board::Board;

@@ -1,0 +1,259 @@
+-- A call of the identity of a board is answered as the firmware answers it.
+use Rattle.std.proofs.Common.{◌≡◌, ℕ, ◌%◌, ◌^◌, ◌<◌, true, List, Option, None, Some, refl, sym, ap}
+use Rattle.std.proofs.Common.{◌∙◌, subst, arith, if◌then◌else◌}
+use Rattle.std.specs.Prelude.{Result}
+use Rattle.psci_abi.specs.Calls.{argument, function_of, low_half, request_of}
+use Rattle.psci_abi.specs.declared.registers.Regs.{Regs}
+use Rattle.psci_abi.specs.declared.request.Request.{Request}
+use Rattle.psci_abi.specs.declared.request.Request.TheVariants as requests
+use Rattle.psci_board.specs.Board.{BoardValue, IsBoard, core_of, node_of}
+use Rattle.psci_board.specs.declared.node.Core.{Core}
+use Rattle.psci_board.specs.declared.node.Node.{Node}
+use Rattle.psci_board.specs.Laws.{ParentLaws, PathLaws, SizeLaws, WordLaws}
+use Rattle.psci_messages.specs.Message.{MessageValue}
+use Rattle.psci_state.specs.declared.fault.BadState.{BadState}
+use Rattle.psci_fw_spec.specs.declared.call.FwCall.TheVariants.{Smc}
+use Rattle.psci_fw_spec.specs.declared.mode.SuspendMode.{SuspendMode}
+use Rattle.psci_fw_spec.specs.declared.outcome.Act.{Act}
+use Rattle.psci_fw_spec.specs.declared.outcome.Act.TheVariants as acts
+use Rattle.psci_fw_spec.specs.declared.reply.FwReply.{FwReply}
+use Rattle.psci_fw_spec.specs.declared.reply.FwReply.TheVariants as replies
+use Rattle.psci_fw_spec.specs.After.{after, change}
+use Rattle.psci_fw_spec.specs.AffinityInfo.{affinity_of}
+use Rattle.psci_fw_spec.specs.Answer.{answer, reply_or}
+use Rattle.psci_fw_spec.specs.Calls.{call_fault, outcome_of}
+use Rattle.psci_fw_spec.specs.CpuOn.{start_outcome, target_among, target_of}
+use Rattle.psci_fw_spec.specs.CpuSuspend.{ask_named, suspend_asked}
+use Rattle.psci_fw_spec.specs.Effects.{Effect, Rests, effect_of, function_effect, rest_named}
+use Rattle.psci_fw_spec.specs.NodeHwState.{hw_state_of}
+use Rattle.psci_fw_spec.specs.Outcomes.{returns, stops}
+use Rattle.psci_fw_spec.specs.Values.{Values}
+use Rattle.psci_platform.specs.Calls.{feature_word, first_argument, is_there, regs_for}
+use Rattle.psci_platform.specs.Cores.{core_word}
+use Rattle.psci_platform.specs.Identity.{every_function, identity}
+use Rattle.psci_platform.specs.States.{states_of, word_for}
+use Rattle.psci_platform.proofs.OwnCores.{BoardLaws, core_same, node_same}
+use Rattle.psci_platform.proofs.OwnStates.{StateLaws, state_same}
+use Rattle.psci_platform.proofs.Requests.{request_with, short, with_first}
+
+-- What the proofs stand on.
+pub record Laws (b : BoardValue) : Type 0 where
+  pub tree : BoardLaws b
+  pub states : StateLaws
+
+-- Two requests that the firmware reads alike: of one function, with words that ask or name the
+-- same, or the same request.
+abbrev Alike : BoardValue → Request → Request → Type 0
+Alike b (requests.CpuSuspend state entry_point context) q =
+    (w : ℕ) × (ask_named b w ≡ ask_named b state) × (q ≡ requests.CpuSuspend w entry_point context)
+Alike b (requests.CpuOn target entry_point context) q =
+    (w : ℕ) × (core_of b w ≡ core_of b target) × (q ≡ requests.CpuOn w entry_point context)
+Alike b (requests.AffinityInfo target level) q =
+    (w : ℕ) × (node_of b w level ≡ node_of b target level) × (q ≡ requests.AffinityInfo w level)
+Alike b (requests.NodeHwState target level) q =
+    (w : ℕ) × (node_of b w level ≡ node_of b target level) × (q ≡ requests.NodeHwState w level)
+Alike b r q = q ≡ r
+
+-- the request that the firmware is asked with for a request
+abbrev told : BoardValue → SuspendMode → Regs → Request → Request
+told b mode regs r = with_first (argument regs (first_argument (identity b) b 0 mode regs.x1 r)) r
+
+-- the word of a request
+abbrev word_in : Request → ℕ
+word_in (requests.CpuSuspend state entry_point context) = state
+word_in (requests.Features word) = word
+word_in (requests.SystemReset2 reset_type cookie) = reset_type
+word_in r = 0
+
+half_small : (x : ℕ) → low_half x < 2 ^ 32
+half_small x = omega arith
+
+-- a word of 32 bits is read as it is
+half_of : (regs : Regs) (w : ℕ) → w < 2 ^ 32 → low_half (argument regs w) ≡ w
+half_of regs w small = ap low_half (short regs w small) ∙ omega (arith, small)
+
+-- every function is there
+all_there : (r : Request) → is_there every_function r ≡ true
+all_there requests.Version = refl
+all_there (requests.CpuSuspend state e c) = refl
+all_there requests.CpuOff = refl
+all_there (requests.CpuOn target e c) = refl
+all_there (requests.AffinityInfo target level) = refl
+all_there requests.MigrateInfoType = refl
+all_there requests.SystemOff = refl
+all_there requests.SystemReset = refl
+all_there (requests.Features word) = refl
+all_there (requests.NodeHwState target level) = refl
+all_there (requests.SystemSuspend e c) = refl
+all_there (requests.SetSuspendMode m) = refl
+all_there (requests.SystemReset2 t c) = refl
+all_there requests.Unknown = refl
+
+feature_same : (b : BoardValue) (word : ℕ) → feature_word (identity b) word ≡ word
+feature_same b word = rw (all_there (function_of word 0 0 0)) refl
+
+alike_at : (b : BoardValue) (mode : SuspendMode) (regs : Regs) (r : Request) → Laws b
+    → with_first (argument regs regs.x1) r ≡ r → Alike b r (told b mode regs r)
+alike_at b mode regs requests.Version laws own = refl
+alike_at b mode regs (requests.CpuSuspend state e c) laws own =
+    let is : low_half (argument regs regs.x1) ≡ state = ap word_in own in
+    let small : state < 2 ^ 32 = omega (arith, is, half_small (argument regs regs.x1)) in
+    let w = word_for (identity b) b.format (states_of (identity b) mode state) in
+    let same = state_same b mode state laws.states small in
+    (low_half (argument regs w), ap (ask_named b) (half_of regs w same.0) ∙ same.1, refl)
+alike_at b mode regs requests.CpuOff laws own = refl
+alike_at b mode regs (requests.CpuOn target e c) laws own =
+    let w = core_word (identity b) b 0 target 0 in
+    let same = node_same b target 0 laws.tree in
+    (argument regs w, ap (core_of b) (short regs w same.0) ∙ core_same b target laws.tree, refl)
+alike_at b mode regs (requests.AffinityInfo target level) laws own =
+    let w = core_word (identity b) b 0 target level in
+    let same = node_same b target level laws.tree in
+    (argument regs w, ap (λ (x : ℕ). node_of b x level) (short regs w same.0) ∙ same.1, refl)
+alike_at b mode regs requests.MigrateInfoType laws own = refl
+alike_at b mode regs requests.SystemOff laws own = refl
+alike_at b mode regs requests.SystemReset laws own = refl
+alike_at b mode regs (requests.Features word) laws own =
+    let is : low_half (argument regs regs.x1) ≡ word = ap word_in own in
+    let small : word < 2 ^ 32 = omega (arith, is, half_small (argument regs regs.x1)) in
+    let w = first_argument (identity b) b 0 mode regs.x1 (requests.Features word) in
+    let same : w ≡ word = feature_same b word in
+    ap (λ (x : ℕ). requests.Features (low_half (argument regs x))) same
+    ∙ ap requests.Features (half_of regs word small)
+alike_at b mode regs (requests.NodeHwState target level) laws own =
+    let w = core_word (identity b) b 0 target level in
+    let same = node_same b target level laws.tree in
+    (argument regs w, ap (λ (x : ℕ). node_of b x level) (short regs w same.0) ∙ same.1, refl)
+alike_at b mode regs (requests.SystemSuspend e c) laws own = own
+alike_at b mode regs (requests.SetSuspendMode m) laws own = own
+alike_at b mode regs (requests.SystemReset2 t c) laws own =
+    let is : low_half (argument regs regs.x1) ≡ t = ap word_in own in
+    let small : t < 2 ^ 32 = omega (arith, is, half_small (argument regs regs.x1)) in
+    ap (λ (x : ℕ). requests.SystemReset2 x c) (half_of regs t small)
+alike_at b mode regs requests.Unknown laws own = refl
+
+-- the call that the firmware is asked with for a call
+call_alike : (b : BoardValue) (mode : SuspendMode) (regs : Regs) → Laws b
+    → Alike b (request_of regs) (request_of (regs_for (identity b) b 0 mode regs))
+unfolding regs_for
+call_alike b mode regs laws =
+    let r = request_of regs in
+    let own : with_first (argument regs regs.x1) r ≡ r = sym (request_with regs regs.x1) in
+    rw (all_there r) (subst (λ (q : Request). Alike b r q)
+    (sym (request_with regs (first_argument (identity b) b 0 mode regs.x1 r)))
+    (alike_at b mode regs r laws own))
+
+-- Answers ---------------------------------------------------------------------------------------
+
+outcome_alike : (b : BoardValue) (v : Values) (c : ℕ) (r q : Request) → Alike b r q
+    → outcome_of b v c q ≡ outcome_of b v c r
+unfolding outcome_of target_of
+outcome_alike b v c (requests.CpuSuspend state e x) q same =
+    ap (outcome_of b v c) same.2
+    ∙ ap (λ (a : Result (List ℕ) BadState). if v.halting then stops else suspend_asked b v c e a)
+    same.1
+outcome_alike b v c (requests.CpuOn target e x) q same =
+    ap (outcome_of b v c) same.2
+    ∙ ap (λ (o : Option Core). if v.halting then stops
+    else start_outcome v (target_among b v e o)) same.1
+outcome_alike b v c (requests.AffinityInfo target level) q same =
+    ap (outcome_of b v c) same.2
+    ∙ ap (λ (o : Option Node). if v.halting then stops else returns (affinity_of b v o)) same.1
+outcome_alike b v c (requests.NodeHwState target level) q same =
+    ap (outcome_of b v c) same.2
+    ∙ ap (λ (o : Option Node). if v.halting then stops else returns (hw_state_of v o)) same.1
+outcome_alike b v c r q same = ap (outcome_of b v c) same
+
+pub answer_same : (b : BoardValue) (v : Values) (c : ℕ) (regs : Regs) → Laws b
+    → answer b v c (Smc (regs_for (identity b) b 0 v.mode regs)) ≡ answer b v c (Smc regs)
+unfolding answer
+answer_same b v c regs laws =
+    ap (reply_or (call_fault b v c))
+    (outcome_alike b v c (request_of regs) (request_of (regs_for (identity b) b 0 v.mode regs))
+    (call_alike b v.mode regs laws))
+
+-- What is kept ----------------------------------------------------------------------------------
+
+-- a function that ended so comes down to the same
+suspend_effect : (b : BoardValue) (c w state e x : ℕ) (act : Act) (sent : Option MessageValue)
+    → ask_named b w ≡ ask_named b state
+    → function_effect b c (requests.CpuSuspend w e x) act sent
+    ≡ function_effect b c (requests.CpuSuspend state e x) act sent
+suspend_effect b c w state e x acts.Stop (Some m) same =
+    ap (λ (a : Result (List ℕ) BadState).
+    Rests c (rest_named (record { address = e; context = x }) a) m) same
+suspend_effect b c w state e x acts.Stop None same = refl
+suspend_effect b c w state e x (acts.Return code) (Some m) same = refl
+suspend_effect b c w state e x (acts.Return code) None same = refl
+suspend_effect b c w state e x act sent same = refl
+
+on_effect : (b : BoardValue) (c w target e x : ℕ) (act : Act) (sent : Option MessageValue)
+    → function_effect b c (requests.CpuOn w e x) act sent
+    ≡ function_effect b c (requests.CpuOn target e x) act sent
+on_effect b c w target e x acts.Stop (Some m) = refl
+on_effect b c w target e x acts.Stop None = refl
+on_effect b c w target e x (acts.Return code) (Some m) = refl
+on_effect b c w target e x (acts.Return code) None = refl
+on_effect b c w target e x act sent = refl
+
+info_effect : (b : BoardValue) (c w target level : ℕ) (act : Act) (sent : Option MessageValue)
+    → function_effect b c (requests.AffinityInfo w level) act sent
+    ≡ function_effect b c (requests.AffinityInfo target level) act sent
+info_effect b c w target level acts.Stop (Some m) = refl
+info_effect b c w target level acts.Stop None = refl
+info_effect b c w target level (acts.Return code) (Some m) = refl
+info_effect b c w target level (acts.Return code) None = refl
+info_effect b c w target level act sent = refl
+
+hw_effect : (b : BoardValue) (c w target level : ℕ) (act : Act) (sent : Option MessageValue)
+    → function_effect b c (requests.NodeHwState w level) act sent
+    ≡ function_effect b c (requests.NodeHwState target level) act sent
+hw_effect b c w target level acts.Stop (Some m) = refl
+hw_effect b c w target level acts.Stop None = refl
+hw_effect b c w target level (acts.Return code) (Some m) = refl
+hw_effect b c w target level (acts.Return code) None = refl
+hw_effect b c w target level act sent = refl
+
+effect_alike : (b : BoardValue) (c : ℕ) (r q : Request) (act : Act) (sent : Option MessageValue)
+    → Alike b r q → function_effect b c q act sent ≡ function_effect b c r act sent
+effect_alike b c (requests.CpuSuspend state e x) q act sent same =
+    ap (λ (p : Request). function_effect b c p act sent) same.2
+    ∙ suspend_effect b c same.0 state e x act sent same.1
+effect_alike b c (requests.CpuOn target e x) q act sent same =
+    ap (λ (p : Request). function_effect b c p act sent) same.2
+    ∙ on_effect b c same.0 target e x act sent
+effect_alike b c (requests.AffinityInfo target level) q act sent same =
+    ap (λ (p : Request). function_effect b c p act sent) same.2
+    ∙ info_effect b c same.0 target level act sent
+effect_alike b c (requests.NodeHwState target level) q act sent same =
+    ap (λ (p : Request). function_effect b c p act sent) same.2
+    ∙ hw_effect b c same.0 target level act sent
+effect_alike b c r q act sent same = ap (λ (p : Request). function_effect b c p act sent) same
+
+effect_same : (b : BoardValue) (c : ℕ) (regs other : Regs) (reply : FwReply)
+    → Alike b (request_of regs) (request_of other)
+    → effect_of b c (Smc other) reply ≡ effect_of b c (Smc regs) reply
+effect_same b c regs other (replies.Out o) same =
+    effect_alike b c (request_of regs) (request_of other) o.act o.message same
+effect_same b c regs other (replies.Taken t) same = refl
+effect_same b c regs other (replies.Fault fault) same = refl
+
+pub after_same : (b : BoardValue) (c : ℕ) (regs : Regs) (mode : SuspendMode) (reply : FwReply)
+    (v : Values) → Laws b
+    → after b c (Smc (regs_for (identity b) b 0 mode regs)) reply v
+    ≡ after b c (Smc regs) reply v
+unfolding after
+after_same b c regs mode reply v laws =
+    ap (λ (e : Effect). change b e v)
+    (effect_same b c regs (regs_for (identity b) b 0 mode regs) reply (call_alike b mode regs laws))
+
+pub laws_for : (b : BoardValue) → IsBoard b → SizeLaws b → PathLaws b → ParentLaws b → WordLaws b
+    → StateLaws → Laws b
+laws_for b board sizes paths parents words states = record {
+  tree = record {
+    board = board;
+    tree = record { sizes = sizes; paths = paths; parents = parents };
+    words = words;
+  };
+  states = states;
+}

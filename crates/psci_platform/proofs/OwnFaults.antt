@@ -1,0 +1,173 @@
+-- The identity of a board has no fault.
+use Rattle.std.proofs.Common.{◌≡◌, ℕ, zero, suc, ◌+◌, ◌*◌, ◌/◌, ◌%◌, ◌^◌, ◌<◌, ◌≤◌, ◌==◌, Bool, true}
+use Rattle.std.proofs.Common.{false, cond, List, [], ◌∷◌, length, map, nat_lt, Option, None, Some, refl, sym, ap}
+use Rattle.std.proofs.Common.{◌∙◌, arith}
+use Rattle.std.proofs.lemmas.Bool.{eq-eqb, eqb-true, le-ltb}
+use Rattle.std.proofs.lemmas.List.Folds.{list_all-map, list_any_at}
+use Rattle.std.proofs.lemmas.Option.{same_Some}
+use Rattle.std.specs.List.{count_by, list_all, list_any, range_with_len}
+use Rattle.std.specs.Prelude.{slice_index}
+use Rattle.psci_abi.specs.psci_format.declared.format.Format.{Format}
+use Rattle.psci_abi.specs.psci_format.declared.format.Format.TheVariants.{Original, Extended}
+use Rattle.psci_board.specs.Board.{BoardValue, address, core_of, cores, height}
+use Rattle.psci_board.specs.declared.node.Core.{Core}
+use Rattle.psci_state.specs.Ask.{deepest_of}
+use Rattle.psci_platform.specs.Cores.{boot_place, core_named}
+use Rattle.psci_platform.specs.Described.{DescriptionValue}
+use Rattle.psci_platform.specs.Faults.{boot_fault_of, fault_of, has_boot, has_same, is_mpidr}
+use Rattle.psci_platform.specs.Faults.{never_falls, row_fault_of, state_fault_of}
+use Rattle.psci_platform.specs.Identity.{asks_up_to, every_function, identity, own_classes}
+use Rattle.psci_platform.specs.Identity.{row_asking}
+use Rattle.psci_platform.proofs.Booting.{place_is}
+use Rattle.psci_platform.proofs.Counted.{counted_cons}
+use Rattle.psci_platform.proofs.Named.{core_is_named}
+use Rattle.psci_platform.proofs.OwnCores.{BoardLaws, own_count, own_word, own_words}
+use Rattle.psci_platform.proofs.Swapped.{all_of}
+
+-- Rows and what follows them --------------------------------------------------------------------
+
+-- the identity of a board of this format and height, whatever the MPIDRs
+abbrev own : List ℕ → Format → ℕ → DescriptionValue
+own mpidrs format height = record {
+  mpidrs = mpidrs;
+  levels = height;
+  classes = own_classes ∷ own_classes ∷ own_classes ∷ own_classes ∷ [];
+  rows = map (row_asking format) (asks_up_to height);
+  system = deepest_of height;
+  functions = every_function;
+  resets = [];
+}
+
+rows_fine : (mpidrs : List ℕ) (b : BoardValue) (format : Format) (levels : List (List ℕ))
+    → 0 < length levels → length levels ≤ 3
+    → row_fault_of (own mpidrs format (length levels))
+    (record b { levels = levels; format = format }) ≡ None
+unfolding row_fault_of state_fault_of asks_up_to
+rows_fine mpidrs b format [] low high = absurd (omega (arith, low))
+rows_fine mpidrs b Original (x ∷ []) low high = refl
+rows_fine mpidrs b Extended (x ∷ []) low high = refl
+rows_fine mpidrs b Original (x ∷ y ∷ []) low high = refl
+rows_fine mpidrs b Extended (x ∷ y ∷ []) low high = refl
+rows_fine mpidrs b Original (x ∷ y ∷ z ∷ []) low high = refl
+rows_fine mpidrs b Extended (x ∷ y ∷ z ∷ []) low high = refl
+rows_fine mpidrs b format (x ∷ y ∷ z ∷ w ∷ more) low high = absurd (omega (arith, high))
+
+-- MPIDRs ----------------------------------------------------------------------------------------
+
+is_short : (x : ℕ) → x < 2 ^ 24 → is_mpidr x ≡ true
+is_short x small =
+    let high : (x / 2 ^ 40 == 0) ≡ true = eq-eqb (x / 2 ^ 40) 0 (omega (arith, small)) in
+    let middle : (x / 2 ^ 24 % 2 ^ 8 == 0) ≡ true =
+    eq-eqb (x / 2 ^ 24 % 2 ^ 8) 0 (omega (arith, small)) in
+    rw (high, middle) refl
+
+are_short : (b : BoardValue) → BoardLaws b → list_all is_mpidr (own_words b) ≡ true
+are_short b laws =
+    list_all-map is_mpidr (address b 0) (range_with_len 0 (cores b))
+    ∙ all_of (λ c. is_mpidr (address b 0 c)) 0 (cores b)
+    (λ c low high. is_short (address b 0 c) (laws.words.short c (omega (arith, high))))
+
+-- a number that f does not give is counted nowhere
+never : (f : ℕ → ℕ) (x n a : ℕ) → ((i : ℕ) → a ≤ i → i < a + n → (f i == x) ≡ false)
+    → count_by (λ y. y == x) (map f (range_with_len a n)) ≡ 0
+never f x zero a apart = refl
+never f x (suc n) a apart =
+    let none : cond {A = ℕ} (f a == x) 1 0 ≡ 0 =
+    ap (λ (t : Bool). cond {A = ℕ} t 1 0) (apart a (omega arith) (omega arith)) in
+    omega (
+      arith,
+      none,
+      counted_cons (λ y. y == x) (f a) (map f (range_with_len (a + 1) n)),
+      never f x n (a + 1) (λ i low high. apart i (omega (arith, low)) (omega (arith, high))),
+    )
+
+unequal : (x y : ℕ) (t : Bool) → (x == y) ≡ t → (x ≡ y → ⊥) → (x == y) ≡ false
+unequal x y true e apart = absurd (apart (eqb-true x y e))
+unequal x y false e apart = e
+
+-- different places have different words
+abbrev Differ : (ℕ → ℕ) → ℕ → Type 0
+Differ f most = (i j : ℕ) → i < most → j < most → f i ≡ f j → i ≡ j
+
+once_by : (f : ℕ → ℕ) (most x n a : ℕ) (t : Bool) → (f a == x) ≡ t → Differ f most
+    → a + suc n ≤ most → count_by (λ y. y == x) (map f (range_with_len (a + 1) n)) ≤ 1
+    → count_by (λ y. y == x) (map f (range_with_len a (suc n))) ≤ 1
+once_by f most x n a true e differ inside rest =
+    let is : f a ≡ x = eqb-true (f a) x e in
+    let one : cond {A = ℕ} (f a == x) 1 0 ≡ 1 = ap (λ (t : Bool). cond {A = ℕ} t 1 0) e in
+    omega (
+      arith,
+      one,
+      counted_cons (λ y. y == x) (f a) (map f (range_with_len (a + 1) n)),
+      never f x n (a + 1) (λ i low high. unequal (f i) x (f i == x) refl (λ same.
+      let at = differ i a (omega (arith, high, inside)) (omega (arith, inside)) (same ∙ sym is) in
+      absurd (omega (arith, at, low)))),
+    )
+once_by f most x n a false e differ inside rest =
+    let none : cond {A = ℕ} (f a == x) 1 0 ≡ 0 = ap (λ (t : Bool). cond {A = ℕ} t 1 0) e in
+    omega (
+      arith,
+      none,
+      counted_cons (λ y. y == x) (f a) (map f (range_with_len (a + 1) n)),
+      rest,
+    )
+
+once : (f : ℕ → ℕ) (most x n a : ℕ) → Differ f most → a + n ≤ most
+    → count_by (λ y. y == x) (map f (range_with_len a n)) ≤ 1
+once f most x zero a differ inside = omega arith
+once f most x (suc n) a differ inside =
+    once_by f most x n a (f a == x) refl differ inside
+    (once f most x n (a + 1) differ (omega (arith, inside)))
+
+none_passes : (p : ℕ → Bool) (xs : List ℕ) → ((x : ℕ) → p x ≡ false) → list_any p xs ≡ false
+none_passes p [] fails = refl
+none_passes p (x ∷ xs) fails = rw (fails x) (none_passes p xs fails)
+
+one_number : (i j : ℕ)
+    → ◌≡◌ {A = Option Core} (Some (record { number = i })) (Some (record { number = j })) → i ≡ j
+one_number i j e = ap (λ (c : Core). c.number) (same_Some _ _ e)
+
+own_differ : (b : BoardValue) → BoardLaws b → Differ (address b 0) (cores b)
+own_differ b laws i j low high same =
+    let here = laws.words.core_named i low in
+    let there = laws.words.core_named j high in
+    one_number i j (sym here ∙ (ap (core_of b) same ∙ there))
+
+own_once : (b : BoardValue) → BoardLaws b → has_same (own_words b) ≡ false
+own_once b laws =
+    none_passes (λ x. nat_lt 1 (count_by (λ y. y == x) (own_words b))) (own_words b)
+    (λ x. le-ltb 1 (count_by (λ y. y == x) (own_words b))
+    (once (address b 0) (cores b) x (cores b) 0 (own_differ b laws) (omega arith)))
+
+-- The whole -------------------------------------------------------------------------------------
+
+first_word : (b : BoardValue) → BoardLaws b → slice_index (own_words b) 0 ≡ address b 0 0
+first_word b laws = own_word b 0 (laws.tree.sizes.some 0)
+
+has_first : (b : BoardValue) → BoardLaws b → has_boot (own_words b) (address b 0 0) ≡ true
+has_first b laws =
+    list_any_at (λ x. x == address b 0 0) (own_words b) 0 0
+    (omega (arith, own_count b, laws.tree.sizes.some 0))
+    (eq-eqb (slice_index (own_words b) 0) (address b 0 0) (first_word b laws))
+
+pub faultless : (b : BoardValue) → BoardLaws b
+    → fault_of (identity b) b (address b 0 0) ≡ None
+unfolding fault_of boot_fault_of never_falls
+faultless b laws =
+    let count : (length (own_words b) == cores b) ≡ true =
+    eq-eqb (length (own_words b)) (cores b) (own_count b) in
+    let fields = are_short b laws in
+    let same = own_once b laws in
+    let there = has_first b laws in
+    let first : (slice_index (own_words b) 0 == address b 0 0) ≡ true =
+    eq-eqb (slice_index (own_words b) 0) (address b 0 0) (first_word b laws) in
+    let high : nat_lt (height b) (height b) ≡ false = le-ltb (height b) (height b) (omega arith) in
+    rw (count, fields, same, there, first, high)
+    (rows_fine (own_words b) b b.format b.levels laws.board.low laws.board.high)
+
+pub first_boots : (b : BoardValue) → BoardLaws b
+    → boot_place (identity b) b (address b 0 0) ≡ 0
+first_boots b laws =
+    place_is (identity b) b (address b 0 0) 0
+    (ap (λ (m : ℕ). core_named (identity b) b m 0) (sym (first_word b laws))
+    ∙ core_is_named (identity b) b (address b 0 0) 0 (faultless b laws) (laws.tree.sizes.some 0))

@@ -1,0 +1,44 @@
+-- With the identity of a board the platform is the firmware.
+use Rattle.psci_platform.proofs.OwnCalls.{after_same, answer_same, laws_for}
+use Rattle.psci_platform.proofs.OwnFaults.{faultless, first_boots}
+use Rattle.psci_platform.proofs.law.law_identity.Goals as goal
+
+pub returns-clause-faultless : goal.returns-clause-faultless
+returns-clause-faultless c = λ b board.
+    faultless b (laws_for b board (c.law_sizes.ensures b board)
+    (c.law_paths.ensures b board) (c.law_parents.ensures b board) (c.law_words.ensures b board)
+    (record {
+      read = c.law_power_states.ensures.read;
+      shape = c.law_power_states.ensures.shape;
+      test = c.law_power_states.ensures.test;
+    })).tree
+
+pub returns-clause-boot : goal.returns-clause-boot
+returns-clause-boot c = λ b board.
+    first_boots b (laws_for b board (c.law_sizes.ensures b board)
+    (c.law_paths.ensures b board) (c.law_parents.ensures b board) (c.law_words.ensures b board)
+    (record {
+      read = c.law_power_states.ensures.read;
+      shape = c.law_power_states.ensures.shape;
+      test = c.law_power_states.ensures.test;
+    })).tree
+
+pub returns-clause-answers : goal.returns-clause-answers
+returns-clause-answers c = λ b v core regs board.
+    answer_same b v core regs (laws_for b board (c.law_sizes.ensures b board)
+    (c.law_paths.ensures b board) (c.law_parents.ensures b board) (c.law_words.ensures b board)
+    (record {
+      read = c.law_power_states.ensures.read;
+      shape = c.law_power_states.ensures.shape;
+      test = c.law_power_states.ensures.test;
+    }))
+
+pub returns-clause-after : goal.returns-clause-after
+returns-clause-after c = λ b v core regs mode reply board.
+    after_same b core regs mode reply v (laws_for b board (c.law_sizes.ensures b board)
+    (c.law_paths.ensures b board) (c.law_parents.ensures b board) (c.law_words.ensures b board)
+    (record {
+      read = c.law_power_states.ensures.read;
+      shape = c.law_power_states.ensures.shape;
+      test = c.law_power_states.ensures.test;
+    }))

@@ -1,0 +1,59 @@
+-- The description of a platform that names everything as the firmware itself does.
+use Rattle.std.specs.Prelude.{ℕ, ◌-◌, ◌/◌, ◌%◌, ◌^◌, ◌&&◌, true, nat_le, List, [], ◌∷◌, map, filter}
+use Rattle.std.specs.Prelude.{replicate}
+use Rattle.std.specs.List.{range_with_len}
+use Rattle.psci_abi.specs.psci_format.declared.format.Format.{Format}
+use Rattle.psci_board.specs.Board.{BoardValue, address, cores, height}
+use Rattle.psci_state.specs.Ask.{deepest_of, highest_of, is_ask}
+use Rattle.psci_state.specs.PowerState.{word_of}
+use Rattle.psci_platform.specs.declared.class.Class.{Class}
+use Rattle.psci_platform.specs.declared.class.Class.TheVariants.{Running, Standby, Retention}
+use Rattle.psci_platform.specs.declared.class.Class.TheVariants.{PowerDown}
+use Rattle.psci_platform.specs.declared.functions.Functions.{Functions}
+use Rattle.psci_platform.specs.declared.row.Row.{Row}
+use Rattle.psci_platform.specs.Described.{DescriptionValue}
+
+-- one state of each class: its number is the depth that stands for the class
+abbrev pub own_classes : List Class
+own_classes = Running ∷ Standby ∷ Retention ∷ replicate 13 PowerDown
+
+-- four depths of 0 to 3, the digits of a number below 256
+abbrev pub depths_at : ℕ → List ℕ
+depths_at n = n % 4 ∷ n / 4 % 4 ∷ n / 16 % 4 ∷ n / 64 % 4 ∷ []
+
+-- the asks that ask nothing above this height
+unfoldable pub asks_up_to : ℕ → List (List ℕ)
+asks_up_to height =
+    filter (λ ask. is_ask ask && nat_le (highest_of ask) height)
+    (map depths_at (range_with_len 0 256))
+
+-- the row of the board's own word of an ask, of which each bit counts
+abbrev pub row_asking : Format → List ℕ → Row
+row_asking format ask = record { word = word_of format ask; mask = 2 ^ 32 - 1; states = ask }
+
+-- every function
+abbrev pub every_function : Functions
+every_function = record {
+  cpu_suspend = true;
+  cpu_off = true;
+  cpu_on = true;
+  system_off = true;
+  system_reset = true;
+  node_hw_state = true;
+  system_suspend = true;
+  system_reset2 = true;
+}
+
+-- The identity of a board: an MPIDR is the affinity word, a row there is for each power state word
+-- of the board, a state has the depth as its number, every function is there, and no reset is the
+-- vendor's.
+abbrev pub identity : BoardValue → DescriptionValue
+identity b = record {
+  mpidrs = map (address b 0) (range_with_len 0 (cores b));
+  levels = height b;
+  classes = own_classes ∷ own_classes ∷ own_classes ∷ own_classes ∷ [];
+  rows = map (row_asking b.format) (asks_up_to (height b));
+  system = deepest_of (height b);
+  functions = every_function;
+  resets = [];
+}
