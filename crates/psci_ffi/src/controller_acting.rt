@@ -86,8 +86,8 @@ fn write_kick(answer: &mut ControllerAnswer, controller: &Controller, core: Core
     }
 }
 
-/// Writes what an acknowledged message comes down to. It has a frame of its own, so that none is held
-/// while a life begins.
+/// Writes what an acknowledged message comes down to. It has a frame of its own, so that none is
+/// held while a life begins.
 #[inline(never)]
 #[tactic(auto, using(crate::proofs::Switching::within_take))]
 fn write_applied(
