@@ -109,7 +109,7 @@ same_none : (b : BoardValue) (word l : ℕ) → BoardLaws b
 same_none b word l laws none = (
   omega arith,
   no_node_is_named b laws.board laws.words l
-  ∙ sym (none_named b word l (node_of b word l) laws none refl),
+      ∙ sym (none_named b word l (node_of b word l) laws none refl),
 )
 
 same_some : (b : BoardValue) (word l c : ℕ) → BoardLaws b → l ≤ height b

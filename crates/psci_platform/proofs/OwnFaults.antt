@@ -100,8 +100,8 @@ once_by f most x n a true e differ inside rest =
       one,
       counted_cons (λ y. y == x) (f a) (map f (range_with_len (a + 1) n)),
       never f x n (a + 1) (λ i low high. unequal (f i) x (f i == x) refl (λ same.
-      let at = differ i a (omega (arith, high, inside)) (omega (arith, inside)) (same ∙ sym is) in
-      absurd (omega (arith, at, low)))),
+          let at = differ i a (omega (arith, high, inside)) (omega (arith, inside)) (same ∙ sym is) in
+          absurd (omega (arith, at, low)))),
     )
 once_by f most x n a false e differ inside rest =
     let none : cond {A = ℕ} (f a == x) 1 0 ≡ 0 = ap (λ (t : Bool). cond {A = ℕ} t 1 0) e in

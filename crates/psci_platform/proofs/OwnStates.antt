@@ -118,7 +118,7 @@ number_is ask is =
     let d = is.falls 2 in (
       omega (arith, a, b, c, d),
       digits _ _ _ _ (omega (arith, a)) (omega (arith, a, b)) (omega (arith, a, b, c))
-      (omega (arith, a, b, c, d)) ∙ four ask is.levels,
+          (omega (arith, a, b, c, d)) ∙ four ask is.levels,
     )
 
 -- What an identity asks -------------------------------------------------------------------------
@@ -252,7 +252,7 @@ either b mode word (Some row) laws small e = some_read b mode word row laws smal
 either b mode word None laws small e = (
   omega arith,
   no_power_state b.format (height b)
-  ∙ sym (none_read b mode word (ask_of b.format (height b) word) laws small e refl),
+      ∙ sym (none_read b mode word (ask_of b.format (height b) word) laws small e refl),
 )
 
 -- the word that the firmware is asked with for a word has 32 bits and asks the same
