@@ -1,5 +1,6 @@
--- Platforms to try the definitions on: boards and descriptions as the device trees of real machines
--- and their firmware have them.
+-- Platforms to try the definitions on: boards, MPIDRs and power state words as the device trees of
+-- real machines have them. What a word does, and which functions there are, is chosen so that the
+-- examples differ: firmware of these machines may do otherwise.
 use Rattle.std.proofs.Common.{ℕ, List, [], ◌∷◌, ◌++◌, true, false, replicate}
 use Rattle.std.specs.Prelude.{Option}
 use Rattle.psci_abi.specs.psci_format.declared.format.Format.{Format}
@@ -96,7 +97,7 @@ pine64 = record (describes (0 ∷ 1 ∷ 2 ∷ 3 ∷ []) 1 []) {
   functions = record most_functions { cpu_suspend = false };
 }
 
--- RK3399: clusters of four and of two cores, and the system
+-- RK3399: clusters of four and of two cores, and the system; here with a reset of the vendor
 abbrev pub rk3399_board : BoardValue
 rk3399_board = board ((4 ∷ 2 ∷ []) ∷ (2 ∷ []) ∷ []) Original
 
@@ -112,7 +113,7 @@ rk3399 = record (describes (0 ∷ 1 ∷ 2 ∷ 3 ∷ 0x100 ∷ 0x101 ∷ []) 2
 abbrev pub fault : DescriptionValue → Option PlatformFault
 fault d = fault_of d rk3399_board 0
 
--- i.MX8MM: four cores, and a word with field 0 by which the cluster goes down, too
+-- i.MX8MM: four cores, and a word with field 0 by which the cluster sleeps, too; here it is powered down
 abbrev pub imx8mm : DescriptionValue
 imx8mm = describes (0 ∷ 1 ∷ 2 ∷ 3 ∷ []) 1 (row 0x00010033 (1 ∷ 1 ∷ 0 ∷ 0 ∷ []) ∷ [])
 

@@ -244,7 +244,8 @@ some_read b mode word row laws small e =
     (laws.test f.ask).0 (left (is_ask f.ask) (nat_le (highest_of f.ask) (height b)) f.asked) in
     let word_is : word ≡ word_of b.format f.ask = read_word word b.format f.ask small f.passes in
     same_words b (told b mode (Some row)) word small
-    (ap (λ (r : Row). told b mode (Some r)) (sym f.is) ∙ (told_word b mode f.ask laws is ∙ sym word_is))
+    (ap (λ (r : Row). told b mode (Some r)) (sym f.is)
+    ∙ (told_word b mode f.ask laws is ∙ sym word_is))
 
 either : (b : BoardValue) (mode : SuspendMode) (word : ℕ) (o : Option Row) → StateLaws
     → word < 2 ^ 32 → find (reads word) (identity b).rows ≡ o → Same b (told b mode o) word
