@@ -238,8 +238,8 @@ def said(words, ends=True):
             say(f"./psci has the command '{near[-1]}', too")
         status = 2
     else:
-        status = write(text)
-        write(MORE_OF_SHOW if "show" in words else MORE_OF_REPLAY if "replay" in words else "")
+        more = MORE_OF_SHOW if "show" in words else MORE_OF_REPLAY if "replay" in words else ""
+        status = write(text + more)
     if ends:
         sys.exit(status)
     return status
