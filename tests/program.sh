@@ -20,9 +20,10 @@ answers() {
     fi
 }
 
-# run WORD..: the program with these words; its output, error text and status are kept
+# run WORD..: the program with these words, for a minute or $limit seconds; its output, error text and
+# status are kept
 run() {
-    timeout 60 "$program" "$@" > "$work/out" 2> "$work/err"
+    timeout "${limit:-60}" "$program" "$@" > "$work/out" 2> "$work/err"
     echo $? > "$work/got"
 }
 
@@ -347,6 +348,7 @@ thread_counts() {
 # a run of threads as long as one may be, on as many cores as there may be: it comes to its end, and each
 # core makes all its calls
 long_threads() {
+    local limit=900
     run threads --board "(16 16 16 16) exec 0x0-0x1000 boot 0x0 starts 100000 lives 3" --seed 1 \
         --count 10000 --counts
     expect "threads of 64 cores with 10,000 calls each" 0
