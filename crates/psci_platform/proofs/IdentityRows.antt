@@ -78,10 +78,10 @@ unfolding calling asks_up_to
 second_core_of_a_cluster = refl
 
 -- a word of no row is none, and is another one that is none
-no_state : regs_for (identity small) small 0 Platform (regs 0xC4000001 0x01010003 0 0)
+word_of_no_row : regs_for (identity small) small 0 Platform (regs 0xC4000001 0x01010003 0 0)
     ≡ regs 0xC4000001 0xFFFFFFFF 0 0
 unfolding calling asks_up_to
-no_state = refl
+word_of_no_row = refl
 
 -- One change, and it is another call --------------------------------------------------------------
 
@@ -91,10 +91,10 @@ other_row : asked (record (identity small) {
 unfolding calling asks_up_to
 other_row = refl
 
-no_rows : asked (record (identity small) { rows = [] })
+without_rows : asked (record (identity small) { rows = [] })
     (regs 0xC4000001 0x01010033 0x40001000 7) ≡ CpuSuspend 0xFFFFFFFF 0x40001000 7
 unfolding calling asks_up_to
-no_rows = refl
+without_rows = refl
 
 other_mpidr : asked (record (identity small) { mpidrs = 1 ∷ 0 ∷ 0x100 ∷ 0x101 ∷ [] })
     (regs 0xC4000003 1 0x40001000 7) ≡ CpuOn 0 0x40001000 7

@@ -1,5 +1,5 @@
 -- An affinity word names the same in the identity of a board.
-use Rattle.std.proofs.Common.{◌≡◌, ℕ, ◌+◌, ◌*◌, ◌/◌, ◌^◌, ◌<◌, ◌≤◌, ◌==◌, Bool, true, false, List}
+use Rattle.std.proofs.Common.{◌≡◌, ℕ, ◌*◌, ◌/◌, ◌^◌, ◌<◌, ◌≤◌, ◌==◌, Bool, true, List}
 use Rattle.std.proofs.Common.{length, map, Option, None, Some, refl, sym, ap, ◌∙◌, arith, inl, inr}
 use Rattle.std.proofs.lemmas.Bool.{cases_lt, eq-eqb, eqb-true, le-leb, lt-leb, lt-ltb}
 use Rattle.std.proofs.lemmas.List.FromFn.{get_or-map-range_with_len, length-map-range_with_len}
@@ -7,15 +7,16 @@ use Rattle.std.proofs.lemmas.List.Quantifiers.{position-Some}
 use Rattle.std.proofs.lemmas.List.Sums.{fails_before_first}
 use Rattle.std.proofs.lemmas.Option.{none-some, same_Some}
 use Rattle.std.specs.List.{position, position_or_len, range_with_len}
-use Rattle.std.specs.Prelude.{nat_le, option_map, slice_index}
-use Rattle.psci_board.specs.Board.{BoardValue, IsBoard, address, core_of, cores, height, node_of, up}
+use Rattle.std.specs.Prelude.{option_map, slice_index}
+use Rattle.psci_board.specs.Board.{BoardValue, IsBoard, address, core_of, cores, height, node_of}
+use Rattle.psci_board.specs.Board.{up}
 use Rattle.psci_board.specs.declared.node.Core.{Core}
 use Rattle.psci_board.specs.declared.node.Node.{Node}
 use Rattle.psci_board.specs.Laws.{WordLaws}
-use Rattle.psci_platform.specs.Cores.{core_named, core_word, no_core, word_if}
+use Rattle.psci_platform.specs.Cores.{core_named, core_word, word_if}
 use Rattle.psci_platform.specs.Identity.{identity}
 use Rattle.psci_platform.specs.Swaps.{swap_for}
-use Rattle.psci_platform.proofs.Missing.{no_core_is_named, no_node_is_named}
+use Rattle.psci_platform.proofs.Missing.{no_node_is_named}
 use Rattle.psci_platform.proofs.Unmoved.{own_place}
 use Rattle.psci_platform.proofs.Unmoved as unmoved
 

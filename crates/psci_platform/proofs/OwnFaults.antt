@@ -1,6 +1,7 @@
 -- The identity of a board has no fault.
-use Rattle.std.proofs.Common.{◌≡◌, ℕ, zero, suc, ◌+◌, ◌*◌, ◌/◌, ◌%◌, ◌^◌, ◌<◌, ◌≤◌, ◌==◌, Bool, true}
-use Rattle.std.proofs.Common.{false, cond, List, [], ◌∷◌, length, map, nat_lt, Option, None, Some, refl, sym, ap}
+use Rattle.std.proofs.Common.{◌≡◌, ℕ, zero, suc, ◌+◌, ◌/◌, ◌%◌, ◌^◌, ◌<◌, ◌≤◌, ◌==◌, Bool, true}
+use Rattle.std.proofs.Common.{false, cond, List, [], ◌∷◌, length, map, nat_lt, Option, None, Some}
+use Rattle.std.proofs.Common.{refl, sym, ap}
 use Rattle.std.proofs.Common.{◌∙◌, arith}
 use Rattle.std.proofs.lemmas.Bool.{eq-eqb, eqb-true, le-ltb}
 use Rattle.std.proofs.lemmas.List.Folds.{list_all-map, list_any_at}
@@ -100,7 +101,8 @@ once_by f most x n a true e differ inside rest =
       one,
       counted_cons (λ y. y == x) (f a) (map f (range_with_len (a + 1) n)),
       never f x n (a + 1) (λ i low high. unequal (f i) x (f i == x) refl (λ same.
-          let at = differ i a (omega (arith, high, inside)) (omega (arith, inside)) (same ∙ sym is) in
+          let at =
+          differ i a (omega (arith, high, inside)) (omega (arith, inside)) (same ∙ sym is) in
           absurd (omega (arith, at, low)))),
     )
 once_by f most x n a false e differ inside rest =

@@ -1,7 +1,8 @@
 -- A power state word asks the same in the identity of a board.
-use Rattle.std.proofs.Common.{◌≡◌, ℕ, zero, suc, ◌+◌, ◌-◌, ◌*◌, ◌/◌, ◌%◌, ◌^◌, ◌<◌, ◌≤◌, ◌==◌, ◌&&◌, Bool, true}
+use Rattle.std.proofs.Common.{◌≡◌, ℕ, zero, suc, ◌+◌, ◌-◌, ◌*◌, ◌/◌, ◌%◌, ◌^◌, ◌<◌, ◌≤◌, ◌&&◌, Bool}
+use Rattle.std.proofs.Common.{true}
 use Rattle.std.proofs.Common.{false, List, [], ◌∷◌, length, map, Option, None, Some, refl, sym, ap}
-use Rattle.std.proofs.Common.{◌∙◌, subst, arith, inl, inr}
+use Rattle.std.proofs.Common.{◌∙◌, arith, inl, inr}
 use Rattle.std.proofs.lemmas.Bool.{cases_lt, eq-eqb, eqb-true, le-leb}
 use Rattle.std.proofs.lemmas.Nat.{and_mask}
 use Rattle.std.proofs.lemmas.Option.{none-some, same_Some}
@@ -17,7 +18,7 @@ use Rattle.psci_state.specs.Ask.{IsAsk, highest_of, is_ask}
 use Rattle.psci_state.specs.PowerState.{ask_of, word_of}
 use Rattle.psci_platform.specs.declared.row.Row.{Row}
 use Rattle.psci_platform.specs.Identity.{asks_up_to, depths_at, identity, row_asking}
-use Rattle.psci_platform.specs.States.{can_ask, depth_at, depths_of, is_deeper, no_state, reads}
+use Rattle.psci_platform.specs.States.{can_ask, depth_at, depths_of, is_deeper, reads}
 use Rattle.psci_platform.specs.States.{states_if, states_of, word_asking, word_for}
 use Rattle.psci_platform.proofs.Missing.{no_power_state}
 
@@ -235,7 +236,8 @@ none_read b mode word (Ok ask) laws small none e =
     (ap (λ (x : List ℕ). reads word (row_asking b.format x)) at.1 ∙ passes))
 
 some_read : (b : BoardValue) (mode : SuspendMode) (word : ℕ) (row : Row) → StateLaws
-    → word < 2 ^ 32 → find (reads word) (identity b).rows ≡ Some row → Same b (told b mode (Some row)) word
+    → word < 2 ^ 32 → find (reads word) (identity b).rows ≡ Some row
+    → Same b (told b mode (Some row)) word
 unfolding asks_up_to
 some_read b mode word row laws small e =
     let f = found (reads word) (row_asking b.format) (λ x. asks_test x (height b))

@@ -1,5 +1,5 @@
 -- Requests that differ in their first argument.
-use Rattle.std.proofs.Common.{◌≡◌, ℕ, ◌<◌, ◌%◌, ◌^◌, ◌==◌, ◌||◌, Bool, true, false, if◌then◌else◌}
+use Rattle.std.proofs.Common.{◌≡◌, ℕ, ◌<◌, ◌^◌, ◌==◌, ◌||◌, Bool, true, false, if◌then◌else◌}
 use Rattle.std.proofs.Common.{refl, sym, arith}
 use Rattle.psci_abi.specs.Calls.{argument, function_of, is_wide, low_half, request_of}
 use Rattle.psci_abi.specs.declared.registers.Regs.{Regs}

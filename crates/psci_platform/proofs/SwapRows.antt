@@ -1,5 +1,5 @@
 -- Boot cores that are not the first ones of their trees.
-use Rattle.std.proofs.Common.{◌≡◌, ℕ, List, [], ◌∷◌, true, false, refl, map}
+use Rattle.std.proofs.Common.{◌≡◌, ℕ, [], ◌∷◌, true, false, refl, map}
 use Rattle.std.specs.Prelude.{None, Some}
 use Rattle.psci_abi.specs.declared.registers.Regs.{Regs}
 use Rattle.psci_abi.specs.psci_format.declared.format.Format.TheVariants.{Original}

@@ -1,7 +1,7 @@
 -- A swap that passes its test is a renumbering of the board.
 use Rattle.std.proofs.Common.{◌≡◌, ℕ, zero, suc, ◌+◌, ◌-◌, ◌==◌, ◌<◌, ◌≤◌, ◌&&◌, ◌||◌, nat_lt}
 use Rattle.std.proofs.Common.{Bool, true, false, List, [], ◌∷◌, length, drop, sum, refl, sym, ap}
-use Rattle.std.proofs.Common.{◌∙◌, arith, inl, inr, Option, None, Some}
+use Rattle.std.proofs.Common.{◌∙◌, arith, inl, inr, None}
 use Rattle.std.specs.List.{list_all, range_with_len}
 use Rattle.std.proofs.lemmas.Bool.{cases_lt, eqb-true, le-ltb, lt-ltb, ltb-true}
 use Rattle.psci_board.specs.Board.{BoardValue, IsBoard, IsTree, cores, group_of, height, nodes}

@@ -1,13 +1,11 @@
 -- Where the boot core is core 0, nothing is swapped.
-use Rattle.std.proofs.Common.{◌≡◌, ℕ, zero, suc, ◌+◌, ◌==◌, ◌<◌, ◌≤◌, ◌&&◌, ◌||◌, nat_lt, Bool}
-use Rattle.std.proofs.Common.{true, false, if◌then◌else◌, [], ◌∷◌, refl, sym, ap, ◌∙◌, arith}
+use Rattle.std.proofs.Common.{◌≡◌, ℕ, zero, suc, ◌==◌, ◌<◌, ◌≤◌, ◌||◌, nat_lt, Bool}
+use Rattle.std.proofs.Common.{true, false, if◌then◌else◌, refl, sym, ap, ◌∙◌, arith}
 use Rattle.std.proofs.Common.{inl, inr, Option, None, Some, unwrap_or}
-use Rattle.std.specs.List.{list_all, range_with_len}
-use Rattle.std.specs.Prelude.{option_map}
 use Rattle.std.proofs.lemmas.Bool.{cases_eq, cases_lt, eq-eqb, le-ltb, lt-ltb, ne_eqb}
-use Rattle.std.proofs.lemmas.Option.{none-some, same_Some}
-use Rattle.psci_board.specs.Board.{BoardValue, child, child_number, children, cores, domain_of}
-use Rattle.psci_board.specs.Board.{first_child, height, parent, up}
+use Rattle.std.proofs.lemmas.Option.{none-some}
+use Rattle.psci_board.specs.Board.{BoardValue, child, children, cores, domain_of}
+use Rattle.psci_board.specs.Board.{height, parent, up}
 use Rattle.psci_board.specs.declared.node.Node.{Node}
 use Rattle.psci_board.specs.Laws.{ParentLaws, PathLaws, SizeLaws}
 use Rattle.psci_fw_same.specs.Renumbered.{swap}
