@@ -67,6 +67,27 @@ no_such_core way = let no : 4 < 4 = way.core in absurd (omega (arith, no))
 above_the_system : IsInTheWay board (seen 0) 0 (3 ∷ 3 ∷ 3 ∷ 3 ∷ []) 2 1 → ⊥
 above_the_system way = let no : 2 < 2 = way.low in absurd (omega (arith, no))
 
+-- of a request of core 3 the other core of its own cluster, and the first cluster
+beside_core_3 : IsInTheWay board (seen 0) 3 deep 0 2
+unfolding up
+beside_core_3 = record {
+  core = omega arith;
+  low = omega arith;
+  joined = refl;
+  apart = λ e. let no : 2 ≡ 3 = e in absurd (omega (arith, no));
+  less = omega arith;
+}
+
+first_cluster : IsInTheWay board (seen 0) 3 deep 1 0
+unfolding up
+first_cluster = record {
+  core = omega arith;
+  low = omega arith;
+  joined = refl;
+  apart = λ e. let no : 0 ≡ 1 = e in absurd (omega (arith, no));
+  less = omega arith;
+}
+
 -- nor what was granted as much as is asked
 deep_enough : IsInTheWay board (seen 0) 0 light 0 1 → ⊥
 deep_enough way = let no : 2 < 2 = way.less in absurd (omega (arith, no))

@@ -70,6 +70,49 @@ group = record {
   last = refl;
 }
 
+-- and of core 3 itself
+itself : IsCarriedOut tall (kept 1 1 (Some sent)) (acked Down 3) 0 3
+unfolding up
+itself = record {
+  message = sent;
+  part = part 0 1;
+  kind = refl;
+  outstanding = refl;
+  path = refl;
+  granted = omega arith;
+  applied = omega arith;
+  at = refl;
+  last = refl;
+}
+
+-- core 2 has entered once, too, before core 3 sent this, which waits in the slot of core 3 alone
+abbrev sent_after : MessageValue
+sent_after = record sent { parts = part 0 1 ∷ part 1 1 ∷ part 2 2 ∷ [] }
+
+abbrev awaits_of_3 : Slot → Option MessageValue
+awaits_of_3 (OfCore c) = if c == 3 then Some sent_after else None
+awaits_of_3 OfSystem = None
+
+abbrev both_entered : Values
+both_entered = record (kept 1 1 None) {
+  known = λ c. if c == 3 then 1 else (if c == 2 then 1 else 0);
+  outstanding = awaits_of_3;
+}
+
+group_of_both : IsCarriedOut tall both_entered (acked Down 3) 2 1
+unfolding up
+group_of_both = record {
+  message = sent_after;
+  part = part 2 2;
+  kind = refl;
+  outstanding = refl;
+  path = refl;
+  granted = omega arith;
+  applied = omega arith;
+  at = refl;
+  last = refl;
+}
+
 -- not where two parts were applied
 two_parts : IsCarriedOut tall (kept 1 1 (Some sent)) (acked Down 2) 2 1 → ⊥
 two_parts is = let no : 2 < 2 = is.applied in absurd (omega (arith, no))

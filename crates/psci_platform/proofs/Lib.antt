@@ -1,10 +1,12 @@
 pub mod Addresses
 pub mod Asks
 pub mod Booting
+mod CallAxisRows
 mod CallRows
 pub mod Checked
 mod CoreRows
 pub mod Counted
+mod FaultAxisRows
 mod FaultOrderRows
 mod FaultRows
 mod FunctionFaultRows
