@@ -113,7 +113,7 @@ rk3399 = record (describes (0 ∷ 1 ∷ 2 ∷ 3 ∷ 0x100 ∷ 0x101 ∷ []) 2
 abbrev pub fault : DescriptionValue → Option PlatformFault
 fault d = fault_of d rk3399_board 0
 
--- i.MX8MM: four cores, and a word with field 0 by which the cluster sleeps, too; here it is powered down
+-- i.MX8MM: four cores, and a word with field 0 by which the cluster sleeps, too, here powered down
 abbrev pub imx8mm : DescriptionValue
 imx8mm = describes (0 ∷ 1 ∷ 2 ∷ 3 ∷ []) 1 (row 0x00010033 (1 ∷ 1 ∷ 0 ∷ 0 ∷ []) ∷ [])
 
