@@ -57,6 +57,15 @@ no-down : stop_sent (Some (record (down []) { kind = kinds.Start })) 0xc4000001
     ≡ stop (0 ∷ 0 ∷ 0 ∷ 0 ∷ []) false
 no-down = refl
 
+-- no message but a Down is of a core that sleeps, whatever the word is
+off-sleeps-not : stop_sent (Some (record (down []) { kind = kinds.Off })) 0xc4000001
+    ≡ stop (0 ∷ 0 ∷ 0 ∷ 0 ∷ []) false
+off-sleeps-not = refl
+
+reset-sleeps-not : stop_sent (Some (record (down []) { kind = kinds.Reset })) 0xc4000001
+    ≡ stop (0 ∷ 0 ∷ 0 ∷ 0 ∷ []) false
+reset-sleeps-not = refl
+
 -- CPU_SUSPEND and SYSTEM_SUSPEND by both conventions, whatever the upper half says; no other
 suspending : map is_suspend
     (0x84000001 ∷ 0xc4000001 ∷ 0x8400000e ∷ 0xc400000e ∷ 0x184000001 ∷ []) ≡ true ∷ true ∷ true

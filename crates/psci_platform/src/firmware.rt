@@ -36,6 +36,7 @@ ghost use Rattle.psci_fw_spec.specs.declared.reply.FwReply.TheVariants as replie
 ghost use Rattle.psci_fw_spec.specs.After.{after};
 ghost use Rattle.psci_fw_spec.specs.Answer.{answer, reply_of};
 ghost use Rattle.psci_fw_spec.specs.Lives.{start_of_life};
+ghost use Rattle.psci_messages.specs.declared.taken.Taken.TheVariants.{Old};
 ghost use Rattle.psci_platform.specs.Calls.{asked_for};
 ghost use Rattle.psci_platform.specs.Platforms.{called};
 
@@ -52,8 +53,9 @@ impl PlatformFirmware {
 
     /// A secure monitor call of a core in the platform's words: `Firmware::smc` of the translated
     /// registers, in the mode that the firmware is in. Beside it is told which of the platform's
-    /// states or resets the call names, so that the core can stop so; where the firmware returns
-    /// to its caller that says nothing.
+    /// states or resets the call names. It says something only where the core stops and a message
+    /// goes out, and it says what the caller asked: how deep each level goes is said by the parts of
+    /// the message, as other cores may have asked for less.
     pub fn smc(&mut self, core: Core, regs: Regs) -> (Result<Outcome, FwFault>, Asked)
         ensures answer { reply_of result.0 ≡ answer self.old.platform.board
             (seen self.old.firmware) core.number (calls.Smc (called self.old regs)) }
@@ -87,6 +89,7 @@ impl PlatformFirmware {
         ensures after { (c : ℕ) → seen self.new.firmware ≡ after self.old.platform.board c
             (calls.Take ack) (replies.Taken result) (seen self.old.firmware) }
         ensures platform { self.new.platform ≡ self.old.platform }
+        ensures old { result ≡ Old → self.new ≡ self.old }
     {
         self.firmware.take(ack)
     }
