@@ -44,7 +44,8 @@ pub fn give(controller: &mut Controller, bytes: &[u8], answer: &mut ControllerAn
     }
 }
 
-/// `message_in`. It has a frame of its own, so that what a message is made of is not held beside it.
+/// `message_in`. It has a frame of its own, so that what a message is made of is not held beside
+/// it.
 #[inline(never)]
 fn message_of(kind: Kind, bytes: &[u8]) -> Message
     requires heading { HasHeading bytes.now (headings.Message kind) }

@@ -54,8 +54,8 @@ impl PlatformFirmware {
     /// A secure monitor call of a core in the platform's words: `Firmware::smc` of the translated
     /// registers, in the mode that the firmware is in. Beside it is told which of the platform's
     /// states or resets the call names. It says something only where the core stops and a message
-    /// goes out, and it says what the caller asked: how deep each level goes is said by the parts of
-    /// the message, as other cores may have asked for less.
+    /// goes out, and it says what the caller asked: how deep each level goes is said by the parts
+    /// of the message, as other cores may have asked for less.
     pub fn smc(&mut self, core: Core, regs: Regs) -> (Result<Outcome, FwFault>, Asked)
         ensures answer { reply_of result.0 ≡ answer self.old.platform.board
             (seen self.old.firmware) core.number (calls.Smc (called self.old regs)) }
