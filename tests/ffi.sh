@@ -124,7 +124,7 @@ on_bare_machine() {
         -Wl,--build-id=none -Wall -Wextra -Werror "$@" -Iinclude -Ihosts -o "$work/$name" \
         hosts/boot.c hosts/pool.c tests/programs/bare.c tests/programs/bare.S "$file" \
         > "$work/err" 2>&1 || { fail "$name"; head -n 20 "$work/err"; return; }
-    timeout 60 qemu-system-aarch64 -M virt -cpu cortex-a57 -m 64 -display none -monitor none \
+    timeout 60 qemu-system-aarch64 -M virt -cpu cortex-a57 -m 64 -nic none -display none -monitor none \
         -serial stdio -kernel "$work/$name" < /dev/null > "$work/out" 2> "$work/err"
 }
 
