@@ -246,6 +246,7 @@ int main(void) {
     smc(0, 0xc400000d, 0x101, 0, 0);
     smc(0, 0xc4000004, 0x101, 0, 0);
     smc(0, 0xc4000003, 0x9, 0x40001000, 0);        /* CPU_ON of no core */
+    smc(0, 0x84000003, 0x9, 0x40001000, 0);        /* the same by its 32-bit word */
     smc(0, 0x84000009, 0, 0, 0);                   /* SYSTEM_RESET: the next life */
     serve();
     smc(0, 0x84000008, 0, 0, 0);                   /* SYSTEM_OFF */

@@ -1,5 +1,5 @@
-# Debian packages for guests, sourced by qemu/run and el3/run, which have `say`, `stop` and `cache`. It
-# installs nothing and needs no rights: apt gets lists of its own, in the folder $cache/apt.
+# Debian packages for guests, sourced by qemu/run, el3/run and tfa/run, which have `say`, `stop` and `cache`.
+# It installs nothing and needs no rights: apt gets lists of its own, in the folder $cache/apt.
 mirror=http://deb.debian.org/debian
 
 own_apt() {
@@ -67,4 +67,20 @@ for_kexec() {
     hosts=$(dirname "${BASH_SOURCE[0]}")
     "$hosts/qemu/initramfs" "$cache/packages/bin/busybox" "$hosts/qemu/init" "${further[@]}" > "$2.both"
     mv "$2.both" "$2"
+}
+
+has_tfa() { [ -d "$cache/tfa/source" ]; }
+
+# The source of TF-A, into $cache/tfa/source.
+fetch_tfa() {
+    mkdir -p "$cache/tfa"
+    cd "$cache/tfa"
+    own_apt
+    say "downloading TF-A's source (5 MB)"
+    apt-get source -qq --download-only arm-trusted-firmware ||
+        stop "the source package arm-trusted-firmware can't be had"
+    dpkg-source -x arm-trusted-firmware_*.dsc unpacked > unpacked.log 2>&1 ||
+        stop "see $cache/tfa/unpacked.log"
+    mv unpacked source
+    cd - > /dev/null
 }

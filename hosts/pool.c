@@ -15,7 +15,7 @@ struct header {
 
 static unsigned char *first, *end;
 static size_t taken;
-static max_align_t nowhere;
+static _Alignas(16) unsigned char nowhere[16];
 
 static struct header *at(unsigned char *place) { return (struct header *)place; }
 static unsigned char *next(unsigned char *place) {
@@ -52,14 +52,14 @@ static struct psci_block take(unsigned char *place, size_t size) {
 struct psci_block rattle_alloc(size_t size, size_t align) {
     size = (size ? size + 15 : 31) / 16 * 16;
     if (align > 16 || size > (size_t)(end - first))
-        return (struct psci_block){0, &nowhere};
+        return (struct psci_block){0, nowhere};
     for (unsigned char *place = first; place < end; place = next(place)) {
         while (at(place)->free && next(place) < end && at(next(place))->free)
             at(place)->size += sizeof(struct header) + at(next(place))->size;
         if (at(place)->free && at(place)->size >= size)
             return take(place, size);
     }
-    return (struct psci_block){0, &nowhere};
+    return (struct psci_block){0, nowhere};
 }
 
 void rattle_dealloc(void *block) {

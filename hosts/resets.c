@@ -22,14 +22,27 @@ static void cut(int number) {
     siglongjmp(reset, 1);
 }
 
+/* The lock, where the reset takes it before it stops the cores: it waits until the call has returned. */
+static void hold(bool held) {
+    sigset_t alarm;
+    sigemptyset(&alarm);
+    sigaddset(&alarm, SIGALRM);
+    sigprocmask(held ? SIG_BLOCK : SIG_UNBLOCK, &alarm, NULL);
+}
+
 /* A core calls and calls, until the reset cuts it. */
-static void call_until_cut(unsigned core, long microseconds) {
+static void call_until_cut(unsigned core, long microseconds, bool is_waited_for) {
     struct itimerval after = {{0, 0}, {0, microseconds}};
     if (sigsetjmp(reset, 1))
         return;
     setitimer(ITIMER_REAL, &after, NULL);
-    for (;;)
+    for (;;) {
+        if (is_waited_for)
+            hold(true);
         smc(core, INFO, word_of(0), 0, 0);
+        if (is_waited_for)
+            hold(false);
+    }
 }
 
 /* So many lives, each ended by a reset while another core is in a call. In each the firmware is made
@@ -49,7 +62,7 @@ static void try_cuts(void) {
         serve();
         entered += enter(1) == PSCI_ENTER;
         smc(0, SYSTEM_RESET, 0, 0, 0);
-        call_until_cut(1, 20 + turn % 50);
+        call_until_cut(1, 20 + turn % 50, false);
         empty += smc(1, INFO, 0, 0, 0) == PSCI_NO_FIRMWARE && smc(0, INFO, 0, 0, 0) == PSCI_NO_FIRMWARE;
         psci_ctl_deliver(&controller, box[SYSTEM].bytes, PSCI_FRAME_LEN, &done);
         if (done.what != PSCI_CTL_RESTART)
@@ -59,6 +72,26 @@ static void try_cuts(void) {
     }
     printf("resets in mid-call: some left an empty place: %d; of %d lives, %u cores entered\n", empty > 0,
            RESETS, entered);
+}
+
+/* The same where the firmware's memory outlives the resets: it is kept, and they take its lock first. */
+static void try_kept(void) {
+    unsigned empty = 0, entered = 0;
+    cold_reset(&two_by_two);
+    for (unsigned turn = 1; turn <= RESETS; turn++) {
+        entered += enter(0) == PSCI_ENTER && psci_life(&firmware) == turn;
+        smc(0, ON, word_of(1), 0x40001000, 0);
+        serve();
+        entered += enter(1) == PSCI_ENTER;
+        smc(0, SYSTEM_RESET, 0, 0, 0);
+        call_until_cut(1, 20 + turn % 50, true);
+        empty += smc(1, INFO, 0, 0, 0) == PSCI_NO_FIRMWARE;
+        deliver(SYSTEM);
+        memset(box, 0, sizeof box);
+        memset(runs, 0, sizeof runs);
+    }
+    printf("resets that take the lock first: some left an empty place: %d; of %d lives, %u cores entered\n",
+           empty > 0, RESETS, entered);
 }
 
 /* Before the first entry of its life a new firmware answers no call, and takes nothing. */
@@ -142,6 +175,7 @@ static void try_caches(bool cleans, bool invalidates) {
 
 int main(void) {
     try_cuts();
+    try_kept();
     try_new();
     try_old_frame(false, true);
     try_old_frame(true, true);

@@ -13,7 +13,7 @@ import firmware as fw
 import machine as rules
 from board import Board, Fault
 from draw_machine import DrawMachine
-from proved import FAULTS, Examples, Record
+from proved import Examples, Record
 from script import World, number
 
 TOP = os.path.dirname(os.path.dirname(os.path.abspath(__file__)))
@@ -22,6 +22,9 @@ from front import machine_calls, machine_faults, machine_swap, machines, plain
 
 # how many calls of a text are compared; how often each fault has to come; how many examples have to be read
 CALLS, LEAST, LEAST_PROVED = 12, 20, 190
+FAULTS = ("WrongCount", "BadMpidr", "SameMpidr", "NoBootCore", "LateBootCore", "TooManyLevels", "FallingClass",
+          "TooManyRows", "BadWord", "SameWord", "WrongType", "BadStates", "BadSystem", "BadFunctions")
+NUMBERS = {name: at for at, name in enumerate(FAULTS, 1)}
 
 
 # ---- the examples of psci_platform
@@ -122,7 +125,7 @@ def examples():
     """Whether both say of each example what is proved."""
     wrong, many, left_out = [], 0, 0
     for name, by in BOTH.items():
-        for theorem, sides in Examples(by).rows():
+        for theorem, sides in Examples({**by, "faults": NUMBERS}, "psci_platform", "Machines").rows():
             many, left_out = many + bool(sides), left_out + (not sides)
             if sides and plainly(sides[0]) != plainly(sides[1]):
                 wrong.append(f"{theorem}: {name} says {sides[0]}, and {sides[1]} is proved")

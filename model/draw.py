@@ -3,6 +3,7 @@ import random
 
 import firmware as fw
 from board import Board, Fault
+from scenes import Scenes
 from script import World, answer
 
 # each function by its words, and how often it is drawn
@@ -25,7 +26,7 @@ CHANGES = (1, 2, 3, 4, 16, 32, 48, 0x100, 0x200, 0x1000, 1 << 16, 1 << 24, 2 << 
            1 << 17, 1 << 23, 1 << 26, 1 << 27, 1 << 28, 1 << 30, 1 << 31)
 
 
-class Draw(random.Random):
+class Draw(Scenes, random.Random):
     def rarely(self, common, *others):
         return self.choice(others) if self.randrange(32) == 0 else common
 
@@ -196,67 +197,6 @@ class Draw(random.Random):
             return f"{word} {self.index(len(world.sent if word == 'deliver' else world.acks))}"
         place = {"enter": "started", "wake": "stopped", "reset": "running"}[word]
         return f"{word} {self.core(world, place)}"
-
-    # ---- scenes that a script begins with: random events alone seldom come to them
-
-    def scene(self, world):
-        """A later life or the first, either mode, some cores, and at times a life that ends."""
-        yield "enter 0"
-        if world.board.lives > 1 and self.randrange(5) < 3:
-            yield "call 0 0x84000009"
-            yield self.last(world, "deliver")
-            yield "enter 0"
-        if self.randrange(2):
-            yield "call 0 0x8400000f 1"
-        others, ends = world.board.cores[1:], self.randrange(5) < 2
-        many = self.choice((2, 3, 4, 5) if ends else (0, 1, 1, 2, 3))
-        for core in self.sample(others, min(many, len(others))):
-            yield from self.brought_up(world, core)
-        if others and not ends and self.randrange(3) == 0:
-            yield "call 0 0x84000002"
-            yield self.last(world, "deliver")
-            yield self.last(world, "take")
-        running = [core for core in world.board.cores if world.place[core] == "running"]
-        if len(running) > 1 and not ends and self.randrange(3):
-            yield from self.put_to_sleep(world, running)
-        if len(running) > 1 and ends:
-            # mostly another core, so that the boot core is there to call afterwards
-            caller = self.choice(running[1:] * 6 + running[:1])
-            if self.randrange(3):
-                others = [core for core in running if core != caller]
-                yield f"reset {self.choice((others[0], self.choice(others)))}"
-            yield f"call {caller} {self.choice((0x84000008, 0x84000009))}"
-
-    def brought_up(self, world, core):
-        """The boot core asks the core on, which mostly enters."""
-        yield f"call 0 0xc4000003 {self.word_of(world.board, core):#x} {self.ends[0]:#x} {core}"
-        if self.randrange(4):
-            yield self.last(world, "deliver")
-            if self.randrange(6):
-                yield f"enter {core}"
-                if world.firmware.mode == fw.OS_INITIATED and self.randrange(3) == 0:
-                    yield f"call {core} 0xc4000001 {self.choice((1, 2))}"
-
-    def put_to_sleep(self, world, running):
-        """A core goes to standby or retention, which is acknowledged; another asks for its state."""
-        board, core = world.board, self.choice(running)
-        caller = self.choice([other for other in running if other != core])
-        is_last = all(board.places[other][1:] != board.places[core][1:]
-                      for other in running if other != core)
-        levels, depth = self.choice((1, 2, 2, 2)) if is_last else 1, self.choice((1, 2))
-        word = sum(depth << 4 * level for level in range(levels))
-        if not board.extended:
-            word |= levels - 1 << 24
-        yield f"call {core} 0xc4000001 {word:#x}"
-        yield self.last(world, "deliver")
-        yield self.last(world, "take")
-        target, level = self.word_of(board, core), self.choice((0, levels - 1, levels - 1))
-        yield f"call {caller} 0xc400000d {target:#x} {level}"
-
-    @staticmethod
-    def last(world, word):
-        """The last message is delivered, or the last acknowledgement taken."""
-        return f"{word} {max(0, len(world.sent if word == 'deliver' else world.acks) - 1)}"
 
     def script(self):
         lines = [f"board {self.board()}"]

@@ -1,10 +1,11 @@
-"""Reads the worked examples of psci_platform, which are theorems, and works them out by another program.
+"""Reads worked examples, which are theorems, and works them out by another program.
 
-    for name, sides in Examples(rules).rows(): ..
+    for name, sides in Examples(rules, "psci_platform", "Machines").rows(): ..
 
-An example is `NAME : LEFT ≡ RIGHT` with the proof `refl`. The abbreviations of its file and of
-proofs/Machines are read as small functions: numbers, lists, records, `λ`, and the names of BUILTIN. What
-the crate's definitions say, `rules` says in their place: `fault_of`, `core_word` and so on.
+An example is `NAME : LEFT ≡ RIGHT` with the proof `refl`, in a file *Rows of a crate's proofs/. The
+abbreviations of its file and of a file that others use are read as small functions: numbers, lists,
+records, `λ`, and the names of BUILTIN. What the crate's definitions say, `rules` says in their place:
+`fault_of`, `core_word` and so on.
 """
 import glob
 import os
@@ -12,7 +13,6 @@ import re
 from types import SimpleNamespace
 
 TOP = os.path.dirname(os.path.dirname(os.path.abspath(__file__)))
-PROOFS = f"{TOP}/crates/psci_platform/proofs"
 TOKEN = re.compile(r"--[^\n]*|0x[0-9A-Fa-f]+|\d+|\+\+|[A-Za-z_][A-Za-z0-9_.]*'*|[∷≡→λ]|\[\]|[-+(){};=.:]")
 # how tightly an operator binds, and whether to the right
 BINDS = {"≡": (1, True), "∷": (2, True), "++": (2, True), "+": (3, False), "-": (3, False)}
@@ -141,6 +141,8 @@ def replicated(count):
 # names of the language and of its libraries; a constructor that has an argument is a pair
 BUILTIN = {
     "true": True, "false": False, "None": None, "Some": lambda value: value, "replicate": replicated,
+    "take": lambda count: lambda items: items[:count],
+    "slice_set": lambda items: lambda at: lambda value: [*items[:at], value, *items[at + 1:]],
     "map": lambda function: lambda items: [function(it) for it in items],
     "filter": lambda function: lambda items: [it for it in items if function(it)],
     "nat_lt": lambda a: lambda b: a < b,
@@ -149,8 +151,6 @@ BUILTIN = {
     "Platform": 0, "OsInitiated": 1, "depth_of": lambda depth: depth,
     "asks": {"Nothing": None, "States": tuple, "Reset": lambda own: own},
 }
-FAULTS = ("WrongCount", "BadMpidr", "SameMpidr", "NoBootCore", "LateBootCore", "TooManyLevels", "FallingClass",
-          "TooManyRows", "BadWord", "SameWord", "WrongType", "BadStates", "BadSystem", "BadFunctions")
 
 
 def lazy(parser_of_body):
@@ -170,23 +170,27 @@ def curried(arguments, body, names):
 class Examples:
     """The examples, with what these rules say of them."""
 
-    def __init__(self, rules):
-        self.names = {**BUILTIN, "faults": {name: at for at, name in enumerate(FAULTS, 1)}, **rules}
-        self.read("Machines")
+    def __init__(self, rules, crate, used):
+        """Those of a crate, where `used` is a file of some crate's proofs/ that others use."""
+        self.names, self.crate = {**BUILTIN, **rules}, crate
+        self.read(f"{TOP}/crates/{used}.antt" if "/" in used else self.path(used))
         self.shared = dict(self.names)
 
+    def path(self, name):
+        return f"{TOP}/crates/{self.crate}/proofs/{name}.antt"
+
     @staticmethod
-    def parts(name):
+    def parts(path):
         """Each definition of a file: the lines of it, as one text."""
-        with open(f"{PROOFS}/{name}.antt", encoding="utf-8") as file:
+        with open(path, encoding="utf-8") as file:
             lines = [line for line in file.read().split("\n") if not line.startswith(("--", "use ", "unfolding "))]
         text = "\n".join(lines)
         return [it for it in re.split(r"\n(?=[^\s)}])", text) if it.strip()]
 
-    def read(self, name):
+    def read(self, path):
         """Reads a file: its abbreviations, as far as this language has their words, and its theorems."""
         self.theorems, kinds = [], {}
-        for part in self.parts(name):
+        for part in self.parts(path):
             head = re.match(r"(abbrev |unfoldable )?(?:pub )?(\w+)((?: [a-z]\w*)*)\s*([:=])\s*", part)
             if not head:
                 continue
@@ -203,12 +207,12 @@ class Examples:
                 arguments = head[3].split()
                 self.names[words] = lazy(lambda names, a=arguments, b=body: curried(a, b, self.names))
 
-    def rows(self):
+    def rows(self, files="*Rows"):
         """Each theorem by its name, and its two sides; nothing in their place where a word of it is unknown."""
-        for path in sorted(glob.glob(f"{PROOFS}/*Rows.antt")):
+        for path in sorted(glob.glob(self.path(files))):
             name = os.path.basename(path)[:-len(".antt")]
             self.names = dict(self.shared)
-            self.read(name)
+            self.read(path)
             for theorem, text in self.theorems:
                 try:
                     yield f"{name} {theorem}", Parser(tokens_of(text)).expression()(self.names)

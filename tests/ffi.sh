@@ -8,7 +8,7 @@ aligned=out/lib/aarch64/libpsci_ffi-strict-align.a
 # what an archive may want of its user; how many bytes of text and data it may have, where an access
 # that is not aligned is made of bytes, too; and a call of stack
 wants='memcpy|memmove|memset|rattle_alloc|rattle_realloc|rattle_dealloc'
-most_text=81920
+most_text=98304
 most_aligned_text=131072
 most_stack=8192
 
@@ -171,9 +171,7 @@ proving_lib() {
     done
     printf '%s\n' aarch64/{SHA256SUMS,libpsci_ffi-strict-align.a,libpsci_ffi.a} \
         x86_64/{SHA256SUMS,libpsci_ffi.a} > "$work/lines"
-    for file in include/*.h; do
-        printf '%s\n' "aarch64/${file##*/}" "x86_64/${file##*/}" >> "$work/lines"
-    done
+    printf '%s\n' {aarch64,x86_64}/{psci,psci_ctl}.h >> "$work/lines"
     LC_ALL=C sort -o "$work/lines" "$work/lines"
     (cd "$fresh/out/lib" && find . -type f | sed 's|^\./||' | LC_ALL=C sort) > "$work/out"
     answers "the files of ./psci prove lib"
@@ -308,8 +306,12 @@ unheeded() {
 # the rules of a port, each tried and each left out
 c_rules() {
     local name
+    if tests/tried > "$work/out"; then pass; else
+        fail "the table of docs/PORTING.md"
+        cat "$work/out"
+    fi
     has_cc "the rules of a port" || return
-    for name in rules resets link lock; do
+    for name in rules resets link lock power; do
         build_c "$name" "hosts/$name.c" hosts/machine.c || return
         told "$name"
     done
@@ -322,7 +324,8 @@ c_rules() {
         's/^    if (pending)$/    if (false)/' '/a later try/d'
     unheeded resets '/^        open_anew(&two_by_two);$/d' 's/open_anew(&two_by_two);/cold_reset(\&two_by_two);/' \
         's/^    if (cleans)$/    if (false)/' 's/^    if (!invalidates)$/    if (true)/' \
-        's/box\[0\].some = kept;/box[0].some = true;/'
+        's/box\[0\].some = kept;/box[0].some = true;/' 's/if (is_waited_for)/if (false)/'
+    unheeded boot 's/return word & 0x40000000 ?.*/return (uint64_t)(int64_t)code;/'
     unheeded link 's/if (round % 4 == 0)/if (false)/; s/has_timer \&\& round/false \&\& round/' \
         's/^    post();$//' 's/done.ack.some)/false)/'
     unheeded lock 's/^    while (atomic_flag_test_and_set_explicit.*$/    while (0)/'
@@ -356,6 +359,32 @@ c_hosts() {
     fi
     told boot
     told stop
+}
+
+# The machines of examples/boards and faulty descriptions by the library, and that wrong hosts are seen:
+# calls in the board's words, another boot core, states and MPIDRs that are not the machine's.
+c_machines() {
+    local edit
+    has_cc "machines in C" && has_python "machines in C" || return
+    build_c named hosts/named.c hosts/words.c || return
+    if tests/machine-library "$work/named" "$work" > "$work/out" 2>&1; then pass; else
+        fail "tests/machine-library"
+        head -n 5 "$work/out"
+    fi
+    for edit in 's/psci_smc_machine(&place, &machine, core/psci_smc_machine(\&place, \&unnamed, core/' \
+        's/&words.machine, words.boot)/\&words.machine, words.machine.mpidrs[0])/' \
+        's/psci_mpidr_of(&machine, it.core)/(uint64_t)it.core/' 's/asked->states\[level\]/asked->states[0]/'; do
+        sed "$edit; s/^static struct words words;/static struct psci_machine_place unnamed;&/" \
+            hosts/named.c > "$work/unheeded.c"
+        if ! cc -std=c11 -O2 -w -Iinclude -Ihosts -o "$work/unheeded" "$work/unheeded.c" hosts/words.c \
+            hosts/pool.c "$archive" > "$work/err" 2>&1; then
+            fail "hosts/named.c by $edit"
+        elif tests/machine-library "$work/unheeded" "$work" > "$work/out" 2>&1; then
+            fail "hosts/named.c is not seen to be wrong by $edit"
+        else
+            pass
+        fi
+    done
 }
 
 # the same calls and scripts over the archives for aarch64, by an emulator

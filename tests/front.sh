@@ -66,6 +66,12 @@ front() {
     front_of . --unproved replay
     expect "./psci --unproved replay, the second time" 3 "$unproved"$'\n'"$fault"
     answers "./psci --unproved replay, the second time"
+    # a section that clang makes where it checks each access
+    if readelf -SW "$XDG_CACHE_HOME"/gumdarts/unproved/psci_replay-* | grep -q asan_globals; then
+        fail "what was compiled unproved checks each access to memory"
+    else
+        pass
+    fi
     [ $(($(processor_time) - begun)) -le 500 ] || fail "the second unproved run took more than 5 seconds"
     touch "$fresh/crates/psci_replay/src/main.rt"
     front_of "$fresh" replay

@@ -3,8 +3,11 @@
 
 payload=hosts/payload
 
-# profile_of PEER: records of one firmware by two conduits have one profile
-profile_of() { echo "$payload/profiles/${1%-smc}"; }
+# profile_of PEER: records of one firmware by another conduit or loader have one profile
+profile_of() {
+    local peer=${1%-smc}
+    echo "$payload/profiles/${peer%-uboot}"
+}
 
 # each stored record is judged as its stored report says, and its groups are those of the baseline
 judged_records() {
@@ -24,6 +27,23 @@ judged_records() {
             head -n 3 "$work/err"
         fi
     done
+    judged_ours
+}
+
+# ours differs in nothing; its lists have each answer that a call may have, and its storms all but two, which
+# end a life
+judged_ours() {
+    local peer
+    for peer in el3 ours-in-tfa-hooks; do
+        if grep -q "^differs\|^undecided" "$payload/reports/$peer.txt"; then fail "records of $peer"; else pass; fi
+    done
+    ./psci compare --tallies "$work"/calls/el3/*.record > "$work/out"
+    if cmp -s "$work/out" "$payload/reports/el3.tallies"; then pass; else fail "$payload/reports/el3.tallies"; fi
+    if grep -q never "$work/out"; then fail "answers that never came: $(grep -c never "$work/out")"; else pass; fi
+    ./psci compare --tallies "$work"/calls/el3/storm-*.record | grep never | cut -d' ' -f2,4 > "$work/out"
+    if [ "$(tr '\n' ' ' < "$work/out")" = "SYSTEM_RESET stop SYSTEM_RESET2 stop " ]; then pass; else
+        fail "answers that never came in storms: $(cat "$work/out")"
+    fi
 }
 
 # judged_as STATUS TEXT WORD..: what ./psci compare ends with, and a text in what it says
@@ -59,13 +79,15 @@ judged_words() {
     judged_as 0 "the groups are those" --baseline "$work/groups" --profile $profile "$work/calls.record"
     judged_as 6 "vanished group" --baseline "$work/groups" --profile $profile $short
     judged_as 6 "new group" --baseline /dev/null --profile $profile "$work/calls.record"
+    judged_as 0 "| CPU_ON | -5 | 1 | 0 |" --tallies $short
     judged_as 7 "undecided" --bound 1 --profile $profile $short
 }
 
-# records that the second model makes: none differs, and of changed ones nine in ten are found
+# records that the second model and the program make: none differs, and of changed ones nine in ten are
+# found; and the reducer of lists
 judged_model() {
     local way
-    for way in "made 20" "changed 60"; do
+    for way in "made 20" "changed 60" "program 8" "spoiled 3" "shorter 40"; do
         has_python "tests/judged $way" || return
         # shellcheck disable=SC2086
         if tests/judged $way > "$work/out" 2>&1; then pass; else
@@ -93,4 +115,47 @@ judged_live() {
     judged_as 6 "1 x FEATURES of CPU_ON: theirs -1; ours 0" --profile "$profile" "$work"/live/*.record
     judged_as 0 "agrees    live/lives:" --profile "$profile" "$work/live/lives.record"
     judged_as 0 "agrees    live/standby" --profile "$profile" "$work/live/standby.record"
+    judged_again "$profile"
+    judged_virtio "$profile"
+    judged_kvm
+}
+
+# the monitor for KVM compiles; booting it takes minutes
+judged_kvm() {
+    [ -e /usr/aarch64-linux-gnu/lib/libc.a ] || { skip "$payload/kvm" libc6-dev-arm64-cross; return; }
+    if aarch64-linux-gnu-gcc -O2 -Wall -Wextra -Werror -std=gnu11 -static -pthread -o "$work/vmm" \
+        "$payload/kvm/vmm.c" > "$work/out" 2>&1; then pass; else fail "$payload/kvm/vmm.c"; fi
+    if "$payload/kvm/run" > "$work/out" 2>&1 || ! grep -q "needs a folder" "$work/out"; then
+        fail "$payload/kvm/run without words"
+    else pass; fi
+}
+
+# judged_virtio PROFILE: a machine whose UART is hidden, with a virtio console of either form
+judged_virtio() {
+    local form machine="qemu-system-aarch64 -cpu cortex-a57 -smp 4 -m 1024 -display none -monitor none -net none"
+    command -v dtc > /dev/null || { skip "a virtio console" dtc; return; }
+    $machine -M "virt,dumpdtb=$work/virt.dtb" > /dev/null 2>&1
+    dtc -q -I dtb -O dts "$work/virt.dtb" | sed 's/pl011@.*{$/& status = "disabled";/' |
+        dtc -q -I dts -O dtb -o "$work/virt.dtb"
+    for form in true false; do
+        "$payload/run" --seconds 60 --payload "$work/payload/payload.bin" --out "$work/virtio-$form" lives --command \
+            "$machine -M virt -dtb $work/virt.dtb -global virtio-mmio.force-legacy=$form -chardev stdio,id=it -device
+             virtio-serial-device -device virtconsole,chardev=it -kernel IMAGE" > "$work/out" 2>&1 || fail "$payload/run"
+        judged_as 0 "agrees    virtio-$form/lives: 1" --profile "$1" "$work/virtio-$form/lives.record"
+    done
+}
+
+# judged_again PROFILE: one call is left of a list that differs, and a storm that is replayed has the same record
+judged_again() {
+    local way
+    "$payload/run" --on qemu --seconds 60 --payload "$work/payload/payload.bin" --out "$work/live" \
+        --shorten "$1" affinity > "$work/out" 2>&1 || fail "$payload/run --shorten"
+    if grep -q "^affinity: 2 of " "$work/out"; then pass; else fail "$payload/run --shorten: $(head -n 1 "$work/out")"; fi
+    for way in first second; do
+        "$payload/run" --on qemu --replayable --seconds 120 --payload "$work/payload/payload.bin" \
+            --out "$work/$way" storm-down-1 > "$work/out" 2>&1 || fail "$payload/run --replayable"
+    done
+    if cmp -s "$work/first/storm-down-1.record" "$work/second/storm-down-1.record"; then pass; else
+        fail "a storm that is replayed has another record"
+    fi
 }

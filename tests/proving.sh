@@ -53,5 +53,25 @@ END
     comm -23 "$work/lines" "$work/names" > "$work/out"
     : > "$work/lines"
     answers "each library that ./psci prove proves is kept"
+    kept_of_gate "$kit" "$fresh"
     proving_lib "$kit" "$fresh"
+}
+
+# kept_of_gate KIT FOLDER: what `rt ci` has proved there is kept, but for a library that is older than a source of
+# a crate below it, and ./psci prove does not prove it again
+kept_of_gate() {
+    local kit=$1 fresh=$2 name
+    for name in psci_parts psci_text psci_abi; do
+        mkdir -p "$fresh/crates/$name/out/rlib/$name.rlib"
+        : > "$fresh/crates/$name/out/rlib/$name.rlib/of-the-gate"
+    done
+    touch -d "1 hour ago" "$fresh/crates/psci_abi/out/rlib/psci_abi.rlib"
+    XDG_CACHE_HOME=$work/gate-cache PATH=$kit/bin:$PATH "$fresh/tools/prove" --keep > "$work/out" 2> "$work/err"
+    echo $? > "$work/got"
+    expect "tools/prove --keep" 0 "psci: kept 2 libraries that the gate has proved"
+    XDG_CACHE_HOME=$work/gate-cache PATH=$kit/bin:$PATH "$fresh/psci" prove < /dev/null > "$work/out" 2> "$work/err"
+    find "$work/gate-cache" -name of-the-gate | sed 's|.*/proved/||; s|-[^/]*/| |; s|/.*||' | sort > "$work/out"
+    printf '%s\n' "psci_parts psci_parts.rlib" "psci_text psci_text.rlib" > "$work/lines"
+    answers "what ./psci prove takes of the gate"
+    rm -rf "$fresh"/crates/*/out/rlib
 }

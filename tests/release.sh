@@ -23,8 +23,7 @@ release() {
     (cd "$top_of" && find . -type f ! -name SHA256SUMS ! -path './licenses/*' | sed 's|^\./||' | LC_ALL=C sort) > "$work/out"
     {
         printf '%s\n' LICENSE README bin/psci lib/x86_64/libpsci_ffi.a lib/aarch64/libpsci_ffi{,-strict-align}.a \
-            share/man/man1/psci.1 share/bash-completion/completions/psci
-        for name in include/*.h; do echo "$name"; done
+            share/man/man1/psci.1 share/bash-completion/completions/psci include/psci.h include/psci_ctl.h
     } | LC_ALL=C sort > "$work/lines"
     answers "the files of the archive"
     for name in clap itoa memchr; do

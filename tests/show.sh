@@ -46,6 +46,7 @@ END
         fi
     fi
     shown_colors
+    state_colors
     shown_ends
 }
 
@@ -57,6 +58,41 @@ shown_colors() {
     cp "$work/plain" "$work/out"
     cp tests/shown/late-acknowledgement.txt "$work/lines"
     answers "show --color always"
+}
+
+# the scripts of which the colored texts are stored: together they have every state
+colored="tests/scripts/suspend/retention-woken-and-reset tests/scripts/suspend/one-level-sleeps-and-wakes"
+
+# colors WORD..: which letter has which color in the colored scripts, by a command that shows one
+colors() {
+    local script
+    for script in $colored; do "$@" < "$script.psci"; done | grep -o $'\x1b\[[0-9]*m[^\x1b]' | cut -c 3- | grep -v '^0m' | sort -u
+}
+
+show_in_color() { show --color always; cat "$work/out"; }
+
+# what tools/show writes, of which the folder is given
+view_in_color() { show --json; "$1/show" --color always < "$work/out"; }
+
+# the letter of each state has its color, by the program and in a window of ./psci show; two colors that
+# are exchanged are found
+state_colors() {
+    local pair
+    printf '%s\n' 32mR 33mg 34mb 34md 34mr 36mP 36mS 90m. | sort > "$work/colors"
+    colors show_in_color > "$work/found"
+    if cmp -s "$work/colors" "$work/found"; then pass; else fail "the colors of show"; fi
+    has_python tools/show || return 0
+    colors view_in_color tools > "$work/found"
+    if cmp -s "$work/colors" "$work/found"; then pass; else fail "the colors of tools/show"; fi
+    for pair in "32 33" "33 34" "34 36" "36 90"; do
+        rm -rf "$work/tools"
+        cp -r tools "$work/tools"
+        # shellcheck disable=SC2086
+        set -- $pair
+        sed "/^COLORS/,/}/{s/\b$1\b/0/g;s/\b$2\b/$1/g;s/\b0\b/$2/g}" tools/views/lines.py > "$work/tools/views/lines.py"
+        colors view_in_color "$work/tools" > "$work/found"
+        if ! cmp -s "$work/colors" "$work/found"; then pass; else fail "the colors $pair can be exchanged"; fi
+    done
 }
 
 # how narrow a line may be, and how a script ends
@@ -160,7 +196,7 @@ completed() {
         echo "$wanted" > "$work/lines"
         answers "completion of $line"
     done << 'EOF'
-./psci s|storm show
+./psci s|storm show sweep
 ./psci t|threads try
 ./psci threads --|--board --seed --count --counts --keep --help
 ./psci storm --se|--seed --seeds
@@ -174,13 +210,17 @@ completed() {
 ./psci help d|draw
 ./psci tr|try
 ./psci c|compare
-./psci compare --|--quick --machine --script --profile --declare --each --times --baseline --write-baseline --tap --junit --bound --limit --whole --help
+./psci compare --|--quick --machine --script --profile --declare --tallies --each --times --baseline --write-baseline --tap --junit --bound --limit --whole --help
 ./psci compare --q|--quick
 ./psci replay --|--machine --help
+./psci sweep t|threads
+./psci sweep storm --en|--engine --engine-words
+./psci sweep storm --engine p|parallel
 ./psci prove l|lib
 ./psci prove lib --target a|aarch64
 EOF
-    for option in $(options) $(view_options) --seeds --unproved --target --quick --script; do
+    for option in $(options) $(view_options) --seeds --unproved --target --quick --script \
+        --out --engine --engine-words --jobs --minutes --chunk --boards --model --costs; do
         if grep -q -- "$option" completions/psci.bash &&
             sed 's/\\-/-/g' docs/psci.1 | grep -- "$option" > /dev/null; then pass; else
             fail "$option is not in completions/psci.bash, or not in docs/psci.1"

@@ -7,7 +7,7 @@ are built of it:
     aarch64   libpsci_ffi.a                of general registers alone
               libpsci_ffi-strict-align.a   of these, and each access is aligned as it is wide
 
-They come into out/lib/MACHINE/, with the headers of include/ and with SHA256SUMS, which
+They come into out/lib/MACHINE/, with the headers of what is in them and with SHA256SUMS, which
 `sha256sum -c` reads. The same sources give the same bytes.
 
 The compiler has no words for the flags of an archive: it calls the clang of its toolchain's folder.
@@ -25,6 +25,8 @@ import repo
 from sources import KIT
 
 CRATE = "psci_ffi"
+# what is declared there is in the archives; include/psci_beside.h goes with hosts/beside/beside.c
+HEADERS = ("psci.h", "psci_ctl.h")
 
 # A file of the library, and the flags of clang that it is compiled with besides those of a build.
 Archive = namedtuple("Archive", "file flags")
@@ -103,8 +105,8 @@ def build(proving, machine):
         proving.call(CRATE, [f"{KIT}/bin/rattle", "build", *words, "--crate-checked", checked,
                              "--toolchain", tools, "--backend", "llvm",
                              "-o", f"{made}/{archive.file}"])
-    for header in glob.glob(f"{top}/include/*.h"):
-        shutil.copyfile(header, f"{made}/{os.path.basename(header)}")
+    for header in HEADERS:
+        shutil.copyfile(f"{top}/include/{header}", f"{made}/{header}")
     sums(made)
     folder = f"{top}/out/lib/{machine}"
     shutil.rmtree(folder, ignore_errors=True)

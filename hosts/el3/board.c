@@ -15,7 +15,8 @@ const struct psci_board board = {
     .levels = {DOMAINS(CLUSTERS * GROUPS, CLUSTER), DOMAINS(GROUPS, CLUSTERS), DOMAINS(1, GROUPS)},
 };
 
-/* A domain is named by any core below it: the machine's words know nothing of the board's clusters. */
+/* A domain is named by any core below it: the machine's words know nothing of the board's clusters. Of the
+ * highest one, below which all cores are, monitor.c clears the fields before. */
 uint64_t affinity_of(uint64_t mpidr) {
     unsigned core = core_of(mpidr);
     uint64_t word = 0;

@@ -26,10 +26,19 @@ static bool names_a_core(unsigned function) {
     return function == CPU_ON || function == AFFINITY_INFO || function == NODE_HW_STATE;
 }
 
-/* x1 as the board has it. */
+/* What x1 names, of 32 or 64 bits. */
+static uint64_t named_by(const uint64_t *x) { return x[0] & SMC64 ? x[1] : (uint32_t)x[1]; }
+
+/* x1 as the board has it. The fields below the level that is asked about say nothing, so at the highest
+ * level a word names the whole board whether or not it is that of a core. */
 static uint64_t target_of(const uint64_t *x) {
-    uint64_t target = x[0] & SMC64 ? x[1] : (uint32_t)x[1];
-    return names_a_core(function_of(x[0])) ? affinity_of(target) : x[1];
+    unsigned function = function_of(x[0]);
+    uint64_t target = named_by(x);
+    if (!names_a_core(function))
+        return x[1];
+    if (function != CPU_ON && (uint32_t)x[2] == LEVELS - 1)
+        target &= ~0ull << 8 * (LEVELS - 1);
+    return affinity_of(target);
 }
 
 /* The code of a 64-bit function is sign-extended, that of a 32-bit one stands in the low half. */
@@ -86,7 +95,7 @@ static uint64_t on_call(unsigned core, const uint64_t *x) {
 
 /* It is answered by one load, without the lock: who holds it is not waited for. */
 static uint64_t on_poll(unsigned core, const uint64_t *x) {
-    int32_t code = psci_poll(&pollers[core], target_of(x));
+    int32_t code = psci_poll(&pollers[core], affinity_of(named_by(x)));
     record_poll(core, x, code);
     return register_of(code, x[0]);
 }

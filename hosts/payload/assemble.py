@@ -9,7 +9,9 @@ A list has a line for each step:
     CORE poll  X0 [..] until CODE      asks until it gets this code, for 300 ms at most
     CORE await CORE TIMES              until that core has entered so often, for 300 ms at most
     CORE delay MICROSECONDS
-    CORE storm SEED MANY STANDBY DOWN  so many drawn calls of each core, with these power states (0: none)
+    CORE storm SEED MANY STANDBY DOWN [1]
+                                       so many drawn calls of each core, with these power states (0: none); with 1
+                                       every second is one of the calls that are seldom made, good or bad
     reset                              what follows is played after the reset of the system
 A step begins when all before it are over, for 3 s at most; one that begins with + runs beside the one before.
 Words are numbers, E0 to E15 (the payload's entry points), E1+2, B+16 or B-16 (beside where it is loaded), and names

@@ -8,13 +8,17 @@ enum { MOST_CORES = 16 }; /* head.S, too */
 struct machine {
     uint32_t is_smc, gic_version, cores;
     uint32_t timer; /* the number of the timer's interrupt */
-    uint64_t uart, uart_is_8250;
+    uint64_t uart, uart_is_8250, virtio; /* the console: of a UART, or else of virtio */
     uint64_t gic, gic_of_core; /* the distributor; the CPU interface, or the redistributors */
 };
 
 extern struct machine machine;
 extern uint64_t affinities[MOST_CORES]; /* of each core, in rising order */
 extern char head[], entries[];
+
+/* Whether a virtio console stands there; a letter for it. */
+int is_virtio_console(uint64_t at);
+void virtio_put(char letter);
 
 /* Reads a device tree; says whether it is one that has all that is needed. */
 int read_tree(const void *tree);

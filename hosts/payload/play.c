@@ -3,6 +3,7 @@
 #include "record.h"
 
 enum { STEP_TIME = 3000000, ENTRY_TIME = 300000, POLL_TIME = 300000 };
+enum { SYSTEM_OFF = 0x84000008 };
 
 uint64_t conduit_call(uint64_t x[4], uint32_t is_smc);
 void booted(const void *tree);
@@ -114,7 +115,8 @@ static void play(uint32_t core, const struct step *step) {
     case DELAY: delay(step->more); break;
     case AWAIT: await(core, (uint32_t)x[0], (uint32_t)step->more); break;
     case STORM:
-        storm.seed = x[0], storm.standby = x[1], storm.down = x[2], storm.many = step->more;
+        storm.seed = x[0], storm.standby = x[1], storm.down = x[2], storm.is_wide = x[3];
+        storm.many = step->more;
         storm_begins();
         storm_of(core);
         storm_ends();
@@ -142,15 +144,17 @@ static void play_all(uint32_t core) {
     if (storm.is_on) storm_of(core);
 }
 
-/* Begins with the first step of this life: it counts the resets of the same list. */
-static void begin_life(void) {
+/* Begins with the first step of this life: it counts the resets of the same list. Says whether the list
+ * has such a life: it has none behind a reset that it did not look for. */
+static int begin_life(void) {
     uint32_t last = list.steps ? list.step[list.steps - 1].life : 0, first = 0;
-    life = survived.name == list.name && survived.lives <= last ? survived.lives : 0;
-    survived.name = list.name;
+    life = survived.name == list.name ? survived.lives : 0;
+    survived.name = life <= last ? list.name : 0;
     survived.lives = life + 1;
     while (first < list.steps && list.step[first].life != life) first++;
     for (uint32_t core = 0; core < MOST_CORES; core++) cores[core].next = first;
     done = first;
+    return life <= last;
 }
 
 void booted(const void *tree) {
@@ -159,11 +163,12 @@ void booted(const void *tree) {
         *(const uint32_t *)tree != __builtin_bswap32(0xd00dfeed))
         tree = (const void *)((uintptr_t)head & ~0x3ffffffful);
     if (!read_tree(tree)) return;
-    begin_life();
+    int is_of_list = begin_life();
     LINE("head", 1, (uintptr_t)head, (uintptr_t)entries, machine.is_smc, machine.cores, 0);
     interrupts_ready();
     cores[0].entries = 1;
-    play_all(0);
+    if (is_of_list) play_all(0);
+    else ask(0, (uint64_t[]){SYSTEM_OFF, 0, 0, 0}, ANNOUNCED);
 }
 
 void entered(uint64_t core, uint64_t at, uint64_t context) {

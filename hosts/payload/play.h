@@ -36,7 +36,7 @@ void ask_with_timer(uint32_t core, const uint64_t x[4], uint64_t microseconds);
  * kept. */
 struct storm {
     volatile uint32_t is_on;
-    volatile uint64_t seed, many, standby, down;
+    volatile uint64_t seed, many, standby, down, is_wide;
 };
 extern struct storm storm;
 void storm_begins(void);

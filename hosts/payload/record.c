@@ -14,7 +14,9 @@ static struct entry kept[MOST_ENTRIES];
 static volatile uint32_t many_kept, is_writing;
 
 static void put(char letter) {
-    if (machine.uart_is_8250) {
+    if (!machine.uart) {
+        virtio_put(letter);
+    } else if (machine.uart_is_8250) {
         while (!(*(volatile uint8_t *)(machine.uart + STATUS_8250) & EMPTY_8250)) {}
         store_byte(machine.uart, (uint8_t)letter);
     } else {

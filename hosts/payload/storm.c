@@ -1,12 +1,20 @@
-/* Calls that are drawn: those of CPU_ON and AFFINITY_INFO most, with cores that come and go. */
+/* Calls that are drawn: those of CPU_ON and AFFINITY_INFO most, with cores that come and go. Every second
+ * one of a wide storm is one of the rest, good or bad, so that each answer comes that a call may have. */
 #include "clock.h"
 #include "play.h"
 #include "record.h"
 
 enum { VERSION = 0x84000000, CPU_SUSPEND, CPU_OFF, CPU_ON, AFFINITY_INFO };
 enum {
+    MIGRATE_INFO_TYPE = 0x84000006,
     FEATURES = 0x8400000a,
     NODE_HW_STATE = 0x8400000d,
+    SYSTEM_SUSPEND,
+    SET_SUSPEND_MODE,
+    SYSTEM_RESET2 = 0x84000012,
+    UNKNOWN = 0x8400001f,
+    NO_CORE = 0x1000000, /* a bit that is in no core's word */
+    NO_STATE = 0x20000,  /* a bit that is in no power state word */
     SMC64 = 0x40000000,
     LAST_FUNCTION = 0x14
 };
@@ -31,6 +39,42 @@ void storm_begins(void) {
     storm.is_on = 1;
 }
 
+static void told(uint32_t core, uint64_t x0, uint64_t x1, uint64_t x2, uint64_t x3) {
+    ask(core, (uint64_t[]){x0, x1, x2, x3}, TOLD);
+}
+
+static void asleep(uint32_t core, uint64_t waits, uint64_t x0, uint64_t x1, uint64_t x2,
+                   uint64_t x3) {
+    ask_with_timer(core, (uint64_t[]){x0, x1, x2, x3}, waits);
+}
+
+/* One of the calls that are seldom made otherwise. */
+static void rare_call(uint32_t core, uint64_t bits) {
+    uint64_t width = bits >> 63 ? SMC64 : 0, target = affinities[(bits >> 8 & 15) % machine.cores];
+    uint64_t entry = (uintptr_t)entries + 8 * (bits >> 40 & 15), context = bits >> 20 & 0xffff;
+    uint64_t waits = 20 + (bits >> 8 & 255), some = bits >> 44 & 3, kind = bits % 16;
+    /* what looks at all cores at once is drawn seldom: the judge has to, too */
+    if (kind >= 13 && bits >> 51 & 3) kind -= 13;
+    switch (kind) {
+    case 0: told(core, VERSION, 0, 0, 0); break;
+    case 1: told(core, MIGRATE_INFO_TYPE, 0, 0, 0); break;
+    case 2: told(core, UNKNOWN | width, 0, 0, 0); break;
+    case 3: told(core, SYSTEM_RESET2 | width, 1, context, 0); break;
+    case 4: told(core, CPU_ON | width, target | NO_CORE, entry, context); break;
+    case 5: told(core, CPU_ON | width, target, entry + 2, context); break;
+    case 6: told(core, AFFINITY_INFO | width, target | (some ? 0 : NO_CORE), some, 0); break;
+    case 7: told(core, AFFINITY_INFO | width, target, 0, 0); break;
+    case 8: told(core, NODE_HW_STATE | width, target, some, 0); break;
+    case 9: told(core, NODE_HW_STATE | width, target | NO_CORE, 0, 0); break;
+    case 10: asleep(core, waits, CPU_SUSPEND | width, storm.down | NO_STATE, entry, context); break;
+    case 11: asleep(core, waits, CPU_SUSPEND | width, storm.down, entry + 2, context); break;
+    case 12: asleep(core, waits, CPU_SUSPEND | width, storm.down, entry, context); break;
+    case 13: told(core, SET_SUSPEND_MODE, some, 0, 0); break;
+    case 14: told(core, SET_SUSPEND_MODE, some & 1, 0, 0); break;
+    case 15: asleep(core, waits, SYSTEM_SUSPEND | width, entry + (some ? 0 : 2), context, 0); break;
+    }
+}
+
 static void drawn_call(uint32_t core, uint64_t bits) {
     uint64_t width = bits >> 63 ? SMC64 : 0, target = affinities[(bits >> 8 & 15) % machine.cores];
     uint64_t entry = (uintptr_t)entries + 8 * (bits >> 40 & 15), context = bits >> 20 & 0xffff;
@@ -53,8 +97,13 @@ static void drawn_call(uint32_t core, uint64_t bits) {
 
 void storm_of(uint32_t core) {
     while (drawn[core] < storm.many) {
-        drawn[core]++;
-        drawn_call(core, draw(core));
+        uint64_t bits = draw(core);
+        uint32_t at = drawn[core]++;
+        /* a wide storm begins with SYSTEM_SUSPEND, a bad one and a good one, while all others are off */
+        if (storm.is_wide && !core && at < 2)
+            rare_call(core, (bits & ~(3ul << 51 | 3ul << 44)) | (uint64_t)at << 44 | 15);
+        else if (storm.is_wide && bits >> 50 & 1) rare_call(core, bits);
+        else drawn_call(core, bits);
     }
     if (core) ask(core, (uint64_t[]){CPU_OFF, 0, 0, 0}, ANNOUNCED);
 }

@@ -154,8 +154,14 @@ def lives(reset):
     return [*CORE_1_ON, "0 call CPU_ON_64 2 E3 0x33", *ends, *again, *ends, *again]
 
 
-def storm(seed, down_word="0"):
-    return ["0 call VERSION", f"0 storm {seed} 120 1 {down_word}"]
+# the kinds of storms: how many calls of each core, and the power states
+STORMS = {"storm": "120 1 0", "storm-down": "120 1 0x10003", "storm-wide": "40 1 0x1010033 1"}
+
+
+def storm(kind, seed):
+    """Every second wide one is in OS-initiated mode."""
+    mode = ["0 call SET_SUSPEND_MODE 1"] if kind == "storm-wide" and seed % 2 else []
+    return ["0 call VERSION", *mode, f"0 storm {seed} {STORMS[kind]}"]
 
 
 def topics():
@@ -166,16 +172,16 @@ def topics():
     made.update({f"on-entry-{at:02}": on_entry(it) for at, it in enumerate(ENTRIES)})
     made.update({f"down-{at:02}": down(it) for at, it in enumerate(DOWNS)})
     made["lives"], made["lives-warm"] = lives("SYSTEM_RESET"), lives("SYSTEM_RESET2_64 0 0")
-    made.update({f"storm-{seed}": storm(seed) for seed in range(1, 6)})
-    made.update({f"storm-down-{seed}": storm(seed, "0x10003") for seed in range(1, 4)})
+    for kind, many in zip(STORMS, (5, 3, 6)):
+        made.update({f"{kind}-{seed}": storm(kind, seed) for seed in range(1, many + 1)})
     return made
 
 
 def lines(name):
-    """The lines of a topic; of storm-N and storm-down-N, of any seed N."""
+    """The lines of a topic; of storm-N and its like, of any seed N."""
     kind, _, seed = name.rpartition("-")
-    if kind in ("storm", "storm-down") and seed.isdigit():
-        body = storm(int(seed), "0x10003" if kind == "storm-down" else "0")
+    if kind in STORMS and seed.isdigit():
+        body = storm(kind, int(seed))
     else:
         body = topics()[name]
     return [*body, "0 stop SYSTEM_OFF"]

@@ -56,6 +56,7 @@ static void keep(const struct node *node, const struct node *above) {
     if (is_compatible(node, "arm,pl011") && !machine.uart) machine.uart = at;
     if (is_compatible(node, "ns16550a") && !machine.uart)
         machine.uart = at, machine.uart_is_8250 = 1;
+    if (is_compatible(node, "virtio,mmio") && at && is_virtio_console(at)) machine.virtio = at;
     if (is_compatible(node, "arm,gic-v3")) keep_gic(node, above, 3);
     if (is_compatible(node, "arm,cortex-a15-gic") || is_compatible(node, "arm,gic-400"))
         keep_gic(node, above, 2);
@@ -98,5 +99,5 @@ int read_tree(const void *tree) {
             at += 2 + (big(at) + 3) / 4;
         } else if (token != NOTHING) break;
     }
-    return machine.cores && machine.uart && machine.gic && machine.timer;
+    return machine.cores && (machine.uart || machine.virtio) && machine.gic && machine.timer;
 }

@@ -10,7 +10,7 @@ from .programs import REPLAYER, WHOLE, Stopped, built, complain, is_current, kit
 from .running import write
 
 # the program's commands, and those that are here alone
-OWN = ("draw", "try", "plain", "compare", "prove")
+OWN = ("draw", "try", "plain", "compare", "sweep", "prove")
 # the options of show and draw that have a value in the next word
 VALUED = ("--width", "--color", "--from", "--to", "--cores", "--clock")
 # the options of show that tools/show answers
@@ -25,6 +25,7 @@ More commands of ./psci:
   try                        Serve a page on this machine that runs scripts as one types
   plain                      Make a script by name, as `call 0 cpu_on 3`, a plain one
   compare                    Hold the record of a port's run to the program, or judge any firmware's calls
+  sweep                      Make runs from many seeds, on all processors or on many machines
   prove                      Prove and build the program of replay
   prove all                  Prove and build the program of every command
   prove lib                  Prove the C library, and build it into out/lib, for --target x86_64 or aarch64
@@ -159,6 +160,10 @@ class Front:
     def compare(self, words):
         os.execv(f"{repo.TOP}/tools/compare", ["compare", *words[1:]])
 
+    def sweep(self, words):
+        from sweep import command
+        return command.main(words[1:], self.program)
+
     # ---- what is here alone
 
     def plain(self, words):
@@ -215,7 +220,7 @@ class Front:
     def run(self, words):
         """Runs the command that these words name."""
         own = {"draw": self.draw, "try": self.serve, "plain": self.plain, "compare": self.compare,
-               "prove": self.prove}
+               "sweep": self.sweep, "prove": self.prove}
         if words and words[0] in own:
             return own[words[0]](words)
         if words and words[0] in ("help", "--help", "-h"):

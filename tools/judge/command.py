@@ -3,7 +3,7 @@ import argparse
 import os
 import sys
 
-from . import profile, record, report
+from . import profile, record, report, tallies
 from .groups import grouped
 from .verdict import AGREES, DIFFERS, UNDECIDED, judged
 
@@ -24,6 +24,7 @@ def words_of(words):
     add("records", metavar="RECORD", nargs="+", help="docs/JUDGE.md has its lines")
     add("--profile", metavar="FILE", help="what the firmware declares of itself")
     add("--declare", action="store_true", help="print the profile's line of functions, as PSCI_FEATURES has it")
+    add("--tallies", action="store_true", help="print how often each function had each answer, and in which lists")
     add("--each", action="store_true", help="print each difference")
     add("--times", action="store_true", help="print the seconds and states of each search")
     add("--baseline", metavar="FILE", help="groups that are known; new and vanished ones fail")
@@ -79,6 +80,9 @@ def main(words):
                 end(RECORD, f"{path}: {fault}")
         if words.declare:
             print(profile.declared([life for _, lives in lives_of for life in lives]))
+            return 0
+        if words.tallies:
+            print("\n".join(tallies.lines(*zip(*lives_of))))
             return 0
         if not words.profile:
             end(COMMAND, "a record of calls needs --profile FILE; docs/JUDGE.md says what stands there")

@@ -40,6 +40,8 @@ class Life:
 
     def __init__(self, head):
         self.head, self.operations, self.remarks = head, {}, []
+        # of each core the time of its last entry
+        self.last_entry = {}
         # suspends from which no core came back
         self.broken = []
         # whether a core ended it, by a call from which none comes back
@@ -117,6 +119,8 @@ def gather(life, raw):
     of_core = {}
     for core, number in sorted(raw):
         of_core.setdefault(core, []).append(raw[core, number])
+        if raw[core, number][0] == "enter":
+            life.last_entry[core] = raw[core, number][1][2]
     for core, lines in of_core.items():
         mine = life.operations[core] = []
         for at, (kind, numbers) in enumerate(lines):
@@ -179,7 +183,12 @@ def entered(_life, numbers, _is_last):
                       f"core {core} enters {address:#x} {context:#x}")]
 
 
-def lacked(_life, numbers, _is_last):
+def lacked(life, numbers, _is_last):
+    """A look at a core that has not entered. It is none where the core does so later: the machine is slow."""
     core, _, at, target, times = numbers
+    if life.last_entry.get(target, -1) > at:
+        text = f"core {core} waits for entry {times} of core {target}"
+        life.remarks.append(Remark("note", "an entry came later than it was waited for", text))
+        return []
     return [Operation(core, None, at, None, ("absent", target),
                       f"core {core} waits for entry {times} of core {target}")]

@@ -26,17 +26,18 @@ class Verdict:
         self.differences.append(Difference(operation, ours, bool(self.differences) and not is_first_of_life))
 
 
-def judged(name, lives, profile, bound=20000, limit=60.0, is_whole=False):
-    """The verdict on the lives of a record."""
+def judged(name, lives, profile, bound=20000, limit=60.0, is_whole=False, has_later=True):
+    """The verdict on the lives of a record; without later differences it ends with the first one."""
     verdict, began = Verdict(name), time.monotonic()
     for life in lives:
         verdict.remarks += life.remarks
-        look_at_life(verdict, life, profile, bound, began + limit, is_whole)
+        if has_later or not verdict.differences:
+            look_at_life(verdict, life, profile, bound, began + limit, is_whole, has_later)
     verdict.seconds = time.monotonic() - began
     return verdict
 
 
-def look_at_life(verdict, life, profile, bound, until, is_whole):
+def look_at_life(verdict, life, profile, bound, until, is_whole, has_later):
     search, has_differed, at = Search(life, profile, bound, until, is_whole), False, 0
     ordered = life.ordered()
     try:
@@ -53,6 +54,8 @@ def look_at_life(verdict, life, profile, bound, until, is_whole):
             if ours is not None:
                 verdict.add(ordered[at], ours, not has_differed)
                 has_differed = True
+                if not has_later:
+                    break
                 after.go_on(search, ordered[at])
             if has_differed:
                 search.is_whole = is_whole

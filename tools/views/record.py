@@ -10,8 +10,8 @@ KINDS = {1: "down", 2: "start", 3: "off", 4: "reset"}
 ACKS = {kind | said: (kind, said) for kind in KINDS for said in (0x10, 0x20)}
 BOOT, ON, WAKE, RESET = range(4)
 AFFINITY_INFO = (0x84000004, 0xC4000004)
-# these, CPU_ON and NODE_HW_STATE
-TARGETS = (*AFFINITY_INFO, 0x84000003, 0xC4000003, 0x8400000D, 0xC400000D)
+CPU_ON = (0x84000003, 0xC4000003)
+TARGETS = (*AFFINITY_INFO, *CPU_ON, 0x8400000D, 0xC400000D)
 NOBODY, INVALID_PARAMETERS = 2**64 - 1, -2
 
 DEC, HEX = r"(0|[1-9]\d{0,9})", r"(0x[0-9a-f]{1,16})"
@@ -134,6 +134,11 @@ class Record:
     def cores(self):
         return affinities(self.board.removeprefix("board ").partition(" exec")[0])
 
+    @cached_property
+    def highest(self):
+        """The highest level of the board, at which there is one domain."""
+        return 1 + re.match(r"board (\(*)", self.board)[1].count("(")
+
     # ---- the firmware
 
     def outcome(self, answer, frame):
@@ -145,10 +150,13 @@ class Record:
             self.many_sent += 1
         return said
 
-    def named(self, word, x1):
-        """The board's affinity word for that of the machine."""
+    def named(self, word, x1, level=0):
+        """The board's affinity word for that of the machine. The fields below a level say nothing: at the
+        highest one a word need not be that of a core."""
         target = int(x1, 16) % 2**(64 if word >> 30 & 1 else 32)
-        return target if self.words is None else self.words.get(target, NOBODY)
+        if self.words is None:
+            return target
+        return self.words.get(target >> 8 * level << 8 * level if level == self.highest else target, NOBODY)
 
     def call(self, core, x0, x1, x2, x3, answer, frame):
         word = int(x0, 16) % 2**32
@@ -156,7 +164,7 @@ class Record:
             text = self.translator.call(f"call {core} {x0} {x1} {x2} {x3}")
             return text, self.heeded(text, self.outcome(answer, frame))
         if self.words is not None and word in TARGETS:
-            x1 = hex(self.named(word, x1))
+            x1 = hex(self.named(word, x1, int(x2, 16) % 2**32 if word not in CPU_ON else 0))
         return f"call {core} {x0} {x1} {x2} {x3}", self.outcome(answer, frame)
 
     def heeded(self, text, said):

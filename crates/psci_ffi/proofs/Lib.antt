@@ -1,5 +1,6 @@
 pub mod AsBox
 pub mod AsControllerBox
+pub mod AsMachineBox
 pub mod AsPollerBox
 mod CallRows
 mod CodeRows
@@ -10,6 +11,9 @@ pub mod FieldParts
 mod FieldRows
 pub mod GivenBoards
 mod GivenRows
+pub mod MachineCrossing
+pub mod MachineMaking
+mod MachineRows
 mod PollerRows
 mod ReaderRows
 mod StopRows

@@ -6,6 +6,10 @@ pub mod ControllerSlot
 pub mod Fields
 pub mod Frames
 pub mod Given
+pub mod MachineCalls
+pub mod MachineCodes
+pub mod MachineSlot
+pub mod Machines
 pub mod PollerSlot
 pub mod Pollers
 pub mod Readers

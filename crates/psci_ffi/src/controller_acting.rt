@@ -6,9 +6,7 @@ ghost use Rattle.psci_ctl.specs.Seen.{seen};
 ghost use Rattle.psci_ctl_spec.specs.declared.call.CtlCall.TheVariants as calls;
 ghost use Rattle.psci_ctl_spec.specs.Effects.{kick_effect, message_effect};
 ghost use Rattle.psci_link.specs.declared.frame.Frame.TheVariants as frames;
-ghost use Rattle.psci_link.specs.declared.heading.Heading.TheVariants as headings;
-ghost use Rattle.psci_link.specs.Frame.{IsHeldIn, IsOf, frame_in, is_within};
-ghost use Rattle.psci_link.specs.Heading.{HasHeading};
+ghost use Rattle.psci_link.specs.Frame.{IsOf, is_within};
 ghost use Rattle.psci_messages.specs.declared.start.Cause.{Cause};
 ghost use Rattle.psci_messages.specs.Message.{AckValue, MessageValue};
 ghost use Rattle.psci_ffi.specs.ControllerCalls.{IsDelivered, IsFaulty, IsMade, IsMisplaced};
@@ -38,21 +36,10 @@ pub fn give(controller: &mut Controller, bytes: &[u8], answer: &mut ControllerAn
         Err(fault) => refuse(answer, frame_code(fault)),
         Ok(Heading::Ack(..)) => refuse(answer, NOT_A_MESSAGE),
         Ok(Heading::Message(kind)) => {
-            let message = message_of(kind, bytes);
+            let message = message_in(kind, bytes);
             deliver(controller, &message, answer);
         }
     }
-}
-
-/// `message_in`. It has a frame of its own, so that what a message is made of is not held beside
-/// it.
-#[inline(never)]
-fn message_of(kind: Kind, bytes: &[u8]) -> Message
-    requires heading { HasHeading bytes.now (headings.Message kind) }
-    requires held { IsHeldIn (headings.Message kind) bytes.now }
-    ensures { frames.Message result ≡ frame_in (headings.Message kind) bytes.now }
-{
-    message_in(kind, bytes)
 }
 
 /// `Controller::deliver`. It has a frame of its own, so that none is held while a frame is read.

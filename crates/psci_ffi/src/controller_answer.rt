@@ -10,7 +10,7 @@ ghost use Rattle.psci_ffi.specs.ControllerShown.{no_domain, no_start, start_show
 use crate::answer::{SomeFrame, no_frame};
 use psci_board::Core;
 use psci_ctl::{Ack, Cause, Controller, Start};
-use psci_link::{Frame, encode};
+use psci_link::encode_ack;
 use std::mem::size_of;
 
 /// A start of a core; zeros where there is none.
@@ -155,5 +155,5 @@ pub fn write_ack(frame: &mut SomeFrame, ack: &Ack)
     ensures { frame.new ≡ ack_frame ack.now }
 {
     frame.some = true;
-    frame.bytes = encode(&Frame::Ack(ack.copy()));
+    frame.bytes = encode_ack(ack);
 }

@@ -2,7 +2,7 @@
 
 use crate::common::Common;
 use psci_board::{Board, Core, Memory, Node};
-use psci_fw::{Cause, FwFault, Hw, Reaction, Regs, Start, Status, Taken};
+use psci_fw::{Cause, FwFault, Hw, Reaction, Regs, Start, Status, SuspendMode, Taken};
 use psci_link::{Heading, ack_in, heading_on};
 use psci_messages::{Ack, Message};
 use psci_polled::{PolledFirmware, Reader};
@@ -211,6 +211,13 @@ impl Held {
         ensures { result ≡ (seen self.now.firmware).halting }
     {
         self.polled.firmware().halting()
+    }
+
+    /// `Firmware::mode`.
+    pub fn mode(&self) -> SuspendMode
+        ensures { result ≡ (seen self.now.firmware).mode }
+    {
+        self.polled.firmware().mode()
     }
 
     /// One who polls. It has seen the last status of each core.

@@ -4,6 +4,7 @@
 //! all zero is empty.
 //! - A *poller* is such a place for one who polls: it reads status words without the firmware's
 //! lock.
+//! - A *machine* is such a place for what the cores, power states and functions are called there.
 //! - An *answer* is what came of a call, as C sees it, with the frame of the message that is sent.
 //! - A *refusal* is an answer from 16 on: the caller's mistake has a number, and nothing changed.
 #![tactic(auto)]
@@ -27,6 +28,12 @@ mod given;
 mod given_build;
 mod given_fault;
 mod held;
+mod machine_calls;
+mod machine_fault;
+mod machine_given;
+mod machine_opening;
+mod machine_place;
+mod machine_slot;
 mod opening;
 mod parts;
 mod place;

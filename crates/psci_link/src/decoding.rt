@@ -147,7 +147,8 @@ fn frame_with(heading: Heading, bytes: &[u8]) -> Frame
     }
 }
 
-/// The message of this kind that the bytes hold, as `heading_on` finds them.
+/// The message of this kind that the bytes hold, as `heading_on` finds them. Its frame is its own.
+#[inline(never)]
 #[tactic(auto, unfolding(crate::specs::Frame::frame_in))]
 pub fn message_in(kind: Kind, bytes: &[u8]) -> Message
     requires heading { HasHeading bytes.now (headings.Message kind) }

@@ -10,7 +10,7 @@ ghost use Rattle.psci_messages.specs.Message.{is_climbing};
 
 use crate::frame::{FRAME_LEN, Frame, HEADER_LEN, PART_LEN};
 use psci_board::Core;
-use psci_messages::{Kind, Message};
+use psci_messages::{Ack, Kind, Message};
 use psci_parts::{MOST_PARTS, Part};
 
 /// The first two bytes of a frame.
@@ -23,13 +23,7 @@ pub fn encode(frame: &Frame) -> [u8; FRAME_LEN]
 {
     match frame {
         Frame::Message(message) => encode_message(message),
-        Frame::Ack(ack) => {
-            let kind = kind_code(ack.kind) + if ack.stale { 0x20 } else { 0x10 };
-            joined(
-                header(kind, ack.core, ack.life, ack.number, ack.applied),
-                &[],
-            )
-        }
+        Frame::Ack(ack) => encode_ack(ack),
     }
 }
 
@@ -43,6 +37,18 @@ pub fn encode_message(message: &Message) -> [u8; FRAME_LEN]
     let count = parts.len() as u8;
     let header = header(kind, message.core, message.life, message.number, count);
     joined(header, parts)
+}
+
+/// The bytes of the frame of an acknowledgement.
+pub fn encode_ack(ack: &Ack) -> [u8; FRAME_LEN]
+    ensures spelled { result ≡ frame_bytes (frames.Ack ack.now) }
+    ensures frame { IsFrame (frames.Ack ack.now) }
+{
+    let kind = kind_code(ack.kind) + if ack.stale { 0x20 } else { 0x10 };
+    joined(
+        header(kind, ack.core, ack.life, ack.number, ack.applied),
+        &[],
+    )
 }
 
 /// The low half of a kind byte.
@@ -71,7 +77,9 @@ fn header(kind: u8, core: Core, life: u32, number: u32, count: u8) -> [u8; HEADE
     ]
 }
 
-/// The header and the parts, and zeros in the places that are not used.
+/// The header and the parts, and zeros in the places that are not used. Compiled into its callers,
+/// so that an acknowledgement has no loop over parts.
+#[inline(always)]
 fn joined(header: [u8; HEADER_LEN], parts: &[Part]) -> [u8; FRAME_LEN]
     requires few { length parts.now ≤ MOST_PARTS }
     requires levels { is_climbing 0 parts.now ≡ true }

@@ -4,13 +4,15 @@ use Rattle.psci_abi.specs.Calls.{request_of}
 use Rattle.psci_abi.specs.declared.registers.Regs.{Regs}
 use Rattle.psci_abi.specs.declared.request.Request.{Request}
 use Rattle.psci_abi.specs.declared.request.Request.TheVariants.{CpuOn, CpuSuspend}
+use Rattle.psci_abi.specs.declared.request.Request.TheVariants.{SystemSuspend}
 use Rattle.psci_abi.specs.psci_format.declared.format.Format.{Format}
 use Rattle.psci_abi.specs.psci_format.declared.format.Format.TheVariants.{Original, Extended}
 use Rattle.psci_board.specs.Board.{BoardValue}
 use Rattle.psci_fw_spec.specs.declared.mode.SuspendMode.TheVariants.{Platform}
+use Rattle.psci_platform.specs.declared.asked.Asked.TheVariants.{Nothing, States}
 use Rattle.psci_platform.specs.Calls.{regs_for}
 use Rattle.psci_platform.specs.Described.{DescriptionValue}
-use Rattle.psci_platform.specs.Identity.{asks_up_to, depths_at, identity}
+use Rattle.psci_platform.specs.Identity.{asks_up_to, depths_at, identity, own_asked}
 use Rattle.psci_platform.proofs.Machines.{board, calling, row}
 
 -- What an identity has --------------------------------------------------------------------------
@@ -70,6 +72,12 @@ some_calls =
 each_is_the_same : map (asked (identity small)) some_calls ≡ map request_of some_calls
 unfolding calling asks_up_to
 each_is_the_same = refl
+
+-- what is told beside: the depths of the ask, and nothing of what is no power state
+told_beside : map (own_asked small) (CpuSuspend 0x01010033 0x40001000 7
+    ∷ CpuSuspend 0x01010003 0x40001000 7 ∷ SystemSuspend 0x40001000 7 ∷ CpuOn 0 0x40001000 7 ∷ [])
+    ≡ States (3 ∷ 3 ∷ 0 ∷ 0 ∷ []) ∷ Nothing ∷ States (3 ∷ 3 ∷ 3 ∷ 0 ∷ []) ∷ Nothing ∷ []
+told_beside = refl
 
 -- a domain is named by its first core: another request, for the same domain
 second_core_of_a_cluster : regs_for (identity small) small 0 Platform (regs 0xC4000004 0x101 1 0)

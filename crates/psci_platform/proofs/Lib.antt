@@ -1,4 +1,5 @@
 pub mod Addresses
+pub mod Agreeing
 pub mod Asks
 pub mod Booting
 mod CallAxisRows
@@ -14,6 +15,7 @@ mod IdentityRows
 pub mod Machines
 pub mod Missing
 pub mod Named
+pub mod OwnAsked
 pub mod OwnCalls
 pub mod OwnCores
 pub mod OwnFaults

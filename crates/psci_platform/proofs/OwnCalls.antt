@@ -59,13 +59,13 @@ abbrev told : BoardValue → SuspendMode → Regs → Request → Request
 told b mode regs r = with_first (argument regs (first_argument (identity b) b 0 mode regs.x1 r)) r
 
 -- the word of a request
-abbrev word_in : Request → ℕ
+abbrev pub word_in : Request → ℕ
 word_in (requests.CpuSuspend state entry_point context) = state
 word_in (requests.Features word) = word
 word_in (requests.SystemReset2 reset_type cookie) = reset_type
 word_in r = 0
 
-half_small : (x : ℕ) → low_half x < 2 ^ 32
+pub half_small : (x : ℕ) → low_half x < 2 ^ 32
 half_small x = omega arith
 
 -- a word of 32 bits is read as it is
@@ -73,7 +73,7 @@ half_of : (regs : Regs) (w : ℕ) → w < 2 ^ 32 → low_half (argument regs w) 
 half_of regs w small = ap low_half (short regs w small) ∙ omega (arith, small)
 
 -- every function is there
-all_there : (r : Request) → is_there every_function r ≡ true
+pub all_there : (r : Request) → is_there every_function r ≡ true
 all_there requests.Version = refl
 all_there (requests.CpuSuspend state e c) = refl
 all_there requests.CpuOff = refl

@@ -24,6 +24,8 @@ use Rattle.psci_platform.proofs.Missing.{no_power_state}
 
 -- What the proofs stand on: the laws of power state words.
 pub record StateLaws : Type 0 where
+  pub written : (format : Format) (height : ℕ) (ask : List ℕ) → IsAsk ask
+      → highest_of ask ≤ height → ask_of format height (word_of format ask) ≡ Ok ask
   pub read : (format : Format) (height word : ℕ) (ask : List ℕ) → word < 2 ^ 32
       → ask_of format height word ≡ Ok ask → word_of format ask ≡ word
   pub shape : (format : Format) (height word : ℕ) (ask : List ℕ)
@@ -33,11 +35,11 @@ pub record StateLaws : Type 0 where
 -- Rows of asks ----------------------------------------------------------------------------------
 
 -- an ask whose row passes a test
-record Found (p : Row → Bool) (f : List ℕ → Row) (q : List ℕ → Bool) (row : Row) : Type 0 where
-  ask : List ℕ
-  is : f ask ≡ row
-  asked : q ask ≡ true
-  passes : p (f ask) ≡ true
+pub record Found (p : Row → Bool) (f : List ℕ → Row) (q : List ℕ → Bool) (row : Row) : Type 0 where
+  pub ask : List ℕ
+  pub is : f ask ≡ row
+  pub asked : q ask ≡ true
+  pub passes : p (f ask) ≡ true
 
 found_by : (p : Row → Bool) (f : List ℕ → Row) (q : List ℕ → Bool) (x : List ℕ)
     (xs : List (List ℕ)) (row : Row) (s t : Bool) → q x ≡ s → p (f x) ≡ t
@@ -49,7 +51,7 @@ found_by p f q x xs row true true e g found later =
     let same : f x ≡ row = same_Some _ _ (rw (e, g) at found) in
     record { ask = x; is = same; asked = e; passes = g }
 
-found : (p : Row → Bool) (f : List ℕ → Row) (q : List ℕ → Bool) (xs : List (List ℕ)) (row : Row)
+pub found : (p : Row → Bool) (f : List ℕ → Row) (q : List ℕ → Bool) (xs : List (List ℕ)) (row : Row)
     → find p (map f (filter q xs)) ≡ Some row → Found p f q row
 found p f q [] row e = absurd (none-some row e)
 found p f q (x ∷ xs) row e =
@@ -162,7 +164,7 @@ own_depths b ask is =
     let e3 = (own_depth b 3 (slice_index ask 3) (omega arith) (omega (arith, a, c, d, e))).0 in
     rw (e0, e1, e2, e3) (four ask is.levels)
 
-own_can_ask : (b : BoardValue) (mode : SuspendMode) (ask : List ℕ) → IsAsk ask
+pub own_can_ask : (b : BoardValue) (mode : SuspendMode) (ask : List ℕ) → IsAsk ask
     → can_ask (identity b) mode ask ≡ true
 own_can_ask b OsInitiated ask is = refl
 own_can_ask b Platform ask is =
@@ -177,15 +179,15 @@ own_can_ask b Platform ask is =
 
 -- What a word asks ------------------------------------------------------------------------------
 
-abbrev asks_test : List ℕ → ℕ → Bool
+abbrev pub asks_test : List ℕ → ℕ → Bool
 asks_test ask height = is_ask ask && nat_le (highest_of ask) height
 
-left : (s t : Bool) → (s && t) ≡ true → s ≡ true
+pub left : (s t : Bool) → (s && t) ≡ true → s ≡ true
 left true t e = refl
 left false t e = e
 
 -- a word that has the row of an ask is the word of this ask
-read_word : (word : ℕ) (format : Format) (ask : List ℕ) → word < 2 ^ 32
+pub read_word : (word : ℕ) (format : Format) (ask : List ℕ) → word < 2 ^ 32
     → reads word (row_asking format ask) ≡ true → word ≡ word_of format ask
 read_word word format ask small e =
     let same = eqb-true (bit_and word (2 ^ 32 - 1)) (word_of format ask) e in
@@ -215,7 +217,7 @@ Same b w word = (w < 2 ^ 32)
 same_words : (b : BoardValue) (w word : ℕ) → word < 2 ^ 32 → w ≡ word → Same b w word
 same_words b w word small e = (omega (arith, e, small), ap (ask_of b.format (height b)) e)
 
-none_read : (b : BoardValue) (mode : SuspendMode) (word : ℕ) (r : Result (List ℕ) BadState)
+pub none_read : (b : BoardValue) (mode : SuspendMode) (word : ℕ) (r : Result (List ℕ) BadState)
     → StateLaws → word < 2 ^ 32 → find (reads word) (identity b).rows ≡ None
     → ask_of b.format (height b) word ≡ r → r ≡ Err (record {})
 unfolding asks_up_to

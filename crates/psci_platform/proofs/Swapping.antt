@@ -19,7 +19,7 @@ use Rattle.psci_board.specs.Laws.{ParentLaws, PathLaws, SizeLaws, WordLaws}
 use Rattle.psci_fw_same.specs.Renumbered.{AsksBy, IsRenumbering, core_by, node_by}
 use Rattle.psci_fw_spec.specs.declared.mode.SuspendMode.{SuspendMode}
 use Rattle.psci_platform.specs.Calls.{first_argument, is_there, regs_for}
-use Rattle.psci_platform.specs.Cores.{boot_place, core_named, core_word, word_if}
+use Rattle.psci_platform.specs.Cores.{boot_place, core_named, core_word, number_named, word_if}
 use Rattle.psci_platform.specs.Described.{DescriptionValue}
 use Rattle.psci_platform.specs.Faults.{fault_of}
 use Rattle.psci_platform.specs.Swaps.{is_symmetric, swap_for}
@@ -128,6 +128,38 @@ named_inside d b mpidr level count =
     inside_if b (nat_le level (height b))
     (position (λ m. m / 2 ^ (8 * level) == mpidr / 2 ^ (8 * level)) d.mpidrs)
     (position_inside b (λ m. m / 2 ^ (8 * level) == mpidr / 2 ^ (8 * level)) d.mpidrs count)
+
+-- What an MPIDR names --------------------------------------------------------------------------
+
+-- the core and the domain above it that a word names, of the firmware's number for a core
+core_at : (b : BoardValue) (boot : ℕ) (o : Option ℕ) → Laws b boot → Inside b o
+    → core_of b (swapped b boot o)
+    ≡ option_map (λ c. record { number = c }) (option_map (swap_for b boot 0) o)
+core_at b boot None laws inside = no_core_is_named b laws.words
+core_at b boot (Some c) laws inside =
+    laws.words.core_named (swap_for b boot 0 c) (core_inside b boot c laws.is inside)
+
+node_at : (b : BoardValue) (boot level : ℕ) (o : Option ℕ) → Laws b boot → Inside b o
+    → level ≤ height b → node_of b (swapped b boot o) level
+    ≡ option_map (λ c. record { level = level; place = up b level c })
+    (option_map (swap_for b boot 0) o)
+node_at b boot level None laws inside low = no_node_is_named b laws.board laws.words level
+node_at b boot level (Some c) laws inside low =
+    laws.words.path (swap_for b boot 0 c) level (core_inside b boot c laws.is inside) low
+
+pub core_is : (d : DescriptionValue) (b : BoardValue) (boot mpidr : ℕ) → Laws b boot
+    → length d.mpidrs ≡ cores b → core_of b (core_word d b boot mpidr 0)
+    ≡ option_map (λ c. record { number = c }) (number_named d b boot mpidr 0)
+core_is d b boot mpidr laws count =
+    core_at b boot (core_named d b mpidr 0) laws (named_inside d b mpidr 0 count)
+
+pub node_is : (d : DescriptionValue) (b : BoardValue) (boot mpidr level : ℕ) → Laws b boot
+    → length d.mpidrs ≡ cores b → level ≤ height b
+    → node_of b (core_word d b boot mpidr level) level
+    ≡ option_map (λ c. record { level = level; place = up b level c })
+    (number_named d b boot mpidr level)
+node_is d b boot mpidr level laws count low =
+    node_at b boot level (core_named d b mpidr level) laws (named_inside d b mpidr level count) low
 
 -- The words of a call -------------------------------------------------------------------------
 

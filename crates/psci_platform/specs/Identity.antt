@@ -1,11 +1,16 @@
 -- The description of a platform that names everything as the firmware itself does.
 use Rattle.std.specs.Prelude.{ℕ, ◌-◌, ◌/◌, ◌%◌, ◌^◌, ◌&&◌, true, nat_le, List, [], ◌∷◌, map, filter}
-use Rattle.std.specs.Prelude.{replicate}
+use Rattle.std.specs.Prelude.{replicate, Result, Ok, Err}
 use Rattle.std.specs.List.{range_with_len}
+use Rattle.psci_abi.specs.declared.request.Request.{Request}
+use Rattle.psci_abi.specs.declared.request.Request.TheVariants as requests
 use Rattle.psci_abi.specs.psci_format.declared.format.Format.{Format}
 use Rattle.psci_board.specs.Board.{BoardValue, address, cores, height}
 use Rattle.psci_state.specs.Ask.{deepest_of, highest_of, is_ask}
-use Rattle.psci_state.specs.PowerState.{word_of}
+use Rattle.psci_state.specs.PowerState.{ask_of, word_of}
+use Rattle.psci_state.specs.declared.fault.BadState.{BadState}
+use Rattle.psci_platform.specs.declared.asked.Asked.{Asked}
+use Rattle.psci_platform.specs.declared.asked.Asked.TheVariants.{Nothing, States}
 use Rattle.psci_platform.specs.declared.class.Class.{Class}
 use Rattle.psci_platform.specs.declared.class.Class.TheVariants.{Running, Standby, Retention}
 use Rattle.psci_platform.specs.declared.class.Class.TheVariants.{PowerDown}
@@ -57,3 +62,16 @@ identity b = record {
   functions = every_function;
   resets = [];
 }
+
+-- the depths of an ask, as states that are asked for
+abbrev pub asks_depths : Result (List ℕ) BadState → Asked
+asks_depths (Ok ask) = States ask
+asks_depths (Err bad) = Nothing
+
+-- what a request asks beside what the firmware is told, where a state has the depth as its number:
+-- the depths themselves
+abbrev pub own_asked : BoardValue → Request → Asked
+own_asked b (requests.CpuSuspend state entry_point context) =
+    asks_depths (ask_of b.format (height b) state)
+own_asked b (requests.SystemSuspend entry_point context) = States (deepest_of (height b))
+own_asked b request = Nothing

@@ -5,6 +5,14 @@ use crate::functions::Functions;
 use crate::row::Row;
 use std::marker::Model;
 
+/// The class of each state, by level and number. State 0 is running, and no class is shallower than
+/// that of the number before. Numbers that a level does not use have the last class.
+#[derive(Clone, Copy)]
+pub struct Classes {
+    /// The classes of each level, by the states' numbers.
+    pub levels: [[Class; STATES]; LEVELS],
+}
+
 /// The description of a platform, beside the board, which has the tree of its power domains, the
 /// format of its power state words, and all that the firmware has to know.
 #[derive(Drop)]
@@ -14,9 +22,8 @@ pub struct Description {
     pub mpidrs: Vec<u64>,
     /// How many levels above the cores the platform can take down.
     pub levels: u32,
-    /// The class of each state, by level and number. State 0 is running, and no class is shallower
-    /// than that of the number before. Numbers that a level does not use have the last class.
-    pub classes: [[Class; STATES]; LEVELS],
+    /// The class of each state.
+    pub classes: Classes,
     /// The power state words, 64 at most.
     pub rows: Vec<Row>,
     /// What SYSTEM_SUSPEND asks of each level.
@@ -36,7 +43,7 @@ impl Model for Description {
     ghost view = { λ d. record {
       mpidrs = d.mpidrs.items;
       levels = d.levels;
-      classes = d.classes;
+      classes = d.classes.levels;
       rows = d.rows.items;
       system = d.system;
       functions = d.functions;

@@ -1,12 +1,13 @@
 //! What holds of platforms: each law is the contract of a function that does nothing.
 
-ghost use Rattle.std.specs.Prelude.{◌≡◌, ◌<◌, ℕ, true, false, None, Some, Err, length};
-ghost use Rattle.std.specs.Prelude.{slice_index};
+ghost use Rattle.std.specs.Prelude.{◌≡◌, ◌≤◌, ◌<◌, ℕ, true, false, None, Some, Ok, Err, List};
+ghost use Rattle.std.specs.Prelude.{length, option_map, slice_index};
 ghost use Rattle.psci_abi.specs.Calls.{request_of};
 ghost use Rattle.psci_abi.specs.declared.registers.Regs.{Regs};
-ghost use Rattle.psci_abi.specs.declared.request.Request.TheVariants.{Unknown};
+ghost use Rattle.psci_abi.specs.declared.request.Request.TheVariants as requests;
 ghost use Rattle.psci_abi.specs.psci_format.declared.format.Format.{Format};
-ghost use Rattle.psci_board.specs.Board.{BoardValue, IsBoard, address, core_of, cores, node_of};
+ghost use Rattle.psci_board.specs.Board.{BoardValue, IsBoard, address, core_of, cores, height};
+ghost use Rattle.psci_board.specs.Board.{node_of, up};
 ghost use Rattle.psci_fw_same.specs.Renumbered.{CallsBy, IsRenumbering, reply_by, values_by};
 ghost use Rattle.psci_fw_spec.specs.declared.call.FwCall.TheVariants as calls;
 ghost use Rattle.psci_fw_spec.specs.declared.mode.SuspendMode.{SuspendMode};
@@ -14,14 +15,17 @@ ghost use Rattle.psci_fw_spec.specs.declared.reply.FwReply.{FwReply};
 ghost use Rattle.psci_fw_spec.specs.After.{after};
 ghost use Rattle.psci_fw_spec.specs.Answer.{answer};
 ghost use Rattle.psci_fw_spec.specs.Values.{Values};
+ghost use Rattle.psci_state.specs.Ask.{deepest_of};
 ghost use Rattle.psci_state.specs.PowerState.{ask_of};
-ghost use Rattle.psci_platform.specs.Calls.{is_there, regs_for};
-ghost use Rattle.psci_platform.specs.Cores.{boot_place, core_named, no_core};
+ghost use Rattle.psci_platform.specs.declared.asked.Asked.TheVariants as asks;
+ghost use Rattle.psci_platform.specs.Calls.{asked_by, asked_for, first_argument, is_there};
+ghost use Rattle.psci_platform.specs.Calls.{regs_for};
+ghost use Rattle.psci_platform.specs.Cores.{boot_place, core_named, core_word, no_core};
 ghost use Rattle.psci_platform.specs.Cores.{number_named};
 ghost use Rattle.psci_platform.specs.Faults.{fault_of};
 ghost use Rattle.psci_platform.specs.Described.{DescriptionValue};
-ghost use Rattle.psci_platform.specs.Identity.{identity};
-ghost use Rattle.psci_platform.specs.States.{no_state};
+ghost use Rattle.psci_platform.specs.Identity.{identity, own_asked};
+ghost use Rattle.psci_platform.specs.States.{depths_of, no_state};
 ghost use Rattle.psci_platform.specs.Swaps.{is_symmetric, swap_for};
 
 use psci_board::{law_parents, law_paths, law_sizes, law_words};
@@ -34,7 +38,7 @@ use psci_state::law_power_states;
 pub fn law_missing()
     ensures function { (d : DescriptionValue) (b : BoardValue) (boot : ℕ) (mode : SuspendMode)
         (regs : Regs) → is_there d.functions (request_of regs) ≡ false
-        → request_of (regs_for d b boot mode regs) ≡ Unknown }
+        → request_of (regs_for d b boot mode regs) ≡ requests.Unknown }
     ensures state { (format : Format) (height : ℕ)
         → ask_of format height no_state ≡ Err (record {}) }
     ensures core { (b : BoardValue) → IsBoard b → core_of b no_core ≡ None }
@@ -58,6 +62,25 @@ pub fn law_mpidrs()
     law_sizes();
     law_paths();
     law_parents();
+}
+
+/// What a call names by an MPIDR is what the firmware is asked of: the core with that MPIDR, or the
+/// domain of the call's level above the cores that have its fields; each by the firmware's number.
+pub fn law_named()
+    ensures core { (d : DescriptionValue) (b : BoardValue) (boot mpidr : ℕ) → IsBoard b
+        → fault_of d b boot ≡ None → let place = boot_place d b boot in
+        core_of b (core_word d b place mpidr 0)
+        ≡ option_map (λ c. record { number = c }) (number_named d b place mpidr 0) }
+    ensures node { (d : DescriptionValue) (b : BoardValue) (boot mpidr level : ℕ) → IsBoard b
+        → fault_of d b boot ≡ None → level ≤ height b → let place = boot_place d b boot in
+        node_of b (core_word d b place mpidr level) level
+        ≡ option_map (λ c. record { level = level; place = up b level c })
+        (number_named d b place mpidr level) }
+{
+    law_sizes();
+    law_paths();
+    law_parents();
+    law_words();
 }
 
 /// A boot core that is not the first one of the tree is a renumbering: each call is answered as if
@@ -92,6 +115,30 @@ pub fn law_boot_core()
     law_no_core_is_special();
 }
 
+/// What is told beside a call is what the firmware is asked for: the states that are told have the
+/// depths that it reads, and it reads no power state where no states are told.
+pub fn law_asked()
+    ensures states { (d : DescriptionValue) (b : BoardValue) (boot place x1 : ℕ)
+        (mode : SuspendMode) (state entry context : ℕ) (states : List ℕ)
+        → fault_of d b boot ≡ None
+        → asked_by d mode (requests.CpuSuspend state entry context) ≡ asks.States states
+        → ask_of b.format (height b)
+        (first_argument d b place mode x1 (requests.CpuSuspend state entry context))
+        ≡ Ok (depths_of d states) }
+    ensures none { (d : DescriptionValue) (b : BoardValue) (place x1 : ℕ)
+        (mode : SuspendMode) (state entry context : ℕ)
+        → asked_by d mode (requests.CpuSuspend state entry context) ≡ asks.Nothing
+        → ask_of b.format (height b)
+        (first_argument d b place mode x1 (requests.CpuSuspend state entry context))
+        ≡ Err (record {}) }
+    // SYSTEM_SUSPEND is told to take every level of the board down, as the firmware does.
+    ensures system { (d : DescriptionValue) (b : BoardValue) (boot : ℕ)
+        → fault_of d b boot ≡ None → d.functions.system_suspend ≡ true
+        → depths_of d d.system ≡ deepest_of (height b) }
+{
+    law_power_states();
+}
+
 /// A platform that names everything as the firmware does is the firmware: with the identity of a
 /// board each call of each core, whatever its registers, is answered as the firmware answers it
 /// untranslated, and leaves the same values.
@@ -110,6 +157,9 @@ pub fn law_identity()
         (reply : FwReply) → IsBoard b
         → after b c (calls.Smc (regs_for (identity b) b 0 mode regs)) reply v
         ≡ after b c (calls.Smc regs) reply v }
+    // What is told beside are the depths that the firmware is asked for.
+    ensures asked { (b : BoardValue) (mode : SuspendMode) (regs : Regs) → IsBoard b
+        → asked_for (identity b) mode regs ≡ own_asked b (request_of regs) }
 {
     law_sizes();
     law_paths();

@@ -30,11 +30,11 @@ mod translate;
 
 pub use asked::Asked;
 pub use class::Class;
-pub use description::Description;
+pub use description::{Classes, Description};
 pub use fault::PlatformFault;
 pub use firmware::PlatformFirmware;
 pub use functions::Functions;
-pub use law::{law_boot_core, law_identity, law_missing, law_mpidrs};
+pub use law::{law_asked, law_boot_core, law_identity, law_missing, law_mpidrs, law_named};
 pub use platform::Platform;
 pub use psci_abi::Regs;
 pub use psci_board::Board;

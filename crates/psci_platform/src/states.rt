@@ -70,7 +70,7 @@ impl Description {
         ensures depth { result ≡ depth_at self.now level number }
         ensures most { result ≤ 3 }
     {
-        match self.classes.get(level) {
+        match self.classes.levels.get(level) {
             Some(classes) => match classes.get(number as usize) {
                 Some(class) => class.depth(),
                 None => Class::PowerDown.depth(),

@@ -23,12 +23,12 @@ pub deliver-requires : goal.deliver-requires
 deliver-requires c =
     let of = rw c.in-Ok-Message.field-0-is at c.in-Ok-Message.ensures.of in
     of-same c.args.controller.now.board c.board.result.now
-    (frames.Message c.message_of-message.result) (sym c.board.ensures)
-    (subst (λ (f : Frame). IsOf c.board.result.now f) (sym c.message_of-message.ensures) of)
+    (frames.Message c.message_in-message.result) (sym c.board.ensures)
+    (subst (λ (f : Frame). IsOf c.board.result.now f) (sym c.message_in-message.ensures) of)
 
 pub returns-in-Ok-Message-clause-message : goal.returns-in-Ok-Message-clause-message
 returns-in-Ok-Message-clause-message c = λ m read.
     let held = rw c.in-Ok-Message.field-0-is at c.in-Ok-Message.ensures.one in
-    let same = one_message c.message_of-message.result m
-    (c.message_of-message.ensures ∙ held (frames.Message m) read.0 read.2) in
+    let same = one_message c.message_in-message.result m
+    (c.message_in-message.ensures ∙ held (frames.Message m) read.0 read.2) in
     rw same at c.deliver.ensures

@@ -1,4 +1,5 @@
 -- With the identity of a board the platform is the firmware.
+use Rattle.psci_platform.proofs.OwnAsked.{asked_same}
 use Rattle.psci_platform.proofs.OwnCalls.{after_same, answer_same, laws_for}
 use Rattle.psci_platform.proofs.OwnFaults.{faultless, first_boots}
 use Rattle.psci_platform.proofs.law.law_identity.Goals as goal
@@ -8,6 +9,7 @@ returns-clause-faultless c = λ b board.
     faultless b (laws_for b board (c.law_sizes.ensures b board)
     (c.law_paths.ensures b board) (c.law_parents.ensures b board) (c.law_words.ensures b board)
     (record {
+      written = c.law_power_states.ensures.written;
       read = c.law_power_states.ensures.read;
       shape = c.law_power_states.ensures.shape;
       test = c.law_power_states.ensures.test;
@@ -18,6 +20,7 @@ returns-clause-boot c = λ b board.
     first_boots b (laws_for b board (c.law_sizes.ensures b board)
     (c.law_paths.ensures b board) (c.law_parents.ensures b board) (c.law_words.ensures b board)
     (record {
+      written = c.law_power_states.ensures.written;
       read = c.law_power_states.ensures.read;
       shape = c.law_power_states.ensures.shape;
       test = c.law_power_states.ensures.test;
@@ -28,6 +31,7 @@ returns-clause-answers c = λ b v core regs board.
     answer_same b v core regs (laws_for b board (c.law_sizes.ensures b board)
     (c.law_paths.ensures b board) (c.law_parents.ensures b board) (c.law_words.ensures b board)
     (record {
+      written = c.law_power_states.ensures.written;
       read = c.law_power_states.ensures.read;
       shape = c.law_power_states.ensures.shape;
       test = c.law_power_states.ensures.test;
@@ -38,6 +42,18 @@ returns-clause-after c = λ b v core regs mode reply board.
     after_same b core regs mode reply v (laws_for b board (c.law_sizes.ensures b board)
     (c.law_paths.ensures b board) (c.law_parents.ensures b board) (c.law_words.ensures b board)
     (record {
+      written = c.law_power_states.ensures.written;
+      read = c.law_power_states.ensures.read;
+      shape = c.law_power_states.ensures.shape;
+      test = c.law_power_states.ensures.test;
+    }))
+
+pub returns-clause-asked : goal.returns-clause-asked
+returns-clause-asked c = λ b mode regs board.
+    asked_same b mode regs (laws_for b board (c.law_sizes.ensures b board)
+    (c.law_paths.ensures b board) (c.law_parents.ensures b board) (c.law_words.ensures b board)
+    (record {
+      written = c.law_power_states.ensures.written;
       read = c.law_power_states.ensures.read;
       shape = c.law_power_states.ensures.shape;
       test = c.law_power_states.ensures.test;

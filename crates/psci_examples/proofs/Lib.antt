@@ -1,0 +1,11 @@
+mod AuditRows
+mod AuditSafeRows
+mod DomainRows
+mod FirmwareRows
+mod FramePairRows
+mod LinesRows
+mod MessageRows
+mod OwnCallRows
+mod ReplayRows
+mod TextRows
+mod TreeRows

@@ -1,0 +1,89 @@
+-- Worked examples of how a domain stands, of what is kept of some cores, and of ways and rows of a
+-- tree: two clusters of two cores.
+use Rattle.std.proofs.Common.{◌≡◌, ℕ, ◌<◌, ◌≤◌, List, [], ◌∷◌, refl, ap, arith}
+use Rattle.std.specs.Prelude.{length}
+use Rattle.psci_tree.specs.declared.domain.Domain.{Domain}
+use Rattle.psci_tree.specs.declared.kept.Kept.{Kept}
+use Rattle.psci_tree.specs.declared.way.Way.{Way}
+use Rattle.psci_tree.specs.Changes.{made_pending, start_of_life, started, suspended}
+use Rattle.psci_tree.specs.Kept.{IsPart, IsRow}
+use Rattle.psci_tree.specs.Recount.{TreeValue, known, low}
+use Rattle.psci_tree.specs.Standing.{standing}
+use Rattle.psci_tree.specs.Way.{AreRows, LeadsDown, LeadsTo}
+
+abbrev levels : List (List ℕ)
+levels = (2 ∷ 2 ∷ []) ∷ (2 ∷ []) ∷ []
+
+-- core 2 was started once, core 3 four times; core 2 asks power-down of its cluster, core 3 asks
+-- retention
+abbrev tree : TreeValue
+tree = suspended (suspended (started (started (start_of_life levels) 2 1) 3 4) 2
+    (3 ∷ 3 ∷ 0 ∷ 0 ∷ [])) 3 (3 ∷ 2 ∷ 0 ∷ 0 ∷ [])
+
+cluster_of_both : standing tree (record { level = 1; place = 1 }) ≡ record { low = 2; known = 5 }
+unfolding low known suspended started start_of_life made_pending
+cluster_of_both = refl
+
+a_core : standing tree (record { level = 0; place = 3 }) ≡ record { low = 3; known = 4 }
+unfolding low known suspended started start_of_life made_pending
+a_core = refl
+
+the_system : standing tree (record { level = 2; place = 0 }) ≡ record { low = 0; known = 5 }
+unfolding low known suspended started start_of_life made_pending
+the_system = refl
+
+-- What is kept ----------------------------------------------------------------------------------
+
+abbrev kept : ℕ → ℕ → ℕ → Kept
+kept known active off = record {
+  lows = 0 ∷ 0 ∷ 0 ∷ 0 ∷ [];
+  known = known;
+  active = active;
+  off = off;
+}
+
+part_of_all : IsPart (kept 1 0 1) (kept 4 1 1)
+part_of_all = record { known = omega arith; active = omega arith; off = omega arith }
+
+more_starts : IsPart (kept 5 0 1) (kept 4 1 1) → ⊥
+more_starts is = let no : 5 ≤ 4 = is.known in omega (arith, no)
+
+more_that_run : IsPart (kept 1 2 1) (kept 4 1 1) → ⊥
+more_that_run is = let no : 2 ≤ 1 = is.active in omega (arith, no)
+
+more_off : IsPart (kept 1 0 2) (kept 4 1 1) → ⊥
+more_off is = let no : 2 ≤ 1 = is.off in omega (arith, no)
+
+-- a row is one of the tree, and has a domain for each child
+no_such_level : (row : List Domain) → IsRow levels 2 row → ⊥
+no_such_level row is = let no : 2 < 2 = is.level in omega (arith, no)
+
+row_without_domains : IsRow levels 0 [] → ⊥
+row_without_domains is = let no : 4 ≡ 0 = is.children in omega (arith, no)
+
+-- Ways and rows ---------------------------------------------------------------------------------
+
+to_no_core : (w : Way) → LeadsTo levels 4 w → ⊥
+to_no_core w leads = let no : 4 < 4 = leads.core in omega (arith, no)
+
+abbrev four : List (List ℕ)
+four = (1 ∷ []) ∷ (1 ∷ []) ∷ (1 ∷ []) ∷ (1 ∷ []) ∷ []
+
+in_too_high_a_tree : (w : Way) → LeadsTo four 0 w → ⊥
+in_too_high_a_tree w leads = let no : 4 ≤ 3 = leads.high in omega (arith, no)
+
+down_to_no_core : (root : Domain) (w : Way) → LeadsDown levels root 4 w → ⊥
+down_to_no_core root w leads = let no : 4 < 4 = leads.core in omega (arith, no)
+
+abbrev rows : ℕ → List (List ℕ)
+rows d = (d ∷ d ∷ d ∷ d ∷ []) ∷ (d ∷ d ∷ []) ∷ (d ∷ []) ∷ []
+
+depths_of_all : AreRows levels (rows 3) (rows 0)
+depths_of_all = record { granted = refl; confirmed = refl }
+
+-- the number of rows
+system_is_missing : AreRows levels ((0 ∷ 0 ∷ 0 ∷ 0 ∷ []) ∷ (0 ∷ 0 ∷ []) ∷ []) (rows 0) → ⊥
+system_is_missing are = let no : 2 ≡ 3 = ap length are.granted in omega (arith, no)
+
+confirmed_is_missing : AreRows levels (rows 0) [] → ⊥
+confirmed_is_missing are = let no : 0 ≡ 3 = ap length are.confirmed in omega (arith, no)

@@ -1,0 +1,51 @@
+/* A target without a fuzzer:
+ *
+ *   TARGET FILE..              runs stored inputs, one a file
+ *   TARGET --draws N [SEED]    inputs that are drawn blindly
+ *   TARGET --stories REPORT    each story of a stored report once more */
+#include "fuzz.h"
+
+#include <stdio.h>
+#include <stdlib.h>
+#include <string.h>
+
+enum { MOST_INPUT = 1 << 16, DRAWN = 400 };
+
+static uint64_t draw(uint64_t *seed) {
+    *seed ^= *seed << 13;
+    *seed ^= *seed >> 7;
+    return *seed ^= *seed << 17;
+}
+
+static void draws(uint64_t many, uint64_t seed) {
+    static uint8_t input[DRAWN];
+    for (uint64_t at = 0; at < many; at++) {
+        for (size_t i = 0; i < DRAWN; i++)
+            input[i] = (uint8_t)(draw(&seed) >> 24);
+        LLVMFuzzerTestOneInput(input, DRAWN);
+    }
+}
+
+static void stored(const char *path) {
+    static uint8_t input[MOST_INPUT];
+    FILE *file = fopen(path, "rb");
+    if (!file) {
+        perror(path);
+        exit(1);
+    }
+    size_t size = fread(input, 1, sizeof input, file);
+    fclose(file);
+    LLVMFuzzerTestOneInput(input, size);
+}
+
+int main(int count, char **words) {
+    if (count == 3 && strcmp(words[1], "--stories") == 0)
+        return stories(words[2]);
+    if (count > 2 && strcmp(words[1], "--draws") == 0) {
+        draws(strtoull(words[2], NULL, 0), count > 3 ? strtoull(words[3], NULL, 0) : 1);
+        return 0;
+    }
+    for (int at = 1; at < count; at++)
+        stored(words[at]);
+    return 0;
+}

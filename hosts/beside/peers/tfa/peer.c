@@ -1,0 +1,116 @@
+/* The platform below lib/psci: power states, and the end of each core's way down. */
+#include "fuzz.h"
+#include "statics.h"
+
+#include <lib/spinlock.h>
+#include <setjmp.h>
+
+unsigned int me;
+struct cpu_data cpus[PLATFORM_CORE_COUNT];
+static entry_point_info_t entries[PLATFORM_CORE_COUNT];
+static psci_power_state_t told;
+static jmp_buf away;
+static struct psci_beside_did out;
+
+/* The core executes nothing more: what has become of it. */
+static void __dead2 leave(uint32_t what) {
+    out.what = what;
+    longjmp(away, 1);
+}
+
+void __dead2 psci_power_down_wfi(void) { leave(PSCI_STOP); }
+void __dead2 panic(void) { leave(PSCI_BESIDE_NOTHING); }
+static void __dead2 end(void) { leave(PSCI_BESIDE_ENDS); }
+void prepare_cpu_pwr_dwn(unsigned int level) {}
+void psci_do_pwrdown_cache_maintenance(unsigned int level) {}
+void psci_do_pwrup_cache_maintenance(void) {}
+u_register_t psci_mem_protect(unsigned int enable) { return PSCI_E_NOT_SUPPORTED; }
+u_register_t psci_mem_chk_range(uintptr_t base, u_register_t length) { return PSCI_E_NOT_SUPPORTED; }
+void zeromem(void *at, u_register_t length) { memset(at, 0, length); }
+void spin_lock(spinlock_t *lock) {
+    if (lock->lock++)
+        panic();
+}
+
+void spin_unlock(spinlock_t *lock) { lock->lock = 0; }
+void cm_init_context_by_index(unsigned int core, const entry_point_info_t *entry) { entries[core] = *entry; }
+
+void cm_prepare_el3_exit_ns(void) {
+    out = (struct psci_beside_did){.what = PSCI_ENTER, .address = entries[me].pc, .context = entries[me].args.arg0};
+}
+
+u_register_t mpidr_of(unsigned int core) { return (core / PER_CLUSTER) << 8 | core % PER_CLUSTER; }
+
+int plat_core_pos_by_mpidr(u_register_t mpidr) {
+    for (unsigned int core = 0; core < PLATFORM_CORE_COUNT; core++)
+        if (mpidr_of(core) == mpidr)
+            return core;
+    return -1;
+}
+
+const unsigned char *plat_get_power_domain_tree_desc(void) {
+    static const unsigned char tree[] = {1, CLUSTERS, PER_CLUSTER, PER_CLUSTER};
+    return tree;
+}
+
+/* The original format with a nibble for each level, as docs/FORMATS.md has it. */
+static int validate(unsigned int word, psci_power_state_t *asked) {
+    unsigned int highest = 0, below = PLAT_MAX_OFF_STATE;
+    for (unsigned int level = 0; level <= PLAT_MAX_PWR_LVL; level++) {
+        unsigned int state = word >> 4 * level & 15;
+        if (state > below)
+            return PSCI_E_INVALID_PARAMS;
+        asked->pwr_domain_state[level] = below = state;
+        highest = state ? level : highest;
+    }
+    bool is_down = (word & 15) == PLAT_MAX_OFF_STATE;
+    return (word & 15) && !(word & 0xf000) && highest == psci_get_pstate_pwrlvl(word) &&
+                   is_down == psci_get_pstate_type(word) ? PSCI_E_SUCCESS : PSCI_E_INVALID_PARAMS;
+}
+
+static int validate_entry(uintptr_t at) { return at - 0x40000000 < 0x20000000 ? PSCI_E_SUCCESS : PSCI_E_INVALID_ADDRESS; }
+static int on(u_register_t mpidr) { return PSCI_E_SUCCESS; }
+static void tell(const psci_power_state_t *state) { told = *state; }
+static void finish(const psci_power_state_t *state) {}
+static void standby(plat_local_state_t state) {}
+static void whole_system(psci_power_state_t *asked) { memset(asked, PLAT_MAX_OFF_STATE, sizeof *asked); }
+static const plat_psci_ops_t operations = {
+    .cpu_standby = standby, .pwr_domain_on = on, .pwr_domain_off = tell, .pwr_domain_suspend = tell,
+    .pwr_domain_on_finish = finish, .pwr_domain_suspend_finish = finish, .system_off = end, .system_reset = end,
+    .validate_power_state = validate, .validate_ns_entrypoint = validate_entry,
+    .get_sys_suspend_power_state = whole_system,
+};
+
+int plat_setup_psci_ops(uintptr_t entry, const plat_psci_ops_t **ops) {
+    *ops = &operations;
+    return 0;
+}
+
+static void tfa_open(void *self, const struct psci_beside_board *board) {
+    DEFINE_STATIC_PSCI_LIB_ARGS_V1(arguments, psci_warmboot_entrypoint);
+    statics_fresh();
+    psci_setup(&arguments);
+}
+
+static void tfa_call(void *self, uint32_t core, const uint64_t x[4], struct psci_beside_did *did) {
+    me = core;
+    out = (struct psci_beside_did){.what = PSCI_RETURN};
+    if (!setjmp(away))
+        out.x0 = psci_smc_handler(x[0], x[1], x[2], x[3], 0, NULL, NULL, 1);
+    *did = out;
+    did->told = did->what == PSCI_STOP;
+    for (int level = 0; level < 3; level++)
+        did->depths[level] = told.pwr_domain_state[level];
+}
+
+static void tfa_enter(void *self, uint32_t core, uint32_t cause, struct psci_beside_did *did) {
+    me = core;
+    if (!setjmp(away))
+        psci_warmboot_entrypoint();
+    *did = out;
+}
+
+static uint32_t tfa_status(void *self, uint32_t core) { return cpus[core].psci_svc_cpu_data.aff_info_state; }
+
+const struct psci_beside_peer psci_beside_target = {.name = "TF-A", .open = tfa_open, .call = tfa_call,
+    .enter = tfa_enter, .status = tfa_status, .save = statics_save};

@@ -1,0 +1,155 @@
+/* A try of gumdarts_firmware.c on this machine, over the library: the last core of a cluster stands in its
+ * stop before the one that went before it. Its Down is carried out in part, and waits for the other's; it
+ * is not tried again by its own switch, with the lock held until the other core stands. On a machine the
+ * other core would need to be slow between two instructions. */
+#include <stdarg.h>
+#include <stdio.h>
+#include <stdlib.h>
+
+#include "gumdarts_adaptor.h"
+#include "gumdarts_record.h"
+
+enum { CPU_OFF = 0x84000002, CPU_ON = 0xc4000003, AFFINITY_INFO = 0xc4000004, NODE_HW_STATE = 0xc400000d };
+enum { ON = 0, OFF = 1, LEVEL_OF_CLUSTERS = 1, BOOT = 0x40000000, MOST_DELIVERED = 20 };
+
+struct door doors[PLATFORM_CORE_COUNT];
+unsigned int psci_plat_core_count = PLATFORM_CORE_COUNT;
+struct psci_board board = {
+    .height = 2, .format = PSCI_ORIGINAL_FORMAT, .starts = 100, .lives = 1, .boot = BOOT,
+    .many_ranges = 1, .ranges = {{BOOT, BOOT + 0x1000}},
+    .levels = {{2, {2, 2}}, {1, {2}}},
+};
+static const uint64_t words[PLATFORM_CORE_COUNT] = {0x000, 0x001, 0x100, 0x101};
+static unsigned int here, delivered;
+
+/* ---- what TF-A has */
+
+void __dead2 panic(void) { exit(2); }
+
+void ERROR(const char *text, ...)
+{
+    va_list values;
+
+    va_start(values, text);
+    (void)vprintf(text, values);
+    va_end(values);
+    exit(2);
+}
+
+void spin_lock(spinlock_t *lock)
+{
+    if (lock->held)
+        ERROR("core %u takes the lock a second time\n", here);
+    lock->held = true;
+}
+
+void spin_unlock(spinlock_t *lock) { lock->held = false; }
+unsigned int plat_my_core_pos(void) { return here; }
+u_register_t read_mpidr(void) { return words[here]; }
+
+/* ---- the record: how many messages the power controller got */
+
+void record_deliver(const uint8_t *frame, const struct psci_ctl_answer *answer)
+{
+    (void)frame, (void)answer;
+    if (++delivered > MOST_DELIVERED)
+        ERROR("a Down is tried again and again, and the lock is held\n");
+}
+
+void record_call(unsigned int core, const uint64_t *x, const struct psci_answer *answer)
+{
+    (void)core, (void)x, (void)answer;
+}
+
+void record_enter(unsigned int core, const struct psci_ctl_start *start, const struct psci_answer *answer)
+{
+    (void)core, (void)start, (void)answer;
+}
+
+void record_take(const uint8_t *frame, uint32_t what) { (void)frame, (void)what; }
+void record_stands(unsigned int core, uint32_t number) { (void)core, (void)number; }
+void record_poll(unsigned int core, const uint64_t *x, int32_t code) { (void)core, (void)x, (void)code; }
+void record_reset(unsigned int core, const struct psci_ctl_answer *answer) { (void)core, (void)answer; }
+
+void record_wake(unsigned int core, uint32_t halted, const struct psci_ctl_answer *answer)
+{
+    (void)core, (void)halted, (void)answer;
+}
+
+/* ---- what cores do */
+
+static struct psci_answer call(unsigned int core, uint64_t function, uint64_t x1, uint64_t x2)
+{
+    uint64_t x[4] = {function, x1, x2, 0};
+    struct psci_answer answer;
+    struct psci_stop stop;
+
+    here = core;
+    firmware_call(core, x, &answer, &stop);
+    return answer;
+}
+
+static void enter(unsigned int core)
+{
+    struct psci_answer answer;
+    struct psci_stop stop;
+
+    here = core;
+    firmware_enter(core, &answer, &stop);
+    if (answer.what != PSCI_ENTER)
+        ERROR("core %u does not enter: %u\n", core, answer.what);
+}
+
+static void stand(unsigned int core) { doors[core].stopped = doors[core].number; }
+
+/* ---- what is wanted */
+
+static void wants(const char *what, int32_t seen, int32_t wanted)
+{
+    if (seen != wanted)
+        ERROR("%s: %d, and %d is wanted\n", what, seen, wanted);
+}
+
+static void status(const char *what, unsigned int core, int32_t wanted)
+{
+    uint64_t x[4] = {AFFINITY_INFO, words[core], 0, 0};
+
+    here = 0;
+    wants(what, firmware_poll(0, x, core), wanted);
+}
+
+static void messages(const char *what, unsigned int wanted)
+{
+    wants(what, (int32_t)delivered, (int32_t)wanted);
+    delivered = 0;
+}
+
+static void cluster(const char *what, int32_t wanted)
+{
+    wants(what, call(0, NODE_HW_STATE, words[2], LEVEL_OF_CLUSTERS).code, wanted);
+}
+
+int main(void)
+{
+    firmware_open();
+    enter(0);
+    for (unsigned int core = 2; core < 4; core++) {
+        wants("CPU_ON", call(0, CPU_ON, words[core], BOOT).code, 0);
+        enter(core);
+    }
+    delivered = 0;
+    (void)call(3, CPU_OFF, 0, 0);
+    (void)call(2, CPU_OFF, 0, 0);
+    messages("Downs of cores that do not stand yet", 0);
+    stand(2);
+    status("the last core, which stands", 2, OFF);
+    status("the other one, which does not", 3, ON);
+    cluster("their cluster", ON);
+    messages("the last core's Down, in part", 1);
+    stand(3);
+    status("the other core, which stands", 3, OFF);
+    cluster("their cluster", OFF);
+    messages("the other's Down, and what was left of the last one's", 2);
+    puts("the last core's Down waits for the other's, and is carried out after it");
+    return 0;
+}

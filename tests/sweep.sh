@@ -1,0 +1,40 @@
+# Sweeps over ranges of seeds (docs/SWEEP.md), sourced by ../test after tests/program.sh: those of this
+# machine, with faults that have to show, and of farms that stand on it, where their packages are here.
+
+# stories of sweeps that are ended, begun again, cut otherwise and spoiled
+sweeps() {
+    has_python tests/swept || return
+    if tests/swept "$program" "$work/sweeps" > "$work/out" 2>&1; then pass; else
+        fail tests/swept
+        tail -n 20 "$work/out"
+    fi
+}
+
+# a chunk that is counted twice, a result that is taken half written, and other faults of tests/swept-faults.txt
+wrong_sweeps() {
+    has_python "tests/swept --planted" || return
+    if tests/swept --planted "$program" "$work/wrong-sweeps" > "$work/out" 2>&1; then pass; else
+        fail "tests/swept --planted"
+        tail -n 20 "$work/out"
+    fi
+}
+
+# Slurm with a node that goes away, and GNU parallel with a worker that is killed, here and over ssh
+swept_farms() {
+    local farm status
+    # munged wants that everybody may pass through the folders above its socket
+    chmod a+x "$work"
+    for farm in parallel ssh slurm; do
+        has_python "tests/swept-farm $farm" || continue
+        status=0
+        tests/swept-farm "$program" "$work/farm-$farm" "$farm" > "$work/out" 2>&1 || status=$?
+        case $status in
+            0) pass ;;
+            77) skip "a sweep by $farm" "$(tail -n 1 "$work/out")" ;;
+            *)
+                fail "tests/swept-farm $farm (status $status)"
+                tail -n 20 "$work/out"
+                ;;
+        esac
+    done
+}

@@ -1,0 +1,75 @@
+"""Where the stories of tests/swept run: a folder, a program, and sweeps by the tools of a repository."""
+import os
+import resource
+import subprocess
+
+# what stands before the program in these: $flag is a file that is not there at first
+WRAPPED = """#!/bin/sh
+flag='{flag}'
+case "$*" in *"{when}"*) {does} ;; esac
+exec '{program}' "$@"
+"""
+SEEDS, COUNT = 24, 12
+
+
+class Broken(Exception):
+    """A story that does not hold, and why."""
+
+
+def wants(holds, text):
+    if not holds:
+        raise Broken(text)
+
+
+class Room:
+    """A folder in which sweeps run, with the tools of a repository."""
+
+    def __init__(self, program, folder, top):
+        self.program, self.folder, self.top = program, folder, top
+        os.makedirs(folder)
+
+    def path(self, name):
+        return f"{self.folder}/{name}"
+
+    def wrapped(self, does, when="--seed 13 "):
+        """A program that does something first, where its words have this text."""
+        path = self.path(f"wrapped{len(os.listdir(self.folder))}")
+        with open(path, "w", encoding="utf-8") as file:
+            file.write(WRAPPED.format(flag=f"{path}.flag", when=when, does=does, program=self.program))
+        os.chmod(path, 0o755)
+        return path
+
+    def words(self, out, *more, program=None, seeds=f"1..{SEEDS}", kind="storm"):
+        return [f"{self.top}/psci", "sweep", kind, "--out", self.path(out), "--seeds", seeds, "--count", str(COUNT),
+                "--program", program or self.program, *(more or ("--chunk", "5"))]
+
+    def sweep(self, out, *more, limit=None, **named):
+        """The status of a sweep, its report, and what it said."""
+        limited = limit and (lambda: resource.setrlimit(resource.RLIMIT_FSIZE, (limit, limit)))
+        ran = subprocess.run(self.words(out, *more, **named), capture_output=True, text=True, check=False,
+                             preexec_fn=limited, stdin=subprocess.DEVNULL)
+        return ran.returncode, ran.stdout, ran.stderr
+
+    def report(self, *outs):
+        ran = subprocess.run([f"{self.top}/psci", "sweep", "report", *map(self.path, outs)], capture_output=True,
+                             text=True, check=False)
+        return ran.returncode, ran.stdout, ran.stderr
+
+    def results(self, out):
+        """The files of results, and when each was written."""
+        folder = self.path(f"{out}/results")
+        return {it: os.stat(f"{folder}/{it}").st_mtime_ns for it in sorted(os.listdir(folder))}
+
+    def good(self):
+        """The report of an undisturbed sweep."""
+        if not os.path.exists(self.path("good.txt")):
+            status, text, said = self.sweep("good", "--chunk", str(SEEDS), "--jobs", "1")
+            wants(status == 0, f"an undisturbed sweep ended with {status}: {said}")
+            with open(self.path("good.txt"), "w", encoding="utf-8") as file:
+                file.write(text)
+        with open(self.path("good.txt"), encoding="utf-8") as file:
+            return file.read()
+
+    def is_good(self, found, status=0):
+        wants(found[0] == status, f"status {found[0]} and not {status}: {found[2]}")
+        wants(found[1] == self.good(), f"another report:\n{found[1][:400]}")

@@ -1,0 +1,96 @@
+# The firmware inside TF-A (hosts/tfa), sourced by ../test after tests/el3.sh: stored records, faults that
+# still fit, and Linux on TF-A where QEMU, a kernel, TF-A's source and the archive are here.
+
+# each stored record of a run inside TF-A, asked again
+tfa_records() {
+    local file
+    has_python "records of hosts/tfa" || return
+    for file in hosts/tfa/runs/*.record.xz; do
+        has_xz "$file" || continue
+        xz -dc "$file" > "$work/run.record"
+        compared 0 "safe after each of them" "$work/run.record"
+    done
+}
+
+# each fault still fits the adaptor's sources
+tfa_faults() {
+    local file copy=$work/tfa-copy
+    command -v patch > /dev/null || { skip "faults of hosts/tfa" patch; return; }
+    for file in hosts/tfa/faults/*.patch; do
+        rm -rf "$copy"
+        cp -r hosts/tfa "$copy"
+        if patch -s -d "$copy" -p1 < "$file" && ! diff -rq hosts/tfa "$copy" > "$work/out"; then pass; else
+            fail "$file"
+        fi
+    done
+}
+
+# downs_of FOLDER: the try of gumdarts_firmware.c on this machine, of the adaptor in this folder
+downs_of() {
+    cc -std=gnu11 -O2 -Wall -Wextra -Werror -I"$work/stand-in" -Iinclude -Ihosts -I"$1" -o "$work/downs" \
+        "$1/downs.c" "$1/gumdarts_firmware.c" hosts/pool.c "$archive" > "$work/out" 2>&1 &&
+        timeout 60 "$work/downs" > "$work/out" 2>&1
+}
+
+# a Down of which a part is left waits, and the fault that tries it again and again shows
+tfa_downs() {
+    local name copy=$work/tfa-copy
+    command -v cc > /dev/null || { skip "downs of hosts/tfa" cc; return; }
+    command -v patch > /dev/null || { skip "downs of hosts/tfa" patch; return; }
+    [ -f "$archive" ] || { skip "downs of hosts/tfa" "$archive"; return; }
+    for name in lib/psci/psci.h plat/common/platform.h common/debug.h lib/spinlock.h psci_private.h; do
+        mkdir -p "$(dirname "$work/stand-in/$name")"
+        cp hosts/tfa/stand_in.h "$work/stand-in/$name"
+    done
+    if downs_of hosts/tfa; then pass; else
+        fail "hosts/tfa/downs.c"
+        head -n 5 "$work/out"
+    fi
+    rm -rf "$copy"
+    cp -r hosts/tfa "$copy"
+    patch -s -d "$copy" -p1 < hosts/tfa/faults/own-switch.patch
+    if ! downs_of "$copy" && grep -q "again and again, and the lock is held" "$work/out"; then pass; else
+        fail "hosts/tfa/downs.c with the fault own-switch"
+        head -n 5 "$work/out"
+    fi
+}
+
+# tfa_says TEXT WORD..: hosts/tfa/run refuses these words with this text, with no more tools than are named
+tfa_says() {
+    local status=0 text=$1 tool
+    shift
+    mkdir -p "$work/few"
+    for tool in bash dirname env; do ln -sf "$(command -v $tool)" "$work/few/$tool"; done
+    PATH=$work/few hosts/tfa/run "$@" > "$work/out" 2>&1 || status=$?
+    if [ "$status" = 1 ] && grep -qF -- "$text" "$work/out"; then pass; else
+        fail "hosts/tfa/run $* (status $status, wanted 1 with '$text')"
+        head -n 3 "$work/out"
+    fi
+}
+
+tfa_words() {
+    tfa_says "run: there is no qemu-system-aarch64 aarch64-linux-gnu-gcc" each
+    tfa_says "run: there is no option --fast; --help lists them" --fast
+}
+
+# Linux on the firmware inside TF-A, from a built archive and with what was downloaded before
+tfa_live() {
+    local tool name cache=${GUMDARTS_CACHE:-$HOME/.cache/gumdarts}
+    has_python "Linux on TF-A" || return
+    for tool in qemu-system-aarch64 aarch64-linux-gnu-gcc gcc dtc make patch; do
+        command -v "$tool" > /dev/null || { skip "Linux on TF-A" "$tool"; return; }
+    done
+    for name in "$cache/packages/bin/busybox" "$cache/tfa/source/Makefile" /usr/include/openssl/sha.h \
+        "$PWD/out/lib/aarch64/libpsci_ffi-strict-align.a"; do
+        [ -f "$name" ] || { skip "Linux on TF-A" "$name"; return; }
+    done
+    say "Linux on TF-A"
+    if TFA_OUT=$work/tfa hosts/tfa/run --seconds 200 --record "$work/tfa.record" each boot-core idle \
+        suspend-5 > "$work/out" 2>&1; then pass; else
+        fail "hosts/tfa/run"
+        tail -n 20 "$work/out"
+        return
+    fi
+    ! grep -q "did not" "$work/out" || fail "hosts/tfa/run: $(grep "did not" "$work/out" | head -n 1)"
+    compared 0 "are answered as by the proved program" "$work/tfa.record"
+}

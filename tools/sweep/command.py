@@ -1,0 +1,175 @@
+"""The command line of a sweep."""
+import argparse
+import fcntl
+import os
+import re
+import signal
+import sys
+import tempfile
+import time
+
+from . import kinds, plan as plans, report, whole
+from .engines import ENGINES
+from .far import Far
+from .kinds import Wrong
+from .sums import Unfinished
+
+SAME, COMMAND, READ, DIFFERS, LEFT = 0, 2, 4, 6, 7
+TEXT = """Makes runs from a range of seeds, on all processors of this machine, or on many machines.
+What is finished stays: the same words in the same folder go on where a sweep was ended.
+
+  ./psci sweep storm   --seeds 1..100000 --out out/night --boards tests/tally-floors.txt
+  ./psci sweep threads --seeds 1..10000 --out out/threads --model
+  ./psci sweep lists   --seeds 1..10000 --out out/boots --on qemu --profile hosts/payload/profiles/qemu
+  ./psci sweep storm   --seeds 1..100000 --out out/night --engine slurm --engine-words '--partition=all'
+  ./psci sweep report out/night out/another
+"""
+ENDING = """
+Exit status: 0 where all seeds are done and none differs; 6 where one differs; 7 where some are left and none
+differs; 2 for a word at fault, 4 for what cannot be read or written. docs/SWEEP.md has more.
+"""
+
+
+def parsed(words):
+    form = {"allow_abbrev": False, "formatter_class": argparse.RawDescriptionHelpFormatter}
+    parser = argparse.ArgumentParser(prog="psci sweep", description=TEXT, epilog=ENDING, **form)
+    commands = parser.add_subparsers(dest="kind", metavar="KIND", required=True)
+    for name, kind in kinds.every().items():
+        one = commands.add_parser(name, help=kind.__doc__.strip(), description=kind.__doc__, epilog=ENDING, **form)
+        add = one.add_argument
+        add("--seeds", metavar="FIRST..LAST", required=True, help="each of at most 18 digits")
+        add("--out", metavar="FOLDER", required=True, help="where results go, and where a sweep goes on")
+        add("--engine", choices=ENGINES, default="local", help="who does it: local (without it), slurm, parallel")
+        add("--engine-words", metavar="TEXT", default="", help="further words of sbatch or parallel")
+        add("--jobs", metavar="N", type=int, help="chunks at the same time")
+        add("--minutes", metavar="N", type=float, default=3, help="about how long a chunk takes, 3")
+        add("--chunk", metavar="N", type=int, help="seeds of a chunk, in place of a guess")
+        kind.options(add)
+    one = commands.add_parser("report", help="print the report of what is done", epilog=ENDING, **form)
+    one.add_argument("folders", metavar="FOLDER", nargs="+", help="of sweeps of one kind, without a seed in common")
+    one.add_argument("--costs", action="store_true", help="say what it took, too")
+    return parser.parse_args(words)
+
+
+def seeds_of(text):
+    match = re.fullmatch(r"([0-9]{1,18})\.\.([0-9]{1,18})", text)
+    if not match or int(match[1]) > int(match[2]):
+        raise Wrong("--seeds takes FIRST..LAST, the lower seed first, each of at most 18 digits")
+    return int(match[1]), int(match[2])
+
+
+def say(text):
+    print(f"psci sweep: {text}", file=sys.stderr)
+
+
+# ---- a sweep begins, or goes on
+
+def locked(folder):
+    """Holds the folder for this process, as long as it lives."""
+    file = open(f"{folder}/lock", "ab")
+    try:
+        fcntl.flock(file, fcntl.LOCK_EX | fcntl.LOCK_NB)
+    except BlockingIOError:
+        raise Wrong(f"{folder}: another sweep is at it") from None
+    return file
+
+
+def guessed(kind, seeds, words):
+    """How many seeds a chunk of some minutes has, by the time of the first seed; on this machine there are
+    several chunks for each processor."""
+    begun = time.time()
+    with tempfile.TemporaryDirectory(prefix="psci-sweep-") as room:
+        for _ in kind.runs(seeds[0], room):
+            pass
+    size = max(1, int(words.minutes * 60 / (time.time() - begun)))
+    whole_range = seeds[1] + 1 - seeds[0]
+    workers = words.jobs or len(os.sched_getaffinity(0))
+    return min(size, -(-whole_range // (4 * workers))) if words.engine == "local" else min(size, whole_range)
+
+
+def begun(folder, words, settings, seeds):
+    """The plan of a sweep, which is written once all that it needs is in its folder."""
+    kind = kinds.every()[words.kind]
+    files = kind.gather(words, folder)
+    # the first seed is tried in any case, which tells of faulty words
+    size = guessed(kind(settings, folder), seeds, words)
+    return plans.make(folder, words.kind, settings, files, seeds, words.chunk or size)
+
+
+def plan_of(words):
+    """The plan of these words: that of the folder, if it is the same."""
+    seeds, settings = seeds_of(words.seeds), kinds.every()[words.kind].settings(words)
+    if any(it is not None and it < 1 for it in (words.jobs, words.chunk)) or words.minutes <= 0:
+        raise Wrong("--jobs, --chunk and --minutes take numbers above 0")
+    folder = os.path.abspath(words.out)
+    for name in ("results", "failed", "logs"):
+        os.makedirs(f"{folder}/{name}", exist_ok=True)
+    lock = locked(folder)
+    for name in ("", "/results", "/failed"):
+        whole.clear(folder + name)
+    if not plans.is_there(folder):
+        return begun(folder, words, settings, seeds), lock
+    plan = plans.read(folder)
+    if (plan.kind, plan.settings, plan.first, plan.last) != (words.kind, settings, *seeds):
+        raise Wrong(f"{folder} has another sweep: {plan.kind}, seeds {plan.first}..{plan.last}, "
+                    f"{plan.settings}; take another folder")
+    return plan, lock
+
+
+def swept(words):
+    """Does what is left of a sweep, and reports."""
+    plan, lock = plan_of(words)
+    left = plans.left(plan)
+    if len(left) < len(plan.chunks):
+        say(f"{len(plan.chunks) - len(left)} of {len(plan.chunks)} chunks are done already")
+    far = Far(plan, left)
+    try:
+        ENGINES[words.engine](plan, far, words.jobs, words.engine_words).run(left)
+    except KeyboardInterrupt:
+        say("ended; the same words go on with it")
+    finally:
+        far.end()
+        lock.close()
+    return told([plan], True)
+
+
+def told(every, has_costs):
+    """Prints the report; its status."""
+    found = report.Together(every)
+    print("\n".join(report.lines(found)), flush=True)
+    if has_costs:
+        for line in report.costs(found):
+            say(line)
+    if found.left:
+        say(f"{found.unfinished} chunks are not finished; {every[0].folder}/logs says why, and the same words go on")
+    return DIFFERS if found.differences else LEFT if found.left else SAME
+
+
+def reported(words):
+    every = [plans.read(os.path.abspath(it)) for it in words.folders]
+    why = report.misfit(every)
+    if why:
+        raise Wrong(why)
+    return told(every, words.costs)
+
+
+def interrupted(*_):
+    raise KeyboardInterrupt
+
+
+def main(words, ours=None):
+    """Runs ./psci sweep with these words; `ours` makes the path of the program, once it is needed."""
+    words = parsed(words)
+    words.ours = ours
+    signal.signal(signal.SIGTERM, interrupted)
+    try:
+        return reported(words) if words.kind == "report" else swept(words)
+    except Wrong as why:
+        say(why)
+        return COMMAND
+    except (Unfinished, whole.Broken) as why:
+        say(why)
+        return READ
+    except OSError as fault:
+        say(f"{fault.filename or getattr(words, 'out', 'report')}: {fault.strerror}")
+        return READ

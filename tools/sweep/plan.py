@@ -1,0 +1,92 @@
+"""What a sweep is to do: its kind, its settings, its seeds, and how they are cut into chunks.
+
+It stands in the folder of the sweep, beside all that a chunk needs (the program, say):
+
+    plan.json        this plan, written last of what begins a sweep; the same words go on with it
+    results/N.json   what came of chunk N: there once the chunk is finished, and whole
+    failed/          the scripts or records of runs that differ
+    logs/            what engines and chunks said
+"""
+import hashlib
+import json
+import os
+
+from . import whole
+
+FORM = 1
+
+
+class Plan:
+    """A plan, in its folder."""
+
+    def __init__(self, folder, text):
+        self.folder, self.text = folder, text
+        self.kind, self.settings = text["kind"], text["settings"]
+        self.first, self.last, self.size = text["first"], text["last"], text["size"]
+
+    @property
+    def seeds(self):
+        return self.last + 1 - self.first
+
+    @property
+    def chunks(self):
+        return range(-(-self.seeds // self.size))
+
+    def seeds_of(self, number):
+        """The seeds of a chunk."""
+        begin = self.first + number * self.size
+        return range(begin, min(begin + self.size, self.last + 1))
+
+    def path_of(self, number):
+        """Where the result of a chunk stands: one name for it, whoever does it, and how often."""
+        return f"{self.folder}/results/{number}.json"
+
+    @property
+    def stamp(self):
+        """The sum of the plan, which each of its results names."""
+        return hashlib.sha256(json.dumps(self.text, sort_keys=True).encode()).hexdigest()
+
+    def is_like(self, other):
+        """Whether both make the same of a seed: of the same kind, with the same settings and files."""
+        return all(self.text[name] == other.text[name] for name in ("kind", "settings", "files"))
+
+
+def make(folder, kind, settings, files, seeds, size):
+    """Writes a plan into its folder, with the sums of the files that its chunks need."""
+    sums = {}
+    for name in files:
+        with open(f"{folder}/{name}", "rb") as file:
+            sums[name] = hashlib.sha256(file.read()).hexdigest()
+    plan = Plan(folder, {"form": FORM, "kind": kind, "settings": settings, "files": sums, "first": seeds[0],
+                         "last": seeds[1], "size": size})
+    whole.write_summed(f"{folder}/plan.json", plan.text)
+    return plan
+
+
+def read(folder):
+    """The plan in a folder."""
+    text = whole.read_summed(f"{folder}/plan.json")
+    if text.get("form") != FORM:
+        raise whole.Broken(f"{folder}/plan.json: its form is {text.get('form')}, and this reads form {FORM}")
+    return Plan(folder, text)
+
+
+def is_there(folder):
+    return os.path.exists(f"{folder}/plan.json")
+
+
+def result(plan, number):
+    """The result of a chunk, or nothing where it is not finished: not there, not whole, of another plan, or
+    without some of its seeds."""
+    try:
+        found = whole.read_summed(plan.path_of(number))
+    except (FileNotFoundError, whole.Broken, ValueError):
+        return None
+    seeds = plan.seeds_of(number)
+    wanted = {"plan": plan.stamp, "first": seeds[0], "last": seeds[-1], "seeds": len(seeds)}
+    return found if all(found.get(name) == value for name, value in wanted.items()) else None
+
+
+def left(plan):
+    """The chunks that are not finished."""
+    return [number for number in plan.chunks if result(plan, number) is None]

@@ -1,0 +1,88 @@
+"""The report of a sweep, or of several of one kind: a sum over the seeds that are done. Nothing of it hangs on
+chunks, engines, machines or time."""
+from . import kinds, plan as plans, sums
+from .sums import LINES
+
+
+class Together:
+    """What is done of some plans that make the same of each seed, and have no seed in common."""
+
+    def __init__(self, every):
+        self.plans, self.sums, self.differences = every, {}, []
+        self.cost, self.done, self.left, self.unfinished = {}, [], [], 0
+        for plan in every:
+            for number in plan.chunks:
+                self.take(plan, number)
+        # seeds that follow each other are one range, whoever did them
+        self.done, self.left = joined(self.done), joined(self.left)
+
+    def take(self, plan, number):
+        found, seeds = plans.result(plan, number), plan.seeds_of(number)
+        if found is None:
+            self.left.append((seeds[0], seeds[-1]))
+            self.unfinished += 1
+            return
+        self.done.append((seeds[0], seeds[-1]))
+        sums.add(self.sums, found["sums"])
+        self.differences += [{**it, "folder": plan.folder} for it in found["differences"]]
+        cost = self.cost.setdefault(found["cost"]["machine"], [0, 0.0, 0.0])
+        cost[0] += 1
+        cost[1] += found["cost"]["processor"]
+        cost[2] += found["cost"]["seconds"]
+
+    @property
+    def seeds(self):
+        return sum(last + 1 - first for first, last in self.done)
+
+
+def joined(ranges):
+    """These ranges in order, where those that follow each other are one."""
+    made = []
+    for first, last in sorted(ranges):
+        if made and made[-1][1] + 1 == first:
+            made[-1] = (made[-1][0], last)
+        else:
+            made.append((first, last))
+    return made
+
+
+def misfit(every):
+    """Why these plans have no report together; nothing if they have one."""
+    one = every[0]
+    for plan in every[1:]:
+        if not plan.is_like(one):
+            return f"{plan.folder} makes something else of a seed than {one.folder}"
+    ordered = sorted(every, key=lambda it: it.first)
+    for plan, other in zip(ordered, ordered[1:]):
+        if other.first <= plan.last:
+            return f"{plan.folder} and {other.folder} have seed {other.first} in common"
+    return None
+
+
+def ranges(them):
+    return ", ".join(f"{first}..{last}" if first != last else str(first) for first, last in them)
+
+
+def lines(found):
+    """The report, line by line."""
+    plan = found.plans[0]
+    whole = sum(it.seeds for it in found.plans)
+    several = len({it["seed"] for it in found.differences})
+    yield f"sweep of {plan.kind}: {found.seeds} of {whole} seeds are done, {several} of them differ"
+    yield f"seeds: {ranges(found.done)}"
+    if found.left:
+        yield f"left: {ranges(found.left)}"
+    if LINES in found.sums:
+        yield f"all that was printed comes to {found.sums[LINES] % 2 ** 64:016x}"
+    yield from kinds.every()[plan.kind].lines(plan.settings, found.sums)
+    for what, runs in sums.by_seed(found.differences):
+        yield f"differs: {len(runs)} x {what}"
+        yield f"  the first: seed {runs[0]['seed']}, {runs[0]['board']}: failed/ has {', '.join(runs[0]['kept'])}"
+        yield f"  seeds: {ranges(joined(sorted({(it['seed'], it['seed']) for it in runs})))}"
+
+
+def costs(found):
+    """What it took: by each machine, which no report says."""
+    for machine, (chunks, processor, seconds) in sorted(found.cost.items()):
+        yield (f"{machine}: {chunks} chunks, {processor:.1f} processor seconds, {seconds:.1f} seconds of workers, "
+               f"{processor / max(seconds, 0.001):.2f} of a processor each")
