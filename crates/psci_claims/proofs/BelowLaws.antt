@@ -2,16 +2,16 @@
 use Rattle.std.proofs.Common.{◌≡◌, ◌<◌, ℕ, true, inl, inr, sym, ◌∙◌, true≢false}
 use Rattle.std.proofs.lemmas.Bool.{cases_Bool}
 use Rattle.psci_board.specs.Board.{BoardValue, cores, up}
-use Rattle.psci_claims.specs.View.{PowerView, domain_of, is_all_off}
+use Rattle.psci_claims.specs.View.{PowerView, domain_of, is_all_away}
 use Rattle.psci_claims.specs.Laws.{BelowLaws}
 use Rattle.psci_claims.proofs.LeastBelow.{least_ask-most, least_ask-below, least_ask-above}
 use Rattle.psci_claims.proofs.OsiLaws.{all_off-below, some_on-below}
 
 all_off : (b : BoardValue) (v : PowerView) (core level : ℕ)
-    → ((c : ℕ) → c < cores b → up b level c ≡ up b level core → v.is_off c ≡ true)
-    → is_all_off b v (domain_of b core level) ≡ true
+    → ((c : ℕ) → c < cores b → up b level c ≡ up b level core → v.is_away c ≡ true)
+    → is_all_away b v (domain_of b core level) ≡ true
 all_off b v core level each =
-    elim (cases_Bool (is_all_off b v (domain_of b core level))) [
+    elim (cases_Bool (is_all_away b v (domain_of b core level))) [
       | inl all ↦ all
       | inr part ↦
           let one = some_on-below b v core level part in

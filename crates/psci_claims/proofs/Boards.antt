@@ -3,7 +3,7 @@ use Rattle.std.proofs.Common.{ℕ, List, [], ◌∷◌}
 use Rattle.psci_state.specs.psci_format.declared.format.Format.TheVariants.{Original}
 use Rattle.psci_board.specs.Board.{BoardValue}
 use Rattle.psci_state.specs.declared.cores.CoreState.{CoreState}
-use Rattle.psci_state.specs.declared.cores.Activity.TheVariants.{Active, Suspended, Off}
+use Rattle.psci_state.specs.declared.cores.Activity.TheVariants.{Active, Suspended, Away}
 use Rattle.psci_claims.specs.psci_parts.declared.part.Part.{Part}
 use Rattle.psci_claims.specs.View.{PowerView}
 use Rattle.psci_claims.specs.Looked.{view_of}
@@ -40,7 +40,7 @@ asleep ask known = record { activity = Suspended ask; known = known }
 
 -- off or going off
 abbrev pub off : ℕ → CoreState
-off known = record { activity = Off; known = known }
+off known = record { activity = Away; known = known }
 
 -- a tree of a board with these cores, and granted depths by level and place
 abbrev pub seen : BoardValue → List CoreState → List (List ℕ) → PowerView

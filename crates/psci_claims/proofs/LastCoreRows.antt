@@ -6,7 +6,7 @@ use Rattle.psci_state.specs.declared.cores.CoreState.{CoreState}
 use Rattle.psci_claims.specs.psci_parts.declared.part.Part.{Part}
 use Rattle.psci_claims.specs.declared.osi.Osi.{Osi}
 use Rattle.psci_claims.specs.declared.osi.Osi.TheVariants.{Invalid, Denied}
-use Rattle.psci_claims.specs.View.{generation, is_idle, is_all_off}
+use Rattle.psci_claims.specs.View.{generation, is_idle, is_all_away}
 use Rattle.psci_claims.specs.Claim.{claims_of, off_claims}
 use Rattle.psci_claims.specs.LastCore.{shallow_at, shallow, refusal, last_core_check}
 use Rattle.psci_claims.proofs.Boards.{board_of, two_clusters, uneven, high, active, asleep, off}
@@ -174,35 +174,35 @@ off_parts b core cores = off_claims b (seen b cores []) core
 -- every core below is off
 off_all : off_parts two_clusters 0 (off 1 ∷ off 0 ∷ off 0 ∷ off 2 ∷ [])
     ≡ part 0 3 1 ∷ part 1 3 1 ∷ part 2 3 3 ∷ []
-unfolding claims_of generation is_all_off up
+unfolding claims_of generation is_all_away up
 off_all = refl
 
 -- a suspended core keeps its domains, however deep it asked
 off_beside : off_parts two_clusters 0
     (off 1 ∷ asleep (3 ∷ 3 ∷ 3 ∷ 0 ∷ []) 1 ∷ off 0 ∷ off 0 ∷ [])
     ≡ part 0 3 1 ∷ []
-unfolding claims_of generation is_all_off up
+unfolding claims_of generation is_all_away up
 off_beside = refl
 
 off_elsewhere : off_parts two_clusters 3
     (asleep (3 ∷ 3 ∷ 3 ∷ 0 ∷ []) 1 ∷ off 0 ∷ off 0 ∷ off 2 ∷ [])
     ≡ part 0 3 2 ∷ part 1 3 2 ∷ []
-unfolding claims_of generation is_all_off up
+unfolding claims_of generation is_all_away up
 off_elsewhere = refl
 
 -- and so does a pending one
 off_pending : off_parts two_clusters 0 (off 1 ∷ active 0 ∷ off 0 ∷ off 0 ∷ [])
     ≡ part 0 3 1 ∷ []
-unfolding claims_of generation is_all_off up
+unfolding claims_of generation is_all_away up
 off_pending = refl
 
 -- the first domain that is kept ends the claim: the last core of the cluster is not off
 off_uneven : off_parts uneven 0 (off 4 ∷ off 0 ∷ active 1 ∷ off 0 ∷ [])
     ≡ part 0 3 4 ∷ part 1 3 4 ∷ []
-unfolding claims_of generation is_all_off up
+unfolding claims_of generation is_all_away up
 off_uneven = refl
 
 off_high : off_parts uneven 3 (off 4 ∷ off 3 ∷ off 2 ∷ off 1 ∷ [])
     ≡ part 0 3 1 ∷ part 1 3 1 ∷ part 2 3 1 ∷ part 3 3 10 ∷ []
-unfolding claims_of generation is_all_off up
+unfolding claims_of generation is_all_away up
 off_high = refl

@@ -10,7 +10,7 @@ use Rattle.std.proofs.Math.Nat.{eq-zero-or-pos}
 use Rattle.psci_board.specs.Board.{BoardValue, cores, up}
 use Rattle.psci_state.specs.Ask.{IsAsk}
 use Rattle.psci_claims.specs.psci_parts.declared.part.Part.{Part}
-use Rattle.psci_claims.specs.View.{PowerView, domain_of, is_all_off}
+use Rattle.psci_claims.specs.View.{PowerView, domain_of, is_all_away}
 use Rattle.psci_claims.specs.Claim.{own_claims, own_wish, off_claims, off_wish}
 use Rattle.psci_claims.specs.Laws.{OwnLaws, OffLaws}
 use Rattle.psci_claims.proofs.ClaimLaws.{claim_laws}
@@ -57,18 +57,18 @@ some-fails p test a (suc n) e = elim (cases_Bool (test a)) [
 ]
 
 pub all_off-below : (b : BoardValue) (v : PowerView) (core level c : ℕ)
-    → is_all_off b v (domain_of b core level) ≡ true → c < cores b
-    → up b level c ≡ up b level core → v.is_off c ≡ true
-unfolding is_all_off up
+    → is_all_away b v (domain_of b core level) ≡ true → c < cores b
+    → up b level c ≡ up b level core → v.is_away c ≡ true
+unfolding is_all_away up
 all_off-below b v core level c e h at =
-    all-pass v.is_off _ 0 (cores b) c e (omega arith) (omega arith) (eq-eqb _ _ at)
+    all-pass v.is_away _ 0 (cores b) c e (omega arith) (omega arith) (eq-eqb _ _ at)
 
 pub some_on-below : (b : BoardValue) (v : PowerView) (core level : ℕ)
-    → is_all_off b v (domain_of b core level) ≡ false
-    → (c : ℕ) × (c < cores b) × (up b level c ≡ up b level core) × (v.is_off c ≡ false)
-unfolding is_all_off up
+    → is_all_away b v (domain_of b core level) ≡ false
+    → (c : ℕ) × (c < cores b) × (up b level c ≡ up b level core) × (v.is_away c ≡ false)
+unfolding is_all_away up
 some_on-below b v core level e =
-    let one = some-fails v.is_off _ 0 (cores b) e in
+    let one = some-fails v.is_away _ 0 (cores b) e in
     (one.0, omega (arith, one.2), eqb-true _ _ one.3, one.4)
 
 -- CPU_OFF -------------------------------------------------------------------------------------
@@ -76,18 +76,18 @@ some_on-below b v core level e =
 -- above the core, power-down is wanted where all is off, and nothing elsewhere
 off-yes : (b : BoardValue) (v : PowerView) (core level : ℕ) → 0 < level
     → 0 < off_wish b v core level
-    → is_all_off b v (domain_of b core level) ≡ true
+    → is_all_away b v (domain_of b core level) ≡ true
 off-yes b v core zero h i = absurd (omega arith)
 off-yes b v core (suc level) h i =
-    elim (cases_Bool (is_all_off b v (domain_of b core (suc level)))) [
+    elim (cases_Bool (is_all_away b v (domain_of b core (suc level)))) [
       | inl all ↦ all
       | inr part ↦ let never = rw part at i in absurd (omega arith)
     ]
 
 off-no : (b : BoardValue) (v : PowerView) (core level : ℕ) → off_wish b v core level ≡ 0
-    → is_all_off b v (domain_of b core level) ≡ false
+    → is_all_away b v (domain_of b core level) ≡ false
 off-no b v core zero e = absurd (omega arith)
-off-no b v core (suc level) e = elim (cases_Bool (is_all_off b v (domain_of b core (suc level)))) [
+off-no b v core (suc level) e = elim (cases_Bool (is_all_away b v (domain_of b core (suc level)))) [
   | inl all ↦ let never = rw all at e in absurd (omega arith)
   | inr part ↦ part
 ]
@@ -96,7 +96,7 @@ off-three : (b : BoardValue) (v : PowerView) (core level : ℕ) → 0 < off_wish
     → off_wish b v core level ≡ 3
 off-three b v core zero h = refl
 off-three b v core (suc level) h =
-    elim (cases_Bool (is_all_off b v (domain_of b core (suc level)))) [
+    elim (cases_Bool (is_all_away b v (domain_of b core (suc level)))) [
       | inl all ↦ rw all refl
       | inr part ↦ let never = rw part at h in absurd (omega arith)
     ]

@@ -3,7 +3,7 @@ use Rattle.std.specs.Prelude.{ℕ, zero, suc, ◌+◌, List, [], ◌∷◌, slic
 use Rattle.std.specs.Prelude.{if◌then◌else◌}
 use Rattle.psci_board.specs.Board.{BoardValue, height}
 use Rattle.psci_claims.specs.psci_parts.declared.part.Part.{Part}
-use Rattle.psci_claims.specs.View.{PowerView, domain_of, least_ask, generation, is_all_off}
+use Rattle.psci_claims.specs.View.{PowerView, domain_of, least_ask, generation, is_all_away}
 
 -- Up a path from this level on, over so many levels: a part for each level, as long as a depth of
 -- at least 1 is wanted there. The first level where none is wanted ends the claim.
@@ -37,7 +37,7 @@ own_wish ask level = slice_index ask level
 -- is off or going off
 abbrev pub off_wish : BoardValue → PowerView → ℕ → ℕ → ℕ
 off_wish b v core zero = 3
-off_wish b v core (suc level) = if is_all_off b v (domain_of b core (suc level)) then 3 else 0
+off_wish b v core (suc level) = if is_all_away b v (domain_of b core (suc level)) then 3 else 0
 
 -- The claims -----------------------------------------------------------------------------------
 

@@ -5,7 +5,7 @@ use Rattle.std.specs.List.{range_with_len}
 use Rattle.psci_board.specs.Board.{BoardValue, height, cores, up}
 use Rattle.psci_state.specs.Ask.{IsAsk}
 use Rattle.psci_claims.specs.psci_parts.declared.part.Part.{Part}
-use Rattle.psci_claims.specs.View.{PowerView, domain_of, generation, least_ask, is_all_off}
+use Rattle.psci_claims.specs.View.{PowerView, domain_of, generation, least_ask, is_all_away}
 use Rattle.psci_claims.specs.Claim.{claims_of, platform_claims, own_claims, off_claims}
 use Rattle.psci_claims.specs.LastCore.{last_core_check}
 
@@ -19,10 +19,10 @@ pub record BelowLaws (b : BoardValue) (v : PowerView) (core level : ℕ) : Type 
       → ((c : ℕ) → c < cores b → up b level c ≡ up b level core → depth ≤ v.ask c level)
       → depth ≤ least_ask b v (domain_of b core level)
   -- every core below is off or going off where each one is
-  pub off : is_all_off b v (domain_of b core level) ≡ true → (c : ℕ) → c < cores b
-      → up b level c ≡ up b level core → v.is_off c ≡ true
-  pub all : ((c : ℕ) → c < cores b → up b level c ≡ up b level core → v.is_off c ≡ true)
-      → is_all_off b v (domain_of b core level) ≡ true
+  pub off : is_all_away b v (domain_of b core level) ≡ true → (c : ℕ) → c < cores b
+      → up b level c ≡ up b level core → v.is_away c ≡ true
+  pub all : ((c : ℕ) → c < cores b → up b level c ≡ up b level core → v.is_away c ≡ true)
+      → is_all_away b v (domain_of b core level) ≡ true
 
 -- Every claim, whatever depths it wants.
 pub record ClaimLaws (b : BoardValue) (v : PowerView) (core : ℕ) (wanted : ℕ → ℕ) : Type 0 where
@@ -89,11 +89,11 @@ pub record OffLaws (b : BoardValue) (v : PowerView) (core : ℕ) : Type 0 where
   -- above the core, where every core below is off or going off
   pub off : (level c : ℕ) (p : Part) → slice_get (off_claims b v core) level ≡ Some p → 0 < level
       → c < cores b → up b level c ≡ up b level core
-      → v.is_off c ≡ true
+      → v.is_away c ≡ true
   -- one level more would be too much: some core below that domain is neither
   pub ends : length (off_claims b v core) < height b + 1
       → (c : ℕ) × (c < cores b) × (up b (length (off_claims b v core)) c
-      ≡ up b (length (off_claims b v core)) core) × (v.is_off c ≡ false)
+      ≡ up b (length (off_claims b v core)) core) × (v.is_away c ≡ false)
 
 -- No domain was granted more than the domain below it on each path, and no core more than it asks
 -- of itself.

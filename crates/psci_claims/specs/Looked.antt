@@ -1,5 +1,5 @@
 -- A tree of power domains, seen by cores and by levels and places.
-use Rattle.psci_state.specs.Cores.{TreeValue, ask_at, known_at, is_active_at, is_off_at}
+use Rattle.psci_state.specs.Cores.{TreeValue, ask_at, known_at, is_active_at, is_away_at}
 use Rattle.psci_state.specs.Cores.{granted_at}
 use Rattle.psci_claims.specs.View.{PowerView}
 
@@ -9,6 +9,6 @@ view_of t = record {
   ask = ask_at t;
   known = known_at t;
   is_active = is_active_at t;
-  is_off = is_off_at t;
+  is_away = is_away_at t;
   granted = granted_at t;
 }

@@ -15,7 +15,7 @@ pub record PowerView : Type 0 where
   -- whether a core is running or pending
   pub is_active : ℕ → Bool
   -- whether a core is off or going off
-  pub is_off : ℕ → Bool
+  pub is_away : ℕ → Bool
   -- the depth that a domain was granted
   pub granted : ℕ → ℕ → ℕ
 
@@ -28,8 +28,8 @@ unfoldable pub generation : BoardValue → PowerView → Node → ℕ
 generation b v n = sum_by v.known (below b n)
 
 -- every core below a domain is off or going off
-unfoldable pub is_all_off : BoardValue → PowerView → Node → Bool
-is_all_off b v n = list_all v.is_off (below b n)
+unfoldable pub is_all_away : BoardValue → PowerView → Node → Bool
+is_all_away b v n = list_all v.is_away (below b n)
 
 -- no core below a domain is running or pending
 unfoldable pub is_idle : BoardValue → PowerView → Node → Bool

@@ -49,8 +49,8 @@ firmware life = record {
     cores =
         record { activity = activities.Active; known = 1 }
         ∷ record { activity = activities.Active; known = 0 }
-        ∷ record { activity = activities.Off; known = 2 }
-        ∷ record { activity = activities.Off; known = 5 } ∷ [];
+        ∷ record { activity = activities.Away; known = 2 }
+        ∷ record { activity = activities.Away; known = 5 } ∷ [];
     granted = (0 ∷ 0 ∷ 3 ∷ 3 ∷ []) ∷ (0 ∷ 1 ∷ []) ∷ (0 ∷ []) ∷ [];
     confirmed = (0 ∷ 0 ∷ 3 ∷ 0 ∷ []) ∷ (0 ∷ 1 ∷ []) ∷ (0 ∷ []) ∷ [];
   };

@@ -17,7 +17,7 @@ seen awake = record {
   ask = λ c level. 0;
   known = λ c. 0;
   is_active = λ c. c == awake;
-  is_off = λ c. false;
+  is_away = λ c. false;
   granted = λ level place. 2;
 }
 

@@ -182,8 +182,11 @@ confirms_on-by b s v a level place is =
     let c : ℕ = a.core.number in
     let depth : ℕ = v.granted level (s level place) in
     let sent : Option MessageValue = v.outstanding (slot_of a.kind a.core) in
-    ap (λ (o : Option MessageValue). confirms b (λ k. v.known (s 0 k)) depth o
-    (acknowledgement_by s a) level place) (at_slot-by s v a (is.back 0))
+    ap (λ (o : Option MessageValue). confirms b (record {
+      known = λ k. v.known (s 0 k);
+      granted = depth;
+      sent = o;
+    }) (acknowledgement_by s a) n) (at_slot-by s v a (is.back 0))
     ∙ (ap (λ (p : Option Part). is_path_place b (s 0 c) level place && (nat_lt 0 depth
     && is_made_at (sum_by (λ k. v.known (s 0 k)) (below b n)) p)) (applied_part-by s a level sent)
     ∙ (ap (λ (k : ℕ). is_path_place b (s 0 c) level place && (nat_lt 0 depth

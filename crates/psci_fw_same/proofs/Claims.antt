@@ -5,7 +5,8 @@ use Rattle.psci_board.specs.Board.{BoardValue, height}
 use Rattle.psci_board.specs.declared.node.Node.{Node}
 use Rattle.psci_claims.specs.Claim.{climb, claims_of, least_wish, off_claims, off_wish}
 use Rattle.psci_claims.specs.Claim.{own_claims, own_wish, platform_claims}
-use Rattle.psci_claims.specs.View.{PowerView, domain_of, generation, is_all_off, is_idle, least_ask}
+use Rattle.psci_claims.specs.View.{PowerView, domain_of, generation, is_all_away, is_idle}
+use Rattle.psci_claims.specs.View.{least_ask}
 use Rattle.psci_fw_same.specs.Renumbered.{node_by}
 use Rattle.psci_fw_same.proofs.Renumbering.{Renumbers, all-below, least-below, sum-below}
 
@@ -15,7 +16,7 @@ view_by s w = record {
   ask = λ c level. w.ask (s 0 c) level;
   known = λ c. w.known (s 0 c);
   is_active = λ c. w.is_active (s 0 c);
-  is_off = λ c. w.is_off (s 0 c);
+  is_away = λ c. w.is_away (s 0 c);
   granted = λ level place. w.granted level (s level place);
 }
 
@@ -31,10 +32,10 @@ generation-by : (b : BoardValue) (s : ℕ → ℕ → ℕ) (w : PowerView) (n : 
 unfolding generation
 generation-by b s w n is = sum-below b s n w.known is
 
-is_all_off-by : (b : BoardValue) (s : ℕ → ℕ → ℕ) (w : PowerView) (n : Node) → Renumbers b s
-    → is_all_off b (view_by s w) (node_by s n) ≡ is_all_off b w n
-unfolding is_all_off
-is_all_off-by b s w n is = all-below b s n w.is_off is
+is_all_away-by : (b : BoardValue) (s : ℕ → ℕ → ℕ) (w : PowerView) (n : Node) → Renumbers b s
+    → is_all_away b (view_by s w) (node_by s n) ≡ is_all_away b w n
+unfolding is_all_away
+is_all_away-by b s w n is = all-below b s n w.is_away is
 
 pub is_idle-by : (b : BoardValue) (s : ℕ → ℕ → ℕ) (w : PowerView) (n : Node) → Renumbers b s
     → is_idle b (view_by s w) (node_by s n) ≡ is_idle b w n
@@ -76,8 +77,8 @@ off_wish-by : (b : BoardValue) (s : ℕ → ℕ → ℕ) (w : PowerView) (c leve
 off_wish-by b s w c zero is = refl
 off_wish-by b s w c (suc level) is =
     ap (λ (t : Bool). if t then 3 else 0)
-    (ap (is_all_off b (view_by s w)) (domain-by b s c (suc level) is)
-    ∙ is_all_off-by b s w (domain_of b c (suc level)) is)
+    (ap (is_all_away b (view_by s w)) (domain-by b s c (suc level) is)
+    ∙ is_all_away-by b s w (domain_of b c (suc level)) is)
 
 pub platform_claims-by : (b : BoardValue) (s : ℕ → ℕ → ℕ) (w : PowerView) (c : ℕ) → Renumbers b s
     → platform_claims b (view_by s w) (s 0 c) ≡ platform_claims b w c

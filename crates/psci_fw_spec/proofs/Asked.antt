@@ -8,10 +8,10 @@ use Rattle.psci_board.specs.Laws.{PathLaws, WordLaws}
 use Rattle.psci_claims.specs.psci_parts.declared.part.Part.{Part}
 use Rattle.psci_claims.specs.Laws.{BelowLaws, ClaimLaws, PlatformLaws, OwnLaws, OffLaws}
 use Rattle.psci_claims.specs.Laws.{LastCoreLaws}
-use Rattle.psci_claims.specs.View.{PowerView, domain_of, is_all_off, least_ask}
+use Rattle.psci_claims.specs.View.{PowerView, domain_of, is_all_away, least_ask}
 use Rattle.psci_messages.specs.Message.{AreClaims, PartByPart}
 use Rattle.psci_state.specs.Ask.{IsAsk}
-use Rattle.psci_state.specs.Cores.{IsActivity, asks, is_off}
+use Rattle.psci_state.specs.Cores.{IsActivity, asks, is_away}
 use Rattle.psci_fw_spec.specs.Invariant.{IsPhase}
 use Rattle.psci_fw_spec.specs.Phases.{Phase, Pending, Running, Suspended, Away, activity_of}
 use Rattle.psci_fw_spec.specs.Values.{Values}
@@ -149,7 +149,7 @@ asked-fall b phase level is h =
 -- every core below a core's domain of a level is off or going off
 abbrev pub IsAllOff : BoardValue → (ℕ → Phase) → ℕ → ℕ → Type 0
 IsAllOff b phase c level =
-    (x : ℕ) → x < cores b → up b level x ≡ up b level c → is_off (activity_of (phase x)) ≡ true
+    (x : ℕ) → x < cores b → up b level x ≡ up b level c → is_away (activity_of (phase x)) ≡ true
 
 -- the least ask of the cores below a core's domain of a level
 pub record IsLeast (b : BoardValue) (phase : ℕ → Phase) (c level m : ℕ) : Type 0 where
@@ -196,11 +196,11 @@ least_is b v c level known =
     }
 
 pub all_off : (b : BoardValue) (v : Values) (c level : ℕ) → Known b
-    → is_all_off b (view b v) (domain_of b c level) ≡ true → IsAllOff b v.phase c level
+    → is_all_away b (view b v) (domain_of b c level) ≡ true → IsAllOff b v.phase c level
 unfolding view
 all_off b v c level known e = λ x h at. (known.below (view b v) c level).off e x h at
 
 pub off_all : (b : BoardValue) (v : Values) (c level : ℕ) → Known b
-    → IsAllOff b v.phase c level → is_all_off b (view b v) (domain_of b c level) ≡ true
+    → IsAllOff b v.phase c level → is_all_away b (view b v) (domain_of b c level) ≡ true
 unfolding view
 off_all b v c level known each = (known.below (view b v) c level).all each

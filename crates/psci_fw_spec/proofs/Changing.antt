@@ -6,7 +6,7 @@ use Rattle.psci_board.specs.Board.{BoardValue, cores}
 use Rattle.psci_messages.specs.declared.kind.Kind.TheVariants.{Down}
 use Rattle.psci_messages.specs.Message.{AckValue, MessageValue}
 use Rattle.psci_messages.specs.Slots.{is_kind}
-use Rattle.psci_state.specs.Cores.{is_off}
+use Rattle.psci_state.specs.Cores.{is_away as is_core_away}
 use Rattle.psci_messages.specs.declared.start.Start.{Start}
 use Rattle.psci_fw_spec.specs.declared.status.Status.{Status}
 use Rattle.psci_fw_spec.specs.declared.status.Status.TheVariants as statuses
@@ -62,7 +62,7 @@ kept_pending b v asked known on are =
           (Some asked.opening) Pending refl (are.awake e).opening)
           (granted_cleared b v.mode v.phase new v.granted t known.paths on changed
           (λ level. ap (λ (p : Phase). asks_at b p level) here ∙ asked_pending b level)
-          (ap (λ (p : Phase). is_off (activity_of p)) here)
+          (ap (λ (p : Phase). is_core_away (activity_of p)) here)
           (granted_of b v known (are.awake e)));
     }
 
@@ -173,7 +173,7 @@ kept_entering b v c s known on within are =
           (are.awake e).opening)
           (granted_cleared b f.mode f.phase new f.granted c known.paths on changed
           (λ level. ap (λ (p : Phase). asks_at b p level) here ∙ asked_running b level)
-          (ap (λ (p : Phase). is_off (activity_of p)) here)
+          (ap (λ (p : Phase). is_core_away (activity_of p)) here)
           (granted_of b f known (are.awake e)));
     }
 

@@ -93,7 +93,10 @@ module _ (b : BoardValue) (h : List FwExchange) where
   confirmed_more (StopsAtOnce c s) level place =
       enters s.life (s.life == life b h) (is_path_place b c level place) level place
   confirmed_more (Acknowledges a) level place =
-      said (confirms b (known b h) (granted b h level place)
-      (slots.outstanding (slot_of a.kind a.core) (changes b h)) a level place) true
+      said (confirms b (record {
+        known = known b h;
+        granted = granted b h level place;
+        sent = slots.outstanding (slot_of a.kind a.core) (changes b h);
+      }) a (record { level = level; place = place })) true
       (confirmed b h level place)
   confirmed_more f level place = refl

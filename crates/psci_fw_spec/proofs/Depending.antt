@@ -11,7 +11,7 @@ use Rattle.psci_board.specs.declared.node.Node.{Node}
 use Rattle.psci_claims.specs.declared.osi.Osi.{Osi}
 use Rattle.psci_claims.specs.psci_parts.declared.part.Part.{Part}
 use Rattle.psci_claims.specs.Claim.{claims_of}
-use Rattle.psci_claims.specs.View.{generation, is_all_off, least_ask}
+use Rattle.psci_claims.specs.View.{generation, is_all_away, least_ask}
 use Rattle.psci_messages.specs.declared.kind.Kind.TheVariants as kinds
 use Rattle.psci_state.specs.Ask.{deepest_of, is_deep}
 use Rattle.psci_state.specs.declared.fault.BadState.{BadState}
@@ -92,7 +92,7 @@ same_leaving : (b : BoardValue) (v w : Values) (c : ℕ) (m : SuspendMode)
     → v.known ≡ w.known → v.phase ≡ w.phase
     → leaving_claims b (view b (with_phase c Away v)) c m
     ≡ leaving_claims b (view b (with_phase c Away w)) c m
-unfolding view claims_of generation least_ask is_all_off
+unfolding view claims_of generation least_ask is_all_away
 same_leaving b v w c Platform known phase = λ i.
     leaving_claims b
     (view b (with_phase c Away (record v { known = known i; phase = phase i }))) c Platform

@@ -6,7 +6,7 @@ use Rattle.std.proofs.lemmas.Bool.{cases_eq, eqb-true, eqb-false}
 use Rattle.psci_board.specs.Board.{BoardValue, cores, height, up}
 use Rattle.psci_board.specs.Laws.{PathLaws}
 use Rattle.psci_claims.specs.psci_parts.declared.part.Part.{Part}
-use Rattle.psci_state.specs.Cores.{is_off}
+use Rattle.psci_state.specs.Cores.{is_away}
 use Rattle.psci_fw_spec.specs.declared.mode.SuspendMode.{SuspendMode}
 use Rattle.psci_fw_spec.specs.declared.mode.SuspendMode.TheVariants.{Platform}
 use Rattle.psci_fw_spec.specs.Paths.{claimed_or, cleared, granted_with}
@@ -98,13 +98,13 @@ pub record AreGranted (b : BoardValue) (mode : SuspendMode) (phase : ℕ → Pha
 off_beside : (b : BoardValue) (old new : ℕ → Phase) (c x level : ℕ) → ChangedAt old new c
     → (up b level x ≡ up b level c → ⊥) → IsAllOff b new x level → IsAllOff b old x level
 off_beside b old new c x level changed beside all = λ y h at.
-    subst (λ (p : Phase). is_off (activity_of p) ≡ true)
+    subst (λ (p : Phase). is_away (activity_of p) ≡ true)
     (changed y (apart b x y c level beside at)) (all y h at)
 
 -- a core that is on, and asks nothing, has its path cleared
 pub granted_cleared : (b : BoardValue) (mode : SuspendMode) (old new : ℕ → Phase)
     (granted : ℕ → ℕ → ℕ) (c : ℕ) → PathLaws b → c < cores b → ChangedAt old new c
-    → ((level : ℕ) → asks_at b (new c) level ≡ 0) → is_off (activity_of (new c)) ≡ false
+    → ((level : ℕ) → asks_at b (new c) level ≡ 0) → is_away (activity_of (new c)) ≡ false
     → AreGranted b mode old granted → AreGranted b mode new (cleared b c granted)
 granted_cleared b mode old new granted c paths on changed none active g = record {
   own = λ x h. chosen (λ d. d ≡ asks_at b (new x) 0) (x == up b 0 c) 0 (granted 0 x)

@@ -5,7 +5,7 @@ use Rattle.std.proofs.Common.{arith}
 use Rattle.std.specs.List.{list_all, range_with_len}
 use Rattle.std.proofs.lemmas.Bool.{and_parts, cases_eq, ne_eqb}
 use Rattle.psci_board.specs.Board.{BoardValue, cores, height, up}
-use Rattle.psci_state.specs.Cores.{is_off}
+use Rattle.psci_state.specs.Cores.{is_away as is_core_away}
 use Rattle.psci_abi.specs.Codes.{denied, success}
 use Rattle.std.specs.Ordering.{int_eq}
 use Rattle.std.specs.Prelude.{if◌then◌else◌}
@@ -46,7 +46,7 @@ other_passes b c k test e h other =
     let beside : (k == c) ≡ false = ne_eqb k c other in
     ap (λ t. t || test k) (sym beside) ∙ this
 
-away_off : (p : Phase) → is_away p ≡ true → is_off (activity_of p) ≡ true
+away_off : (p : Phase) → is_away p ≡ true → is_core_away (activity_of p) ≡ true
 away_off Pending e = absurd (cc e)
 away_off Running e = absurd (cc e)
 away_off (Suspended ask) e = absurd (cc e)

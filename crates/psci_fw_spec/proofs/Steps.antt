@@ -6,7 +6,7 @@ use Rattle.psci_board.specs.Board.{BoardValue, core_of, node_of, up}
 use Rattle.psci_claims.specs.psci_parts.declared.part.Part.{Part}
 use Rattle.psci_claims.specs.Claim.{claims_of}
 use Rattle.psci_claims.specs.LastCore.{last_core_check, refusal, shallow, shallow_at}
-use Rattle.psci_claims.specs.View.{generation, is_all_off, is_idle, least_ask}
+use Rattle.psci_claims.specs.View.{generation, is_all_away, is_idle, least_ask}
 use Rattle.psci_messages.specs.declared.kind.Kind.{Kind}
 use Rattle.psci_messages.specs.declared.kind.Kind.TheVariants as kinds
 use Rattle.psci_messages.specs.declared.taken.Taken.TheVariants as takens
@@ -39,7 +39,7 @@ use Rattle.psci_fw_spec.specs.Views.{view}
 -- what an example unfolds to compute answers and values on calls that are written out
 unfoldable pub computing : Unit {0}
 unfolding answer values_of after outcome_of enter_outcome target_of core_of node_of node_status
-    off_parts suspend_parts view up claims_of least_ask generation is_all_off is_idle
+    off_parts suspend_parts view up claims_of least_ask generation is_all_away is_idle
     last_core_check refusal shallow shallow_at outstanding last_message changes_since sent_messages
     statuses
 computing = tt

@@ -9,7 +9,7 @@ use Rattle.psci_claims.specs.psci_parts.declared.part.Part.{Part}
 use Rattle.psci_claims.specs.View.{PowerView}
 use Rattle.psci_messages.specs.Message.{MessageValue}
 use Rattle.psci_state.specs.Ask.{IsAsk}
-use Rattle.psci_state.specs.Cores.{is_off}
+use Rattle.psci_state.specs.Cores.{is_away}
 use Rattle.psci_fw_spec.specs.declared.mode.SuspendMode.{SuspendMode}
 use Rattle.psci_fw_spec.specs.declared.mode.SuspendMode.TheVariants.{Platform, OsInitiated}
 use Rattle.psci_fw_spec.specs.declared.opening.Opening.{Opening}
@@ -215,6 +215,6 @@ arrived_held b v c s known on awake are =
       bounds = bounded_cleared b f.phase new f.granted c known.paths changed (bounded_of b f are);
       equal = granted_cleared b f.mode f.phase new f.granted c known.paths on changed
           (λ level. ap (λ (p : Phase). asks_at b p level) here ∙ asked_running b level)
-          (ap (λ (p : Phase). is_off (activity_of p)) here)
+          (ap (λ (p : Phase). is_away (activity_of p)) here)
           (granted_of b f known (are.awake awake));
     }

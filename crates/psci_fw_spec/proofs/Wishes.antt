@@ -8,9 +8,9 @@ use Rattle.psci_board.specs.Board.{BoardValue, cores, height, up}
 use Rattle.psci_claims.specs.Claim.{claims_of, least_wish, off_wish, own_wish}
 use Rattle.psci_claims.specs.LastCore.{last_core_check}
 use Rattle.psci_claims.specs.psci_parts.declared.part.Part.{Part}
-use Rattle.psci_claims.specs.View.{PowerView, domain_of, is_all_off}
+use Rattle.psci_claims.specs.View.{PowerView, domain_of, is_all_away}
 use Rattle.psci_state.specs.Ask.{IsAsk}
-use Rattle.psci_state.specs.Cores.{is_off}
+use Rattle.psci_state.specs.Cores.{is_away}
 use Rattle.psci_fw_spec.specs.declared.mode.SuspendMode.{SuspendMode}
 use Rattle.psci_fw_spec.specs.declared.mode.SuspendMode.TheVariants.{Platform, OsInitiated}
 use Rattle.psci_fw_spec.specs.Phases.{Phase, Pending, Running, Suspended, Away, activity_of}
@@ -77,7 +77,7 @@ least_falls b phase x c level m n known are h meet above below =
 
 -- a core that is off or going off asks for power-down
 pub off_asks : (b : BoardValue) (p : Phase) (level : ℕ) → level ≤ height b
-    → is_off (activity_of p) ≡ true → 3 ≤ asks_at b p level
+    → is_away (activity_of p) ≡ true → 3 ≤ asks_at b p level
 off_asks b Pending level h e = absurd (cc e)
 off_asks b Running level h e = absurd (cc e)
 off_asks b (Suspended ask) level h e = absurd (cc e)
@@ -143,13 +143,13 @@ own_wanted b mode v new c ask parts known on os left is e = record {
   own = sym (ap (λ (p : Phase). asks_at b p 0) left
       ∙ asked_within b (Suspended ask) 0 (omega arith));
   away = λ level h all.
-      absurd (true≢false (sym (all c on refl) ∙ ap (λ (p : Phase). is_off (activity_of p)) left));
+      absurd (true≢false (sym (all c on refl) ∙ ap (λ (p : Phase). is_away (activity_of p)) left));
   least = λ platform. absurd (not_platform mode os platform);
 }
 
 off-most : (b : BoardValue) (w : PowerView) (c level : ℕ) → off_wish b w c level ≤ 3
 off-most b w c zero = omega arith
-off-most b w c (suc level) = most (is_all_off b w (domain_of b c (suc level)))
+off-most b w c (suc level) = most (is_all_away b w (domain_of b c (suc level)))
   where
     most : (t : Bool) → cond t 3 0 ≤ 3
     most true = omega arith
@@ -157,12 +157,12 @@ off-most b w c (suc level) = most (is_all_off b w (domain_of b c (suc level)))
 
 -- of a domain with every core below off power-down is wanted, and nothing of another one
 off-all : (b : BoardValue) (w : PowerView) (c level : ℕ)
-    → is_all_off b w (domain_of b c level) ≡ true → off_wish b w c level ≡ 3
+    → is_all_away b w (domain_of b c level) ≡ true → off_wish b w c level ≡ 3
 off-all b w c zero e = refl
 off-all b w c (suc level) e = rw e refl
 
 off-part : (b : BoardValue) (w : PowerView) (c level : ℕ)
-    → is_all_off b w (domain_of b c (level + 1)) ≡ false → off_wish b w c (level + 1) ≡ 0
+    → is_all_away b w (domain_of b c (level + 1)) ≡ false → off_wish b w c (level + 1) ≡ 0
 off-part b w c level e =
     let next : level + 1 ≡ suc level = omega arith in
     let part = rw next at e in
@@ -174,7 +174,7 @@ pub off_wanted : (b : BoardValue) (mode : SuspendMode) (old : ℕ → Phase) (w 
     → AreWanted b mode w.phase granted c (off_wish b (view b w) c)
 off_wanted b mode old w granted c known on os changed left g = record {
   falls = λ level h.
-      elim (cases_Bool (is_all_off b (view b w) (domain_of b c (level + 1)))) [
+      elim (cases_Bool (is_all_away b (view b w) (domain_of b c (level + 1)))) [
         | inl all ↦
             let up_off : IsAllOff b w.phase c (level + 1) = all_off b w c (level + 1) known all in
             let here : off_wish b (view b w) c level ≡ 3 =
@@ -184,12 +184,12 @@ off_wanted b mode old w granted c known on os changed left g = record {
         | inr part ↦ omega (arith, off-part b (view b w) c level part)
       ];
   beside = λ x level h i meet beside.
-      elim (cases_Bool (is_all_off b (view b w) (domain_of b c (level + 1)))) [
+      elim (cases_Bool (is_all_away b (view b w) (domain_of b c (level + 1)))) [
         | inl all ↦
             let up_off : IsAllOff b w.phase c (level + 1) = all_off b w c (level + 1) known all in
             let down : granted level (up b level x) ≡ 3 =
             g.away x level h (omega arith) (λ y k at.
-            subst (λ (p : Phase). is_off (activity_of p) ≡ true)
+            subst (λ (p : Phase). is_away (activity_of p) ≡ true)
             (changed y (apart b x y c level beside at))
             (up_off y k (joined b y x level known.paths at ∙ meet))) in
             omega (arith, down, off-most b (view b w) c (level + 1))

@@ -115,7 +115,11 @@ turns_off v a = (is_kind a.kind Down && nat_lt 0 a.applied) && is_away (v.phase 
 -- an acknowledgement of the outstanding message confirms the claim on this domain
 abbrev pub confirms_on : BoardValue → Values → AckValue → ℕ → ℕ → Bool
 confirms_on b v a level place =
-    confirms b v.known (v.granted level place) (v.outstanding (slot_of a.kind a.core)) a level place
+    confirms b (record {
+      known = v.known;
+      granted = v.granted level place;
+      sent = v.outstanding (slot_of a.kind a.core);
+    }) a (record { level = level; place = place })
 
 -- an acknowledgement of the outstanding message was taken
 abbrev pub with_acknowledgement : BoardValue → AckValue → Values → Values

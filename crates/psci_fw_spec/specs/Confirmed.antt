@@ -3,6 +3,7 @@ use Rattle.std.specs.Prelude.{ℕ, Bool, true, false, ◌&&◌, ◌==◌, nat_lt
 use Rattle.std.specs.Prelude.{None, Some, List, slice_get, option_and_then}
 use Rattle.std.specs.List.{sum_by}
 use Rattle.psci_board.specs.Board.{BoardValue, below}
+use Rattle.psci_board.specs.declared.node.Node.{Node}
 use Rattle.psci_board.specs.Paths.{is_path_place}
 use Rattle.psci_claims.specs.psci_parts.declared.part.Part.{Part}
 use Rattle.psci_messages.specs.declared.kind.Kind.TheVariants.{Down}
@@ -22,14 +23,22 @@ abbrev pub is_made_at : ℕ → Option Part → Bool
 is_made_at known None = false
 is_made_at known (Some p) = p.generation == known
 
--- An acknowledgement of this message confirms the claim on a domain: the domain is on the path of
--- the message's core, its part was applied, and it is the last claim on the domain: something is
--- still granted, and no core below has entered since.
-abbrev pub confirms : BoardValue → (ℕ → ℕ) → ℕ → Option MessageValue → AckValue → ℕ → ℕ → Bool
-confirms b known granted sent a level place =
-    is_path_place b a.core.number level place && (nat_lt 0 granted
-    && is_made_at (sum_by known (below b (record { level = level; place = place })))
-    (applied_part a level sent))
+-- what the claim on a domain is held against
+pub record Standing : Type 0 where
+  -- of each core the number of its last start that was seen to enter in this life, or 0
+  pub known : ℕ → ℕ
+  -- the depth that is granted to the domain
+  pub granted : ℕ
+  -- the message that is acknowledged, where it is outstanding
+  pub sent : Option MessageValue
+
+-- An acknowledgement confirms the claim on a domain: the domain is on the path of the message's
+-- core, its part was applied, and it is the last claim on the domain: something is still granted,
+-- and no core below has entered since.
+abbrev pub confirms : BoardValue → Standing → AckValue → Node → Bool
+confirms b now a n =
+    is_path_place b a.core.number n.level n.place && (nat_lt 0 now.granted
+    && is_made_at (sum_by now.known (below b n)) (applied_part a n.level now.sent))
 
 -- nothing is confirmed on the path of a core
 abbrev pub unconfirmed : BoardValue → ℕ → (ℕ → ℕ → Bool) → ℕ → ℕ → Bool

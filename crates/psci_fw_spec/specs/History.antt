@@ -206,8 +206,11 @@ changes b (e ∷ h) =
 -- a used acknowledgement says that a claim is confirmed, where it confirms it
 abbrev pub says_acknowledged : BoardValue → ℕ → ℕ → List FwExchange → Effect → Option Bool
 says_acknowledged b level place before (Acknowledges a) =
-    let sent = slots.outstanding (slot_of a.kind a.core) (changes b before) in
-    only_if (confirms b (known b before) (granted b before level place) sent a level place)
+    only_if (confirms b (record {
+      known = known b before;
+      granted = granted b before level place;
+      sent = slots.outstanding (slot_of a.kind a.core) (changes b before);
+    }) a (record { level = level; place = place }))
     (Some true)
 says_acknowledged b level place before e = None
 

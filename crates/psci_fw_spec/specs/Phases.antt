@@ -56,4 +56,4 @@ abbrev pub activity_of : Phase → Activity
 activity_of Pending = activities.Active
 activity_of Running = activities.Active
 activity_of (Suspended ask) = activities.Suspended ask
-activity_of Away = activities.Off
+activity_of Away = activities.Away

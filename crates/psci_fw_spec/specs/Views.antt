@@ -2,7 +2,7 @@
 use Rattle.std.specs.Prelude.{ℕ, nat_le, if◌then◌else◌}
 use Rattle.psci_board.specs.Board.{BoardValue, height}
 use Rattle.psci_claims.specs.View.{PowerView}
-use Rattle.psci_state.specs.Cores.{asks, is_active, is_off}
+use Rattle.psci_state.specs.Cores.{asks, is_active, is_away}
 use Rattle.psci_fw_spec.specs.Phases.{activity_of}
 use Rattle.psci_fw_spec.specs.Values.{Values}
 
@@ -17,6 +17,6 @@ view b v = record {
   ask = ask b v;
   known = v.known;
   is_active = λ c. is_active (activity_of (v.phase c));
-  is_off = λ c. is_off (activity_of (v.phase c));
+  is_away = λ c. is_away (activity_of (v.phase c));
   granted = v.granted;
 }

@@ -62,15 +62,15 @@ away_phase statuses.Pending t activities.Active e = cc
 away_phase statuses.On t (activities.Suspended ask) e = cc
 away_phase statuses.Off t (activities.Suspended ask) e = cc
 away_phase statuses.Pending t (activities.Suspended ask) e = cc
-away_phase statuses.On statuses.On activities.Off e = refl
-away_phase statuses.On statuses.Off activities.Off e = refl
-away_phase statuses.On statuses.Pending activities.Off e = refl
-away_phase statuses.Off statuses.On activities.Off e = refl
-away_phase statuses.Off statuses.Off activities.Off e = refl
-away_phase statuses.Off statuses.Pending activities.Off e = refl
-away_phase statuses.Pending statuses.On activities.Off e = refl
-away_phase statuses.Pending statuses.Off activities.Off e = refl
-away_phase statuses.Pending statuses.Pending activities.Off e = refl
+away_phase statuses.On statuses.On activities.Away e = refl
+away_phase statuses.On statuses.Off activities.Away e = refl
+away_phase statuses.On statuses.Pending activities.Away e = refl
+away_phase statuses.Off statuses.On activities.Away e = refl
+away_phase statuses.Off statuses.Off activities.Away e = refl
+away_phase statuses.Off statuses.Pending activities.Away e = refl
+away_phase statuses.Pending statuses.On activities.Away e = refl
+away_phase statuses.Pending statuses.Off activities.Away e = refl
+away_phase statuses.Pending statuses.Pending activities.Away e = refl
 
 -- the tree after an acknowledgement: the claims that it says were carried out are confirmed
 pub record IsAcked (s : StateValue) (u : TreeValue) (a : AckValue) : Type 0 where

@@ -16,12 +16,12 @@ use Rattle.psci_fw_spec.specs.SystemCalls.{all_others, is_off_status}
 use Rattle.psci_state.specs.declared.cores.Activity.{Activity}
 use Rattle.psci_state.specs.declared.cores.Activity.TheVariants as activities
 use Rattle.psci_state.specs.declared.cores.CoreState.{CoreState}
-use Rattle.psci_tree.specs.Recount.{is_active, is_off}
+use Rattle.psci_tree.specs.Recount.{is_active, is_away as is_gone}
 use Rattle.psci_board.specs.declared.node.Node.{Node}
 use Rattle.psci_board.specs.Board.{HasNodeIn, below_in, cores, height, size_below}
 use Rattle.psci_board.specs.declared.span.CoreSpan.{CoreSpan}
 use Rattle.psci_board.specs.Laws.{SpanLaws}
-use Rattle.psci_tree.specs.Recount.{active, is_active_at, is_off_at, never_started, off, state_at}
+use Rattle.psci_tree.specs.Recount.{active, is_active_at, is_away_at, never_started, off, state_at}
 use Rattle.psci_fw_state.specs.declared.counts.StatusCounts.{StatusCounts}
 use Rattle.psci_fw_state.specs.declared.row.CoreRow.{CoreRow}
 use Rattle.psci_fw_state.specs.Counts.{counts_below, one_core}
@@ -157,35 +157,35 @@ away_or_not : (b : Bool) → ◌≡◌ {A = ℕ} (cond b 1 0 + cond (not b) 1 0)
 away_or_not true = refl
 away_or_not false = refl
 
-away_is : (s : Status) (a : Activity) → is_off a ≡ is_away (phase_by s a)
+away_is : (s : Status) (a : Activity) → is_gone a ≡ is_away (phase_by s a)
 away_is statuses.On activities.Active = refl
 away_is statuses.Off activities.Active = refl
 away_is statuses.Pending activities.Active = refl
 away_is statuses.On (activities.Suspended ask) = refl
 away_is statuses.Off (activities.Suspended ask) = refl
 away_is statuses.Pending (activities.Suspended ask) = refl
-away_is statuses.On activities.Off = refl
-away_is statuses.Off activities.Off = refl
-away_is statuses.Pending activities.Off = refl
+away_is statuses.On activities.Away = refl
+away_is statuses.Off activities.Away = refl
+away_is statuses.Pending activities.Away = refl
 
-settled_one : (a : Activity) → cond (is_off a) 1 0 + cond (is_active a) 1 0 ≤ 1
+settled_one : (a : Activity) → cond (is_gone a) 1 0 + cond (is_active a) 1 0 ≤ 1
 settled_one activities.Active = omega arith
 settled_one (activities.Suspended ask) = omega arith
-settled_one activities.Off = omega arith
+settled_one activities.Away = omega arith
 
 -- a core waits, or is off or going off, or keeps its domains on; it does both where it is pending
 waiting_one : (s : Status) (a : Activity) → agrees s (phase_by s a) ≡ true
     → ◌≡◌ {A = ℕ} (cond (is_suspended_or_pending (phase_by s a)) 1 0
-    + (cond (is_off a) 1 0 + cond (is_active a) 1 0)) (1 + cond (is_pending_status s) 1 0)
+    + (cond (is_gone a) 1 0 + cond (is_active a) 1 0)) (1 + cond (is_pending_status s) 1 0)
 waiting_one statuses.On activities.Active e = refl
 waiting_one statuses.Off activities.Active e = cc
 waiting_one statuses.Pending activities.Active e = refl
 waiting_one statuses.On (activities.Suspended ask) e = refl
 waiting_one statuses.Off (activities.Suspended ask) e = cc
 waiting_one statuses.Pending (activities.Suspended ask) e = cc
-waiting_one statuses.On activities.Off e = refl
-waiting_one statuses.Off activities.Off e = refl
-waiting_one statuses.Pending activities.Off e = cc
+waiting_one statuses.On activities.Away e = refl
+waiting_one statuses.Off activities.Away e = refl
+waiting_one statuses.Pending activities.Away e = cc
 
 -- The whole system -------------------------------------------------------------------------------
 
@@ -235,11 +235,12 @@ module _ (s : StateValue) (is : IsState s) (laws : SpanLaws s.board.levels) wher
   abbrev pub activity : ℕ → Activity
   activity c = (state_at s.tree c).activity
 
-  off_count : off s.tree system ≡ count_by (λ c. is_off (activity c)) everyone
+  off_count : off s.tree system ≡ count_by (λ c. is_gone (activity c)) everyone
   unfolding off
   off_count =
-      ap (λ (ws : List (List ℕ)). count_by (λ c. is_off_at s.tree c) (below_in ws system)) is.levels
-      ∙ ap (count_by (λ c. is_off_at s.tree c)) all_below
+      ap (λ (ws : List (List ℕ)). count_by (λ c. is_away_at s.tree c) (below_in ws system))
+        is.levels
+      ∙ ap (count_by (λ c. is_away_at s.tree c)) all_below
 
   active_count : active s.tree system ≡ count_by (λ c. is_active (activity c)) everyone
   unfolding active
@@ -247,8 +248,8 @@ module _ (s : StateValue) (is : IsState s) (laws : SpanLaws s.board.levels) wher
       ap (λ (ws : List (List ℕ)). count_by (λ c. is_active_at s.tree c) (below_in ws system)) is.levels
       ∙ ap (count_by (λ c. is_active_at s.tree c)) all_below
 
-  off_away : count_by (λ c. is_off (activity c)) everyone ≡ count_by away everyone
-  off_away = equal (λ c. cond (is_off (activity c)) 1 0) (λ c. cond (away c) 1 0) everyone
+  off_away : count_by (λ c. is_gone (activity c)) everyone ≡ count_by away everyone
+  off_away = equal (λ c. cond (is_gone (activity c)) 1 0) (λ c. cond (away c) 1 0) everyone
       (λ c. ap {B = ℕ} (λ b. cond b 1 0) (away_is (status_at s.rows c) (activity c)))
 
   split : count_by away everyone + count_by (λ c. not (away c)) everyone ≡ cores s.board
@@ -264,7 +265,7 @@ module _ (s : StateValue) (is : IsState s) (laws : SpanLaws s.board.levels) wher
       omega (arith, is.tree.cores, ap size_below is.levels, h) in
       ap (λ (x : CoreState). is_away (phase_by (status_at s.rows c) x.activity))
       (get_or_past s.tree.cores c never_started past)
-      ∙ sym (away_is (status_at s.rows c) activities.Off)
+      ∙ sym (away_is (status_at s.rows c) activities.Away)
 
   pub few_off : (n own : ℕ) → n ≡ off s.tree system → own ≤ 1 → n + own < 2 ^ 32
   few_off n own e h =
@@ -282,17 +283,18 @@ module _ (s : StateValue) (is : IsState s) (laws : SpanLaws s.board.levels) wher
   abbrev pub waiting : ℕ → Bool
   waiting c = is_suspended_or_pending (phase_by (status_at s.rows c) (activity c))
 
-  settled : sum_by (λ c. cond (is_off (activity c)) 1 0 + cond (is_active (activity c)) 1 0) everyone
+  settled : sum_by (λ c. cond (is_gone (activity c)) 1 0 + cond (is_active (activity c)) 1 0)
+      everyone
       ≡ off s.tree system + active s.tree system
   settled =
-      sym (sums (λ c. cond (is_off (activity c)) 1 0) (λ c. cond (is_active (activity c)) 1 0)
-      (λ c. cond (is_off (activity c)) 1 0 + cond (is_active (activity c)) 1 0) everyone
+      sym (sums (λ c. cond (is_gone (activity c)) 1 0) (λ c. cond (is_active (activity c)) 1 0)
+      (λ c. cond (is_gone (activity c)) 1 0 + cond (is_active (activity c)) 1 0) everyone
       (λ c. refl))
       ∙ (rw (off_count, active_count) refl)
 
   few_settled : off s.tree system + active s.tree system ≤ cores s.board
   few_settled =
-      let each = at_most (λ c. cond (is_off (activity c)) 1 0 + cond (is_active (activity c)) 1 0)
+      let each = at_most (λ c. cond (is_gone (activity c)) 1 0 + cond (is_active (activity c)) 1 0)
       (λ c. 1) everyone (λ c. settled_one (activity c)) in
       omega (arith, each, settled, ones everyone, length-range_with_len 0 (cores s.board))
 
@@ -313,7 +315,7 @@ module _ (s : StateValue) (is : IsState s) (laws : SpanLaws s.board.levels) wher
     waits : count_by waiting everyone + (n + m) ≡ cores s.board + k.pending
     waits =
         let both = sums (λ c. cond (waiting c) 1 0)
-        (λ c. cond (is_off (activity c)) 1 0 + cond (is_active (activity c)) 1 0)
+        (λ c. cond (is_gone (activity c)) 1 0 + cond (is_active (activity c)) 1 0)
         (λ c. 1 + cond (is_pending_status (status_at s.rows c)) 1 0) everyone
         (λ c. waiting_one (status_at s.rows c) (activity c) (agree c)) in
         let right = sums (λ c. 1) (λ c. cond (is_pending_status (status_at s.rows c)) 1 0)

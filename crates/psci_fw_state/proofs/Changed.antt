@@ -85,7 +85,7 @@ ap_set f a a' c x s = record { here = ap f s.here; else = λ k n. ap f (s.else k
 
 -- Phases ----------------------------------------------------------------------------------------
 
-pub off_is_away : (s : Status) → phase_by s activities.Off ≡ phases.Away
+pub off_is_away : (s : Status) → phase_by s activities.Away ≡ phases.Away
 off_is_away statuses.On = refl
 off_is_away statuses.Off = refl
 off_is_away statuses.Pending = refl
@@ -124,7 +124,7 @@ in_rows s now c e is inside =
 away_of : (s : StateValue) (u : TreeValue) (c : ℕ)
     → is_pending_phase ((values_in s).phase c) ≡ false
     → Set (state_at s.tree) (state_at u) c (record {
-      activity = activities.Off;
+      activity = activities.Away;
       known = known_at s.tree c;
     })
     → ((l p : ℕ) → granted_at u l p ≡ granted_at s.tree l p)
@@ -153,7 +153,7 @@ away_of s u c not at granted confirmed = same_values _ _ (record {
 pub away_changed : (s now : StateValue) (u : TreeValue) (c : ℕ) → s ≡ now
     → is_pending_phase ((values_in now).phase c) ≡ false
     → ((k : ℕ) → state_at u k
-    ≡ cond (c == k) (record { activity = activities.Off; known = known_at s.tree c })
+    ≡ cond (c == k) (record { activity = activities.Away; known = known_at s.tree c })
     (state_at s.tree k))
     → ((l p : ℕ) → granted_at u l p ≡ granted_at s.tree l p)
     → ((l p : ℕ) → is_confirmed_at u l p ≡ is_confirmed_at s.tree l p)

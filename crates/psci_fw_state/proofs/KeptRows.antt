@@ -70,7 +70,7 @@ active : map (λ s. phase_by s activities.Active) (On ∷ Off ∷ Pending ∷ []
     ≡ phases.Running ∷ phases.Running ∷ phases.Pending ∷ []
 active = refl
 
-gone : map (λ s. phase_by s activities.Off) (On ∷ Off ∷ Pending ∷ [])
+gone : map (λ s. phase_by s activities.Away) (On ∷ Off ∷ Pending ∷ [])
     ≡ phases.Away ∷ phases.Away ∷ phases.Away ∷ []
 gone = refl
 
@@ -82,7 +82,7 @@ suspended = refl
 stopped_as : stopped true ≡ activities.Active
 stopped_as = refl
 
-stopped_off : stopped false ≡ activities.Off
+stopped_off : stopped false ≡ activities.Away
 stopped_off = refl
 
 is_pending : is_pending_phase phases.Pending ∷ is_pending_phase phases.Running
@@ -99,8 +99,8 @@ tree = record {
   cores =
       record { activity = activities.Active; known = 1 }
       ∷ record { activity = activities.Active; known = 0 }
-      ∷ record { activity = activities.Off; known = 2 }
-      ∷ record { activity = activities.Off; known = 5 } ∷ [];
+      ∷ record { activity = activities.Away; known = 2 }
+      ∷ record { activity = activities.Away; known = 5 } ∷ [];
   granted = (0 ∷ 0 ∷ 2 ∷ 3 ∷ []) ∷ (0 ∷ 1 ∷ []) ∷ (0 ∷ []) ∷ [];
   confirmed = (0 ∷ 0 ∷ 2 ∷ 0 ∷ []) ∷ (0 ∷ 0 ∷ []) ∷ (0 ∷ []) ∷ [];
 }

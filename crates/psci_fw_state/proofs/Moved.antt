@@ -266,12 +266,12 @@ stopped_phase statuses.Off (activities.Suspended ask) true e = cc
 stopped_phase statuses.Off (activities.Suspended ask) false e = refl
 stopped_phase statuses.Pending (activities.Suspended ask) true e = cc
 stopped_phase statuses.Pending (activities.Suspended ask) false e = refl
-stopped_phase statuses.On activities.Off true e = cc
-stopped_phase statuses.On activities.Off false e = refl
-stopped_phase statuses.Off activities.Off true e = cc
-stopped_phase statuses.Off activities.Off false e = refl
-stopped_phase statuses.Pending activities.Off true e = cc
-stopped_phase statuses.Pending activities.Off false e = refl
+stopped_phase statuses.On activities.Away true e = cc
+stopped_phase statuses.On activities.Away false e = refl
+stopped_phase statuses.Off activities.Away true e = cc
+stopped_phase statuses.Off activities.Away false e = refl
+stopped_phase statuses.Pending activities.Away true e = cc
+stopped_phase statuses.Pending activities.Away false e = refl
 
 stopped_of : (b : BoardValue) (s : StateValue) (u : TreeValue) (rows : List CoreRow)
     (slots : SlotsValue) (c : ℕ) (start : Start) (pending : Bool)

@@ -7,7 +7,7 @@ use Rattle.psci_claims.specs.LastCore.{last_core_check}
 use Rattle.psci_claims.specs.Looked.{view_of}
 use Rattle.psci_state.specs.declared.cores.Activity.{Activity}
 use Rattle.psci_state.specs.declared.cores.Activity.TheVariants as activities
-use Rattle.psci_tree.specs.Recount.{asks, state_at, is_active, is_off}
+use Rattle.psci_tree.specs.Recount.{asks, state_at, is_active, is_away}
 use Rattle.psci_fw_spec.specs.declared.status.Status.{Status}
 use Rattle.psci_fw_spec.specs.declared.status.Status.TheVariants as statuses
 use Rattle.psci_fw_spec.specs.declared.mode.SuspendMode.TheVariants.{Platform, OsInitiated}
@@ -28,9 +28,9 @@ back statuses.Pending activities.Active = refl
 back statuses.On (activities.Suspended ask) = refl
 back statuses.Off (activities.Suspended ask) = refl
 back statuses.Pending (activities.Suspended ask) = refl
-back statuses.On activities.Off = refl
-back statuses.Off activities.Off = refl
-back statuses.Pending activities.Off = refl
+back statuses.On activities.Away = refl
+back statuses.Off activities.Away = refl
+back statuses.Pending activities.Away = refl
 
 pub viewed : (s : StateValue) → IsState s → view_of s.tree ≡ view s.board (values_in s)
 unfolding view values_in
@@ -43,7 +43,7 @@ viewed s is =
           if nat_le level (length (is.levels i)) then asks (at c i) level else 0;
       known = (view_of s.tree).known;
       is_active = λ c. is_active (at c i);
-      is_off = λ c. is_off (at c i);
+      is_away = λ c. is_away (at c i);
       granted = (view_of s.tree).granted;
     }
 

@@ -46,14 +46,14 @@ phase_by Pending activities.Active = phases.Pending
 phase_by On (activities.Suspended ask) = phases.Suspended ask
 phase_by Off (activities.Suspended ask) = phases.Suspended ask
 phase_by Pending (activities.Suspended ask) = phases.Suspended ask
-phase_by On activities.Off = phases.Away
-phase_by Off activities.Off = phases.Away
-phase_by Pending activities.Off = phases.Away
+phase_by On activities.Away = phases.Away
+phase_by Off activities.Away = phases.Away
+phase_by Pending activities.Away = phases.Away
 
 -- what a core does that has started and stops, by whether it is pending
 abbrev pub stopped : Bool → Activity
 stopped true = activities.Active
-stopped false = activities.Off
+stopped false = activities.Away
 
 -- whether a core of this phase is pending
 abbrev pub is_pending_phase : Phase → Bool

@@ -220,7 +220,7 @@ impl State {
         ensures { result ≡ is_away ((values_in self.now).phase core.number) }
     {
         match self.tree.activity(core) {
-            Activity::Off => true,
+            Activity::Away => true,
             _ => false,
         }
     }

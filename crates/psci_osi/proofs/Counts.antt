@@ -10,7 +10,7 @@ use Rattle.psci_board.specs.declared.span.CoreSpan.{CoreSpan}
 use Rattle.psci_board.specs.Board.{BoardValue, HasNode, up, below, span, cores_below, height}
 use Rattle.psci_board.specs.Board.{nodes}
 use Rattle.psci_tree.specs.Recount.{TreeValue, active, off}
-use Rattle.psci_claims.specs.View.{is_idle, is_all_off}
+use Rattle.psci_claims.specs.View.{is_idle, is_all_away}
 use Rattle.psci_claims.specs.Looked.{view_of}
 
 abbrev one_if : Bool → ℕ
@@ -72,9 +72,9 @@ is_idle-some b t n e some =
     false_from_ne_true _ (λ idle. some_here (some-counted _ (below b n) idle))
 
 pub off-is : (b : BoardValue) (t : TreeValue) (n : Node) (count : ℕ) → t.levels ≡ b.levels
-    → length (below b n) ≡ count → (off t n == count) ≡ is_all_off b (view_of t) n
-unfolding off is_all_off up
-off-is b t n count e long = elim (cases_Bool (is_all_off b (view_of t) n)) [
+    → length (below b n) ≡ count → (off t n == count) ≡ is_all_away b (view_of t) n
+unfolding off is_all_away up
+off-is b t n count e long = elim (cases_Bool (is_all_away b (view_of t) n)) [
   | inl holds ↦
       rw holds (eq-eqb _ _ (rw e (every-counted _ (below b n) holds ∙ long)))
   | inr fails ↦

@@ -3,7 +3,7 @@
 ghost use Rattle.std.specs.Prelude.{◌≡◌, ℕ, ◌<◌, ◌≤◌, ◌+◌};
 ghost use Rattle.psci_board.specs.Board.{HasNode, IsBoard, cores, height};
 ghost use Rattle.psci_claims.specs.Claim.{off_claims, off_wish};
-ghost use Rattle.psci_claims.specs.View.{is_all_off};
+ghost use Rattle.psci_claims.specs.View.{is_all_away};
 ghost use Rattle.psci_claims.specs.Looked.{view_of};
 
 use psci_board::{Board, Core, Node, law_paths, law_spans};
@@ -50,7 +50,7 @@ fn is_off(tree: &Tree, board: &Board, node: Node) -> bool
     requires board { tree.now.levels ≡ board.now.levels }
     requires valid { IsBoard board.now }
     requires node { HasNode board.now node }
-    ensures { result ≡ is_all_off board.now (view_of tree.now) node }
+    ensures { result ≡ is_all_away board.now (view_of tree.now) node }
 {
     law_spans();
     match board.cores_below(node) {

@@ -2,9 +2,9 @@
 use Rattle.std.proofs.Common.{◌≡◌, ℕ, Bool, true, false, List, [], ◌∷◌, refl, None, Some}
 use Rattle.psci_state.specs.Ask.{least}
 use Rattle.psci_state.specs.declared.cores.CoreState.{CoreState}
-use Rattle.psci_state.specs.declared.cores.Activity.TheVariants.{Active, Suspended, Off}
-use Rattle.psci_state.specs.Cores.{TreeValue, asks, is_active, is_off, core_changed, ask_at}
-use Rattle.psci_state.specs.Cores.{known_at, is_active_at, is_off_at, granted_at, confirmed_at}
+use Rattle.psci_state.specs.declared.cores.Activity.TheVariants.{Active, Suspended, Away}
+use Rattle.psci_state.specs.Cores.{TreeValue, asks, is_active, is_away, core_changed, ask_at}
+use Rattle.psci_state.specs.Cores.{known_at, is_active_at, is_away_at, granted_at, confirmed_at}
 use Rattle.psci_state.specs.Cores.{is_confirmed_at}
 
 -- what is asked at the levels from 0 to 3 is told apart there
@@ -17,14 +17,14 @@ suspended_asks : asks (Suspended (3 ∷ 2 ∷ 1 ∷ 0 ∷ [])) 0 ∷ asks (Suspe
     ≡ 3 ∷ 2 ∷ 1 ∷ 0 ∷ 3 ∷ []
 suspended_asks = refl
 
-off_asks : asks Off 0 ∷ asks Off 1 ∷ asks Off 3 ∷ [] ≡ 3 ∷ 3 ∷ 3 ∷ []
+off_asks : asks Away 0 ∷ asks Away 1 ∷ asks Away 3 ∷ [] ≡ 3 ∷ 3 ∷ 3 ∷ []
 off_asks = refl
 
-who_is_active : is_active Active ∷ is_active (Suspended (1 ∷ 0 ∷ 0 ∷ 0 ∷ [])) ∷ is_active Off ∷ []
+who_is_active : is_active Active ∷ is_active (Suspended (1 ∷ 0 ∷ 0 ∷ 0 ∷ [])) ∷ is_active Away ∷ []
     ≡ true ∷ false ∷ false ∷ []
 who_is_active = refl
 
-who_is_off : is_off Active ∷ is_off (Suspended (3 ∷ 3 ∷ 3 ∷ 3 ∷ [])) ∷ is_off Off ∷ []
+who_is_off : is_away Active ∷ is_away (Suspended (3 ∷ 3 ∷ 3 ∷ 3 ∷ [])) ∷ is_away Away ∷ []
     ≡ false ∷ false ∷ true ∷ []
 who_is_off = refl
 
@@ -39,9 +39,9 @@ kept_start : core_changed (record { activity = Active; started = None })
     ≡ record { activity = Active; known = 7 }
 kept_start = refl
 
-new_start : core_changed (record { activity = Off; started = Some 2 })
+new_start : core_changed (record { activity = Away; started = Some 2 })
     (record { activity = Active; known = 7 })
-    ≡ record { activity = Off; known = 2 }
+    ≡ record { activity = Away; known = 2 }
 new_start = refl
 
 -- two clusters of one and two cores: core 0 runs in its start 4, core 1 is suspended, core 2 off
@@ -50,7 +50,7 @@ some_tree = record {
   levels = (1 ∷ 2 ∷ []) ∷ (2 ∷ []) ∷ [];
   cores = record { activity = Active; known = 4 }
       ∷ record { activity = Suspended (3 ∷ 2 ∷ 1 ∷ 1 ∷ []); known = 5 }
-      ∷ record { activity = Off; known = 6 } ∷ [];
+      ∷ record { activity = Away; known = 6 } ∷ [];
   granted = (0 ∷ 3 ∷ 2 ∷ []) ∷ (0 ∷ 1 ∷ []) ∷ (0 ∷ []) ∷ [];
   confirmed = (0 ∷ 0 ∷ 2 ∷ []) ∷ (0 ∷ 1 ∷ []) ∷ (0 ∷ []) ∷ [];
 }
@@ -70,8 +70,8 @@ active_cores : is_active_at some_tree 0 ∷ is_active_at some_tree 1 ∷ is_acti
     ≡ true ∷ false ∷ false ∷ false ∷ []
 active_cores = refl
 
-off_cores : is_off_at some_tree 0 ∷ is_off_at some_tree 1 ∷ is_off_at some_tree 2
-    ∷ is_off_at some_tree 3 ∷ []
+off_cores : is_away_at some_tree 0 ∷ is_away_at some_tree 1 ∷ is_away_at some_tree 2
+    ∷ is_away_at some_tree 3 ∷ []
     ≡ false ∷ false ∷ true ∷ true ∷ []
 off_cores = refl
 

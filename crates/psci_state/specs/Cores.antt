@@ -5,7 +5,7 @@ use Rattle.psci_state.specs.Ask.{IsAsk}
 use Rattle.psci_state.specs.declared.cores.CoreState.{CoreState}
 use Rattle.psci_state.specs.declared.cores.Change.{Change}
 use Rattle.psci_state.specs.declared.cores.Activity.{Activity}
-use Rattle.psci_state.specs.declared.cores.Activity.TheVariants.{Active, Suspended, Off}
+use Rattle.psci_state.specs.declared.cores.Activity.TheVariants.{Active, Suspended, Away}
 
 -- One core -------------------------------------------------------------------------------------
 
@@ -13,30 +13,30 @@ use Rattle.psci_state.specs.declared.cores.Activity.TheVariants.{Active, Suspend
 abbrev pub asks : Activity → ℕ → ℕ
 asks Active level = 0
 asks (Suspended depths) level = slice_index depths level
-asks Off level = 3
+asks Away level = 3
 
 -- whether a core is running or pending
 abbrev pub is_active : Activity → Bool
 is_active Active = true
 is_active (Suspended depths) = false
-is_active Off = false
+is_active Away = false
 
 -- whether a core is off or going off
-abbrev pub is_off : Activity → Bool
-is_off Active = false
-is_off (Suspended depths) = false
-is_off Off = true
+abbrev pub is_away : Activity → Bool
+is_away Active = false
+is_away (Suspended depths) = false
+is_away Away = true
 
 -- what a core can be found doing: the depths of a suspended one are those of a power state, 1 to 3
 -- for the core itself and never growing upwards
 abbrev pub IsActivity : Activity → Type 0
 IsActivity Active = Unit {0}
 IsActivity (Suspended depths) = IsAsk depths
-IsActivity Off = Unit {0}
+IsActivity Away = Unit {0}
 
 -- a core that is off and was never started
 abbrev pub never_started : CoreState
-never_started = record { activity = Off; known = 0 }
+never_started = record { activity = Away; known = 0 }
 
 -- what becomes of a core: another activity, and the number of its start, if it was started
 abbrev pub core_changed : Change → CoreState → CoreState
@@ -77,8 +77,8 @@ abbrev pub is_active_at : TreeValue → ℕ → Bool
 is_active_at t core = is_active (state_at t core).activity
 
 -- off or going off
-abbrev pub is_off_at : TreeValue → ℕ → Bool
-is_off_at t core = is_off (state_at t core).activity
+abbrev pub is_away_at : TreeValue → ℕ → Bool
+is_away_at t core = is_away (state_at t core).activity
 
 -- Granted depths -------------------------------------------------------------------------------
 

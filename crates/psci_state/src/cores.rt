@@ -1,7 +1,7 @@
 //! What is kept of a core.
 
 ghost use Rattle.std.specs.Prelude.{◌≡◌, ◌≤◌, ◌<◌, ◌^◌};
-ghost use Rattle.psci_state.specs.Cores.{asks, core_changed, is_active, is_off};
+ghost use Rattle.psci_state.specs.Cores.{asks, core_changed, is_active, is_away};
 
 use crate::ask::Ask;
 
@@ -37,7 +37,7 @@ pub struct Change {
 
 /// A core that is off and was never started. A domain above the cores holds it without use.
 pub const NEVER_STARTED: CoreState = CoreState {
-    activity: Activity::Off,
+    activity: Activity::Away,
     known: 0,
 };
 
@@ -60,7 +60,7 @@ impl CoreState {
         match &self.activity {
             Activity::Active => 0,
             Activity::Suspended(ask) => ask.depth(level),
-            Activity::Off => 3,
+            Activity::Away => 3,
         }
     }
 
@@ -72,9 +72,9 @@ impl CoreState {
     }
 
     /// Whether the core is off or going off.
-    pub fn is_off(self) -> bool
-        ensures { result ≡ is_off self.activity }
+    pub fn is_away(self) -> bool
+        ensures { result ≡ is_away self.activity }
     {
-        matches!(self.activity, Activity::Off)
+        matches!(self.activity, Activity::Away)
     }
 }

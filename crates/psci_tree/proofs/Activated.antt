@@ -7,7 +7,7 @@ use Rattle.std.specs.List.{sum_by, count_by}
 use Rattle.std.proofs.lemmas.List.Sums.{sum_by-set, sum_by-append, get_or-le-sum_by}
 use Rattle.std.proofs.lemmas.List.{get_or_default}
 use Rattle.std.proofs.lemmas.List.Concat.{get_or-flat_map}
-use Rattle.psci_tree.specs.Recount.{is_active, is_off, asks, never_started}
+use Rattle.psci_tree.specs.Recount.{is_active, is_away, asks, never_started}
 use Rattle.psci_state.specs.declared.cores.Activity.TheVariants.{Active}
 use Rattle.psci_state.specs.declared.cores.CoreState.{CoreState}
 use Rattle.psci_tree.specs.declared.kept.Kept.{Kept}
@@ -55,8 +55,9 @@ recount_activated cs j b s k before after h a is own was new =
     after.active h is (ap (λ (i : Kept). i.active) own.counted)
     (ap (λ (i : Kept). i.active) was.counted) (ap (λ (i : Kept). i.active) new.counted) in
     let off : k.off - before.off + after.off
-    ≡ count_by (λ (c : CoreState). is_off c.activity) (set cs j s) =
-    moved (λ (c : CoreState). cond (is_off c.activity) 1 0) cs j b s k.off before.off after.off h is
+    ≡ count_by (λ (c : CoreState). is_away c.activity) (set cs j s) =
+    moved (λ (c : CoreState). cond (is_away c.activity) 1 0) cs j b s k.off before.off after.off h
+      is
     (ap (λ (i : Kept). i.off) own.counted) (ap (λ (i : Kept). i.off) was.counted)
     (ap (λ (i : Kept). i.off) new.counted) in
     let low0 = low_zero 0 cs j s h a in
@@ -87,8 +88,8 @@ part_of cs j b k before h is own was = record {
     arith,
     ap (λ (i : Kept). i.off) own.counted,
     ap (λ (i : Kept). i.off) was.counted,
-    get_or-le-sum_by (λ (c : CoreState). cond (is_off c.activity) 1 0) cs j b h,
-    ap {B = ℕ} (λ (c : CoreState). cond (is_off c.activity) 1 0) is,
+    get_or-le-sum_by (λ (c : CoreState). cond (is_away c.activity) 1 0) cs j b h,
+    ap {B = ℕ} (λ (c : CoreState). cond (is_away c.activity) 1 0) is,
   );
 }
 

@@ -6,7 +6,7 @@ use Rattle.psci_state.specs.Ask.{IsAsk}
 use Rattle.psci_board.specs.declared.node.Node.{Node}
 use Rattle.psci_board.specs.Board.{below_in}
 use Rattle.psci_state.specs.declared.cores.Activity.{Activity}
-use Rattle.psci_state.specs.declared.cores.Activity.TheVariants.{Active, Suspended, Off}
+use Rattle.psci_state.specs.declared.cores.Activity.TheVariants.{Active, Suspended, Away}
 use Rattle.psci_tree.specs.Recount.{TreeValue, IsDomainTree, IsActivity, asks, ask_at, state_at}
 use Rattle.psci_tree.specs.Recount.{is_active, is_active_at, low}
 use Rattle.psci_tree.proofs.Bounds.{low_each, low_greatest}
@@ -23,22 +23,22 @@ depths_le depths a (suc level) =
 asks_most : (s : Activity) (level : ℕ) → IsActivity s → asks s level ≤ 3
 asks_most Active level a = omega arith
 asks_most (Suspended depths) level a = depths_le depths a level
-asks_most Off level a = omega arith
+asks_most Away level a = omega arith
 
 asks_fall : (s : Activity) (level : ℕ) → IsActivity s → asks s (level + 1) ≤ asks s level
 asks_fall Active level a = omega arith
 asks_fall (Suspended depths) level a = a.falls level
-asks_fall Off level a = omega arith
+asks_fall Away level a = omega arith
 
 asks_some : (s : Activity) → IsActivity s → is_active s ≡ false → 1 ≤ asks s 0
 asks_some Active a e = absurd (let no : true ≡ false = e in cc)
 asks_some (Suspended depths) a e = a.least
-asks_some Off a e = omega arith
+asks_some Away a e = omega arith
 
 asks_none : (s : Activity) (level : ℕ) → is_active s ≡ true → asks s level ≡ 0
 asks_none Active level e = refl
 asks_none (Suspended depths) level e = absurd (let no : false ≡ true = e in cc)
-asks_none Off level e = absurd (let no : false ≡ true = e in cc)
+asks_none Away level e = absurd (let no : false ≡ true = e in cc)
 
 -- At the levels of the board -----------------------------------------------------------------
 

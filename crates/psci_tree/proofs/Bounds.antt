@@ -8,7 +8,7 @@ use Rattle.std.proofs.lemmas.List.Sums.{sum_by-cons, count_by-le-length}
 use Rattle.psci_board.specs.declared.node.Node.{Node}
 use Rattle.psci_board.specs.Board.{size_below, place_above, below_in}
 use Rattle.psci_tree.specs.Recount.{TreeValue, active, ask_at}
-use Rattle.psci_tree.specs.Recount.{is_active_at, is_off_at, least, low, off}
+use Rattle.psci_tree.specs.Recount.{is_active_at, is_away_at, least, low, off}
 
 -- Each number that a filter keeps of a range -------------------------------------------------
 
@@ -168,17 +168,18 @@ none_active t n each =
     each (get_or (below_in t.levels n) k 0) p.1 (eqb-true _ _ p.0))
 
 pub off_all : (t : TreeValue) (n : Node) (c : ℕ) → off t n ≡ length (below_in t.levels n)
-    → c < size_below t.levels → place_above t.levels n.level c ≡ n.place → is_off_at t c ≡ true
+    → c < size_below t.levels → place_above t.levels n.level c ≡ n.place → is_away_at t c ≡ true
 unfolding off
 off_all t n c z h e =
     let k = below_kept t.levels n c h e in
-    sym (ap (λ x. is_off_at t x) k.2) ∙ all_at (λ x. is_off_at t x) (below_in t.levels n) k.0 z k.1
+    sym (ap (λ x. is_away_at t x) k.2)
+    ∙ all_at (λ x. is_away_at t x) (below_in t.levels n) k.0 z k.1
 
 pub all_off : (t : TreeValue) (n : Node) → ((c : ℕ) → c < size_below t.levels
-    → place_above t.levels n.level c ≡ n.place → is_off_at t c ≡ true)
+    → place_above t.levels n.level c ≡ n.place → is_away_at t c ≡ true)
     → off t n ≡ length (below_in t.levels n)
 unfolding off
 all_off t n each =
-    all_from (λ x. is_off_at t x) (below_in t.levels n)
+    all_from (λ x. is_away_at t x) (below_in t.levels n)
     (λ k l. let p = below_passes t.levels n k l in
     each (get_or (below_in t.levels n) k 0) p.1 (eqb-true _ _ p.0))

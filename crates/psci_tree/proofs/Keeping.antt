@@ -7,7 +7,7 @@ use Rattle.std.specs.List.{All, flat_map, count_by}
 use Rattle.std.proofs.lemmas.List.{take_at, drop_at}
 use Rattle.std.proofs.lemmas.List.Elements.{All-append, All-nil, All-cons, All-take, All-drop}
 use Rattle.std.proofs.lemmas.List.Sums.{sum_by-append, count_by-le-length}
-use Rattle.psci_tree.specs.Recount.{is_active, is_off}
+use Rattle.psci_tree.specs.Recount.{is_active, is_away}
 use Rattle.psci_tree.specs.Domains.{leaves, cores_in, branches, domains_down}
 use Rattle.psci_tree.specs.Kept.{Keeps, IsRecount, AreKept, IsKept, recount, kept_together, low_in}
 use Rattle.psci_state.specs.declared.cores.CoreState.{CoreState}
@@ -26,7 +26,7 @@ pub recount-append : (xs ys : List CoreState)
 recount-append xs ys =
     let known = sum_by-append (λ (c : CoreState). c.known) xs ys in
     let active = sum_by-append (λ (c : CoreState). cond (is_active c.activity) 1 0) xs ys in
-    let off = sum_by-append (λ (c : CoreState). cond (is_off c.activity) 1 0) xs ys in
+    let off = sum_by-append (λ (c : CoreState). cond (is_away c.activity) 1 0) xs ys in
     let low0 = low-append 0 xs ys in
     let low1 = low-append 1 xs ys in
     let low2 = low-append 2 xs ys in
@@ -159,17 +159,17 @@ kept_next ns i d k h is l e =
 
 -- so many are off below these domains, and below those before a child
 abbrev pub off_in : List Domain → ℕ
-off_in ns = count_by (λ c. is_off c.activity) (cores_in ns)
+off_in ns = count_by (λ c. is_away c.activity) (cores_in ns)
 
 pub off_in_next : (ns : List Domain) (i : ℕ) (d : Domain) → i < length ns → d ≡ get_or ns i d
     → AreKept ns → off_in (take (i + 1) ns) ≡ off_in (take i ns) + (out-Domain d).kept.off
 off_in_next ns i d h is l =
     let own : Keeps (out-Domain d).kept (leaves d) =
     subst IsRecount (sym is) (kept_own (get_or ns i d) (kept_at ns i d h l)) in
-    ap (count_by (λ (c : CoreState). is_off c.activity)) (cores_take ns i d h)
-    ∙ sum_by-append (λ (c : CoreState). cond (is_off c.activity) 1 0) (cores_in (take i ns))
+    ap (count_by (λ (c : CoreState). is_away c.activity)) (cores_take ns i d h)
+    ∙ sum_by-append (λ (c : CoreState). cond (is_away c.activity) 1 0) (cores_in (take i ns))
     (leaves (get_or ns i d))
-    ∙ ap (λ x. off_in (take i ns) + count_by (λ (c : CoreState). is_off c.activity) (leaves x))
+    ∙ ap (λ x. off_in (take i ns) + count_by (λ (c : CoreState). is_away c.activity) (leaves x))
     (sym is)
     ∙ ap (λ x. off_in (take i ns) + x) (sym (ap (λ (j : Kept). j.off) own.counted))
 
@@ -190,7 +190,7 @@ keeps_small k cs h few = record {
   off = omega (
     arith,
     ap (λ (j : Kept). j.off) h.counted,
-    count_by-le-length (λ (c : CoreState). is_off c.activity) cs,
+    count_by-le-length (λ (c : CoreState). is_away c.activity) cs,
   );
 }
 

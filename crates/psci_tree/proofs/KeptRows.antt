@@ -4,7 +4,7 @@ use Rattle.std.proofs.Common.{◌≡◌, ℕ, List, [], ◌∷◌, map, refl}
 use Rattle.psci_board.specs.Board.{index_in, place_above}
 use Rattle.std.specs.Prelude.{Some, None, slice_index_or}
 use Rattle.psci_state.specs.declared.cores.CoreState.{CoreState}
-use Rattle.psci_state.specs.declared.cores.Activity.TheVariants.{Active, Suspended, Off}
+use Rattle.psci_state.specs.declared.cores.Activity.TheVariants.{Active, Suspended, Away}
 use Rattle.psci_tree.specs.Recount.{never_started}
 use Rattle.psci_tree.specs.Kept.{recount, kept_activated, kept_together}
 use Rattle.psci_tree.specs.Changes.{core_changed}
@@ -21,7 +21,7 @@ abbrev pending : CoreState
 pending = record { activity = Active; known = 1 }
 
 abbrev gone : CoreState
-gone = record { activity = Off; known = 1 }
+gone = record { activity = Away; known = 1 }
 
 -- no core asks for less than power-down, where there is none
 keeps_none : recount []
@@ -78,8 +78,8 @@ change_starts : core_changed (record { activity = Active; started = Some 9 }) re
 change_starts = refl
 
 -- without a start the known one stays
-change_keeps : core_changed (record { activity = Off; started = None }) retained
-    ≡ record { activity = Off; known = 4 }
+change_keeps : core_changed (record { activity = Away; started = None }) retained
+    ≡ record { activity = Away; known = 4 }
 change_keeps = refl
 
 -- the numbers of the children on the ways to the cores, from the core's own up

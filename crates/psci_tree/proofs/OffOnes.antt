@@ -4,7 +4,7 @@ use Rattle.std.proofs.Common.{replicate, cond, min, arith, refl, ap, sym, ◌∙
 use Rattle.std.proofs.Math.ListN.{set}
 use Rattle.std.specs.List.{flat_map, sum_by, count_by}
 use Rattle.std.proofs.lemmas.List.Folds.{sum_by-replicate}
-use Rattle.psci_tree.specs.Recount.{never_started, is_active, is_off}
+use Rattle.psci_tree.specs.Recount.{never_started, is_active, is_away}
 use Rattle.psci_tree.specs.Domains.{leaves, cores_in, branches, child_counts}
 use Rattle.psci_tree.specs.Kept.{AreKept, IsKept, Keeps, low_in, recount}
 use Rattle.psci_state.specs.declared.cores.CoreState.{CoreState}
@@ -116,9 +116,10 @@ low_never level zero = refl
 low_never level (suc n) = ap (λ x. min 3 x) (low_never level n)
 
 -- all of them are off
-pub count_never : (n : ℕ) → count_by (λ c. is_off c.activity) (replicate n never_started) ≡ n
+pub count_never : (n : ℕ) → count_by (λ c. is_away c.activity) (replicate n never_started) ≡ n
 count_never n =
-    sum_by-replicate (λ (c : CoreState). cond (is_off c.activity) 1 0) n never_started ∙ omega arith
+    sum_by-replicate (λ (c : CoreState). cond (is_away c.activity) 1 0) n never_started
+    ∙ omega arith
 
 -- what is kept of so many cores that are off and were never started
 pub kept_never : (n : ℕ) → record {
@@ -137,15 +138,15 @@ kept_never n =
     let active : count_by (λ c. is_active c.activity) (replicate n never_started) ≡ 0 =
     sum_by-replicate (λ (c : CoreState). cond (is_active c.activity) 1 0) n never_started
     ∙ omega arith in
-    let off : count_by (λ c. is_off c.activity) (replicate n never_started) ≡ n = count_never n in
+    let off : count_by (λ c. is_away c.activity) (replicate n never_started) ≡ n = count_never n in
     cc
 
 -- what is kept of as many cores as are off below domains that were turned off
 pub never_keeps : (k : Kept) (ns : List Domain) (off n : ℕ)
     → cores_in ns ≡ replicate n never_started
-    → off ≡ count_by (λ c. is_off c.activity) (cores_in ns)
+    → off ≡ count_by (λ c. is_away c.activity) (cores_in ns)
     → Keeps k (replicate off never_started) → Keeps k (cores_in ns)
 never_keeps k ns off n e c h =
     let all : off ≡ n =
-    c ∙ ap (count_by (λ (s : CoreState). is_off s.activity)) e ∙ count_never n in
+    c ∙ ap (count_by (λ (s : CoreState). is_away s.activity)) e ∙ count_never n in
     subst (Keeps k) (ap (λ m. replicate m never_started) all ∙ sym e) h

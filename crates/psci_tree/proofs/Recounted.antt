@@ -8,7 +8,7 @@ use Rattle.std.proofs.lemmas.List.Folds.{fold-map}
 use Rattle.psci_board.specs.declared.node.Node.{Node}
 use Rattle.psci_board.specs.Board.{below_in}
 use Rattle.psci_state.specs.declared.cores.CoreState.{CoreState}
-use Rattle.psci_tree.specs.Recount.{TreeValue, state_at, asks, is_active, is_off}
+use Rattle.psci_tree.specs.Recount.{TreeValue, state_at, asks, is_active, is_away}
 use Rattle.psci_tree.specs.Recount.{least, low, known, active, off}
 
 abbrev pub states : TreeValue → Node → List CoreState
@@ -54,6 +54,6 @@ unfolding active
 active_is t n cs e = sum_is (λ s. cond (is_active s.activity) 1 0) t n cs e
 
 pub off_is : (t : TreeValue) (n : Node) (cs : List CoreState) → cs ≡ states t n
-    → count_by (λ s. is_off s.activity) cs ≡ off t n
+    → count_by (λ s. is_away s.activity) cs ≡ off t n
 unfolding off
-off_is t n cs e = sum_is (λ s. cond (is_off s.activity) 1 0) t n cs e
+off_is t n cs e = sum_is (λ s. cond (is_away s.activity) 1 0) t n cs e

@@ -1,7 +1,7 @@
 -- The definitions on a board whose values are known: two clusters of two cores.
 use Rattle.std.proofs.Common.{◌≡◌, ℕ, List, [], ◌∷◌, map, refl}
 use Rattle.psci_board.specs.declared.node.Node.{Node}
-use Rattle.psci_state.specs.declared.cores.Activity.TheVariants.{Suspended, Off}
+use Rattle.psci_state.specs.declared.cores.Activity.TheVariants.{Suspended, Away}
 use Rattle.psci_tree.specs.Recount.{TreeValue, state_at, ask_at, known_at, low, known, active, off}
 use Rattle.psci_tree.specs.Changes.{suspended, turned_off, made_pending, started, start_of_life}
 
@@ -117,6 +117,6 @@ unfolding started start_of_life made_pending
 known_started_again = refl
 
 -- a core that the board lacks is off and was never started
-no_such_core : state_at at_start 4 ≡ record { activity = Off; known = 0 }
+no_such_core : state_at at_start 4 ≡ record { activity = Away; known = 0 }
 unfolding start_of_life made_pending
 no_such_core = refl

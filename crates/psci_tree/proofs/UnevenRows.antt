@@ -2,8 +2,8 @@
 -- the first two below one domain of level 2, the last below another.
 use Rattle.std.proofs.Common.{◌≡◌, ℕ, true, false, List, [], ◌∷◌, map, refl}
 use Rattle.psci_board.specs.declared.node.Node.{Node}
-use Rattle.psci_state.specs.declared.cores.Activity.TheVariants.{Active, Off}
-use Rattle.psci_tree.specs.Recount.{TreeValue, state_at, ask_at, known_at, is_active_at, is_off_at}
+use Rattle.psci_state.specs.declared.cores.Activity.TheVariants.{Active, Away}
+use Rattle.psci_tree.specs.Recount.{TreeValue, state_at, ask_at, known_at, is_active_at, is_away_at}
 use Rattle.psci_tree.specs.Recount.{low, known, active, off, granted_at, level_sizes}
 use Rattle.psci_tree.specs.Recount.{is_confirmed_at}
 use Rattle.psci_tree.specs.Changes.{suspended, turned_off, made_pending, started, start_of_life}
@@ -47,8 +47,8 @@ sizes_of_levels : level_sizes uneven ≡ 4 ∷ 3 ∷ 2 ∷ 1 ∷ []
 sizes_of_levels = refl
 
 cores_at_start : map (state_at at_start) each_core
-    ≡ record { activity = Active; known = 0 } ∷ record { activity = Off; known = 0 }
-    ∷ record { activity = Off; known = 0 } ∷ record { activity = Off; known = 0 } ∷ []
+    ≡ record { activity = Active; known = 0 } ∷ record { activity = Away; known = 0 }
+    ∷ record { activity = Away; known = 0 } ∷ record { activity = Away; known = 0 } ∷ []
 unfolding start_of_life made_pending
 cores_at_start = refl
 
@@ -89,7 +89,7 @@ active_cores : map (is_active_at one_off) each_core ≡ true ∷ false ∷ false
 unfolding start_of_life made_pending started suspended turned_off
 active_cores = refl
 
-off_cores : map (is_off_at one_off) each_core ≡ false ∷ true ∷ true ∷ false ∷ []
+off_cores : map (is_away_at one_off) each_core ≡ false ∷ true ∷ true ∷ false ∷ []
 unfolding start_of_life made_pending started suspended turned_off
 off_cores = refl
 
@@ -98,7 +98,7 @@ suspended_active : map (is_active_at two_down) each_core ≡ true ∷ false ∷ 
 unfolding start_of_life made_pending started suspended
 suspended_active = refl
 
-suspended_off : map (is_off_at two_down) each_core ≡ false ∷ false ∷ true ∷ false ∷ []
+suspended_off : map (is_away_at two_down) each_core ≡ false ∷ false ∷ true ∷ false ∷ []
 unfolding start_of_life made_pending started suspended
 suspended_off = refl
 

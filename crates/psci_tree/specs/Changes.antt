@@ -4,7 +4,7 @@ use Rattle.std.specs.Prelude.{map, replicate, slice_set, slice_index_or, ◌==�
 use Rattle.psci_board.specs.declared.node.Node.{Node}
 use Rattle.psci_board.specs.Board.{size_below, group_of, place_above}
 use Rattle.psci_state.specs.declared.cores.Activity.{Activity}
-use Rattle.psci_state.specs.declared.cores.Activity.TheVariants.{Active, Suspended, Off}
+use Rattle.psci_state.specs.declared.cores.Activity.TheVariants.{Active, Suspended, Away}
 pub use Rattle.psci_state.specs.Cores.{core_changed}
 use Rattle.psci_tree.specs.Recount.{TreeValue, never_started, known_at, granted_at, level_sizes}
 use Rattle.psci_tree.specs.Recount.{confirmed_at}
@@ -34,7 +34,7 @@ suspended t core depths = with_core_state t core (Suspended depths) (known_at t 
 
 -- a core is off, or going off; what was granted stays
 unfoldable pub turned_off : TreeValue → ℕ → TreeValue
-turned_off t core = with_core_state t core Off (known_at t core)
+turned_off t core = with_core_state t core Away (known_at t core)
 
 -- a core is pending: it asks for nothing, and nothing is granted on its path
 unfoldable pub made_pending : TreeValue → ℕ → TreeValue

@@ -5,7 +5,7 @@ use Rattle.std.specs.List.{All, sum_by, count_by, flat_map}
 use Rattle.psci_state.specs.declared.cores.CoreState.{CoreState}
 use Rattle.psci_tree.specs.declared.kept.Kept.{Kept}
 use Rattle.psci_tree.specs.declared.domain.Domain.{Domain, out-Domain}
-use Rattle.psci_tree.specs.Recount.{asks, is_active, is_off, least}
+use Rattle.psci_tree.specs.Recount.{asks, is_active, is_away, least}
 use Rattle.psci_tree.specs.Domains.{cores_in, leaves, domains_down}
 
 -- the least ask of these cores at a level
@@ -18,7 +18,7 @@ recount cs = record {
   lows = map (λ level. low_in level cs) (0 ∷ 1 ∷ 2 ∷ 3 ∷ []);
   known = sum_by (λ c. c.known) cs;
   active = count_by (λ c. is_active c.activity) cs;
-  off = count_by (λ c. is_off c.activity) cs;
+  off = count_by (λ c. is_away c.activity) cs;
 }
 
 -- what is kept of some cores and of others beside them

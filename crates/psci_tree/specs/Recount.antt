@@ -2,9 +2,9 @@
 use Rattle.std.specs.Prelude.{◌≡◌, ℕ, ◌+◌, ◌<◌, ◌≤◌, List, [], ◌∷◌, length, map}
 use Rattle.std.specs.List.{sum_by, count_by}
 pub use Rattle.psci_state.specs.Ask.{least}
-pub use Rattle.psci_state.specs.Cores.{TreeValue, IsActivity, asks, is_active, is_off}
+pub use Rattle.psci_state.specs.Cores.{TreeValue, IsActivity, asks, is_active, is_away}
 pub use Rattle.psci_state.specs.Cores.{never_started, state_at, ask_at, known_at, is_active_at}
-pub use Rattle.psci_state.specs.Cores.{is_off_at, granted_at, confirmed_at, is_confirmed_at}
+pub use Rattle.psci_state.specs.Cores.{is_away_at, granted_at, confirmed_at, is_confirmed_at}
 use Rattle.psci_board.specs.declared.node.Node.{Node}
 use Rattle.psci_board.specs.Board.{size_below, place_above, below_in, IsTree}
 
@@ -24,7 +24,7 @@ active t n = count_by (λ c. is_active_at t c) (below_in t.levels n)
 
 -- how many cores below are off or going off
 unfoldable pub off : TreeValue → Node → ℕ
-off t n = count_by (λ c. is_off_at t c) (below_in t.levels n)
+off t n = count_by (λ c. is_away_at t c) (below_in t.levels n)
 
 -- how many domains each level has, from the cores up
 abbrev pub level_sizes : List (List ℕ) → List ℕ

@@ -68,7 +68,7 @@ impl Tree {
         ensures levels { self.new.levels ≡ self.old.levels }
         ensures tree { IsDomainTree self.new }
     {
-        self.set_core(core, Activity::Off);
+        self.set_core(core, Activity::Away);
     }
 
     /// A core is pending: nothing is granted or confirmed any more on its path.

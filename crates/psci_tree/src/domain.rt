@@ -6,7 +6,7 @@ ghost use Rattle.std.specs.List.{count_by};
 ghost use Rattle.psci_tree.specs.declared.domain.Domain.{Domain};
 ghost use Rattle.psci_state.specs.declared.cores.CoreState.{CoreState};
 ghost use Rattle.psci_state.specs.declared.cores.Activity.TheVariants.{Active};
-ghost use Rattle.psci_tree.specs.Recount.{is_off, never_started};
+ghost use Rattle.psci_tree.specs.Recount.{is_away, never_started};
 ghost use Rattle.psci_tree.specs.Domains.{branches, leaves, cores_in, child_counts, IsWay};
 ghost use Rattle.psci_tree.specs.Domains.{index_by};
 ghost use Rattle.psci_tree.specs.Kept.{AreKept, IsKept, Keeps};
@@ -140,7 +140,7 @@ pub fn kept_of(domains: &[Domain]) -> Kept
 fn off_below(domains: &[Domain]) -> u32
     requires kept { AreKept domains.now }
     requires few { length (cores_in domains.now) < 2 ^ 16 }
-    ensures { result ≡ count_by (λ c. is_off c.activity) (cores_in domains.now) }
+    ensures { result ≡ count_by (λ c. is_away c.activity) (cores_in domains.now) }
 {
     let mut off = 0;
     for domain in domains {

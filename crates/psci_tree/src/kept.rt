@@ -41,7 +41,7 @@ impl Kept {
             lows: [core.ask(0), core.ask(1), core.ask(2), core.ask(3)],
             known: u64::from(core.known),
             active: u32::from(core.is_active()),
-            off: u32::from(core.is_off()),
+            off: u32::from(core.is_away()),
         }
     }
 

@@ -5,9 +5,9 @@ ghost use Rattle.std.specs.Prelude.{if◌then◌else◌, List, length, map, take
 ghost use Rattle.std.specs.List.{sum_by};
 ghost use Rattle.psci_board.specs.declared.node.Node.{Node};
 ghost use Rattle.psci_board.specs.Board.{HasNodeIn, size_below, place_above, below_in, span};
-ghost use Rattle.psci_state.specs.declared.cores.Activity.TheVariants.{Active, Suspended, Off};
+ghost use Rattle.psci_state.specs.declared.cores.Activity.TheVariants.{Active, Suspended, Away};
 ghost use Rattle.psci_tree.specs.Recount.{TreeValue, IsDomainTree, active, ask_at, state_at};
-ghost use Rattle.psci_tree.specs.Recount.{granted_at, is_active_at, is_off_at, known, known_at};
+ghost use Rattle.psci_tree.specs.Recount.{granted_at, is_active_at, is_away_at, known, known_at};
 ghost use Rattle.psci_tree.specs.Recount.{is_confirmed_at};
 ghost use Rattle.psci_tree.specs.Recount.{low, never_started, off};
 ghost use Rattle.psci_tree.specs.Changes.{start_of_life, made_pending, started};
@@ -32,7 +32,7 @@ pub fn law_cores()
         then record { activity = Suspended depths; known = known_at t core } else state_at t c) }
     ensures off { (t : TreeValue) (core c : ℕ) → core < length t.cores
         → state_at (turned_off t core) c ≡ (if core == c
-        then record { activity = Off; known = known_at t core } else state_at t c) }
+        then record { activity = Away; known = known_at t core } else state_at t c) }
     ensures pending { (t : TreeValue) (core c : ℕ) → core < length t.cores
         → state_at (made_pending t core) c ≡ (if core == c
         then record { activity = Active; known = known_at t core } else state_at t c) }
@@ -158,9 +158,9 @@ pub fn law_counts()
         → active t n ≡ 0 }
     ensures off { (t : TreeValue) (n : Node) (c : ℕ) → off t n ≡ length (below_in t.levels n)
         → c < size_below t.levels → place_above t.levels n.level c ≡ n.place
-        → is_off_at t c ≡ true }
+        → is_away_at t c ≡ true }
     ensures all_off { (t : TreeValue) (n : Node)
         → ((c : ℕ) → c < size_below t.levels → place_above t.levels n.level c ≡ n.place
-        → is_off_at t c ≡ true)
+        → is_away_at t c ≡ true)
         → off t n ≡ length (below_in t.levels n) }
 {}

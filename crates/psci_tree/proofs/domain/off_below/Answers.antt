@@ -1,7 +1,7 @@
 use Rattle.std.proofs.Common.{◌+◌, ◌∙◌, arith, take, ap, sym}
 use Rattle.std.proofs.lemmas.List.Sums.{count_by-le-length}
 use Rattle.psci_tree.specs.Domains.{cores_in}
-use Rattle.psci_tree.specs.Recount.{is_off}
+use Rattle.psci_tree.specs.Recount.{is_away}
 use Rattle.psci_tree.specs.declared.domain.Domain.{out-Domain}
 use Rattle.psci_state.specs.declared.cores.CoreState.{CoreState}
 use Rattle.psci_tree.proofs.Below.{length_parts}
@@ -16,7 +16,7 @@ overflow_add-off c = omega (
   off_in_next c.args.domains.now c.loop-domain.domain-index c.domain-item.result
       c.loop-domain-test.true c.domain-item.is c.requires.kept,
   length_parts c.args.domains.now (c.loop-domain.domain-index + 1),
-  count_by-le-length (λ (s : CoreState). is_off s.activity)
+  count_by-le-length (λ (s : CoreState). is_away s.activity)
       (cores_in (take (c.loop-domain.domain-index + 1) c.args.domains.now)),
 )
 

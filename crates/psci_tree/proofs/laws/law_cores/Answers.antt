@@ -2,7 +2,7 @@ use Rattle.std.proofs.Common.{refl}
 use Rattle.psci_tree.specs.Recount.{known_at}
 use Rattle.psci_tree.specs.Changes.{suspended, turned_off, made_pending}
 use Rattle.psci_tree.specs.Changes.{started, with_grant}
-use Rattle.psci_state.specs.declared.cores.Activity.TheVariants.{Active, Suspended, Off}
+use Rattle.psci_state.specs.declared.cores.Activity.TheVariants.{Active, Suspended, Away}
 use Rattle.psci_tree.proofs.Looked.{core_with}
 use Rattle.psci_tree.proofs.laws.law_cores.Goals as goal
 
@@ -13,7 +13,7 @@ returns-clause-suspended c =
 
 pub returns-clause-off : goal.returns-clause-off
 unfolding turned_off
-returns-clause-off c = λ t core d h. core_with t core Off (known_at t core) d h
+returns-clause-off c = λ t core d h. core_with t core Away (known_at t core) d h
 
 pub returns-clause-pending : goal.returns-clause-pending
 unfolding made_pending

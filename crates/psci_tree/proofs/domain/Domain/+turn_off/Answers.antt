@@ -7,7 +7,7 @@ use Rattle.std.proofs.Math.ListN.{set, length-set}
 use Rattle.std.specs.Vec.{with_item}
 use Rattle.std.specs.List.{count_by}
 use Rattle.std.proofs.lemmas.List.{get_or_default, length-replicate}
-use Rattle.psci_tree.specs.Recount.{is_off, never_started}
+use Rattle.psci_tree.specs.Recount.{is_away, never_started}
 use Rattle.psci_tree.specs.Domains.{leaves, branches, cores_in, child_counts}
 use Rattle.psci_tree.specs.Kept.{AreKept}
 use Rattle.psci_tree.specs.declared.domain.Domain.{Domain}
@@ -218,6 +218,6 @@ returns-clause-kept t c =
     )) (never_keeps c.never_started-self-2.result (branches now) c.off_below.result
     (length (cores_in (branches own)))
     (off_cores i (branches own) (branches now) all c.loop-number.invariant.done)
-    (c.off_below.ensures ∙ ap (λ ns. count_by (λ s. is_off s.activity) (cores_in ns))
+    (c.off_below.ensures ∙ ap (λ ns. count_by (λ s. is_away s.activity) (cores_in ns))
     c.deref.ensures.value) c.never_started-self-2.ensures)
     (off_kept i (branches own) (branches now) all c.loop-number.invariant.done)
