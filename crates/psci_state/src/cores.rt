@@ -13,7 +13,7 @@ pub enum Activity {
     /// Suspended, with this ask.
     Suspended(Ask),
     /// Off or going off.
-    Off,
+    Away,
 }
 
 /// What is kept of a core.
