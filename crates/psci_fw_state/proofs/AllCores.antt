@@ -239,7 +239,7 @@ module _ (s : StateValue) (is : IsState s) (laws : SpanLaws s.board.levels) wher
   unfolding off
   off_count =
       ap (λ (ws : List (List ℕ)). count_by (λ c. is_away_at s.tree c) (below_in ws system))
-        is.levels
+      is.levels
       ∙ ap (count_by (λ c. is_away_at s.tree c)) all_below
 
   active_count : active s.tree system ≡ count_by (λ c. is_active (activity c)) everyone

@@ -4,7 +4,7 @@ use Rattle.std.proofs.Common.{ℕ, false, List, [], ◌∷◌}
 use Rattle.psci_abi.specs.psci_format.declared.format.Format.TheVariants.{Original}
 use Rattle.psci_board.specs.Board.{BoardValue, core_of, node_of, up}
 use Rattle.psci_fw_spec.specs.psci_claims.Claim.{claims_of}
-use Rattle.psci_fw_spec.specs.psci_claims.View.{generation, is_all_off, is_idle, least_ask}
+use Rattle.psci_fw_spec.specs.psci_claims.View.{generation, is_all_away, is_idle, least_ask}
 use Rattle.psci_messages.specs.declared.kind.Kind.{Kind}
 use Rattle.psci_messages.specs.declared.start.Cause.{Cause}
 use Rattle.psci_messages.specs.declared.start.Cause.TheVariants.{Boot}
@@ -26,8 +26,8 @@ use Rattle.psci_fw_spec.specs.Views.{view}
 -- what an example unfolds to compute answers, values and statuses
 unfoldable pub computing : Unit {0}
 unfolding answer values_of after outcome_of enter_outcome target_of core_of node_of off_parts
-    suspend_parts view up claims_of least_ask generation is_all_off is_idle outstanding last_message
-    changes_since statuses
+    suspend_parts view up claims_of least_ask generation is_all_away is_idle outstanding
+    last_message changes_since statuses
 computing = tt
 
 abbrev pub board : BoardValue

@@ -57,7 +57,7 @@ recount_activated cs j b s k before after h a is own was new =
     let off : k.off - before.off + after.off
     ≡ count_by (λ (c : CoreState). is_away c.activity) (set cs j s) =
     moved (λ (c : CoreState). cond (is_away c.activity) 1 0) cs j b s k.off before.off after.off h
-      is
+    is
     (ap (λ (i : Kept). i.off) own.counted) (ap (λ (i : Kept). i.off) was.counted)
     (ap (λ (i : Kept). i.off) new.counted) in
     let low0 = low_zero 0 cs j s h a in

@@ -7,7 +7,7 @@ use Rattle.psci_fw_spec.specs.psci_board.Board.{BoardValue, core_of, node_of, up
 use Rattle.psci_fw_spec.specs.psci_claims.psci_parts.declared.part.Part.{Part}
 use Rattle.psci_fw_spec.specs.psci_claims.Claim.{claims_of}
 use Rattle.psci_fw_spec.specs.psci_claims.LastCore.{last_core_check, refusal, shallow, shallow_at}
-use Rattle.psci_fw_spec.specs.psci_claims.View.{generation, is_all_off, is_idle, least_ask}
+use Rattle.psci_fw_spec.specs.psci_claims.View.{generation, is_all_away, is_idle, least_ask}
 use Rattle.psci_fw_spec.specs.psci_messages.declared.start.Cause.{Cause}
 use Rattle.psci_ctl_spec.specs.Effects.{effect_of}
 use Rattle.psci_ctl_spec.specs.History as controls
@@ -41,7 +41,7 @@ use Rattle.psci_world_spec.specs.Places.{place}
 unfoldable pub computing : Unit {0}
 unfolding run_from legal place sent acks controller_history firmware_history remembers.values_of
     controls.values_of answer outcome_of enter_outcome target_of core_of node_of node_status
-    off_parts suspend_parts view up claims_of least_ask generation is_all_off is_idle
+    off_parts suspend_parts view up claims_of least_ask generation is_all_away is_idle
     last_core_check refusal shallow shallow_at outstanding last_message changes_since effect_of
     reply delivery_of wake_of reset_of applied is_stale starts_below
 computing = tt
