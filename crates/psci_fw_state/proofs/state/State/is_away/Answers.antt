@@ -2,6 +2,6 @@ use Rattle.std.proofs.Common.{rules}
 use Rattle.psci_fw_state.specs.Seen.{values_in}
 use Rattle.psci_fw_state.proofs.state.State.is_away.Goals as goal
 
-pub returns-in-Off : goal.returns-in-Off
+pub returns-in-Away : goal.returns-in-Away
 unfolding values_in
-returns-in-Off c = search rules
+returns-in-Away c = search rules
