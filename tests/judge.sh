@@ -148,15 +148,17 @@ judged_virtio() {
 
 # played WORD..: a run of the payload, which ends by itself long before the limit
 played() {
-    "$payload/run" --seconds 1800 --payload "$work/payload/payload.bin" "$@" > "$work/out" 2>&1 || fail "$payload/run $*"
-    ! grep -q "did not end" "$work/out" || fail "$payload/run $*: $(grep "did not end" "$work/out" | head -n 1)"
+    "$payload/run" --seconds 1800 --payload "$work/payload/payload.bin" "$@" > "$work/out" 2>&1 &&
+        ! grep -q "did not end" "$work/out" || { fail "$payload/run $*"; tail -n 3 "$work/out"; }
 }
 
 # judged_again PROFILE: one call is left of a list that differs, and a storm that is played again has the same calls
 judged_again() {
     local way
     played --on qemu --out "$work/live" --shorten "$1" words
-    if grep -q "^words: 2 of 68 " "$work/out"; then pass; else fail "$payload/run --shorten: $(head -n 1 "$work/out")"; fi
+    if grep -q "^words: 2 of 68 " "$work/out"; then pass; else
+        fail "$payload/run --shorten: $(head -n 1 "$work/out")"
+    fi
     for way in first second; do played --on qemu --one-thread --out "$work/$way" storm-down-1; done
     played --on qemu --out "$work/third" storm-down-1
     if tests/same-draws "$work/first/storm-down-1.record" "$work"/{second,third}/storm-down-1.record \
