@@ -115,7 +115,7 @@ live() {
     local name=$1
     shift
     say "Linux at EL3: $name"
-    if EL3_OUT=$work/el3-$name hosts/el3/run --seconds 300 --record "$work/$name.record" "$@" \
+    if EL3_OUT=$work/el3-$name hosts/el3/run --seconds 1800 --record "$work/$name.record" "$@" \
         > "$work/out" 2>&1; then pass; else
         fail "hosts/el3/run $*"
         tail -n 20 "$work/out"

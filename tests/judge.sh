@@ -19,7 +19,7 @@ judged_records() {
         mkdir -p "$work/calls"
         xz -dc "$file" | tar -x -C "$work/calls"
         status=0
-        ./psci compare --limit 600 --profile "$(profile_of "$peer")" --baseline "$payload/reports/$peer.groups" \
+        ./psci compare --limit 7200 --profile "$(profile_of "$peer")" --baseline "$payload/reports/$peer.groups" \
             "$work/calls/$peer"/*.record > "$work/out" 2> "$work/err" || status=$?
         if [ "$status" = 0 ] && cmp -s "$payload/reports/$peer.txt" "$work/out"; then pass; else
             fail "./psci compare, records of $peer (status $status)"
@@ -109,8 +109,9 @@ judged_live() {
         head -n 5 "$work/out"
         return
     fi
-    "$payload/run" --on qemu --seconds 60 --payload "$work/payload/payload.bin" --out "$work/live" \
-        affinity features words standby lives > "$work/out" 2>&1 || fail "$payload/run"
+    played --on qemu --out "$work/live" features words
+    # what waits for another core, or for a timer, has a clock that stands still where QEMU does
+    played --on qemu --one-thread --out "$work/live" affinity standby lives
     profile=$(profile_of qemu)
     judged_as 6 "1 x FEATURES of CPU_ON: theirs -1; ours 0" --profile "$profile" "$work"/live/*.record
     judged_as 0 "agrees    live/lives:" --profile "$profile" "$work/live/lives.record"
@@ -138,24 +139,31 @@ judged_virtio() {
     dtc -q -I dtb -O dts "$work/virt.dtb" | sed 's/pl011@.*{$/& status = "disabled";/' |
         dtc -q -I dts -O dtb -o "$work/virt.dtb"
     for form in true false; do
-        "$payload/run" --seconds 60 --payload "$work/payload/payload.bin" --out "$work/virtio-$form" lives --command \
-            "$machine -M virt -dtb $work/virt.dtb -global virtio-mmio.force-legacy=$form -chardev stdio,id=it -device
-             virtio-serial-device -device virtconsole,chardev=it -kernel IMAGE" > "$work/out" 2>&1 || fail "$payload/run"
+        played --one-thread --out "$work/virtio-$form" lives --command "$machine -M virt -dtb $work/virt.dtb
+            -global virtio-mmio.force-legacy=$form -chardev stdio,id=it -device virtio-serial-device
+            -device virtconsole,chardev=it -kernel IMAGE"
         judged_as 0 "agrees    virtio-$form/lives: 1" --profile "$1" "$work/virtio-$form/lives.record"
     done
 }
 
-# judged_again PROFILE: one call is left of a list that differs, and a storm that is replayed has the same record
+# played WORD..: a run of the payload, which ends by itself long before the limit
+played() {
+    "$payload/run" --seconds 1800 --payload "$work/payload/payload.bin" "$@" > "$work/out" 2>&1 &&
+        ! grep -q "did not end" "$work/out" || { fail "$payload/run $*"; tail -n 3 "$work/out"; }
+}
+
+# judged_again PROFILE: one call is left of a list that differs, and a storm that is played again has the same calls
 judged_again() {
     local way
-    "$payload/run" --on qemu --seconds 60 --payload "$work/payload/payload.bin" --out "$work/live" \
-        --shorten "$1" affinity > "$work/out" 2>&1 || fail "$payload/run --shorten"
-    if grep -q "^affinity: 2 of " "$work/out"; then pass; else fail "$payload/run --shorten: $(head -n 1 "$work/out")"; fi
-    for way in first second; do
-        "$payload/run" --on qemu --replayable --seconds 120 --payload "$work/payload/payload.bin" \
-            --out "$work/$way" storm-down-1 > "$work/out" 2>&1 || fail "$payload/run --replayable"
-    done
-    if cmp -s "$work/first/storm-down-1.record" "$work/second/storm-down-1.record"; then pass; else
-        fail "a storm that is replayed has another record"
+    played --on qemu --out "$work/live" --shorten "$1" words
+    if grep -q "^words: 2 of 68 " "$work/out"; then pass; else
+        fail "$payload/run --shorten: $(head -n 1 "$work/out")"
+    fi
+    for way in first second; do played --on qemu --one-thread --out "$work/$way" storm-down-1; done
+    played --on qemu --out "$work/third" storm-down-1
+    if tests/same-draws "$work/first/storm-down-1.record" "$work"/{second,third}/storm-down-1.record \
+        > "$work/out" 2>&1; then pass; else
+        fail "a storm that is played again has other calls"
+        head -n 5 "$work/out"
     fi
 }

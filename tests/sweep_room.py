@@ -39,6 +39,14 @@ class Room:
         os.chmod(path, 0o755)
         return path
 
+    def held(self, when):
+        """A program that waits before it does what its words have this text for, and the file as long as which
+        is there."""
+        held = self.path(f"held{len(os.listdir(self.folder))}")
+        with open(held, "w", encoding="utf-8"):
+            pass
+        return self.wrapped(f"while [ -e '{held}' ]; do sleep 0.1; done", when), held
+
     def words(self, out, *more, program=None, seeds=f"1..{SEEDS}", kind="storm"):
         return [f"{self.top}/psci", "sweep", kind, "--out", self.path(out), "--seeds", seeds, "--count", str(COUNT),
                 "--program", program or self.program, *(more or ("--chunk", "5"))]

@@ -10,6 +10,14 @@ import time
 from sweep_room import COUNT, SEEDS, wants
 
 
+def waited(holds):
+    """Waits until this holds; a slow machine may take long."""
+    until = time.time() + 600
+    while not holds():
+        wants(time.time() < until, "it does not come so far")
+        time.sleep(0.02)
+
+
 def sums(room):
     """The numbers of a report are those of its storms, one by one."""
     events = messages = 0
@@ -43,14 +51,14 @@ def killed_program(room):
 
 def begun_again(room):
     """A sweep that is killed goes on with what is not finished, and does nothing twice."""
-    program = room.wrapped("sleep 0.2", "--seed")
+    program, held = room.held("--seed 20 ")
     process = subprocess.Popen(room.words("ended", "--chunk", "2", "--jobs", "2", program=program),
-                               stdout=subprocess.DEVNULL, stderr=subprocess.DEVNULL)
-    until = time.time() + 60
-    while time.time() < until and not (os.path.isdir(room.path("ended/results")) and len(room.results("ended")) > 2):
-        time.sleep(0.05)
-    process.kill()
+                               stdout=subprocess.DEVNULL, stderr=subprocess.DEVNULL, start_new_session=True)
+    waited(lambda: os.path.isdir(room.path("ended/results")) and len(room.results("ended")) > 2)
+    # with all that it has started, as by the machine
+    os.killpg(process.pid, signal.SIGKILL)
     process.wait()
+    os.unlink(held)
     status, _, said = room.sweep("ended", "--chunk", "2", "--jobs", "2", program=program, seeds="1..25")
     wants(status == 2, f"a sweep of other seeds goes on in the folder: {said}")
     some = room.report("ended")
@@ -152,16 +160,15 @@ def model(room):
 
 def alone(room):
     """Two sweeps are not at one folder."""
-    program = room.wrapped("sleep 1", "--seed 9 ")
+    program, held = room.held("--seed 9 ")
     process = subprocess.Popen(room.words("alone", program=program), stdout=subprocess.DEVNULL,
                                stderr=subprocess.DEVNULL)
-    until = time.time() + 60
-    while time.time() < until and not os.path.exists(room.path("alone/plan.json")):
-        time.sleep(0.02)
+    waited(lambda: os.path.exists(room.path("alone/plan.json")))
     status, _, said = room.sweep("alone", program=program)
     wants(status == 2 and "another sweep is at it" in said, f"two sweeps are at one folder: {said}")
     process.send_signal(signal.SIGINT)
     process.wait()
+    os.unlink(held)
     room.is_good(room.sweep("alone", program=program))
 
 

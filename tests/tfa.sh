@@ -85,7 +85,7 @@ tfa_live() {
         [ -f "$name" ] || { skip "Linux on TF-A" "$name"; return; }
     done
     say "Linux on TF-A"
-    if TFA_OUT=$work/tfa hosts/tfa/run --seconds 200 --record "$work/tfa.record" each boot-core idle \
+    if TFA_OUT=$work/tfa hosts/tfa/run --seconds 1800 --record "$work/tfa.record" each boot-core idle \
         suspend-5 > "$work/out" 2>&1; then pass; else
         fail "hosts/tfa/run"
         tail -n 20 "$work/out"

@@ -39,7 +39,7 @@ class Lists:
         add("--profile", metavar="FILE", help="what the firmware declares of itself (docs/JUDGE.md)")
         add("--baseline", metavar="FILE", help="groups that are known, and no difference")
         add("--down", action="store_true", help="lists with power-downs, too")
-        add("--replayable", action="store_true", help="one thread that counts instructions: the same each time")
+        add("--one-thread", action="store_true", help="QEMU runs all cores in turn, and counts instructions for a clock")
         add("--payload", metavar="FILE", default=f"{PAYLOAD}/out/payload.bin", help="what make -C hosts/payload built")
 
     @staticmethod
@@ -56,7 +56,7 @@ class Lists:
             raise Wrong(str(fault)) from fault
         machine = ["--on", words.on] if words.on else ["--command", words.command]
         lists = ["storm", *(["storm-down"] if words.down else [])]
-        return {"machine": machine + ["--replayable"] * words.replayable, "lists": lists,
+        return {"machine": machine + ["--one-thread"] * words.one_thread, "lists": lists,
                 "profile": text_of(words.profile), "known": sorted(map(list, known))}
 
     @staticmethod
