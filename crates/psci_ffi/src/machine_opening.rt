@@ -66,7 +66,7 @@ fn renew(alloc: Global, place: &mut MachinePlace, machine: Platform) -> Result<(
     ensures done { IfOk result (λ _. place.new.slot.kept ≡ Some machine) }
     ensures same { IfErr result (λ _. place.new.slot.kept ≡ place.old.slot.kept) }
 {
-    let boxed = Box::new(alloc, machine)?;
+    let boxed = Box::new(alloc, machine.in_order(alloc)?)?;
     drop(place.take(alloc));
     place.put(boxed);
     Ok(())

@@ -3,6 +3,7 @@ pub mod Cores
 pub mod Described
 pub mod Faults
 pub mod Identity
+pub mod Names
 pub mod Platforms
 pub mod States
 pub mod Swaps

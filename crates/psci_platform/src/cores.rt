@@ -85,7 +85,7 @@ fn place_of(mpidrs: &[u64], word: u64, low: u32) -> Option<usize>
 }
 
 /// The affinity word of a core: a field for each domain on its path below the system.
-fn affinity_word(board: &Board, core: Core) -> u64
+pub fn affinity_word(board: &Board, core: Core) -> u64
     requires { core.number < cores board.now }
     ensures { result ≡ address board.now 0 core.number }
 {

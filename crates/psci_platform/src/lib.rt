@@ -20,6 +20,7 @@ mod firmware;
 mod functions;
 mod law;
 mod mpidrs;
+mod names;
 mod platform;
 mod row;
 mod rows;

@@ -3,11 +3,13 @@
 use crate::description::Description;
 use crate::fault::PlatformFault;
 use crate::law::law_boot_core;
+use crate::names::{Name, name_in};
 use crate::swap::{moved, other_core};
 use crate::translate::Call;
 use psci_abi::Regs;
-use psci_board::{Board, Core, Node};
+use psci_board::{Board, Core, Memory, Node};
 use psci_fw_spec::SuspendMode;
+use std::alloc::Global;
 use std::marker::Model;
 
 /// A board, and a description of the platform that has no fault.
@@ -18,9 +20,14 @@ pub struct Platform {
     boot: u64,
     /// The boot core, by its place in the order of the tree.
     boot_core: Core,
+    /// The names of the cores, once they are in order.
+    names: Option<Vec<Name>>,
 }
 
 impl Model for Platform {
+    ghost use Rattle.std.specs.Prelude.{IfSome};
+    ghost use Rattle.std.specs.List.{All};
+    ghost use Rattle.psci_platform.specs.Names.{IsName};
     ghost use Rattle.psci_platform.specs.Platforms.{IsPlatform, PlatformValue};
 
     ghost Value = { PlatformValue };
@@ -37,13 +44,16 @@ impl Model for Platform {
       board = p.board;
       boot = p.boot;
       place = p.boot_core.number;
-    }) };
+    }) × IfSome p.names (λ names. All (IsName p.description p.board p.boot_core.number)
+        names.items) };
 }
 
 ghost use Rattle.std.specs.Prelude.{◌≡◌, ◌<◌, None, Some, IfOk, IfSome, MatchResult, option_map};
 ghost use Rattle.std.specs.Prelude.{slice_get};
+ghost use Rattle.std.specs.List.{All};
 ghost use Rattle.psci_board.specs.Board.{cores};
 ghost use Rattle.psci_platform.specs.Cores.{boot_place, number_named};
+ghost use Rattle.psci_platform.specs.Names.{IsName};
 ghost use Rattle.psci_platform.specs.Calls.{asked_for, regs_for};
 ghost use Rattle.psci_platform.specs.Faults.{fault_of};
 ghost use Rattle.psci_platform.specs.Swaps.{moved, swap_for};
@@ -73,8 +83,33 @@ impl Platform {
             board,
             boot,
             boot_core,
+            names: None,
         };
         Ok(platform)
+    }
+
+    /// The same platform, which finds a core among all by halves.
+    #[tactic(auto, using(crate::proofs::Checked::some_count))]
+    pub fn in_order(self, alloc: Global) -> Result<Platform, Memory>
+        ensures { IfOk result (λ p. p ≡ self) }
+    {
+        let names = self
+            .description
+            .names(alloc, &self.board, self.boot_core)?;
+        Ok(Platform {
+            names: Some(names),
+            ..self
+        })
+    }
+
+    /// The names of the cores, as far as there are any.
+    fn names(&self) -> &[Name]
+        ensures { All (IsName self.now.description self.now.board self.now.place) result.now }
+    {
+        match &self.names {
+            Some(names) => names,
+            None => &[],
+        }
     }
 
     /// The board.
@@ -91,6 +126,9 @@ impl Platform {
             ≡ number_named self.now.description self.now.board self.now.place mpidr 0 }
         ensures inside { IfSome result (λ core. core.number < cores self.now.board) }
     {
+        if let Some(name) = name_in(self.names(), mpidr) {
+            return Some(name.core);
+        }
         self.description
             .number_named(&self.board, self.boot_core, mpidr, 0)
     }
@@ -124,6 +162,6 @@ impl Platform {
         ensures asked { result.asked ≡ asked_for self.now.description mode regs }
     {
         self.description
-            .translate(&self.board, self.boot_core, mode, regs)
+            .translate_by(&self.board, self.boot_core, self.names(), mode, regs)
     }
 }

@@ -1,16 +1,20 @@
 //! The call of the firmware for a call of a platform.
 
 ghost use Rattle.std.specs.Prelude.{◌≡◌, ◌<◌, true, length, if◌then◌else◌};
+ghost use Rattle.std.specs.List.{All};
 ghost use Rattle.psci_abi.specs.Calls.{function_of};
 ghost use Rattle.psci_board.specs.Board.{cores};
 ghost use Rattle.psci_platform.specs.declared.asked.Asked.TheVariants as asks;
 ghost use Rattle.psci_platform.specs.Calls.{asked_by, asked_for, asks_states, feature_word};
 ghost use Rattle.psci_platform.specs.Calls.{first_argument, is_vendors, regs_for, reset_word};
+ghost use Rattle.psci_platform.specs.Cores.{core_word};
+ghost use Rattle.psci_platform.specs.Names.{IsName};
 ghost use Rattle.psci_platform.specs.Swaps.{is_symmetric};
 
 use crate::asked::Asked;
 use crate::class::LEVELS;
 use crate::description::Description;
+use crate::names::{Name, name_in};
 use psci_abi::{Regs, Request, read};
 use psci_board::{Board, Core};
 use psci_fw_spec::SuspendMode;
@@ -29,11 +33,30 @@ pub struct Call {
 
 impl Description {
     /// The call of the firmware for a call of the platform.
-    #[tactic(auto, unfolding(crate::specs::Calls::regs_for, crate::specs::Calls::asked_for))]
     pub fn translate(&self, board: &Board, boot: Core, mode: SuspendMode, regs: Regs) -> Call
         requires count { length self.now.mpidrs ≡ cores board.now }
         requires boot { boot.number < cores board.now }
         requires symmetric { is_symmetric board.now boot.number ≡ true }
+        ensures regs { result.regs ≡ regs_for self.now board.now boot.number mode regs }
+        ensures asked { result.asked ≡ asked_for self.now mode regs }
+    {
+        self.translate_by(board, boot, &[], mode, regs)
+    }
+
+    /// The same, where these are names of cores.
+    #[tactic(auto, unfolding(crate::specs::Calls::regs_for, crate::specs::Calls::asked_for))]
+    pub fn translate_by(
+        &self,
+        board: &Board,
+        boot: Core,
+        names: &[Name],
+        mode: SuspendMode,
+        regs: Regs,
+    ) -> Call
+        requires count { length self.now.mpidrs ≡ cores board.now }
+        requires boot { boot.number < cores board.now }
+        requires symmetric { is_symmetric board.now boot.number ≡ true }
+        requires names { All (IsName self.now board.now boot.number) names.now }
         ensures regs { result.regs ≡ regs_for self.now board.now boot.number mode regs }
         ensures asked { result.asked ≡ asked_for self.now mode regs }
     {
@@ -47,7 +70,7 @@ impl Description {
                 asked: Asked::Nothing,
             };
         }
-        let (x1, asked) = self.first_argument(board, boot, mode, regs.x1, request);
+        let (x1, asked) = self.first_argument(board, boot, names, mode, regs.x1, request);
         Call {
             regs: Regs { x1, ..regs },
             asked,
@@ -59,6 +82,7 @@ impl Description {
         &self,
         board: &Board,
         boot: Core,
+        names: &[Name],
         mode: SuspendMode,
         x1: u64,
         request: Request,
@@ -66,6 +90,7 @@ impl Description {
         requires count { length self.now.mpidrs ≡ cores board.now }
         requires boot { boot.number < cores board.now }
         requires symmetric { is_symmetric board.now boot.number ≡ true }
+        requires names { All (IsName self.now board.now boot.number) names.now }
         ensures argument { result.0
             ≡ first_argument self.now board.now boot.number mode x1 request }
         ensures asked { result.1 ≡ asked_by self.now mode request }
@@ -77,16 +102,32 @@ impl Description {
                 (u64::from(word), asks_states(states))
             }
             Request::CpuOn { target, .. } => {
-                (self.core_word(board, boot, target, 0), Asked::Nothing)
+                (self.word_by(board, boot, names, target, 0), Asked::Nothing)
             }
             Request::AffinityInfo { target, level } | Request::NodeHwState { target, level } => {
-                (self.core_word(board, boot, target, level), Asked::Nothing)
+                (self.word_by(board, boot, names, target, level), Asked::Nothing)
             }
             Request::Features { word } => (u64::from(self.feature_word(word)), Asked::Nothing),
             Request::SystemReset2 { reset_type, .. } => self.reset(reset_type),
             Request::SystemSuspend { .. } => (x1, Asked::States(self.system)),
             _ => (x1, Asked::Nothing),
         }
+    }
+
+    /// The affinity word of the board for an MPIDR at this level: that of a name, if one has it.
+    fn word_by(&self, board: &Board, boot: Core, names: &[Name], mpidr: u64, level: u32) -> u64
+        requires count { length self.now.mpidrs ≡ cores board.now }
+        requires boot { boot.number < cores board.now }
+        requires symmetric { is_symmetric board.now boot.number ≡ true }
+        requires names { All (IsName self.now board.now boot.number) names.now }
+        ensures { result ≡ core_word self.now board.now boot.number mpidr level }
+    {
+        if level == 0 {
+            if let Some(name) = name_in(names, mpidr) {
+                return name.word;
+            }
+        }
+        self.core_word(board, boot, mpidr, level)
     }
 
     /// The function word that the firmware is asked about.
