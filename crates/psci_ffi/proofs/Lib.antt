@@ -11,6 +11,7 @@ pub mod FieldParts
 mod FieldRows
 pub mod GivenBoards
 mod GivenRows
+mod MachineAxisRows
 pub mod MachineCrossing
 pub mod MachineMaking
 mod MachineRows

@@ -15,6 +15,7 @@ mod IdentityRows
 pub mod Machines
 pub mod Missing
 pub mod Named
+pub mod Naming
 pub mod OwnAsked
 pub mod OwnCalls
 pub mod OwnCores

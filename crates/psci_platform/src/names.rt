@@ -24,6 +24,7 @@ pub struct Name {
 
 impl Description {
     /// The names of the cores, in the order of their MPIDRs.
+    #[tactic(auto, using(crate::proofs::Naming::in_any_order))]
     pub fn names(&self, alloc: Global, board: &Board, boot: Core) -> Result<Vec<Name>, Memory>
         requires count { length self.now.mpidrs ≡ cores board.now }
         requires boot { boot.number < cores board.now }
@@ -36,6 +37,7 @@ impl Description {
     }
 
     /// The names of the cores, in the order of the tree.
+    #[tactic(auto, using(crate::proofs::Naming::one_more, crate::proofs::Naming::no_name))]
     fn names_in_order(
         &self,
         alloc: Global,
@@ -48,10 +50,13 @@ impl Description {
         ensures { IfOk result (λ names. All (IsName self.now board.now boot.number) names.items) }
     {
         let mut names = Vec::with_capacity(alloc, self.mpidrs.len())?;
-        for &mpidr in &self.mpidrs {
-            if let Some(core) = self.number_named(board, boot, mpidr, 0) {
-                let word = affinity_word(board, core);
-                names.push(Name { mpidr, word, core })?;
+        for mpidr in &self.mpidrs {
+            if let Some(core) = self.number_named(board, boot, *mpidr, 0) {
+                names.push(Name {
+                    mpidr: *mpidr,
+                    word: affinity_word(board, core),
+                    core,
+                })?;
             }
         }
         Ok(names)
@@ -59,6 +64,7 @@ impl Description {
 }
 
 /// The name with this MPIDR, of names in their order.
+#[tactic(auto, using(crate::proofs::Naming::among))]
 pub fn name_in(names: &[Name], mpidr: u64) -> Option<Name>
     ensures mpidr { IfSome result (λ name. name.mpidr ≡ mpidr) }
     ensures among { IfSome result (Contains names.now) }

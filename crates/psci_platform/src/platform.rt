@@ -103,6 +103,7 @@ impl Platform {
     }
 
     /// The names of the cores, as far as there are any.
+    #[tactic(auto, using(crate::proofs::Naming::no_name))]
     fn names(&self) -> &[Name]
         ensures { All (IsName self.now.description self.now.board self.now.place) result.now }
     {
@@ -120,7 +121,7 @@ impl Platform {
     }
 
     /// The core that an MPIDR names, as the firmware numbers it, if there is one.
-    #[tactic(auto, using(crate::proofs::Checked::some_count))]
+    #[tactic(auto, using(crate::proofs::Checked::some_count, crate::proofs::Naming::number_of, crate::proofs::Naming::inside))]
     pub fn core(&self, mpidr: u64) -> Option<Core>
         ensures core { option_map (λ core. core.number) result
             ≡ number_named self.now.description self.now.board self.now.place mpidr 0 }

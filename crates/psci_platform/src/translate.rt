@@ -33,6 +33,7 @@ pub struct Call {
 
 impl Description {
     /// The call of the firmware for a call of the platform.
+    #[tactic(auto, using(crate::proofs::Naming::no_name))]
     pub fn translate(&self, board: &Board, boot: Core, mode: SuspendMode, regs: Regs) -> Call
         requires count { length self.now.mpidrs ≡ cores board.now }
         requires boot { boot.number < cores board.now }
@@ -115,6 +116,7 @@ impl Description {
     }
 
     /// The affinity word of the board for an MPIDR at this level: that of a name, if one has it.
+    #[tactic(auto, using(crate::proofs::Naming::word_of))]
     fn word_by(&self, board: &Board, boot: Core, names: &[Name], mpidr: u64, level: u32) -> u64
         requires count { length self.now.mpidrs ≡ cores board.now }
         requires boot { boot.number < cores board.now }
