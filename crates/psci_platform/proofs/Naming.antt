@@ -1,10 +1,9 @@
 -- What a name says holds of the core that is searched by it.
-use Rattle.std.proofs.Common.{◌≡◌, ◌∙◌, ◌<◌, ℕ, All, Contains, List, [], ◌∷◌, ◌++◌, ap, length, sym}
+use Rattle.std.proofs.Common.{◌≡◌, ◌∙◌, ◌<◌, ℕ, All, Contains, List, [], ◌∷◌, ap, length, sym}
 use Rattle.std.proofs.Common.{Some, slice_index_or}
-use Rattle.std.proofs.lemmas.List.Elements.{All-contains, All-nil, All-push}
-use Rattle.std.proofs.lemmas.List.Sorted.{All-permutation}
-use Rattle.std.specs.List.Sorted.{IsPermutation}
-use Rattle.std.specs.Prelude.{option_map}
+use Rattle.std.proofs.lemmas.List.Elements.{All-cons, All-contains, All-nil}
+use Rattle.std.proofs.lemmas.List.Sorted.{All-permutation, IsPermutation-insert}
+use Rattle.std.specs.List.{insert}
 use Rattle.psci_board.specs.Board.{BoardValue, address, cores}
 use Rattle.psci_platform.specs.Cores.{core_word, number_named, word_if}
 use Rattle.psci_platform.specs.declared.names.Name.{Name}
@@ -14,17 +13,16 @@ use Rattle.psci_platform.specs.Names.{IsName}
 pub no_name : (d : DescriptionValue) (b : BoardValue) (boot : ℕ) → All (IsName d b boot) []
 no_name d b boot = All-nil (IsName d b boot)
 
-pub one_more : (d : DescriptionValue) (b : BoardValue) (boot : ℕ) (names : List Name) (n : Name)
-    → All (IsName d b boot) names → number_named d b boot n.mpidr 0 ≡ Some n.core.number
+-- a name of a core goes among the others, at any place
+pub one_more : (d : DescriptionValue) (b : BoardValue) (boot : ℕ) (names : List Name) (place : ℕ)
+    (n : Name) → All (IsName d b boot) names
+    → number_named d b boot n.mpidr 0 ≡ Some n.core.number
     → n.word ≡ address b 0 n.core.number → n.core.number < cores b
-    → All (IsName d b boot) (names ++ n ∷ [])
-one_more d b boot names n all core word inside =
-    All-push (IsName d b boot) names n all
-    (record { core = core; word = word; inside = inside })
-
-pub in_any_order : (d : DescriptionValue) (b : BoardValue) (boot : ℕ) (names others : List Name)
-    → IsPermutation names others → All (IsName d b boot) names → All (IsName d b boot) others
-in_any_order d b boot names others same = All-permutation (IsName d b boot) names others same
+    → All (IsName d b boot) (insert names place n)
+one_more d b boot names place n all core word inside =
+    All-permutation (IsName d b boot) (n ∷ names) (insert names place n)
+    (IsPermutation-insert names place n)
+    (All-cons (IsName d b boot) n names (record { core = core; word = word; inside = inside }) all)
 
 -- what is read at a place is among all
 pub among : (names : List Name) (place : ℕ) (n : Name) → place < length names

@@ -1,6 +1,6 @@
 //! The cores of a platform in the order of their MPIDRs, in which one is found by halves.
 
-ghost use Rattle.std.specs.Prelude.{◌≡◌, ◌<◌, true, length, IfOk, IfSome};
+ghost use Rattle.std.specs.Prelude.{◌≡◌, ◌<◌, ◌≤◌, true, length, IfOk, IfSome};
 ghost use Rattle.std.specs.List.{All, Contains};
 ghost use Rattle.psci_board.specs.Board.{cores};
 ghost use Rattle.psci_platform.specs.Names.{IsName};
@@ -24,26 +24,8 @@ pub struct Name {
 
 impl Description {
     /// The names of the cores, in the order of their MPIDRs.
-    #[tactic(auto, using(crate::proofs::Naming::in_any_order))]
-    pub fn names(&self, alloc: Global, board: &Board, boot: Core) -> Result<Vec<Name>, Memory>
-        requires count { length self.now.mpidrs ≡ cores board.now }
-        requires boot { boot.number < cores board.now }
-        requires symmetric { is_symmetric board.now boot.number ≡ true }
-        ensures { IfOk result (λ names. All (IsName self.now board.now boot.number) names.items) }
-    {
-        let mut names = self.names_in_order(alloc, board, boot)?;
-        names.sort_unstable_by_key(|name| name.mpidr);
-        Ok(names)
-    }
-
-    /// The names of the cores, in the order of the tree.
     #[tactic(auto, using(crate::proofs::Naming::one_more, crate::proofs::Naming::no_name))]
-    fn names_in_order(
-        &self,
-        alloc: Global,
-        board: &Board,
-        boot: Core,
-    ) -> Result<Vec<Name>, Memory>
+    pub fn names(&self, alloc: Global, board: &Board, boot: Core) -> Result<Vec<Name>, Memory>
         requires count { length self.now.mpidrs ≡ cores board.now }
         requires boot { boot.number < cores board.now }
         requires symmetric { is_symmetric board.now boot.number ≡ true }
@@ -52,15 +34,23 @@ impl Description {
         let mut names = Vec::with_capacity(alloc, self.mpidrs.len())?;
         for mpidr in &self.mpidrs {
             if let Some(core) = self.number_named(board, boot, *mpidr, 0) {
-                names.push(Name {
+                let name = Name {
                     mpidr: *mpidr,
                     word: affinity_word(board, core),
                     core,
-                })?;
+                };
+                names.insert(place_above(&names, *mpidr), name)?;
             }
         }
         Ok(names)
     }
+}
+
+/// Behind how many names, in their order, an MPIDR stands.
+fn place_above(names: &[Name], mpidr: u64) -> usize
+    ensures { result ≤ length names.now }
+{
+    names.partition_point(|name| name.mpidr <= mpidr)
 }
 
 /// The name with this MPIDR, of names in their order.
@@ -69,7 +59,7 @@ pub fn name_in(names: &[Name], mpidr: u64) -> Option<Name>
     ensures mpidr { IfSome result (λ name. name.mpidr ≡ mpidr) }
     ensures among { IfSome result (Contains names.now) }
 {
-    let above = names.partition_point(|name| name.mpidr <= mpidr);
+    let above = place_above(names, mpidr);
     if above == 0 {
         return None;
     }

@@ -1,7 +1,7 @@
 -- Each name so far is that of a core.
 use Rattle.std.proofs.Common.{All}
 use Rattle.psci_platform.specs.Names.{IsName}
-use Rattle.psci_platform.proofs.names.Description.names_in_order.Given as goal
+use Rattle.psci_platform.proofs.description.Description.names.Given as goal
 
 abbrev pub invariant-loop-mpidr : goal.invariant-loop-mpidr
 invariant-loop-mpidr l = All (IsName l.self l.board l.boot.number) l.names.items
