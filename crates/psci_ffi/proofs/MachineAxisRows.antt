@@ -10,9 +10,7 @@ use Rattle.psci_board.specs.Board.{BoardValue}
 use Rattle.psci_board.specs.declared.fault.BoardFault.{BoardFault}
 use Rattle.psci_board.specs.declared.fault.BoardFault.TheVariants as boards
 use Rattle.psci_fw.specs.Seen.{seen}
-use Rattle.psci_fw_spec.specs.declared.call.FwCall.{FwCall}
 use Rattle.psci_fw_spec.specs.declared.call.FwCall.TheVariants.{Smc}
-use Rattle.psci_fw_spec.specs.declared.mode.SuspendMode.{SuspendMode}
 use Rattle.psci_fw_spec.specs.declared.mode.SuspendMode.TheVariants as modes
 use Rattle.psci_platform.specs.declared.asked.Asked.TheVariants as asks
 use Rattle.psci_platform.specs.declared.class.Class.{Class}
@@ -80,7 +78,8 @@ described = record {
 abbrev last : PlatformValue
 last = record { description = described; board = paired_board; boot = 1; place = 3 }
 
-last_boots : ◌≡◌ {A = Result PlatformValue MachineFault} (machine_on paired paired_board 1) (Ok last)
+last_boots : ◌≡◌ {A = Result PlatformValue MachineFault} (machine_on paired paired_board 1)
+    (Ok last)
 unfolding checking
 last_boots = refl
 
@@ -170,12 +169,12 @@ no_memory_for_no_board : IsMade (Err (Board boards.Memory)) (Err boards.Uneven) 
 no_memory_for_no_board h = let e : ◌≡◌ {A = ℕ} 0 1 = ap truth h in omega arith
 
 -- nor is it said by an opening, which leaves what was there
-no_memory_opens_nothing : OpensMachine (Err (Board boards.Memory)) (Ok paired_board) paired 1 None kept
-    → ⊥
+no_memory_opens_nothing : OpensMachine (Err (Board boards.Memory)) (Ok paired_board) paired 1 None
+    kept → ⊥
 no_memory_opens_nothing h = let e : ◌≡◌ {A = ℕ} 1 0 = ap full h.1 in omega arith
 
-memory_before_a_fault : OpensMachine (Err (Board boards.Memory)) (Err boards.Uneven) paired 1 kept kept
-    → ⊥
+memory_before_a_fault : OpensMachine (Err (Board boards.Memory)) (Err boards.Uneven) paired 1 kept
+    kept → ⊥
 memory_before_a_fault h = let e : ◌≡◌ {A = ℕ} 0 1 = ap truth h.0 in omega arith
 
 -- a fault leaves what was there

@@ -25,7 +25,12 @@ pub struct Name {
 impl Description {
     /// The names of the cores, in the order of their MPIDRs.
     #[tactic(auto, using(crate::proofs::Naming::one_more, crate::proofs::Naming::no_name))]
-    pub fn names(&self, alloc: Global, board: &Board, boot: Core) -> Result<Vec<Name>, Memory>
+    pub(crate) fn names(
+        &self,
+        alloc: Global,
+        board: &Board,
+        boot: Core,
+    ) -> Result<Vec<Name>, Memory>
         requires count { length self.now.mpidrs ≡ cores board.now }
         requires boot { boot.number < cores board.now }
         requires symmetric { is_symmetric board.now boot.number ≡ true }

@@ -93,9 +93,7 @@ impl Platform {
     pub fn in_order(self, alloc: Global) -> Result<Platform, Memory>
         ensures { IfOk result (λ p. p ≡ self) }
     {
-        let names = self
-            .description
-            .names(alloc, &self.board, self.boot_core)?;
+        let names = self.description.names(alloc, &self.board, self.boot_core)?;
         Ok(Platform {
             names: Some(names),
             ..self

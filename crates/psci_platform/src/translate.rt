@@ -46,7 +46,7 @@ impl Description {
 
     /// The same, where these are names of cores.
     #[tactic(auto, unfolding(crate::specs::Calls::regs_for, crate::specs::Calls::asked_for))]
-    pub fn translate_by(
+    pub(crate) fn translate_by(
         &self,
         board: &Board,
         boot: Core,
@@ -106,7 +106,10 @@ impl Description {
                 (self.word_by(board, boot, names, target, 0), Asked::Nothing)
             }
             Request::AffinityInfo { target, level } | Request::NodeHwState { target, level } => {
-                (self.word_by(board, boot, names, target, level), Asked::Nothing)
+                (
+                    self.word_by(board, boot, names, target, level),
+                    Asked::Nothing,
+                )
             }
             Request::Features { word } => (u64::from(self.feature_word(word)), Asked::Nothing),
             Request::SystemReset2 { reset_type, .. } => self.reset(reset_type),
