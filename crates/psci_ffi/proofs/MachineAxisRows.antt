@@ -1,6 +1,6 @@
--- Worked examples along the axes: a machine of two clusters whose MPIDRs are no places, with words
--- of which not all bits count and two states of one class, in either mode; and what an opening
--- leaves in its place, and what none does.
+-- Worked examples: a machine of two clusters whose MPIDRs are no places, with words of which not
+-- all bits count and two states of one class, in either mode; and what an opening leaves in its
+-- place.
 use Rattle.std.proofs.Common.{◌≡◌, ◌∙◌, ℕ, Bool, List, [], ◌∷◌, ◌++◌, map, true, false, refl, ap}
 use Rattle.std.proofs.Common.{replicate, arith}
 use Rattle.std.specs.Prelude.{Result, Ok, Err, None, Some}
@@ -88,15 +88,15 @@ kept = Some last
 
 -- Names -----------------------------------------------------------------------------------------
 
-numbers_by_mpidr : map (core_read kept) (0x100 ∷ 0x101 ∷ 0 ∷ 1 ∷ 2 ∷ [])
+numbers_of_pairs : map (core_read kept) (0x100 ∷ 0x101 ∷ 0 ∷ 1 ∷ 2 ∷ [])
     ≡ 3 ∷ 2 ∷ 1 ∷ 0 ∷ 0xFFFF ∷ []
 unfolding calling
-numbers_by_mpidr = refl
+numbers_of_pairs = refl
 
-mpidrs_by_number : map (mpidr_read kept) (3 ∷ 2 ∷ 1 ∷ 0 ∷ [])
+mpidrs_of_pairs : map (mpidr_read kept) (3 ∷ 2 ∷ 1 ∷ 0 ∷ [])
     ≡ 0x100 ∷ 0x101 ∷ 0 ∷ 1 ∷ []
 unfolding calling
-mpidrs_by_number = refl
+mpidrs_of_pairs = refl
 
 -- of the clusters and of the system
 places_of_domains : map (place_read kept) (record { level = 1; place = 0 }

@@ -118,15 +118,26 @@ impl Platform {
         &self.board
     }
 
+    /// The core whose name has an MPIDR, if there is one.
+    #[tactic(auto, using(crate::proofs::Naming::number_of, crate::proofs::Naming::inside))]
+    fn core_by_name(&self, mpidr: u64) -> Option<Core>
+        ensures core { IfSome result (λ core. Some core.number
+            ≡ number_named self.now.description self.now.board self.now.place mpidr 0) }
+        ensures inside { IfSome result (λ core. core.number < cores self.now.board) }
+    {
+        let name = name_in(self.names(), mpidr)?;
+        Some(name.core)
+    }
+
     /// The core that an MPIDR names, as the firmware numbers it, if there is one.
-    #[tactic(auto, using(crate::proofs::Checked::some_count, crate::proofs::Naming::number_of, crate::proofs::Naming::inside))]
+    #[tactic(auto, using(crate::proofs::Checked::some_count))]
     pub fn core(&self, mpidr: u64) -> Option<Core>
         ensures core { option_map (λ core. core.number) result
             ≡ number_named self.now.description self.now.board self.now.place mpidr 0 }
         ensures inside { IfSome result (λ core. core.number < cores self.now.board) }
     {
-        if let Some(name) = name_in(self.names(), mpidr) {
-            return Some(name.core);
+        if let Some(core) = self.core_by_name(mpidr) {
+            return Some(core);
         }
         self.description
             .number_named(&self.board, self.boot_core, mpidr, 0)
