@@ -1,6 +1,7 @@
 /* A firmware of yours, or an emulation of one, beside the proved library, call by call in one process
- * (docs/BESIDE.md). hosts/beside/beside.c is the code. It allocates nothing after the opening, and
- * knows of no fuzzer, so that a unit test can use it. */
+ * (docs/BESIDE.md). A user compiles one file, hosts/beside/beside.c, and links the archive with a heap
+ * (hosts/pool.c). It allocates nothing after the opening, and knows of no fuzzer, so that a unit test
+ * can use it (tests/beside-unit.c). */
 #ifndef GUMDARTS_PSCI_BESIDE_H
 #define GUMDARTS_PSCI_BESIDE_H
 
@@ -94,6 +95,7 @@ struct psci_beside_profile {
  * the call once all is taken out of it that doesn't matter. */
 struct psci_beside_difference {
     struct psci_beside_event event;
+    const char *function; /* the name of the function that was called; null of another event or function */
     struct psci_beside_did ours, theirs;
     char key[160];
     const char *clause; /* the definition that our answer follows from, in crates/psci_fw_spec/specs */

@@ -12,6 +12,11 @@ extern const struct psci_beside_peer psci_beside_target;
 extern const struct psci_beside_profile profile;
 extern const char *const known[];
 
+/* The bytes that events are drawn from, the next event, and whether none is left. */
+void draw_from(const uint8_t *data, size_t size);
+struct psci_beside_event draw_event(const struct psci_beside *);
+bool is_drawn(void);
+
 /* Each story of a stored report once more: 0 where each comes to its group. */
 int stories(const char *path);
 
