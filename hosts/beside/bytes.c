@@ -7,33 +7,12 @@
  *   bytes --files LIST             a file in this folder for each input, for a fuzzer to begin with
  *
  * With a fuzzer in it, it has no main. */
+#include "heap.h"
 #include "psci_ctl.h"
 
 #include <stdio.h>
 #include <stdlib.h>
 #include <string.h>
-
-/* ---- The heap: of the machine, so that a sanitizer sees where a block ends */
-
-static size_t granted;
-
-struct psci_block rattle_alloc(size_t size, size_t align) {
-    static _Alignas(16) unsigned char nowhere[16];
-    void *block = granted ? malloc(size ? size : align) : NULL;
-    granted -= granted != 0;
-    return block ? (struct psci_block){1, block} : (struct psci_block){0, nowhere};
-}
-
-void rattle_dealloc(void *block) { free(block); }
-
-struct psci_block rattle_realloc(void *block, size_t kept, size_t size, size_t align) {
-    struct psci_block made = rattle_alloc(size, align);
-    if (made.ok) {
-        memcpy(made.block, block, kept < size ? kept : size);
-        free(block);
-    }
-    return made;
-}
 
 /* ---- What is called, and what it can answer */
 
