@@ -1,4 +1,4 @@
-/* A target for bytes that the library reads: the text of a board, a board as a struct, and frames
+/* A target for bytes that the library reads: the text of a board, a board as a struct, a machine, and frames
  * (docs/BESIDE.md). The first byte of an input says which, as `ways` below has it. Whatever comes, the
  * halves of the library have to agree on it, and a frame that is read has to be written back as it was.
  *
@@ -16,13 +16,13 @@
 
 /* ---- What is called, and what it can answer */
 
-enum { DECODE, TAKE, DELIVER, OPEN, OPEN_BOARD, CALLS, NONE = 255 };
+enum { DECODE, TAKE, DELIVER, OPEN, OPEN_BOARD, OPEN_MACHINE, CALLS, MOST = 128, NONE = 255 };
 static uint8_t answers[CALLS];
-static uint64_t came[CALLS];
+static bool came[CALLS][MOST];
 
 static void answered(int call, uint32_t answer) {
     answers[call] = answer;
-    came[call] |= UINT64_C(1) << (answer & 63);
+    came[call][answer % MOST] = true;
 }
 
 static void hold(bool holds, const char *what) {
@@ -34,6 +34,7 @@ static void hold(bool holds, const char *what) {
 
 static struct psci_place firmware;
 static struct psci_ctl_place controller;
+static struct psci_machine_place machine;
 
 /* A firmware of two clusters in which core 0 has started core 3, and its power controller. */
 static void begin(void) {
@@ -69,6 +70,26 @@ static void read_board(const uint8_t *bytes, size_t size) {
     hold(what != PSCI_OPENED || psci_height(&firmware) == board.height, "another height");
 }
 
+/* A board, what the machine calls its things, and the MPIDR of its boot core. */
+static void read_machine(const uint8_t *bytes, size_t size) {
+    static struct {
+        struct psci_board board;
+        struct psci_machine machine;
+        uint64_t boot;
+    } given;
+    size_t memory = granted;
+    memset(&given, 0, sizeof given);
+    memcpy(&given, bytes, size < sizeof given ? size : sizeof given);
+    uint32_t what = psci_open_machine(&machine, &given.board, &given.machine, given.boot);
+    answered(OPEN_MACHINE, what);
+    hold(machine.full == (what == PSCI_OPENED), "a machine that is at fault opens a place");
+    hold(!machine.full || psci_core_of(&machine, given.boot) == 0, "the boot core has another number");
+    granted = memory;
+    uint32_t other = psci_open_board(&firmware, &given.board);
+    hold(memory != SIZE_MAX || (other == PSCI_OPENED) == (what == PSCI_OPENED || what >= PSCI_MACHINE_NO_ROOM),
+         "firmware and machine read a board differently");
+}
+
 static void read_frame(const uint8_t *bytes, size_t size) {
     struct psci_message fields;
     struct psci_frame again;
@@ -91,7 +112,7 @@ static void read_frame(const uint8_t *bytes, size_t size) {
 
 /* A text or a struct, where there is memory or none; a frame, in places that are open or empty. */
 static const struct {
-    char word[12], letter;
+    char word[16], letter;
     void (*read)(const uint8_t *, size_t);
     bool has_memory;
     int first, last; /* whose answers these are */
@@ -99,6 +120,8 @@ static const struct {
             {"text-none", 'T', read_text, false, OPEN, OPEN},
             {"struct", 'b', read_board, true, OPEN_BOARD, OPEN_BOARD},
             {"struct-none", 'B', read_board, false, OPEN_BOARD, OPEN_BOARD},
+            {"machine", 'm', read_machine, true, OPEN_MACHINE, OPEN_MACHINE},
+            {"machine-none", 'M', read_machine, false, OPEN_MACHINE, OPEN_MACHINE},
             {"frame", 'f', read_frame, true, DECODE, DELIVER},
             {"frame-none", 'F', read_frame, false, DECODE, DELIVER}};
 enum { WAYS = sizeof ways / sizeof *ways };
@@ -118,6 +141,7 @@ int LLVMFuzzerTestOneInput(const uint8_t *data, size_t size) {
         ways[at].read(bytes, size - 1);
         psci_close(&firmware);
         psci_ctl_close(&controller);
+        psci_close_machine(&machine);
         free(bytes);
     }
     return 0;
@@ -127,12 +151,27 @@ int LLVMFuzzerTestOneInput(const uint8_t *data, size_t size) {
 
 /* ---- Lists */
 
-enum { MOST_INPUTS = 256, MOST_INPUT = 2048, MOST = 64 };
-static const char *const names[] = {"psci_decode", "psci_take", "psci_ctl_deliver", "psci_open", "psci_open_board"};
-/* PSCI_OPENED to PSCI_NO_MEMORY; PSCI_FRAME_LENGTH to PSCI_FRAME_LEVEL, and without a place
- * PSCI_NO_FIRMWARE; PSCI_OLD and PSCI_FRAME_NOT_AN_ACK; PSCI_CTL_RESTART and PSCI_CTL_NOT_A_MESSAGE */
-static const uint64_t frames = UINT64_C(0xff) << 33 | 1 << 16 | 1;
-static const uint64_t can[] = {frames, frames | UINT64_C(1) << 41 | 2, frames | UINT64_C(1) << 42 | 0x1e, 0x1ff, 0x1ff};
+enum { MOST_INPUTS = 256, MOST_INPUT = 4608 };
+static const char *const names[] = {"psci_decode", "psci_take", "psci_ctl_deliver", "psci_open", "psci_open_board",
+                                    "psci_open_machine"};
+
+/* Whether a call can have an answer: PSCI_OPENED to PSCI_NO_MEMORY; of a machine its faults, too, but for two
+ * that a struct cannot have; PSCI_FRAME_LENGTH to PSCI_FRAME_LEVEL, and without a place PSCI_NO_FIRMWARE;
+ * PSCI_OLD and PSCI_FRAME_NOT_AN_ACK; PSCI_CTL_RESTART and PSCI_CTL_NOT_A_MESSAGE. */
+static bool can_come(int call, int answer) {
+    bool opens = answer <= PSCI_NO_MEMORY, is_frame = answer >= PSCI_FRAME_LENGTH && answer <= PSCI_FRAME_LEVEL;
+    switch (call) {
+    case OPEN: case OPEN_BOARD: return opens;
+    case OPEN_MACHINE:
+        return opens || (answer >= PSCI_MACHINE_NO_ROOM && answer <= PSCI_MACHINE_BAD_FUNCTIONS &&
+                         answer != PSCI_MACHINE_FALLING_CLASS && answer != PSCI_MACHINE_TOO_MANY_ROWS);
+    case TAKE: return is_frame || answer == 0 || answer == 16 || answer == PSCI_OLD || answer == PSCI_FRAME_NOT_AN_ACK;
+    case DELIVER:
+        return is_frame || answer == 0 || answer == 16 || (answer >= 1 && answer <= PSCI_CTL_RESTART) ||
+               answer == PSCI_CTL_NOT_A_MESSAGE;
+    }
+    return is_frame || answer == 0 || answer == 16;
+}
 
 static struct {
     size_t size;
@@ -145,7 +184,7 @@ static bool is_wrong;
 static size_t read_bytes(const char *from, uint8_t *to) {
     size_t size = 0;
     char *next = NULL;
-    while (*from && size < MOST_INPUT - 256) {
+    while (*from && size < MOST_INPUT - 2) {
         char pair[] = {from[0], from[1], 0};
         if (*from == '.') {
             for (unsigned long zeros = strtoul(from + 1, &next, 10); zeros && size < MOST_INPUT; zeros--)
@@ -189,7 +228,7 @@ static void read_line(char *line, bool tries) {
 }
 
 static void read_list(const char *path, bool tries) {
-    static char line[4 * MOST_INPUT];
+    static char line[3 * MOST_INPUT];
     FILE *file = fopen(path, "r");
     if (!file) {
         perror(path);
@@ -206,7 +245,7 @@ static void read_list(const char *path, bool tries) {
 static void all_came(void) {
     for (int call = 0; call < CALLS; call++)
         for (int answer = 0; answer < MOST; answer++)
-            if ((can[call] & ~came[call]) >> answer & 1) {
+            if (can_come(call, answer) && !came[call][answer]) {
                 printf("no input reaches %d of %s\n", answer, names[call]);
                 is_wrong = true;
             }

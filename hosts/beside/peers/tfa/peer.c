@@ -13,39 +13,26 @@ static jmp_buf away;
 static struct psci_beside_did out;
 
 /* The core executes nothing more: what has become of it. */
-static void __dead2 leave(uint32_t what) {
+static void leave(uint32_t what) {
     out.what = what;
     longjmp(away, 1);
 }
 
-void __dead2 psci_power_down_wfi(void) { leave(PSCI_STOP); }
-void __dead2 panic(void) { leave(PSCI_BESIDE_NOTHING); }
-static void __dead2 end(void) { leave(PSCI_BESIDE_ENDS); }
-void prepare_cpu_pwr_dwn(unsigned int level) {}
-void psci_do_pwrdown_cache_maintenance(unsigned int level) {}
-void psci_do_pwrup_cache_maintenance(void) {}
-u_register_t psci_mem_protect(unsigned int enable) { return PSCI_E_NOT_SUPPORTED; }
-u_register_t psci_mem_chk_range(uintptr_t base, u_register_t length) { return PSCI_E_NOT_SUPPORTED; }
+void psci_power_down_wfi(void) { leave(PSCI_STOP); }
+void panic(void) { leave(PSCI_BESIDE_NOTHING); }
+static void end(void) { leave(PSCI_BESIDE_ENDS); }
 void zeromem(void *at, u_register_t length) { memset(at, 0, length); }
-void spin_lock(spinlock_t *lock) {
-    if (lock->lock++)
-        panic();
-}
-
+void spin_lock(spinlock_t *lock) { lock->lock++ ? panic() : (void)0; }
 void spin_unlock(spinlock_t *lock) { lock->lock = 0; }
 void cm_init_context_by_index(unsigned int core, const entry_point_info_t *entry) { entries[core] = *entry; }
-
 void cm_prepare_el3_exit_ns(void) {
     out = (struct psci_beside_did){.what = PSCI_ENTER, .address = entries[me].pc, .context = entries[me].args.arg0};
 }
 
 u_register_t mpidr_of(unsigned int core) { return (core / PER_CLUSTER) << 8 | core % PER_CLUSTER; }
-
 int plat_core_pos_by_mpidr(u_register_t mpidr) {
-    for (unsigned int core = 0; core < PLATFORM_CORE_COUNT; core++)
-        if (mpidr_of(core) == mpidr)
-            return core;
-    return -1;
+    unsigned int core = (mpidr >> 8) * PER_CLUSTER + (uint8_t)mpidr;
+    return core < PLATFORM_CORE_COUNT && mpidr_of(core) == mpidr ? core : -1;
 }
 
 const unsigned char *plat_get_power_domain_tree_desc(void) {
@@ -74,14 +61,10 @@ static void tell(const psci_power_state_t *state) { told = *state; }
 static void finish(const psci_power_state_t *state) {}
 static void standby(plat_local_state_t state) {}
 static void whole_system(psci_power_state_t *asked) { memset(asked, PLAT_MAX_OFF_STATE, sizeof *asked); }
-static const plat_psci_ops_t operations = {
-    .cpu_standby = standby, .pwr_domain_on = on, .pwr_domain_off = tell, .pwr_domain_suspend = tell,
-    .pwr_domain_on_finish = finish, .pwr_domain_suspend_finish = finish, .system_off = end, .system_reset = end,
-    .validate_power_state = validate, .validate_ns_entrypoint = validate_entry,
-    .get_sys_suspend_power_state = whole_system,
-};
-
 int plat_setup_psci_ops(uintptr_t entry, const plat_psci_ops_t **ops) {
+    static const plat_psci_ops_t operations = {standby, on, tell, .pwr_domain_suspend = tell, .system_off = end,
+        .pwr_domain_on_finish = finish, .pwr_domain_suspend_finish = finish, .system_reset = end,
+        .validate_power_state = validate, .validate_ns_entrypoint = validate_entry, .get_sys_suspend_power_state = whole_system};
     *ops = &operations;
     return 0;
 }
@@ -99,8 +82,7 @@ static void tfa_call(void *self, uint32_t core, const uint64_t x[4], struct psci
         out.x0 = psci_smc_handler(x[0], x[1], x[2], x[3], 0, NULL, NULL, 1);
     *did = out;
     did->told = did->what == PSCI_STOP;
-    for (int level = 0; level < 3; level++)
-        did->depths[level] = told.pwr_domain_state[level];
+    memcpy(did->depths, told.pwr_domain_state, 3);
 }
 
 static void tfa_enter(void *self, uint32_t core, uint32_t cause, struct psci_beside_did *did) {
@@ -111,6 +93,5 @@ static void tfa_enter(void *self, uint32_t core, uint32_t cause, struct psci_bes
 }
 
 static uint32_t tfa_status(void *self, uint32_t core) { return cpus[core].psci_svc_cpu_data.aff_info_state; }
-
 const struct psci_beside_peer psci_beside_target = {.name = "TF-A", .open = tfa_open, .call = tfa_call,
     .enter = tfa_enter, .status = tfa_status, .save = statics_save};
