@@ -1,6 +1,7 @@
 # Peers beside the library in one process (docs/BESIDE.md), sourced by ../test after tests/ffi.sh: our own
-# library behind the edge of a port, without a fault and with each that is planted; and each story of the
-# stored report of a peer whose sources are here.
+# library behind the edge of a port, without a fault and with each that is planted; the library with a sanitizer
+# and by the kit's other compiler; what it reads, and what machines call their things; and of a peer whose sources
+# are here the stored inputs and each story of its report.
 
 beside=hosts/beside
 
@@ -51,6 +52,95 @@ boards_beside() {
     unset PROFILE
 }
 
+# has_own_stories KIND: inputs and blind lists on a target of the library beside itself, which is $work/beside/KIND
+has_own_stories() {
+    "$work/beside/$1" "$work/beside/inputs"/* > "$work/out" 2>&1 && "$work/beside/$1" --draws 300 >> "$work/out" 2>&1
+}
+
+# a unit test as a firmware's own project would write it: it links one C file of ours, a heap and the archive
+unit_beside() {
+    build_c beside-unit tests/beside-unit.c "$beside/beside.c" || return
+    if "$work/beside-unit" > "$work/out" 2>&1; then pass; else
+        fail tests/beside-unit.c
+        cat "$work/out"
+    fi
+    # a firmware that keeps the context id does not differ there, which the test has to tell
+    sed 's/^    did->address = mine->entry\[core\];/&\n    did->context = 7;/' tests/beside-unit.c > "$work/keeps.c"
+    build_c keeps "$work/keeps.c" "$beside/beside.c" || return
+    if ! "$work/keeps" > "$work/out" 2>&1 && grep -q 'the context id is not missed' "$work/out"; then pass; else
+        fail "tests/beside-unit.c: a firmware without its fault is not told"
+    fi
+}
+
+# the library with AddressSanitizer, and as the kit's other compiler makes it, over the check that is kept: beside
+# itself, and on what it reads; a block of the heap that is too short has to be told
+compiled_beside() {
+    local archives=out/beside/archives
+    built_archive rattle && OTHER=$archives/rattle.a build_beside own by-rattle && has_own_stories by-rattle && pass ||
+        fail "the library as the kit's other compiler makes it, beside itself"
+    has_clang_runtime || { skip "the library with a sanitizer" "clang with libclang-rt-14-dev"; return; }
+    built_archive sanitized && sanitized_beside "$archives/sanitized.a"
+}
+
+built_archive() {
+    "$beside/archives" "$1" > "$work/out" 2>&1 || { fail "$beside/archives $1"; tail -n 5 "$work/out"; false; }
+}
+
+has_clang_runtime() {
+    echo 'int main(void) { return 0; }' > "$work/empty.c"
+    clang -fsanitize=address -o "$work/empty" "$work/empty.c" 2> /dev/null
+}
+
+# with_sanitizer ARCHIVE WORD..: hosts/beside/build with these words over an archive with a sanitizer
+with_sanitizer() {
+    env CC=clang CFLAGS="-O1 -g -fsanitize=address" ARCHIVE="$1" OUT="$work/beside/sanitized" LIB_FUZZING_ENGINE=none \
+        "${@:2}" > "$work/err" 2>&1 || { fail "$beside/build with a sanitizer"; tail -n 5 "$work/err"; false; }
+}
+
+sanitized_beside() {
+    local folder=$work/beside/sanitized
+    with_sanitizer "$1" "$beside/build" own bytes machines || return
+    if {
+        "$folder/own" "$work/beside/inputs"/* && "$folder/own" --draws 100 && "$folder/bytes" "$beside/bytes.txt" &&
+            "$folder/bytes" --draws 5000 "$beside/bytes.txt" && "$folder/machines" --draws 1000
+    } > "$work/out" 2>&1; then pass; else
+        fail "the library with a sanitizer"
+        tail -n 20 "$work/out"
+    fi
+    echo 's/malloc(size ? size : align)/malloc(size > 8 ? size - 1 : align)/' > "$work/edit"
+    with_sanitizer "$1" EDIT="$work/edit" NAME=short "$beside/build" bytes || return
+    ! "$folder/short" "$beside/bytes.txt" > "$work/out" 2>&1
+    if grep -q '^SUMMARY: AddressSanitizer: heap-buffer-overflow' "$work/out"; then pass; else
+        fail "the library with a sanitizer: a block that is too short is not told"
+    fi
+}
+
+# machines in their own words: blind lists reach each fault that there is, calls that ask for states and for resets, and
+# each wrong meaning of a word shows in them
+machines_beside() {
+    local name edit fault missed='' status
+    build_beside machines machines || return
+    if "$work/beside/machines" --draws 5000 > "$work/out" 2>&1; then pass; else
+        fail "$beside/machines.c"
+        tail -n 3 "$work/out"
+    fi
+    for fault in 64 65 66 67 68 69 70 73 74 75 76 77 78; do
+        grep -qE "^fault $fault: [1-9]" "$work/out" || missed+=" $fault"
+    done
+    if [ -z "$missed" ] && grep -qE '[0-9]{3} with states, [0-9]{3} with a reset$' "$work/out"; then pass; else
+        fail "$beside/machines.c: draws do not reach$missed, or ask too little"
+    fi
+    while IFS='|' read -r name edit; do
+        echo "$edit" > "$work/edit"
+        build_beside machines faulty-machines "$work/edit" || continue
+        status=0
+        { "$work/beside/faulty-machines" --draws 5000 > "$work/out" 2>&1 || status=$?; } 2> /dev/null
+        if [ "$status" -ge 128 ] && grep -q '^machines: ' "$work/out"; then pass; else
+            fail "$beside: draws of machines do not show (status $status): $name"
+        fi
+    done < "$beside/naming-faults"
+}
+
 # what the library reads: every answer that it can have comes, which the second model has, too; where no input
 # has it any more, that is told; and what is changed blindly is read alike by both halves
 bytes_beside() {
@@ -64,8 +154,8 @@ bytes_beside() {
     sed '/^text 4/d' "$list" > "$work/list"
     "$work/beside/bytes" "$work/list" > "$work/out" 2>&1
     if grep -q '^no input reaches 4 of psci_open$' "$work/out"; then pass; else fail "$beside/bytes: a fault without an input"; fi
-    sed 's/^frame 39 39 39/frame 39 39 40/; s/^text 6/text 5/' "$list" > "$work/list"
-    if ! "$work/beside/bytes" "$work/list" > "$work/out" 2>&1 && [ "$(grep -c ' and not ' "$work/out")" = 4 ] &&
+    sed 's/^frame 39 39 39/frame 39 39 40/; s/^text 6/text 5/; s/^machine 77/machine 78/' "$list" > "$work/list"
+    if ! "$work/beside/bytes" "$work/list" > "$work/out" 2>&1 && [ "$(grep -c ' and not ' "$work/out")" = 6 ] &&
         ! tests/bytes-by-model "$work/list" > /dev/null; then pass; else fail "$beside/bytes: answers at fault"; fi
 }
 
@@ -83,28 +173,40 @@ swept_beside() {
     fi
 }
 
-# what was found of a peer stays found
+# what was found of a peer stays found: each story is a script, whether its sources are here or not
 stories_beside() {
-    local peer
+    local peer cache=${GUMDARTS_CACHE:-$HOME/.cache/gumdarts}/beside
+    if "$beside/scripts" --check kvm qemu tfa xen > "$work/out"; then pass; else
+        fail "$beside/scripts --check"
+        cat "$work/out"
+    fi
+    { cat "$beside/peers/tfa/report"; printf '\n= never seen\n  ours: x\n  | board 4\n  | wake 3\n'; } > "$work/report"
+    if ! REPORT=$work/report "$beside/scripts" --check tfa > "$work/out" && grep -q 'never seen' "$work/out"; then pass; else
+        fail "$beside/scripts --check: a story without a script is not told"
+    fi
     for peer in kvm qemu tfa xen; do
-        if [ ! -d "${GUMDARTS_CACHE:-$HOME/.cache/gumdarts}/beside/$(sed -n 's/^package=//p' "$beside/peers/$peer/build")" ]; then
+        if [ ! -d "$cache/$(sed -n 's/^package=//p' "$beside/peers/$peer/build")" ]; then
             skip "the stories of $peer" "source package of it"
             continue
         fi
         build_beside "$peer" "$peer" || continue
-        if "$work/beside/$peer" --stories "$beside/peers/$peer/report" > "$work/out" 2>&1; then pass; else
+        "$beside/corpus" --unpack "$peer" "$work/beside/inputs-$peer"
+        if "$work/beside/$peer" --stories "$beside/peers/$peer/report" > "$work/out" 2>&1 &&
+            "$work/beside/$peer" "$work/beside/inputs-$peer"/* >> "$work/out" 2>&1; then pass; else
             fail "$beside/peers/$peer/report"
             tail -n 5 "$work/out"
         fi
     done
 }
 
-# what was found is written as scripts, too, which stand in tests/scripts/beside
 in_one_process() {
     has_cc "peers in one process" && has_python "peers in one process" && has_xz "peers in one process" || return
+    unit_beside
     own_beside
     boards_beside
     swept_beside
     bytes_beside
+    machines_beside
+    compiled_beside
     stories_beside
 }
