@@ -71,7 +71,7 @@ static void difference(const char *key, const char *function, const char *clause
     const struct psci_beside_difference *d = &side.difference;
     holds(strcmp(d->key, key) == 0, d->key);
     holds(function ? d->function && strcmp(d->function, function) == 0 : !d->function, "the function");
-    holds(strcmp(d->clause, clause) == 0, d->clause);
+    holds(d->clause && strcmp(d->clause, clause) == 0, "the clause");
     holds(d->is_undone, "it is not undone");
 }
 

@@ -199,6 +199,21 @@ stories_beside() {
     done
 }
 
+# what TF-A does within a call, where its sources are here; a TF-A that never says OFF does not do it
+moments_beside() {
+    [ -x "$work/beside/tfa-moments" ] || return 0
+    if "$work/beside/tfa-moments" > "$work/out" 2>&1 && [ "$(cut -d : -f 1 "$work/out" | xargs)" = '1 3 4 9' ]; then pass; else
+        fail "$beside/peers/tfa/moments.c"
+        cat "$work/out"
+    fi
+    echo 's/psci_set_aff_info_state(AFF_STATE_OFF)/psci_set_aff_info_state(AFF_STATE_ON)/' > "$work/edit"
+    build_beside tfa always-on "$work/edit" || return
+    "$work/beside/always-on-moments" > "$work/out" 2>&1
+    if [ $? = 1 ] && grep -q '^1: not seen' "$work/out" && grep -q '^9: not seen' "$work/out"; then pass; else
+        fail "$beside/peers/tfa/moments.c: a TF-A that never says OFF is not told"
+    fi
+}
+
 in_one_process() {
     has_cc "peers in one process" && has_python "peers in one process" && has_xz "peers in one process" || return
     unit_beside
@@ -209,4 +224,5 @@ in_one_process() {
     machines_beside
     compiled_beside
     stories_beside
+    moments_beside
 }
