@@ -148,29 +148,25 @@ int LLVMFuzzerTestOneInput(const uint8_t *data, size_t size) {
 }
 
 #ifndef FUZZED
-
 /* ---- Lists */
 
 enum { MOST_INPUTS = 256, MOST_INPUT = 4608 };
-static const char *const names[] = {"psci_decode", "psci_take", "psci_ctl_deliver", "psci_open", "psci_open_board",
-                                    "psci_open_machine"};
+static const char *const names[] = {"psci_decode", "psci_take",       "psci_ctl_deliver",
+                                    "psci_open",   "psci_open_board", "psci_open_machine"};
 
 /* Whether a call can have an answer: PSCI_OPENED to PSCI_NO_MEMORY; of a machine its faults, too, but for two
  * that a struct cannot have; PSCI_FRAME_LENGTH to PSCI_FRAME_LEVEL, and without a place PSCI_NO_FIRMWARE;
  * PSCI_OLD and PSCI_FRAME_NOT_AN_ACK; PSCI_CTL_RESTART and PSCI_CTL_NOT_A_MESSAGE. */
 static bool can_come(int call, int answer) {
     bool opens = answer <= PSCI_NO_MEMORY, is_frame = answer >= PSCI_FRAME_LENGTH && answer <= PSCI_FRAME_LEVEL;
-    switch (call) {
-    case OPEN: case OPEN_BOARD: return opens;
-    case OPEN_MACHINE:
+    if (call == OPEN || call == OPEN_BOARD)
+        return opens;
+    if (call == OPEN_MACHINE)
         return opens || (answer >= PSCI_MACHINE_NO_ROOM && answer <= PSCI_MACHINE_BAD_FUNCTIONS &&
                          answer != PSCI_MACHINE_FALLING_CLASS && answer != PSCI_MACHINE_TOO_MANY_ROWS);
-    case TAKE: return is_frame || answer == 0 || answer == 16 || answer == PSCI_OLD || answer == PSCI_FRAME_NOT_AN_ACK;
-    case DELIVER:
-        return is_frame || answer == 0 || answer == 16 || (answer >= 1 && answer <= PSCI_CTL_RESTART) ||
-               answer == PSCI_CTL_NOT_A_MESSAGE;
-    }
-    return is_frame || answer == 0 || answer == 16;
+    return is_frame || answer == 0 || answer == PSCI_NO_FIRMWARE ||
+           (call == TAKE && (answer == PSCI_OLD || answer == PSCI_FRAME_NOT_AN_ACK)) ||
+           (call == DELIVER && (answer <= PSCI_CTL_RESTART || answer == PSCI_CTL_NOT_A_MESSAGE));
 }
 
 static struct {
@@ -254,8 +250,7 @@ static void all_came(void) {
 
 static uint64_t seed = 1;
 static uint64_t draw(void) {
-    seed ^= seed << 13;
-    seed ^= seed >> 7;
+    seed ^= seed << 13, seed ^= seed >> 7;
     return (seed ^= seed << 17) >> 16;
 }
 
@@ -302,5 +297,4 @@ int main(int count, char **words) {
         draw_one();
     return is_wrong;
 }
-
 #endif
