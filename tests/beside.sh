@@ -72,10 +72,12 @@ unit_beside() {
     fi
 }
 
-# the library with AddressSanitizer, and as the kit's other compiler makes it, over the check that is kept: beside
-# itself, and on what it reads; a block of the heap that is too short has to be told
+# the library as it is compiled without a proof; over the check that is kept as the kit's other compiler makes it, and
+# with AddressSanitizer: beside itself, and on what it reads; a block of the heap that is too short has to be told
 compiled_beside() {
     local archives=out/beside/archives
+    built_archive --unproved plain && ARCHIVE=$archives/plain.a build_beside own unproved && has_own_stories unproved &&
+        pass || fail "the library as it is compiled without a proof, beside itself"
     built_archive rattle && OTHER=$archives/rattle.a build_beside own by-rattle && has_own_stories by-rattle && pass ||
         fail "the library as the kit's other compiler makes it, beside itself"
     has_clang_runtime || { skip "the library with a sanitizer" "clang with libclang-rt-14-dev"; return; }
@@ -83,7 +85,7 @@ compiled_beside() {
 }
 
 built_archive() {
-    "$beside/archives" "$1" > "$work/out" 2>&1 || { fail "$beside/archives $1"; tail -n 5 "$work/out"; false; }
+    "$beside/archives" "$@" > "$work/out" 2>&1 || { fail "$beside/archives $*"; tail -n 5 "$work/out"; false; }
 }
 
 has_clang_runtime() {
