@@ -16,6 +16,10 @@ class Broken(Exception):
     """A story that does not hold, and why."""
 
 
+class Missing(Exception):
+    """A story that cannot run here, for want of what the text says."""
+
+
 def wants(holds, text):
     if not holds:
         raise Broken(text)

@@ -14,6 +14,11 @@ NUMBERS = ("runs", "lists", "events")
 SPREAD, WORD = 0x9E3779B97F4A7C15, 2 ** 64
 
 
+def keys_of(report):
+    """The groups of a report, with = or + before those that the stored one has or has not."""
+    return [line for line in report.decode(errors="replace").splitlines() if line[:2] in ("= ", "+ ")]
+
+
 class Beside:
     """Some lists of each seed, by a target that hosts/beside/build has made without a fuzzer."""
     NAME = "beside"
@@ -62,7 +67,7 @@ class Beside:
         if ran.returncode or not last:
             why = ran.stderr.decode(errors="replace").strip().splitlines() or ["it says nothing"]
             return found, [f"status {ran.returncode}: {why[0][:80]}"]
-        keys = [line for line in report.decode(errors="replace").splitlines() if line[:2] in ("= ", "+ ")]
+        keys = keys_of(report)
         found.update({f"{self.name}\tlists": int(last[2]), f"{self.name}\tevents": int(last[3])})
         found.update({f"{self.name}\tgroup {key[2:]}": 1 for key in keys})
         if len(keys) != int(last[4]):
