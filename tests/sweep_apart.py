@@ -10,6 +10,20 @@ from sweep_room import Missing, wants
 TARGET = os.path.join(os.path.dirname(os.path.abspath(__file__)), "sweep-target.c")
 NEW_MOUNTS = 0x20000
 SEEDS, COUNT, LENGTH = 6, 300, 8
+# of one seed it cannot begin before there is a flag; of another one it finds no room for what it finds, once
+HINDERED = """#!/bin/sh
+case "$*" in
+    *-seed=5*) [ -e {flag} ] || exit 1 ;;
+    *-seed=4*) [ -e {flag}2 ] || {{
+        {target} "$@"; status=$?
+        for it; do last=$it; done
+        for it in "$last"/*; do : > "$it"; break; done
+        : > {flag}2
+        exit $status
+    }} ;;
+esac
+exec {target} "$@"
+"""
 
 
 def small_disk(path, words):
@@ -27,7 +41,8 @@ def no_space(room):
     stays, nothing half does, and it goes on."""
     disk = room.path("disk")
     small_disk(disk, "size=400k,nr_inodes=300")
-    program = room.wrapped(f'[ -e "$flag" ] || {{ : > "$flag"; cat /dev/zero > {disk}/ballast 2> /dev/null; }}', "--seed 9 ")
+    program = room.wrapped(f'[ -e "$flag" ] || {{ : > "$flag"; cat /dev/zero > {disk}/ballast 2> /dev/null; }}',
+                           "--seed 9 ")
     words, named = ("disk/swept", "--chunk", "2", "--jobs", "1"), {"program": program}
     status, text, said = room.sweep(*words, **named)
     was = room.results("disk/swept")
@@ -106,7 +121,7 @@ def fuzz(room):
     hindered = room.path("hindered/target")
     os.makedirs(os.path.dirname(hindered))
     with open(hindered, "w", encoding="utf-8") as file:
-        file.write(f"#!/bin/sh\ncase \"$*\" in *-seed=5*) [ -e {hindered}.flag ] || exit 1;; esac\nexec {target} \"$@\"\n")
+        file.write(HINDERED.format(flag=f"{hindered}.flag", target=target))
     os.chmod(hindered, 0o755)
     status, _, said = led(room, "led3", hindered, "--chunk", "4", "--jobs", "1")
     wants(status == 7 and not os.path.exists(room.path("led3/corpus")), f"it is merged with status {status}: {said}")

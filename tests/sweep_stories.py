@@ -161,7 +161,10 @@ def differs(room):
     with open(path, "w", encoding="utf-8") as file:
         file.writelines(f"board {it} (2) exec 0x0-0x1000 boot 0x0 starts 9 lives 3\n" for it in "zyxa")
     _, text, said = room.sweep("boards", "--chunk", "8", "--boards", path, program=program)
-    wants("differs: 4 x " in text and "  the first: seed 13, z: failed/ has z-13.psci, z-13.txt\n" in text, text[-300:] + said)
+    wants("differs: 4 x " in text and "  the first: seed 13, z: failed/ has z-13.psci, z-13.txt\n" in text,
+          text[-300:] + said)
+    another = room.sweep("boards5", "--chunk", "5", "--boards", path, program=program)[1]
+    wants(another == text, "of several boards the report hangs on the cut")
 
 
 def model(room):
@@ -245,6 +248,8 @@ def lists(room):
     wants(ran.returncode == 6 and "differs: 3 x " in ran.stdout and "the first: seed 1," in ran.stdout,
           f"{ran.returncode}: {ran.stdout}{ran.stderr}")
     wants(os.path.getsize(room.path("worse/failed/storm-1.record")) > 0, "no record is kept")
+    another = subprocess.run([*words, room.path("worse3"), "--chunk", "3"], capture_output=True, text=True, check=False)
+    wants(another.stdout == ran.stdout, "the report of lists hangs on the cut")
 
 
 TOGETHER = {it.__name__: it for it in (sums, cuts, killed_worker, killed_program, begun_again, full_disk, spoiled,

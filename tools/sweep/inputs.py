@@ -26,6 +26,11 @@ def found_in(folders):
     return found
 
 
+def is_whole(folder):
+    """Whether each input in a folder of libFuzzer's is what its name says: on a full disk it goes on."""
+    return set(os.listdir(folder)) == set(found_in([folder]))
+
+
 def packed(found):
     """These inputs as the bytes of a file."""
     out = io.BytesIO()

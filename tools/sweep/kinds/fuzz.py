@@ -9,12 +9,13 @@ import tempfile
 from .. import inputs, whole
 from ..sums import LINES, Unfinished, of_line
 from . import Run, Wrong
-from .beside import Beside, keys_of
+from .beside import LAST, Beside, keys_of
 from .program import SENT
 
 START, CORPORA = f"start{inputs.ENDING}", "corpora"
 DONE = re.compile(rb"^stat::number_of_executed_units: ([0-9]+)$", re.M)
 SUMMARY = re.compile(rb"^SUMMARY: (.*)$", re.M)
+MERGED = re.compile(rb"^MERGE-OUTER: ([0-9]+) new files ", re.M)
 NUMBERS = ("runs", "inputs", "kept")
 # seed 0 is one of the clock's for libFuzzer, which takes 31 bits
 SEEDS = 2 ** 31 - 1
@@ -86,6 +87,8 @@ class Fuzz(Beside):
                              stdin=subprocess.DEVNULL, env={**os.environ, "BESIDE_REPORT": report})
         if -ran.returncode in SENT or ran.returncode in HINDERED:
             raise Unfinished(f"{self.name}, seed {seed}: status {ran.returncode}: {ran.stderr[-200:]!r}")
+        if not inputs.is_whole(found):
+            raise Unfinished(f"{self.name}, seed {seed}: not all that it found could be written")
         new = inputs.found_in([found])
         whole.write(f"{self.folder}/{CORPORA}/{seed}{inputs.ENDING}", inputs.packed(new))
         yield self.run(seed, ran, self.taken(report), self.taken(*glob.glob(f"{room}/[a-z]*-*")), new)
@@ -103,7 +106,9 @@ class Fuzz(Beside):
 
     def run(self, seed, ran, report, artifact, new):
         """The numbers of a seed, and what differs in it."""
-        keys, done = keys_of(report), DONE.search(ran.stderr)
+        keys, done, last = keys_of(report), DONE.search(ran.stderr), LAST.search(ran.stderr)
+        if last and len(keys) != int(last[4]):
+            raise Unfinished(f"{self.name}, seed {seed}: its report has {len(keys)} groups and not {int(last[4])}")
         found = {"runs": 1, "inputs": int(done[1]) if done else 0, "kept": len(new)}
         found = {f"{self.name}\t{name}": number for name, number in found.items()}
         found.update({f"{self.name}\tgroup {key[2:]}": 1 for key in keys})
@@ -141,8 +146,9 @@ class Fuzz(Beside):
             many = len(os.listdir(every))
             ran = subprocess.run([f"{plan.folder}/target", "-merge=1", merging, every], capture_output=True,
                                  check=False, env={**os.environ, "BESIDE_REPORT": f"{room}/report"})
-        if ran.returncode:
-            raise Unfinished(f"{corpus}: status {ran.returncode} of -merge=1: {ran.stderr[-200:]!r}")
+        merged = MERGED.search(ran.stderr)
+        if ran.returncode or not inputs.is_whole(merging) or merged and int(merged[1]) != len(os.listdir(merging)):
+            raise Unfinished(f"{corpus}: -merge=1 could not write it: status {ran.returncode}: {ran.stderr[-200:]!r}")
         # the folder gets its name once all of it is on the disk
         os.sync()
         os.rename(merging, corpus)
