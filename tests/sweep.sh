@@ -31,8 +31,6 @@ wrong_sweeps() {
 # Slurm with a node that goes away, and GNU parallel with a worker that is killed, here and over ssh
 swept_farms() {
     local farm status
-    # munged wants that everybody may pass through the folders above its socket
-    chmod a+x "$work"
     for farm in parallel ssh slurm; do
         has_python "tests/swept-farm $farm" || continue
         status=0
