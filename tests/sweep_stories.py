@@ -6,6 +6,7 @@ import shutil
 import signal
 import subprocess
 import threading
+import time
 
 from sweep_room import COUNT, SEEDS, wants
 

@@ -138,18 +138,24 @@ class Fuzz(Beside):
             return None
         shutil.rmtree(merging, ignore_errors=True)
         os.makedirs(merging)
-        with tempfile.TemporaryDirectory(prefix="psci-sweep-") as room:
-            every = f"{room}/every"
-            inputs.unpack(f"{plan.folder}/{START}", every)
-            for seed in range(plan.first, plan.last + 1):
-                inputs.unpack(f"{plan.folder}/{CORPORA}/{seed}{inputs.ENDING}", every)
-            many = len(os.listdir(every))
-            ran = subprocess.run([f"{plan.folder}/target", "-merge=1", merging, every], capture_output=True,
-                                 check=False, env={**os.environ, "BESIDE_REPORT": f"{room}/report"})
-        merged = MERGED.search(ran.stderr)
-        if ran.returncode or not inputs.is_whole(merging) or merged and int(merged[1]) != len(os.listdir(merging)):
-            raise Unfinished(f"{corpus}: -merge=1 could not write it: status {ran.returncode}: {ran.stderr[-200:]!r}")
+        many = merged(plan, merging)
         # the folder gets its name once all of it is on the disk
         os.sync()
         os.rename(merging, corpus)
         return f"{corpus} has {len(os.listdir(corpus))} inputs, which reach all that {many} do"
+
+
+def merged(plan, into):
+    """Merges the inputs of a sweep into an empty folder; how many they are."""
+    with tempfile.TemporaryDirectory(prefix="psci-sweep-") as room:
+        every = f"{room}/every"
+        inputs.unpack(f"{plan.folder}/{START}", every)
+        for seed in range(plan.first, plan.last + 1):
+            inputs.unpack(f"{plan.folder}/{CORPORA}/{seed}{inputs.ENDING}", every)
+        many = len(os.listdir(every))
+        ran = subprocess.run([f"{plan.folder}/target", "-merge=1", into, every], capture_output=True, check=False,
+                             env={**os.environ, "BESIDE_REPORT": f"{room}/report"})
+    said = MERGED.search(ran.stderr)
+    if ran.returncode or not inputs.is_whole(into) or said and int(said[1]) != len(os.listdir(into)):
+        raise Unfinished(f"{into}: status {ran.returncode} of -merge=1, or not all is written: {ran.stderr[-200:]!r}")
+    return many
