@@ -10,6 +10,7 @@ import time
 
 from sweep_room import COUNT, SEEDS, wants
 
+
 def go_on(program):
     """Puts the flag of a program there."""
     with open(f"{program}.flag", "wb"):
@@ -60,7 +61,7 @@ def begun_again(room):
     program, held = room.held("--seed 20 ")
     process = subprocess.Popen(room.words("ended", "--chunk", "2", "--jobs", "2", program=program),
                                stdout=subprocess.DEVNULL, stderr=subprocess.DEVNULL, start_new_session=True)
-    waited(lambda: os.path.isdir(room.path("ended/results")) and len(room.results("ended")) > 2)
+    waited(lambda: os.path.isdir(room.path("ended/results")) and len(room.finished("ended")) > 2)
     # with all that it has started, as by the machine
     os.killpg(process.pid, signal.SIGKILL)
     process.wait()
@@ -69,7 +70,7 @@ def begun_again(room):
     wants(status == 2, f"a sweep of other seeds goes on in the folder: {said}")
     some = room.report("ended")
     wants(some[0] == 7 and "\nleft: " in some[1], f"part of a sweep is reported with {some[0]}")
-    was = {it: at for it, at in room.results("ended").items() if it.endswith(".json")}
+    was = room.finished("ended")
     room.is_good(room.sweep("ended", "--chunk", "9", program=program))
     now = room.results("ended")
     wants(len(was) > 2 and all(now[it] == was[it] for it in was), "a finished chunk was done twice")
