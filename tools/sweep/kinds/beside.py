@@ -19,6 +19,11 @@ def keys_of(report):
     return [line for line in report.decode(errors="replace").splitlines() if line[:2] in ("= ", "+ ")]
 
 
+def has_target(words):
+    """Whether there is a program that --target names."""
+    return words.target and os.access(words.target, os.X_OK) and not os.path.isdir(words.target)
+
+
 class Beside:
     """Some lists of each seed, by a target that hosts/beside/build has made without a fuzzer."""
     NAME = "beside"
@@ -30,7 +35,7 @@ class Beside:
 
     @staticmethod
     def settings(words):
-        if not words.target or not os.access(words.target, os.X_OK) or os.path.isdir(words.target):
+        if not has_target(words):
             raise Wrong("beside takes --target FILE; LIB_FUZZING_ENGINE=none hosts/beside/build PEER makes one")
         if not 1 <= words.count <= 10 ** 9:
             raise Wrong("--count takes 1 to 1000000000")

@@ -9,7 +9,7 @@ import tempfile
 from .. import inputs, whole
 from ..sums import LINES, Unfinished, of_line
 from . import Run, Wrong
-from .beside import LAST, Beside, keys_of
+from .beside import LAST, Beside, has_target, keys_of
 from .program import SENT
 
 START, CORPORA = f"start{inputs.ENDING}", "corpora"
@@ -48,9 +48,11 @@ class Fuzz(Beside):
                 raise Wrong(f"--corpus {folder}: it is no folder")
         if words.length < 1:
             raise Wrong("--length takes a number above 0")
+        if not has_target(words):
+            raise Wrong("fuzz takes --target FILE; hosts/beside/build PEER makes one")
         settings = Beside.settings(words)
         if not is_led(words.target):
-            raise Wrong(f"--target {words.target}: it has no libFuzzer; ./psci sweep beside takes it")
+            raise Wrong(f"--target {words.target}: it has no libFuzzer; ./psci sweep beside takes targets without")
         return {**settings, "length": words.length}
 
     @staticmethod
