@@ -155,7 +155,8 @@ def merged(plan, into):
         for seed in range(plan.first, plan.last + 1):
             inputs.unpack(f"{plan.folder}/{CORPORA}/{seed}{inputs.ENDING}", every)
         many = len(os.listdir(every))
-        ran = subprocess.run([f"{plan.folder}/target", "-merge=1", into, every], capture_output=True, check=False,
+        words = [f"{plan.folder}/target", "-merge=1", f"-artifact_prefix={room}/", into, every]
+        ran = subprocess.run(words, capture_output=True, check=False, stdin=subprocess.DEVNULL,
                              env={**os.environ, "BESIDE_REPORT": f"{room}/report"})
     said = MERGED.search(ran.stderr)
     if ran.returncode or not inputs.is_whole(into) or said and int(said[1]) != len(os.listdir(into)):
