@@ -14,7 +14,7 @@ SEEDS, COUNT, LENGTH = 6, 300, 8
 HINDERED = """#!/bin/sh
 case "$*" in
     *-seed=5*) [ -e {flag} ] || exit 1 ;;
-    *-seed=4*) [ -e {flag}2 ] || {{
+    *-seed=7*) [ -e {flag}2 ] || {{
         {target} "$@"; status=$?
         for it; do last=$it; done
         for it in "$last"/*; do : > "$it"; break; done
