@@ -39,12 +39,12 @@ _psci() {
             esac ;;
         sweep)
             case $before in
-                sweep) mapfile -t COMPREPLY < <(compgen -W "storm threads lists report --help" -- "$word"); return ;;
+                sweep) mapfile -t COMPREPLY < <(compgen -W "storm threads lists beside fuzz report --help" -- "$word"); return ;;
             esac
             case $word in
                 -*) mapfile -t COMPREPLY < <(compgen -W "--seeds --out --engine --engine-words --jobs --minutes \
                     --chunk --count --board --boards --model --program --on --command --profile --baseline --down \
-                    --one-thread --payload --costs --help" -- "$word") ;;
+                    --one-thread --payload --target --corpus --length --costs --help" -- "$word") ;;
                 *) mapfile -t COMPREPLY < <(compgen -f -- "$word") ;;
             esac ;;
         try) mapfile -t COMPREPLY < <(compgen -W "--port --help" -- "$word") ;;

@@ -8,6 +8,14 @@ sweeps() {
         fail tests/swept
         tail -n 20 "$work/out"
     fi
+    missing_stories
+}
+
+# what tests/swept says that cannot run here
+missing_stories() {
+    local story what
+    while IFS=: read -r story what; do skip "the story of sweeps $story" "${what# }"; done \
+        < <(sed -n 's/^missing //p' "$work/out")
 }
 
 # a chunk that is counted twice, a result that is taken half written, and other faults of tests/swept-faults.txt
@@ -17,13 +25,12 @@ wrong_sweeps() {
         fail "tests/swept --planted"
         tail -n 20 "$work/out"
     fi
+    missing_stories
 }
 
 # Slurm with a node that goes away, and GNU parallel with a worker that is killed, here and over ssh
 swept_farms() {
     local farm status
-    # munged wants that everybody may pass through the folders above its socket
-    chmod a+x "$work"
     for farm in parallel ssh slurm; do
         has_python "tests/swept-farm $farm" || continue
         status=0

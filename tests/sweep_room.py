@@ -16,6 +16,10 @@ class Broken(Exception):
     """A story that does not hold, and why."""
 
 
+class Missing(Exception):
+    """A story that cannot run here, for want of what the text says."""
+
+
 def wants(holds, text):
     if not holds:
         raise Broken(text)
@@ -65,8 +69,18 @@ class Room:
 
     def results(self, out):
         """The files of results, and when each was written."""
-        folder = self.path(f"{out}/results")
-        return {it: os.stat(f"{folder}/{it}").st_mtime_ns for it in sorted(os.listdir(folder))}
+        found = {}
+        for it in sorted(os.scandir(self.path(f"{out}/results")), key=lambda it: it.name):
+            try:
+                found[it.name] = it.stat().st_mtime_ns
+            except FileNotFoundError:
+                # it has its name by now
+                pass
+        return found
+
+    def finished(self, out):
+        """Of these files those that have their name, and so all that a result has."""
+        return {it: at for it, at in self.results(out).items() if it.endswith(".json")}
 
     def good(self):
         """The report of an undisturbed sweep."""

@@ -5,9 +5,16 @@ import pty
 import shutil
 import signal
 import subprocess
+import threading
 import time
 
 from sweep_room import COUNT, SEEDS, wants
+
+
+def go_on(program):
+    """Puts the flag of a program there."""
+    with open(f"{program}.flag", "wb"):
+        pass
 
 
 def waited(holds):
@@ -54,7 +61,7 @@ def begun_again(room):
     program, held = room.held("--seed 20 ")
     process = subprocess.Popen(room.words("ended", "--chunk", "2", "--jobs", "2", program=program),
                                stdout=subprocess.DEVNULL, stderr=subprocess.DEVNULL, start_new_session=True)
-    waited(lambda: os.path.isdir(room.path("ended/results")) and len(room.results("ended")) > 2)
+    waited(lambda: os.path.isdir(room.path("ended/results")) and len(room.finished("ended")) > 2)
     # with all that it has started, as by the machine
     os.killpg(process.pid, signal.SIGKILL)
     process.wait()
@@ -63,7 +70,7 @@ def begun_again(room):
     wants(status == 2, f"a sweep of other seeds goes on in the folder: {said}")
     some = room.report("ended")
     wants(some[0] == 7 and "\nleft: " in some[1], f"part of a sweep is reported with {some[0]}")
-    was = room.results("ended")
+    was = room.finished("ended")
     room.is_good(room.sweep("ended", "--chunk", "9", program=program))
     now = room.results("ended")
     wants(len(was) > 2 and all(now[it] == was[it] for it in was), "a finished chunk was done twice")
@@ -75,11 +82,10 @@ def begun_again(room):
 
 def full_disk(room):
     """Where results cannot be written, nothing half stays, and the sweep goes on later."""
-    program = room.wrapped("exit 5", "--seed 2")
+    program = room.wrapped('[ -e "$flag" ] || exit 5', "--seed 2")
     wants(room.sweep("full", "--chunk", "1", program=program)[0] == 7, "a sweep without memory is finished")
     was = room.results("full")
-    with open(room.path("full/program"), "w", encoding="utf-8") as file:
-        file.write(f"#!/bin/sh\nexec '{room.program}' \"$@\"\n")
+    go_on(program)
     status, _, said = room.sweep("full", program=program, limit=400)
     wants(status == 7, f"a sweep on a full disk ended with {status}: {said}")
     wants(room.results("full") == was, "on a full disk something was written, or left")
@@ -109,6 +115,11 @@ def spoiled(room):
     shutil.copy(room.path("other/results/3.json"), paths[3])
     status, text, _ = room.report("spoiled")
     wants(status == 7 and "\nleft: 1..20\n" in text, f"spoiled results are taken:\n{text[:200]}")
+    with open(room.path("spoiled/program"), "ab") as file:
+        file.write(b"\n")
+    status, _, said = room.sweep("spoiled")
+    wants(status == 4 and "not what the sweep began with" in said, f"it goes on by another program: {status}: {said}")
+    shutil.copy(room.program, room.path("spoiled/program"))
     room.is_good(room.sweep("spoiled"))
 
 
@@ -147,6 +158,15 @@ def differs(room):
         with open(room.path(f"{out}/failed/default-13.psci"), encoding="utf-8") as file:
             wants(file.read() == "script\n", "the script of a failed seed is not kept")
     wants(room.report("differs")[1] == room.report("differs7")[1], "the report hangs on the cut")
+    # of more boards than files are kept of, the first that is told is one with files
+    path = room.path("boards.txt")
+    with open(path, "w", encoding="utf-8") as file:
+        file.writelines(f"board {it} (2) exec 0x0-0x1000 boot 0x0 starts 9 lives 3\n" for it in "zyxa")
+    _, text, said = room.sweep("boards", "--chunk", "8", "--boards", path, program=program)
+    wants("differs: 4 x " in text and "  the first: seed 13, z: failed/ has z-13.psci, z-13.txt\n" in text,
+          text[-300:] + said)
+    another = room.sweep("boards5", "--chunk", "5", "--boards", path, program=program)[1]
+    wants(another == text, "of several boards the report hangs on the cut")
 
 
 def model(room):
@@ -164,10 +184,14 @@ def alone(room):
     process = subprocess.Popen(room.words("alone", program=program), stdout=subprocess.DEVNULL,
                                stderr=subprocess.DEVNULL)
     waited(lambda: os.path.exists(room.path("alone/plan.json")))
+    # where the second one is not refused, it has to end, too
+    late = threading.Timer(60, os.unlink, [held])
+    late.start()
     status, _, said = room.sweep("alone", program=program)
-    wants(status == 2 and "another sweep is at it" in said, f"two sweeps are at one folder: {said}")
+    late.cancel()
     process.send_signal(signal.SIGINT)
     process.wait()
+    wants(status == 2 and "another sweep is at it" in said, f"two sweeps are at one folder: {said}")
     os.unlink(held)
     room.is_good(room.sweep("alone", program=program))
 
@@ -226,8 +250,10 @@ def lists(room):
     wants(ran.returncode == 6 and "differs: 3 x " in ran.stdout and "the first: seed 1," in ran.stdout,
           f"{ran.returncode}: {ran.stdout}{ran.stderr}")
     wants(os.path.getsize(room.path("worse/failed/storm-1.record")) > 0, "no record is kept")
+    another = subprocess.run([*words, room.path("worse3"), "--chunk", "3"], capture_output=True, text=True, check=False)
+    wants(another.stdout == ran.stdout, "the report of lists hangs on the cut")
 
 
-STORIES = {it.__name__: it for it in (sums, cuts, killed_worker, killed_program, begun_again, full_disk, spoiled,
-                                      unwritten, parts, differs, model, alone, refused, terminal, threads,
-                                      lists)}
+TOGETHER = {it.__name__: it for it in (sums, cuts, killed_worker, killed_program, begun_again, full_disk, spoiled,
+                                       unwritten, parts, differs, model, alone, refused, terminal, threads,
+                                       lists)}

@@ -21,6 +21,7 @@ What is finished stays: the same words in the same folder go on where a sweep wa
   ./psci sweep storm   --seeds 1..100000 --out out/night --boards tests/tally-floors.txt
   ./psci sweep threads --seeds 1..10000 --out out/threads --model
   ./psci sweep lists   --seeds 1..10000 --out out/boots --on qemu --profile hosts/payload/profiles/qemu
+  ./psci sweep fuzz    --seeds 1..1000 --out out/fuzz --target out/beside/tfa --corpus corpus
   ./psci sweep storm   --seeds 1..100000 --out out/night --engine slurm --engine-words '--partition=all'
   ./psci sweep report out/night out/another
 """
@@ -113,6 +114,7 @@ def plan_of(words):
     if (plan.kind, plan.settings, plan.first, plan.last) != (words.kind, settings, *seeds):
         raise Wrong(f"{folder} has another sweep: {plan.kind}, seeds {plan.first}..{plan.last}, "
                     f"{plan.settings}; take another folder")
+    plans.look_at_files(plan)
     return plan, lock
 
 
@@ -129,8 +131,19 @@ def swept(words):
         say("ended; the same words go on with it")
     finally:
         far.end()
+    try:
+        ended(plan)
+    finally:
         lock.close()
     return told([plan], True)
+
+
+def ended(plan):
+    """What its kind does once all chunks are finished."""
+    at_end = getattr(kinds.every()[plan.kind], "ended", None)
+    said = at_end(plan) if at_end and not plans.left(plan) else None
+    if said:
+        say(said)
 
 
 def told(every, has_costs):

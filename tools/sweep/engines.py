@@ -29,6 +29,7 @@ class Local:
     def __init__(self, plan, far, jobs, _words):
         self.plan, self.far = plan, far
         self.jobs, self.running = jobs or len(os.sched_getaffinity(0)), {}
+        self.is_full = False
 
     def start(self, number):
         log = open(f"{self.plan.folder}/logs/{number}", "ab")
@@ -38,22 +39,34 @@ class Local:
                 stdout=log, stderr=log)
 
     def run(self, left):
-        waiting, tries, is_full = list(reversed(left)), {}, False
+        waiting, tries = list(reversed(left)), {}
+        self.far.look()
         try:
-            while (waiting and not is_full) or self.running:
-                while waiting and not is_full and len(self.running) < self.jobs:
+            while (waiting and not self.is_full) or self.running:
+                while waiting and not self.is_full and len(self.running) < self.jobs:
                     tries[waiting[-1]] = tries.get(waiting[-1], 0) + 1
-                    self.start(waiting.pop())
+                    self.begin(waiting.pop())
                 self.far.look()
                 for number, status in self.ended():
-                    # where nothing can be written, other chunks would fare no better
-                    if status == WRITE_FAULT and not is_full:
-                        is_full = True
-                        self.far.say(f"chunk {number} could not be read or written; no further chunk is begun")
+                    if status == WRITE_FAULT:
+                        self.give_up(f"chunk {number} could not be read or written")
                     if status != DONE and tries[number] < TRIES:
                         waiting.append(number)
         finally:
             self.stop()
+
+    def begin(self, number):
+        """Starts a chunk, if there is room for its log, and for a process."""
+        try:
+            self.start(number)
+        except OSError as fault:
+            self.give_up(f"chunk {number} cannot be begun: {fault.strerror}")
+
+    def give_up(self, why):
+        """Where nothing can be written, other chunks would fare no better."""
+        if not self.is_full:
+            self.is_full = True
+            self.far.say(f"{why}; no further chunk is begun")
 
     def ended(self):
         """The processes that have ended, and how."""

@@ -51,12 +51,16 @@ class Plan:
         return all(self.text[name] == other.text[name] for name in ("kind", "settings", "files"))
 
 
+def sum_of(path):
+    """The sum of a file, all of which is on the disk then."""
+    with open(path, "rb") as file:
+        os.fsync(file.fileno())
+        return hashlib.sha256(file.read()).hexdigest()
+
+
 def make(folder, kind, settings, files, seeds, size):
     """Writes a plan into its folder, with the sums of the files that its chunks need."""
-    sums = {}
-    for name in files:
-        with open(f"{folder}/{name}", "rb") as file:
-            sums[name] = hashlib.sha256(file.read()).hexdigest()
+    sums = {name: sum_of(f"{folder}/{name}") for name in files}
     plan = Plan(folder, {"form": FORM, "kind": kind, "settings": settings, "files": sums, "first": seeds[0],
                          "last": seeds[1], "size": size})
     whole.write_summed(f"{folder}/plan.json", plan.text)
@@ -69,6 +73,13 @@ def read(folder):
     if text.get("form") != FORM:
         raise whole.Broken(f"{folder}/plan.json: its form is {text.get('form')}, and this reads form {FORM}")
     return Plan(folder, text)
+
+
+def look_at_files(plan):
+    """Whether chunks still have what the sweep began with."""
+    for name, wanted in plan.text["files"].items():
+        if sum_of(f"{plan.folder}/{name}") != wanted:
+            raise whole.Broken(f"{plan.folder}/{name}: it is not what the sweep began with")
 
 
 def is_there(folder):

@@ -23,8 +23,9 @@ class Unfinished(Exception):
 
 
 def by_seed(differences):
-    """What differs, each with its runs in the order of seeds: what it is, how often, the first run."""
+    """What differs, each with its runs in the order of seeds, and of a seed in the order of its boards, in which
+    files were kept."""
     found = {}
-    for it in sorted(differences, key=lambda it: (it["seed"], it["board"])):
+    for it in sorted(differences, key=lambda it: it["seed"]):
         found.setdefault(it["what"], []).append(it)
     return sorted(found.items())

@@ -7,6 +7,7 @@
     __init__(settings, folder)  what is done once for a chunk
     runs(seed, room)            the runs of a seed: Run for each; Unfinished where no fault of the seed hinders
     lines(settings, sums)       what the report says of the sums
+    ended(plan)                 where there is such: what is done once all chunks are finished; what to say of it
 
 Numbers of a Run are summed by name, nothing else: so no report hangs on how seeds were cut. A file of a Run
 that differs is kept under its board and seed.
@@ -23,8 +24,8 @@ class Wrong(Exception):
 
 def every():
     """The kinds by name."""
-    from . import beside, lists, storm, threads
-    return {it.NAME: it for it in (storm.Storm, threads.Threads, lists.Lists, beside.Beside)}
+    from . import beside, fuzz, lists, storm, threads
+    return {it.NAME: it for it in (storm.Storm, threads.Threads, lists.Lists, beside.Beside, fuzz.Fuzz)}
 
 
 def of(plan):

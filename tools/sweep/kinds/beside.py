@@ -14,6 +14,16 @@ NUMBERS = ("runs", "lists", "events")
 SPREAD, WORD = 0x9E3779B97F4A7C15, 2 ** 64
 
 
+def keys_of(report):
+    """The groups of a report, with = or + before those that the stored one has or has not."""
+    return [line for line in report.decode(errors="replace").splitlines() if line[:2] in ("= ", "+ ")]
+
+
+def has_target(words):
+    """Whether there is a program that --target names."""
+    return words.target and os.access(words.target, os.X_OK) and not os.path.isdir(words.target)
+
+
 class Beside:
     """Some lists of each seed, by a target that hosts/beside/build has made without a fuzzer."""
     NAME = "beside"
@@ -25,7 +35,7 @@ class Beside:
 
     @staticmethod
     def settings(words):
-        if not words.target or not os.access(words.target, os.X_OK) or os.path.isdir(words.target):
+        if not has_target(words):
             raise Wrong("beside takes --target FILE; LIB_FUZZING_ENGINE=none hosts/beside/build PEER makes one")
         if not 1 <= words.count <= 10 ** 9:
             raise Wrong("--count takes 1 to 1000000000")
@@ -62,7 +72,7 @@ class Beside:
         if ran.returncode or not last:
             why = ran.stderr.decode(errors="replace").strip().splitlines() or ["it says nothing"]
             return found, [f"status {ran.returncode}: {why[0][:80]}"]
-        keys = [line for line in report.decode(errors="replace").splitlines() if line[:2] in ("= ", "+ ")]
+        keys = keys_of(report)
         found.update({f"{self.name}\tlists": int(last[2]), f"{self.name}\tevents": int(last[3])})
         found.update({f"{self.name}\tgroup {key[2:]}": 1 for key in keys})
         if len(keys) != int(last[4]):
