@@ -17,17 +17,21 @@ enum { DOMAIN, START, REST, LOCKS };
 static const char *const works[WORKS] = {
     "an entry", "CPU_ON", "CPU_OFF", "CPU_SUSPEND of a core", "CPU_SUSPEND of a cluster", "SYSTEM_SUSPEND",
     "AFFINITY_INFO", "another call"};
-static const char *const locks[LOCKS] = {"domain", "start", "firmware"};
+static const char *const locks[LOCKS] = {", domain", ", start", ", firmware"};
 
-static struct {
+/* Of times: how many, and in ticks. */
+struct tally {
     unsigned int many;
-    uint64_t held, least_held, most_held, most_waited;
-} seen[WORKS][LOCKS];
+    uint64_t least, sum, most;
+};
 
-/* What a core does, and since when it has which lock. */
+/* What a core does, and since when it has which lock; of each lock how long it held it and waited for it, and
+ * of each piece of work how long it waited for locks in all. */
 static struct {
+    bool works;
     unsigned int work, deep;
-    uint64_t since[8], waited[8];
+    uint64_t since[8], begun[8], sum;
+    struct tally held[WORKS][LOCKS], waited[WORKS][LOCKS], waits[WORKS];
 } cores[PLATFORM_CORE_COUNT];
 
 extern spinlock_t start_locks[PLATFORM_CORE_COUNT] __attribute__((weak));
@@ -50,26 +54,39 @@ u_register_t __wrap_psci_smc_handler(uint32_t function, u_register_t x1, u_regis
 
 /* ---- locks, which a core gives back in the order opposite to that in which it took them */
 
+static void add(struct tally *to, const struct tally *more)
+{
+    if (more->many == 0U)
+        return;
+    if (to->many == 0U || more->least < to->least)
+        to->least = more->least;
+    to->many += more->many;
+    to->sum += more->sum;
+    to->most = more->most > to->most ? more->most : to->most;
+}
+
+static void count(struct tally *to, uint64_t ticks)
+{
+    struct tally one = {1U, ticks, ticks, ticks};
+
+    add(to, &one);
+}
+
 static void took(uint64_t begun)
 {
     unsigned int core = plat_my_core_pos(), at = cores[core].deep++ % 8U;
 
+    cores[core].begun[at] = begun;
     cores[core].since[at] = read_cntpct_el0();
-    cores[core].waited[at] = cores[core].since[at] - begun;
+    cores[core].sum += cores[core].since[at] - begun;
 }
 
 static void gives(unsigned int lock)
 {
     unsigned int core = plat_my_core_pos(), at = --cores[core].deep % 8U, work = cores[core].work;
-    uint64_t held = read_cntpct_el0() - cores[core].since[at];
 
-    if (seen[work][lock].many++ == 0U || held < seen[work][lock].least_held)
-        seen[work][lock].least_held = held;
-    seen[work][lock].held += held;
-    if (held > seen[work][lock].most_held)
-        seen[work][lock].most_held = held;
-    if (cores[core].waited[at] > seen[work][lock].most_waited)
-        seen[work][lock].most_waited = cores[core].waited[at];
+    count(&cores[core].held[work][lock], read_cntpct_el0() - cores[core].since[at]);
+    count(&cores[core].waited[work][lock], cores[core].since[at] - cores[core].begun[at]);
 }
 
 /* The lock of a core that is being started: a table of them inside, a word of each core's node in TF-A. */
@@ -110,6 +127,23 @@ void __wrap_bakery_lock_release(bakery_lock_t *lock)
     __real_bakery_lock_release(lock);
 }
 
+/* ---- pieces of work: a call, up to its answer or to the core's next entry, and an entry */
+
+static void ends(unsigned int core)
+{
+    if (cores[core].works)
+        count(&cores[core].waits[cores[core].work], cores[core].sum);
+    cores[core].works = false;
+}
+
+static void begins(unsigned int core, unsigned int work)
+{
+    ends(core);
+    cores[core].works = true;
+    cores[core].work = work;
+    cores[core].sum = 0U;
+}
+
 /* ---- what is told */
 
 static void tell(const char *line)
@@ -118,18 +152,36 @@ static void tell(const char *line)
         (void)plat_crash_console_putc(*line++);
 }
 
-static void tell_lock(unsigned int work, unsigned int lock)
+static void tell_times(const char *what, const char *work, const char *lock, const struct tally *times)
 {
     char line[160];
 
-    if (seen[work][lock].many == 0U)
+    if (times->many == 0U)
         return;
-    (void)snprintf(line, sizeof(line),
-                   "locks: %s: %s: %u times, held %lu at least, %lu on average, %lu at most, waited %lu\n",
-                   works[work], locks[lock], seen[work][lock].many, seen[work][lock].least_held,
-                   seen[work][lock].held / seen[work][lock].many, seen[work][lock].most_held,
-                   seen[work][lock].most_waited);
+    (void)snprintf(line, sizeof(line), "%s: %s%s: %u times, %lu at least, %lu on average, %lu at most, %lu in all\n",
+                   what, work, lock, times->many, times->least, times->sum / times->many, times->most, times->sum);
     tell(line);
+}
+
+static void tell_lock(unsigned int work, unsigned int lock)
+{
+    struct tally held = {0U}, waited = {0U};
+
+    for (unsigned int core = 0U; core < PLATFORM_CORE_COUNT; core++) {
+        add(&held, &cores[core].held[work][lock]);
+        add(&waited, &cores[core].waited[work][lock]);
+    }
+    tell_times("held", works[work], locks[lock], &held);
+    tell_times("waited", works[work], locks[lock], &waited);
+}
+
+static void tell_work(unsigned int work)
+{
+    struct tally waits = {0U};
+
+    for (unsigned int core = 0U; core < PLATFORM_CORE_COUNT; core++)
+        add(&waits, &cores[core].waits[work]);
+    tell_times("waited", works[work], "", &waits);
 }
 
 /* By the lowest word that is not 0. */
@@ -153,6 +205,8 @@ static void tell_all(void)
     for (unsigned int work = 0U; work < WORKS; work++)
         for (unsigned int lock = 0U; lock < LOCKS; lock++)
             tell_lock(work, lock);
+    for (unsigned int work = 0U; work < WORKS; work++)
+        tell_work(work);
     for (unsigned int core = 0U; core < PLATFORM_CORE_COUNT; core++)
         tell_stack(core);
 }
@@ -161,9 +215,12 @@ static void tell_all(void)
 
 void __wrap_psci_warmboot_entrypoint(void)
 {
-    cores[plat_my_core_pos()].work = ENTRY;
-    cores[plat_my_core_pos()].deep = 0U;
+    unsigned int core = plat_my_core_pos();
+
+    begins(core, ENTRY);
+    cores[core].deep = 0U;
     __real_psci_warmboot_entrypoint();
+    ends(core);
 }
 
 static unsigned int work_of(uint32_t function, u_register_t word)
@@ -187,10 +244,15 @@ static unsigned int work_of(uint32_t function, u_register_t word)
 u_register_t __wrap_psci_smc_handler(uint32_t function, u_register_t x1, u_register_t x2, u_register_t x3,
                                      u_register_t x4, void *cookie, void *handle, u_register_t flags)
 {
-    cores[plat_my_core_pos()].work = work_of(function, x1);
+    unsigned int core = plat_my_core_pos();
+    u_register_t answer;
+
     if (function == PSCI_SYSTEM_OFF)
         tell_all();
-    return __real_psci_smc_handler(function, x1, x2, x3, x4, cookie, handle, flags);
+    begins(core, work_of(function, x1));
+    answer = __real_psci_smc_handler(function, x1, x2, x3, x4, cookie, handle, flags);
+    ends(core);
+    return answer;
 }
 
 /* As BL31 comes up: what is above this frame is in use. */
