@@ -91,7 +91,7 @@ void __dead2 park(void);
 extern entry_point_info_t entry_points[PLATFORM_CORE_COUNT];
 extern spinlock_t start_locks[PLATFORM_CORE_COUNT];
 
-/* gumdarts_stack.S: calls a function on a stack of its own. */
+/* gumdarts_stack.S: calls a function on a larger stack. */
 void on_opening_stack(void (*function)(void));
 
 #endif
