@@ -11,12 +11,12 @@
 #include "hooks.h"
 #include "psci_private.h"
 
-enum { ENTRY, ON, OFF, CORE_DOWN, CLUSTER_DOWN, SYSTEM_DOWN, POLL, OTHER, WORKS };
+enum { ENTRY, ON, OFF, STANDBY, CORE_DOWN, CLUSTER_DOWN, SYSTEM_DOWN, POLL, OTHER, WORKS };
 enum { DOMAIN, START, REST, LOCKS };
 
 static const char *const works[WORKS] = {
-    "an entry", "CPU_ON", "CPU_OFF", "CPU_SUSPEND of a core", "CPU_SUSPEND of a cluster", "SYSTEM_SUSPEND",
-    "AFFINITY_INFO", "another call"};
+    "an entry", "CPU_ON", "CPU_OFF", "standby", "CPU_SUSPEND of a core", "CPU_SUSPEND of a cluster",
+    "SYSTEM_SUSPEND", "AFFINITY_INFO", "another call"};
 static const char *const locks[LOCKS] = {", domain", ", start", ", firmware"};
 
 /* Of times: how many, and in ticks. */
@@ -231,6 +231,8 @@ static unsigned int work_of(uint32_t function, u_register_t word)
     case PSCI_CPU_OFF:
         return OFF;
     case PSCI_CPU_SUSPEND_AARCH32:
+        if (psci_get_pstate_type((unsigned int)word) == PSTATE_TYPE_STANDBY)
+            return STANDBY;
         return psci_get_pstate_pwrlvl((unsigned int)word) == 0U ? CORE_DOWN : CLUSTER_DOWN;
     case PSCI_SYSTEM_SUSPEND_AARCH32:
         return SYSTEM_DOWN;
