@@ -36,6 +36,7 @@ static struct {
 
 extern spinlock_t start_locks[PLATFORM_CORE_COUNT] __attribute__((weak));
 extern char __STACKS_START__[], __STACKS_END__[];
+static size_t opened;
 
 void __real_spin_lock(spinlock_t *lock);
 void __wrap_spin_lock(spinlock_t *lock);
@@ -184,18 +185,33 @@ static void tell_work(unsigned int work)
     tell_times("waited", works[work], "", &waits);
 }
 
-/* By the lowest word that is not 0. */
-static void tell_stack(unsigned int core)
+/* How much of this memory is used from its end down, by the lowest word that is not 0. */
+static size_t used(const char *start, const char *end)
 {
-    size_t size = (size_t)(__STACKS_END__ - __STACKS_START__) / PLATFORM_CORE_COUNT;
-    const char *end = __STACKS_START__ + (core + 1U) * size;
-    const uint64_t *word = (const uint64_t *)(end - size);
-    char line[80];
+    const uint64_t *word = (const uint64_t *)start;
 
     while ((const char *)word < end && *word == 0U)
         word++;
+    return (size_t)(end - (const char *)word);
+}
+
+static void tell_stack(unsigned int core)
+{
+    size_t size = (size_t)(__STACKS_END__ - __STACKS_START__) / PLATFORM_CORE_COUNT;
+    const char *start = __STACKS_START__ + core * size;
+    char line[80];
+
     (void)snprintf(line, sizeof(line), "stack: core %u used %lu of %lu bytes\n", core,
-                   (unsigned long)(end - (const char *)word), (unsigned long)size);
+                   (unsigned long)used(start, start + size), (unsigned long)size);
+    tell(line);
+}
+
+static void tell_opening(void)
+{
+    char line[80];
+
+    (void)snprintf(line, sizeof(line), "stack: the opening used %lu bytes of the other cores'\n",
+                   (unsigned long)opened);
     tell(line);
 }
 
@@ -209,6 +225,7 @@ static void tell_all(void)
         tell_work(work);
     for (unsigned int core = 0U; core < PLATFORM_CORE_COUNT; core++)
         tell_stack(core);
+    tell_opening();
 }
 
 /* ---- what a core does */
@@ -257,12 +274,13 @@ u_register_t __wrap_psci_smc_handler(uint32_t function, u_register_t x1, u_regis
     return answer;
 }
 
-/* As BL31 comes up: what is above this frame is in use. */
+/* As BL31 comes up, on core 0: what is above this frame is in use. */
 void hooks_measure(void)
 {
     uintptr_t here = (uintptr_t)__builtin_frame_address(0) - 512U;
     size_t size = (size_t)(__STACKS_END__ - __STACKS_START__) / PLATFORM_CORE_COUNT;
 
+    opened = used(__STACKS_START__ + size, __STACKS_END__);
     for (unsigned int core = 0U; core < PLATFORM_CORE_COUNT; core++) {
         uintptr_t at = (uintptr_t)__STACKS_START__ + core * size;
 
