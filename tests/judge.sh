@@ -34,7 +34,7 @@ judged_records() {
 # end a life
 judged_ours() {
     local peer
-    for peer in el3 ours-in-tfa-hooks; do
+    for peer in el3 ours-in-tfa; do
         if grep -q "^differs\|^undecided" "$payload/reports/$peer.txt"; then fail "records of $peer"; else pass; fi
     done
     ./psci compare --tallies "$work"/calls/el3/*.record > "$work/out"

@@ -32,9 +32,21 @@ downs_of() {
         timeout 60 "$work/downs" > "$work/out" 2>&1
 }
 
-# a Down of which a part is left waits, and the fault that tries it again and again shows
+# downs_fail FAULT TEXT: with this fault the try ends with this text
+downs_fail() {
+    local copy=$work/tfa-copy
+    rm -rf "$copy"
+    cp -r hosts/tfa "$copy"
+    patch -s -d "$copy" -p1 < "hosts/tfa/faults/$1.patch"
+    if ! downs_of "$copy" && grep -q "$2" "$work/out"; then pass; else
+        fail "hosts/tfa/downs.c with the fault $1"
+        head -n 5 "$work/out"
+    fi
+}
+
+# a Down of which a part is left waits, no start is lost, and the faults that break either show
 tfa_downs() {
-    local name copy=$work/tfa-copy
+    local name
     command -v cc > /dev/null || { skip "downs of hosts/tfa" cc; return; }
     command -v patch > /dev/null || { skip "downs of hosts/tfa" patch; return; }
     [ -f "$archive" ] || { skip "downs of hosts/tfa" "$archive"; return; }
@@ -46,13 +58,8 @@ tfa_downs() {
         fail "hosts/tfa/downs.c"
         head -n 5 "$work/out"
     fi
-    rm -rf "$copy"
-    cp -r hosts/tfa "$copy"
-    patch -s -d "$copy" -p1 < hosts/tfa/faults/own-switch.patch
-    if ! downs_of "$copy" && grep -q "again and again, and the lock is held" "$work/out"; then pass; else
-        fail "hosts/tfa/downs.c with the fault own-switch"
-        head -n 5 "$work/out"
-    fi
+    downs_fail own-switch "again and again, and the lock is held"
+    downs_fail lost-start "a CPU_ON is accepted, and nobody starts the core"
 }
 
 # tfa_says TEXT WORD..: hosts/tfa/run refuses these words with this text, with no more tools than are named

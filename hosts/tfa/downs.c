@@ -1,7 +1,8 @@
 /* A try of gumdarts_firmware.c on this machine, over the library: the last core of a cluster stands in its
  * stop before the one that went before it. Its Down is carried out in part, and waits for the other's; it
  * is not tried again by its own switch, with the lock held until the other core stands. On a machine the
- * other core would need to be slow between two instructions. */
+ * other core would need to be slow between two instructions. And a CPU_ON for which no hook was called is
+ * not asked of a core that stands by then: it would be accepted, and nobody starts the core. */
 #include <stdarg.h>
 #include <stdio.h>
 #include <stdlib.h>
@@ -129,10 +130,8 @@ static void cluster(const char *what, int32_t wanted)
     wants(what, call(0, NODE_HW_STATE, words[2], LEVEL_OF_CLUSTERS).code, wanted);
 }
 
-int main(void)
+static void last_core_stands_first(void)
 {
-    firmware_open();
-    enter(0);
     for (unsigned int core = 2; core < 4; core++) {
         wants("CPU_ON", call(0, CPU_ON, words[core], BOOT).code, 0);
         enter(core);
@@ -150,6 +149,39 @@ int main(void)
     status("the other core, which stands", 3, OFF);
     cluster("their cluster", OFF);
     messages("the other's Down, and what was left of the last one's", 2);
-    puts("the last core's Down waits for the other's, and is carried out after it");
+}
+
+/* Whether it was asked, and not accepted. */
+static bool is_refused_on(unsigned int target)
+{
+    uint64_t x[4] = {CPU_ON, words[target], BOOT, 0};
+    struct psci_answer answer;
+
+    here = 0;
+    if (!firmware_call_unless_off(0, x, target, &answer))
+        return false;
+    if (answer.code == 0)
+        ERROR("a CPU_ON is accepted, and nobody starts the core\n");
+    return true;
+}
+
+static void core_stands_before_it_is_started(void)
+{
+    wants("CPU_ON", call(0, CPU_ON, words[2], BOOT).code, 0);
+    enter(2);
+    (void)call(2, CPU_OFF, 0, 0);
+    wants("a CPU_ON of a core that does not stand yet is asked", is_refused_on(2), true);
+    stand(2);
+    wants("one of a core that stands is asked", is_refused_on(2), false);
+    wants("CPU_ON", call(0, CPU_ON, words[2], BOOT).code, 0);
+}
+
+int main(void)
+{
+    firmware_open();
+    enter(0);
+    last_core_stands_first();
+    core_stands_before_it_is_started();
+    puts("the last core's Down waits for the other's, and no start is lost");
     return 0;
 }

@@ -60,6 +60,9 @@ void tell_running(unsigned int core);
 void firmware_open(void);
 /* A call, with its message on its way; of a stop, how deep it goes. */
 void firmware_call(unsigned int core, const uint64_t *x, struct psci_answer *, struct psci_stop *);
+/* The same where the target is not OFF; else nothing is asked, and it is false. */
+bool firmware_call_unless_off(unsigned int core, const uint64_t *x, unsigned int target,
+                              struct psci_answer *);
 /* A core enters, by the start that it finds. */
 void firmware_enter(unsigned int core, struct psci_answer *, struct psci_stop *);
 /* AFFINITY_INFO of this core, without the lock but where an acknowledgement waits for it. */
@@ -88,7 +91,7 @@ void __dead2 park(void);
 extern entry_point_info_t entry_points[PLATFORM_CORE_COUNT];
 extern spinlock_t start_locks[PLATFORM_CORE_COUNT];
 
-/* gumdarts_stack.S: calls a function on a stack of its own. */
+/* gumdarts_stack.S: calls a function on a larger stack. */
 void on_opening_stack(void (*function)(void));
 
 #endif

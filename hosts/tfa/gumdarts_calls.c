@@ -48,17 +48,22 @@ static bool is_entry(u_register_t entry)
 
 /* ---- calls that return, or end the system */
 
+static u_register_t answer_of(const struct psci_answer *answer, uint32_t function)
+{
+    if (answer->what == PSCI_STOP && answer->message.some)
+        end_system(function);
+    if (answer->what == PSCI_STOP)
+        park();
+    return code_register(answer->code, function);
+}
+
 u_register_t plain_call(const uint64_t *x)
 {
     struct psci_answer answer;
     struct psci_stop stop;
 
     firmware_call(plat_my_core_pos(), x, &answer, &stop);
-    if (answer.what == PSCI_STOP && answer.message.some)
-        end_system((uint32_t)x[0]);
-    if (answer.what == PSCI_STOP)
-        park();
-    return code_register(answer.code, (uint32_t)x[0]);
+    return answer_of(&answer, (uint32_t)x[0]);
 }
 
 /* The caller waits for nobody, where it asks of a core. */
@@ -92,13 +97,6 @@ static u_register_t features(const uint64_t *x)
 
 /* ---- CPU_ON */
 
-/* Whether the firmware will start the core: what it refuses it says itself. */
-static bool will_start(const uint64_t *x, unsigned int target)
-{
-    return firmware_status(target) == AFF_STATE_OFF && (x[2] & 3U) == 0U &&
-           x[2] >= board.ranges[0].start && x[2] < board.ranges[0].end;
-}
-
 /* The hook may fail, so it is asked first; the core that it starts waits for the lock of its start. */
 static int start_core(u_register_t mpidr)
 {
@@ -107,23 +105,36 @@ static int start_core(u_register_t mpidr)
     return psci_plat_pm_ops->pwr_domain_on(mpidr);
 }
 
+/* Under the lock of the target's start. The firmware refuses while the target is not OFF; once it is, it stays
+ * so until it is started here. */
+static u_register_t start(const uint64_t *x, u_register_t mpidr, unsigned int target)
+{
+    struct psci_answer answer;
+
+    if (firmware_call_unless_off(plat_my_core_pos(), x, target, &answer))
+        return answer_of(&answer, (uint32_t)x[0]);
+    if (start_core(mpidr) != PSCI_E_SUCCESS)
+        return code_register(PSCI_E_INTERN_FAIL, (uint32_t)x[0]);
+    entry_keep(target);
+    return plain_call(x);
+}
+
+static bool is_in_range(u_register_t entry)
+{
+    return (entry & 3U) == 0U && entry >= board.ranges[0].start && entry < board.ranges[0].end;
+}
+
 static u_register_t cpu_on_of(uint64_t *x, unsigned int target)
 {
     u_register_t mpidr = x[1], code;
-    bool starts;
 
     if (!is_entry(x[2]))
         return code_register(PSCI_E_INVALID_ADDRESS, (uint32_t)x[0]);
     x[1] = board_word(mpidr, 0U);
+    if (!is_in_range(x[2]))
+        return plain_call(x);
     spin_lock(&start_locks[target]);
-    starts = will_start(x, target);
-    if (starts && start_core(mpidr) != PSCI_E_SUCCESS) {
-        spin_unlock(&start_locks[target]);
-        return code_register(PSCI_E_INTERN_FAIL, (uint32_t)x[0]);
-    }
-    if (starts)
-        entry_keep(target);
-    code = plain_call(x);
+    code = start(x, mpidr, target);
     spin_unlock(&start_locks[target]);
     return code;
 }

@@ -142,11 +142,9 @@ static void send(unsigned int core, const struct psci_frame *message)
 
 /* ---- calls */
 
-void firmware_call(unsigned int core, const uint64_t *x, struct psci_answer *answer,
-                   struct psci_stop *stop)
+static void call_locked(unsigned int core, const uint64_t *x, struct psci_answer *answer,
+                        struct psci_stop *stop)
 {
-    spin_lock(&lock);
-    serve();
     psci_smc(&firmware, (uint16_t)core, x[0], x[1], x[2], x[3], answer);
     record_call(core, x, answer);
     memset(stop, 0, sizeof(*stop));
@@ -158,7 +156,30 @@ void firmware_call(unsigned int core, const uint64_t *x, struct psci_answer *ans
         answer->code = PSCI_E_INTERN_FAIL;
     }
     send(core, &answer->message);
+}
+
+void firmware_call(unsigned int core, const uint64_t *x, struct psci_answer *answer,
+                   struct psci_stop *stop)
+{
+    spin_lock(&lock);
+    serve();
+    call_locked(core, x, answer, stop);
     spin_unlock(&lock);
+}
+
+bool firmware_call_unless_off(unsigned int core, const uint64_t *x, unsigned int target,
+                              struct psci_answer *answer)
+{
+    struct psci_stop stop;
+    bool is_off;
+
+    spin_lock(&lock);
+    serve();
+    is_off = psci_status(&firmware, 0U, (uint16_t)target) == AFF_STATE_OFF;
+    if (!is_off)
+        call_locked(core, x, answer, &stop);
+    spin_unlock(&lock);
+    return !is_off;
 }
 
 /* An acknowledgement that the poll would miss is taken first; else nobody is waited for. */

@@ -68,15 +68,20 @@ static unsigned int __init capabilities(const plat_psci_ops_t *hooks)
            present(ENABLE_PSCI_STAT != 0, PSCI_STAT_COUNT_AARCH64);
 }
 
+/* The board's boot core is the first one, and the stacks above its own are the others'. */
+static void __init check_boot_core(unsigned int core)
+{
+    if (core == 0U)
+        return;
+    ERROR("PSCI: the boot core is %u, and has to be 0\n", core);
+    panic();
+}
+
 static void __init enter_boot_core(unsigned int core)
 {
     struct psci_answer answer;
     struct psci_stop stop;
 
-    if (core != 0U) {
-        ERROR("PSCI: the boot core is %u, and has to be 0\n", core);
-        panic();
-    }
     firmware_enter(core, &answer, &stop);
     tell_running(core);
 }
@@ -84,6 +89,7 @@ static void __init enter_boot_core(unsigned int core)
 int __init psci_setup(const psci_lib_args_t *arguments)
 {
     psci_arch_setup();
+    check_boot_core(plat_my_core_pos());
     describe();
     for (unsigned int core = 0U; core < psci_plat_core_count; core++)
         cm_set_context_by_index(core, &contexts[core], NON_SECURE);

@@ -11,27 +11,32 @@
 #include "hooks.h"
 #include "psci_private.h"
 
-enum { ENTRY, ON, OFF, CORE_DOWN, CLUSTER_DOWN, SYSTEM_DOWN, POLL, OTHER, WORKS };
+enum { ENTRY, ON, OFF, STANDBY, CORE_DOWN, CLUSTER_DOWN, SYSTEM_DOWN, POLL, OTHER, WORKS };
 enum { DOMAIN, START, REST, LOCKS };
 
 static const char *const works[WORKS] = {
-    "an entry", "CPU_ON", "CPU_OFF", "CPU_SUSPEND of a core", "CPU_SUSPEND of a cluster", "SYSTEM_SUSPEND",
-    "AFFINITY_INFO", "another call"};
-static const char *const locks[LOCKS] = {"domain", "start", "firmware"};
+    "an entry", "CPU_ON", "CPU_OFF", "standby", "CPU_SUSPEND of a core", "CPU_SUSPEND of a cluster",
+    "SYSTEM_SUSPEND", "AFFINITY_INFO", "another call"};
+static const char *const locks[LOCKS] = {", domain", ", start", ", firmware"};
 
-static struct {
+/* Of times: how many, and in ticks. */
+struct tally {
     unsigned int many;
-    uint64_t held, least_held, most_held, most_waited;
-} seen[WORKS][LOCKS];
+    uint64_t least, sum, most;
+};
 
-/* What a core does, and since when it has which lock. */
+/* What a core does, and since when it has which lock; of each lock how long it held it and waited for it, and
+ * of each piece of work how long it waited for locks in all. */
 static struct {
+    bool works;
     unsigned int work, deep;
-    uint64_t since[8], waited[8];
+    uint64_t since[8], begun[8], sum;
+    struct tally held[WORKS][LOCKS], waited[WORKS][LOCKS], waits[WORKS];
 } cores[PLATFORM_CORE_COUNT];
 
 extern spinlock_t start_locks[PLATFORM_CORE_COUNT] __attribute__((weak));
 extern char __STACKS_START__[], __STACKS_END__[];
+static size_t opened;
 
 void __real_spin_lock(spinlock_t *lock);
 void __wrap_spin_lock(spinlock_t *lock);
@@ -50,26 +55,39 @@ u_register_t __wrap_psci_smc_handler(uint32_t function, u_register_t x1, u_regis
 
 /* ---- locks, which a core gives back in the order opposite to that in which it took them */
 
+static void add(struct tally *to, const struct tally *more)
+{
+    if (more->many == 0U)
+        return;
+    if (to->many == 0U || more->least < to->least)
+        to->least = more->least;
+    to->many += more->many;
+    to->sum += more->sum;
+    to->most = more->most > to->most ? more->most : to->most;
+}
+
+static void count(struct tally *to, uint64_t ticks)
+{
+    struct tally one = {1U, ticks, ticks, ticks};
+
+    add(to, &one);
+}
+
 static void took(uint64_t begun)
 {
     unsigned int core = plat_my_core_pos(), at = cores[core].deep++ % 8U;
 
+    cores[core].begun[at] = begun;
     cores[core].since[at] = read_cntpct_el0();
-    cores[core].waited[at] = cores[core].since[at] - begun;
+    cores[core].sum += cores[core].since[at] - begun;
 }
 
 static void gives(unsigned int lock)
 {
     unsigned int core = plat_my_core_pos(), at = --cores[core].deep % 8U, work = cores[core].work;
-    uint64_t held = read_cntpct_el0() - cores[core].since[at];
 
-    if (seen[work][lock].many++ == 0U || held < seen[work][lock].least_held)
-        seen[work][lock].least_held = held;
-    seen[work][lock].held += held;
-    if (held > seen[work][lock].most_held)
-        seen[work][lock].most_held = held;
-    if (cores[core].waited[at] > seen[work][lock].most_waited)
-        seen[work][lock].most_waited = cores[core].waited[at];
+    count(&cores[core].held[work][lock], read_cntpct_el0() - cores[core].since[at]);
+    count(&cores[core].waited[work][lock], cores[core].since[at] - cores[core].begun[at]);
 }
 
 /* The lock of a core that is being started: a table of them inside, a word of each core's node in TF-A. */
@@ -110,6 +128,23 @@ void __wrap_bakery_lock_release(bakery_lock_t *lock)
     __real_bakery_lock_release(lock);
 }
 
+/* ---- pieces of work: a call, up to its answer or to the core's next entry, and an entry */
+
+static void ends(unsigned int core)
+{
+    if (cores[core].works)
+        count(&cores[core].waits[cores[core].work], cores[core].sum);
+    cores[core].works = false;
+}
+
+static void begins(unsigned int core, unsigned int work)
+{
+    ends(core);
+    cores[core].works = true;
+    cores[core].work = work;
+    cores[core].sum = 0U;
+}
+
 /* ---- what is told */
 
 static void tell(const char *line)
@@ -118,32 +153,65 @@ static void tell(const char *line)
         (void)plat_crash_console_putc(*line++);
 }
 
-static void tell_lock(unsigned int work, unsigned int lock)
+static void tell_times(const char *what, const char *work, const char *lock, const struct tally *times)
 {
     char line[160];
 
-    if (seen[work][lock].many == 0U)
+    if (times->many == 0U)
         return;
-    (void)snprintf(line, sizeof(line),
-                   "locks: %s: %s: %u times, held %lu at least, %lu on average, %lu at most, waited %lu\n",
-                   works[work], locks[lock], seen[work][lock].many, seen[work][lock].least_held,
-                   seen[work][lock].held / seen[work][lock].many, seen[work][lock].most_held,
-                   seen[work][lock].most_waited);
+    (void)snprintf(line, sizeof(line), "%s: %s%s: %u times, %lu at least, %lu on average, %lu at most, %lu in all\n",
+                   what, work, lock, times->many, times->least, times->sum / times->many, times->most, times->sum);
     tell(line);
 }
 
-/* By the lowest word that is not 0. */
-static void tell_stack(unsigned int core)
+static void tell_lock(unsigned int work, unsigned int lock)
 {
-    size_t size = (size_t)(__STACKS_END__ - __STACKS_START__) / PLATFORM_CORE_COUNT;
-    const char *end = __STACKS_START__ + (core + 1U) * size;
-    const uint64_t *word = (const uint64_t *)(end - size);
-    char line[80];
+    struct tally held = {0U}, waited = {0U};
+
+    for (unsigned int core = 0U; core < PLATFORM_CORE_COUNT; core++) {
+        add(&held, &cores[core].held[work][lock]);
+        add(&waited, &cores[core].waited[work][lock]);
+    }
+    tell_times("held", works[work], locks[lock], &held);
+    tell_times("waited", works[work], locks[lock], &waited);
+}
+
+static void tell_work(unsigned int work)
+{
+    struct tally waits = {0U};
+
+    for (unsigned int core = 0U; core < PLATFORM_CORE_COUNT; core++)
+        add(&waits, &cores[core].waits[work]);
+    tell_times("waited", works[work], "", &waits);
+}
+
+/* How much of this memory is used from its end down, by the lowest word that is not 0. */
+static size_t used(const char *start, const char *end)
+{
+    const uint64_t *word = (const uint64_t *)start;
 
     while ((const char *)word < end && *word == 0U)
         word++;
+    return (size_t)(end - (const char *)word);
+}
+
+static void tell_stack(unsigned int core)
+{
+    size_t size = (size_t)(__STACKS_END__ - __STACKS_START__) / PLATFORM_CORE_COUNT;
+    const char *start = __STACKS_START__ + core * size;
+    char line[80];
+
     (void)snprintf(line, sizeof(line), "stack: core %u used %lu of %lu bytes\n", core,
-                   (unsigned long)(end - (const char *)word), (unsigned long)size);
+                   (unsigned long)used(start, start + size), (unsigned long)size);
+    tell(line);
+}
+
+static void tell_opening(void)
+{
+    char line[80];
+
+    (void)snprintf(line, sizeof(line), "stack: the opening used %lu bytes of the other cores'\n",
+                   (unsigned long)opened);
     tell(line);
 }
 
@@ -153,17 +221,23 @@ static void tell_all(void)
     for (unsigned int work = 0U; work < WORKS; work++)
         for (unsigned int lock = 0U; lock < LOCKS; lock++)
             tell_lock(work, lock);
+    for (unsigned int work = 0U; work < WORKS; work++)
+        tell_work(work);
     for (unsigned int core = 0U; core < PLATFORM_CORE_COUNT; core++)
         tell_stack(core);
+    tell_opening();
 }
 
 /* ---- what a core does */
 
 void __wrap_psci_warmboot_entrypoint(void)
 {
-    cores[plat_my_core_pos()].work = ENTRY;
-    cores[plat_my_core_pos()].deep = 0U;
+    unsigned int core = plat_my_core_pos();
+
+    begins(core, ENTRY);
+    cores[core].deep = 0U;
     __real_psci_warmboot_entrypoint();
+    ends(core);
 }
 
 static unsigned int work_of(uint32_t function, u_register_t word)
@@ -174,6 +248,8 @@ static unsigned int work_of(uint32_t function, u_register_t word)
     case PSCI_CPU_OFF:
         return OFF;
     case PSCI_CPU_SUSPEND_AARCH32:
+        if (psci_get_pstate_type((unsigned int)word) == PSTATE_TYPE_STANDBY)
+            return STANDBY;
         return psci_get_pstate_pwrlvl((unsigned int)word) == 0U ? CORE_DOWN : CLUSTER_DOWN;
     case PSCI_SYSTEM_SUSPEND_AARCH32:
         return SYSTEM_DOWN;
@@ -187,18 +263,24 @@ static unsigned int work_of(uint32_t function, u_register_t word)
 u_register_t __wrap_psci_smc_handler(uint32_t function, u_register_t x1, u_register_t x2, u_register_t x3,
                                      u_register_t x4, void *cookie, void *handle, u_register_t flags)
 {
-    cores[plat_my_core_pos()].work = work_of(function, x1);
+    unsigned int core = plat_my_core_pos();
+    u_register_t answer;
+
     if (function == PSCI_SYSTEM_OFF)
         tell_all();
-    return __real_psci_smc_handler(function, x1, x2, x3, x4, cookie, handle, flags);
+    begins(core, work_of(function, x1));
+    answer = __real_psci_smc_handler(function, x1, x2, x3, x4, cookie, handle, flags);
+    ends(core);
+    return answer;
 }
 
-/* As BL31 comes up: what is above this frame is in use. */
+/* As BL31 comes up, on core 0: what is above this frame is in use. */
 void hooks_measure(void)
 {
     uintptr_t here = (uintptr_t)__builtin_frame_address(0) - 512U;
     size_t size = (size_t)(__STACKS_END__ - __STACKS_START__) / PLATFORM_CORE_COUNT;
 
+    opened = used(__STACKS_START__ + size, __STACKS_END__);
     for (unsigned int core = 0U; core < PLATFORM_CORE_COUNT; core++) {
         uintptr_t at = (uintptr_t)__STACKS_START__ + core * size;
 
