@@ -54,7 +54,9 @@ def begun_again(room):
     program, held = room.held("--seed 20 ")
     process = subprocess.Popen(room.words("ended", "--chunk", "2", "--jobs", "2", program=program),
                                stdout=subprocess.DEVNULL, stderr=subprocess.DEVNULL, start_new_session=True)
-    waited(lambda: os.path.isdir(room.path("ended/results")) and len(room.results("ended")) > 2)
+    # beside them may stand a file that is being written
+    waited(lambda: os.path.isdir(room.path("ended/results"))
+           and sum(it.endswith(".json") for it in os.listdir(room.path("ended/results"))) > 2)
     # with all that it has started, as by the machine
     os.killpg(process.pid, signal.SIGKILL)
     process.wait()
