@@ -1,7 +1,7 @@
 -- What a name says holds of the core that is searched by it.
 use Rattle.std.proofs.Common.{◌≡◌, ◌∙◌, ◌<◌, ℕ, All, Contains, List, [], ◌∷◌, ap, length, sym}
 use Rattle.std.proofs.Common.{Some, slice_index_or}
-use Rattle.std.proofs.lemmas.List.Elements.{All-cons, All-contains, All-nil}
+use Rattle.std.proofs.lemmas.List.Elements.{All-cons, All-contains, All-nil, All-same}
 use Rattle.std.proofs.lemmas.List.Sorted.{All-permutation, IsPermutation-insert}
 use Rattle.std.specs.List.{insert}
 use Rattle.psci_board.specs.Board.{BoardValue, address, cores}
@@ -14,15 +14,17 @@ pub no_name : (d : DescriptionValue) (b : BoardValue) (boot : ℕ) → All (IsNa
 no_name d b boot = All-nil (IsName d b boot)
 
 -- a name of a core goes among the others, at any place
-pub one_more : (d : DescriptionValue) (b : BoardValue) (boot : ℕ) (names : List Name) (place : ℕ)
-    (n : Name) → All (IsName d b boot) names
-    → number_named d b boot n.mpidr 0 ≡ Some n.core.number
+pub one_more : (d : DescriptionValue) (b : BoardValue) (boot : ℕ) (names more : List Name)
+    (place : ℕ) (n : Name) → more ≡ insert names place n → All (IsName d b boot) names
+    → Some n.core.number ≡ number_named d b boot n.mpidr 0
     → n.word ≡ address b 0 n.core.number → n.core.number < cores b
-    → All (IsName d b boot) (insert names place n)
-one_more d b boot names place n all core word inside =
-    All-permutation (IsName d b boot) (n ∷ names) (insert names place n)
+    → All (IsName d b boot) more
+one_more d b boot names more place n is all core word inside =
+    All-same (IsName d b boot) more (insert names place n) is
+    (All-permutation (IsName d b boot) (n ∷ names) (insert names place n)
     (IsPermutation-insert names place n)
-    (All-cons (IsName d b boot) n names (record { core = core; word = word; inside = inside }) all)
+    (All-cons (IsName d b boot) n names (record { core = sym core; word = word; inside = inside })
+    all))
 
 -- what is read at a place is among all
 pub among : (names : List Name) (place : ℕ) (n : Name) → place < length names

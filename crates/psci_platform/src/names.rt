@@ -38,14 +38,15 @@ impl Description {
     {
         let mut names = Vec::with_capacity(alloc, self.mpidrs.len())?;
         for mpidr in &self.mpidrs {
-            if let Some(core) = self.number_named(board, boot, *mpidr, 0) {
-                let name = Name {
-                    mpidr: *mpidr,
-                    word: affinity_word(board, core),
-                    core,
-                };
-                names.insert(place_above(&names, *mpidr), name)?;
-            }
+            let Some(core) = self.number_named(board, boot, *mpidr, 0) else {
+                continue;
+            };
+            let name = Name {
+                mpidr: *mpidr,
+                word: affinity_word(board, core),
+                core,
+            };
+            names.insert(place_above(&names, *mpidr), name)?;
         }
         Ok(names)
     }
