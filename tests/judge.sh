@@ -97,6 +97,33 @@ judged_model() {
     done
 }
 
+# is_gone PROCESS: whether it executes no more, soon
+is_gone() {
+    for _ in {1..100}; do
+        [ -e "/proc/$1" ] && ! grep -q "^State:.[ZX]" "/proc/$1/status" || return 0
+        sleep 0.1
+    done
+    return 1
+}
+
+# a machine that does not end is ended with all that it has started, and what it printed is kept
+judged_ended() {
+    local short=tests/records/calls.record
+    has_python "machines that do not end" || return
+    if "$payload/run" --seconds 2 --payload $short --out "$work/ended" features --command \
+        "sh -c 'cat $short; sleep 900 & echo \$! > $work/started; wait'" > "$work/out" 2>&1 &&
+        grep -q "^features: 20 lines, it did not end in 2 seconds$" "$work/out" &&
+        cmp -s "$work/ended/features.record" <(grep "^psci: " $short) &&
+        is_gone "$(cat "$work/started")"; then pass; else
+        fail "$payload/run, a machine that does not end"
+        head -n 3 "$work/out"
+    fi
+    if ! "$payload/run" --payload $short --out "$work/ended" --command there-is-none features > "$work/out" 2>&1 &&
+        [ "$(cat "$work/out")" = "run: there-is-none: No such file or directory" ]; then pass; else
+        fail "$payload/run, a command that is not there"
+    fi
+}
+
 # QEMU's own firmware, asked now: the groups that do not hang on how its threads ran
 judged_live() {
     local tool profile

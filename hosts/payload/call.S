@@ -1,9 +1,15 @@
 /* uint64_t conduit_call(uint64_t x[4], uint32_t is_smc): makes the call of x, which gets the results.
- * Of x4 to x30 there is a bit in what it returns for each that the firmware changed. */
+ * In what it returns there is a bit for each register that the firmware changed: from bit 4 on for x4 to x30,
+ * from bit 32 on for the vector registers v0 to v31, where the core has any. */
         .macro  patterned
         .irp    n, 4,5,6,7,8,9,10,11,12,13,14,15,16,17,18,19,20,21,22,23,24,25,26,27,28,29,30
         mov     x\n, #(0x5a00 + \n)
         .endr
+        .endm
+        .macro  vectors_to where
+        adrp    x9, has_vectors
+        ldr     w9, [x9, :lo12:has_vectors]
+        cbz     w9, \where
         .endm
         .macro  words_of_x0
         ldp     x2, x3, [x0, #16]
@@ -20,7 +26,11 @@ conduit_call:
         stp     x25, x26, [sp, #64]
         stp     x27, x28, [sp, #80]
         stp     x0, x18, [sp, #96]
-        cbnz    w1, 1f
+        vectors_to 0f
+        .irp    n, 0,1,2,3,4,5,6,7,8,9,10,11,12,13,14,15,16,17,18,19,20,21,22,23,24,25,26,27,28,29,30,31
+        movi    v\n\().16b, #(0x40 + \n)
+        .endr
+0:      cbnz    w1, 1f
         words_of_x0
         patterned
         hvc     #0
@@ -53,7 +63,28 @@ conduit_call:
         add     x10, x10, #1
         cmp     x10, #31
         b.ne    3b
-        add     sp, sp, #256
+        vectors_to 5f
+        sub     sp, sp, #512
+        .irp    n, 0,1,2,3,4,5,6,7,8,9,10,11,12,13,14,15,16,17,18,19,20,21,22,23,24,25,26,27,28,29,30,31
+        str     q\n, [sp, #16 * \n]
+        .endr
+        mov     x14, #0x0101010101010101
+        mov     x10, #0
+4:      add     x15, sp, x10, lsl #4
+        ldp     x11, x13, [x15]
+        add     x12, x10, #0x40
+        mul     x12, x12, x14
+        cmp     x11, x12
+        ccmp    x13, x12, #0, eq
+        cset    x13, ne
+        add     x11, x10, #32
+        lsl     x13, x13, x11
+        orr     x0, x0, x13
+        add     x10, x10, #1
+        cmp     x10, #32
+        b.ne    4b
+        add     sp, sp, #512
+5:      add     sp, sp, #256
         ldr     x18, [sp, #104]
         ldp     x19, x20, [sp, #16]
         ldp     x21, x22, [sp, #32]

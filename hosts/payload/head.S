@@ -68,16 +68,32 @@ on_stack:                               /* core x0's own 8 KiB */
         mov     sp, x1
         ret
 
-at_any:                                 /* vectors, at EL1 or EL2 */
+at_any:                                 /* exceptions, and vector registers if there are any, at EL1 or EL2 */
+        mrs     x2, id_aa64pfr0_el1
+        ubfx    x2, x2, #16, #4
+        cmp     x2, #15
+        cset    w2, ne
+        adrp    x1, has_vectors
+        str     w2, [x1, :lo12:has_vectors]
         adrp    x1, vectors
         add     x1, x1, :lo12:vectors
         mrs     x2, CurrentEL
         cmp     x2, #8
         b.eq    4f
         msr     vbar_el1, x1
+        mrs     x1, cpacr_el1
+        orr     x1, x1, #3 << 20
+        msr     cpacr_el1, x1
         isb
         ret
 4:      msr     vbar_el2, x1
+        mrs     x1, cptr_el2
+        mrs     x2, hcr_el2
+        orr     x3, x1, #3 << 20        /* E2H: FPEN */
+        bic     x1, x1, #1 << 10        /* else TFP */
+        tst     x2, #1 << 34
+        csel    x1, x3, x1, ne
+        msr     cptr_el2, x1
         isb
         ret
 
@@ -95,3 +111,9 @@ vectors:
         mrs     x1, elr_el2
         b       exception
         .endr
+
+        .data
+        .balign 4
+        .global has_vectors
+has_vectors:                            /* not cleared at boot: each core that comes writes it */
+        .word   0

@@ -90,4 +90,4 @@ def main(words):
     except (profile.Wrong, ValueError) as fault:
         end(RECORD, fault)
     except OSError as fault:
-        end(READ, f"{fault.filename}: {fault.strerror}")
+        end(READ, f"{fault.filename or 'standard output'}: {fault.strerror}")

@@ -8,8 +8,8 @@ INFINITE = float("inf")
 # how many numbers each kind of line has
 FIELDS = {"head": 6, "call": 14, "open": 7, "enter": 5, "late": 2, "lacks": 5, "fault": 3}
 FORM = 1
-# registers that a call has to keep by every version of the calling convention, x18 to x30
-KEPT = 0x7FFC0000
+# registers that a call has to keep by every version of the calling convention: x18 to x30, v0 to v31
+KEPT = 0x7FFC0000 | 0xFFFFFFFF << 32
 # what a record says that is no answer: kind is "fault" or "note"
 Remark = namedtuple("Remark", "kind what text")
 
@@ -155,7 +155,7 @@ def called(life, numbers, _is_last):
 def look_at_registers(life, operation, results, lost):
     regs = operation.regs
     if lost & KEPT:
-        names = ", ".join(f"x{it}" for it in range(18, 31) if lost >> it & 1)
+        names = ", ".join(f"x{it}" if it < 32 else f"v{it - 32}" for it in range(18, 64) if lost >> it & 1)
         life.remarks.append(Remark("fault", "registers that are to be kept", f"{operation.text}: {names}"))
     elif lost:
         life.remarks.append(Remark("note", "x4 to x17 changed, as version 1.0 of the convention lets them",
