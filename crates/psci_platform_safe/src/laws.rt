@@ -1,0 +1,72 @@
+//! What holds of every platform: each law is the contract of a function that does nothing.
+
+ghost use Rattle.std.specs.Prelude.{◌≡◌, ◌<◌, ◌++◌, ℕ, List, [], map, reverse};
+ghost use Rattle.psci_platform.specs.Platforms.{IsPlatform, PlatformValue};
+ghost use Rattle.psci_world_laws.specs.psci_board.Board.{IsBoard, cores};
+ghost use Rattle.psci_world_laws.specs.psci_world_spec.declared.event.Event.{Event};
+ghost use Rattle.psci_world_laws.specs.psci_world_spec.declared.said.Record.{Record};
+ghost use Rattle.psci_world_laws.specs.psci_world_spec.Legal.{IsLegalPast};
+ghost use Rattle.psci_platform_safe.specs.Names.{IsCore, mpidr_of, number};
+ghost use Rattle.psci_platform_safe.specs.Safe.{AlwaysSafeOn};
+ghost use Rattle.psci_platform_safe.specs.Words.{IsLegalOn, numbered, run_on};
+
+use psci_headline::{
+    law_asked_claims, law_claimed_depths, law_safe, law_told_hw, law_told_off,
+};
+use psci_platform::{law_boot_core, law_missing, law_mpidrs, law_named};
+use psci_board::law_words;
+use psci_world_laws::{law_kept, law_paths, law_sent};
+
+/// The firmware's numbers and the MPIDRs of a platform's cores name each other, and the boot core
+/// has number 0.
+pub fn law_numbers()
+    ensures core { (p : PlatformValue) (mpidr : ℕ) → IsBoard p.board → IsPlatform p
+        → IsCore p mpidr → (number p mpidr < cores p.board) × (mpidr_of p (number p mpidr) ≡ mpidr) }
+    ensures number { (p : PlatformValue) (c : ℕ) → IsBoard p.board → IsPlatform p
+        → c < cores p.board → IsCore p (mpidr_of p c) × (number p (mpidr_of p c) ≡ c) }
+    ensures boot { (p : PlatformValue) → IsBoard p.board → IsPlatform p
+        → IsCore p p.boot × (number p p.boot ≡ 0) }
+{
+    law_paths();
+    law_words();
+    law_mpidrs();
+    law_named();
+    law_boot_core();
+}
+
+/// Each list of events of a platform has exactly one legal history, and what the firmware and the
+/// power controller are asked and say in it is one legal run of theirs.
+pub fn law_runs_on()
+    ensures legal { (p : PlatformValue) (events : List Event) → IsLegalOn p (run_on p [] events) }
+    ensures events { (p : PlatformValue) (events : List Event)
+        → map (λ r. r.event) (run_on p [] events) ≡ reverse events }
+    ensures only { (p : PlatformValue) (one other : List Record) → IsLegalOn p one
+        → IsLegalOn p other → map (λ r. r.event) one ≡ map (λ r. r.event) other → one ≡ other }
+    ensures numbered { (p : PlatformValue) (past : List Record)
+        → IsLegalPast p.board (numbered p past) }
+{}
+
+/// A legal history of a platform is safe at every moment, in the platform's own words: no core that
+/// executes stands below a domain that is not fully on, and a core that AFFINITY_INFO said is OFF
+/// does not run and was powered down since it last went on; each domain has at most one live claim;
+/// no domain is deeper than its cores asked; each entry takes up an opening that was made for the
+/// core and that no other entry took up; and a domain that NODE_HW_STATE said is off or in standby
+/// was so.
+pub fn law_safe_on()
+    ensures { (p : PlatformValue) (past : List Record) → IsBoard p.board → IsPlatform p
+        → IsLegalOn p past → AlwaysSafeOn p past }
+{
+    law_paths();
+    law_words();
+    law_mpidrs();
+    law_named();
+    law_missing();
+    law_boot_core();
+    law_kept();
+    law_sent();
+    law_safe();
+    law_told_off();
+    law_told_hw();
+    law_claimed_depths();
+    law_asked_claims();
+}
