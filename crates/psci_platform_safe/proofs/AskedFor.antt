@@ -28,9 +28,9 @@ use Rattle.psci_world_laws.specs.psci_world_spec.Histories.{sent_in}
 use Rattle.psci_platform_safe.specs.Asked.{AllAsk, AskFor, IsAsAsked, WasAskedFor, depth_above}
 use Rattle.psci_platform_safe.specs.Asked.{mode_of}
 use Rattle.psci_platform_safe.specs.Names.{AreBeside, IsCore, domain_above, mpidr_of, number}
-use Rattle.psci_platform_safe.specs.Words.{numbered}
+use Rattle.psci_platform_safe.specs.Words.{IsLegalOn, numbered}
 use Rattle.psci_platform_safe.proofs.Numbers.{Laws, has_above, number_back, number_inside}
-use Rattle.psci_platform_safe.proofs.Told.{numbered_legal, record_for}
+use Rattle.psci_platform_safe.proofs.Told.{record_for}
 
 -- All cores below a domain ---------------------------------------------------------------------
 
@@ -106,7 +106,7 @@ record Sent (p : PlatformValue) (life : ℕ) (n : Node) (past : List Record) (x 
   before : List Record
   split : past ≡ later ++ (r ∷ before)
   message : MessageValue
-  sent : sent_in (record_for p before r.event).said ≡ Some message
+  sent : sent_in (record_for p before r).said ≡ Some message
   part : Part
   has : part_for p.board life n.level n.place message ≡ Some part
   is : x ≡ claim_by p.board (firmware_values p.board (numbered p (r ∷ before))) n
@@ -151,7 +151,7 @@ origin p life n [] k x at =
 origin p life n (r ∷ past) k x at =
     by_claim p.board life (firmware_values p.board (numbered p (r ∷ past))) n
     (λ y. First p n y ⊎ Sent p life n (r ∷ past) y) (claims p.board life n (numbered p past))
-    (sent_in (record_for p past r.event).said) k x
+    (sent_in (record_for p past r).said) k x
     (λ m part e has. inr (record {
       later = [];
       r = r;
@@ -167,10 +167,17 @@ origin p life n (r ∷ past) k x at =
 
 -- No deeper than asked --------------------------------------------------------------------------
 
+-- each moment of a legal past is legal
+legal_before : (p : PlatformValue) (later before : List Record) → IsLegalOn p (later ++ before)
+    → IsLegalOn p before
+unfolding numbered
+legal_before p [] before legal = legal
+legal_before p (r ∷ later) before legal = legal_before p later before legal.1
+
 -- a message names a core of the board
 abbrev pub AreSound : PlatformValue → Type 0
-AreSound p = (past : List Record) (r : Record) (m : MessageValue)
-    → sent_in (record_for p past r.event).said ≡ Some m → m.core.number < cores p.board
+AreSound p = (past : List Record) (r : Record) (m : MessageValue) → IsLegalOn p (r ∷ past)
+    → sent_in (record_for p past r).said ≡ Some m → m.core.number < cores p.board
 
 module _ (p : PlatformValue) (past : List Record) (mpidr level life depth : ℕ) (laws : Laws p)
     (boot : number p p.boot ≡ 0) (low : level ≤ height p.board) (x : Claim) (deep : x.depth ≡ depth)
@@ -191,9 +198,9 @@ module _ (p : PlatformValue) (past : List Record) (mpidr level life depth : ℕ)
     live = sym live ∙ is.old;
   })
 
-  from_message : AreSound p → x.asked ≡ true → Sent p life n past x
+  from_message : AreSound p → IsLegalOn p past → x.asked ≡ true → Sent p life n past x
       → IsAsAsked p past mpidr level life depth
-  from_message sound asked is =
+  from_message sound legal asked is =
       let same : is.part.depth ≡ depth = ap (λ (c : Claim). c.depth) (sym is.is) ∙ deep in
       let yes : asks_by (mode_of p (is.r ∷ is.before)) p.board
       (firmware_values p.board (numbered p (is.r ∷ is.before))) n is.message.core.number
@@ -214,16 +221,19 @@ module _ (p : PlatformValue) (past : List Record) (mpidr level life depth : ℕ)
             (mpidr_of p is.message.core.number) mpidr level) same
             (asked_for p (is.r ∷ is.before) mpidr level is.part.depth is.message.core.number
             (mode_of p (is.r ∷ is.before)) laws
-            (sound is.before is.r is.message is.sent) yes);
+            (sound is.before is.r is.message
+            (legal_before p is.later (is.r ∷ is.before)
+            (subst (IsLegalOn p) is.split legal)) is.sent) yes);
       })
 
 pub as_asked : (p : PlatformValue) (past : List Record) (mpidr level life : ℕ) → Laws p
     → number p p.boot ≡ 0 → AreClaimed p.board (numbered p past)
-    → AreAsked p.board (numbered p past) → AreSound p → IsCore p mpidr → level ≤ height p.board
+    → AreAsked p.board (numbered p past) → AreSound p → IsLegalOn p past → IsCore p mpidr
+    → level ≤ height p.board
     → (controller_values p.board (numbered p past)).life ≡ Some life
     → 0 < depth_above p past mpidr level
     → IsAsAsked p past mpidr level life (depth_above p past mpidr level)
-as_asked p past mpidr level life laws boot claimed asked sound is low present some =
+as_asked p past mpidr level life laws boot claimed asked sound legal is low present some =
     let n = domain_above p mpidr level in
     let depth = depth_above p past mpidr level in
     let has = has_above p mpidr level laws is low in
@@ -238,5 +248,5 @@ as_asked p past mpidr level life laws boot claimed asked sound is low present so
           start
       | inr message ↦
           from_message p past mpidr level one.life depth laws boot low live.claim live.deep one.live
-          sound (asked one.life n one.index live.claim has one.at) message
+          sound legal (asked one.life n one.index live.claim has one.at) message
     ])

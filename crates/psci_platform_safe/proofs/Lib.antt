@@ -1,9 +1,9 @@
 -- In the order of the argument.
 pub mod Numbers
 pub mod Named
-pub mod Runs
 pub mod Telling
 pub mod Told
 pub mod AskedFor
+pub mod Safety
 pub mod Calling
 pub mod Sources

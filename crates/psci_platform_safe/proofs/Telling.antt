@@ -1,4 +1,4 @@
--- What a record says in the platform's words, the firmware said in its own.
+-- What the firmware is asked for a call that names a core or a domain.
 use Rattle.std.proofs.Common.{◌≡◌, ℕ, ◌<◌, ◌≤◌, ◌^◌, ◌∷◌, Bool, true, false, cond, List, Option, None}
 use Rattle.std.proofs.Common.{Some, refl, sym, ap, ◌∙◌, subst, arith, option_map, pos}
 use Rattle.psci_platform.specs.Calls.{first_argument, is_there, no_function, regs_asking, regs_for}
@@ -13,33 +13,7 @@ use Rattle.psci_world_laws.specs.psci_abi.declared.request.Request.{Request}
 use Rattle.psci_world_laws.specs.psci_abi.declared.request.Request.TheVariants as requests
 use Rattle.psci_world_laws.specs.psci_board.Board.{BoardValue, address, cores}
 use Rattle.psci_world_laws.specs.psci_fw_spec.declared.mode.SuspendMode.{SuspendMode}
-use Rattle.psci_world_laws.specs.psci_fw_spec.declared.outcome.Act.{Act}
-use Rattle.psci_world_laws.specs.psci_world_spec.declared.event.Event.{Event}
-use Rattle.psci_world_laws.specs.psci_world_spec.declared.said.Said.{Said}
-use Rattle.psci_world_laws.specs.psci_world_spec.declared.said.Said.TheVariants as saids
-use Rattle.psci_world_laws.specs.psci_world_spec.declared.said.Sent.{Sent}
-use Rattle.psci_platform_safe.specs.Words.{said_for, sent_for}
 use Rattle.psci_platform_safe.proofs.Numbers.{Laws, named_inside}
-
--- What is said ----------------------------------------------------------------------------------
-
--- What the firmware said where the platform says an act.
-pub record SaidBy (p : PlatformValue) (act : Act) (sent : Option Sent) (said : Said) : Type 0 where
-  pub own : Option Sent
-  pub is : said ≡ saids.Fw act own
-  pub same : sent ≡ option_map (sent_for p) own
-
-pub said_by : (p : PlatformValue) (act : Act) (sent : Option Sent) (said : Said)
-    → saids.Fw act sent ≡ said_for p said → SaidBy p act sent said
-said_by p act sent (saids.Fw does own) e =
-    let same : act ≡ does = cc in
-    let with : sent ≡ option_map (sent_for p) own = cc in
-    record { own = own; is = ap (λ (x : Act). saids.Fw x own) (sym same); same = with }
-said_by p act sent (saids.Kick start) e = absurd (cc)
-said_by p act sent (saids.Acked index ack) e = absurd (cc)
-said_by p act sent (saids.Taken taken) e = absurd (cc)
-said_by p act sent saids.Ignored e = absurd (cc)
-said_by p act sent saids.Absent e = absurd (cc)
 
 -- What is asked ---------------------------------------------------------------------------------
 

@@ -1,6 +1,6 @@
 -- Sentences 1 and 5: what AFFINITY_INFO and NODE_HW_STATE told.
 use Rattle.std.proofs.Common.{◌≡◌, ℕ, pos, ◌∷◌, Bool, true, false, List, [], Option, Some, refl, sym, ap}
-use Rattle.std.proofs.Common.{◌∙◌, subst, cond, inl, inr}
+use Rattle.std.proofs.Common.{◌∙◌, subst, cond, inl, inr, option_map}
 use Rattle.std.proofs.lemmas.Bool.{cases_Bool}
 use Rattle.psci_headline.specs.ToldHw.{WasSoDeep, hw_asked_of, told_hw}
 use Rattle.psci_headline.specs.ToldOff.{AllOff, asked_of, told_off}
@@ -24,25 +24,21 @@ use Rattle.psci_world_laws.specs.psci_world_spec.declared.said.Said.{Said}
 use Rattle.psci_world_laws.specs.psci_world_spec.declared.said.Said.TheVariants.{Fw}
 use Rattle.psci_world_laws.specs.psci_world_spec.declared.said.Sent.{Sent}
 use Rattle.psci_world_laws.specs.psci_world_spec.Histories.{firmware_history, firmware_values}
-use Rattle.psci_world_laws.specs.psci_world_spec.Legal.{IsLegalPast, legal, legal_record}
 use Rattle.psci_world_laws.proofs.world_spec.Answered.{firmware_legal}
 use Rattle.psci_platform_safe.specs.Asked.{mode_of}
 use Rattle.psci_platform_safe.specs.Names.{IsAskedOf, domain_above, number}
 use Rattle.psci_platform_safe.specs.Safe.{Answers, IsOff}
-use Rattle.psci_platform_safe.specs.Words.{event_after, legal_for, numbered}
+use Rattle.psci_platform_safe.specs.Words.{IsLegalOn, event_after, numbered, said_in_numbers}
+use Rattle.psci_platform_safe.specs.Words.{sent_in_numbers}
 use Rattle.psci_platform_safe.proofs.Numbers.{Laws, low_asked, number_inside}
-use Rattle.psci_platform_safe.proofs.Telling.{affinity_told, hw_told, said_by}
-
--- the records in the firmware's words are legal
-pub numbered_legal : (p : PlatformValue) (past : List Record) → IsLegalPast p.board (numbered p past)
-unfolding numbered
-numbered_legal p [] = tt
-numbered_legal p (r ∷ past) = (refl, numbered_legal p past)
+use Rattle.psci_platform_safe.proofs.Telling.{affinity_told, hw_told}
 
 -- the record in the firmware's words for one of the platform
-abbrev pub record_for : PlatformValue → List Record → Event → Record
-record_for p past event =
-    legal_record p.board (numbered p past) (event_after p (numbered p past) event)
+abbrev pub record_for : PlatformValue → List Record → Record → Record
+record_for p past r = record {
+  event = event_after p (numbered p past) r.event;
+  said = said_in_numbers p r.said;
+}
 
 -- What the firmware answered where the platform did.
 record IsAnswered (p : PlatformValue) (r : Record) (past : List Record) (request : Request)
@@ -53,47 +49,43 @@ record IsAnswered (p : PlatformValue) (r : Record) (past : List Record) (request
   asks : request_of regs ≡ request
   event : event_after p (numbered p past) r.event
       ≡ Call (number p caller) (regs_for p.description p.board p.place (mode_of p past) regs)
-  said : (record_for p past r.event).said ≡ Fw (acts.Return (record { 0 = pos code })) own
+  said : (record_for p past r).said ≡ Fw (acts.Return (record { 0 = pos code })) own
 
 answered : (p : PlatformValue) (r : Record) (past : List Record) (request : Request) (code : ℕ)
-    → r.said ≡ legal_for p past r.event → Answers r request code
-    → IsAnswered p r past request code
-answered p r past request code legal a =
-    let by = said_by p (acts.Return (record { 0 = pos code })) a.sent
-    (record_for p past r.event).said (sym a.said ∙ legal) in
-    record {
-      caller = a.caller;
-      regs = a.regs;
-      own = by.own;
-      asks = a.asks;
-      event = ap (event_after p (numbered p past)) a.event;
-      said = by.is;
-    }
+    → Answers r request code → IsAnswered p r past request code
+answered p r past request code a = record {
+  caller = a.caller;
+  regs = a.regs;
+  own = option_map (sent_in_numbers p) a.sent;
+  asks = a.asks;
+  event = ap (event_after p (numbered p past)) a.event;
+  said = ap (said_in_numbers p) a.said;
+}
 
 -- AFFINITY_INFO ---------------------------------------------------------------------------------
 
 pub off_told : (p : PlatformValue) (r : Record) (past : List Record) (word level mpidr : ℕ) → Laws p
-    → r.said ≡ legal_for p past r.event → Answers r (requests.AffinityInfo word level) 1
+    → Answers r (requests.AffinityInfo word level) 1
     → IsAskedOf p word level mpidr
-    → told_off p.board (record_for p past r.event).event (record_for p past r.event).said
+    → told_off p.board (record_for p past r).event (record_for p past r).said
     ≡ Some (domain_above p mpidr level)
-off_told p r past word level mpidr laws legal a asked =
-    let is = answered p r past (requests.AffinityInfo word level) 1 legal a in
+off_told p r past word level mpidr laws a asked =
+    let is = answered p r past (requests.AffinityInfo word level) 1 a in
     let regs = regs_for p.description p.board p.place (mode_of p past) is.regs in
-    ap (λ (x : Event). told_off p.board x (record_for p past r.event).said) is.event
+    ap (λ (x : Event). told_off p.board x (record_for p past r).said) is.event
     ∙ ap (told_off p.board (Call (number p is.caller) regs)) is.said
     ∙ ap (asked_of p.board) (affinity_told p (mode_of p past) is.regs word level laws is.asks)
     ∙ laws.node_of word level (low_asked p word level mpidr asked)
     ∙ asked.domain
 
 pub off : (p : PlatformValue) (r : Record) (past : List Record) (word level mpidr : ℕ) → Laws p
-    → ((n : Node) → told_off p.board (record_for p past r.event).event
-    (record_for p past r.event).said ≡ Some n → AllOff p.board (numbered p past) n)
-    → r.said ≡ legal_for p past r.event → Answers r (requests.AffinityInfo word level) 1
+    → ((n : Node) → told_off p.board (record_for p past r).event
+    (record_for p past r).said ≡ Some n → AllOff p.board (numbered p past) n)
+    → Answers r (requests.AffinityInfo word level) 1
     → IsAskedOf p word level mpidr → IsOff p past mpidr
-off p r past word level mpidr laws law legal a asked =
+off p r past word level mpidr laws law a asked =
     let all = law (domain_above p mpidr level)
-    (off_told p r past word level mpidr laws legal a asked)
+    (off_told p r past word level mpidr laws a asked)
     (number p mpidr) (number_inside p mpidr laws asked.core) refl in
     record { stopped = all.0; down = all.1 }
 
@@ -108,19 +100,19 @@ other code e =
 
 -- a function that is not there answers no code of 0 or more
 never : (p : PlatformValue) (r : Record) (past : List Record) (request : Request) (code : ℕ)
-    → (is : IsAnswered p r past request code)
+    → IsLegalOn p (r ∷ past) → (is : IsAnswered p r past request code)
     → request_of (regs_for p.description p.board p.place (mode_of p past) is.regs)
     ≡ requests.Unknown → ⊥
-unfolding firmware_history
-never p r past request code is unknown =
+unfolding firmware_history numbered
+never p r past request code legal is unknown =
     let regs = regs_for p.description p.board p.place (mode_of p past) is.regs in
     let w = numbered p past in
-    let valid : Extended p.board w (event_after p w r.event) (record_for p past r.event).said =
-    firmware_legal p.board (record_for p past r.event ∷ w) (refl, numbered_legal p past) in
+    let valid : Extended p.board w (event_after p w r.event) (record_for p past r).said =
+    firmware_legal p.board (record_for p past r ∷ w) legal in
     let here : Extended p.board w (Call (number p is.caller) regs)
     (Fw (acts.Return (record { 0 = pos code })) is.own) =
     subst (λ (s : Said). Extended p.board w (Call (number p is.caller) regs) s) is.said
-    (subst (λ (e : Event). Extended p.board w e (record_for p past r.event).said) is.event valid) in
+    (subst (λ (e : Event). Extended p.board w e (record_for p past r).said) is.event valid) in
     let by = returned p.board w (number p is.caller) regs (record { 0 = pos code }) is.own here in
     let no : acts.Return (record { 0 = pos code })
     ≡ (function_outcome p.board (firmware_values p.board w) (number p is.caller)
@@ -150,37 +142,37 @@ AreUnknown p = (mode : _) (regs : Regs) (word level : ℕ)
     → request_of (regs_for p.description p.board p.place mode regs) ≡ requests.Unknown
 
 pub hw_off_told : (p : PlatformValue) (r : Record) (past : List Record) (word level mpidr : ℕ)
-    → Laws p → AreUnknown p → r.said ≡ legal_for p past r.event → IsAskedOf p word level mpidr
+    → Laws p → AreUnknown p → IsLegalOn p (r ∷ past) → IsAskedOf p word level mpidr
     → Answers r (requests.NodeHwState word level) 1
-    → told_hw p.board 1 (record_for p past r.event).event (record_for p past r.event).said
+    → told_hw p.board 1 (record_for p past r).event (record_for p past r).said
     ≡ Some (domain_above p mpidr level)
 hw_off_told p r past word level mpidr laws none legal asked a =
-    let is = answered p r past (requests.NodeHwState word level) 1 legal a in
+    let is = answered p r past (requests.NodeHwState word level) 1 a in
     let regs = regs_for p.description p.board p.place (mode_of p past) is.regs in
     elim (cases_Bool p.description.functions.node_hw_state) [
       | inl there ↦
-          ap (λ (x : Event). told_hw p.board 1 x (record_for p past r.event).said) is.event
+          ap (λ (x : Event). told_hw p.board 1 x (record_for p past r).said) is.event
           ∙ ap (told_hw p.board 1 (Call (number p is.caller) regs)) is.said
           ∙ hw_named p r past word level mpidr 1 laws asked is there
       | inr missing ↦
-          absurd (never p r past (requests.NodeHwState word level) 1 is
+          absurd (never p r past (requests.NodeHwState word level) 1 legal is
           (none (mode_of p past) is.regs word level is.asks missing))
     ]
 
 pub hw_standby_told : (p : PlatformValue) (r : Record) (past : List Record)
-    (word level mpidr : ℕ) → Laws p → AreUnknown p → r.said ≡ legal_for p past r.event
+    (word level mpidr : ℕ) → Laws p → AreUnknown p → IsLegalOn p (r ∷ past)
     → IsAskedOf p word level mpidr → Answers r (requests.NodeHwState word level) 2
-    → told_hw p.board 2 (record_for p past r.event).event (record_for p past r.event).said
+    → told_hw p.board 2 (record_for p past r).event (record_for p past r).said
     ≡ Some (domain_above p mpidr level)
 hw_standby_told p r past word level mpidr laws none legal asked a =
-    let is = answered p r past (requests.NodeHwState word level) 2 legal a in
+    let is = answered p r past (requests.NodeHwState word level) 2 a in
     let regs = regs_for p.description p.board p.place (mode_of p past) is.regs in
     elim (cases_Bool p.description.functions.node_hw_state) [
       | inl there ↦
-          ap (λ (x : Event). told_hw p.board 2 x (record_for p past r.event).said) is.event
+          ap (λ (x : Event). told_hw p.board 2 x (record_for p past r).said) is.event
           ∙ ap (told_hw p.board 2 (Call (number p is.caller) regs)) is.said
           ∙ hw_named p r past word level mpidr 2 laws asked is there
       | inr missing ↦
-          absurd (never p r past (requests.NodeHwState word level) 2 is
+          absurd (never p r past (requests.NodeHwState word level) 2 legal is
           (none (mode_of p past) is.regs word level is.asks missing))
     ]

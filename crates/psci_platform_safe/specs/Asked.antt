@@ -13,9 +13,8 @@ use Rattle.psci_world_laws.specs.psci_messages.Message.{MessageValue}
 use Rattle.psci_world_laws.specs.psci_world_spec.declared.said.Record.{Record}
 use Rattle.psci_world_laws.specs.psci_world_spec.Histories.{controller_values, firmware_values}
 use Rattle.psci_world_laws.specs.psci_world_spec.Histories.{sent_in}
-use Rattle.psci_world_laws.specs.psci_world_spec.Legal.{legal}
 use Rattle.psci_platform_safe.specs.Names.{AreBeside, domain_above, mpidr_of, number}
-use Rattle.psci_platform_safe.specs.Words.{event_after, numbered}
+use Rattle.psci_platform_safe.specs.Words.{numbered, said_in_numbers}
 
 -- the suspend mode of the firmware
 abbrev pub mode_of : PlatformValue → List Record → SuspendMode
@@ -57,8 +56,7 @@ pub record WasAskedFor (p : PlatformValue) (past : List Record) (mpidr level lif
   pub before : List Record
   pub split : past ≡ later ++ (r ∷ before)
   pub message : MessageValue
-  pub sent : sent_in (legal p.board (numbered p before)
-      (event_after p (numbered p before) r.event)) ≡ Some message
+  pub sent : sent_in (said_in_numbers p r.said) ≡ Some message
   pub part : Part
   pub has : part_for p.board life level (domain_above p mpidr level).place message ≡ Some part
   -- the domain is as deep, and no core below was started since

@@ -1,5 +1,5 @@
 -- What opens an entry point to a core of a platform, by the call's own words, and what took it up.
-use Rattle.std.specs.Prelude.{◌≡◌, ◌⊎◌, ℕ, List, ◌∷◌, ◌++◌, Some, slice_get, slice_index}
+use Rattle.std.specs.Prelude.{◌≡◌, ◌⊎◌, ℕ, List, [], ◌∷◌, ◌++◌, Option, Some, slice_get, slice_index}
 use Rattle.psci_platform.specs.Calls.{is_there}
 use Rattle.psci_platform.specs.Platforms.{PlatformValue}
 use Rattle.psci_platform.specs.States.{depth_at, states_of}
@@ -71,3 +71,12 @@ pub record Waits (p : PlatformValue) (past : List Record) (mpidr : ℕ) (o : Ope
   pub made : ((r : Record) × (older : List Record) × (before ≡ r ∷ older)
       × Opens p older r mpidr o × (life_of p before ≡ life_of p past))
       ⊎ ((mpidr ≡ p.boot) × (o ≡ boot_opening p) × (life_of p before ≡ life_of p past → ⊥))
+
+-- 4. One entry for each opening: a core that enters at an opening takes up one that waited for it,
+-- or begins a life, as the boot core does where the life begins.
+abbrev pub OneEntryEach : PlatformValue → List Record → Type 0
+OneEntryEach p [] = Unit {0}
+OneEntryEach p (r ∷ past) = (mpidr : ℕ) (o : Opening) (sent : Option Sent) → r.event ≡ Enter mpidr
+    → r.said ≡ Fw (acts.Enter o.address o.context) sent
+    → Waits p past mpidr o
+    ⊎ ((mpidr ≡ p.boot) × (o ≡ boot_opening p) × (life_of p past ≡ life_of p (r ∷ past) → ⊥))

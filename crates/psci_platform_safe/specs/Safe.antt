@@ -1,28 +1,27 @@
 -- Safe: the five sentences, of a platform's history in its own words. They hold after all records
 -- so far, the newest first.
-use Rattle.std.specs.Prelude.{◌≡◌, ◌⊎◌, ℕ, pos, true, ◌<◌, ◌≤◌, List, [], ◌∷◌, length, Option, Some}
+use Rattle.std.specs.Prelude.{◌≡◌, ℕ, pos, true, ◌<◌, ◌≤◌, List, [], ◌∷◌, length, Option, Some}
 use Rattle.psci_headline.specs.ToldHw.{WasSoDeep, is_off_depth, is_standby_depth}
 use Rattle.psci_platform.specs.Platforms.{PlatformValue}
 use Rattle.psci_safe.specs.Claims.{live_claims}
 use Rattle.psci_safe.specs.Moments.{executes, was_powered_down}
+use Rattle.psci_safe.specs.Openings.{AreTakenUp}
 use Rattle.psci_world_laws.specs.psci_abi.Calls.{request_of}
 use Rattle.psci_world_laws.specs.psci_abi.declared.registers.Regs.{Regs}
 use Rattle.psci_world_laws.specs.psci_abi.declared.request.Request.{Request}
 use Rattle.psci_world_laws.specs.psci_abi.declared.request.Request.TheVariants as requests
 use Rattle.psci_world_laws.specs.psci_board.Board.{height}
-use Rattle.psci_world_laws.specs.psci_fw_spec.declared.opening.Opening.{Opening}
 use Rattle.psci_world_laws.specs.psci_fw_spec.declared.outcome.Act.TheVariants as acts
-use Rattle.psci_world_laws.specs.psci_world_spec.declared.event.Event.TheVariants.{Call, Enter}
+use Rattle.psci_world_laws.specs.psci_world_spec.declared.event.Event.TheVariants.{Call}
 use Rattle.psci_world_laws.specs.psci_world_spec.declared.place.Place.{Place}
 use Rattle.psci_world_laws.specs.psci_world_spec.declared.place.Place.TheVariants.{Running}
 use Rattle.psci_world_laws.specs.psci_world_spec.declared.said.Record.{Record}
 use Rattle.psci_world_laws.specs.psci_world_spec.declared.said.Said.TheVariants.{Fw}
 use Rattle.psci_world_laws.specs.psci_world_spec.declared.said.Sent.{Sent}
-use Rattle.psci_world_laws.specs.psci_world_spec.Histories.{controller_values}
+use Rattle.psci_world_laws.specs.psci_world_spec.Histories.{controller_values, firmware_history}
 use Rattle.psci_world_laws.specs.psci_world_spec.Places.{place}
 use Rattle.psci_platform_safe.specs.Asked.{IsAsAsked, depth_above, life_of}
 use Rattle.psci_platform_safe.specs.Names.{IsAskedOf, IsCore, domain_above, number}
-use Rattle.psci_platform_safe.specs.Opened.{Waits, boot_opening}
 use Rattle.psci_platform_safe.specs.Words.{numbered}
 
 -- what the core with an MPIDR does
@@ -67,15 +66,6 @@ NoDeeperThanAsked p past = (mpidr level life : ℕ) → IsCore p mpidr → level
     → 0 < depth_above p past mpidr level
     → IsAsAsked p past mpidr level life (depth_above p past mpidr level)
 
--- 4. One entry for each opening: a core that enters at an opening takes up one that waited for it,
--- or begins a life, as the boot core does where the life begins.
-abbrev pub OneEntryEach : PlatformValue → List Record → Type 0
-OneEntryEach p [] = Unit {0}
-OneEntryEach p (r ∷ past) = (mpidr : ℕ) (o : Opening) (sent : Option Sent) → r.event ≡ Enter mpidr
-    → r.said ≡ Fw (acts.Enter o.address o.context) sent
-    → Waits p past mpidr o
-    ⊎ ((mpidr ≡ p.boot) × (o ≡ boot_opening p) × (life_of p past ≡ life_of p (r ∷ past) → ⊥))
-
 -- 5. Reported states were real: a core or domain that NODE_HW_STATE says is off (HW_OFF, 1) was
 -- powered down at some moment of this life, by the starts that the firmware knew of; one that it
 -- says is in standby (HW_STANDBY, 2) was in standby or retention.
@@ -93,7 +83,9 @@ pub record SafeOn (p : PlatformValue) (past : List Record) : Type 0 where
   pub off : OffIsDown p past
   pub one : OneLiveClaim p past
   pub asked : NoDeeperThanAsked p past
-  pub entries : OneEntryEach p past
+  -- 4. one entry for each opening, by the firmware's numbers: each entry takes up one opening of its
+  -- core and life, with its address and context id, and no two take up the same one
+  pub entries : AreTakenUp p.board (firmware_history p.board (numbered p past))
   pub states : StatesWereReal p past
 
 -- The platform was safe at every moment of these records.

@@ -1,14 +1,12 @@
 //! What holds of every platform: each law is the contract of a function that does nothing.
 
-ghost use Rattle.std.specs.Prelude.{◌≡◌, ◌<◌, ◌++◌, ℕ, List, [], map, reverse};
+ghost use Rattle.std.specs.Prelude.{◌≡◌, ◌<◌, ℕ, List};
 ghost use Rattle.psci_platform.specs.Platforms.{IsPlatform, PlatformValue};
 ghost use Rattle.psci_world_laws.specs.psci_board.Board.{IsBoard, cores};
-ghost use Rattle.psci_world_laws.specs.psci_world_spec.declared.event.Event.{Event};
 ghost use Rattle.psci_world_laws.specs.psci_world_spec.declared.said.Record.{Record};
-ghost use Rattle.psci_world_laws.specs.psci_world_spec.Legal.{IsLegalPast};
 ghost use Rattle.psci_platform_safe.specs.Names.{IsCore, mpidr_of, number};
 ghost use Rattle.psci_platform_safe.specs.Safe.{AlwaysSafeOn};
-ghost use Rattle.psci_platform_safe.specs.Words.{IsLegalOn, numbered, run_on};
+ghost use Rattle.psci_platform_safe.specs.Words.{IsLegalOn};
 
 use psci_headline::{
     law_asked_claims, law_claimed_depths, law_safe, law_told_hw, law_told_off,
@@ -33,18 +31,6 @@ pub fn law_numbers()
     law_named();
     law_boot_core();
 }
-
-/// Each list of events of a platform has exactly one legal history, and what the firmware and the
-/// power controller are asked and say in it is one legal run of theirs.
-pub fn law_runs_on()
-    ensures legal { (p : PlatformValue) (events : List Event) → IsLegalOn p (run_on p [] events) }
-    ensures events { (p : PlatformValue) (events : List Event)
-        → map (λ r. r.event) (run_on p [] events) ≡ reverse events }
-    ensures only { (p : PlatformValue) (one other : List Record) → IsLegalOn p one
-        → IsLegalOn p other → map (λ r. r.event) one ≡ map (λ r. r.event) other → one ≡ other }
-    ensures numbered { (p : PlatformValue) (past : List Record)
-        → IsLegalPast p.board (numbered p past) }
-{}
 
 /// A legal history of a platform is safe at every moment, in the platform's own words: no core that
 /// executes stands below a domain that is not fully on, and a core that AFFINITY_INFO said is OFF
