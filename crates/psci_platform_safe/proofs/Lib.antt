@@ -5,5 +5,11 @@ pub mod Telling
 pub mod Told
 pub mod AskedFor
 pub mod Safety
+pub mod Runs
 pub mod Calling
 pub mod Sources
+-- Worked examples.
+pub mod Histories
+mod LegalRows
+mod AskedRows
+mod BrokenRows

@@ -1,19 +1,20 @@
 //! What holds of every platform: each law is the contract of a function that does nothing.
 
-ghost use Rattle.std.specs.Prelude.{◌≡◌, ◌<◌, ℕ, List};
+ghost use Rattle.std.specs.Prelude.{◌≡◌, ◌<◌, ℕ, List, [], map, reverse};
 ghost use Rattle.psci_platform.specs.Platforms.{IsPlatform, PlatformValue};
 ghost use Rattle.psci_world_laws.specs.psci_board.Board.{IsBoard, cores};
+ghost use Rattle.psci_world_laws.specs.psci_world_spec.declared.event.Event.{Event};
 ghost use Rattle.psci_world_laws.specs.psci_world_spec.declared.said.Record.{Record};
 ghost use Rattle.psci_platform_safe.specs.Names.{IsCore, mpidr_of, number};
 ghost use Rattle.psci_platform_safe.specs.Safe.{AlwaysSafeOn};
-ghost use Rattle.psci_platform_safe.specs.Words.{IsLegalOn};
+ghost use Rattle.psci_platform_safe.specs.Words.{IsLegalOn, run_on};
 
 use psci_headline::{
     law_asked_claims, law_claimed_depths, law_safe, law_told_hw, law_told_off,
 };
 use psci_platform::{law_boot_core, law_missing, law_mpidrs, law_named};
 use psci_board::law_words;
-use psci_world_laws::{law_kept, law_paths, law_sent};
+use psci_world_laws::{law_acknowledged, law_kept, law_paths, law_sent};
 
 /// The firmware's numbers and the MPIDRs of a platform's cores name each other, and the boot core
 /// has number 0.
@@ -30,6 +31,24 @@ pub fn law_numbers()
     law_mpidrs();
     law_named();
     law_boot_core();
+}
+
+/// Each list of events of a platform has a legal history: the one in which of each event that is said
+/// which the firmware and the power controller say of it, with MPIDRs for their cores.
+pub fn law_runs_on()
+    ensures legal { (p : PlatformValue) (events : List Event) → IsBoard p.board → IsPlatform p
+        → IsLegalOn p (run_on p [] events) }
+    ensures events { (p : PlatformValue) (events : List Event)
+        → map (λ r. r.event) (run_on p [] events) ≡ reverse events }
+{
+    law_paths();
+    law_words();
+    law_mpidrs();
+    law_named();
+    law_boot_core();
+    law_kept();
+    law_sent();
+    law_acknowledged();
 }
 
 /// A legal history of a platform is safe at every moment, in the platform's own words: no core that
