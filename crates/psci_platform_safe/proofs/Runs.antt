@@ -7,7 +7,7 @@ use Rattle.psci_platform.specs.Platforms.{PlatformValue}
 use Rattle.psci_platform.specs.psci_fw_same.Renumbered.{core_by}
 use Rattle.psci_world_laws.specs.psci_board.Board.{BoardValue, cores}
 use Rattle.psci_world_laws.specs.psci_board.declared.node.Core.{Core}
-use Rattle.psci_world_laws.specs.psci_ctl_spec.Acks.{ack_by}
+use Rattle.psci_world_laws.specs.psci_ctl_spec.Replies.{ack_by}
 use Rattle.psci_world_laws.specs.psci_ctl_spec.Values as controlled
 use Rattle.psci_world_laws.specs.psci_fw_laws.Kept.{Holds}
 use Rattle.psci_world_laws.specs.psci_fw_spec.Said.{listed}
