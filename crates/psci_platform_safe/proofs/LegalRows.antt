@@ -1,12 +1,16 @@
 -- Worked examples: a platform, what is said on it in its own words, and what is behind that.
-use Rattle.std.proofs.Common.{◌≡◌, ◌++◌, List, [], ◌∷◌, map, reverse, false, Some, None, refl, arith}
+use Rattle.std.proofs.Common.{◌≡◌, ◌++◌, ℕ, pos, List, [], ◌∷◌, map, reverse, Bool, true, false, Some}
+use Rattle.std.proofs.Common.{None, refl, arith, ap}
+use Rattle.std.specs.Ordering.{int_eq}
 use Rattle.psci_platform.specs.Platforms.{IsPlatform}
+use Rattle.psci_world_laws.specs.psci_fw_spec.declared.outcome.Act.TheVariants as acts
 use Rattle.psci_world_laws.specs.psci_messages.declared.kind.Kind.TheVariants.{Down, Start}
 use Rattle.psci_world_laws.specs.psci_world_spec.declared.event.Event.{Event}
 use Rattle.psci_world_laws.specs.psci_world_spec.declared.event.Event.TheVariants.{Call, Deliver}
 use Rattle.psci_world_laws.specs.psci_world_spec.declared.event.Event.TheVariants.{Enter, Take}
 use Rattle.psci_world_laws.specs.psci_world_spec.declared.said.Record.{Record}
 use Rattle.psci_world_laws.specs.psci_world_spec.declared.said.Said.{Said}
+use Rattle.psci_world_laws.specs.psci_world_spec.declared.said.Said.TheVariants.{Fw}
 use Rattle.psci_world_laws.proofs.world_spec.Scripts.{acked, asks_on, call, enters, error, goes_down}
 use Rattle.psci_world_laws.proofs.world_spec.Scripts.{off, on_3, part, used, value}
 use Rattle.psci_platform_safe.specs.Names.{IsAskedOf, mpidr_of, node_asked, number}
@@ -92,11 +96,26 @@ unfolding computing
 gap_asked_on = refl
 
 -- not legal: core 1 is OFF while it runs, and a message with the firmware's number
-told_otherwise : IsLegalOn two (says (after core_1_on) (status_of 0x200 1 0) (value 1))
-    → ⊥
+is_one : Said → Bool
+is_one (Fw (acts.Return code) sent) = int_eq code.0 (pos 1)
+is_one said = false
+
+one_is_not_zero : value 1 ≡ value 0 → ⊥
+unfolding is_one
+one_is_not_zero e = let no : true ≡ false = ap is_one e in absurd (cc)
+
+told_otherwise : IsLegalOn two (says (after core_1_on) (status_of 0x200 1 0) (value 1)) → ⊥
 unfolding computing
-told_otherwise legal = let no : value 1 ≡ value 0 = legal.0 in absurd (cc)
+told_otherwise legal = one_is_not_zero legal.0
+
+core_in : Said → ℕ
+core_in (Fw act (Some s)) = s.message.core.number
+core_in said = 0
+
+four_is_not_three : asks_on 0 4 1 0 ≡ asks_on 0 3 1 0 → ⊥
+unfolding core_in
+four_is_not_three e = let no : 4 ≡ 3 = ap core_in e in absurd (omega (arith, no))
 
 number_for_mpidr : IsLegalOn two (says (after (Enter 0x200 ∷ [])) on_1 (asks_on 0 3 1 0)) → ⊥
 unfolding computing
-number_for_mpidr legal = let no : asks_on 0 4 1 0 ≡ asks_on 0 3 1 0 = legal.0 in absurd (cc)
+number_for_mpidr legal = four_is_not_three legal.0

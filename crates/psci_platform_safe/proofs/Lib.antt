@@ -8,6 +8,10 @@ pub mod Safety
 pub mod Runs
 pub mod Calling
 pub mod Sources
+pub mod Backwards
+pub mod Waiting
+pub mod Records
+pub mod Entries
 -- Worked examples.
 pub mod Histories
 mod LegalRows

@@ -1,13 +1,13 @@
 -- To each list of events of a platform there is a legal history.
 use Rattle.std.proofs.Common.{◌≡◌, ℕ, ◌<◌, List, [], ◌∷◌, ◌++◌, map, reverse, Option, None, Some, refl}
-use Rattle.std.proofs.Common.{ap, sym, ◌∙◌, subst}
+use Rattle.std.proofs.Common.{ap, sym, ◌∙◌, subst, Bool, true, false, cond}
 use Rattle.std.proofs.lemmas.List.{append-nil, append_assoc, reverse-append}
 use Rattle.std.specs.Prelude.{slice_get}
 use Rattle.psci_platform.specs.Platforms.{PlatformValue}
 use Rattle.psci_platform.specs.psci_fw_same.Renumbered.{core_by}
 use Rattle.psci_world_laws.specs.psci_board.Board.{BoardValue, cores}
 use Rattle.psci_world_laws.specs.psci_board.declared.node.Core.{Core}
-use Rattle.psci_world_laws.specs.psci_ctl_spec.Replies.{ack_by}
+use Rattle.psci_world_laws.specs.psci_ctl_spec.Replies.{ack_by, ack_of, may_follow}
 use Rattle.psci_world_laws.specs.psci_ctl_spec.Values as controlled
 use Rattle.psci_world_laws.specs.psci_fw_laws.Kept.{Holds}
 use Rattle.psci_world_laws.specs.psci_fw_spec.Said.{listed}
@@ -65,10 +65,15 @@ sent_core b past event m known is e =
     ((known.holds (legal_record b past event ∷ past) (refl, is)).messages 0 m
     (ap (λ (o : Option MessageValue). slice_get (listed o ++ sent past) 0) e)).sound.core
 
+start_core : (m : MessageValue) (t : Bool)
+    → (cond t (ack_of m 1 false) (ack_of m 0 true)).core ≡ m.core
+start_core m true = refl
+start_core m false = refl
+
 ack_core : (b : BoardValue) (v : controlled.Values) (m : MessageValue) (kind : Kind)
     → (ack_by b v m kind).core ≡ m.core
 ack_core b v m kinds.Down = refl
-ack_core b v m kinds.Start = refl
+ack_core b v m kinds.Start = start_core m (may_follow b v m.core.number m.number)
 ack_core b v m kinds.Off = refl
 ack_core b v m kinds.Reset = refl
 

@@ -32,7 +32,7 @@ inside_if p (Some place) c laws inside e =
     subst (λ (k : ℕ). k < cores p.board) same
     (core_inside p.board p.place place laws.is.symmetric (inside place refl))
 
-core_short : (p : PlatformValue) (word level : ℕ) → Laws p
+pub core_short : (p : PlatformValue) (word level : ℕ) → Laws p
     → core_word p.description p.board p.place word level < 2 ^ 32
 core_short p word level laws =
     word_short p (number_named p.description p.board p.place word level) laws
@@ -40,7 +40,7 @@ core_short p word level laws =
     (λ place at. named_inside p word level place laws at) e)
 
 -- the request of the firmware for one of the platform that is there
-told : (p : PlatformValue) (mode : SuspendMode) (regs : Regs) (r : Request)
+pub told : (p : PlatformValue) (mode : SuspendMode) (regs : Regs) (r : Request)
     → request_of regs ≡ r → is_there p.description.functions r ≡ true
     → request_of (regs_for p.description p.board p.place mode regs)
     ≡ with_first (argument regs (first_argument p.description p.board p.place mode regs.x1 r)) r

@@ -29,7 +29,7 @@ abbrev pub depth_above : PlatformValue → List Record → ℕ → ℕ → ℕ
 depth_above p past mpidr level =
     let n = domain_above p mpidr level in depth_at p.board (numbered p past) n.level n.place
 
--- the depth that a core asks of its domain of a level: `law_words` says which, by its words
+-- the depth that a core asks of its domain of a level, as the firmware keeps it
 abbrev pub asks : PlatformValue → List Record → ℕ → ℕ → ℕ
 asks p past mpidr level = ask p.board (firmware_values p.board (numbered p past)) (number p mpidr)
     level

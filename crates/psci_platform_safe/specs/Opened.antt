@@ -58,7 +58,8 @@ boot_opening p = record { address = p.board.boot; context = 0 }
 
 -- in none of these records a core enters at an opening
 abbrev pub NoneEnters : ℕ → List Record → Type 0
-NoneEnters mpidr rs = (k : ℕ) (r : Record) (o : Opening) (sent : _) → slice_get rs k ≡ Some r
+NoneEnters mpidr rs = (k : ℕ) (r : Record) (o : Opening) (sent : Option Sent)
+    → slice_get rs k ≡ Some r
     → r.event ≡ Enter mpidr → r.said ≡ Fw (acts.Enter o.address o.context) sent → ⊥
 
 -- An opening that waits for a core: it was made in this life, by a call or for the boot core by the
