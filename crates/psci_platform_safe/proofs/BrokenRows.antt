@@ -1,7 +1,7 @@
 -- Worked examples: for each sentence a history on the platform that breaks it. None of them is
 -- legal: in each one thing is said that is not so.
 use Rattle.std.proofs.Common.{◌≡◌, ◌≤◌, ◌++◌, ℕ, pos, List, [], ◌∷◌, true, false, Some, refl, arith, ap}
-use Rattle.std.proofs.Common.{◌∙◌, sym}
+use Rattle.std.proofs.Common.{◌∙◌, inl, inr}
 use Rattle.psci_world_laws.specs.psci_abi.declared.request.Request.TheVariants as requests
 use Rattle.psci_world_laws.specs.psci_fw_spec.declared.opening.Opening.{Opening}
 use Rattle.psci_world_laws.specs.psci_fw_spec.declared.mode.SuspendMode.TheVariants.{OsInitiated}
@@ -14,6 +14,7 @@ use Rattle.psci_world_laws.proofs.world_spec.Scripts.{acked, call, enters, off, 
 use Rattle.psci_world_laws.proofs.world_spec.Scripts.{stops, value}
 use Rattle.psci_safe.specs.Openings.{Made, OfCall, TakenUp}
 use Rattle.psci_platform_safe.specs.Asked.{AllAsk, AskFor, asks}
+use Rattle.psci_platform_safe.specs.Opened.{OneEntryEach}
 use Rattle.psci_platform_safe.specs.Safe.{NoneBelowSleeping, OffIsDown, OneLiveClaim, SafeOn}
 use Rattle.psci_platform_safe.specs.Safe.{StatesWereReal}
 use Rattle.psci_platform_safe.proofs.Histories.{after, computing, core_1_off, core_1_on, says}
@@ -91,13 +92,30 @@ other_context : SafeOn two
     (enters 0x40001000 8)) → ⊥
 unfolding computing
 other_context safe =
-    let taken = safe.entries.each 0 entry_1 refl in
+    let taken = safe.taken.each 0 entry_1 refl in
     let made : Some made_1 ≡ Some taken.0 = taken.1 in
     let same : made_1 ≡ taken.0 = cc in
     let no : 7 ≡ 8 =
     ap (λ (m : Made). m.opening.context) same
     ∙ ap (λ (o : Opening). o.context) taken.2.opening in
     absurd (omega (arith, no))
+
+no_end : (xs ys : List Record) (y : Record) → [] ≡ xs ++ (y ∷ ys) → ⊥
+no_end [] ys y e = absurd (cc)
+no_end (x ∷ xs) ys y e = absurd (cc)
+
+-- core 1 enters at an opening before any call was made
+never_asked_on : OneEntryEach two (says [] (Enter 1) (enters 0x40001000 7)) → ⊥
+unfolding computing
+never_asked_on one =
+    elim (one 1 (record { address = 0x40001000; context = 7 }) _ refl refl) [
+      | inl w ↦ elim w.made [
+        | inl by ↦
+            no_end w.since by.1 by.0 (w.split ∙ ap (λ (rs : List Record). w.since ++ rs) by.2)
+        | inr by ↦ let no : 1 ≡ 0x200 = by.0 in absurd (omega (arith, no))
+      ]
+      | inr by ↦ let no : 1 ≡ 0x200 = by.0 in absurd (omega (arith, no))
+    ]
 
 -- 5 ---------------------------------------------------------------------------------------------
 

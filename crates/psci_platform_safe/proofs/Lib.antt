@@ -12,6 +12,7 @@ pub mod Backwards
 pub mod Waiting
 pub mod Records
 pub mod Entries
+pub mod Entering
 -- Worked examples.
 pub mod Histories
 mod LegalRows

@@ -18,6 +18,7 @@ use Rattle.psci_world_laws.specs.psci_world_spec.Histories.{firmware_values, sen
 use Rattle.psci_platform_safe.specs.Names.{domain_above, number}
 use Rattle.psci_platform_safe.specs.Safe.{AlwaysSafeOn, NoneBelowSleeping, OffIsDown, OneLiveClaim}
 use Rattle.psci_platform_safe.specs.Safe.{NoDeeperThanAsked, SafeOn, StatesWereReal}
+use Rattle.psci_platform_safe.specs.Opened.{OneEntryEach}
 use Rattle.psci_platform_safe.specs.Words.{IsLegalOn, numbered}
 use Rattle.psci_platform_safe.proofs.AskedFor.{AreSound, as_asked}
 use Rattle.psci_platform_safe.proofs.Numbers.{Laws, has_above, number_inside}
@@ -34,6 +35,7 @@ pub record Behind (p : PlatformValue) : Type 0 where
       → Holds p.board (firmware_values p.board (numbered p past)) (sent (numbered p past))
   pub claimed : (past : List Record) → IsLegalOn p past → AreClaimed p.board (numbered p past)
   pub asked : (past : List Record) → IsLegalOn p past → AreAsked p.board (numbered p past)
+  pub entries : (past : List Record) → IsLegalOn p past → OneEntryEach p past
   pub told_off : (r : Record) (past : List Record) (n : Node) → IsLegalOn p (r ∷ past)
       → told_off p.board (record_for p past r).event (record_for p past r).said ≡ Some n
       → AllOff p.board (numbered p past) n
@@ -96,7 +98,8 @@ safe_on p past laws legal = record {
   off = off_is_down p past laws legal;
   one = one_live p past laws legal;
   asked = no_deeper p past laws legal;
-  entries = (safe_now p.board (numbered p past) (laws.safe past legal)).entries;
+  entries = laws.entries past legal;
+  taken = (safe_now p.board (numbered p past) (laws.safe past legal)).entries;
   states = states_real p past laws legal;
 }
 

@@ -22,6 +22,7 @@ use Rattle.psci_world_laws.specs.psci_world_spec.Histories.{controller_values, f
 use Rattle.psci_world_laws.specs.psci_world_spec.Places.{place}
 use Rattle.psci_platform_safe.specs.Asked.{IsAsAsked, depth_above, life_of}
 use Rattle.psci_platform_safe.specs.Names.{IsAskedOf, IsCore, domain_above, number}
+use Rattle.psci_platform_safe.specs.Opened.{OneEntryEach}
 use Rattle.psci_platform_safe.specs.Words.{numbered}
 
 -- what the core with an MPIDR does
@@ -83,9 +84,10 @@ pub record SafeOn (p : PlatformValue) (past : List Record) : Type 0 where
   pub off : OffIsDown p past
   pub one : OneLiveClaim p past
   pub asked : NoDeeperThanAsked p past
-  -- 4. one entry for each opening, by the firmware's numbers: each entry takes up one opening of its
-  -- core and life, with its address and context id, and no two take up the same one
-  pub entries : AreTakenUp p.board (firmware_history p.board (numbered p past))
+  pub entries : OneEntryEach p past
+  -- 4. and by the firmware's numbers: each entry takes up one opening of its core and life, with its
+  -- address and context id, and no two take up the same one
+  pub taken : AreTakenUp p.board (firmware_history p.board (numbered p past))
   pub states : StatesWereReal p past
 
 -- The platform was safe at every moment of these records.

@@ -6,15 +6,18 @@ ghost use Rattle.psci_world_laws.specs.psci_board.Board.{IsBoard, cores};
 ghost use Rattle.psci_world_laws.specs.psci_world_spec.declared.event.Event.{Event};
 ghost use Rattle.psci_world_laws.specs.psci_world_spec.declared.said.Record.{Record};
 ghost use Rattle.psci_platform_safe.specs.Names.{IsCore, mpidr_of, number};
+ghost use Rattle.psci_platform_safe.specs.Opened.{OneEntryEach};
 ghost use Rattle.psci_platform_safe.specs.Safe.{AlwaysSafeOn};
 ghost use Rattle.psci_platform_safe.specs.Words.{IsLegalOn, run_on};
 
 use psci_headline::{
     law_asked_claims, law_claimed_depths, law_safe, law_told_hw, law_told_off,
 };
-use psci_platform::{law_boot_core, law_missing, law_mpidrs, law_named};
+use psci_platform::{law_asked, law_boot_core, law_missing, law_mpidrs, law_named};
 use psci_board::law_words;
-use psci_world_laws::{law_acknowledged, law_kept, law_paths, law_sent};
+use psci_world_laws::{
+    law_acknowledged, law_kept, law_paths, law_power_on, law_sent, law_values,
+};
 
 /// The firmware's numbers and the MPIDRs of a platform's cores name each other, and the boot core
 /// has number 0.
@@ -51,6 +54,25 @@ pub fn law_runs_on()
     law_acknowledged();
 }
 
+/// In a legal history of a platform each entry at an opening takes up one that waited for its core:
+/// an accepted CPU_ON of its MPIDR, its own suspend by a word that powers it down, or its own
+/// SYSTEM_SUSPEND asked for it in this life, with the entry point and the context id, and the core
+/// has not entered at an opening since. Or the boot core begins a life, at the board's boot address.
+pub fn law_one_entry_on()
+    ensures { (p : PlatformValue) (past : List Record) → IsBoard p.board → IsPlatform p
+        → IsLegalOn p past → OneEntryEach p past }
+{
+    law_paths();
+    law_words();
+    law_mpidrs();
+    law_named();
+    law_missing();
+    law_asked();
+    law_boot_core();
+    law_values();
+    law_power_on();
+}
+
 /// A legal history of a platform is safe at every moment, in the platform's own words: no core that
 /// executes stands below a domain that is not fully on, and a core that AFFINITY_INFO said is OFF
 /// does not run and was powered down since it last went on; each domain has at most one live claim;
@@ -74,4 +96,5 @@ pub fn law_safe_on()
     law_told_hw();
     law_claimed_depths();
     law_asked_claims();
+    law_one_entry_on();
 }

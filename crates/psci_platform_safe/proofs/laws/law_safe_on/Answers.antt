@@ -36,6 +36,7 @@ returns c = λ p past board is legal.
           (c.law_kept.ensures.kept b (firmware_history b w) board (firmware_legal b w valid));
       claimed = λ before. c.law_claimed_depths.ensures b (numbered p before) board;
       asked = λ before. c.law_asked_claims.ensures b (numbered p before) board;
+      entries = λ before. c.law_one_entry_on.ensures p before board is;
       told_off = λ r before n valid. c.law_told_off.ensures b (record_for p before r)
           (numbered p before) n board valid;
       told_off_hw = λ r before n valid. c.law_told_hw.ensures.off b (record_for p before r)
