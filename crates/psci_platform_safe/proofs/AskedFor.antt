@@ -1,7 +1,7 @@
 -- Sentence 3: a domain that is not fully on is as deep as the cores below it had asked for.
-use Rattle.std.proofs.Common.{◌≡◌, ℕ, zero, suc, ◌+◌, ◌<◌, ◌≤◌, ◌==◌, ◌&&◌, Bool, true, false, cond, List, []}
-use Rattle.std.proofs.Common.{◌∷◌, ◌++◌, Option, None, Some, filter, refl, sym, ap, ◌∙◌, subst, arith}
-use Rattle.std.proofs.Common.{inl, inr, ◌⊎◌}
+use Rattle.std.proofs.Common.{◌≡◌, ℕ, zero, suc, ◌+◌, ◌<◌, ◌≤◌, ◌==◌, Bool, true, false, cond, List}
+use Rattle.std.proofs.Common.{[], ◌∷◌, ◌++◌, Some, filter, refl, sym, ap, ◌∙◌, subst, arith, inl}
+use Rattle.std.proofs.Common.{inr, ◌⊎◌}
 use Rattle.std.specs.List.{list_all, range_with_len}
 use Rattle.std.specs.Prelude.{nat_le, slice_get}
 use Rattle.std.proofs.lemmas.Bool.{and_from, and_parts, cases_eq, eq-eqb, le-leb, leb-true}
@@ -9,9 +9,8 @@ use Rattle.psci_headline.specs.Live.{AreAsked, AreClaimed}
 use Rattle.psci_headline.proofs.Claiming.{by_claim}
 use Rattle.psci_headline.proofs.LiveOnes.{is_live_one}
 use Rattle.psci_platform.specs.Platforms.{PlatformValue}
-use Rattle.psci_safe.specs.Claims.{Claim, asks_by, claim_by, claims, first_claims}
-use Rattle.psci_world_laws.specs.psci_board.Board.{BoardValue, HasNode, below, cores, height}
-use Rattle.psci_world_laws.specs.psci_board.Board.{size_below, up}
+use Rattle.psci_safe.specs.Claims.{Claim, asks_by, claim_by, claims}
+use Rattle.psci_world_laws.specs.psci_board.Board.{BoardValue, below, cores, height, size_below, up}
 use Rattle.psci_world_laws.specs.psci_board.declared.node.Node.{Node}
 use Rattle.psci_world_laws.specs.psci_board.Paths.{is_on_path}
 use Rattle.psci_world_laws.specs.psci_claims.psci_parts.declared.part.Part.{Part}
@@ -25,9 +24,8 @@ use Rattle.psci_world_laws.specs.psci_messages.Message.{MessageValue}
 use Rattle.psci_world_laws.specs.psci_world_spec.declared.said.Record.{Record}
 use Rattle.psci_world_laws.specs.psci_world_spec.Histories.{controller_values, firmware_values}
 use Rattle.psci_world_laws.specs.psci_world_spec.Histories.{sent_in}
-use Rattle.psci_platform_safe.specs.Asked.{AllAsk, AskFor, IsAsAsked, WasAskedFor, depth_above}
-use Rattle.psci_platform_safe.specs.Asked.{mode_of}
-use Rattle.psci_platform_safe.specs.Names.{AreBeside, IsCore, domain_above, mpidr_of, number}
+use Rattle.psci_platform_safe.specs.Asked.{AllAsk, AskFor, IsAsAsked, depth_above, mode_of}
+use Rattle.psci_platform_safe.specs.Names.{IsCore, domain_above, mpidr_of, number}
 use Rattle.psci_platform_safe.specs.Words.{IsLegalOn, numbered}
 use Rattle.psci_platform_safe.proofs.Numbers.{Laws, has_above, number_back, number_inside}
 use Rattle.psci_platform_safe.proofs.Told.{record_for}
@@ -86,7 +84,7 @@ asked_for p past mpidr level depth core OsInitiated laws inside e =
     (list_all (λ c. nat_le depth (ask p.board v c 0)) (below p.board (domain_above p mpidr level)))
     e in (
       subst (λ (c : ℕ). depth ≤ ask p.board v c level) (sym (number_back p core laws inside))
-      (leb-true _ _ both.0),
+          (leb-true _ _ both.0),
       all_ask p past mpidr level depth 0 laws both.1,
     )
 

@@ -1,6 +1,6 @@
 -- What a platform was asked where the firmware was asked to open an entry point.
-use Rattle.std.proofs.Common.{◌≡◌, ◌⊎◌, ℕ, ◌+◌, ◌*◌, ◌<◌, ◌≤◌, ◌^◌, ◌==◌, Bool, true, false, cond, List, []}
-use Rattle.std.proofs.Common.{◌∷◌, Option, None, Some, refl, sym, ap, ◌∙◌, subst, arith, inl, inr}
+use Rattle.std.proofs.Common.{◌≡◌, ◌⊎◌, ℕ, ◌+◌, ◌*◌, ◌<◌, ◌≤◌, ◌^◌, Bool, true, false, cond, List}
+use Rattle.std.proofs.Common.{[], Option, None, Some, refl, sym, ap, ◌∙◌, arith, inl, inr}
 use Rattle.std.proofs.Common.{option_map}
 use Rattle.std.specs.Prelude.{Result, Ok, Err, slice_index, slice_index_or, unwrap_or}
 use Rattle.std.proofs.lemmas.Bool.{cases_Bool, eqb-true}
@@ -11,8 +11,7 @@ use Rattle.psci_platform.specs.Calls.{first_argument, is_there, regs_for}
 use Rattle.psci_platform.specs.Cores.{core_word, number_named}
 use Rattle.psci_platform.specs.Described.{DescriptionValue}
 use Rattle.psci_platform.specs.Platforms.{PlatformValue}
-use Rattle.psci_platform.specs.States.{depth_at, depth_of, depths_of, states_of, word_asking}
-use Rattle.psci_platform.specs.States.{word_for}
+use Rattle.psci_platform.specs.States.{depth_at, depth_of, depths_of, states_of, word_for}
 use Rattle.psci_platform.proofs.Requests.{request_with, short, with_first}
 use Rattle.psci_world_laws.specs.psci_abi.Calls.{argument, low_half, request_of}
 use Rattle.psci_world_laws.specs.psci_abi.declared.registers.Regs.{Regs}
@@ -26,7 +25,7 @@ use Rattle.psci_world_laws.specs.psci_board.declared.node.Core.{Core}
 use Rattle.psci_world_laws.specs.psci_fw_spec.declared.mode.SuspendMode.{SuspendMode}
 use Rattle.psci_world_laws.specs.psci_fw_spec.declared.opening.Opening.{Opening}
 use Rattle.psci_world_laws.specs.psci_fw_spec.Effects.{rest_named, rest_of}
-use Rattle.psci_world_laws.specs.psci_state.Ask.{deepest_of, highest_of, is_ask, is_deep}
+use Rattle.psci_world_laws.specs.psci_state.Ask.{deepest_of, is_ask, is_deep}
 use Rattle.psci_world_laws.specs.psci_state.PowerState.{ask_of, word_of}
 use Rattle.psci_world_laws.specs.psci_state.declared.fault.BadState.{BadState}
 use Rattle.psci_platform_safe.specs.Names.{number}

@@ -1,5 +1,5 @@
 -- What a call that asked a core on, or that stopped its caller, was asked and answered.
-use Rattle.std.proofs.Common.{◌≡◌, ℕ, Bool, true, false, cond, Option, None, Some, refl, sym, ap, ◌∙◌}
+use Rattle.std.proofs.Common.{◌≡◌, ℕ, Bool, true, false, cond, Option, None, Some, refl, ap}
 use Rattle.std.specs.Ordering.{int_eq}
 use Rattle.psci_world_laws.specs.psci_abi.Codes.{success}
 use Rattle.psci_world_laws.specs.psci_abi.declared.code.Code.{Code}

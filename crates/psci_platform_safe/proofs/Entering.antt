@@ -1,7 +1,7 @@
 -- Sentence 4: each entry at an opening takes up one that waited for its core, or begins a life.
-use Rattle.std.proofs.Common.{◌≡◌, ◌⊎◌, ℕ, zero, suc, ◌<◌, ◌==◌, ◌||◌, Bool, true, false, cond, List, []}
-use Rattle.std.proofs.Common.{◌∷◌, Option, None, Some, refl, sym, ap, ◌∙◌, subst, arith, inl, inr, not}
-use Rattle.std.proofs.Common.{option_map}
+use Rattle.std.proofs.Common.{◌≡◌, ◌⊎◌, ℕ, zero, suc, ◌<◌, ◌==◌, ◌||◌, Bool, true, false, cond}
+use Rattle.std.proofs.Common.{List, [], ◌∷◌, Option, None, Some, refl, sym, ap, ◌∙◌, arith, inl}
+use Rattle.std.proofs.Common.{inr, not, option_map}
 use Rattle.std.specs.Prelude.{nat_lt}
 use Rattle.std.proofs.lemmas.Bool.{eq-eqb, eqb-true, ltb-true}
 use Rattle.psci_platform.specs.Platforms.{PlatformValue}
@@ -36,11 +36,11 @@ use Rattle.psci_world_laws.specs.psci_world_spec.declared.said.Said.{Said}
 use Rattle.psci_world_laws.specs.psci_world_spec.declared.said.Said.TheVariants.{Absent, Fw}
 use Rattle.psci_world_laws.specs.psci_world_spec.declared.said.Sent.{Sent}
 use Rattle.psci_world_laws.specs.psci_world_spec.Histories.{controller_values, firmware_history}
-use Rattle.psci_world_laws.specs.psci_world_spec.Histories.{firmware_values, sent}
-use Rattle.psci_world_laws.specs.psci_world_spec.Legal.{asked_firmware, if_started, legal, said_of}
+use Rattle.psci_world_laws.specs.psci_world_spec.Histories.{firmware_values}
+use Rattle.psci_world_laws.specs.psci_world_spec.Legal.{if_started, legal, said_of}
 use Rattle.psci_world_laws.specs.psci_world_spec.Places.{place}
 use Rattle.psci_platform_safe.specs.Asked.{life_of}
-use Rattle.psci_platform_safe.specs.Names.{IsCore, number}
+use Rattle.psci_platform_safe.specs.Names.{number}
 use Rattle.psci_platform_safe.specs.Opened.{OneEntryEach, Waits, boot_opening}
 use Rattle.psci_platform_safe.specs.Words.{IsLegalOn, event_after, numbered, said_in_numbers}
 use Rattle.psci_platform_safe.specs.Words.{sent_in_numbers}
@@ -190,6 +190,10 @@ module _ (p : PlatformValue) (r : Record) (older : List Record) (laws : OpeningL
       ∙ ap (λ (x : Option Start). change p.board (entered_effect (number p mpidr) x
       (acts.Enter o.address o.context) (message_in p own)) (firmware_values p.board w)) entered.last
 
+  older_legal : IsLegalOn p older
+  unfolding numbered
+  older_legal = valid.1
+
   by_life : (t : Bool) → (entered.start.life == life_of p older) ≡ t
       → (cond t (firmware_values p.board w) (start_of_life p.board entered.start.life)).opening
       (number p mpidr) ≡ Some o
@@ -200,17 +204,13 @@ module _ (p : PlatformValue) (r : Record) (older : List Record) (laws : OpeningL
   by_life true same at life =
       let one : entered.start.life ≡ life_of p older = eqb-true _ _ same in
       let begun = (finds p.board w (number p mpidr) o entered).begun in
-      inl (waiting p older laws (older_legal) mpidr o
+      inl (waiting p older laws older_legal mpidr o
       (is_core p mpidr entered.inside) at (omega (arith, one, begun)))
-    where
-      older_legal : IsLegalOn p older
-      unfolding numbered
-      older_legal = valid.1
   by_life false other at life =
       let first = first_is p (number p mpidr) o at in
       inr (
         only_one p mpidr p.boot laws.names (is_core p mpidr entered.inside) laws.core
-        (first.0 ∙ sym laws.boot),
+            (first.0 ∙ sym laws.boot),
         first.1,
         λ e. let no : true ≡ false = sym (eq-eqb _ _ (sym (e ∙ life))) ∙ other in absurd (cc),
       )

@@ -1,35 +1,29 @@
 -- Sentence 4: after each legal history the openings that the firmware keeps wait, and each entry at
 -- an opening takes up one of them, or begins a life.
-use Rattle.std.proofs.Common.{◌≡◌, ◌⊎◌, ℕ, ◌<◌, ◌==◌, Bool, true, false, cond, List, [], ◌∷◌, ◌++◌, Option}
-use Rattle.std.proofs.Common.{None, Some, refl, sym, ap, ◌∙◌, subst, arith, inl, inr, option_map}
-use Rattle.std.specs.Prelude.{nat_lt, not}
-use Rattle.std.proofs.lemmas.Bool.{eq-eqb, eqb-true, ltb-true}
+use Rattle.std.proofs.Common.{◌≡◌, ℕ, ◌<◌, Bool, true, false, cond, List, [], ◌∷◌, ◌++◌, Option}
+use Rattle.std.proofs.Common.{None, Some, refl, sym, ap, ◌∙◌, subst, arith, option_map}
+use Rattle.std.specs.Prelude.{nat_lt}
 use Rattle.psci_platform.specs.Platforms.{PlatformValue}
-use Rattle.psci_world_laws.specs.psci_abi.Calls.{request_of}
 use Rattle.psci_world_laws.specs.psci_abi.declared.registers.Regs.{Regs}
 use Rattle.psci_world_laws.specs.psci_board.Board.{BoardValue, cores}
 use Rattle.psci_world_laws.specs.psci_ctl_spec.Replies.{last_start}
 use Rattle.psci_world_laws.specs.psci_fw_spec.declared.call.FwCall.TheVariants as calls
-use Rattle.psci_world_laws.specs.psci_fw_spec.declared.fault.FwFault.{FwFault}
 use Rattle.psci_world_laws.specs.psci_fw_spec.declared.opening.Opening.{Opening}
 use Rattle.psci_world_laws.specs.psci_fw_spec.declared.outcome.Act.{Act}
 use Rattle.psci_world_laws.specs.psci_fw_spec.declared.outcome.Act.TheVariants as acts
-use Rattle.psci_world_laws.specs.psci_fw_spec.declared.outcome.Outcome.{Outcome}
-use Rattle.psci_world_laws.specs.psci_fw_spec.declared.reply.FwReply.{FwReply}
 use Rattle.psci_world_laws.specs.psci_fw_spec.declared.reply.FwReply.TheVariants as replies
 use Rattle.psci_world_laws.specs.psci_fw_spec.After.{change}
-use Rattle.psci_world_laws.specs.psci_fw_spec.Answer.{answer}
 use Rattle.psci_world_laws.specs.psci_fw_spec.Changes.{PowerOn, Rest}
-use Rattle.psci_world_laws.specs.psci_fw_spec.Effects.{AsksOn, Effect, Nothing, Rests, enter_effect}
+use Rattle.psci_world_laws.specs.psci_fw_spec.Effects.{AsksOn, Nothing, Rests, enter_effect}
 use Rattle.psci_world_laws.specs.psci_fw_spec.Legal.{IsLegal}
-use Rattle.psci_world_laws.specs.psci_fw_spec.Said.{Arrival, arrived}
-use Rattle.psci_world_laws.specs.psci_fw_spec.Values.{Values}
+use Rattle.psci_world_laws.specs.psci_fw_spec.Said.{arrived}
 use Rattle.psci_world_laws.specs.psci_messages.declared.start.Start.{Start}
 use Rattle.psci_world_laws.specs.psci_messages.declared.taken.Taken.{Taken}
 use Rattle.psci_world_laws.specs.psci_messages.declared.taken.Taken.TheVariants as takens
 use Rattle.psci_world_laws.specs.psci_messages.Message.{AckValue, MessageValue}
 use Rattle.psci_world_laws.specs.psci_world_spec.declared.event.Event.{Event}
-use Rattle.psci_world_laws.specs.psci_world_spec.declared.event.Event.TheVariants.{Call, Enter, Take}
+use Rattle.psci_world_laws.specs.psci_world_spec.declared.event.Event.TheVariants.{Call, Enter}
+use Rattle.psci_world_laws.specs.psci_world_spec.declared.event.Event.TheVariants.{Take}
 use Rattle.psci_world_laws.specs.psci_world_spec.declared.place.Place.{Place}
 use Rattle.psci_world_laws.specs.psci_world_spec.declared.place.Place.TheVariants.{Running, Started}
 use Rattle.psci_world_laws.specs.psci_world_spec.declared.place.Place.TheVariants.{Stopped}
@@ -50,7 +44,7 @@ use Rattle.psci_platform_safe.specs.Opened.{Waits}
 use Rattle.psci_platform_safe.specs.Words.{IsLegalOn, event_after, numbered, said_in_numbers}
 use Rattle.psci_platform_safe.specs.Words.{sent_in_numbers}
 use Rattle.psci_platform_safe.proofs.Records.{OpeningLaws, effect_in, effect_now, entered_effect}
-use Rattle.psci_platform_safe.proofs.Records.{message_in, opens_on, opens_rest, regs_in, took_effect}
+use Rattle.psci_platform_safe.proofs.Records.{message_in, opens_on, opens_rest, took_effect}
 use Rattle.psci_platform_safe.proofs.Waiting.{AreWaiting, leaves, none_one}
 
 -- Entries open nothing --------------------------------------------------------------------------

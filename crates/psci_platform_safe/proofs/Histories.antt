@@ -1,12 +1,11 @@
 -- A platform and its histories, for worked examples: four cores with MPIDRs in two fields and with
 -- gaps, of which one of the second cluster boots.
-use Rattle.std.proofs.Common.{ℕ, List, [], ◌∷◌, true}
+use Rattle.std.proofs.Common.{ℕ, List, [], ◌∷◌}
 use Rattle.psci_platform.specs.declared.class.Class.TheVariants.{Retention}
-use Rattle.psci_platform.specs.declared.functions.Functions.{Functions}
 use Rattle.psci_platform.specs.Described.{DescriptionValue}
 use Rattle.psci_platform.specs.Platforms.{PlatformValue}
-use Rattle.psci_platform.proofs.Machines.{all_functions, calling, checking, describes, down}
-use Rattle.psci_platform.proofs.Machines.{level, row}
+use Rattle.psci_platform.proofs.Machines.{all_functions, calling, checking, describes, down, level}
+use Rattle.psci_platform.proofs.Machines.{row}
 use Rattle.psci_safe.specs.Claims.{claims, live_claims}
 use Rattle.psci_safe.specs.Moments.{was_powered_down}
 use Rattle.psci_safe.specs.Openings.{openings, taken_up}

@@ -1,5 +1,5 @@
 -- What the laws below say of a platform.
-use Rattle.std.proofs.Common.{◌≡◌, ℕ, ◌<◌, ◌≤◌, List, length, Option, Some, ap, sym, ◌∙◌, subst, arith}
+use Rattle.std.proofs.Common.{◌≡◌, ℕ, ◌<◌, ◌≤◌, length, Option, Some, ap, sym, subst, arith}
 use Rattle.std.specs.Prelude.{option_map, slice_index, unwrap_or}
 use Rattle.psci_platform.specs.Cores.{boot_place, core_named, core_word, number_named}
 use Rattle.psci_platform.specs.Platforms.{IsPlatform, PlatformValue}

@@ -1,18 +1,17 @@
 -- The firmware's numbers and the MPIDRs of cores name each other.
-use Rattle.std.proofs.Common.{◌≡◌, ℕ, ◌+◌, ◌*◌, ◌/◌, ◌^◌, ◌<◌, ◌≤◌, ◌==◌, Bool, true, false, cond}
-use Rattle.std.proofs.Common.{List, length, Option, None, Some, refl, sym, ap, ◌∙◌, subst, arith}
+use Rattle.std.proofs.Common.{◌≡◌, ℕ, ◌*◌, ◌/◌, ◌^◌, ◌<◌, ◌≤◌, ◌==◌, Bool, true, false, cond}
+use Rattle.std.proofs.Common.{length, Option, None, Some, refl, sym, ap, ◌∙◌, subst, arith}
 use Rattle.std.specs.Prelude.{nat_le, option_map, slice_index, unwrap_or}
 use Rattle.std.specs.List.{position}
 use Rattle.std.proofs.lemmas.Bool.{eqb-true, leb-true}
 use Rattle.std.proofs.lemmas.List.Quantifiers.{position-Some}
-use Rattle.std.proofs.lemmas.Option.{same_Some}
 use Rattle.psci_platform.specs.Cores.{core_named, core_word, number_named}
 use Rattle.psci_platform.specs.Platforms.{IsPlatform, PlatformValue}
 use Rattle.psci_platform.specs.Swaps.{swap_for}
 use Rattle.psci_platform.specs.psci_fw_same.Renumbered.{IsRenumbering}
 use Rattle.psci_platform.proofs.Swapped.{core_inside}
-use Rattle.psci_world_laws.specs.psci_board.Board.{BoardValue, HasNode, IsBoard, core_of, cores}
-use Rattle.psci_world_laws.specs.psci_board.Board.{height, node_of, up}
+use Rattle.psci_world_laws.specs.psci_board.Board.{HasNode, IsBoard, core_of, cores, height}
+use Rattle.psci_world_laws.specs.psci_board.Board.{node_of, up}
 use Rattle.psci_world_laws.specs.psci_board.Laws.{PathLaws, WordLaws}
 use Rattle.psci_world_laws.specs.psci_board.declared.node.Node.{Node}
 use Rattle.psci_platform_safe.specs.Names.{IsAskedOf, IsCore, domain_above, mpidr_of, node_asked}

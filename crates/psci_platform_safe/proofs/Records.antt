@@ -1,6 +1,6 @@
 -- What a record of a platform comes down to for the firmware, and what its call opens.
-use Rattle.std.proofs.Common.{◌≡◌, ℕ, ◌<◌, List, [], ◌∷◌, ◌++◌, Option, None, Some}
-use Rattle.std.proofs.Common.{refl, sym, ap, ◌∙◌, subst, inl, inr, option_map}
+use Rattle.std.proofs.Common.{◌≡◌, ℕ, ◌<◌, List, [], ◌∷◌, ◌++◌, Option, None, Some, refl, sym, ap}
+use Rattle.std.proofs.Common.{◌∙◌, subst, inl, inr, option_map}
 use Rattle.psci_headline.proofs.Naming.{AreNamed}
 use Rattle.psci_platform.specs.Calls.{regs_for}
 use Rattle.psci_platform.specs.Platforms.{PlatformValue}
@@ -8,7 +8,6 @@ use Rattle.psci_world_laws.specs.psci_abi.Calls.{request_of}
 use Rattle.psci_world_laws.specs.psci_abi.Codes.{success}
 use Rattle.psci_world_laws.specs.psci_abi.declared.code.Code.{Code}
 use Rattle.psci_world_laws.specs.psci_abi.declared.registers.Regs.{Regs}
-use Rattle.psci_world_laws.specs.psci_abi.declared.request.Request.{Request}
 use Rattle.psci_world_laws.specs.psci_abi.declared.request.Request.TheVariants as requests
 use Rattle.psci_world_laws.specs.psci_board.Board.{BoardValue, core_of, cores}
 use Rattle.psci_world_laws.specs.psci_ctl_spec.Replies.{last_start}
@@ -32,11 +31,11 @@ use Rattle.psci_world_laws.specs.psci_messages.declared.start.Start.{Start}
 use Rattle.psci_world_laws.specs.psci_messages.declared.taken.Taken.{Taken}
 use Rattle.psci_world_laws.specs.psci_messages.Message.{AckValue, MessageValue}
 use Rattle.psci_world_laws.specs.psci_world_spec.declared.event.Event.{Event}
-use Rattle.psci_world_laws.specs.psci_world_spec.declared.event.Event.TheVariants.{Call, Enter, Take}
+use Rattle.psci_world_laws.specs.psci_world_spec.declared.event.Event.TheVariants.{Call, Enter}
+use Rattle.psci_world_laws.specs.psci_world_spec.declared.event.Event.TheVariants.{Take}
 use Rattle.psci_world_laws.specs.psci_world_spec.declared.said.Record.{Record}
 use Rattle.psci_world_laws.specs.psci_world_spec.declared.said.Said.{Said}
-use Rattle.psci_world_laws.specs.psci_world_spec.declared.said.Said.TheVariants.{Fw}
-use Rattle.psci_world_laws.specs.psci_world_spec.declared.said.Said.TheVariants.{Taken as Took}
+use Rattle.psci_world_laws.specs.psci_world_spec.declared.said.Said.TheVariants.{Fw, Taken as Took}
 use Rattle.psci_world_laws.specs.psci_world_spec.declared.said.Sent.{Sent}
 use Rattle.psci_world_laws.specs.psci_world_spec.Histories.{acks, call, controller_values, entered}
 use Rattle.psci_world_laws.specs.psci_world_spec.Histories.{firmware_history, firmware_values}
@@ -108,7 +107,8 @@ entered_now : (p : PlatformValue) (older : List Record) (c : ℕ) (s : Option St
     (firmware_values p.board (numbered p older))
 unfolding after
 entered_now p older c None act own laws = refl
-entered_now p older c (Some s) act own laws = laws.more _ (firmware_history p.board (numbered p older))
+entered_now p older c (Some s) act own laws =
+    laws.more _ (firmware_history p.board (numbered p older))
 
 took_now : (p : PlatformValue) (older : List Record) (a : Option AckValue) (t : Taken)
     → OpeningLaws p

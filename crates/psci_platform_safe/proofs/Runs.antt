@@ -1,6 +1,6 @@
 -- To each list of events of a platform there is a legal history.
-use Rattle.std.proofs.Common.{◌≡◌, ℕ, ◌<◌, List, [], ◌∷◌, ◌++◌, map, reverse, Option, None, Some, refl}
-use Rattle.std.proofs.Common.{ap, sym, ◌∙◌, subst, Bool, true, false, cond}
+use Rattle.std.proofs.Common.{◌≡◌, ℕ, ◌<◌, List, [], ◌∷◌, ◌++◌, map, reverse, Option, None, Some}
+use Rattle.std.proofs.Common.{refl, ap, sym, ◌∙◌, subst, Bool, true, false, cond}
 use Rattle.std.proofs.lemmas.List.{append-nil, append_assoc, reverse-append}
 use Rattle.std.specs.Prelude.{slice_get}
 use Rattle.psci_platform.specs.Platforms.{PlatformValue}
@@ -18,7 +18,6 @@ use Rattle.psci_world_laws.specs.psci_world_spec.declared.event.Event.{Event}
 use Rattle.psci_world_laws.specs.psci_world_spec.declared.said.Record.{Record}
 use Rattle.psci_world_laws.specs.psci_world_spec.declared.said.Said.{Said}
 use Rattle.psci_world_laws.specs.psci_world_spec.declared.said.Said.TheVariants.{Fw, Acked}
-use Rattle.psci_world_laws.specs.psci_world_spec.declared.said.Sent.{Sent}
 use Rattle.psci_world_laws.specs.psci_world_spec.Histories.{ack_in, acks, firmware_values, sent}
 use Rattle.psci_world_laws.specs.psci_world_spec.Histories.{sent_in}
 use Rattle.psci_world_laws.specs.psci_world_spec.Legal.{IsLegalPast, legal, legal_record}
@@ -108,8 +107,8 @@ stays p past (event ∷ events) laws known is =
     let own = event_after p (numbered p past) event in
     stays p (told_on p past event ∷ past) events laws known (
       said_back p (legal p.board (numbered p past) own) laws
-      (λ m e. sent_core p.board (numbered p past) own m known is e)
-      (λ a e. acked_core p.board (numbered p past) own a known is e),
+          (λ m e. sent_core p.board (numbered p past) own m known is e)
+          (λ a e. acked_core p.board (numbered p past) own a known is e),
       is,
     )
 

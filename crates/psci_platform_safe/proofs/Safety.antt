@@ -1,20 +1,19 @@
 -- A legal history of a platform is safe, by what the laws below say of the firmware and the power
 -- controller behind it.
-use Rattle.std.proofs.Common.{◌≡◌, ℕ, ◌<◌, ◌≤◌, false, List, [], ◌∷◌, ◌++◌, Option, Some, refl, sym, ap}
-use Rattle.std.proofs.Common.{◌∙◌, subst}
+use Rattle.std.proofs.Common.{◌≡◌, List, [], ◌∷◌, ◌++◌, Option, Some, ap}
 use Rattle.std.specs.Prelude.{slice_get}
 use Rattle.psci_headline.specs.Live.{AreAsked, AreClaimed}
 use Rattle.psci_headline.specs.ToldHw.{WasSoDeep, is_off_depth, is_standby_depth, told_hw}
 use Rattle.psci_headline.specs.ToldOff.{AllOff, told_off}
 use Rattle.psci_platform.specs.Platforms.{PlatformValue}
 use Rattle.psci_safe.specs.Safe.{AlwaysSafe, Safe}
-use Rattle.psci_world_laws.specs.psci_board.Board.{BoardValue, cores, height}
+use Rattle.psci_world_laws.specs.psci_board.Board.{BoardValue}
 use Rattle.psci_world_laws.specs.psci_board.declared.node.Node.{Node}
 use Rattle.psci_world_laws.specs.psci_fw_laws.Kept.{Holds}
 use Rattle.psci_world_laws.specs.psci_fw_spec.Said.{listed}
 use Rattle.psci_world_laws.specs.psci_messages.Message.{MessageValue}
 use Rattle.psci_world_laws.specs.psci_world_spec.declared.said.Record.{Record}
-use Rattle.psci_world_laws.specs.psci_world_spec.Histories.{firmware_values, sent, sent_in}
+use Rattle.psci_world_laws.specs.psci_world_spec.Histories.{firmware_values, sent}
 use Rattle.psci_platform_safe.specs.Names.{domain_above, number}
 use Rattle.psci_platform_safe.specs.Safe.{AlwaysSafeOn, NoneBelowSleeping, OffIsDown, OneLiveClaim}
 use Rattle.psci_platform_safe.specs.Safe.{NoDeeperThanAsked, SafeOn, StatesWereReal}
@@ -86,9 +85,9 @@ states_real : (p : PlatformValue) (past : List Record) → Behind p → IsLegalO
 states_real p [] laws legal = tt
 states_real p (r ∷ past) laws legal = λ word level mpidr asked. (
   λ a. laws.told_off_hw r past (domain_above p mpidr level) legal
-  (hw_off_told p r past word level mpidr laws.names laws.missing legal asked a),
+      (hw_off_told p r past word level mpidr laws.names laws.missing legal asked a),
   λ a. laws.told_standby r past (domain_above p mpidr level) legal
-  (hw_standby_told p r past word level mpidr laws.names laws.missing legal asked a),
+      (hw_standby_told p r past word level mpidr laws.names laws.missing legal asked a),
 )
 
 pub safe_on : (p : PlatformValue) (past : List Record) → Behind p → IsLegalOn p past

@@ -1,8 +1,8 @@
 -- Where an opening that waits comes from: it waited before, or a life began, or a call made it.
-use Rattle.std.proofs.Common.{◌≡◌, ℕ, ◌==◌, Bool, true, false, cond, Option, None, Some, refl, sym, ap}
-use Rattle.std.proofs.Common.{◌∙◌, subst}
+use Rattle.std.proofs.Common.{◌≡◌, ℕ, ◌==◌, Bool, true, false, cond, Option, None, Some, refl, sym}
+use Rattle.std.proofs.Common.{ap, ◌∙◌, subst}
 use Rattle.std.specs.Option.{option_or}
-use Rattle.std.proofs.lemmas.Bool.{cases_Bool, eqb-true, eq-eqb}
+use Rattle.std.proofs.lemmas.Bool.{eqb-true, eq-eqb}
 use Rattle.psci_world_laws.specs.psci_board.Board.{BoardValue}
 use Rattle.psci_world_laws.specs.psci_fw_spec.declared.opening.Opening.{Opening}
 use Rattle.psci_world_laws.specs.psci_fw_spec.After.{change}

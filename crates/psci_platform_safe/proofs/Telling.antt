@@ -1,6 +1,6 @@
 -- What the firmware is asked for a call that names a core or a domain.
-use Rattle.std.proofs.Common.{◌≡◌, ℕ, ◌<◌, ◌≤◌, ◌^◌, ◌∷◌, Bool, true, false, cond, List, Option, None}
-use Rattle.std.proofs.Common.{Some, refl, sym, ap, ◌∙◌, subst, arith, option_map, pos}
+use Rattle.std.proofs.Common.{◌≡◌, ℕ, ◌<◌, ◌^◌, Bool, true, cond, Option, None, Some, refl, ap, ◌∙◌}
+use Rattle.std.proofs.Common.{subst, arith, option_map}
 use Rattle.psci_platform.specs.Calls.{first_argument, is_there, no_function, regs_asking, regs_for}
 use Rattle.psci_platform.specs.Cores.{core_named, core_word, number_named, word_if}
 use Rattle.psci_platform.specs.Platforms.{PlatformValue}
@@ -11,7 +11,7 @@ use Rattle.psci_world_laws.specs.psci_abi.Calls.{argument, request_of}
 use Rattle.psci_world_laws.specs.psci_abi.declared.registers.Regs.{Regs}
 use Rattle.psci_world_laws.specs.psci_abi.declared.request.Request.{Request}
 use Rattle.psci_world_laws.specs.psci_abi.declared.request.Request.TheVariants as requests
-use Rattle.psci_world_laws.specs.psci_board.Board.{BoardValue, address, cores}
+use Rattle.psci_world_laws.specs.psci_board.Board.{cores}
 use Rattle.psci_world_laws.specs.psci_fw_spec.declared.mode.SuspendMode.{SuspendMode}
 use Rattle.psci_platform_safe.proofs.Numbers.{Laws, named_inside}
 

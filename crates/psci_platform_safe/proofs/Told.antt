@@ -1,8 +1,8 @@
 -- Sentences 1 and 5: what AFFINITY_INFO and NODE_HW_STATE told.
-use Rattle.std.proofs.Common.{◌≡◌, ℕ, pos, ◌∷◌, Bool, true, false, List, [], Option, Some, refl, sym, ap}
-use Rattle.std.proofs.Common.{◌∙◌, subst, cond, inl, inr, option_map}
+use Rattle.std.proofs.Common.{◌≡◌, ℕ, pos, ◌∷◌, true, false, List, Option, Some, refl, ap, ◌∙◌}
+use Rattle.std.proofs.Common.{subst, inl, inr, option_map}
 use Rattle.std.proofs.lemmas.Bool.{cases_Bool}
-use Rattle.psci_headline.specs.ToldHw.{WasSoDeep, hw_asked_of, told_hw}
+use Rattle.psci_headline.specs.ToldHw.{hw_asked_of, told_hw}
 use Rattle.psci_headline.specs.ToldOff.{AllOff, asked_of, told_off}
 use Rattle.psci_headline.proofs.Returned.{Extended, returned}
 use Rattle.psci_platform.specs.Calls.{regs_for}
@@ -13,7 +13,6 @@ use Rattle.psci_world_laws.specs.psci_abi.declared.code.Code.{Code}
 use Rattle.psci_world_laws.specs.psci_abi.declared.registers.Regs.{Regs}
 use Rattle.psci_world_laws.specs.psci_abi.declared.request.Request.{Request}
 use Rattle.psci_world_laws.specs.psci_abi.declared.request.Request.TheVariants as requests
-use Rattle.psci_world_laws.specs.psci_board.Board.{node_of}
 use Rattle.psci_world_laws.specs.psci_board.declared.node.Node.{Node}
 use Rattle.psci_world_laws.specs.psci_fw_spec.declared.outcome.Act.TheVariants as acts
 use Rattle.psci_world_laws.specs.psci_fw_spec.Calls.{function_outcome}

@@ -1,8 +1,7 @@
--- Sentence 4: an opening that waits for a core was made for it, by a call's own words or as the life
--- began, and the core has not entered at an opening since.
-use Rattle.std.proofs.Common.{◌≡◌, ◌⊎◌, ℕ, zero, suc, ◌<◌, ◌==◌, Bool, true, false, cond, List, [], ◌∷◌}
-use Rattle.std.proofs.Common.{◌++◌, Option, None, Some, refl, sym, ap, ◌∙◌, subst, arith, inl, inr}
-use Rattle.std.specs.Prelude.{slice_get}
+-- Sentence 4: an opening that waits for a core was made for it, by a call's own words or as the
+-- life began, and the core has not entered at an opening since.
+use Rattle.std.proofs.Common.{◌≡◌, ℕ, zero, suc, ◌<◌, ◌==◌, Bool, true, false, cond, List, [], ◌∷◌}
+use Rattle.std.proofs.Common.{Option, None, Some, refl, sym, ap, ◌∙◌, subst, arith, inl, inr}
 use Rattle.std.proofs.lemmas.Bool.{eqb-true}
 use Rattle.psci_platform.specs.Platforms.{PlatformValue}
 use Rattle.psci_world_laws.specs.psci_fw_spec.declared.opening.Opening.{Opening}
@@ -23,7 +22,8 @@ use Rattle.psci_platform_safe.specs.Names.{IsCore, number}
 use Rattle.psci_platform_safe.specs.Opened.{NoneEnters, Opens, Waits, boot_opening}
 use Rattle.psci_platform_safe.specs.Words.{numbered}
 use Rattle.psci_platform_safe.proofs.Numbers.{Laws, only_one}
-use Rattle.psci_platform_safe.proofs.Sources.{Asked, Begun, Kept, NotEntered, Rested, Source, source}
+use Rattle.psci_platform_safe.proofs.Sources.{Asked, Begun, Kept, NotEntered, Rested, Source}
+use Rattle.psci_platform_safe.proofs.Sources.{source}
 
 -- each opening that the firmware keeps, in a life, waits
 abbrev pub AreWaiting : PlatformValue → List Record → Type 0

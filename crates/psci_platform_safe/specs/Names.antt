@@ -18,7 +18,7 @@ number p mpidr = unwrap_or (number_named p.description p.board p.place mpidr 0) 
 abbrev pub mpidr_of : PlatformValue → ℕ → ℕ
 mpidr_of p c = slice_index p.description.mpidrs (swap_for p.board p.place 0 c)
 
--- the domain of a level above the core with an MPIDR, as the firmware names it; the core, at level 0
+-- the domain of a level above the core with an MPIDR, as the firmware names it; at level 0 the core
 abbrev pub domain_above : PlatformValue → ℕ → ℕ → Node
 domain_above p mpidr level = record { level = level; place = up p.board level (number p mpidr) }
 

@@ -1,12 +1,11 @@
 -- What opens an entry point to a core of a platform, by the call's own words, and what took it up.
-use Rattle.std.specs.Prelude.{◌≡◌, ◌⊎◌, ℕ, List, [], ◌∷◌, ◌++◌, Option, Some, slice_get, slice_index}
-use Rattle.psci_platform.specs.Calls.{is_there}
+use Rattle.std.specs.Prelude.{◌≡◌, ◌⊎◌, ℕ, List, [], ◌∷◌, ◌++◌, Option, Some, slice_get}
+use Rattle.std.specs.Prelude.{slice_index}
 use Rattle.psci_platform.specs.Platforms.{PlatformValue}
 use Rattle.psci_platform.specs.States.{depth_at, states_of}
 use Rattle.psci_world_laws.specs.psci_abi.Calls.{request_of}
 use Rattle.psci_world_laws.specs.psci_abi.Codes.{success}
 use Rattle.psci_world_laws.specs.psci_abi.declared.registers.Regs.{Regs}
-use Rattle.psci_world_laws.specs.psci_abi.declared.request.Request.{Request}
 use Rattle.psci_world_laws.specs.psci_abi.declared.request.Request.TheVariants as requests
 use Rattle.psci_world_laws.specs.psci_fw_spec.declared.mode.SuspendMode.{SuspendMode}
 use Rattle.psci_world_laws.specs.psci_fw_spec.declared.opening.Opening.{Opening}

@@ -85,8 +85,8 @@ pub record SafeOn (p : PlatformValue) (past : List Record) : Type 0 where
   pub one : OneLiveClaim p past
   pub asked : NoDeeperThanAsked p past
   pub entries : OneEntryEach p past
-  -- 4. and by the firmware's numbers: each entry takes up one opening of its core and life, with its
-  -- address and context id, and no two take up the same one
+  -- 4. and by the firmware's numbers: each entry takes up one opening of its core and life, with
+  -- its address and context id, and no two take up the same one
   pub taken : AreTakenUp p.board (firmware_history p.board (numbered p past))
   pub states : StatesWereReal p past
 

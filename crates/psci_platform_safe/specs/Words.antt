@@ -1,7 +1,7 @@
 -- What happens to a platform, and what is said of it, in the platform's words: in an event or a
 -- record each core has its MPIDR in place of a number, and a call has the registers that its caller
 -- gave. The firmware and the power controller behind the platform have their own words.
-use Rattle.std.specs.Prelude.{ℕ, List, [], ◌∷◌, option_map}
+use Rattle.std.specs.Prelude.{List, [], ◌∷◌, option_map}
 use Rattle.psci_platform.specs.Calls.{regs_for}
 use Rattle.psci_platform.specs.Platforms.{PlatformValue}
 use Rattle.psci_platform.specs.psci_fw_same.Renumbered.{acknowledgement_by, message_by}

@@ -10,20 +10,17 @@ ghost use Rattle.psci_platform_safe.specs.Opened.{OneEntryEach};
 ghost use Rattle.psci_platform_safe.specs.Safe.{AlwaysSafeOn};
 ghost use Rattle.psci_platform_safe.specs.Words.{IsLegalOn, run_on};
 
-use psci_headline::{
-    law_asked_claims, law_claimed_depths, law_safe, law_told_hw, law_told_off,
-};
-use psci_platform::{law_asked, law_boot_core, law_missing, law_mpidrs, law_named};
 use psci_board::law_words;
-use psci_world_laws::{
-    law_acknowledged, law_kept, law_paths, law_power_on, law_sent, law_values,
-};
+use psci_headline::{law_asked_claims, law_claimed_depths, law_safe, law_told_hw, law_told_off};
+use psci_platform::{law_asked, law_boot_core, law_missing, law_mpidrs, law_named};
+use psci_world_laws::{law_acknowledged, law_kept, law_paths, law_power_on, law_sent, law_values};
 
 /// The firmware's numbers and the MPIDRs of a platform's cores name each other, and the boot core
 /// has number 0.
 pub fn law_numbers()
     ensures core { (p : PlatformValue) (mpidr : ℕ) → IsBoard p.board → IsPlatform p
-        → IsCore p mpidr → (number p mpidr < cores p.board) × (mpidr_of p (number p mpidr) ≡ mpidr) }
+        → IsCore p mpidr
+        → (number p mpidr < cores p.board) × (mpidr_of p (number p mpidr) ≡ mpidr) }
     ensures number { (p : PlatformValue) (c : ℕ) → IsBoard p.board → IsPlatform p
         → c < cores p.board → IsCore p (mpidr_of p c) × (number p (mpidr_of p c) ≡ c) }
     ensures boot { (p : PlatformValue) → IsBoard p.board → IsPlatform p
@@ -36,8 +33,8 @@ pub fn law_numbers()
     law_boot_core();
 }
 
-/// Each list of events of a platform has a legal history: the one in which of each event that is said
-/// which the firmware and the power controller say of it, with MPIDRs for their cores.
+/// Each list of events of a platform has a legal history: the one in which of each event that is
+/// said which the firmware and the power controller say of it, with MPIDRs for their cores.
 pub fn law_runs_on()
     ensures legal { (p : PlatformValue) (events : List Event) → IsBoard p.board → IsPlatform p
         → IsLegalOn p (run_on p [] events) }
@@ -57,7 +54,8 @@ pub fn law_runs_on()
 /// In a legal history of a platform each entry at an opening takes up one that waited for its core:
 /// an accepted CPU_ON of its MPIDR, its own suspend by a word that powers it down, or its own
 /// SYSTEM_SUSPEND asked for it in this life, with the entry point and the context id, and the core
-/// has not entered at an opening since. Or the boot core begins a life, at the board's boot address.
+/// has not entered at an opening since. Or the boot core begins a life, at the board's boot
+/// address.
 pub fn law_one_entry_on()
     ensures { (p : PlatformValue) (past : List Record) → IsBoard p.board → IsPlatform p
         → IsLegalOn p past → OneEntryEach p past }

@@ -1,5 +1,5 @@
 -- A legal history of a platform is safe at every moment.
-use Rattle.std.proofs.Common.{◌≡◌, ◌∷◌, false, refl, ap, sym, ◌∙◌, subst}
+use Rattle.std.proofs.Common.{ap, sym, ◌∙◌, subst}
 use Rattle.psci_platform.specs.Calls.{is_there}
 use Rattle.psci_platform.specs.Cores.{boot_place}
 use Rattle.psci_world_laws.specs.psci_fw_laws.Kept.{Holds}
