@@ -20,10 +20,11 @@ use Rattle.psci_world_laws.specs.psci_fw_spec.declared.reply.FwReply.TheVariants
 use Rattle.psci_world_laws.specs.psci_fw_spec.After.{change}
 use Rattle.psci_world_laws.specs.psci_fw_spec.Answer.{answer, reply_or}
 use Rattle.psci_world_laws.specs.psci_fw_spec.Changes.{with_arrival}
+use Rattle.psci_world_laws.specs.psci_fw_spec.CpuOff.{off_message}
 use Rattle.psci_world_laws.specs.psci_fw_spec.Entering.{enter_fault, enter_outcome, is_old}
 use Rattle.psci_world_laws.specs.psci_fw_spec.Entering.{outcome_at, resumes}
 use Rattle.psci_world_laws.specs.psci_fw_spec.Lives.{in_life, start_of_life}
-use Rattle.psci_world_laws.specs.psci_fw_spec.Outcomes.{stops}
+use Rattle.psci_world_laws.specs.psci_fw_spec.Outcomes.{stops, stops_with}
 use Rattle.psci_world_laws.specs.psci_fw_spec.Values.{Values}
 use Rattle.psci_world_laws.specs.psci_messages.declared.start.Start.{Start}
 use Rattle.psci_world_laws.specs.psci_world_spec.declared.event.Event.{Event}
@@ -114,6 +115,11 @@ at_fault : (out own : Outcome) (f : Option FwFault) → reply_or f own ≡ repli
 at_fault out own None e = (refl, cc)
 at_fault out own (Some fault) e = absurd (cc)
 
+neither : (t : Bool) (one two : Outcome) (act : Act) → (one.act ≡ act → ⊥) → (two.act ≡ act → ⊥)
+    → (cond t one two).act ≡ act → ⊥
+neither true one two act first second e = first e
+neither false one two act first second e = second e
+
 -- a core that goes on at an address found an opening
 found_opening : (b : BoardValue) (found arrived : Values) (c : ℕ) (s : Start) (o : Opening)
     (own : Option Opening) → found.opening c ≡ own
@@ -124,13 +130,10 @@ found_opening b found arrived c s o (Some q) at e =
     let two : q.context ≡ o.context = cc in
     at ∙ ap (λ (k : ℕ). Some (record { address = k; context = q.context })) one
     ∙ ap (λ (k : ℕ). Some (record { address = o.address; context = k })) two
-found_opening b found arrived c s o None at e = by_test (resumes found c s) e
-  where
-    by_test : (t : Bool) → (cond t (record { act = acts.Resume; message = None })
-        (record { act = acts.Stop; message = _ })).act ≡ acts.Enter o.address o.context
-        → found.opening c ≡ Some o
-    by_test true e = absurd (cc)
-    by_test false e = absurd (cc)
+found_opening b found arrived c s o None at e =
+    absurd (neither (resumes found c s) (record { act = acts.Resume; message = None })
+    (stops_with (off_message b arrived c)) (acts.Enter o.address o.context) (λ no. absurd (cc))
+    (λ no. absurd (cc)) e)
 
 unless_halting : (b : BoardValue) (found arrived : Values) (c : ℕ) (s : Start) (o : Opening)
     (t : Bool)

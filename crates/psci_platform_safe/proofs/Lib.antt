@@ -16,5 +16,6 @@ pub mod Entering
 -- Worked examples.
 pub mod Histories
 mod LegalRows
+mod OpenedRows
 mod AskedRows
 mod BrokenRows
