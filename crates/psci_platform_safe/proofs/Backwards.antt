@@ -139,7 +139,7 @@ asking_small : (t : Bool) (word : ℕ) → word < 2 ^ 32 → cond t word 0xFFFFF
 asking_small true word small = small
 asking_small false word small = omega arith
 
-for_small : (d : DescriptionValue) (format : Format) (o : Option (List ℕ))
+pub for_small : (d : DescriptionValue) (format : Format) (o : Option (List ℕ))
     → word_for d format o < 2 ^ 32
 for_small d format None = omega arith
 for_small d format (Some states) =
@@ -202,7 +202,7 @@ suspend_if p mode regs word a x o (Some states) read none is e at =
     )
 
 -- a word of 32 bits is passed whole
-half_of : (regs : Regs) (w : ℕ) → w < 2 ^ 32 → low_half (argument regs w) ≡ w
+pub half_of : (regs : Regs) (w : ℕ) → w < 2 ^ 32 → low_half (argument regs w) ≡ w
 half_of regs w small = ap low_half (short regs w small) ∙ omega (arith, small)
 
 -- the address of a SYSTEM_SUSPEND is its first argument

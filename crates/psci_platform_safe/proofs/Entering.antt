@@ -185,7 +185,7 @@ module _ (p : PlatformValue) (r : Record) (older : List Record) (laws : OpeningL
       (acts.Enter o.address o.context) (message_in p own)) (firmware_values p.board w)
   unfolding numbered firmware_history
   now =
-      effect_now p older r.event r.said laws
+      effect_now p older r.event r.said laws.more
       ∙ ap (λ (x : Event). change p.board (effect_in p older x r.said)
       (firmware_values p.board w)) event
       ∙ ap (λ (x : Said). change p.board (effect_in p older (Enter mpidr) x)

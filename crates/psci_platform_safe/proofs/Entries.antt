@@ -107,7 +107,7 @@ module _ (p : PlatformValue) (r : Record) (older : List Record) (laws : OpeningL
       ≡ change p.board (effect_in p older event said) (firmware_values p.board w)
   unfolding numbered firmware_history
   now_is event said e s =
-      effect_now p older r.event r.said laws
+      effect_now p older r.event r.said laws.more
       ∙ ap (λ (x : Event). change p.board (effect_in p older x r.said)
       (firmware_values p.board w)) e
       ∙ ap (λ (x : Said). change p.board (effect_in p older event x) (firmware_values p.board w)) s

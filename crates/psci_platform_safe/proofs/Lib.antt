@@ -13,6 +13,7 @@ pub mod Waiting
 pub mod Records
 pub mod Entries
 pub mod Entering
+pub mod Suspended
 -- Worked examples.
 pub mod Histories
 mod LegalRows

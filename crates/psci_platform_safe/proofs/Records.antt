@@ -50,6 +50,11 @@ use Rattle.psci_platform_safe.proofs.Backwards.{target_number}
 use Rattle.psci_platform_safe.proofs.Calling.{asks_on, rests, succeeds}
 use Rattle.psci_platform_safe.proofs.Numbers.{Laws, is_core, number_inside, only_one}
 
+-- one more exchange leaves what it leaves of the values before
+abbrev pub HasMore : PlatformValue → Type 0
+HasMore p = (e : FwExchange) (h : List FwExchange)
+    → values_of p.board (e ∷ h) ≡ after p.board e.core e.call e.reply (values_of p.board h)
+
 -- What is known of a platform and of the firmware behind it.
 pub record OpeningLaws (p : PlatformValue) : Type 0 where
   pub names : Laws p
@@ -59,8 +64,7 @@ pub record OpeningLaws (p : PlatformValue) : Type 0 where
   pub read : AreRead p
   pub none : AreNone p
   pub first : (values_of p.board []).life ≡ 0
-  pub more : (e : FwExchange) (h : List FwExchange)
-      → values_of p.board (e ∷ h) ≡ after p.board e.core e.call e.reply (values_of p.board h)
+  pub more : HasMore p
   pub named : AreNamed p.board
 
 -- Effects ---------------------------------------------------------------------------------------
@@ -100,7 +104,7 @@ values_with p older event said =
     (said_in_numbers p said) ++ firmware_history p.board w)
 
 entered_now : (p : PlatformValue) (older : List Record) (c : ℕ) (s : Option Start) (act : Act)
-    (own : Option Sent) → OpeningLaws p
+    (own : Option Sent) → HasMore p
     → values_of p.board (entered c s (outcome_in act (option_map (sent_in_numbers p) own))
     ++ firmware_history p.board (numbered p older))
     ≡ change p.board (entered_effect c s act (message_in p own))
@@ -108,22 +112,22 @@ entered_now : (p : PlatformValue) (older : List Record) (c : ℕ) (s : Option St
 unfolding after
 entered_now p older c None act own laws = refl
 entered_now p older c (Some s) act own laws =
-    laws.more _ (firmware_history p.board (numbered p older))
+    laws _ (firmware_history p.board (numbered p older))
 
 took_now : (p : PlatformValue) (older : List Record) (a : Option AckValue) (t : Taken)
-    → OpeningLaws p
+    → HasMore p
     → values_of p.board (took a t ++ firmware_history p.board (numbered p older))
     ≡ change p.board (took_effect p.board a t) (firmware_values p.board (numbered p older))
 unfolding after
 took_now p older None t laws = refl
-took_now p older (Some a) t laws = laws.more _ (firmware_history p.board (numbered p older))
+took_now p older (Some a) t laws = laws _ (firmware_history p.board (numbered p older))
 
 pub effect_now : (p : PlatformValue) (older : List Record) (event : Event) (said : Said)
-    → OpeningLaws p → values_with p older event said
+    → HasMore p → values_with p older event said
     ≡ change p.board (effect_in p older event said) (firmware_values p.board (numbered p older))
 unfolding after
 effect_now p older (Call m regs) (Fw act own) laws =
-    laws.more _ (firmware_history p.board (numbered p older))
+    laws _ (firmware_history p.board (numbered p older))
 effect_now p older (Enter m) (Fw act own) laws =
     entered_now p older (number p m)
     (last_start (controller_values p.board (numbered p older)) (number p m)) act own laws
@@ -137,7 +141,7 @@ by_fault : (o out : Outcome) (fault : Option FwFault) → replies.Out o ≡ repl
 by_fault o out (Some fault) e = absurd (cc)
 by_fault o out None e = cc
 
-outcome_is : (b : BoardValue) (v : Values) (c : ℕ) (regs : Regs) (o : Outcome)
+pub outcome_is : (b : BoardValue) (v : Values) (c : ℕ) (regs : Regs) (o : Outcome)
     → replies.Out o ≡ answer b v c (calls.Smc regs) → o ≡ outcome_of b v c (request_of regs)
 unfolding answer
 outcome_is b v c regs o e =

@@ -1,7 +1,9 @@
 -- What the cores of a platform ask of their power domains, and the claim that took a domain down.
-use Rattle.std.specs.Prelude.{◌≡◌, ◌⊎◌, ◌≤◌, ℕ, List, ◌∷◌, ◌++◌, Some}
+use Rattle.std.specs.Prelude.{◌≡◌, ◌⊎◌, ◌≤◌, ℕ, List, ◌∷◌, ◌++◌, Some, slice_index}
 use Rattle.psci_platform.specs.Platforms.{PlatformValue}
+use Rattle.psci_platform.specs.States.{depth_at as class_depth, states_of}
 use Rattle.psci_safe.specs.Moments.{depth_at}
+use Rattle.psci_world_laws.specs.psci_board.Board.{height}
 use Rattle.psci_world_laws.specs.psci_claims.psci_parts.declared.part.Part.{Part}
 use Rattle.psci_world_laws.specs.psci_ctl_spec.Values.{starts_below}
 use Rattle.psci_world_laws.specs.psci_fw_laws.Claims.{part_for}
@@ -29,10 +31,19 @@ abbrev pub depth_above : PlatformValue → List Record → ℕ → ℕ → ℕ
 depth_above p past mpidr level =
     let n = domain_above p mpidr level in depth_at p.board (numbered p past) n.level n.place
 
--- the depth that a core asks of its domain of a level, as the firmware keeps it
+-- the depth that a core asks of its domain of a level; `law_asks_on` says which, by its word
 abbrev pub asks : PlatformValue → List Record → ℕ → ℕ → ℕ
 asks p past mpidr level = ask p.board (firmware_values p.board (numbered p past)) (number p mpidr)
     level
+
+-- What a core asks once a record has suspended it by a word: the word has states in this mode, and
+-- of each level of the board the core asks the depth of the level's state.
+pub record AsksByWord (p : PlatformValue) (r : Record) (past : List Record) (mpidr word : ℕ)
+    : Type 0 where
+  pub states : List ℕ
+  pub row : states_of p.description (mode_of p past) word ≡ Some states
+  pub asked : (level : ℕ) → level ≤ height p.board → asks p (r ∷ past) mpidr level
+      ≡ class_depth p.description level (slice_index states level)
 
 -- each core below the domain of a level asks at least this depth of its domain of another level
 abbrev pub AllAsk : PlatformValue → List Record → ℕ → ℕ → ℕ → ℕ → Type 0

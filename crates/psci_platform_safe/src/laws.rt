@@ -1,10 +1,18 @@
 //! What holds of every platform: each law is the contract of a function that does nothing.
 
-ghost use Rattle.std.specs.Prelude.{◌≡◌, ◌<◌, ℕ, List, [], map, reverse};
+ghost use Rattle.std.specs.Prelude.{◌≡◌, ◌<◌, ℕ, List, [], ◌∷◌, map, reverse, Some};
 ghost use Rattle.psci_platform.specs.Platforms.{IsPlatform, PlatformValue};
+ghost use Rattle.psci_world_laws.specs.psci_abi.Calls.{request_of};
+ghost use Rattle.psci_world_laws.specs.psci_abi.declared.registers.Regs.{Regs};
+ghost use Rattle.psci_world_laws.specs.psci_abi.declared.request.Request.TheVariants.{CpuSuspend};
 ghost use Rattle.psci_world_laws.specs.psci_board.Board.{IsBoard, cores};
+ghost use Rattle.psci_world_laws.specs.psci_fw_spec.declared.outcome.Act.TheVariants.{Stop};
 ghost use Rattle.psci_world_laws.specs.psci_world_spec.declared.event.Event.{Event};
+ghost use Rattle.psci_world_laws.specs.psci_world_spec.declared.event.Event.TheVariants.{Call};
 ghost use Rattle.psci_world_laws.specs.psci_world_spec.declared.said.Record.{Record};
+ghost use Rattle.psci_world_laws.specs.psci_world_spec.declared.said.Said.TheVariants.{Fw};
+ghost use Rattle.psci_world_laws.specs.psci_world_spec.declared.said.Sent.{Sent};
+ghost use Rattle.psci_platform_safe.specs.Asked.{AsksByWord};
 ghost use Rattle.psci_platform_safe.specs.Names.{IsCore, mpidr_of, number};
 ghost use Rattle.psci_platform_safe.specs.Opened.{OneEntryEach};
 ghost use Rattle.psci_platform_safe.specs.Safe.{AlwaysSafeOn};
@@ -69,6 +77,20 @@ pub fn law_one_entry_on()
     law_boot_core();
     law_values();
     law_power_on();
+}
+
+/// In a legal history of a platform a core that a word of CPU_SUSPEND has stopped asks of each level
+/// of the board the depth of the level's state, by the row of the word.
+pub fn law_asks_on()
+    ensures { (p : PlatformValue) (r : Record) (past : List Record) (regs : Regs)
+        (mpidr word entry context : ℕ) (sent : Sent) → IsBoard p.board → IsPlatform p
+        → IsLegalOn p (r ∷ past) → r.event ≡ Call mpidr regs
+        → request_of regs ≡ CpuSuspend word entry context → r.said ≡ Fw Stop (Some sent)
+        → AsksByWord p r past mpidr word }
+{
+    law_missing();
+    law_asked();
+    law_values();
 }
 
 /// A legal history of a platform is safe at every moment, in the platform's own words: no core that

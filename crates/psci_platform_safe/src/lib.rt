@@ -11,4 +11,4 @@
 
 mod laws;
 
-pub use laws::{law_numbers, law_one_entry_on, law_runs_on, law_safe_on};
+pub use laws::{law_asks_on, law_numbers, law_one_entry_on, law_runs_on, law_safe_on};
