@@ -203,7 +203,8 @@ module _ (p : PlatformValue) (r : Record) (older : List Record) (regs : Regs)
             ((firmware_values p.board (numbered p (r ∷ older))).phase c)) level) 0)
             (le-leb level (height p.board) low)
             ∙ ap (λ (x : Phase). asks (activity_of x) level) phase
-            ∙ depth_is p.description states level (let high = board.high in omega (arith, low, high));
+            ∙ depth_is p.description states level
+            (let high = board.high in omega (arith, low, high));
       }
 
   pub asks_by_word : AsksByWord p r older mpidr word

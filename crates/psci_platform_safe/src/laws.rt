@@ -79,8 +79,8 @@ pub fn law_one_entry_on()
     law_power_on();
 }
 
-/// In a legal history of a platform a core that a word of CPU_SUSPEND has stopped asks of each level
-/// of the board the depth of the level's state, by the row of the word.
+/// In a legal history of a platform a core that a word of CPU_SUSPEND has stopped asks of each
+/// level of the board the depth of the level's state, by the row of the word.
 pub fn law_asks_on()
     ensures { (p : PlatformValue) (r : Record) (past : List Record) (regs : Regs)
         (mpidr word entry context : ℕ) (sent : Sent) → IsBoard p.board → IsPlatform p
