@@ -51,7 +51,8 @@ use Rattle.psci_platform_safe.specs.Names.{number}
 use Rattle.psci_platform_safe.specs.Words.{IsLegalOn, event_after, numbered, said_in_numbers}
 use Rattle.psci_platform_safe.specs.Words.{sent_in_numbers}
 use Rattle.psci_platform_safe.proofs.Backwards.{AreMissing, AreNone, AreRead, for_small, half_of}
-use Rattle.psci_platform_safe.proofs.Records.{effect_in, message_in, outcome_is, regs_in, values_with}
+use Rattle.psci_platform_safe.proofs.Records.{effect_in, message_in, outcome_is, regs_in}
+use Rattle.psci_platform_safe.proofs.Records.{values_with}
 use Rattle.psci_platform_safe.proofs.Telling.{told}
 
 -- A core that was stopped -----------------------------------------------------------------------
