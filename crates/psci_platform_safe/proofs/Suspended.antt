@@ -1,5 +1,6 @@
 -- What a core asks that a word has suspended: the depths of the word's states.
-use Rattle.std.proofs.Common.{◌≡◌, ℕ, zero, suc, ◌≤◌, ◌==◌, Bool, true, false, cond, List, [], ◌∷◌, ◌++◌}
+use Rattle.std.proofs.Common.{◌≡◌, ℕ, zero, suc, ◌≤◌, ◌==◌, Bool, true, false, cond, List, [], ◌∷◌}
+use Rattle.std.proofs.Common.{◌++◌}
 use Rattle.std.proofs.Common.{Option, None, Some, refl, sym, ap, ◌∙◌, subst, arith, inl, inr, not}
 use Rattle.std.proofs.Common.{option_map}
 use Rattle.std.specs.Prelude.{Result, Ok, Err, nat_le, nat_lt, slice_index}
