@@ -1,0 +1,251 @@
+-- What a platform was asked where the firmware was asked to open an entry point.
+use Rattle.std.proofs.Common.{◌≡◌, ◌⊎◌, ℕ, ◌+◌, ◌*◌, ◌<◌, ◌≤◌, ◌^◌, Bool, true, false, cond, List}
+use Rattle.std.proofs.Common.{[], Option, None, Some, refl, sym, ap, ◌∙◌, arith, inl, inr}
+use Rattle.std.proofs.Common.{option_map}
+use Rattle.std.specs.Prelude.{Result, Ok, Err, slice_index, slice_index_or, unwrap_or}
+use Rattle.std.proofs.lemmas.Bool.{cases_Bool, eqb-true}
+use Rattle.psci_platform.specs.declared.class.Class.{Class}
+use Rattle.psci_platform.specs.declared.class.Class.TheVariants.{Running, Standby, Retention}
+use Rattle.psci_platform.specs.declared.class.Class.TheVariants.{PowerDown}
+use Rattle.psci_platform.specs.Calls.{first_argument, is_there, regs_for}
+use Rattle.psci_platform.specs.Cores.{core_word, number_named}
+use Rattle.psci_platform.specs.Described.{DescriptionValue}
+use Rattle.psci_platform.specs.Platforms.{PlatformValue}
+use Rattle.psci_platform.specs.States.{depth_at, depth_of, depths_of, states_of, word_for}
+use Rattle.psci_platform.proofs.Requests.{request_with, short, with_first}
+use Rattle.psci_world_laws.specs.psci_abi.Calls.{argument, low_half, request_of}
+use Rattle.psci_world_laws.specs.psci_abi.declared.registers.Regs.{Regs}
+use Rattle.psci_world_laws.specs.psci_abi.declared.request.Request.{Request}
+use Rattle.psci_world_laws.specs.psci_abi.declared.request.Request.TheVariants as requests
+use Rattle.psci_world_laws.specs.psci_abi.psci_format.declared.format.Format.{Format}
+use Rattle.psci_world_laws.specs.psci_abi.psci_format.declared.format.Format.TheVariants.{Extended}
+use Rattle.psci_world_laws.specs.psci_abi.psci_format.declared.format.Format.TheVariants.{Original}
+use Rattle.psci_world_laws.specs.psci_board.Board.{core_of, height}
+use Rattle.psci_world_laws.specs.psci_board.declared.node.Core.{Core}
+use Rattle.psci_world_laws.specs.psci_fw_spec.declared.mode.SuspendMode.{SuspendMode}
+use Rattle.psci_world_laws.specs.psci_fw_spec.declared.opening.Opening.{Opening}
+use Rattle.psci_world_laws.specs.psci_fw_spec.Effects.{rest_named, rest_of}
+use Rattle.psci_world_laws.specs.psci_state.Ask.{deepest_of, is_ask, is_deep}
+use Rattle.psci_world_laws.specs.psci_state.PowerState.{ask_of, word_of}
+use Rattle.psci_world_laws.specs.psci_state.declared.fault.BadState.{BadState}
+use Rattle.psci_platform_safe.specs.Names.{number}
+use Rattle.psci_platform_safe.specs.Opened.{IsPowerDown}
+use Rattle.psci_platform_safe.proofs.Numbers.{Laws}
+use Rattle.psci_platform_safe.proofs.Telling.{core_short, told}
+
+-- a function that is not there is called as an unknown one
+abbrev pub AreMissing : PlatformValue → Type 0
+AreMissing p = (mode : SuspendMode) (regs : Regs)
+    → is_there p.description.functions (request_of regs) ≡ false
+    → request_of (regs_for p.description p.board p.place mode regs) ≡ requests.Unknown
+
+-- CPU_ON ----------------------------------------------------------------------------------------
+
+-- A CPU_ON of the firmware is one of the platform, of the core that its word names.
+pub record AsksOn (p : PlatformValue) (regs : Regs) (word address context : ℕ) : Type 0 where
+  pub target : ℕ
+  pub asks : request_of regs ≡ requests.CpuOn target address context
+  pub named : word ≡ core_word p.description p.board p.place target 0
+
+on_there : (p : PlatformValue) (mode : SuspendMode) (regs : Regs) (r : Request)
+    (word address context : ℕ) → Laws p → request_of regs ≡ r
+    → with_first (argument regs (first_argument p.description p.board p.place mode regs.x1 r)) r
+    ≡ requests.CpuOn word address context → AsksOn p regs word address context
+on_there p mode regs (requests.CpuOn target a x) word address context laws is e =
+    let own = core_word p.description p.board p.place target 0 in
+    let one : argument regs own ≡ word = cc in
+    let two : a ≡ address = cc in
+    let three : x ≡ context = cc in
+    record {
+      target = target;
+      asks = is ∙ ap (λ (k : ℕ). requests.CpuOn target k x) two
+          ∙ ap (requests.CpuOn target address) three;
+      named = sym one ∙ short regs own (core_short p target 0 laws);
+    }
+on_there p mode regs r word address context laws is e = absurd (cc)
+
+pub on_back : (p : PlatformValue) (mode : SuspendMode) (regs : Regs) (word address context : ℕ)
+    → Laws p → AreMissing p
+    → request_of (regs_for p.description p.board p.place mode regs)
+    ≡ requests.CpuOn word address context → AsksOn p regs word address context
+on_back p mode regs word address context laws missing e =
+    elim (cases_Bool (is_there p.description.functions (request_of regs))) [
+      | inl there ↦
+          on_there p mode regs (request_of regs) word address context laws refl
+          (sym (told p mode regs (request_of regs) refl there) ∙ e)
+      | inr none ↦
+          let no : requests.Unknown ≡ requests.CpuOn word address context =
+          sym (missing mode regs none) ∙ e in
+          absurd (cc)
+    ]
+
+some_number : (o : Option ℕ) (core : Core) (other : ℕ)
+    → option_map (λ c. record { number = c }) o ≡ Some core → unwrap_or o other ≡ core.number
+some_number None core other e = absurd (cc)
+some_number (Some c) core other e =
+    let same : record { number = c } ≡ core = cc in ap (λ (x : Core). x.number) same
+
+-- the core that its word names has this number
+pub target_number : (p : PlatformValue) (target : ℕ) (core : Core) → Laws p
+    → core_of p.board (core_word p.description p.board p.place target 0) ≡ Some core
+    → number p target ≡ core.number
+target_number p target core laws e =
+    some_number (number_named p.description p.board p.place target 0) core _
+    (sym (laws.core_of target) ∙ e)
+
+-- Suspends --------------------------------------------------------------------------------------
+
+class_small : (c : Class) → depth_of c ≤ 3
+class_small Running = omega arith
+class_small Standby = omega arith
+class_small Retention = omega arith
+class_small PowerDown = omega arith
+
+type_small : (t : Bool) → cond t 1 0 ≤ 1
+type_small true = omega arith
+type_small false = omega arith
+
+high_small : (r s t : Bool) → cond r 3 (cond s 2 (cond t 1 0)) ≤ 3
+high_small true s t = omega arith
+high_small false true t = omega arith
+high_small false false true = omega arith
+high_small false false false = omega arith
+
+depth_small : (d : DescriptionValue) (level number : ℕ) → depth_at d level number ≤ 3
+depth_small d level number =
+    class_small (slice_index_or (slice_index_or d.classes level []) number PowerDown)
+
+all_small : (a b c e t h : ℕ) → a ≤ 3 → b ≤ 3 → c ≤ 3 → e ≤ 3 → t ≤ 1 → h ≤ 3
+    → a + 2 ^ 4 * b + 2 ^ 8 * c + 2 ^ 12 * e + 2 ^ 16 * t + 2 ^ 24 * h < 2 ^ 32
+all_small a b c e t h i j k l m n = omega (arith, i, j, k, l, m, n)
+
+few_small : (a b c e t : ℕ) → a ≤ 3 → b ≤ 3 → c ≤ 3 → e ≤ 3 → t ≤ 1
+    → a + 2 ^ 4 * b + 2 ^ 8 * c + 2 ^ 12 * e + 2 ^ 30 * t < 2 ^ 32
+few_small a b c e t i j k l m = omega (arith, i, j, k, l, m)
+
+word_small : (d : DescriptionValue) (states : List ℕ) (format : Format)
+    → word_of format (depths_of d states) < 2 ^ 32
+word_small d states Original =
+    all_small _ _ _ _ _ _ (depth_small d 0 (slice_index states 0))
+    (depth_small d 1 (slice_index states 1)) (depth_small d 2 (slice_index states 2))
+    (depth_small d 3 (slice_index states 3)) (type_small (is_deep (depths_of d states)))
+    (high_small _ _ _)
+word_small d states Extended =
+    few_small _ _ _ _ _ (depth_small d 0 (slice_index states 0))
+    (depth_small d 1 (slice_index states 1)) (depth_small d 2 (slice_index states 2))
+    (depth_small d 3 (slice_index states 3)) (type_small (is_deep (depths_of d states)))
+
+asking_small : (t : Bool) (word : ℕ) → word < 2 ^ 32 → cond t word 0xFFFFFFFF < 2 ^ 32
+asking_small true word small = small
+asking_small false word small = omega arith
+
+pub for_small : (d : DescriptionValue) (format : Format) (o : Option (List ℕ))
+    → word_for d format o < 2 ^ 32
+for_small d format None = omega arith
+for_small d format (Some states) =
+    asking_small (is_ask (depths_of d states)) (word_of format (depths_of d states))
+    (word_small d states format)
+
+-- the states of a word are what the firmware reads in the word that it is asked
+abbrev pub AreRead : PlatformValue → Type 0
+AreRead p = (mode : SuspendMode) (word : ℕ) (states : List ℕ)
+    → states_of p.description mode word ≡ Some states
+    → ask_of p.board.format (height p.board)
+    (word_for p.description p.board.format (states_of p.description mode word))
+    ≡ Ok (depths_of p.description states)
+
+-- and it reads none where there are none
+abbrev pub AreNone : PlatformValue → Type 0
+AreNone p = (mode : SuspendMode) (word : ℕ) → states_of p.description mode word ≡ None
+    → ask_of p.board.format (height p.board)
+    (word_for p.description p.board.format (states_of p.description mode word))
+    ≡ Err (record {})
+
+opening_if : (t : Bool) (own o : Opening) → cond t (Some own) None ≡ Some o
+    → (t ≡ true) × (own ≡ o)
+opening_if true own o e = (refl, cc)
+opening_if false own o e = absurd (cc)
+
+-- What a suspend of the platform asked that opened an entry point.
+abbrev pub AsksSuspend : PlatformValue → SuspendMode → Regs → Opening → Type 0
+AsksSuspend p mode regs o =
+    ((word : ℕ) × (request_of regs ≡ requests.CpuSuspend word o.address o.context)
+    × IsPowerDown p mode word)
+    ⊎ (request_of regs ≡ requests.SystemSuspend o.address o.context)
+
+-- CPU_SUSPEND: the word's states power down the core
+suspend_if : (p : PlatformValue) (mode : SuspendMode) (regs : Regs) (word a x : ℕ) (o : Opening)
+    (states : Option (List ℕ)) → AreRead p → AreNone p
+    → request_of regs ≡ requests.CpuSuspend word a x
+    → states_of p.description mode word ≡ states
+    → (rest_named (record { address = a; context = x })
+    (ask_of p.board.format (height p.board)
+    (word_for p.description p.board.format (states_of p.description mode word)))).opening ≡ Some o
+    → AsksSuspend p mode regs o
+suspend_if p mode regs word a x o None read none is e at =
+    let no : None ≡ Some o =
+    ap (λ (r : Result (List ℕ) BadState).
+    (rest_named (record { address = a; context = x }) r).opening) (sym (none mode word e)) ∙ at in
+    absurd (cc)
+suspend_if p mode regs word a x o (Some states) read none is e at =
+    let here : (rest_named (record { address = a; context = x })
+    (Ok (depths_of p.description states))).opening ≡ Some o =
+    ap (λ (r : Result (List ℕ) BadState).
+    (rest_named (record { address = a; context = x }) r).opening) (sym (read mode word states e))
+    ∙ at in
+    let both = opening_if (is_deep (depths_of p.description states))
+    (record { address = a; context = x }) o here in
+    inl (
+      word,
+      is ∙ ap (λ (q : Opening). requests.CpuSuspend word q.address q.context) both.1,
+      record { states = states; row = e; deep = eqb-true _ _ both.0 },
+    )
+
+-- a word of 32 bits is passed whole
+pub half_of : (regs : Regs) (w : ℕ) → w < 2 ^ 32 → low_half (argument regs w) ≡ w
+half_of regs w small = ap low_half (short regs w small) ∙ omega (arith, small)
+
+-- the address of a SYSTEM_SUSPEND is its first argument
+system_first : (regs : Regs) (a x : ℕ) → request_of regs ≡ requests.SystemSuspend a x
+    → a ≡ argument regs regs.x1
+system_first regs a x is =
+    let same : requests.SystemSuspend a x
+    ≡ with_first (argument regs regs.x1) (requests.SystemSuspend a x) =
+    sym is ∙ request_with regs regs.x1 ∙ ap (with_first (argument regs regs.x1)) is in
+    cc
+
+suspend_there : (p : PlatformValue) (mode : SuspendMode) (regs : Regs) (r : Request) (o : Opening)
+    → AreRead p → AreNone p → request_of regs ≡ r
+    → (rest_of p.board (with_first (argument regs
+    (first_argument p.description p.board p.place mode regs.x1 r)) r)).opening ≡ Some o
+    → AsksSuspend p mode regs o
+suspend_there p mode regs (requests.CpuSuspend word a x) o read none is at =
+    let w = word_for p.description p.board.format (states_of p.description mode word) in
+    suspend_if p mode regs word a x o (states_of p.description mode word) read none is refl
+    (ap (λ (k : ℕ). (rest_named (record { address = a; context = x })
+    (ask_of p.board.format (height p.board) k)).opening)
+    (sym (half_of regs w
+    (for_small p.description p.board.format (states_of p.description mode word)))) ∙ at)
+suspend_there p mode regs (requests.SystemSuspend a x) o read none is at =
+    let both = opening_if (is_deep (deepest_of (height p.board)))
+    (record { address = argument regs regs.x1; context = x }) o at in
+    inr (is
+    ∙ ap (λ (k : ℕ). requests.SystemSuspend k x) (system_first regs a x is)
+    ∙ ap (λ (q : Opening). requests.SystemSuspend q.address q.context) both.1)
+suspend_there p mode regs r o read none is at = absurd (cc)
+
+pub suspend_back : (p : PlatformValue) (mode : SuspendMode) (regs : Regs) (o : Opening) → AreRead p
+    → AreNone p → AreMissing p
+    → (rest_of p.board (request_of (regs_for p.description p.board p.place mode regs))).opening
+    ≡ Some o → AsksSuspend p mode regs o
+suspend_back p mode regs o read none missing at =
+    elim (cases_Bool (is_there p.description.functions (request_of regs))) [
+      | inl there ↦
+          suspend_there p mode regs (request_of regs) o read none refl
+          (ap (λ (q : Request). (rest_of p.board q).opening)
+          (sym (told p mode regs (request_of regs) refl there)) ∙ at)
+      | inr lacks ↦
+          let no : None ≡ Some o =
+          ap (λ (q : Request). (rest_of p.board q).opening) (sym (missing mode regs lacks)) ∙ at in
+          absurd (cc)
+    ]

@@ -1,0 +1,144 @@
+-- What a call that asked a core on, or that stopped its caller, was asked and answered.
+use Rattle.std.proofs.Common.{◌≡◌, ℕ, Bool, true, false, cond, Option, None, Some, refl, ap}
+use Rattle.std.specs.Ordering.{int_eq}
+use Rattle.psci_world_laws.specs.psci_abi.Codes.{success}
+use Rattle.psci_world_laws.specs.psci_abi.declared.code.Code.{Code}
+use Rattle.psci_world_laws.specs.psci_abi.declared.request.Request.{Request}
+use Rattle.psci_world_laws.specs.psci_abi.declared.request.Request.TheVariants as requests
+use Rattle.psci_world_laws.specs.psci_board.Board.{BoardValue}
+use Rattle.psci_world_laws.specs.psci_fw_spec.declared.mode.SuspendMode.{SuspendMode}
+use Rattle.psci_world_laws.specs.psci_fw_spec.declared.outcome.Act.{Act}
+use Rattle.psci_world_laws.specs.psci_fw_spec.declared.outcome.Act.TheVariants as acts
+use Rattle.psci_world_laws.specs.psci_fw_spec.declared.outcome.Outcome.{Outcome}
+use Rattle.psci_world_laws.specs.psci_fw_spec.Calls.{outcome_of}
+use Rattle.psci_world_laws.specs.psci_fw_spec.Changes.{PowerOn, Rest}
+use Rattle.psci_world_laws.specs.psci_fw_spec.Effects.{AsksOn, Rests, function_effect, mode_effect}
+use Rattle.psci_world_laws.specs.psci_fw_spec.Effects.{GoesOn, rest_of, return_effect, sent_effect}
+use Rattle.psci_world_laws.specs.psci_fw_spec.Effects.{stop_effect}
+use Rattle.psci_world_laws.specs.psci_fw_spec.SuspendMode.{mode_of}
+use Rattle.psci_world_laws.specs.psci_fw_spec.Values.{Values}
+use Rattle.psci_world_laws.specs.psci_messages.Message.{MessageValue}
+use Rattle.psci_world_laws.proofs.fw_spec.Endings.{function_ends, outcome_ends}
+
+-- Asked on --------------------------------------------------------------------------------------
+
+mode_asks : (c d : ℕ) (asked : PowerOn) (o : Option SuspendMode)
+    → mode_effect c o ≡ AsksOn d asked → ⊥
+mode_asks c d asked None e = absurd (cc)
+mode_asks c d asked (Some mode) e = absurd (cc)
+
+set_asks : (c d number : ℕ) (asked : PowerOn) (t : Bool)
+    → cond t (mode_effect c (mode_of number)) (GoesOn c) ≡ AsksOn d asked → ⊥
+set_asks c d number asked true e = mode_asks c d asked (mode_of number) e
+set_asks c d number asked false e = absurd (cc)
+
+return_asks : (c d : ℕ) (asked : PowerOn) (r : Request) (code : Code)
+    → return_effect c r code ≡ AsksOn d asked → ⊥
+return_asks c d asked (requests.SetSuspendMode number) code e =
+    set_asks c d number asked (int_eq code.0 success.0) e
+return_asks c d asked r code e = absurd (cc)
+
+stop_asks : (b : BoardValue) (c d : ℕ) (asked : PowerOn) (r : Request) (m : MessageValue)
+    → stop_effect b c r m ≡ AsksOn d asked → ⊥
+stop_asks b c d asked requests.SystemOff m e = absurd (cc)
+stop_asks b c d asked requests.SystemReset m e = absurd (cc)
+stop_asks b c d asked (requests.SystemReset2 reset_type cookie) m e = absurd (cc)
+stop_asks b c d asked r m e = absurd (cc)
+
+-- A call that asked a core on is a CPU_ON with the opening as its arguments.
+pub record IsCpuOn (r : Request) (act : Act) (message : Option MessageValue) (asked : PowerOn)
+    : Type 0 where
+  pub word : ℕ
+  pub code : Code
+  pub asks : r ≡ requests.CpuOn word asked.opening.address asked.opening.context
+  pub returns : act ≡ acts.Return code
+  pub sends : message ≡ Some asked.message
+
+sent_asks : (c d : ℕ) (asked : PowerOn) (r : Request) (code : Code) (m : MessageValue)
+    → sent_effect c r m ≡ AsksOn d asked → IsCpuOn r (acts.Return code) (Some m) asked
+sent_asks c d asked (requests.CpuOn word entry_point context) code m e =
+    let same : record {
+      message = m;
+      opening = record { address = entry_point; context = context };
+    } ≡ asked = cc in
+    record {
+      word = word;
+      code = code;
+      asks = ap (λ (x : PowerOn). requests.CpuOn word x.opening.address x.opening.context) same;
+      returns = refl;
+      sends = ap (λ (x : PowerOn). Some x.message) same;
+    }
+sent_asks c d asked r code m e = absurd (cc)
+
+pub asks_on : (b : BoardValue) (c d : ℕ) (asked : PowerOn) (r : Request) (act : Act)
+    (message : Option MessageValue) → function_effect b c r act message ≡ AsksOn d asked
+    → IsCpuOn r act message asked
+asks_on b c d asked r acts.Stop (Some m) e = absurd (stop_asks b c d asked r m e)
+asks_on b c d asked r acts.Stop None e = absurd (cc)
+asks_on b c d asked r (acts.Return code) (Some m) e = sent_asks c d asked r code m e
+asks_on b c d asked r (acts.Return code) None e = absurd (return_asks c d asked r code e)
+asks_on b c d asked r (acts.Enter address context) message e = absurd (cc)
+asks_on b c d asked r acts.Resume message e = absurd (cc)
+
+-- a function that returned and sent something returned SUCCESS
+abbrev Succeeds : Outcome → Type 0
+Succeeds o = (code : Code) (m : MessageValue) → o.act ≡ acts.Return code → o.message ≡ Some m
+    → code ≡ success
+
+pub succeeds : (b : BoardValue) (v : Values) (c : ℕ) (r : Request) → Succeeds (outcome_of b v c r)
+succeeds b v c r =
+    outcome_ends Succeeds b v c r
+    (λ halts code m act message. absurd (cc))
+    (λ awake. function_ends Succeeds b v c r
+    (λ code other m act message. absurd (cc))
+    (λ m code other act message. absurd (cc))
+    (λ word entry_point context m is code other act message. cc))
+
+-- Stopped ---------------------------------------------------------------------------------------
+
+mode_rests : (c d : ℕ) (rest : Rest) (m : MessageValue) (o : Option SuspendMode)
+    → mode_effect c o ≡ Rests d rest m → ⊥
+mode_rests c d rest m None e = absurd (cc)
+mode_rests c d rest m (Some mode) e = absurd (cc)
+
+set_rests : (c d number : ℕ) (rest : Rest) (m : MessageValue) (t : Bool)
+    → cond t (mode_effect c (mode_of number)) (GoesOn c) ≡ Rests d rest m → ⊥
+set_rests c d number rest m true e = mode_rests c d rest m (mode_of number) e
+set_rests c d number rest m false e = absurd (cc)
+
+return_rests : (c d : ℕ) (rest : Rest) (m : MessageValue) (r : Request) (code : Code)
+    → return_effect c r code ≡ Rests d rest m → ⊥
+return_rests c d rest m (requests.SetSuspendMode number) code e =
+    set_rests c d number rest m (int_eq code.0 success.0) e
+return_rests c d rest m r code e = absurd (cc)
+
+sent_rests : (c d : ℕ) (rest : Rest) (m : MessageValue) (r : Request) (own : MessageValue)
+    → sent_effect c r own ≡ Rests d rest m → ⊥
+sent_rests c d rest m (requests.CpuOn word entry_point context) own e = absurd (cc)
+sent_rests c d rest m r own e = absurd (cc)
+
+-- A call that stopped its caller to be woken, or to go off.
+pub record IsStop (b : BoardValue) (c d : ℕ) (rest : Rest) (m : MessageValue) (r : Request)
+    (act : Act) (message : Option MessageValue) : Type 0 where
+  pub caller : c ≡ d
+  pub rests : rest_of b r ≡ rest
+  pub stops : act ≡ acts.Stop
+  pub sends : message ≡ Some m
+
+stop_rests : (b : BoardValue) (c d : ℕ) (rest : Rest) (m : MessageValue) (r : Request)
+    (own : MessageValue) → stop_effect b c r own ≡ Rests d rest m
+    → IsStop b c d rest m r acts.Stop (Some own)
+stop_rests b c d rest m requests.SystemOff own e = absurd (cc)
+stop_rests b c d rest m requests.SystemReset own e = absurd (cc)
+stop_rests b c d rest m (requests.SystemReset2 reset_type cookie) own e = absurd (cc)
+stop_rests b c d rest m r own e = record { caller = cc; rests = cc; stops = refl; sends = cc }
+
+pub rests : (b : BoardValue) (c d : ℕ) (rest : Rest) (m : MessageValue) (r : Request) (act : Act)
+    (message : Option MessageValue) → function_effect b c r act message ≡ Rests d rest m
+    → IsStop b c d rest m r act message
+rests b c d rest m r acts.Stop (Some own) e = stop_rests b c d rest m r own e
+rests b c d rest m r acts.Stop None e = absurd (cc)
+rests b c d rest m r (acts.Return code) (Some own) e = absurd (sent_rests c d rest m r own e)
+rests b c d rest m r (acts.Return code) None e = absurd (return_rests c d rest m r code e)
+rests b c d rest m r (acts.Enter address context) message e = absurd (cc)
+rests b c d rest m r acts.Resume message e = absurd (cc)

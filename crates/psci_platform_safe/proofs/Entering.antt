@@ -1,0 +1,231 @@
+-- Sentence 4: each entry at an opening takes up one that waited for its core, or begins a life.
+use Rattle.std.proofs.Common.{◌≡◌, ◌⊎◌, ℕ, zero, suc, ◌<◌, ◌==◌, ◌||◌, Bool, true, false, cond}
+use Rattle.std.proofs.Common.{List, [], ◌∷◌, Option, None, Some, refl, sym, ap, ◌∙◌, arith, inl}
+use Rattle.std.proofs.Common.{inr, not, option_map}
+use Rattle.std.specs.Prelude.{nat_lt}
+use Rattle.std.proofs.lemmas.Bool.{eq-eqb, eqb-true, ltb-true}
+use Rattle.psci_platform.specs.Platforms.{PlatformValue}
+use Rattle.psci_world_laws.specs.psci_board.Board.{BoardValue, cores}
+use Rattle.psci_world_laws.specs.psci_ctl_spec.Replies.{last_start}
+use Rattle.psci_world_laws.specs.psci_fw_spec.declared.call.FwCall.TheVariants as calls
+use Rattle.psci_world_laws.specs.psci_fw_spec.declared.fault.FwFault.{FwFault}
+use Rattle.psci_world_laws.specs.psci_fw_spec.declared.fault.FwFault.TheVariants.{NoCore, NoLife}
+use Rattle.psci_world_laws.specs.psci_fw_spec.declared.fault.FwFault.TheVariants.{OldStart}
+use Rattle.psci_world_laws.specs.psci_fw_spec.declared.opening.Opening.{Opening}
+use Rattle.psci_world_laws.specs.psci_fw_spec.declared.outcome.Act.{Act}
+use Rattle.psci_world_laws.specs.psci_fw_spec.declared.outcome.Act.TheVariants as acts
+use Rattle.psci_world_laws.specs.psci_fw_spec.declared.outcome.Outcome.{Outcome}
+use Rattle.psci_world_laws.specs.psci_fw_spec.declared.reply.FwReply.{FwReply}
+use Rattle.psci_world_laws.specs.psci_fw_spec.declared.reply.FwReply.TheVariants as replies
+use Rattle.psci_world_laws.specs.psci_fw_spec.After.{change}
+use Rattle.psci_world_laws.specs.psci_fw_spec.Answer.{answer, reply_or}
+use Rattle.psci_world_laws.specs.psci_fw_spec.Changes.{with_arrival}
+use Rattle.psci_world_laws.specs.psci_fw_spec.CpuOff.{off_message}
+use Rattle.psci_world_laws.specs.psci_fw_spec.Entering.{enter_fault, enter_outcome, is_old}
+use Rattle.psci_world_laws.specs.psci_fw_spec.Entering.{outcome_at, resumes}
+use Rattle.psci_world_laws.specs.psci_fw_spec.Lives.{in_life, start_of_life}
+use Rattle.psci_world_laws.specs.psci_fw_spec.Outcomes.{stops, stops_with}
+use Rattle.psci_world_laws.specs.psci_fw_spec.Values.{Values}
+use Rattle.psci_world_laws.specs.psci_messages.declared.start.Start.{Start}
+use Rattle.psci_world_laws.specs.psci_world_spec.declared.event.Event.{Event}
+use Rattle.psci_world_laws.specs.psci_world_spec.declared.event.Event.TheVariants.{Enter}
+use Rattle.psci_world_laws.specs.psci_world_spec.declared.place.Place.{Place}
+use Rattle.psci_world_laws.specs.psci_world_spec.declared.place.Place.TheVariants.{Running, Started}
+use Rattle.psci_world_laws.specs.psci_world_spec.declared.place.Place.TheVariants.{Stopped}
+use Rattle.psci_world_laws.specs.psci_world_spec.declared.said.Record.{Record}
+use Rattle.psci_world_laws.specs.psci_world_spec.declared.said.Said.{Said}
+use Rattle.psci_world_laws.specs.psci_world_spec.declared.said.Said.TheVariants.{Absent, Fw}
+use Rattle.psci_world_laws.specs.psci_world_spec.declared.said.Sent.{Sent}
+use Rattle.psci_world_laws.specs.psci_world_spec.Histories.{controller_values, firmware_history}
+use Rattle.psci_world_laws.specs.psci_world_spec.Histories.{firmware_values}
+use Rattle.psci_world_laws.specs.psci_world_spec.Legal.{if_started, legal, said_of}
+use Rattle.psci_world_laws.specs.psci_world_spec.Places.{place}
+use Rattle.psci_platform_safe.specs.Asked.{life_of}
+use Rattle.psci_platform_safe.specs.Names.{number}
+use Rattle.psci_platform_safe.specs.Opened.{OneEntryEach, Waits, boot_opening}
+use Rattle.psci_platform_safe.specs.Words.{IsLegalOn, event_after, numbered, said_in_numbers}
+use Rattle.psci_platform_safe.specs.Words.{sent_in_numbers}
+use Rattle.psci_platform_safe.proofs.Entries.{waiting}
+use Rattle.psci_platform_safe.proofs.Numbers.{is_core, only_one}
+use Rattle.psci_platform_safe.proofs.Records.{OpeningLaws, effect_in, effect_now, entered_effect}
+use Rattle.psci_platform_safe.proofs.Records.{message_in}
+use Rattle.psci_platform_safe.proofs.Waiting.{first_is}
+
+-- What is said of an entry ----------------------------------------------------------------------
+
+-- A core entered that was started, and the firmware answered this act.
+record HasEntered (b : BoardValue) (past : List Record) (c : ℕ) (act : Act) : Type 0 where
+  start : Start
+  last : last_start (controller_values b past) c ≡ Some start
+  inside : c < cores b
+  out : Outcome
+  reply : answer b (firmware_values b past) c (calls.Enter start) ≡ replies.Out out
+  does : out.act ≡ act
+
+by_reply : (b : BoardValue) (past : List Record) (c n : ℕ) (act : Act) (own : Option Sent)
+    (start : Start) (reply : FwReply) → last_start (controller_values b past) c ≡ Some start
+    → c < cores b → answer b (firmware_values b past) c (calls.Enter start) ≡ reply
+    → Fw act own ≡ said_of n reply → HasEntered b past c act
+by_reply b past c n act own start (replies.Out o) last inside is e = record {
+  start = start;
+  last = last;
+  inside = inside;
+  out = o;
+  reply = is;
+  does = let same : act ≡ o.act = cc in sym same;
+}
+by_reply b past c n act own start (replies.Taken t) last inside is e = absurd (cc)
+by_reply b past c n act own start (replies.Fault f) last inside is e = absurd (cc)
+
+by_place : (b : BoardValue) (past : List Record) (c : ℕ) (act : Act) (own : Option Sent)
+    (p : Place) (start : Option Start) → last_start (controller_values b past) c ≡ start
+    → c < cores b → Fw act own ≡ if_started b past c p start → HasEntered b past c act
+by_place b past c act own Started (Some s) last inside e =
+    by_reply b past c _ act own s (answer b (firmware_values b past) c (calls.Enter s)) last inside
+    refl e
+by_place b past c act own Started None last inside e = absurd (cc)
+by_place b past c act own Running s last inside e = absurd (cc)
+by_place b past c act own Stopped s last inside e = absurd (cc)
+
+by_board : (b : BoardValue) (past : List Record) (c : ℕ) (act : Act) (own : Option Sent) (t : Bool)
+    → nat_lt c (cores b) ≡ t
+    → Fw act own ≡ cond t (if_started b past c (place b past c)
+    (last_start (controller_values b past) c)) Absent → HasEntered b past c act
+by_board b past c act own true inside e =
+    by_place b past c act own (place b past c) (last_start (controller_values b past) c) refl
+    (ltb-true c (cores b) inside) e
+by_board b past c act own false inside e = absurd (cc)
+
+has_entered : (b : BoardValue) (past : List Record) (c : ℕ) (act : Act) (own : Option Sent)
+    → Fw act own ≡ legal b past (Enter c) → HasEntered b past c act
+unfolding legal
+has_entered b past c act own e = by_board b past c act own (nat_lt c (cores b)) refl e
+
+-- Where it enters -------------------------------------------------------------------------------
+
+-- an entry that is not refused is in a life
+some_life : (life : ℕ) (s u w : Bool) → cond (not s) (Some NoCore)
+    (cond ((life == 0) || u) (Some NoLife) (cond w (Some OldStart) None)) ≡ None → 0 < life
+some_life life false u w e = absurd (cc)
+some_life zero true u w e = absurd (cc)
+some_life (suc life) true u w e = omega arith
+
+at_fault : (out own : Outcome) (f : Option FwFault) → reply_or f own ≡ replies.Out out
+    → (f ≡ None) × (own ≡ out)
+at_fault out own None e = (refl, cc)
+at_fault out own (Some fault) e = absurd (cc)
+
+neither : (t : Bool) (one two : Outcome) (act : Act) → (one.act ≡ act → ⊥) → (two.act ≡ act → ⊥)
+    → (cond t one two).act ≡ act → ⊥
+neither true one two act first second e = first e
+neither false one two act first second e = second e
+
+-- a core that goes on at an address found an opening
+found_opening : (b : BoardValue) (found arrived : Values) (c : ℕ) (s : Start) (o : Opening)
+    (own : Option Opening) → found.opening c ≡ own
+    → (outcome_at b found arrived c s own).act ≡ acts.Enter o.address o.context
+    → found.opening c ≡ Some o
+found_opening b found arrived c s o (Some q) at e =
+    let one : q.address ≡ o.address = cc in
+    let two : q.context ≡ o.context = cc in
+    at ∙ ap (λ (k : ℕ). Some (record { address = k; context = q.context })) one
+    ∙ ap (λ (k : ℕ). Some (record { address = o.address; context = k })) two
+found_opening b found arrived c s o None at e =
+    absurd (neither (resumes found c s) (record { act = acts.Resume; message = None })
+    (stops_with (off_message b arrived c)) (acts.Enter o.address o.context) (λ no. absurd (cc))
+    (λ no. absurd (cc)) e)
+
+unless_halting : (b : BoardValue) (found arrived : Values) (c : ℕ) (s : Start) (o : Opening)
+    (t : Bool)
+    → (cond t stops (outcome_at b found arrived c s (found.opening c))).act
+    ≡ acts.Enter o.address o.context → found.opening c ≡ Some o
+unless_halting b found arrived c s o true e = absurd (cc)
+unless_halting b found arrived c s o false e =
+    found_opening b found arrived c s o (found.opening c) refl e
+
+-- What an entry at an opening found.
+record Finds (b : BoardValue) (v : Values) (c : ℕ) (s : Start) (o : Opening) : Type 0 where
+  begun : 0 < s.life
+  opening : (in_life b s.life v).opening c ≡ Some o
+
+finds : (b : BoardValue) (past : List Record) (c : ℕ) (o : Opening)
+    → (is : HasEntered b past c (acts.Enter o.address o.context))
+    → Finds b (firmware_values b past) c is.start o
+unfolding answer enter_outcome
+finds b past c o is =
+    let v = firmware_values b past in
+    let found = in_life b is.start.life v in
+    let both = at_fault is.out (enter_outcome b v c is.start) (enter_fault b v c is.start)
+    is.reply in
+    record {
+      begun = some_life is.start.life (nat_lt c (cores b)) (nat_lt b.lives is.start.life)
+          (is_old b v c is.start) both.0;
+      opening = unless_halting b found (with_arrival b c is.start v) c is.start o found.halting
+          (ap (λ (x : Outcome). x.act) both.1 ∙ is.does);
+    }
+
+-- One entry for each opening --------------------------------------------------------------------
+
+module _ (p : PlatformValue) (r : Record) (older : List Record) (laws : OpeningLaws p)
+    (valid : IsLegalOn p (r ∷ older)) (mpidr : ℕ) (o : Opening) (own : Option Sent)
+    (event : r.event ≡ Enter mpidr) (said : r.said ≡ Fw (acts.Enter o.address o.context) own) where
+  abbrev w : List Record
+  w = numbered p older
+
+  entered : HasEntered p.board w (number p mpidr) (acts.Enter o.address o.context)
+  unfolding numbered
+  entered =
+      has_entered p.board w (number p mpidr) (acts.Enter o.address o.context)
+      (option_map (sent_in_numbers p) own)
+      (ap (said_in_numbers p) (sym said) ∙ valid.0
+      ∙ ap (λ (x : Event). legal p.board w (event_after p w x)) event)
+
+  now : firmware_values p.board (numbered p (r ∷ older))
+      ≡ change p.board (entered_effect (number p mpidr) (Some entered.start)
+      (acts.Enter o.address o.context) (message_in p own)) (firmware_values p.board w)
+  unfolding numbered firmware_history
+  now =
+      effect_now p older r.event r.said laws.more
+      ∙ ap (λ (x : Event). change p.board (effect_in p older x r.said)
+      (firmware_values p.board w)) event
+      ∙ ap (λ (x : Said). change p.board (effect_in p older (Enter mpidr) x)
+      (firmware_values p.board w)) said
+      ∙ ap (λ (x : Option Start). change p.board (entered_effect (number p mpidr) x
+      (acts.Enter o.address o.context) (message_in p own)) (firmware_values p.board w)) entered.last
+
+  older_legal : IsLegalOn p older
+  unfolding numbered
+  older_legal = valid.1
+
+  by_life : (t : Bool) → (entered.start.life == life_of p older) ≡ t
+      → (cond t (firmware_values p.board w) (start_of_life p.board entered.start.life)).opening
+      (number p mpidr) ≡ Some o
+      → life_of p (r ∷ older)
+      ≡ (cond t (firmware_values p.board w) (start_of_life p.board entered.start.life)).life
+      → Waits p older mpidr o ⊎ ((mpidr ≡ p.boot) × (o ≡ boot_opening p)
+      × (life_of p older ≡ life_of p (r ∷ older) → ⊥))
+  by_life true same at life =
+      let one : entered.start.life ≡ life_of p older = eqb-true _ _ same in
+      let begun = (finds p.board w (number p mpidr) o entered).begun in
+      inl (waiting p older laws older_legal mpidr o
+      (is_core p mpidr entered.inside) at (omega (arith, one, begun)))
+  by_life false other at life =
+      let first = first_is p (number p mpidr) o at in
+      inr (
+        only_one p mpidr p.boot laws.names (is_core p mpidr entered.inside) laws.core
+            (first.0 ∙ sym laws.boot),
+        first.1,
+        λ e. let no : true ≡ false = sym (eq-eqb _ _ (sym (e ∙ life))) ∙ other in absurd (cc),
+      )
+
+  pub one_entry : Waits p older mpidr o ⊎ ((mpidr ≡ p.boot) × (o ≡ boot_opening p)
+      × (life_of p older ≡ life_of p (r ∷ older) → ⊥))
+  one_entry =
+      by_life (entered.start.life == life_of p older) refl
+      (finds p.board w (number p mpidr) o entered).opening
+      (ap (λ (u : Values). u.life) now)
+
+pub entries : (p : PlatformValue) (past : List Record) → OpeningLaws p → IsLegalOn p past
+    → OneEntryEach p past
+entries p [] laws valid = tt
+entries p (r ∷ older) laws valid = one_entry p r older laws valid

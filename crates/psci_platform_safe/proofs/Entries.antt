@@ -1,0 +1,197 @@
+-- Sentence 4: after each legal history the openings that the firmware keeps wait, and each entry at
+-- an opening takes up one of them, or begins a life.
+use Rattle.std.proofs.Common.{◌≡◌, ℕ, ◌<◌, Bool, true, false, cond, List, [], ◌∷◌, ◌++◌, Option}
+use Rattle.std.proofs.Common.{None, Some, refl, sym, ap, ◌∙◌, subst, arith, option_map}
+use Rattle.std.specs.Prelude.{nat_lt}
+use Rattle.psci_platform.specs.Platforms.{PlatformValue}
+use Rattle.psci_world_laws.specs.psci_abi.declared.registers.Regs.{Regs}
+use Rattle.psci_world_laws.specs.psci_board.Board.{BoardValue, cores}
+use Rattle.psci_world_laws.specs.psci_ctl_spec.Replies.{last_start}
+use Rattle.psci_world_laws.specs.psci_fw_spec.declared.call.FwCall.TheVariants as calls
+use Rattle.psci_world_laws.specs.psci_fw_spec.declared.opening.Opening.{Opening}
+use Rattle.psci_world_laws.specs.psci_fw_spec.declared.outcome.Act.{Act}
+use Rattle.psci_world_laws.specs.psci_fw_spec.declared.outcome.Act.TheVariants as acts
+use Rattle.psci_world_laws.specs.psci_fw_spec.declared.reply.FwReply.TheVariants as replies
+use Rattle.psci_world_laws.specs.psci_fw_spec.After.{change}
+use Rattle.psci_world_laws.specs.psci_fw_spec.Changes.{PowerOn, Rest}
+use Rattle.psci_world_laws.specs.psci_fw_spec.Effects.{AsksOn, Nothing, Rests, enter_effect}
+use Rattle.psci_world_laws.specs.psci_fw_spec.Legal.{IsLegal}
+use Rattle.psci_world_laws.specs.psci_fw_spec.Said.{arrived}
+use Rattle.psci_world_laws.specs.psci_messages.declared.start.Start.{Start}
+use Rattle.psci_world_laws.specs.psci_messages.declared.taken.Taken.{Taken}
+use Rattle.psci_world_laws.specs.psci_messages.declared.taken.Taken.TheVariants as takens
+use Rattle.psci_world_laws.specs.psci_messages.Message.{AckValue, MessageValue}
+use Rattle.psci_world_laws.specs.psci_world_spec.declared.event.Event.{Event}
+use Rattle.psci_world_laws.specs.psci_world_spec.declared.event.Event.TheVariants.{Call, Enter}
+use Rattle.psci_world_laws.specs.psci_world_spec.declared.event.Event.TheVariants.{Take}
+use Rattle.psci_world_laws.specs.psci_world_spec.declared.place.Place.{Place}
+use Rattle.psci_world_laws.specs.psci_world_spec.declared.place.Place.TheVariants.{Running, Started}
+use Rattle.psci_world_laws.specs.psci_world_spec.declared.place.Place.TheVariants.{Stopped}
+use Rattle.psci_world_laws.specs.psci_world_spec.declared.said.Record.{Record}
+use Rattle.psci_world_laws.specs.psci_world_spec.declared.said.Said.{Said}
+use Rattle.psci_world_laws.specs.psci_world_spec.declared.said.Said.TheVariants.{Absent, Fw}
+use Rattle.psci_world_laws.specs.psci_world_spec.declared.said.Said.TheVariants.{Taken as Took}
+use Rattle.psci_world_laws.specs.psci_world_spec.declared.said.Sent.{Sent}
+use Rattle.psci_world_laws.specs.psci_world_spec.Histories.{acks, call, controller_values}
+use Rattle.psci_world_laws.specs.psci_world_spec.Histories.{firmware_history, firmware_values}
+use Rattle.psci_world_laws.specs.psci_world_spec.Legal.{if_started, legal}
+use Rattle.psci_world_laws.specs.psci_world_spec.Lists.{indexed}
+use Rattle.psci_world_laws.specs.psci_world_spec.Places.{place}
+use Rattle.psci_world_laws.proofs.world_spec.Answered.{firmware_legal}
+use Rattle.psci_platform_safe.specs.Asked.{life_of}
+use Rattle.psci_platform_safe.specs.Names.{IsCore, number}
+use Rattle.psci_platform_safe.specs.Opened.{Waits}
+use Rattle.psci_platform_safe.specs.Words.{IsLegalOn, event_after, numbered, said_in_numbers}
+use Rattle.psci_platform_safe.specs.Words.{sent_in_numbers}
+use Rattle.psci_platform_safe.proofs.Records.{OpeningLaws, effect_in, effect_now, entered_effect}
+use Rattle.psci_platform_safe.proofs.Records.{message_in, opens_on, opens_rest, took_effect}
+use Rattle.psci_platform_safe.proofs.Waiting.{AreWaiting, leaves, none_one}
+
+-- Entries open nothing --------------------------------------------------------------------------
+
+enter_asks : (c d : ℕ) (s : Start) (asked : PowerOn) (act : Act) (m : Option MessageValue)
+    → enter_effect c s act m ≡ AsksOn d asked → ⊥
+enter_asks c d s asked acts.Stop (Some m) e = absurd (cc)
+enter_asks c d s asked acts.Stop None e = absurd (cc)
+enter_asks c d s asked act m e = absurd (cc)
+
+enter_rests : (c d : ℕ) (s : Start) (rest : Rest) (own : MessageValue) (act : Act)
+    (m : Option MessageValue) → enter_effect c s act m ≡ Rests d rest own → ⊥
+enter_rests c d s rest own acts.Stop (Some m) e = absurd (cc)
+enter_rests c d s rest own acts.Stop None e = absurd (cc)
+enter_rests c d s rest own act m e = absurd (cc)
+
+enter_arrives : (c : ℕ) (s : Start) (act : Act) (m : Option MessageValue)
+    → arrived (enter_effect c s act m) ≡ Some (record { core = c; start = s })
+enter_arrives c s acts.Stop (Some m) = refl
+enter_arrives c s acts.Stop None = refl
+enter_arrives c s act m = refl
+
+took_asks : (b : BoardValue) (a : Option AckValue) (t : Taken) (d : ℕ) (asked : PowerOn)
+    → took_effect b a t ≡ AsksOn d asked → ⊥
+took_asks b None t d asked e = absurd (cc)
+took_asks b (Some a) takens.Used d asked e = absurd (cc)
+took_asks b (Some a) takens.Old d asked e = absurd (cc)
+
+took_rests : (b : BoardValue) (a : Option AckValue) (t : Taken) (d : ℕ) (rest : Rest)
+    (own : MessageValue) → took_effect b a t ≡ Rests d rest own → ⊥
+took_rests b None t d rest own e = absurd (cc)
+took_rests b (Some a) takens.Used d rest own e = absurd (cc)
+took_rests b (Some a) takens.Old d rest own e = absurd (cc)
+
+-- a core without a start does not enter
+no_start : (b : BoardValue) (past : List Record) (c : ℕ) (p : Place) (act : Act)
+    (own : Option Sent) → Fw act own ≡ if_started b past c p None → ⊥
+no_start b past c Started act own e = absurd (cc)
+no_start b past c Running act own e = absurd (cc)
+no_start b past c Stopped act own e = absurd (cc)
+
+no_start_if : (b : BoardValue) (past : List Record) (c : ℕ) (t : Bool) (act : Act)
+    (own : Option Sent) → Fw act own ≡ cond t (if_started b past c (place b past c) None) Absent
+    → ⊥
+no_start_if b past c true act own e = no_start b past c (place b past c) act own e
+no_start_if b past c false act own e = absurd (cc)
+
+-- What waits ------------------------------------------------------------------------------------
+
+module _ (p : PlatformValue) (r : Record) (older : List Record) (laws : OpeningLaws p)
+    (valid : IsLegalOn p (r ∷ older)) (before : AreWaiting p older) (mpidr : ℕ) (o : Opening)
+    (is : IsCore p mpidr)
+    (at : (firmware_values p.board (numbered p (r ∷ older))).opening (number p mpidr) ≡ Some o)
+    (some : 0 < life_of p (r ∷ older)) where
+  abbrev w : List Record
+  w = numbered p older
+
+  now_is : (event : Event) (said : Said) → r.event ≡ event → r.said ≡ said
+      → firmware_values p.board (numbered p (r ∷ older))
+      ≡ change p.board (effect_in p older event said) (firmware_values p.board w)
+  unfolding numbered firmware_history
+  now_is event said e s =
+      effect_now p older r.event r.said laws.more
+      ∙ ap (λ (x : Event). change p.board (effect_in p older x r.said)
+      (firmware_values p.board w)) e
+      ∙ ap (λ (x : Said). change p.board (effect_in p older event x) (firmware_values p.board w)) s
+
+  answered : (m : ℕ) (regs : Regs) (act : Act) (own : Option Sent) → r.event ≡ Call m regs
+      → r.said ≡ Fw act own
+      → IsLegal p.board (call (controller_values p.board w) (acks w)
+      (event_after p w (Call m regs)) (said_in_numbers p (Fw act own))
+      ++ firmware_history p.board w)
+  unfolding numbered firmware_history
+  answered m regs act own e s =
+      subst (λ (x : Said). IsLegal p.board (call (controller_values p.board w) (acks w)
+      (event_after p w (Call m regs)) (said_in_numbers p x) ++ firmware_history p.board w)) s
+      (subst (λ (x : Event). IsLegal p.board (call (controller_values p.board w) (acks w)
+      (event_after p w x) (said_in_numbers p r.said) ++ firmware_history p.board w)) e
+      (firmware_legal p.board (numbered p (r ∷ older)) valid))
+
+  by_call : (m : ℕ) (regs : Regs) (act : Act) (own : Option Sent) → r.event ≡ Call m regs
+      → r.said ≡ Fw act own → Waits p (r ∷ older) mpidr o
+  by_call m regs act own e s =
+      let reply = (answered m regs act own e s).0 in
+      leaves p r older laws.names laws.core laws.boot before
+      (effect_in p older (Call m regs) (Fw act own))
+      (now_is (Call m regs) (Fw act own) e s) mpidr o is at some
+      (λ out. none_one mpidr r (λ q sent ev sa.
+      let no : Call m regs ≡ Enter mpidr = sym e ∙ ev in absurd (cc)))
+      (opens_on p older r m regs act own laws e s mpidr is reply)
+      (opens_rest p older r m regs act own laws e s mpidr is reply o)
+
+  by_start : (m : ℕ) (act : Act) (own : Option Sent) (start : Option Start)
+      → last_start (controller_values p.board w) (number p m) ≡ start
+      → r.event ≡ Enter m → r.said ≡ Fw act own
+      → firmware_values p.board (numbered p (r ∷ older))
+      ≡ change p.board (entered_effect (number p m) start act (message_in p own))
+      (firmware_values p.board w) → Waits p (r ∷ older) mpidr o
+  unfolding numbered legal
+  by_start m act own None last e s now =
+      let said : Fw act (option_map (sent_in_numbers p) own)
+      ≡ legal p.board w (Enter (number p m)) =
+      ap (said_in_numbers p) (sym s) ∙ valid.0
+      ∙ ap (λ (x : Event). legal p.board w (event_after p w x)) e in
+      absurd (no_start_if p.board w (number p m) (nat_lt (number p m) (cores p.board)) act
+      (option_map (sent_in_numbers p) own)
+      (said ∙ ap (λ (x : Option Start). cond (nat_lt (number p m) (cores p.board))
+      (if_started p.board w (number p m) (place p.board w (number p m)) x) Absent) last))
+  by_start m act own (Some start) last e s now =
+      leaves p r older laws.names laws.core laws.boot before
+      (enter_effect (number p m) start act (message_in p own)) now mpidr o is at some
+      (λ out. none_one mpidr r (λ q sent ev sa.
+      let both : Enter m ≡ Enter mpidr = sym e ∙ ev in
+      let same : m ≡ mpidr = cc in
+      out (record { core = number p m; start = start })
+      (enter_arrives (number p m) start act (message_in p own)) (ap (number p) same)))
+      (λ caller asked f to. absurd (enter_asks (number p m) caller start asked act
+      (message_in p own) f))
+      (λ rest m' f own'. absurd (enter_rests (number p m) (number p mpidr) start rest m' act
+      (message_in p own) f))
+
+  by_event : (event : Event) (said : Said) → r.event ≡ event → r.said ≡ said
+      → Waits p (r ∷ older) mpidr o
+  by_event (Call m regs) (Fw act own) e s = by_call m regs act own e s
+  by_event (Enter m) (Fw act own) e s =
+      by_start m act own (last_start (controller_values p.board w) (number p m)) refl e s
+      (now_is (Enter m) (Fw act own) e s)
+  by_event (Take k) (Took t) e s =
+      leaves p r older laws.names laws.core laws.boot before
+      (took_effect p.board (indexed (acks w) k) t) (now_is (Take k) (Took t) e s) mpidr o is at some
+      (λ out. none_one mpidr r (λ q sent ev sa.
+      let no : Take k ≡ Enter mpidr = sym e ∙ ev in absurd (cc)))
+      (λ caller asked f to. absurd (took_asks p.board (indexed (acks w) k) t caller asked f))
+      (λ rest m f own. absurd (took_rests p.board (indexed (acks w) k) t (number p mpidr) rest m f))
+  by_event event said e s =
+      leaves p r older laws.names laws.core laws.boot before Nothing (now_is event said e s) mpidr o
+      is at some
+      (λ out. none_one mpidr r (λ q sent ev sa. absurd (cc)))
+      (λ caller asked f to. absurd (cc))
+      (λ rest m f own. absurd (cc))
+
+  pub waits_now : Waits p (r ∷ older) mpidr o
+  waits_now = by_event r.event r.said refl refl
+
+pub waiting : (p : PlatformValue) (past : List Record) → OpeningLaws p → IsLegalOn p past
+    → AreWaiting p past
+unfolding numbered firmware_history
+waiting p [] laws valid = λ mpidr o is at some. absurd (omega (arith, some, laws.first))
+waiting p (r ∷ older) laws valid =
+    waits_now p r older laws valid (waiting p older laws valid.1)

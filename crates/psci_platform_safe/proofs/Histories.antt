@@ -1,0 +1,75 @@
+-- A platform and its histories, for worked examples: four cores with MPIDRs in two fields and with
+-- gaps, of which one of the second cluster boots.
+use Rattle.std.proofs.Common.{ℕ, List, [], ◌∷◌}
+use Rattle.psci_platform.specs.declared.class.Class.TheVariants.{Retention}
+use Rattle.psci_platform.specs.Described.{DescriptionValue}
+use Rattle.psci_platform.specs.Platforms.{PlatformValue}
+use Rattle.psci_platform.proofs.Machines.{all_functions, calling, checking, describes, down, level}
+use Rattle.psci_platform.proofs.Machines.{row}
+use Rattle.psci_safe.specs.Claims.{claims, live_claims}
+use Rattle.psci_safe.specs.Moments.{was_powered_down}
+use Rattle.psci_safe.specs.Openings.{openings, taken_up}
+use Rattle.psci_headline.specs.ToldHw.{was_so_deep}
+use Rattle.psci_world_laws.specs.psci_world_spec.declared.event.Event.{Event}
+use Rattle.psci_world_laws.specs.psci_world_spec.declared.event.Event.TheVariants.{Deliver, Enter}
+use Rattle.psci_world_laws.specs.psci_world_spec.declared.event.Event.TheVariants.{Take}
+use Rattle.psci_world_laws.specs.psci_world_spec.declared.said.Record.{Record}
+use Rattle.psci_world_laws.specs.psci_world_spec.declared.said.Said.{Said}
+use Rattle.psci_world_laws.proofs.world_spec.Scripts as scripts
+use Rattle.psci_world_laws.proofs.world_spec.Scripts.{board, call, off}
+use Rattle.psci_platform_safe.specs.Words.{numbered, run_on}
+
+-- what an example unfolds to compute what is said on a platform, and the sentences
+unfoldable pub computing : Unit {0}
+unfolding scripts.computing calling checking numbered run_on claims live_claims was_powered_down
+    openings taken_up was_so_deep
+computing = tt
+
+-- two clusters of two cores: words for power-down of the core and for retention, alone and with the
+-- cluster, which has two states in retention, of which words ask in OS-initiated mode alone
+abbrev pub description : DescriptionValue
+description = record (describes (0 ∷ 1 ∷ 0x200 ∷ 0x203 ∷ []) 2
+    (row 0x00000001 (1 ∷ 0 ∷ 0 ∷ 0 ∷ []) ∷ row 0x00010002 (2 ∷ 0 ∷ 0 ∷ 0 ∷ [])
+    ∷ row 0x01010012 (2 ∷ 1 ∷ 0 ∷ 0 ∷ []) ∷ row 0x01010022 (2 ∷ 2 ∷ 0 ∷ 0 ∷ [])
+    ∷ row 0x01010032 (2 ∷ 3 ∷ 0 ∷ 0 ∷ []) ∷ [])) {
+      classes = level (Retention ∷ []) 14 ∷ level (Retention ∷ Retention ∷ []) 13 ∷ down ∷ down
+          ∷ [];
+      system = 2 ∷ 3 ∷ 1 ∷ 0 ∷ [];
+      functions = all_functions;
+    }
+
+-- the core with MPIDR 0x200 boots: the firmware has 0 and 1 for the cores 0x200 and 0x203, and 2
+-- and 3 for the cores 0 and 1
+abbrev pub two : PlatformValue
+two = record { description = description; board = board; boot = 0x200; place = 2 }
+
+-- the boot core asks core 1 on
+abbrev pub on_1 : Event
+on_1 = call 0x200 0xc4000003 1 0x40001000 7
+
+-- a core asks for the status, or for the hardware state, of a word at a level
+abbrev pub status_of : ℕ → ℕ → ℕ → Event
+status_of caller word level = call caller 0xc4000004 word level 0
+
+abbrev pub state_of : ℕ → ℕ → ℕ → Event
+state_of caller word level = call caller 0xc400000d word level 0
+
+-- a core is suspended by a word
+abbrev pub suspend : ℕ → ℕ → Event
+suspend caller word = call caller 0xc4000001 word 0x40004000 9
+
+-- the records of these events in turn
+abbrev pub after : List Event → List Record
+after events = run_on two [] events
+
+-- and of which this was said of one more, legal or not
+abbrev pub says : List Record → Event → Said → List Record
+says past event said = record { event = event; said = said } ∷ past
+
+-- core 1 is on
+abbrev pub core_1_on : List Event
+core_1_on = Enter 0x200 ∷ on_1 ∷ Deliver 0 ∷ Enter 1 ∷ []
+
+-- core 1 goes off, is powered down, and the firmware is told
+abbrev pub core_1_off : List Event
+core_1_off = Enter 0x200 ∷ on_1 ∷ Deliver 0 ∷ Enter 1 ∷ off 1 ∷ Deliver 1 ∷ Take 1 ∷ []

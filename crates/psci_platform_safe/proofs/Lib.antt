@@ -1,0 +1,22 @@
+-- In the order of the argument.
+pub mod Numbers
+pub mod Named
+pub mod Telling
+pub mod Told
+pub mod AskedFor
+pub mod Safety
+pub mod Runs
+pub mod Calling
+pub mod Sources
+pub mod Backwards
+pub mod Waiting
+pub mod Records
+pub mod Entries
+pub mod Entering
+pub mod Suspended
+-- Worked examples.
+pub mod Histories
+mod LegalRows
+mod OpenedRows
+mod AskedRows
+mod BrokenRows

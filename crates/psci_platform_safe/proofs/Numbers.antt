@@ -1,0 +1,149 @@
+-- The firmware's numbers and the MPIDRs of cores name each other.
+use Rattle.std.proofs.Common.{◌≡◌, ℕ, ◌*◌, ◌/◌, ◌^◌, ◌<◌, ◌≤◌, ◌==◌, Bool, true, false, cond}
+use Rattle.std.proofs.Common.{length, Option, None, Some, refl, sym, ap, ◌∙◌, subst, arith}
+use Rattle.std.specs.Prelude.{nat_le, option_map, slice_index, unwrap_or}
+use Rattle.std.specs.List.{position}
+use Rattle.std.proofs.lemmas.Bool.{eqb-true, leb-true}
+use Rattle.std.proofs.lemmas.List.Quantifiers.{position-Some}
+use Rattle.psci_platform.specs.Cores.{core_named, core_word, number_named}
+use Rattle.psci_platform.specs.Platforms.{IsPlatform, PlatformValue}
+use Rattle.psci_platform.specs.Swaps.{swap_for}
+use Rattle.psci_platform.specs.psci_fw_same.Renumbered.{IsRenumbering}
+use Rattle.psci_platform.proofs.Swapped.{core_inside}
+use Rattle.psci_world_laws.specs.psci_board.Board.{HasNode, IsBoard, core_of, cores, height}
+use Rattle.psci_world_laws.specs.psci_board.Board.{node_of, up}
+use Rattle.psci_world_laws.specs.psci_board.Laws.{PathLaws, WordLaws}
+use Rattle.psci_world_laws.specs.psci_board.declared.node.Node.{Node}
+use Rattle.psci_platform_safe.specs.Names.{IsAskedOf, IsCore, domain_above, mpidr_of, node_asked}
+use Rattle.psci_platform_safe.specs.Names.{number}
+
+-- What the proofs stand on: a platform, and the laws of its board and of its names.
+pub record Laws (p : PlatformValue) : Type 0 where
+  pub board : IsBoard p.board
+  pub is : IsPlatform p
+  pub paths : PathLaws p.board
+  pub words : WordLaws p.board
+  pub renumbering : IsRenumbering p.board (swap_for p.board p.place)
+  pub count : length p.description.mpidrs ≡ cores p.board
+  pub core : (c : ℕ) → c < cores p.board
+      → core_named p.description p.board (slice_index p.description.mpidrs c) 0 ≡ Some c
+  -- the board's words for an MPIDR name what the platform's does
+  pub core_of : (mpidr : ℕ) → core_of p.board (core_word p.description p.board p.place mpidr 0)
+      ≡ option_map (λ c. record { number = c })
+      (number_named p.description p.board p.place mpidr 0)
+  pub node_of : (word level : ℕ) → level ≤ height p.board
+      → node_of p.board (core_word p.description p.board p.place word level) level
+      ≡ node_asked p word level
+
+-- What is named --------------------------------------------------------------------------------
+
+-- A core of the tree that a word names at a level has the word's fields from the level up.
+record Found (p : PlatformValue) (word level place : ℕ) : Type 0 where
+  low : level ≤ height p.board
+  inside : place < length p.description.mpidrs
+  fields : slice_index p.description.mpidrs place / 2 ^ (8 * level) ≡ word / 2 ^ (8 * level)
+
+found_if : (p : PlatformValue) (word level place : ℕ) (t : Bool)
+    → nat_le level (height p.board) ≡ t
+    → cond t (position (λ m. m / 2 ^ (8 * level) == word / 2 ^ (8 * level)) p.description.mpidrs)
+    None ≡ Some place → Found p word level place
+found_if p word level place true low e =
+    let at = position-Some (λ m. m / 2 ^ (8 * level) == word / 2 ^ (8 * level))
+    p.description.mpidrs place 0 e in
+    record { low = leb-true _ _ low; inside = at.0; fields = eqb-true _ _ at.1 }
+found_if p word level place false low e = absurd (cc)
+
+found : (p : PlatformValue) (word level place : ℕ)
+    → core_named p.description p.board word level ≡ Some place → Found p word level place
+found p word level place e = found_if p word level place (nat_le level (height p.board)) refl e
+
+pub named_inside : (p : PlatformValue) (word level place : ℕ) → Laws p
+    → core_named p.description p.board word level ≡ Some place → place < cores p.board
+named_inside p word level place laws e =
+    omega (arith, (found p word level place e).inside, laws.count)
+
+-- Numbers --------------------------------------------------------------------------------------
+
+-- the number of the core at a place of the tree
+number_at : (p : PlatformValue) (mpidr place : ℕ)
+    → core_named p.description p.board mpidr 0 ≡ Some place
+    → number p mpidr ≡ swap_for p.board p.place 0 place
+number_at p mpidr place e =
+    ap (λ (o : Option ℕ). unwrap_or (option_map (swap_for p.board p.place 0) o) (cores p.board)) e
+
+pub number_inside : (p : PlatformValue) (mpidr : ℕ) → Laws p → IsCore p mpidr
+    → number p mpidr < cores p.board
+number_inside p mpidr laws is =
+    let at = found p mpidr 0 is.0 is.1 in
+    subst (λ (c : ℕ). c < cores p.board) (sym (number_at p mpidr is.0 is.1))
+    (core_inside p.board p.place is.0 laws.is.symmetric (omega (arith, at.inside, laws.count)))
+
+-- the MPIDR of a core's number is its own
+pub mpidr_back : (p : PlatformValue) (mpidr : ℕ) → Laws p → IsCore p mpidr
+    → mpidr_of p (number p mpidr) ≡ mpidr
+mpidr_back p mpidr laws is =
+    let at = found p mpidr 0 is.0 is.1 in
+    ap (λ (c : ℕ). slice_index p.description.mpidrs (swap_for p.board p.place 0 c))
+    (number_at p mpidr is.0 is.1)
+    ∙ ap (slice_index p.description.mpidrs) (laws.renumbering.back 0 is.0)
+    ∙ (let fields = at.fields in omega (arith, fields))
+
+-- a number below the count of cores has an MPIDR, and is its number
+pub some_core : (p : PlatformValue) (c : ℕ) → Laws p → c < cores p.board → IsCore p (mpidr_of p c)
+some_core p c laws inside =
+    let place = swap_for p.board p.place 0 c in
+    (place, laws.core place (core_inside p.board p.place c laws.is.symmetric inside))
+
+pub number_back : (p : PlatformValue) (c : ℕ) → Laws p → c < cores p.board
+    → number p (mpidr_of p c) ≡ c
+number_back p c laws inside =
+    let place = swap_for p.board p.place 0 c in
+    number_at p (mpidr_of p c) place
+    (laws.core place (core_inside p.board p.place c laws.is.symmetric inside))
+    ∙ laws.renumbering.back 0 c
+
+-- two MPIDRs of one number are one
+pub only_one : (p : PlatformValue) (mpidr other : ℕ) → Laws p → IsCore p mpidr → IsCore p other
+    → number p mpidr ≡ number p other → mpidr ≡ other
+only_one p mpidr other laws is its same =
+    sym (mpidr_back p mpidr laws is) ∙ ap (mpidr_of p) same ∙ mpidr_back p other laws its
+
+-- only a core of the platform has a number of the board
+by_option : (p : PlatformValue) (mpidr : ℕ) (o : Option ℕ)
+    → core_named p.description p.board mpidr 0 ≡ o
+    → unwrap_or (option_map (swap_for p.board p.place 0) o) (cores p.board) < cores p.board
+    → IsCore p mpidr
+by_option p mpidr None e inside = absurd (omega (arith, inside))
+by_option p mpidr (Some place) e inside = (place, e)
+
+pub is_core : (p : PlatformValue) (mpidr : ℕ) → number p mpidr < cores p.board → IsCore p mpidr
+is_core p mpidr inside =
+    by_option p mpidr (core_named p.description p.board mpidr 0) refl inside
+
+-- Domains --------------------------------------------------------------------------------------
+
+pub has_above : (p : PlatformValue) (mpidr level : ℕ) → Laws p → IsCore p mpidr
+    → level ≤ height p.board → HasNode p.board (domain_above p mpidr level)
+has_above p mpidr level laws is low = record {
+  level = low;
+  place = laws.paths.inside (number p mpidr) level (number_inside p mpidr laws is) low;
+}
+
+-- what is asked of, by the core of the tree that a word names
+abbrev node_if : PlatformValue → ℕ → Option ℕ → Option Node
+node_if p level o =
+    option_map (λ c. record { level = level; place = up p.board level c })
+    (option_map (swap_for p.board p.place 0) o)
+
+-- the board has the level of what is asked of
+asked_low : (p : PlatformValue) (word level : ℕ) (n : Node) (o : Option ℕ)
+    → core_named p.description p.board word level ≡ o → node_if p level o ≡ Some n
+    → level ≤ height p.board
+asked_low p word level n None e at = absurd (cc)
+asked_low p word level n (Some place) e at = (found p word level place e).low
+
+pub low_asked : (p : PlatformValue) (word level mpidr : ℕ) → IsAskedOf p word level mpidr
+    → level ≤ height p.board
+low_asked p word level mpidr asked =
+    asked_low p word level (domain_above p mpidr level)
+    (core_named p.description p.board word level) refl asked.domain

@@ -1,0 +1,213 @@
+-- What a core asks that a word has suspended: the depths of the word's states.
+use Rattle.std.proofs.Common.{◌≡◌, ℕ, zero, suc, ◌≤◌, ◌==◌, Bool, true, false, cond, List, [], ◌∷◌}
+use Rattle.std.proofs.Common.{◌++◌}
+use Rattle.std.proofs.Common.{Option, None, Some, refl, sym, ap, ◌∙◌, subst, arith, inl, inr, not}
+use Rattle.std.proofs.Common.{option_map}
+use Rattle.std.specs.Prelude.{Result, Ok, Err, nat_le, nat_lt, slice_index}
+use Rattle.std.proofs.lemmas.Bool.{cases_Bool, eq-eqb, le-leb}
+use Rattle.psci_platform.specs.Calls.{first_argument, is_there, regs_for}
+use Rattle.psci_platform.specs.Described.{DescriptionValue}
+use Rattle.psci_platform.specs.Platforms.{PlatformValue}
+use Rattle.psci_platform.specs.States.{depth_at, depths_of, states_of, word_for}
+use Rattle.psci_world_laws.specs.psci_abi.Calls.{request_of}
+use Rattle.psci_world_laws.specs.psci_abi.declared.code.Code.{Code}
+use Rattle.psci_world_laws.specs.psci_abi.declared.registers.Regs.{Regs}
+use Rattle.psci_world_laws.specs.psci_abi.declared.request.Request.{Request}
+use Rattle.psci_world_laws.specs.psci_abi.declared.request.Request.TheVariants as requests
+use Rattle.psci_world_laws.specs.psci_board.Board.{BoardValue, IsBoard, cores, height}
+use Rattle.psci_world_laws.specs.psci_fw_spec.declared.call.FwCall.TheVariants as calls
+use Rattle.psci_world_laws.specs.psci_fw_spec.declared.fault.FwFault.{FwFault}
+use Rattle.psci_world_laws.specs.psci_fw_spec.declared.fault.FwFault.TheVariants.{NoCore, NoLife}
+use Rattle.psci_world_laws.specs.psci_fw_spec.declared.fault.FwFault.TheVariants.{NotRunning}
+use Rattle.psci_world_laws.specs.psci_fw_spec.declared.outcome.Act.TheVariants as acts
+use Rattle.psci_world_laws.specs.psci_fw_spec.declared.outcome.Outcome.{Outcome}
+use Rattle.psci_world_laws.specs.psci_fw_spec.declared.reply.FwReply.TheVariants as replies
+use Rattle.psci_world_laws.specs.psci_fw_spec.After.{change}
+use Rattle.psci_world_laws.specs.psci_fw_spec.Answer.{answer, reply_or}
+use Rattle.psci_world_laws.specs.psci_fw_spec.Calls.{call_fault, outcome_of}
+use Rattle.psci_world_laws.specs.psci_fw_spec.CpuSuspend.{ask_named, suspend_asked}
+use Rattle.psci_world_laws.specs.psci_fw_spec.Effects.{function_effect, rest_named}
+use Rattle.psci_world_laws.specs.psci_fw_spec.Legal.{IsLegal}
+use Rattle.psci_world_laws.specs.psci_fw_spec.Outcomes.{returns, stops}
+use Rattle.psci_world_laws.specs.psci_fw_spec.Phases.{Away, Pending, Phase, Running, Suspended}
+use Rattle.psci_world_laws.specs.psci_fw_spec.Phases.{activity_of, is_running, unless_pending}
+use Rattle.psci_world_laws.specs.psci_fw_spec.Values.{Values}
+use Rattle.psci_world_laws.specs.psci_fw_spec.Views.{ask}
+use Rattle.psci_world_laws.specs.psci_messages.Message.{MessageValue}
+use Rattle.psci_world_laws.specs.psci_state.Cores.{asks}
+use Rattle.psci_world_laws.specs.psci_state.PowerState.{ask_of}
+use Rattle.psci_world_laws.specs.psci_state.declared.fault.BadState.{BadState}
+use Rattle.psci_world_laws.specs.psci_world_spec.declared.event.Event.{Event}
+use Rattle.psci_world_laws.specs.psci_world_spec.declared.event.Event.TheVariants.{Call}
+use Rattle.psci_world_laws.specs.psci_world_spec.declared.said.Record.{Record}
+use Rattle.psci_world_laws.specs.psci_world_spec.declared.said.Said.{Said}
+use Rattle.psci_world_laws.specs.psci_world_spec.declared.said.Said.TheVariants.{Fw}
+use Rattle.psci_world_laws.specs.psci_world_spec.declared.said.Sent.{Sent}
+use Rattle.psci_world_laws.specs.psci_world_spec.Histories.{acks, call, controller_values}
+use Rattle.psci_world_laws.specs.psci_world_spec.Histories.{firmware_history, firmware_values}
+use Rattle.psci_world_laws.specs.psci_world_spec.Histories.{outcome_in}
+use Rattle.psci_world_laws.proofs.world_spec.Answered.{firmware_legal}
+use Rattle.psci_platform_safe.specs.Asked.{AsksByWord, mode_of}
+use Rattle.psci_platform_safe.specs.Names.{number}
+use Rattle.psci_platform_safe.specs.Words.{IsLegalOn, event_after, numbered, said_in_numbers}
+use Rattle.psci_platform_safe.specs.Words.{sent_in_numbers}
+use Rattle.psci_platform_safe.proofs.Backwards.{AreMissing, AreNone, AreRead, for_small, half_of}
+use Rattle.psci_platform_safe.proofs.Records.{effect_in, message_in, outcome_is, regs_in}
+use Rattle.psci_platform_safe.proofs.Records.{values_with}
+use Rattle.psci_platform_safe.proofs.Telling.{told}
+
+-- A core that was stopped -----------------------------------------------------------------------
+
+-- an outcome that stops its caller and sends something is none that returns, or of a halting life
+no_stop : (o : Outcome) (m : MessageValue) (t : Bool) (code : Code) → o.act ≡ acts.Stop
+    → o.message ≡ Some m → o ≡ cond t stops (returns code) → ⊥
+no_stop o m true code act message e =
+    let no : Some m ≡ None = sym message ∙ ap (λ (x : Outcome). x.message) e in absurd (cc)
+no_stop o m false code act message e =
+    let no : acts.Stop ≡ acts.Return code = sym act ∙ ap (λ (x : Outcome). x.act) e in absurd (cc)
+
+running : (ph : Phase) → is_running ph ≡ true → ph ≡ Running
+running Pending e = absurd (cc)
+running Running e = refl
+running (Suspended depths) e = absurd (cc)
+running Away e = absurd (cc)
+
+may_call : (s t u : Bool)
+    → cond (not s) (Some NoCore) (cond t (Some NoLife) (cond u None (Some NotRunning))) ≡ None
+    → u ≡ true
+may_call false t u e = absurd (cc)
+may_call true true u e = absurd (cc)
+may_call true false true e = refl
+may_call true false false e = absurd (cc)
+
+no_fault : (o out : Outcome) (fault : Option FwFault) → replies.Out o ≡ reply_or fault out
+    → fault ≡ None
+no_fault o out None e = refl
+no_fault o out (Some fault) e = absurd (cc)
+
+ran : (b : BoardValue) (v : Values) (c : ℕ) (regs : Regs) (o : Outcome)
+    → replies.Out o ≡ answer b v c (calls.Smc regs) → v.phase c ≡ Running
+unfolding answer
+ran b v c regs o e =
+    running (v.phase c)
+    (may_call (nat_lt c (cores b)) (v.life == 0) (is_running (v.phase c))
+    (no_fault o (outcome_of b v c (request_of regs)) (call_fault b v c) e))
+
+-- Depths ----------------------------------------------------------------------------------------
+
+depth_is : (d : DescriptionValue) (states : List ℕ) (level : ℕ) → level ≤ 3
+    → slice_index (depths_of d states) level ≡ depth_at d level (slice_index states level)
+depth_is d states zero low = refl
+depth_is d states (suc zero) low = refl
+depth_is d states (suc (suc zero)) low = refl
+depth_is d states (suc (suc (suc zero))) low = refl
+depth_is d states (suc (suc (suc (suc level)))) low = absurd (omega (arith, low))
+
+-- a core that ran is suspended with what it asked
+phase_is : (c : ℕ) (t : Bool) (before : Phase) (depths : List ℕ) → t ≡ true → before ≡ Running
+    → cond t (unless_pending before (Suspended depths)) before ≡ Suspended depths
+phase_is c true before depths same is =
+    ap (λ (x : Phase). unless_pending x (Suspended depths)) is
+phase_is c false before depths same is = absurd (cc)
+
+module _ (p : PlatformValue) (r : Record) (older : List Record) (regs : Regs)
+    (mpidr word entry context : ℕ) (sent : Sent) (board : IsBoard p.board)
+    (missing : AreMissing p) (read : AreRead p) (none : AreNone p)
+    (now : (event : Event) (said : Said) → values_with p older event said
+    ≡ change p.board (effect_in p older event said)
+    (firmware_values p.board (numbered p older)))
+    (valid : IsLegalOn p (r ∷ older)) (event : r.event ≡ Call mpidr regs)
+    (asked : request_of regs ≡ requests.CpuSuspend word entry context)
+    (said : r.said ≡ Fw acts.Stop (Some sent)) where
+  abbrev w : List Record
+  w = numbered p older
+
+  abbrev v : Values
+  v = firmware_values p.board w
+
+  abbrev c : ℕ
+  c = number p mpidr
+
+  abbrev own : Outcome
+  own = outcome_in acts.Stop (Some (sent_in_numbers p sent))
+
+  abbrev asks_word : ℕ
+  asks_word =
+      word_for p.description p.board.format (states_of p.description (mode_of p older) word)
+
+  history : IsLegal p.board (call (controller_values p.board w) (acks w)
+      (event_after p w (Call mpidr regs)) (said_in_numbers p (Fw acts.Stop (Some sent)))
+      ++ firmware_history p.board w)
+  unfolding numbered firmware_history
+  history =
+      subst (λ (x : Said). IsLegal p.board (call (controller_values p.board w) (acks w)
+      (event_after p w (Call mpidr regs)) (said_in_numbers p x) ++ firmware_history p.board w)) said
+      (subst (λ (x : Event). IsLegal p.board (call (controller_values p.board w) (acks w)
+      (event_after p w x) (said_in_numbers p r.said) ++ firmware_history p.board w)) event
+      (firmware_legal p.board (numbered p (r ∷ older)) valid))
+
+  replied : replies.Out own ≡ answer p.board v c (calls.Smc (regs_in p older regs))
+  replied = history.0
+
+  out : own ≡ outcome_of p.board v c (request_of (regs_in p older regs))
+  out = outcome_is p.board v c (regs_in p older regs) own replied
+
+  there : is_there p.description.functions (request_of regs) ≡ true
+  unfolding outcome_of
+  there = elim (cases_Bool (is_there p.description.functions (request_of regs))) [
+    | inl found ↦ found
+    | inr lacks ↦
+        absurd (no_stop own _ v.halting _ refl refl
+        (out ∙ ap (outcome_of p.board v c) (missing (mode_of p older) regs lacks)))
+  ]
+
+  request : request_of (regs_in p older regs) ≡ requests.CpuSuspend asks_word entry context
+  request =
+      told p (mode_of p older) regs (requests.CpuSuspend word entry context) asked
+      (ap (is_there p.description.functions) (sym asked) ∙ there)
+      ∙ ap (λ (k : ℕ). requests.CpuSuspend k entry context)
+      (half_of regs asks_word (for_small p.description p.board.format
+      (states_of p.description (mode_of p older) word)))
+
+  values : firmware_values p.board (numbered p (r ∷ older))
+      ≡ change p.board (function_effect p.board c (requests.CpuSuspend asks_word entry context)
+      acts.Stop (message_in p (Some sent))) v
+  unfolding numbered firmware_history
+  values =
+      now r.event r.said
+      ∙ ap (λ (x : Event). change p.board (effect_in p older x r.said) v) event
+      ∙ ap (λ (x : Said). change p.board (effect_in p older (Call mpidr regs) x) v) said
+      ∙ ap (λ (q : Request). change p.board (function_effect p.board c q acts.Stop
+      (message_in p (Some sent))) v) request
+
+  by_states : (o : Option (List ℕ)) → states_of p.description (mode_of p older) word ≡ o
+      → AsksByWord p r older mpidr word
+  unfolding outcome_of
+  by_states None e =
+      absurd (no_stop own _ v.halting _ refl refl
+      (out ∙ ap (outcome_of p.board v c) request
+      ∙ ap (λ (x : Result (List ℕ) BadState). cond v.halting stops
+      (suspend_asked p.board v c entry x)) (none (mode_of p older) word e)))
+  by_states (Some states) e =
+      let depths = depths_of p.description states in
+      let phase : (firmware_values p.board (numbered p (r ∷ older))).phase c ≡ Suspended depths =
+      ap (λ (u : Values). u.phase c) values
+      ∙ ap (λ (x : Result (List ℕ) BadState). cond (c == c) (unless_pending (v.phase c)
+      (rest_named (record { address = entry; context = context }) x).phase) (v.phase c))
+      (read (mode_of p older) word states e)
+      ∙ phase_is c (c == c) (v.phase c) depths (eq-eqb c c refl)
+      (ran p.board v c (regs_in p older regs) own replied) in
+      record {
+        states = states;
+        row = e;
+        asked = λ level low.
+            ap (λ (t : Bool). cond t (asks (activity_of
+            ((firmware_values p.board (numbered p (r ∷ older))).phase c)) level) 0)
+            (le-leb level (height p.board) low)
+            ∙ ap (λ (x : Phase). asks (activity_of x) level) phase
+            ∙ depth_is p.description states level
+            (let high = board.high in omega (arith, low, high));
+      }
+
+  pub asks_by_word : AsksByWord p r older mpidr word
+  asks_by_word = by_states (states_of p.description (mode_of p older) word) refl

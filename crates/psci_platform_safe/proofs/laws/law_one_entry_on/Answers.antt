@@ -1,0 +1,37 @@
+-- Each entry of a platform takes up an opening of its own, or begins a life.
+use Rattle.std.proofs.Common.{◌<◌, ℕ, ap, sym, subst}
+use Rattle.psci_platform.specs.Calls.{asks_states}
+use Rattle.psci_platform.specs.Cores.{boot_place}
+use Rattle.psci_world_laws.specs.psci_board.Board.{cores}
+use Rattle.psci_world_laws.specs.psci_fw_spec.Values.{Values}
+use Rattle.psci_platform_safe.proofs.Entering.{entries}
+use Rattle.psci_platform_safe.proofs.Named.{AtBoot, boot_number, laws_of, some_cores}
+use Rattle.psci_platform_safe.proofs.Numbers.{is_core}
+use Rattle.psci_platform_safe.proofs.laws.law_one_entry_on.Goals as goal
+
+pub returns : goal.returns
+returns c = λ p past board is legal.
+    let d = p.description in
+    let b = p.board in
+    let at : AtBoot p (boot_place d b p.boot) = record {
+      renumbering = c.law_boot_core.ensures.renumbering d b p.boot board is.faultless;
+      core_of = λ mpidr. c.law_named.ensures.core d b p.boot mpidr board is.faultless;
+      node_of = λ word level. c.law_named.ensures.node d b p.boot word level board is.faultless;
+      boot = c.law_mpidrs.ensures.boot d b p.boot board is.faultless;
+    } in
+    let zero = boot_number p is at in
+    entries p past (record {
+      names = laws_of p board is (c.law_paths.ensures b board) (c.law_words.ensures b board)
+          (c.law_mpidrs.ensures.count d b p.boot is.faultless)
+          (λ k. c.law_mpidrs.ensures.core d b p.boot k is.faultless) at;
+      core = is_core p p.boot (subst (λ (k : ℕ). k < cores b) (sym zero) (some_cores p is));
+      boot = zero;
+      missing = λ mode regs none. c.law_missing.ensures.function d b p.place mode regs none;
+      read = λ mode word states e. c.law_asked.ensures.states d b p.boot p.place 0 mode word 0 0
+          states is.faultless (ap asks_states e);
+      none = λ mode word e. c.law_asked.ensures.none d b p.place 0 mode word 0 0
+          (ap asks_states e);
+      first = ap (λ (v : Values). v.life) (c.law_values.ensures.first b);
+      more = c.law_values.ensures.more b;
+      named = c.law_power_on.ensures.request b;
+    }) legal

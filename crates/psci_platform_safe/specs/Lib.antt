@@ -1,0 +1,5 @@
+pub mod Asked
+pub mod Names
+pub mod Opened
+pub mod Safe
+pub mod Words

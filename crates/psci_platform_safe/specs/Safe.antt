@@ -1,0 +1,96 @@
+-- Safe: the five sentences, of a platform's history in its own words. They hold after all records
+-- so far, the newest first.
+use Rattle.std.specs.Prelude.{◌≡◌, ℕ, pos, true, ◌<◌, ◌≤◌, List, [], ◌∷◌, length, Option, Some}
+use Rattle.psci_headline.specs.ToldHw.{WasSoDeep, is_off_depth, is_standby_depth}
+use Rattle.psci_platform.specs.Platforms.{PlatformValue}
+use Rattle.psci_safe.specs.Claims.{live_claims}
+use Rattle.psci_safe.specs.Moments.{executes, was_powered_down}
+use Rattle.psci_safe.specs.Openings.{AreTakenUp}
+use Rattle.psci_world_laws.specs.psci_abi.Calls.{request_of}
+use Rattle.psci_world_laws.specs.psci_abi.declared.registers.Regs.{Regs}
+use Rattle.psci_world_laws.specs.psci_abi.declared.request.Request.{Request}
+use Rattle.psci_world_laws.specs.psci_abi.declared.request.Request.TheVariants as requests
+use Rattle.psci_world_laws.specs.psci_board.Board.{height}
+use Rattle.psci_world_laws.specs.psci_fw_spec.declared.outcome.Act.TheVariants as acts
+use Rattle.psci_world_laws.specs.psci_world_spec.declared.event.Event.TheVariants.{Call}
+use Rattle.psci_world_laws.specs.psci_world_spec.declared.place.Place.{Place}
+use Rattle.psci_world_laws.specs.psci_world_spec.declared.place.Place.TheVariants.{Running}
+use Rattle.psci_world_laws.specs.psci_world_spec.declared.said.Record.{Record}
+use Rattle.psci_world_laws.specs.psci_world_spec.declared.said.Said.TheVariants.{Fw}
+use Rattle.psci_world_laws.specs.psci_world_spec.declared.said.Sent.{Sent}
+use Rattle.psci_world_laws.specs.psci_world_spec.Histories.{controller_values, firmware_history}
+use Rattle.psci_world_laws.specs.psci_world_spec.Places.{place}
+use Rattle.psci_platform_safe.specs.Asked.{IsAsAsked, depth_above, life_of}
+use Rattle.psci_platform_safe.specs.Names.{IsAskedOf, IsCore, domain_above, number}
+use Rattle.psci_platform_safe.specs.Opened.{OneEntryEach}
+use Rattle.psci_platform_safe.specs.Words.{numbered}
+
+-- what the core with an MPIDR does
+abbrev pub place_of : PlatformValue → List Record → ℕ → Place
+place_of p past mpidr = place p.board (numbered p past) (number p mpidr)
+
+-- a record answers a request with this code
+pub record Answers (r : Record) (request : Request) (code : ℕ) : Type 0 where
+  pub caller : ℕ
+  pub regs : Regs
+  pub sent : Option Sent
+  pub event : r.event ≡ Call caller regs
+  pub asks : request_of regs ≡ request
+  pub said : r.said ≡ Fw (acts.Return (record { 0 = pos code })) sent
+
+-- 1. No core below a sleeping domain: while a core executes, each domain above it is fully on.
+abbrev pub NoneBelowSleeping : PlatformValue → List Record → Type 0
+NoneBelowSleeping p past = (mpidr level : ℕ) → IsCore p mpidr → level ≤ height p.board
+    → executes (place_of p past mpidr) ≡ true → depth_above p past mpidr level ≡ 0
+
+-- A core does not run, and since it last went on in the firmware's life it was powered down.
+pub record IsOff (p : PlatformValue) (past : List Record) (mpidr : ℕ) : Type 0 where
+  pub stopped : place_of p past mpidr ≡ Running → ⊥
+  pub down : was_powered_down p.board (life_of p past) (numbered p past) (number p mpidr) ≡ true
+
+-- 1. A core that AFFINITY_INFO says is OFF (1), by itself or by a domain above it, is off.
+abbrev pub OffIsDown : PlatformValue → List Record → Type 0
+OffIsDown p [] = Unit {0}
+OffIsDown p (r ∷ past) = (word level mpidr : ℕ) → Answers r (requests.AffinityInfo word level) 1
+    → IsAskedOf p word level mpidr → IsOff p past mpidr
+
+-- 2. One live claim: each domain above a core has at most one.
+abbrev pub OneLiveClaim : PlatformValue → List Record → Type 0
+OneLiveClaim p past = (mpidr level : ℕ) → IsCore p mpidr → level ≤ height p.board
+    → length (live_claims p.board (numbered p past) (domain_above p mpidr level)) ≤ 1
+
+-- 3. No deeper than asked: while there is a life, a domain that is not fully on is as deep as the
+-- cores below it had asked for.
+abbrev pub NoDeeperThanAsked : PlatformValue → List Record → Type 0
+NoDeeperThanAsked p past = (mpidr level life : ℕ) → IsCore p mpidr → level ≤ height p.board
+    → (controller_values p.board (numbered p past)).life ≡ Some life
+    → 0 < depth_above p past mpidr level
+    → IsAsAsked p past mpidr level life (depth_above p past mpidr level)
+
+-- 5. Reported states were real: a core or domain that NODE_HW_STATE says is off (HW_OFF, 1) was
+-- powered down at some moment of this life, by the starts that the firmware knew of; one that it
+-- says is in standby (HW_STANDBY, 2) was in standby or retention.
+abbrev pub StatesWereReal : PlatformValue → List Record → Type 0
+StatesWereReal p [] = Unit {0}
+StatesWereReal p (r ∷ past) = (word level mpidr : ℕ) → IsAskedOf p word level mpidr
+    → (Answers r (requests.NodeHwState word level) 1
+    → WasSoDeep p.board is_off_depth (numbered p past) (domain_above p mpidr level))
+    × (Answers r (requests.NodeHwState word level) 2
+    → WasSoDeep p.board is_standby_depth (numbered p past) (domain_above p mpidr level))
+
+-- The platform is safe at this moment.
+pub record SafeOn (p : PlatformValue) (past : List Record) : Type 0 where
+  pub powered : NoneBelowSleeping p past
+  pub off : OffIsDown p past
+  pub one : OneLiveClaim p past
+  pub asked : NoDeeperThanAsked p past
+  pub entries : OneEntryEach p past
+  -- 4. and by the firmware's numbers: each entry takes up one opening of its core and life, with
+  -- its address and context id, and no two take up the same one
+  pub taken : AreTakenUp p.board (firmware_history p.board (numbered p past))
+  pub states : StatesWereReal p past
+
+-- The platform was safe at every moment of these records.
+abbrev pub AlwaysSafeOn : PlatformValue → List Record → Type 0
+AlwaysSafeOn p [] = SafeOn p []
+AlwaysSafeOn p (r ∷ past) = SafeOn p (r ∷ past) × AlwaysSafeOn p past
