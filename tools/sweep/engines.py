@@ -80,7 +80,18 @@ class Local:
         for process in self.running.values():
             process.terminate()
         for process in self.running.values():
-            process.wait()
+            end(process)
+
+
+def end(process):
+    """Waits until a process has ended that was asked to. One that was about to wait itself did not notice, and is
+    asked again."""
+    while True:
+        try:
+            process.wait(timeout=1)
+            return
+        except subprocess.TimeoutExpired:
+            process.terminate()
 
 
 class Farm:
@@ -119,7 +130,7 @@ class Farm:
                     time.sleep(0.1)
             except BaseException:
                 process.terminate()
-                process.wait()
+                end(process)
                 raise
 
 
