@@ -18,9 +18,9 @@ use Rattle.psci_script.specs.Lines.{lines}
 use Rattle.psci_script.specs.Script.{board_line, transcript, transcript_of_board}
 use Rattle.psci_script.specs.Script.{transcript_of_first, transcript_of_lines}
 use Rattle.psci_script.specs.Text.{answer_line}
-use Rattle.psci_lines.specs.Run.{AnswersLines, AnswersPart, Replays, WritesAnswers}
-use Rattle.psci_lines.specs.ScriptRun.{GoesOn, ScriptRun, run_by, run_of, run_of_lines, run_on}
-use Rattle.psci_lines.specs.Told.{Tells, TellsAll, TellsLines, TellsPart}
+use Rattle.psci_script.specs.Run.{AnswersLines, AnswersPart, Replays, WritesAnswers}
+use Rattle.psci_script.specs.ScriptRun.{GoesOn, ScriptRun, run_by, run_of, run_of_lines, run_on}
+use Rattle.psci_script.specs.Told.{Tells, TellsAll, TellsLines, TellsPart}
 use Rattle.psci_answers.specs.ScriptRun.{AnswersRun, text_of}
 use Rattle.psci_answers.proofs.ScriptRuns.{rest_text}
 

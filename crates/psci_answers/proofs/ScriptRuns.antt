@@ -21,8 +21,8 @@ use Rattle.psci_script.specs.Lines.{lines}
 use Rattle.psci_script.specs.Script.{board_line, line_said, transcript, transcript_of_board}
 use Rattle.psci_script.specs.Script.{transcript_of_first, transcript_of_line, transcript_of_lines}
 use Rattle.psci_script.specs.Script.{Transcript, transcript_of_rest}
-use Rattle.psci_lines.specs.Run.{WritesAnswers, AnswersPart, Replays}
-use Rattle.psci_lines.specs.ScriptRun.{events_of, run_by, run_of_lines, run_on, with_event}
+use Rattle.psci_script.specs.Run.{WritesAnswers, AnswersPart, Replays}
+use Rattle.psci_script.specs.ScriptRun.{events_of, run_by, run_of_lines, run_on, with_event}
 use Rattle.psci_answers.specs.ScriptRun.{AllSafe, Prints, SaysRun, WritesPart, WritesRun, text_of}
 use Rattle.psci_script.specs.Text.{answer_line}
 

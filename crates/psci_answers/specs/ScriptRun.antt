@@ -11,7 +11,7 @@ use Rattle.psci_script.specs.declared.fault.ReplayFault.TheVariants.{Script, Boa
 use Rattle.psci_script.specs.declared.fault.ReplayFault.TheVariants.{Memory}
 use Rattle.psci_script.specs.Script.{transcript}
 use Rattle.psci_script.specs.Text.{answer_line}
-use Rattle.psci_lines.specs.ScriptRun.{ScriptRun, run_of}
+use Rattle.psci_script.specs.ScriptRun.{ScriptRun, run_of}
 
 -- the answer lines of records, the oldest first
 abbrev pub text_of : List Record → List ℕ

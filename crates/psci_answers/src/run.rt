@@ -1,14 +1,13 @@
 //! Scripts, answered event by event.
 
 ghost use Rattle.std.specs.Prelude.{◌≡◌, false, OnOk, IfErr};
-ghost use Rattle.psci_lines.specs.Progress.{OnlyGivenUp};
-ghost use Rattle.psci_lines.specs.Run.{Replays};
+ghost use Rattle.psci_script.specs.Progress.{OnlyGivenUp};
+ghost use Rattle.psci_script.specs.Run.{Replays};
 ghost use Rattle.psci_answers.specs.ScriptRun.{Prints};
 
 use crate::laws::law_safe_scripts;
-use psci_lines::{Answers, Sink, Source, Teller, tell};
 use psci_present::{Memory, Present};
-use psci_script::{Board, Event, ReplayFault, Replayed};
+use psci_script::{Answers, Board, Event, ReplayFault, Replayed, Sink, Source, Teller, tell};
 use std::alloc::{AllocError, Global};
 
 /// The one form that a replay tells in: an answer line for each event.

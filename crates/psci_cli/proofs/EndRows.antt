@@ -2,8 +2,8 @@
 use Rattle.std.proofs.Common.{◌≡◌, ℕ, Ok, Err, refl, inl, inr}
 use Rattle.psci_command.specs.psci_board.Board.{BoardValue}
 use Rattle.psci_command.specs.psci_board.declared.fault.BoardFault.TheVariants as boards
-use Rattle.psci_command.specs.psci_failure.declared.exit.Failure.TheVariants.{CommandLine, Replay}
-use Rattle.psci_command.specs.psci_failure.declared.exit.Failure.TheVariants.{Board as GivenBoard}
+use Rattle.psci_command.specs.psci_script.declared.exit.Failure.TheVariants.{CommandLine, Replay}
+use Rattle.psci_command.specs.psci_script.declared.exit.Failure.TheVariants.{Board as GivenBoard}
 use Rattle.psci_command.specs.psci_script.declared.fault.ReplayFault.TheVariants.{Memory, Read}
 use Rattle.psci_command.specs.psci_script.declared.fault.ReplayFault.TheVariants.{Script, Write}
 use Rattle.psci_command.specs.psci_script.declared.fault.ScriptFault.TheVariants as scripts

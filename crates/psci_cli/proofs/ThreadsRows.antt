@@ -5,11 +5,11 @@ use Rattle.std.specs.Prelude.{codes}
 use Rattle.psci_command.specs.psci_board.Board.{BoardValue, cores}
 use Rattle.psci_command.specs.psci_board.declared.fault.BoardFault.{BoardFault}
 use Rattle.psci_command.specs.psci_board.declared.fault.BoardFault.TheVariants as boards
-use Rattle.psci_command.specs.psci_failure.declared.exit.AuditFailure.TheVariants as failures
-use Rattle.psci_command.specs.psci_failure.declared.exit.Failure.TheVariants.{Audit, Gate, Gather}
-use Rattle.psci_command.specs.psci_failure.declared.exit.Failure.TheVariants.{Replay, TooManyCores}
-use Rattle.psci_command.specs.psci_failure.declared.exit.Failure.TheVariants.{Threads}
-use Rattle.psci_command.specs.psci_failure.declared.exit.Failure.TheVariants.{Board as GivenBoard}
+use Rattle.psci_command.specs.psci_script.declared.exit.AuditFailure.TheVariants as failures
+use Rattle.psci_command.specs.psci_script.declared.exit.Failure.TheVariants.{Audit, Gate, Gather}
+use Rattle.psci_command.specs.psci_script.declared.exit.Failure.TheVariants.{Replay, TooManyCores}
+use Rattle.psci_command.specs.psci_script.declared.exit.Failure.TheVariants.{Threads}
+use Rattle.psci_command.specs.psci_script.declared.exit.Failure.TheVariants.{Board as GivenBoard}
 use Rattle.psci_command.specs.psci_script.declared.fault.ReplayFault.TheVariants.{Memory, Read}
 use Rattle.psci_command.specs.psci_script.declared.fault.ReplayFault.TheVariants.{Write}
 use Rattle.psci_bench.specs.psci_threads.declared.fault.BenchFault.{BenchFault}

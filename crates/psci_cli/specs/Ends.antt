@@ -3,9 +3,9 @@ use Rattle.std.specs.Prelude.{◌≡◌, ◌⊎◌, ℕ, Result, Ok, Err, IsOk}
 use Rattle.psci_command.specs.psci_board.Board.{BoardValue}
 use Rattle.psci_command.specs.psci_board.Verdict.{Answers}
 use Rattle.psci_command.specs.psci_board.declared.fault.BoardFault.{BoardFault}
-use Rattle.psci_command.specs.psci_failure.declared.exit.Failure.{Failure}
-use Rattle.psci_command.specs.psci_failure.declared.exit.Failure.TheVariants.{Replay}
-use Rattle.psci_command.specs.psci_failure.declared.exit.Failure.TheVariants.{Board as GivenBoard}
+use Rattle.psci_command.specs.psci_script.declared.exit.Failure.{Failure}
+use Rattle.psci_command.specs.psci_script.declared.exit.Failure.TheVariants.{Replay}
+use Rattle.psci_command.specs.psci_script.declared.exit.Failure.TheVariants.{Board as GivenBoard}
 use Rattle.psci_command.specs.psci_script.declared.fault.ReplayFault.TheVariants.{Memory, Write}
 use Rattle.psci_bench.specs.psci_storm.Storm.{IsStorm}
 use Rattle.psci_bench.specs.psci_storm.declared.outcome.StormedWorld.{StormedWorld}

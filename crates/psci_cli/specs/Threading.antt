@@ -3,12 +3,12 @@ use Rattle.std.specs.Prelude.{◌≡◌, ◌⊎◌, ◌≤◌, ◌<◌, Result, 
 use Rattle.psci_command.specs.psci_board.Board.{BoardValue, cores}
 use Rattle.psci_command.specs.psci_board.Verdict.{Answers}
 use Rattle.psci_command.specs.psci_board.declared.fault.BoardFault.{BoardFault}
-use Rattle.psci_command.specs.psci_failure.declared.exit.AuditFailure.TheVariants as failures
-use Rattle.psci_command.specs.psci_failure.declared.exit.Failure.{Failure}
-use Rattle.psci_command.specs.psci_failure.declared.exit.Failure.TheVariants.{Audit, Gate, Gather}
-use Rattle.psci_command.specs.psci_failure.declared.exit.Failure.TheVariants.{Replay, TooManyCores}
-use Rattle.psci_command.specs.psci_failure.declared.exit.Failure.TheVariants.{Threads}
-use Rattle.psci_command.specs.psci_failure.declared.exit.Failure.TheVariants.{Board as GivenBoard}
+use Rattle.psci_command.specs.psci_script.declared.exit.AuditFailure.TheVariants as failures
+use Rattle.psci_command.specs.psci_script.declared.exit.Failure.{Failure}
+use Rattle.psci_command.specs.psci_script.declared.exit.Failure.TheVariants.{Audit, Gate, Gather}
+use Rattle.psci_command.specs.psci_script.declared.exit.Failure.TheVariants.{Replay, TooManyCores}
+use Rattle.psci_command.specs.psci_script.declared.exit.Failure.TheVariants.{Threads}
+use Rattle.psci_command.specs.psci_script.declared.exit.Failure.TheVariants.{Board as GivenBoard}
 use Rattle.psci_command.specs.psci_script.declared.fault.ReplayFault.TheVariants.{Memory}
 use Rattle.psci_cli.specs.Ends.{IsUnkept}
 use Rattle.psci_bench.specs.psci_threads.Runs.{IsAudited, IsFound}

@@ -3,7 +3,7 @@
 ghost use Rattle.std.specs.Prelude.{◌≡◌, IfErr};
 ghost use Rattle.std.specs.IoError.{error_kind};
 ghost use Rattle.std.specs.declared.io.ErrorKind.TheVariants as kinds;
-ghost use Rattle.psci_command.specs.psci_failure.declared.exit.Failure.TheVariants.{Replay};
+ghost use Rattle.psci_command.specs.psci_script.declared.exit.Failure.TheVariants.{Replay};
 ghost use Rattle.psci_command.specs.psci_script.declared.fault.ReplayFault.TheVariants.{Memory};
 ghost use Rattle.psci_command.specs.psci_script.declared.fault.ReplayFault.TheVariants.{Write};
 ghost use Rattle.psci_cli.specs.Ends.{IsUnkept};

@@ -8,7 +8,7 @@ mod storm_line;
 mod threads_line;
 
 ghost use Rattle.std.specs.Prelude.{IfErr};
-ghost use Rattle.psci_command.specs.psci_failure.Exit.{IsOfReplay};
+ghost use Rattle.psci_command.specs.psci_script.Exit.{IsOfReplay};
 ghost use Rattle.psci_command.specs.psci_board.Verdict.{board_of};
 ghost use Rattle.psci_cli.specs.Ends.{IsStormed, StormEnds};
 ghost use Rattle.psci_cli.specs.Threading.{ThreadsEnds};

@@ -5,9 +5,9 @@ use Rattle.std.specs.Prelude.{codes}
 use Rattle.clap.specs.Walk.{Row, Text}
 use Rattle.clap.specs.declared.error.kind.ErrorKind.TheVariants.{DisplayHelp, DisplayVersion}
 use Rattle.clap.specs.declared.error.kind.ErrorKind.TheVariants.{MissingSubcommand}
-use Rattle.psci_failure.specs.psci_script.declared.fault.ReplayFault.TheVariants.{Memory, Write}
-use Rattle.psci_failure.specs.declared.exit.Failure.TheVariants as failures
-use Rattle.psci_failure.specs.declared.exit.Failure.TheVariants.{CommandLine}
+use Rattle.psci_script.specs.declared.fault.ReplayFault.TheVariants.{Memory, Write}
+use Rattle.psci_script.specs.declared.exit.Failure.TheVariants as failures
+use Rattle.psci_script.specs.declared.exit.Failure.TheVariants.{CommandLine}
 use Rattle.psci_command.specs.Commands.{IsAsked, IsStormOf, IsThreadsOf, IsWordless}
 use Rattle.psci_command.specs.Program.{AsksHelp, standard_board}
 use Rattle.psci_command.specs.declared.requests.Request.TheVariants.{Nothing, Replay}

@@ -5,12 +5,12 @@ use Rattle.std.specs.Prelude.{codes}
 use Rattle.clap.specs.Walk.{Text}
 use Rattle.clap.specs.Words.{subcommand_of}
 use Rattle.clap.specs.declared.error.kind.ErrorKind.TheVariants.{DisplayHelp, MissingSubcommand}
-use Rattle.psci_failure.specs.psci_board.declared.fault.BoardFault.TheVariants as boards
-use Rattle.psci_failure.specs.psci_script.declared.fault.ReplayFault.TheVariants.{Memory, Read}
-use Rattle.psci_failure.specs.psci_script.declared.fault.ReplayFault.TheVariants.{Script, Write}
-use Rattle.psci_failure.specs.psci_script.declared.fault.ScriptFault.TheVariants.{NoBoard}
-use Rattle.psci_failure.specs.declared.exit.Failure.TheVariants.{CommandLine, Replay}
-use Rattle.psci_failure.specs.declared.exit.Failure.TheVariants.{Board as GivenBoard}
+use Rattle.psci_script.specs.psci_board.declared.fault.BoardFault.TheVariants as boards
+use Rattle.psci_script.specs.declared.fault.ReplayFault.TheVariants.{Memory, Read}
+use Rattle.psci_script.specs.declared.fault.ReplayFault.TheVariants.{Script, Write}
+use Rattle.psci_script.specs.declared.fault.ScriptFault.TheVariants.{NoBoard}
+use Rattle.psci_script.specs.declared.exit.Failure.TheVariants.{CommandLine, Replay}
+use Rattle.psci_script.specs.declared.exit.Failure.TheVariants.{Board as GivenBoard}
 use Rattle.psci_command.proofs.AskedRows.{kept, of_counts, of_file, of_given_board, of_rows}
 use Rattle.psci_command.proofs.AskedRows.{request, rows, rows_of_board, rows_with_counts, threads}
 use Rattle.psci_command.proofs.AskedRows.{rows_with_file}

@@ -4,9 +4,9 @@ use Rattle.clap.specs.Walk.{Text}
 use Rattle.clap.specs.Words.{App, IsAmong, Kinds, fault_of}
 use Rattle.clap.specs.declared.error.kind.ErrorKind.{ErrorKind}
 use Rattle.clap.specs.declared.error.kind.ErrorKind.TheVariants as kinds
-use Rattle.psci_failure.specs.psci_script.declared.fault.ReplayFault.TheVariants.{Memory, Write}
-use Rattle.psci_failure.specs.declared.exit.Failure.{Failure}
-use Rattle.psci_failure.specs.declared.exit.Failure.TheVariants.{CommandLine, Replay}
+use Rattle.psci_script.specs.declared.fault.ReplayFault.TheVariants.{Memory, Write}
+use Rattle.psci_script.specs.declared.exit.Failure.{Failure}
+use Rattle.psci_script.specs.declared.exit.Failure.TheVariants.{CommandLine, Replay}
 use Rattle.psci_command.specs.declared.requests.Request.{Request}
 use Rattle.psci_command.specs.declared.requests.Request.TheVariants.{Nothing}
 use Rattle.psci_command.specs.Program.{AsksHelp}

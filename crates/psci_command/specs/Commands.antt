@@ -1,9 +1,9 @@
 -- What a command line asks for, by the command that was met and its matches.
 use Rattle.std.specs.Prelude.{◌≡◌, ◌⊎◌, ℕ, codes, List, Option, Some, None, option_map}
 use Rattle.clap.specs.Walk.{Row, Text, first_of, one_of}
-use Rattle.psci_failure.specs.psci_script.declared.fault.ReplayFault.TheVariants as faults
-use Rattle.psci_failure.specs.declared.exit.Failure.{Failure}
-use Rattle.psci_failure.specs.declared.exit.Failure.TheVariants.{CommandLine, Replay}
+use Rattle.psci_script.specs.declared.fault.ReplayFault.TheVariants as faults
+use Rattle.psci_script.specs.declared.exit.Failure.{Failure}
+use Rattle.psci_script.specs.declared.exit.Failure.TheVariants.{CommandLine, Replay}
 use Rattle.psci_command.specs.declared.requests.Request.{Request}
 use Rattle.psci_command.specs.declared.requests.Request.TheVariants.{Show, Storm, Threads, Nothing}
 use Rattle.psci_command.specs.declared.requests.Request.TheVariants.{Replay as ReplayScript}

@@ -3,15 +3,15 @@ use Rattle.std.specs.Prelude.{◌≡◌, ◌⊎◌, [], List, Some, None, Result
 use Rattle.clap.specs.Walk.{Text}
 use Rattle.clap.specs.Words.{App, IsAmong, Kinds, fault_of, subcommand_of}
 use Rattle.clap.specs.declared.error.kind.ErrorKind.{ErrorKind}
-use Rattle.psci_failure.specs.psci_script.declared.fault.ReplayFault.{ReplayFault}
-use Rattle.psci_failure.specs.psci_script.declared.fault.ReplayFault.TheVariants.{Board, Memory}
-use Rattle.psci_failure.specs.psci_script.declared.fault.ReplayFault.TheVariants.{Read}
-use Rattle.psci_failure.specs.psci_script.declared.fault.ReplayFault.TheVariants.{Script, Write}
-use Rattle.psci_failure.specs.declared.exit.Failure.{Failure}
-use Rattle.psci_failure.specs.declared.exit.Failure.TheVariants.{CommandLine, Replay, TooManyCores}
-use Rattle.psci_failure.specs.declared.exit.Failure.TheVariants.{Audit, Gate, Gather}
-use Rattle.psci_failure.specs.declared.exit.Failure.TheVariants.{Threads as NoThreads}
-use Rattle.psci_failure.specs.declared.exit.Failure.TheVariants.{Board as GivenBoard}
+use Rattle.psci_script.specs.declared.fault.ReplayFault.{ReplayFault}
+use Rattle.psci_script.specs.declared.fault.ReplayFault.TheVariants.{Board, Memory}
+use Rattle.psci_script.specs.declared.fault.ReplayFault.TheVariants.{Read}
+use Rattle.psci_script.specs.declared.fault.ReplayFault.TheVariants.{Script, Write}
+use Rattle.psci_script.specs.declared.exit.Failure.{Failure}
+use Rattle.psci_script.specs.declared.exit.Failure.TheVariants.{CommandLine, Replay, TooManyCores}
+use Rattle.psci_script.specs.declared.exit.Failure.TheVariants.{Audit, Gate, Gather}
+use Rattle.psci_script.specs.declared.exit.Failure.TheVariants.{Threads as NoThreads}
+use Rattle.psci_script.specs.declared.exit.Failure.TheVariants.{Board as GivenBoard}
 use Rattle.psci_command.specs.declared.requests.Request.{Request}
 use Rattle.psci_command.specs.declared.requests.Request.TheVariants.{Show, Storm, Threads, Nothing}
 use Rattle.psci_command.specs.declared.requests.Request.TheVariants.{Replay as ReplayScript}

@@ -12,5 +12,5 @@ mod storm_command;
 mod threads_command;
 
 pub use command_line::{asked, words};
-pub use psci_failure::{AuditFailure, Board, BoardFault, Failure, end};
+pub use psci_script::{AuditFailure, Board, BoardFault, Failure, end};
 pub use requests::{Color, Request, ShowRequest, StormRequest, ThreadsRequest};

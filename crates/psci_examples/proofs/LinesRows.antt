@@ -9,11 +9,11 @@ use Rattle.psci_script.specs.declared.fault.ScriptFault.TheVariants as faults
 use Rattle.psci_script.specs.declared.lines.Extent.{Extent}
 use Rattle.psci_script.specs.declared.lines.Front.TheVariants as fronts
 use Rattle.psci_script.specs.Lines.{IsFrontOf, has_line_feed}
-use Rattle.psci_lines.specs.declared.progress.Progress.{Progress as Fields}
-use Rattle.psci_lines.specs.Block.{ReadAhead, Refills}
-use Rattle.psci_lines.specs.Progress.{Ahead, FailsAhead, FailsLine, FaultyLine, FindsLine, Progress}
-use Rattle.psci_lines.specs.Progress.{ReadFailed, ReadsAhead, SameDevices, StaySound, WriteFailed}
-use Rattle.psci_lines.specs.Progress.{progress}
+use Rattle.psci_script.specs.declared.progress.Progress.{Progress as Fields}
+use Rattle.psci_script.specs.Block.{ReadAhead, Refills}
+use Rattle.psci_script.specs.Progress.{Ahead, FailsAhead, FailsLine, FaultyLine, FindsLine}
+use Rattle.psci_script.specs.Progress.{ReadFailed, ReadsAhead, SameDevices, StaySound, WriteFailed}
+use Rattle.psci_script.specs.Progress.{Progress, progress}
 
 -- What is read ahead ----------------------------------------------------------------------------
 

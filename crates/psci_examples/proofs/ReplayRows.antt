@@ -13,14 +13,14 @@ use Rattle.psci_script.specs.declared.fault.ScriptFault.TheVariants as faults
 use Rattle.psci_script.specs.declared.grammar.Line.TheVariants.{Blank}
 use Rattle.psci_script.specs.Lines.{has_line_feed}
 use Rattle.psci_script.specs.Script.{transcript}
-use Rattle.psci_lines.specs.declared.progress.Progress.{Progress as Fields}
-use Rattle.psci_lines.specs.Progress.{IsFresh, Progress, progress}
-use Rattle.psci_lines.specs.Run.{AnswersLines, AnswersPart, IsNoDevice, IsWithinBlock, LineRefused}
-use Rattle.psci_lines.specs.Run.{Replays, WritesAnswers, is_write_fault}
-use Rattle.psci_lines.specs.Progress.{IsLineFront}
-use Rattle.psci_lines.specs.ScriptRun.{ScriptRun, events_of, run_of}
-use Rattle.psci_lines.specs.Told.{Ended, EndsBy, IsUntold, Runs, Telling, account}
-use Rattle.psci_lines.proofs.ScriptRows.{answering, board, text}
+use Rattle.psci_script.specs.declared.progress.Progress.{Progress as Fields}
+use Rattle.psci_script.specs.Progress.{IsFresh, Progress, progress}
+use Rattle.psci_script.specs.Run.{AnswersLines, AnswersPart, IsNoDevice, IsWithinBlock, LineRefused}
+use Rattle.psci_script.specs.Run.{Replays, WritesAnswers, is_write_fault}
+use Rattle.psci_script.specs.Progress.{IsLineFront}
+use Rattle.psci_script.specs.ScriptRun.{ScriptRun, events_of, run_of}
+use Rattle.psci_script.specs.Told.{Ended, EndsBy, IsUntold, Runs, Telling, account}
+use Rattle.psci_script.proofs.EndRows.{answering, board, text}
 
 -- How a replay ended ----------------------------------------------------------------------------
 

@@ -7,10 +7,10 @@
 #![tactic(auto)]
 
 ghost use Rattle.std.specs.Prelude.{IfErr};
-ghost use Rattle.psci_failure.specs.Exit.{IsOfReplay};
+ghost use Rattle.psci_script.specs.Exit.{IsOfReplay};
 
 use psci_answers::{Std, replay};
-use psci_failure::{Failure, end};
+use psci_script::{Failure, end};
 use std::process::ExitCode;
 
 /// Replays the script on standard input in a world of its own.

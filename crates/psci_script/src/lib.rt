@@ -1,27 +1,49 @@
-//! Scripts of events as texts: their lines, the grammar of a line, and the answer line of an event.
-//! What an event is, and what is said of it, are those of `psci_world_spec`.
+//! Scripts of events as texts: their lines, the grammar of a line, the answer line of an event, the
+//! loop that takes a script from a device and tells what came of it, and how a program ends.
 //!
-//! - A *script* is a board line and then one line for each event, comment or empty line.
 //! - The *answer text* of a script has one line for each event before the first fault.
 //! - A run is *kept* as a script of its board and its events, which is read again as these.
+//! - A *source* and a *sink* are the devices that a script comes from and its answers go to.
+//! - A *block* is the bytes that were read and not yet taken; a *progress* is a script on its way.
+//! - A *teller* makes the events of a script happen, and tells what came of them.
+//! - A *failure* is why a program ended before it was done: an exit status and a line.
 #![tactic(auto)]
 
 mod answer_line;
+mod answers;
+mod block;
+mod board_line;
+mod device;
 mod digits;
+mod exit;
 mod fault;
 mod grammar;
 mod keeping;
 mod laws;
 mod limits;
 mod lines;
+mod progress;
+mod standard;
+mod teller;
+mod telling;
+mod transfer;
 
 pub use answer_line::{LONGEST_ANSWER, write_answer};
+pub use answers::Answers;
+pub use block::Block;
+pub use board_line::read_board;
+pub use device::{Io, Sink, Source};
+pub use exit::{AuditFailure, Failure, end};
 pub use fault::{ReplayFault, Replayed, ScriptFault};
 pub use grammar::{Line, read_line};
 pub use keeping::write_script;
 pub use laws::{law_event_lines, law_kept_lines};
 pub use limits::{LONGEST_LINE, MOST_LINES};
 pub use lines::{Extent, Front, cut, last_line};
+pub use progress::Progress;
 pub use psci_board::{BoardFault, law_boards};
 pub use psci_text::literal;
 pub use psci_world_spec::{Act, Board, Code, Event, Record, Said};
+pub use standard::Std;
+pub use teller::Teller;
+pub use telling::tell;

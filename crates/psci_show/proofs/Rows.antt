@@ -9,9 +9,9 @@ use Rattle.psci_world.specs.psci_world_spec.declared.event.Event.{Event}
 use Rattle.psci_world.specs.psci_world_spec.declared.said.Record.{Record}
 use Rattle.psci_script.specs.Line.{line_of}
 use Rattle.psci_script.specs.declared.grammar.Line.TheVariants.{Event as Says}
-use Rattle.psci_lines.specs.Answered.{Answered}
-use Rattle.psci_lines.specs.ScriptRun.{ScriptRun, with_record}
-use Rattle.psci_lines.specs.Told.{EventTold}
+use Rattle.psci_script.specs.Answered.{Answered}
+use Rattle.psci_script.specs.ScriptRun.{ScriptRun, with_record}
+use Rattle.psci_script.specs.Told.{EventTold}
 use Rattle.psci_show.specs.declared.form.Form.{Form}
 use Rattle.psci_show.specs.Shown.{IsShown, IsShownOf, front}
 

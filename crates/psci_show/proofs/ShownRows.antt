@@ -10,7 +10,7 @@ use Rattle.psci_world.specs.psci_world_spec.declared.said.Record.{Record}
 use Rattle.psci_world.specs.psci_world_spec.declared.said.Said.TheVariants.{Absent, Ignored}
 use Rattle.psci_script.specs.Line.{line_of}
 use Rattle.psci_script.specs.declared.grammar.Line.TheVariants.{Event as Says}
-use Rattle.psci_lines.proofs.ScriptRows.{reading}
+use Rattle.psci_script.proofs.EndRows.{reading}
 use Rattle.psci_show.specs.declared.form.Form.{Form}
 use Rattle.psci_show.specs.declared.form.Form.TheVariants.{Lines, Json}
 use Rattle.psci_show.specs.Shown.{HasRows, IsEventRow, IsHeading, IsShown, front, number_text}

@@ -7,7 +7,7 @@ use Rattle.psci_world.specs.Seen.{WorldValue}
 use Rattle.psci_world.specs.psci_world_spec.declared.said.Record.{Record}
 use Rattle.psci_script.specs.Line.{line_of}
 use Rattle.psci_script.specs.declared.grammar.Line.TheVariants.{Event as Says}
-use Rattle.psci_lines.specs.ScriptRun.{ScriptRun}
+use Rattle.psci_script.specs.ScriptRun.{ScriptRun}
 use Rattle.psci_show.specs.declared.form.Form.{Form}
 use Rattle.psci_show.specs.declared.form.Form.TheVariants.{Lines, Json}
 

@@ -2,8 +2,8 @@
 
 ghost use Rattle.std.specs.Prelude.{◌≡◌, ◌++◌, ℕ, List, [], None, false, length, IfErr, OnOk};
 ghost use Rattle.std.specs.Prelude.{string_bytes};
-ghost use Rattle.psci_lines.specs.Progress.{OnlyGivenUp};
-ghost use Rattle.psci_lines.specs.Told.{Tells};
+ghost use Rattle.psci_script.specs.Progress.{OnlyGivenUp};
+ghost use Rattle.psci_script.specs.Told.{Tells};
 ghost use Rattle.psci_show.specs.Shown.{IsHeading, IsShown, front};
 
 use crate::event_json::write_event;
@@ -13,8 +13,7 @@ use crate::json::write_board;
 use crate::legend::Legend;
 use crate::lines::{put, write_lines};
 use crate::run::Run;
-use psci_lines::{Answers, Sink, Source, Teller, tell};
-use psci_script::{Event, ReplayFault, Replayed, literal};
+use psci_script::{Answers, Event, ReplayFault, Replayed, Sink, Source, Teller, literal, tell};
 use psci_world::{Board, Memory};
 use std::alloc::{AllocError, Global};
 

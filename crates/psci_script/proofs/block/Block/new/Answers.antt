@@ -1,0 +1,5 @@
+use Rattle.std.proofs.Common.{refl}
+use Rattle.psci_script.proofs.block.Block.new.Goals as goal
+
+pub returns : goal.returns
+returns c = refl

@@ -1,0 +1,238 @@
+//! Scripts, told event by event.
+
+ghost use Rattle.std.specs.Prelude.{◌≡◌, ◌+◌, ◌-◌, ◌^◌, ◌<◌, ◌≤◌, ℕ, List, [], length, false};
+ghost use Rattle.std.specs.Prelude.{Option};
+ghost use Rattle.std.specs.Prelude.{None, Some, IfOk, IfErr, OnOk};
+ghost use Rattle.psci_script.specs.Limits.{most_lines};
+ghost use Rattle.psci_script.specs.Line.{line_of};
+ghost use Rattle.psci_script.specs.Progress.{IsLine, OnlyGivenUp};
+ghost use Rattle.psci_script.specs.Progress.{SameDevices, StaySound, progress_of};
+ghost use Rattle.psci_script.specs.Run.{IsNoDevice, LineRefused};
+ghost use Rattle.psci_script.specs.Run.{is_write_fault};
+ghost use Rattle.psci_script.specs.ScriptRun.{ScriptRun};
+ghost use Rattle.psci_script.specs.Told.{EndsBy, Goes, IsUnderWay, IsUntold, LineTold, Runs, Tells};
+
+use crate::answers::Answers;
+use crate::block::Block;
+use crate::board_line::read_board;
+use crate::device::{Sink, Source};
+use crate::fault::{ReplayFault, Replayed, ScriptFault};
+use crate::grammar::{Line, read_line};
+use crate::lines::Extent;
+use crate::progress::Progress;
+use crate::teller::Teller;
+use std::alloc::Global;
+
+/// Makes the event happen that a line says, if it says one, and tells of it.
+// In place, since a call would save its registers on each event.
+#[inline(always)]
+fn tell_line<F: Copy, T: Teller<F>>(
+    teller: &mut T,
+    line: &[u8],
+    answers: &mut Answers,
+    number: u64,
+) -> Result<(), ReplayFault>
+    requires { answers.old.events < 2 ^ 64 - 1 }
+    ensures ok { OnOk result ((form : F) (run : ScriptRun) → T.is_at teller.old form run
+        → answers.old.events ≡ length run.past
+        → LineTold (T.is_at teller.new form) (T.told form) (line_of line.now) run
+        answers.old answers.new) }
+    ensures count { OnOk result (answers.new.events ≤ answers.old.events + 1) }
+    ensures err { IfErr result (λ fault. LineRefused fault number (line_of line.now)
+        × (answers.new ≡ answers.old)) }
+{
+    match read_line(line) {
+        None => Err(ScriptFault::Line.at(number)),
+        Some(Line::Blank) => Ok(()),
+        Some(Line::Event(event)) => {
+            teller.tell(event, line, answers)?;
+            Ok(())
+        }
+    }
+}
+
+/// Tells what stands before the script.
+fn open<F: Copy, T: Teller<F>, S: Source, K: Sink>(
+    progress: &mut Progress<'_, '_, S, K>,
+    alloc: Global,
+    form: F,
+) -> Result<(), ReplayFault>
+    requires { IsUntold (T.told form) S.left K.taken progress.old }
+    ensures devices { SameDevices progress.old progress.new }
+    ensures sound { StaySound S.failed K.failed progress.old progress.new }
+    ensures ok { OnOk result (Goes (T.told form) None 0 (S.left progress.old.source.now)
+        (K.taken progress.old.sink.now) (progress_of S.left K.taken progress.new)) }
+    ensures err { IfErr result (λ fault. IsNoDevice fault × EndsBy (T.told form) fault
+        (S.left progress.old.source.now) (K.taken progress.old.sink.now)
+        (progress_of S.left K.taken progress.new)) }
+{
+    T::open(alloc, form, progress.answers)?;
+    Ok(())
+}
+
+/// The teller of the board that the first line has, before any event.
+fn begin<F: Copy, T: Teller<F>, S: Source, K: Sink>(
+    progress: &mut Progress<'_, '_, S, K>,
+    alloc: Global,
+    form: F,
+) -> Result<T, ReplayFault>
+    ensures devices { SameDevices progress.old progress.new }
+    ensures sound { OnOk result (StaySound S.failed K.failed progress.old progress.new) }
+    ensures ok { IfOk result (λ teller. (first before : Option (List ℕ))
+        → Goes (T.told form) None 0 first before (progress_of S.left K.taken progress.old)
+        → IsUnderWay (T.is_at teller form) (T.told form) 1 first before
+        (progress_of S.left K.taken progress.new)) }
+    ensures err { IfErr result (λ fault. (first before : Option (List ℕ))
+        → Goes (T.told form) None 0 first before (progress_of S.left K.taken progress.old)
+        → EndsBy (T.told form) fault first before (progress_of S.left K.taken progress.new)) }
+    ensures count { OnOk result (progress.new.answers.now.events
+        ≡ progress.old.answers.now.events) }
+    ensures given_up { IfErr result (OnlyGivenUp S.failed S.interruptions K.failed
+        K.interruptions progress.new.source.now progress.new.sink.now) }
+{
+    let Some(extent) = progress.next_line(1)? else {
+        return Err(ScriptFault::NoBoard.at(1));
+    };
+    let line = &progress.block.unread()[..extent.line];
+    let board = read_board(alloc, line)?;
+    let teller = T::begin(alloc, form, &board, line, progress.answers)?;
+    progress.block.skip(extent.taken);
+    Ok(teller)
+}
+
+/// Takes and tells a line, after so many others.
+fn take_line<F: Copy, T: Teller<F>, S: Source, K: Sink>(
+    progress: &mut Progress<'_, '_, S, K>,
+    teller: &mut T,
+    extent: Extent,
+    count: u64,
+) -> Result<(), ReplayFault>
+    requires line { IsLine extent progress.old.block.now }
+    requires count { count < most_lines }
+    requires events { progress.old.answers.now.events < 2 ^ 64 - 1 }
+    ensures devices { SameDevices progress.old progress.new }
+    ensures sound { StaySound S.failed K.failed progress.old progress.new }
+    ensures ok { OnOk result ((form : F) (first before : Option (List ℕ))
+        → IsUnderWay (T.is_at teller.old form) (T.told form) count first before
+        (progress_of S.left K.taken progress.old)
+        → IsUnderWay (T.is_at teller.new form) (T.told form) (count + 1) first before
+        (progress_of S.left K.taken progress.new)) }
+    ensures err { IfErr result (λ fault. (form : F) (first before : Option (List ℕ))
+        → IsUnderWay (T.is_at teller.old form) (T.told form) count first before
+        (progress_of S.left K.taken progress.old)
+        → EndsBy (T.told form) fault first before (progress_of S.left K.taken progress.new)) }
+    ensures fault { IfErr result (λ fault. IsNoDevice fault) }
+    ensures count { OnOk result (progress.new.answers.now.events
+        ≤ progress.old.answers.now.events + 1) }
+{
+    let line = &progress.block.unread()[..extent.line];
+    tell_line(teller, line, progress.answers, count + 1)?;
+    progress.block.skip(extent.taken);
+    Ok(())
+}
+
+/// Tells each line behind the board line; the last texts may still wait to be written.
+fn tell_lines<F: Copy, T: Teller<F>, S: Source, K: Sink>(
+    progress: &mut Progress<'_, '_, S, K>,
+    teller: &mut T,
+) -> Result<Replayed, ReplayFault>
+    requires { progress.old.answers.now.events ≡ 0 }
+    ensures devices { SameDevices progress.old progress.new }
+    ensures sound { OnOk result (StaySound S.failed K.failed progress.old progress.new) }
+    ensures runs { (form : F) (first before : Option (List ℕ))
+        → IsUnderWay (T.is_at teller.old form) (T.told form) 1 first before
+        (progress_of S.left K.taken progress.old)
+        → Runs (T.told form) result first before (progress_of S.left K.taken progress.new) }
+    ensures given_up { IfErr result (OnlyGivenUp S.failed S.interruptions K.failed
+        K.interruptions progress.new.source.now progress.new.sink.now) }
+{
+    let mut lines: u64 = 1;
+    'lines: while let Some(extent) = progress.next_line(lines + 1)? {
+        take_line(progress, teller, extent, lines)?;
+        lines += 1;
+    }
+    Ok(Replayed {
+        lines,
+        events: progress.answers.events(),
+    })
+}
+
+/// Tells the script; the last texts may still wait to be written.
+fn run_lines<F: Copy, T: Teller<F>, S: Source, K: Sink>(
+    progress: &mut Progress<'_, '_, S, K>,
+    alloc: Global,
+    form: F,
+) -> Result<Replayed, ReplayFault>
+    requires { IsUntold (T.told form) S.left K.taken progress.old }
+    ensures devices { SameDevices progress.old progress.new }
+    ensures sound { OnOk result (StaySound S.failed K.failed progress.old progress.new) }
+    ensures runs { Runs (T.told form) result
+        (S.left progress.old.source.now) (K.taken progress.old.sink.now)
+        (progress_of S.left K.taken progress.new) }
+    ensures given_up { IfErr result (OnlyGivenUp S.failed S.interruptions K.failed
+        K.interruptions progress.new.source.now progress.new.sink.now) }
+{
+    open::<F, T, S, K>(progress, alloc, form)?;
+    let mut teller: T = begin(progress, alloc, form)?;
+    tell_lines(progress, &mut teller)
+}
+
+/// Whether a write failed.
+fn is_write_fault(ended: &Result<Replayed, ReplayFault>) -> bool
+    ensures { result ≡ is_write_fault ended.now }
+{
+    matches!(ended, Err(ReplayFault::Write))
+}
+
+/// Tells the script, and writes the last texts.
+fn complete<F: Copy, T: Teller<F>, S: Source, K: Sink>(
+    progress: &mut Progress<'_, '_, S, K>,
+    alloc: Global,
+    form: F,
+) -> Result<Replayed, ReplayFault>
+    requires { IsUntold (T.told form) S.left K.taken progress.old }
+    ensures devices { SameDevices progress.old progress.new }
+    ensures sound { OnOk result (StaySound S.failed K.failed progress.old progress.new) }
+    ensures tells { Tells (T.told form) result
+        (S.left progress.old.source.now) (S.left progress.new.source.now)
+        (K.taken progress.old.sink.now) (K.taken progress.new.sink.now) }
+    ensures given_up { IfErr result (OnlyGivenUp S.failed S.interruptions K.failed
+        K.interruptions progress.new.source.now progress.new.sink.now) }
+{
+    let ended = run_lines::<F, T, S, K>(progress, alloc, form);
+    if is_write_fault(&ended) {
+        return ended;
+    }
+    progress.answers.write_to(progress.sink)?;
+    ended
+}
+
+/// Tells the script that comes from the source in this form, into the sink.
+///
+/// Where it ends well, or at a script or board fault, it ends as a replay of the script does, and
+/// exactly what is told of the script's run was written. At a read fault it is what is told of the
+/// run of all whole lines that were read, after which stands at most the front of a line. At a
+/// memory fault it is that of some whole lines at the front, after which no more was read than one
+/// block has room for. None of these lines is at fault. At a write fault it is a front part. A read
+/// or write fault is answered only where that device failed, took none of some bytes, or was
+/// interrupted 1,000 times in a row; where it ends well neither device has failed.
+pub fn tell<F: Copy, T: Teller<F>, S: Source, K: Sink>(
+    alloc: Global,
+    form: F,
+    source: &mut S,
+    sink: &mut K,
+) -> Result<Replayed, ReplayFault>
+    requires source { S.failed source.old ≡ false }
+    requires sink { K.failed sink.old ≡ false }
+    requires nothing { T.told form None [] }
+    ensures sound { OnOk result ((S.failed source.new ≡ false) × (K.failed sink.new ≡ false)) }
+    ensures tells { Tells (T.told form) result (S.left source.old) (S.left source.new)
+        (K.taken sink.old) (K.taken sink.new) }
+    ensures given_up { IfErr result (OnlyGivenUp S.failed S.interruptions K.failed K.interruptions
+        source.new sink.new) }
+{
+    let mut block = Block::new(alloc)?;
+    let mut answers = Answers::new(alloc)?;
+    let mut progress = Progress::new(source, sink, &mut block, &mut answers);
+    complete::<F, T, S, K>(&mut progress, alloc, form)
+}
