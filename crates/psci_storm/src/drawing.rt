@@ -3,8 +3,8 @@
 ghost use Rattle.std.specs.Prelude.{◌≡◌, ◌<◌, ℕ, OnErr, OnOk};
 ghost use Rattle.psci_storm.specs.Storm.{HappensBy, IsDrawn};
 
+use crate::draws::Draws;
 use crate::seen::Seen;
-use psci_draws::Draws;
 use psci_world::{Memory, World};
 
 /// So many events happen, drawn from the seed. Out of memory, those before stand.

@@ -1,6 +1,6 @@
 //! What the draws see of a world.
 
-use psci_draws::Sight;
+use crate::sight::Sight;
 use psci_world::{Board, Node, Place, Status, World};
 
 /// A world, as the draws see it.

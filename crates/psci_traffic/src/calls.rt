@@ -7,7 +7,7 @@ ghost use Rattle.psci_traffic.specs.Calls.{EndsLife};
 
 use psci_abi::Request;
 use psci_board::{Board, Core};
-use psci_draws::{Draws, affinity};
+use psci_storm::{Draws, affinity};
 
 /// The call of this number of a core, which may go off or not. The first calls are the same
 /// whatever the seed, later ones are drawn.

@@ -6,11 +6,11 @@ ghost use Rattle.psci_fw.specs.psci_board.Board.{cores};
 use crate::cut::Cut;
 use crate::platform::{Ending, Platform, Returned, fault_of};
 use crate::watch::Watch;
-use psci_draws::Draws;
 use psci_fw::{Act, Outcome};
 use psci_link::Frame;
 use psci_shared::{CallFault, Core, Named};
 use psci_shared_ctl::CtlPass;
+use psci_storm::Draws;
 use psci_traffic::Gate;
 use std::sync::Wait;
 
