@@ -2,25 +2,62 @@
 # after tests/program.sh: stored records, wrong ones, and Linux on the firmware where QEMU, a kernel and
 # the archive are here.
 
-# compared STATUS TEXT FILE: what ./psci compare ends with, and a text in what it says
+# compared STATUS TEXT FILE [OPTION..]: what ./psci compare ends with, and a text in what it says
 compared() {
     local status=0
-    ./psci compare "$3" > "$work/out" 2> "$work/err" || status=$?
+    ./psci compare "${@:4}" "$3" > "$work/out" 2> "$work/err" || status=$?
     if [ "$status" = "$1" ] && grep -qF -- "$2" "$work/out" "$work/err"; then pass; else
-        fail "./psci compare $3 (status $status, wanted $1 with '$2')"
+        fail "./psci compare ${*:4} $3 (status $status, wanted $1 with '$2')"
         head -n 5 "$work/out" "$work/err"
     fi
 }
 
-# each stored record of Linux on the port, asked again
+# each stored record of Linux on the port, asked again, in the words of its machine where it names one
 el3_records() {
-    local file
+    local file name
     has_python "records of hosts/el3" || return
     for file in hosts/el3/runs/*.record.xz; do
         has_xz "$file" || continue
         xz -dc "$file" > "$work/run.record"
-        compared 0 "safe after each of them" "$work/run.record"
+        name=$(sed -n 's/^# machine //p' "$work/run.record")
+        compared 0 "safe after each of them" "$work/run.record" ${name:+--machine "hosts/el3/machines/$name"}
     done
+}
+
+# a stored record whose MPIDRs count in affinity field 1, and whose last core boots, held to other machines: the
+# boot core is another, two cores have each other's MPIDR, a core has one that is not there, two words are exchanged
+other_machines() {
+    local text change machine=hosts/el3/machines/affinity-1.machine
+    has_python "other machines for a record" && has_xz hosts/el3/runs/affinity-1.record.xz || return
+    xz -dc hosts/el3/runs/affinity-1.record.xz | grep -v ^mpidr > "$work/run.record"
+    compared 0 "are answered as by the proved program" "$work/run.record" --quick --machine $machine
+    while IFS='|' read -r text change; do
+        sed "$change" $machine > "$work/other.machine"
+        compared 6 "$text" "$work/run.record" --quick --machine "$work/other.machine"
+    done << 'END'
+event 1, |s/^boot 0x300/boot 0x0/
+event 1, |s/^boot 0x300/boot 0x200/
+the proved program: return 0 #0 start |s/^core 0x0$/core 0x1000/; s/^core 0x100$/core 0x0/; s/^core 0x1000/core 0x100/
+no core has the MPIDR 0x200|s/^core 0x200/core 0x201/
+the proved program: stop |s/^word 0x00010022/word 0x000100ff/; s/^word 0x00010011/word 0x00010022/; s/^word 0x000100ff/word 0x00010011/
+END
+    xz -dc hosts/el3/runs/affinity-1.record.xz > "$work/run.record"
+    sed 's/^core 0x200/core 0x201/' $machine > "$work/other.machine"
+    compared 3 "line 2: these are not the MPIDRs of the machine" "$work/run.record" --machine "$work/other.machine"
+}
+
+# the lists of each machine that is stored are those of its text, and of a board's text
+el3_machines() {
+    local file rest="exec 0x40000000-0x60000000 boot 0x40200000 starts 4294967295 lives 65535"
+    has_python "machines of hosts/el3" || return
+    for file in hosts/el3/machines/*.machine; do
+        hosts/el3/machine table "$file" > "$work/out" 2>&1
+        if cmp -s "$work/out" "${file%machine}h"; then pass; else fail "hosts/el3/machine table $file"; fi
+    done
+    hosts/el3/machine text "(2 2) $rest" > "$work/out" 2>&1
+    if cmp -s "$work/out" hosts/el3/machines/four.machine; then pass; else fail "hosts/el3/machine text"; fi
+    hosts/el3/machine text "((4 4) (4 4)) $rest" > "$work/out" 2>&1
+    if cmp -s "$work/out" hosts/el3/machines/sixteen.machine; then pass; else fail "hosts/el3/machine text"; fi
 }
 
 # spoiled STATUS TEXT SED-SCRIPT: the short record, changed by sed
@@ -105,6 +142,10 @@ el3_live() {
     live lost-frames --lose 5 each suspend-5
     live extended --board "(2 2) $rest lives 65535 format extended" each idle
     live three-lives --board "(2 2) $rest lives 3" each reboot
+    live affinity-1 --machine hosts/el3/machines/affinity-1.machine each boot-core idle suspend-5
+    live affinity-1-osi --machine hosts/el3/machines/affinity-1.machine --mode osi each boot-core idle
+    live_fault wrong-boot-core "event 1, "
+    live_fault wrong-mpidr "the proved program: return 0 #0 start "
     live sixteen --board "((4 4) (4 4)) $rest lives 65535" boot-core idle
     [ -e "$cache/kexec/fetched" ] || { skip "kexec at EL3" "$cache/kexec"; return; }
     live kexec each kexec each boot-core idle suspend-5
@@ -122,5 +163,14 @@ live() {
         return
     fi
     ! grep -q "did not\|LOST" "$work/out" || fail "hosts/el3/run $*: $(grep "did not\|LOST" "$work/out" | head -n 1)"
-    compared 0 "are answered as by the proved program" "$work/$name.record"
+    compared 0 "are answered as by the proved program" "$work/$name.record" --machine "$work/$name.record.machine"
+}
+
+# live_fault NAME TEXT: a port with this fault on the same machine, whose record shows it, whatever Linux did
+live_fault() {
+    local machine=hosts/el3/machines/affinity-1.machine
+    say "Linux at EL3: the fault $1"
+    EL3_OUT=$work/el3-fault hosts/el3/run --seconds 600 --record "$work/fault.record" --fault "$1" \
+        --machine $machine > "$work/out" 2>&1
+    compared 6 "$2" "$work/fault.record" --quick --machine $machine
 }

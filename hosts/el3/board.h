@@ -1,50 +1,33 @@
-/* The board, and how the machine's words for its cores become those of the board. All that is told of
- * it is told here: cores, clusters and groups, where code may be entered, limits, and the format of
- * power states. The Makefile may give other numbers. */
+/* The machine as the library is told of it: its board, and what it calls its cores, power states and
+ * functions. All of it is listed in table.h, which `machine table` writes of a machine's text
+ * (docs/FORMATS.md). Nothing is reckoned here: which core a register names is the library's to say. */
 #ifndef BOARD_H
 #define BOARD_H
 
-#ifndef CLUSTER
-#define CLUSTER 2  /* cores in a cluster */
-#define CLUSTERS 2 /* clusters in a group */
-#define GROUPS 1   /* groups in the system; one group is the system */
-#endif
-#ifndef FORMAT
-#define FORMAT PSCI_ORIGINAL_FORMAT
-#endif
-#ifndef STARTS
-#define STARTS 4294967295
-#define LIVES 65535
-#endif
-#define CORES (CLUSTER * CLUSTERS * GROUPS)
-#define LEVELS (GROUPS > 1 ? 4 : CLUSTERS > 1 ? 3 : 2)
-
-/* The core behind those that the operating system is shown: the system control processor. */
-#define SCP CORES
-
 #include "machine.h"
 #include "psci.h"
+#include "table.h"
 
 extern const struct psci_board board;
+extern const struct psci_machine described;
 
-/* How many cores stand below a power domain of this level. */
-static inline unsigned width_of(unsigned level) {
-    return level == 0 ? 1 : level == 1 ? CLUSTER : level == 2 ? CLUSTER * CLUSTERS : CORES;
+/* The board's affinity word of each core, by which a poll asks. */
+extern const uint64_t words[CORES];
+
+/* Of each core the nodes that it is below, by the firmware's numbers, from its own up. */
+extern const uint16_t paths[CORES][LEVELS];
+
+/* The core that the operating system is not shown, behind all others: the system control processor. */
+enum { SCP = CORES };
+
+/* The affinity fields of this core. */
+static inline uint64_t own_mpidr(void) { return read_register("mpidr_el1") & AFFINITY; }
+
+/* The number that the firmware has for this core, at the end of its stack, where reset.S has left room. */
+static inline uint64_t *own_number(void) {
+    uint64_t *it;
+    __asm__("mrs %0, tpidr_el3" : "=r"(it));
+    return it;
 }
-
-/* The affinity fields of MPIDR_EL1: on this machine rows of ROW cores, whatever their clusters are. */
-static inline uint64_t mpidr_of(unsigned core) { return core / ROW << 8 | core % ROW; }
-
-/* The core of these fields, which may be off the board. */
-static inline unsigned core_of(uint64_t mpidr) { return (mpidr & 255) + (mpidr >> 8 & 255) * ROW; }
-
-/* Its number, which reset.S has put there. */
-static inline unsigned this_core(void) {
-    uint64_t core;
-    __asm__("mrs %0, tpidr_el3" : "=r"(core));
-    return core;
-}
-
-/* The board's affinity word for the core that this one names on the machine; else one of no core. */
-uint64_t affinity_of(uint64_t mpidr);
+static inline unsigned this_core(void) { return *own_number(); }
 #endif

@@ -27,6 +27,7 @@ void begin(void) {
     cost("cost: PSCI_VERSION: ", 0x84000000, 0, 0);
     cost("cost: PSCI_FEATURES: ", 0x8400000a, 0xc4000001, 0);
     cost("cost: AFFINITY_INFO of a core: ", 0xc4000004, 1, 0);
+    cost("cost: AFFINITY_INFO of a domain above: ", 0xc4000004, 1, 1);
     cost("cost: CPU_ON that is ALREADY_ON: ", 0xc4000003, 0, 0x40200000);
     smc(0x84000008, 0, 0, 0);
     for (;;) {

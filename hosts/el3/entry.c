@@ -15,7 +15,7 @@ void wait_for_start(unsigned core, bool wakes) {
     struct door *door = &shared.doors[core];
     if (!wakes)
         gic_bell_alone();
-    record_stands(core, used[core]);
+    record_stands(used[core]);
     STORE(door->stopped, used[core]);
     gic_ring(SCP);
     for (;;) {
@@ -46,7 +46,7 @@ static void enter_once(unsigned core, struct psci_ctl_start *start, struct psci_
     lock();
     take_acks();
     psci_enter(&firmware, core, start->life, start->number, start->cause, answer);
-    record_enter(core, start, answer);
+    record_enter(start, answer);
     post(&answer->message);
     unlock();
 }
@@ -77,17 +77,31 @@ static _Noreturn void lost_registers(unsigned core) {
         wait_for_interrupt();
 }
 
+/* The number of this core, by its MPIDR. */
+static unsigned find_number(void) {
+    lock();
+    *own_number() = psci_core_of(&machine, own_mpidr());
+    unlock();
+    return this_core();
+}
+
+static _Noreturn void start_control(void) {
+    *own_number() = SCP;
+    gic_start_core(SCP);
+    control_power();
+}
+
 void on_reset(void) {
-    unsigned core = this_core();
-    if (core == 0 && LOAD(kept.boot) != READY) {
+    if (own_mpidr() == BOOT && LOAD(kept.boot) != READY) {
         start_machine();
         STORE(kept.boot, READY);
     }
     while (LOAD(kept.boot) != READY) {
     }
+    if (own_mpidr() == SCP_MPIDR)
+        start_control();
+    unsigned core = find_number();
     gic_start_core(core);
-    if (core == SCP)
-        control_power();
     if (LOAD(shared.doors[core].opened) == used[core])
         wait_for_start(core, false);
     enter(core);

@@ -11,7 +11,7 @@ enum { BELL = 15, TIMER = 29 };
 #define NORMAL_WORLD (~(0xff00u | 1u << TIMER))
 
 void gic_start(void);               /* once after a reset, by one core */
-void gic_start_core(unsigned core); /* by each core that comes out of reset */
+void gic_start_core(unsigned core); /* by each core that comes out of reset, which can be rung then */
 void gic_ring(unsigned core);
 
 /* What rang is answered, and rings no more: whether the timer of this core did. */

@@ -1,6 +1,9 @@
 /* GICv2: distributor and interfaces in memory. */
+#include "board.h"
 #include "gic.h"
-#include "machine.h"
+
+/* By which value each core is rung, once it has come out of reset. */
+static uint32_t bells[CORES + 1];
 
 void gic_start(void) {
     mmio32(GICD) = 0;
@@ -10,11 +13,12 @@ void gic_start(void) {
 }
 
 void gic_start_core(unsigned core) {
-    (void)core;
+    uint32_t mine = mmio32(GICD + 0x800) & 0xff; /* ITARGETSR0: of its own interrupts each core reads itself */
     mmio32(GICD + 0x80) = NORMAL_WORLD;
     mmio32(GICD + 0x100) = 1u << TIMER; /* ISENABLER; SGIs are always on */
     mmio32(GICC + 4) = 0xff;            /* PMR */
     gic_bell_alone();
+    __atomic_store_n(&bells[core], mine << 16 | BELL, __ATOMIC_SEQ_CST);
 }
 
 /* CTLR: group 0 is on, and is FIQs. The normal world sets and clears the bit of its own group. */
@@ -22,7 +26,7 @@ void gic_bell_alone(void) { mmio32(GICC) = 9; }
 
 void gic_ring(unsigned core) {
     __asm__ volatile("dsb sy" ::: "memory");
-    mmio32(GICD + 0xf00) = 0x10000u << core | BELL;
+    mmio32(GICD + 0xf00) = __atomic_load_n(&bells[core], __ATOMIC_SEQ_CST);
 }
 
 bool gic_answer(void) {

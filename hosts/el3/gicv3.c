@@ -12,6 +12,24 @@
 #define IGRPEN1_EL3 "s3_6_c12_c12_7"
 #define PMR "s3_0_c4_c6_0"
 
+/* By which value each core is rung, once it has come out of reset: 0 rings nobody. */
+static uint64_t bells[CORES + 1];
+
+/* The affinity fields as the controller has them: in one word, and in that of an SGI. */
+static uint32_t fields_of(uint64_t mpidr) { return (mpidr >> 8 & 0xff000000) | (mpidr & 0xffffff); }
+static uint64_t bell_of(uint64_t mpidr) {
+    return (mpidr >> 32 & 0xff) << 48 | (mpidr >> 16 & 0xff) << 32 | (mpidr >> 4 & 15) << 44
+         | (mpidr >> 8 & 0xff) << 16 | BELL << 24 | 1u << (mpidr & 15);
+}
+
+/* This core's redistributor: TYPER says whose it is. */
+static uintptr_t own_frame(void) {
+    uintptr_t frame = GICR;
+    while (mmio32(frame + 0xc) != fields_of(own_mpidr()))
+        frame += GICR_SIZE;
+    return frame;
+}
+
 void gic_start(void) {
     mmio32(GICD) = 0x30; /* affinity routing in both worlds */
     for (unsigned at = 1; at < 32; at++) {
@@ -22,7 +40,7 @@ void gic_start(void) {
 }
 
 void gic_start_core(unsigned core) {
-    uintptr_t mine = GICR + (uintptr_t)GICR_SIZE * core, private = mine + 0x10000;
+    uintptr_t mine = own_frame(), private = mine + 0x10000;
     mmio32(mine + 0x14) &= ~2u; /* WAKER: the core no longer sleeps */
     while (mmio32(mine + 0x14) & 4) {
     }
@@ -35,14 +53,14 @@ void gic_start_core(unsigned core) {
     write_register(PMR, 0xff);
     write_register(IGRPEN0, 1);
     gic_bell_alone();
+    __atomic_store_n(&bells[core], bell_of(own_mpidr()), __ATOMIC_SEQ_CST);
 }
 
 void gic_bell_alone(void) { write_register(IGRPEN1_EL3, 0); }
 
 void gic_ring(unsigned core) {
-    uint64_t mpidr = mpidr_of(core);
     __asm__ volatile("dsb sy" ::: "memory");
-    write_register(SGI0R, (mpidr >> 8 & 0xff) << 16 | BELL << 24 | 1u << (mpidr & 15));
+    write_register(SGI0R, __atomic_load_n(&bells[core], __ATOMIC_SEQ_CST));
 }
 
 bool gic_answer(void) {

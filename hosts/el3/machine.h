@@ -2,10 +2,10 @@
 #ifndef MACHINE_H
 #define MACHINE_H
 
-#define ROW (GIC * 8 - 8)      /* cores that differ in the lowest field of MPIDR alone: 8 or 16 */
+#define AFFINITY 0xff00ffffff  /* the affinity fields of MPIDR_EL1 */
 #define GICD 0x08000000
 #define GICC 0x08010000        /* version 2 */
-#define GICR 0x080a0000        /* version 3: so many bytes for each core */
+#define GICR 0x080a0000        /* version 3: so many bytes for each core, in any order */
 #define GICR_SIZE 0x20000
 #define UART 0x09040000        /* the secure PL011: QEMU's second -serial */
 #define PINS 0x090b0000        /* the secure PL061: pin 0 powers the machine off, pin 1 resets it */

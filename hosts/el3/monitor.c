@@ -5,7 +5,7 @@
 #include "monitor.h"
 #include "record.h"
 
-enum { CPU_ON = 3, AFFINITY_INFO = 4, FEATURES = 10, NODE_HW_STATE = 13 };
+enum { AFFINITY_INFO = 4, FEATURES = 10 };
 #define SMC64 0x40000000u
 
 /* The function of a word in the range of PSCI. */
@@ -22,24 +22,8 @@ static bool asks_of_smccc(const uint64_t *x) {
     return function_of(x[0]) == FEATURES && (uint32_t)x[1] == SMCCC_VERSION && !(x[0] & SMC64);
 }
 
-static bool names_a_core(unsigned function) {
-    return function == CPU_ON || function == AFFINITY_INFO || function == NODE_HW_STATE;
-}
-
 /* What x1 names, of 32 or 64 bits. */
 static uint64_t named_by(const uint64_t *x) { return x[0] & SMC64 ? x[1] : (uint32_t)x[1]; }
-
-/* x1 as the board has it. The fields below the level that is asked about say nothing, so at the highest
- * level a word names the whole board whether or not it is that of a core. */
-static uint64_t target_of(const uint64_t *x) {
-    unsigned function = function_of(x[0]);
-    uint64_t target = named_by(x);
-    if (!names_a_core(function))
-        return x[1];
-    if (function != CPU_ON && (uint32_t)x[2] == LEVELS - 1)
-        target &= ~0ull << 8 * (LEVELS - 1);
-    return affinity_of(target);
-}
 
 /* The code of a 64-bit function is sign-extended, that of a 32-bit one stands in the low half. */
 static uint64_t register_of(int32_t code, uint64_t word) {
@@ -68,12 +52,13 @@ static void refused(unsigned core, const struct psci_answer *answer) {
 
 /* The answer and, where the core is to stop, how; and the message stands in the mailbox. */
 static void ask(unsigned core, const uint64_t *x, struct psci_answer *answer, struct psci_stop *how) {
+    struct psci_asked asked;
     lock();
     take_acks();
-    psci_smc(&firmware, core, x[0], target_of(x), x[2], x[3], answer);
+    psci_smc_machine(&firmware, &machine, core, x[0], x[1], x[2], x[3], answer, &asked);
     if (answer->what == PSCI_STOP)
         psci_stop(&firmware, core, x[0], how);
-    record_call(core, x, answer);
+    record_call(x, answer);
     post(&answer->message);
     unlock();
 }
@@ -93,16 +78,18 @@ static uint64_t on_call(unsigned core, const uint64_t *x) {
     return 0;
 }
 
-/* It is answered by one load, without the lock: who holds it is not waited for. */
+/* It is answered by one load, without the lock: who holds it is not waited for. So the core's own machine
+ * is asked, too, which no other core reads. */
 static uint64_t on_poll(unsigned core, const uint64_t *x) {
-    int32_t code = psci_poll(&pollers[core], affinity_of(named_by(x)));
-    record_poll(core, x, code);
+    uint16_t target = psci_core_of(&own_machines[core], named_by(x));
+    int32_t code = psci_poll(&pollers[core], target < CORES ? words[target] : ~0ull);
+    record_poll(x, code);
     return register_of(code, x[0]);
 }
 
 void on_unexpected(uint64_t vector, uint64_t esr, uint64_t elr, uint64_t far) {
     COUNT(refused);
-    say("# el3: core %u: exception %u, esr %x, elr %x, far %x\n", this_core(), (unsigned)vector, esr,
+    say("# el3: core %x: exception %u, esr %x, elr %x, far %x\n", own_mpidr(), (unsigned)vector, esr,
         elr, far);
 }
 

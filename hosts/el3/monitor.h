@@ -22,7 +22,7 @@ void wait_for_start(unsigned core, bool wakes);
 enum { PSCI_FEATURES = 0x8400000a, SMCCC_VERSION = 0x80000000 };
 uint64_t answer_beside(const uint64_t *x);
 
-/* start.c: once after each reset of the machine, by core 0. */
+/* start.c: once after each reset of the machine, by the core that boots. */
 void start_machine(void);
 
 /* scp.c */

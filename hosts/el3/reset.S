@@ -1,6 +1,7 @@
 /* Reset, exceptions, and the way between the worlds. Each core begins here, at address 0. */
 #include "context.h"
 #include "machine.h"
+#include "table.h"
 
         .macro  save_context    /* x0 is where it stands */
         stp     x0, x1, [sp, #-CONTEXT_SIZE]!
@@ -30,11 +31,9 @@
         eret
         .endm
 
-        .macro  own_stack a, b  /* the stack of this core, whose number is in TPIDR_EL3 */
+        .macro  own_stack a     /* the stack of this core, whose end is in TPIDR_EL3 */
         mrs     \a, tpidr_el3
-        ldr     \b, =STACKS + STACK
-        add     \b, \b, \a, lsl #STACK_BITS
-        mov     sp, \b
+        mov     sp, \a
         .endm
 
         .section .text.reset, "ax"
@@ -74,7 +73,7 @@ leave_for:
         mov     x2, #0x3c9
         msr     spsr_el3, x2
         mov     x0, x1
-        own_stack x1, x2
+        own_stack x1
         .irp    n, 1,2,3,4,5,6,7,8,9,10,11,12,13,14,15,16,17,18,19,20,21,22,23,24,25,26,27,28,29,30
         mov     x\n, #0
         .endr
@@ -111,14 +110,26 @@ cold:
         msr     cptr_el3, xzr
         msr     mdcr_el3, xzr
         isb
-        mrs     x0, mpidr_el1           /* the number of the core, which is kept in TPIDR_EL3 */
-        and     x1, x0, #0xff
-        ubfx    x0, x0, #8, #8
-        mov     x2, #ROW
-        madd    x0, x0, x2, x1
-        msr     tpidr_el3, x0
-        own_stack x0, x1
+        mrs     x0, mpidr_el1           /* a stack for each core that is listed, whose end is kept */
+        ldr     x1, =AFFINITY           /* in TPIDR_EL3, with room there for the core's number */
+        and     x0, x0, x1
+        adr     x1, listed
+        ldr     x2, =STACKS - 16
+        mov     x3, #CORES + 1
+1:      add     x2, x2, #STACK
+        ldr     x4, [x1], #8
+        cmp     x4, x0
+        b.eq    2f
+        subs    x3, x3, #1
+        b.ne    1b
+0:      wfi                             /* the machine has this core, and it is not used */
+        b       0b
+2:      msr     tpidr_el3, x2
+        own_stack x0
         bl      on_reset
+
+        .balign 8
+listed: .quad   MPIDRS, SCP_MPIDR
 
 #ifdef STRICT                           /* SCTLR_EL3.A: an access that is not aligned is a fault */
         .set    SCTLR, 0x30c5183f

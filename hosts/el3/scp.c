@@ -42,7 +42,7 @@ static void open_door(const struct psci_ctl_start *start) {
  * executes is counted. */
 static void switch_domain(const struct psci_ctl_domain *domain) {
     for (unsigned core = 0; core < CORES; core++)
-        if (core / width_of(domain->level) == domain->index && !stands_still(core)) {
+        if (paths[core][domain->level] == domain->index && !stands_still(core)) {
             COUNT(cuts);
             say("# el3: POWER CUT: core %u executes below domain %u of level %u\n", core,
                 domain->index, domain->level);

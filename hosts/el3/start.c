@@ -1,4 +1,4 @@
-/* What core 0 does after each reset of the machine. A core may have been anywhere: the firmware is made
+/* What the boot core does after each reset of the machine. A core may have been anywhere: the firmware is made
  * anew. The power controller is made once, as the power comes on, and counts lives on. */
 #include "console.h"
 #include "gic.h"
@@ -13,8 +13,8 @@ extern char data_start[], data_end[], data_load[], bss_start[], bss_end[], kept_
 struct kept kept __attribute__((section(".kept")));
 
 /* The heaps, which the library asks as it opens and at no other time. */
-enum { HEAP = 4096 + 1792 * CORES + 32 * CORES * CORES };
-static unsigned char heap[HEAP] __attribute__((aligned(16)));
+enum { HEAP = 4096 + 1792 * CORES + 32 * CORES * CORES, MACHINE_HEAP = 2048 + 64 * CORES };
+static unsigned char heap[HEAP + (CORES + 1) * MACHINE_HEAP] __attribute__((aligned(16)));
 static unsigned char kept_heap[2 * HEAP] __attribute__((aligned(16), section(".kept")));
 
 static void check(const char *what, uint32_t opened) {
@@ -25,11 +25,22 @@ static void check(const char *what, uint32_t opened) {
         wait_for_interrupt();
 }
 
+static void open_machine(struct psci_machine_place *place) {
+    check("the machine", psci_open_machine(place, &board, &described, BOOT));
+}
+
 static void open_firmware(void) {
     pool_give(heap, sizeof heap);
     check("the firmware", psci_open_board(&firmware, &board));
     for (unsigned core = 0; core < CORES; core++)
         check("a poller", psci_open_poller(&firmware, &pollers[core]));
+    unsigned without = pool_taken();
+    open_machine(&machine);
+    for (unsigned core = 0; core < CORES; core++)
+        open_machine(&own_machines[core]);
+    if (kept.boot != WARM)
+        say("# el3: heap of the firmware: %u, and of its machines: %u\n", without,
+            (unsigned)pool_taken() - without);
 }
 
 static void open_controller(void) {
@@ -48,7 +59,5 @@ void start_machine(void) {
     if (!is_warm)
         open_controller();
     open_firmware();
-    if (!is_warm)
-        say("# el3: heap of the firmware: %u of %u\n", (unsigned)pool_taken(), HEAP);
     gic_start();
 }

@@ -96,12 +96,14 @@ class Facts:
         return ["cpu_suspend", "cpu_off", "cpu_on", "system_off", "system_reset"]
 
     def memory(self):
-        """The pieces of memory that the tree has: first address and the one behind."""
+        """The pieces of memory that the tree has, and not of secure memory, which is disabled: first address and
+        the one behind."""
         root, found = self.tree.root, []
         width, size = ((root.cells(name) or [default])[0]
                        for name, default in (("#address-cells", 2), ("#size-cells", 1)))
         for node in root.nodes:
-            if node.string("device_type") != "memory" and node.base != "memory":
+            is_memory = node.string("device_type") == "memory" or node.base == "memory"
+            if not is_memory or not node.is_there():
                 continue
             cells = node.cells("reg")
             for at in range(0, len(cells) - width - size + 1, width + size):

@@ -84,15 +84,20 @@ class Translator:
             raise Wrong(words.place(wrong.at), wrong.text) from wrong
         return self.call(words.line) if words.line.startswith("call ") else words.line
 
+    def core(self, mpidr):
+        """The firmware's number of the core with this MPIDR, or nothing."""
+        found = self.machine.mpidrs
+        return other_core(self.machine, found.index(mpidr)) if mpidr in found else None
+
     def named_core(self, words):
         """A core that is named by its MPIDR."""
         match = re.match(rf"(?:{'|'.join(CORE_EVENTS)}) (0x[0-9a-fA-F]{{1,16}})(?= |$)", words.line)
         if not match:
             return
-        mpidr = int(match[1], 16)
-        if mpidr not in self.machine.mpidrs:
+        core = self.core(int(match[1], 16))
+        if core is None:
             raise Wrong(match.start(1), f"no core of the machine has the MPIDR {match[1]}")
-        words.replace(match, 1, str(other_core(self.machine, self.machine.mpidrs.index(mpidr))))
+        words.replace(match, 1, str(core))
 
     def call(self, line):
         """The plain call, whose registers are those that the firmware is called with."""

@@ -15,20 +15,22 @@ TARGETS = (*AFFINITY_INFO, *CPU_ON, 0x8400000D, 0xC400000D)
 NOBODY, INVALID_PARAMETERS = 2**64 - 1, -2
 
 DEC, HEX = r"(0|[1-9]\d{0,9})", r"(0x[0-9a-f]{1,16})"
+CORE = rf"({DEC[1:-1]}|{HEX[1:-1]})"
 FRAME = rf"((?:[0-9a-f]{{2}}){{1,{FRAME_LEN}}})"
 ANSWER = (r"(return -?\d+|stop|enter 0x[0-9a-f]+ 0x[0-9a-f]+|resume|refused \d+)"
           rf"(?: {FRAME})?")
 START = r"(started \d+|ignored|refused \d+)"
 LINES = {
-    "call": rf"call {DEC} {HEX} {HEX} {HEX} {HEX} -> {ANSWER}",
-    "poll": rf"poll {DEC} {HEX} {HEX} {HEX} -> (?:return (-?\d+)|(refused \d+))",
-    "enter": rf"enter {DEC} {DEC} {DEC} {DEC} -> {ANSWER}",
+    "call": rf"call {CORE} {HEX} {HEX} {HEX} {HEX} -> {ANSWER}",
+    "poll": rf"poll {CORE} {HEX} {HEX} {HEX} -> (?:return (-?\d+)|(refused \d+))",
+    "enter": rf"enter {CORE} {DEC} {DEC} {DEC} -> {ANSWER}",
     "take": rf"take {FRAME} -> (used|old|refused \d+)",
     "deliver": rf"deliver {FRAME} -> (?:{FRAME}|(ignored|refused \d+))",
-    "stands": rf"stands {DEC} {DEC}",
-    "wake": rf"wake {DEC} {DEC} -> {START}",
-    "reset": rf"reset {DEC} -> {START}",
+    "stands": rf"stands {CORE} {DEC}",
+    "wake": rf"wake {CORE} {DEC} -> {START}",
+    "reset": rf"reset {CORE} -> {START}",
 }
+OF_FRAMES = ("take", "deliver")
 PATTERNS = {word: re.compile(pattern) for word, pattern in LINES.items()}
 
 # where it stands in the record, its line of the script, and what the port said
@@ -101,16 +103,18 @@ class Record:
         match = PATTERNS[word].fullmatch(line) if word in PATTERNS else None
         if match is None or self.board is None:
             raise Fault(f"line {at}: not a line of a record")
-        self.at = at
+        self.at, parts = at, list(match.groups())
         try:
-            text, said = getattr(self, word)(*match.groups())
+            if word not in OF_FRAMES:
+                parts[0] = self.numbered(parts[0])
+            text, said = getattr(self, word)(*parts)
         except Impossible as why:
             self.impossible = Event(at, line.partition(" -> ")[0], str(why))
             return False
         if text:
             self.events.append(Event(at, text, said))
         if word in ("call", "enter", "take"):
-            self.polls.event(len(self.events), word, match[1])
+            self.polls.event(len(self.events), word, parts[0])
         return True
 
     def head(self, at, line):
@@ -138,6 +142,24 @@ class Record:
     def highest(self):
         """The highest level of the board, at which there is one domain."""
         return 1 + re.match(r"board (\(*)", self.board)[1].count("(")
+
+    # ---- cores
+
+    def core_of(self, mpidr):
+        """The number of the core that the machine names so, or nothing."""
+        if self.translator:
+            return self.translator.core(mpidr)
+        word = mpidr if self.words is None else self.words.get(mpidr)
+        return self.cores.index(word) if word in self.cores else None
+
+    def numbered(self, core):
+        """The number of a core, as digits, which may be named by its MPIDR, in hexadecimal."""
+        if not core.startswith("0x"):
+            return core
+        found = self.core_of(int(core, 16))
+        if found is None:
+            raise Impossible(f"no core has the MPIDR {core}")
+        return str(found)
 
     # ---- the firmware
 
@@ -179,10 +201,10 @@ class Record:
             raise Impossible("a poll is AFFINITY_INFO of a core, with level 0")
         if refused:
             raise Impossible(f"it was {refused}: no firmware is polled")
-        target = self.named(word, x1)
-        if target in self.cores:
+        target = self.core_of(int(x1, 16) % 2**(64 if word >> 30 & 1 else 32))
+        if target is not None:
             text = f"poll {core} {x0} {x1} {x2}"
-            self.polls.add(self.at, text, core, self.cores.index(target), int(code))
+            self.polls.add(self.at, text, core, target, int(code))
         elif int(code) != INVALID_PARAMETERS:
             raise Impossible(f"it was answered {code}; its target is no core, which is -2")
         return None, None
