@@ -1,11 +1,11 @@
 -- A platform and its histories, for worked examples: four cores with MPIDRs in two fields and with
 -- gaps, of which one of the second cluster boots.
 use Rattle.std.proofs.Common.{ℕ, List, [], ◌∷◌}
-use Rattle.psci_platform.specs.declared.class.Class.TheVariants.{Retention}
+use Rattle.psci_platform.specs.declared.class.Class.TheVariants.{Retention, Standby}
 use Rattle.psci_platform.specs.Described.{DescriptionValue}
 use Rattle.psci_platform.specs.Platforms.{PlatformValue}
 use Rattle.psci_platform.proofs.Machines.{all_functions, calling, checking, describes, down, level}
-use Rattle.psci_platform.proofs.Machines.{row}
+use Rattle.psci_platform.proofs.Machines.{retained, row}
 use Rattle.psci_safe.specs.Claims.{claims, live_claims}
 use Rattle.psci_safe.specs.Moments.{was_powered_down}
 use Rattle.psci_safe.specs.Openings.{openings, taken_up}
@@ -16,8 +16,9 @@ use Rattle.psci_world_laws.specs.psci_world_spec.declared.event.Event.TheVariant
 use Rattle.psci_world_laws.specs.psci_world_spec.declared.said.Record.{Record}
 use Rattle.psci_world_laws.specs.psci_world_spec.declared.said.Said.{Said}
 use Rattle.psci_world_laws.proofs.world_spec.Scripts as scripts
-use Rattle.psci_world_laws.proofs.world_spec.Scripts.{board, call, off}
-use Rattle.psci_platform_safe.specs.Words.{numbered, run_on}
+use Rattle.psci_world_laws.proofs.world_spec.Scripts.{board, call, off, system_reset}
+use Rattle.psci_world_laws.proofs.world_spec.Scripts.{tall as tall_board}
+use Rattle.psci_platform_safe.specs.Words.{legal_for, numbered, run_on}
 
 -- what an example unfolds to compute what is said on a platform, and the sentences
 unfoldable pub computing : Unit {0}
@@ -43,6 +44,26 @@ description = record (describes (0 ∷ 1 ∷ 0x200 ∷ 0x203 ∷ []) 2
 abbrev pub two : PlatformValue
 two = record { description = description; board = board; boot = 0x200; place = 2 }
 
+-- two groups of two clusters of one core, whose MPIDRs fall in the order of the tree: words for
+-- standby, retention and power-down of the core, and for two states or one of each domain above
+abbrev tall_description : DescriptionValue
+tall_description = record (describes (0x10100 ∷ 0x10000 ∷ 0x300 ∷ 0x100 ∷ []) 3
+    (row 0x00000001 (1 ∷ 0 ∷ 0 ∷ 0 ∷ []) ∷ row 0x00000002 (2 ∷ 0 ∷ 0 ∷ 0 ∷ [])
+    ∷ row 0x00010003 (3 ∷ 0 ∷ 0 ∷ 0 ∷ []) ∷ row 0x01000012 (2 ∷ 1 ∷ 0 ∷ 0 ∷ [])
+    ∷ row 0x01010013 (3 ∷ 1 ∷ 0 ∷ 0 ∷ []) ∷ row 0x01010023 (3 ∷ 2 ∷ 0 ∷ 0 ∷ [])
+    ∷ row 0x02010113 (3 ∷ 1 ∷ 1 ∷ 0 ∷ []) ∷ row 0x02010223 (3 ∷ 2 ∷ 2 ∷ 0 ∷ [])
+    ∷ row 0x03001112 (2 ∷ 1 ∷ 1 ∷ 1 ∷ []) ∷ row 0x03012223 (3 ∷ 2 ∷ 2 ∷ 2 ∷ []) ∷ [])) {
+      classes = level (Standby ∷ Retention ∷ []) 13 ∷ retained ∷ retained ∷ retained ∷ [];
+      system = 3 ∷ 2 ∷ 2 ∷ 2 ∷ [];
+      functions = all_functions;
+    }
+
+-- the core with MPIDR 0x100 boots, the last one of the tree: the firmware has 0 for it, 1 for
+-- 0x300,
+-- 2 for 0x10000 and 3 for 0x10100
+abbrev pub tall : PlatformValue
+tall = record { description = tall_description; board = tall_board; boot = 0x100; place = 3 }
+
 -- the boot core asks core 1 on
 abbrev pub on_1 : Event
 on_1 = call 0x200 0xc4000003 1 0x40001000 7
@@ -66,6 +87,10 @@ after events = run_on two [] events
 abbrev pub says : List Record → Event → Said → List Record
 says past event said = record { event = event; said = said } ∷ past
 
+-- the record of an event after these, of which that is said which is legal
+abbrev pub told : PlatformValue → List Record → Event → Record
+told p past event = record { event = event; said = legal_for p past event }
+
 -- core 1 is on
 abbrev pub core_1_on : List Event
 core_1_on = Enter 0x200 ∷ on_1 ∷ Deliver 0 ∷ Enter 1 ∷ []
@@ -73,3 +98,12 @@ core_1_on = Enter 0x200 ∷ on_1 ∷ Deliver 0 ∷ Enter 1 ∷ []
 -- core 1 goes off, is powered down, and the firmware is told
 abbrev pub core_1_off : List Event
 core_1_off = Enter 0x200 ∷ on_1 ∷ Deliver 0 ∷ Enter 1 ∷ off 1 ∷ Deliver 1 ∷ Take 1 ∷ []
+
+-- on the platform of three levels the far core is on
+abbrev pub tall_on : List Event
+tall_on =
+    Enter 0x100 ∷ call 0x100 0xc4000003 0x10100 0x40001000 7 ∷ Deliver 0 ∷ Enter 0x10100 ∷ []
+
+-- in life 2 the boot core has entered
+abbrev pub life_2 : List Event
+life_2 = Enter 0x200 ∷ system_reset 0x200 ∷ Deliver 0 ∷ Enter 0x200 ∷ []

@@ -16,7 +16,17 @@ pub mod Entering
 pub mod Suspended
 -- Worked examples.
 pub mod Histories
+mod Moments
 mod LegalRows
+mod TallRows
 mod OpenedRows
+mod OpenerRows
+mod EntryRows
 mod AskedRows
+mod AskedForRows
+mod StartRows
 mod BrokenRows
+mod BrokenAxisRows
+mod DeeperRows
+mod DeeperAxisRows
+mod ExcuseRows

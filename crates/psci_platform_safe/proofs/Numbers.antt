@@ -38,10 +38,10 @@ pub record Laws (p : PlatformValue) : Type 0 where
 -- What is named --------------------------------------------------------------------------------
 
 -- A core of the tree that a word names at a level has the word's fields from the level up.
-record Found (p : PlatformValue) (word level place : ℕ) : Type 0 where
-  low : level ≤ height p.board
-  inside : place < length p.description.mpidrs
-  fields : slice_index p.description.mpidrs place / 2 ^ (8 * level) ≡ word / 2 ^ (8 * level)
+pub record Found (p : PlatformValue) (word level place : ℕ) : Type 0 where
+  pub low : level ≤ height p.board
+  pub inside : place < length p.description.mpidrs
+  pub fields : slice_index p.description.mpidrs place / 2 ^ (8 * level) ≡ word / 2 ^ (8 * level)
 
 found_if : (p : PlatformValue) (word level place : ℕ) (t : Bool)
     → nat_le level (height p.board) ≡ t
@@ -53,7 +53,7 @@ found_if p word level place true low e =
     record { low = leb-true _ _ low; inside = at.0; fields = eqb-true _ _ at.1 }
 found_if p word level place false low e = absurd (cc)
 
-found : (p : PlatformValue) (word level place : ℕ)
+pub found : (p : PlatformValue) (word level place : ℕ)
     → core_named p.description p.board word level ≡ Some place → Found p word level place
 found p word level place e = found_if p word level place (nat_le level (height p.board)) refl e
 

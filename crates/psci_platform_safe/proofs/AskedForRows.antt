@@ -1,0 +1,234 @@
+-- Worked examples: Downs for which cores had asked, at each level, in both modes, in life 2 and in
+-- a life that is halting.
+use Rattle.std.proofs.Common.{◌≡◌, ◌≤◌, ◌++◌, ℕ, List, [], ◌∷◌, refl, arith}
+use Rattle.psci_platform.specs.Platforms.{PlatformValue}
+use Rattle.psci_world_laws.specs.psci_claims.psci_parts.declared.part.Part.{Part}
+use Rattle.psci_world_laws.specs.psci_messages.declared.kind.Kind.TheVariants.{Down}
+use Rattle.psci_world_laws.specs.psci_messages.Message.{MessageValue}
+use Rattle.psci_world_laws.specs.psci_world_spec.declared.event.Event.{Event}
+use Rattle.psci_world_laws.specs.psci_world_spec.declared.event.Event.TheVariants.{Deliver, Enter}
+use Rattle.psci_world_laws.specs.psci_world_spec.declared.said.Record.{Record}
+use Rattle.psci_world_laws.proofs.world_spec.Scripts.{call, off, part, system_off}
+use Rattle.psci_platform_safe.specs.Asked.{WasAskedFor, asks}
+use Rattle.psci_platform_safe.specs.Names.{domain_above}
+use Rattle.psci_platform_safe.specs.Words.{run_on}
+use Rattle.psci_platform_safe.proofs.Histories.{computing, life_2, on_1, suspend, tall, tall_on}
+use Rattle.psci_platform_safe.proofs.Histories.{told, two}
+use Rattle.psci_platform_safe.proofs.Moments.{apart, of_core}
+
+-- a Down as the firmware sends it: its core, its life and its parts
+abbrev down : ℕ → ℕ → List Part → MessageValue
+down core life parts = record {
+  kind = Down;
+  core = record { number = core };
+  life = life;
+  number = 1;
+  parts = parts;
+}
+
+-- a core below the domain of a level asks at least a depth of its domain of another level
+abbrev Beside : PlatformValue → List Record → ℕ → ℕ → ℕ → ℕ → ℕ → Type 0
+Beside p now mpidr level depth at m =
+    domain_above p m level ≡ domain_above p mpidr level → depth ≤ asks p now m at
+
+-- the far core asks for its group, or for standby
+abbrev group_down : List Event
+group_down = tall_on ++ suspend 0x10100 0x02010223 ∷ []
+
+abbrev core_in_standby : List Event
+core_in_standby = tall_on ++ suspend 0x10100 0x00000001 ∷ []
+
+-- In platform-coordinated mode -------------------------------------------------------------------
+
+-- a group, by both its cores, of which one is off
+group_was_asked : WasAskedFor tall (run_on tall [] (group_down ++ Deliver 1 ∷ [])) 0x10000 2 1 3
+unfolding computing
+group_was_asked = record {
+  later = told tall (run_on tall [] (group_down)) (Deliver 1) ∷ [];
+  r = told tall (run_on tall [] tall_on) (suspend 0x10100 0x02010223);
+  before = run_on tall [] tall_on;
+  split = refl;
+  message = down 3 1 (part 0 3 1 ∷ part 1 3 1 ∷ part 2 3 1 ∷ []);
+  sent = refl;
+  part = part 2 3 1;
+  has = refl;
+  deep = refl;
+  live = refl;
+  asked = λ other beside.
+      let yes : 3 ≤ 3 = omega arith in
+      of_core tall (Beside tall (run_on tall [] group_down) 0x10000 2 3 2) other beside.0 (
+        (λ same. yes),
+        (
+          (λ same. yes),
+          (
+            (λ same. absurd (apart _ _ refl same)),
+            ((λ same. absurd (apart _ _ refl same)), tt),
+          ),
+        ),
+      ) beside.1;
+}
+
+abbrev boot_on : List Event
+boot_on = Enter 0x100 ∷ []
+
+abbrev system_retained : List Event
+system_retained = boot_on ++ suspend 0x100 0x03001112 ∷ []
+
+-- the system, in retention, by the boot core, beside which all are off
+system_was_asked : WasAskedFor tall (run_on tall [] (system_retained ++ Deliver 0 ∷ [])) 0x300 3 1 2
+unfolding computing
+system_was_asked = record {
+  later = told tall (run_on tall [] (system_retained)) (Deliver 0) ∷ [];
+  r = told tall (run_on tall [] boot_on) (suspend 0x100 0x03001112);
+  before = run_on tall [] boot_on;
+  split = refl;
+  message = down 0 1 (part 0 2 1 ∷ part 1 2 1 ∷ part 2 2 1 ∷ part 3 2 1 ∷ []);
+  sent = refl;
+  part = part 3 2 1;
+  has = refl;
+  deep = refl;
+  live = refl;
+  asked = λ other beside.
+      let yes : 2 ≤ 3 = omega arith in
+      let own : 2 ≤ 2 = omega arith in
+      of_core tall (Beside tall (run_on tall [] system_retained) 0x300 3 2 3) other beside.0
+      ((λ same. yes), ((λ same. yes), ((λ same. yes), ((λ same. own), tt)))) beside.1;
+}
+
+-- a core, in standby
+core_was_asked : WasAskedFor tall (run_on tall [] (core_in_standby ++ Deliver 1 ∷ [])) 0x10100 0 1 1
+unfolding computing
+core_was_asked = record {
+  later = told tall (run_on tall [] (core_in_standby)) (Deliver 1) ∷ [];
+  r = told tall (run_on tall [] tall_on) (suspend 0x10100 0x00000001);
+  before = run_on tall [] tall_on;
+  split = refl;
+  message = down 3 1 (part 0 1 1 ∷ []);
+  sent = refl;
+  part = part 0 1 1;
+  has = refl;
+  deep = refl;
+  live = refl;
+  asked = λ other beside.
+      let yes : 1 ≤ 1 = omega arith in
+      of_core tall (Beside tall (run_on tall [] core_in_standby) 0x10100 0 1 0) other beside.0 (
+        (λ same. yes),
+        (
+          (λ same. absurd (apart _ _ refl same)),
+          (
+            (λ same. absurd (apart _ _ refl same)),
+            ((λ same. absurd (apart _ _ refl same)), tt),
+          ),
+        ),
+      ) beside.1;
+}
+
+-- In OS-initiated mode ---------------------------------------------------------------------------
+
+abbrev on_by_the_system : List Event
+on_by_the_system = Enter 0x100 ∷ call 0x100 0x8400000f 1 0 0
+    ∷ call 0x100 0xc4000003 0x10100 0x40001000 7
+    ∷ Deliver 0 ∷ Enter 0x10100 ∷ []
+
+abbrev group_down_by_the_system : List Event
+group_down_by_the_system = on_by_the_system ++ suspend 0x10100 0x02010113 ∷ []
+
+-- the last core asks for the group, and each core for at least as much of itself
+group_was_asked_by_its_last_core : WasAskedFor tall
+    (run_on tall [] (group_down_by_the_system ++ Deliver 1 ∷ [])) 0x10000 2 1 2
+unfolding computing
+group_was_asked_by_its_last_core = record {
+  later = told tall (run_on tall [] (group_down_by_the_system)) (Deliver 1) ∷ [];
+  r = told tall (run_on tall [] on_by_the_system) (suspend 0x10100 0x02010113);
+  before = run_on tall [] on_by_the_system;
+  split = refl;
+  message = down 3 1 (part 0 3 1 ∷ part 1 2 1 ∷ part 2 2 1 ∷ []);
+  sent = refl;
+  part = part 2 2 1;
+  has = refl;
+  deep = refl;
+  live = refl;
+  asked = (
+    (let own : 2 ≤ 2 = omega arith in own),
+    λ other beside.
+        let yes : 2 ≤ 3 = omega arith in
+        of_core tall (Beside tall (run_on tall [] group_down_by_the_system) 0x10000 2 2 0)
+        other beside.0 (
+          (λ same. yes),
+          (
+            (λ same. yes),
+            (
+              (λ same. absurd (apart _ _ refl same)),
+              ((λ same. absurd (apart _ _ refl same)), tt),
+            ),
+          ),
+        ) beside.1,
+  );
+}
+
+-- Lives ------------------------------------------------------------------------------------------
+
+abbrev on_in_life_2 : List Event
+on_in_life_2 = life_2 ++ on_1 ∷ Deliver 1 ∷ Enter 1 ∷ []
+
+abbrev off_in_life_2 : List Event
+off_in_life_2 = on_in_life_2 ++ off 1 ∷ []
+
+-- in life 2 the cluster of core 1, which goes off
+cluster_was_asked_in_life_2 : WasAskedFor two
+    (run_on two [] (off_in_life_2 ++ Deliver 2 ∷ [])) 0 1 2 3
+unfolding computing
+cluster_was_asked_in_life_2 = record {
+  later = told two (run_on two [] (off_in_life_2)) (Deliver 2) ∷ [];
+  r = told two (run_on two [] on_in_life_2) (off 1);
+  before = run_on two [] on_in_life_2;
+  split = refl;
+  message = down 3 2 (part 0 3 1 ∷ part 1 3 1 ∷ []);
+  sent = refl;
+  part = part 1 3 1;
+  has = refl;
+  deep = refl;
+  live = refl;
+  asked = λ other beside.
+      let yes : 3 ≤ 3 = omega arith in
+      of_core two (Beside two (run_on two [] off_in_life_2) 0 1 3 1) other beside.0 (
+        (λ same. yes),
+        (
+          (λ same. yes),
+          (
+            (λ same. absurd (apart _ _ refl same)),
+            ((λ same. absurd (apart _ _ refl same)), tt),
+          ),
+        ),
+      ) beside.1;
+}
+
+-- a group whose Down is carried out once the life is halting
+group_was_asked_before_halting : WasAskedFor tall
+    (run_on tall [] (group_down ++ system_off 0x100 ∷ Deliver 1 ∷ [])) 0x10100 2 1 3
+unfolding computing
+group_was_asked_before_halting = record {
+  later = told tall (run_on tall [] (group_down ++ system_off 0x100 ∷ [])) (Deliver 1) ∷ told tall
+      (run_on tall [] (group_down)) (system_off 0x100) ∷ [];
+  r = told tall (run_on tall [] tall_on) (suspend 0x10100 0x02010223);
+  before = run_on tall [] tall_on;
+  split = refl;
+  message = down 3 1 (part 0 3 1 ∷ part 1 3 1 ∷ part 2 3 1 ∷ []);
+  sent = refl;
+  part = part 2 3 1;
+  has = refl;
+  deep = refl;
+  live = refl;
+  asked = λ other beside.
+      let yes : 3 ≤ 3 = omega arith in
+      of_core tall (Beside tall (run_on tall [] group_down) 0x10100 2 3 2) other beside.0 (
+        (λ same. yes),
+        (
+          (λ same. yes),
+          (
+            (λ same. absurd (apart _ _ refl same)),
+            ((λ same. absurd (apart _ _ refl same)), tt),
+          ),
+        ),
+      ) beside.1;
+}
