@@ -12,7 +12,7 @@ ghost use Rattle.psci_shared.specs.Locked.{IsDone};
 ghost use Rattle.psci_shared.specs.Passes.{Fits, item};
 
 use crate::done::{Done, Said};
-use crate::entry::{FwEntry, FwItem, quiet};
+use crate::entry::{FwEntry, FwItem, quiet, sending, sent_from};
 use psci_fw::{Act, Firmware, FwCall, FwFault, FwReply, Reaction};
 use psci_status::Core;
 
@@ -134,16 +134,18 @@ fn record<A>(
         × (vec_capacity items.new ≡ vec_capacity items.old) }
 {
     match reacted {
-        Ok(Reaction { act, slot: None }) => {
-            items.push_reserved(FwItem::of(place, call.copy(), FwReply::Out(quiet(act))));
-            entries.push_reserved(FwEntry::of(ticket, core, call, FwReply::Out(quiet(act))));
-        }
-        Ok(reaction) => {
-            let reply = FwReply::Out(firmware.outcome(reaction));
-            items.push_reserved(FwItem::of(place, call.copy(), reply));
-            let reply = FwReply::Out(firmware.outcome(reaction));
-            entries.push_reserved(FwEntry::of(ticket, core, call, reply));
-        }
+        Ok(Reaction { act, slot }) => match sent_from(firmware, slot) {
+            None => {
+                items.push_reserved(FwItem::of(place, call.copy(), FwReply::Out(quiet(act))));
+                entries.push_reserved(FwEntry::of(ticket, core, call, FwReply::Out(quiet(act))));
+            }
+            Some(message) => {
+                let reply = FwReply::Out(sending(act, message));
+                items.push_reserved(FwItem::of(place, call.copy(), reply));
+                let reply = FwReply::Out(sending(act, message));
+                entries.push_reserved(FwEntry::of(ticket, core, call, reply));
+            }
+        },
         Err(fault) => {
             items.push_reserved(FwItem::of(place, call.copy(), FwReply::Fault(fault)));
             entries.push_reserved(FwEntry::of(ticket, core, call, FwReply::Fault(fault)));
