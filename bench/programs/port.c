@@ -1,6 +1,6 @@
-/* What a port takes for the pairs of calls of lock.c: the firmware of psci.h, which keeps no book, behind a
+/* What a port takes for the pairs of calls of tfa.c: the firmware of psci.h, which keeps no book, behind a
  * test-and-set lock of the port's own. One, two and four threads, each a core of its own, suspend to the system and
- * are woken.
+ * are woken; no other core runs.
  *   port PAIRS      the pairs of all threads together; prints thousands of pairs a second, and what a poll takes
  *                   while another thread calls, in nanoseconds */
 #include "pool.h"
@@ -68,14 +68,14 @@ static double seconds(void) {
     return (double)now.tv_sec + (double)now.tv_nsec * 1e-9;
 }
 
-/* Every core of the board runs. */
-static void open_all(void) {
+/* So many cores of the board run. */
+static void open_cores(unsigned count) {
     static const uint64_t words[CORES] = {0x000, 0x001, 0x100, 0x101};
     memset(starts, 0, sizeof starts);
     if (psci_open(&firmware, (const uint8_t *)board, strlen(board)) != PSCI_OPENED)
         exit(1);
     enter(0, PSCI_BOOT);
-    for (uint16_t core = 1; core < CORES; core++) {
+    for (uint16_t core = 1; core < count; core++) {
         smc(0, 0xc4000003, words[core], 0x40001000, 7);
         enter(core, PSCI_ON);
     }
@@ -83,7 +83,7 @@ static void open_all(void) {
 
 static void timed(unsigned long pairs, unsigned count) {
     pthread_t threads[CORES];
-    open_all();
+    open_cores(count);
     pairs_of_each = pairs / count;
     double begun = seconds();
     for (uintptr_t k = 0; k < count; k++)
@@ -99,7 +99,7 @@ static void polled(void) {
     struct psci_poller poller = {0};
     pthread_t thread;
     uint32_t on = 0;
-    open_all();
+    open_cores(CORES);
     if (psci_open_poller(&firmware, &poller) != PSCI_OPENED)
         exit(1);
     pthread_create(&thread, NULL, turns_until_done, (void *)(uintptr_t)3);

@@ -12,7 +12,7 @@ ghost use Rattle.psci_shared.specs.Locked.{IsDone};
 ghost use Rattle.psci_shared.specs.Passes.{Fits, item};
 
 use crate::done::{Done, Said};
-use crate::entry::{FwEntry, FwItem, quiet};
+use crate::entry::{FwEntry, FwItem, quiet, sending, sent_from};
 use psci_fw::{Act, Firmware, FwCall, FwFault, FwReply, Reaction};
 use psci_status::Core;
 
@@ -67,15 +67,15 @@ pub(crate) fn ask_for<A>(
     match call {
         FwCall::Smc(regs) => {
             let reacted = firmware.smc_in_slot(core, regs);
-            record::<A>(firmware, entries, items, place, ticket, core, call, reacted);
+            let named = record::<A>(firmware, entries, items, place, ticket, core, call, reacted);
             Done {
-                named: asked_in(firmware, reacted),
+                named,
                 said: Said::Reacted(reacted),
             }
         }
         FwCall::Enter(start) => {
             let reacted = firmware.enter_in_slot(core, start);
-            record::<A>(firmware, entries, items, place, ticket, core, call, reacted);
+            let _asked = record::<A>(firmware, entries, items, place, ticket, core, call, reacted);
             Done {
                 named: reacted.is_ok().then_some(core),
                 said: Said::Reacted(reacted),
@@ -95,23 +95,8 @@ pub(crate) fn ask_for<A>(
     }
 }
 
-/// The core that a secure monitor call asks on, whose message stands in its slot.
-fn asked_in(firmware: &Firmware, reacted: Result<Reaction, FwFault>) -> Option<Core>
-    ensures { MatchResult reacted
-        (λ r. result ≡ asked_by (outcome_in firmware.now.board (seen firmware.now) r))
-        (λ _. result ≡ None) }
-{
-    let reaction = reacted.ok()?;
-    match (reaction.act, reaction.slot) {
-        (Act::Return(_), Some(number)) => {
-            firmware.outstanding(number).map(|message| message.core)
-        }
-        _ => None,
-    }
-}
-
-/// Writes down what came of a call. A message is copied from its slot, and where there is none,
-/// none is.
+/// Writes down what came of a call, and returns the core that it asks on. A message is copied from
+/// its slot, and where there is none, none is.
 fn record<A>(
     firmware: &Firmware,
     entries: &mut Vec<FwEntry>,
@@ -121,7 +106,7 @@ fn record<A>(
     core: Core,
     call: FwCall,
     reacted: Result<Reaction, FwFault>,
-)
+) -> Option<Core>
     requires room { (vec_len entries.old < vec_capacity entries.old)
         × (vec_len items.old < vec_capacity items.old) }
     ensures entries { entries.new.items ≡ entries.old.items ++ entry ticket core call
@@ -132,21 +117,32 @@ fn record<A>(
         × (vec_len items.new ≡ vec_len items.old + 1) }
     ensures same_room { (vec_capacity entries.new ≡ vec_capacity entries.old)
         × (vec_capacity items.new ≡ vec_capacity items.old) }
+    ensures asked { MatchResult reacted
+        (λ r. result ≡ asked_by (outcome_in firmware.now.board (seen firmware.now) r))
+        (λ _. result ≡ None) }
 {
     match reacted {
-        Ok(Reaction { act, slot: None }) => {
-            items.push_reserved(FwItem::of(place, call.copy(), FwReply::Out(quiet(act))));
-            entries.push_reserved(FwEntry::of(ticket, core, call, FwReply::Out(quiet(act))));
-        }
-        Ok(reaction) => {
-            let reply = FwReply::Out(firmware.outcome(reaction));
-            items.push_reserved(FwItem::of(place, call.copy(), reply));
-            let reply = FwReply::Out(firmware.outcome(reaction));
-            entries.push_reserved(FwEntry::of(ticket, core, call, reply));
-        }
+        Ok(Reaction { act, slot }) => match sent_from(firmware, slot) {
+            None => {
+                items.push_reserved(FwItem::of(place, call.copy(), FwReply::Out(quiet(act))));
+                entries.push_reserved(FwEntry::of(ticket, core, call, FwReply::Out(quiet(act))));
+                None
+            }
+            Some(message) => {
+                let reply = FwReply::Out(sending(act, message));
+                items.push_reserved(FwItem::of(place, call.copy(), reply));
+                let reply = FwReply::Out(sending(act, message));
+                entries.push_reserved(FwEntry::of(ticket, core, call, reply));
+                match act {
+                    Act::Return(_) => Some(message.core),
+                    _ => None,
+                }
+            }
+        },
         Err(fault) => {
             items.push_reserved(FwItem::of(place, call.copy(), FwReply::Fault(fault)));
             entries.push_reserved(FwEntry::of(ticket, core, call, FwReply::Fault(fault)));
+            None
         }
     }
 }

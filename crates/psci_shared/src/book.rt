@@ -83,9 +83,9 @@ impl<N: Named> FwBook<N> {
         Ok(reply)
     }
 
-    /// The same for a pass, in whose list the call goes as well; the message stays in its slot. `A`
-    /// is for the compiler, as in all that is done under the lock: so each kind of call has its
-    /// own.
+    /// The same for a pass where neither book nor pass is full; the call goes into its list as well,
+    /// and the message stays in its slot. `A` is for the compiler, as in all that is done under the
+    /// lock: so each kind of call has its own.
     #[tactic(auto, using(crate::proofs::Histories::history_more))]
     pub(crate) fn carry_out<A>(
         &mut self,
@@ -94,24 +94,19 @@ impl<N: Named> FwBook<N> {
         ticket: u64,
         core: Core,
         call: FwCall,
-    ) -> Result<Done, BookFull>
-        requires place { place ≡ length self.old.entries }
-        requires room { vec_len items.old < vec_capacity items.old }
-        ensures done { IfOk result (λ done. IsDone core call
+    ) -> Done
+        requires room { (length self.old.entries < self.old.room)
+            × (vec_len items.old < vec_capacity items.old) }
+        ensures done { IsDone core call
             (answer_after N.board self.old.entries core.number call) N.board
-            (values_of N.board (history_of self.new.entries)) done) }
-        ensures book { OnOk result (self.new ≡ entered self.old
-            (entry ticket core call (answer_after N.board self.old.entries core.number call))) }
-        ensures items { OnOk result (items.new.items ≡ items.old.items
-            ++ item place call (answer_after N.board self.old.entries core.number call) ∷ []) }
-        ensures room { OnOk result ((vec_len items.new ≡ vec_len items.old + 1)
-            × (vec_capacity items.new ≡ vec_capacity items.old)) }
-        ensures full { OnErr result ((length self.old.entries ≡ self.old.room)
-            × (self.new ≡ self.old) × (items.new ≡ items.old)) }
+            (values_of N.board (history_of self.new.entries)) result }
+        ensures book { self.new ≡ entered self.old
+            (entry ticket core call (answer_after N.board self.old.entries core.number call)) }
+        ensures items { items.new.items ≡ items.old.items
+            ++ item place call (answer_after N.board self.old.entries core.number call) ∷ [] }
+        ensures more { (vec_len items.new ≡ vec_len items.old + 1)
+            × (vec_capacity items.new ≡ vec_capacity items.old) }
     {
-        if self.entries.len() == self.room as usize {
-            return Err(BookFull);
-        }
         law_values();
         let FwBook {
             firmware,
@@ -119,7 +114,7 @@ impl<N: Named> FwBook<N> {
             room: _,
             of: _,
         } = self;
-        Ok(ask_for::<A>(firmware, entries, items, place, ticket, core, call))
+        ask_for::<A>(firmware, entries, items, place, ticket, core, call)
     }
 
     /// The reply to the last call, of which this was said.

@@ -4,7 +4,7 @@ ghost use Rattle.std.specs.Prelude.{◌≡◌};
 ghost use Rattle.psci_fw.specs.Seen.{seen};
 ghost use Rattle.psci_shared.specs.Locked.{reply_said};
 
-use crate::entry::quiet;
+use crate::entry::{quiet, sending, sent_from};
 use psci_fw::{Firmware, FwFault, FwReply, Reaction, Taken};
 use psci_status::Core;
 
@@ -31,8 +31,10 @@ pub(crate) fn reply_of(firmware: &Firmware, said: Said) -> FwReply
     ensures { result ≡ reply_said firmware.now.board (seen firmware.now) said }
 {
     match said {
-        Said::Reacted(Ok(Reaction { act, slot: None })) => FwReply::Out(quiet(act)),
-        Said::Reacted(Ok(reaction)) => FwReply::Out(firmware.outcome(reaction)),
+        Said::Reacted(Ok(Reaction { act, slot })) => match sent_from(firmware, slot) {
+            None => FwReply::Out(quiet(act)),
+            Some(message) => FwReply::Out(sending(act, message)),
+        },
         Said::Reacted(Err(fault)) => FwReply::Fault(fault),
         Said::Taken(taken) => FwReply::Taken(taken),
     }

@@ -1,10 +1,13 @@
 //! What a book and a pass keep of a call.
 
-ghost use Rattle.std.specs.Prelude.{◌≡◌, None};
+ghost use Rattle.std.specs.Prelude.{◌≡◌, None, Some, option_map};
+ghost use Rattle.psci_fw.specs.Reactions.{sent_from};
+ghost use Rattle.psci_fw.specs.Seen.{seen};
 ghost use Rattle.psci_shared.specs.Books.{entry};
 ghost use Rattle.psci_shared.specs.Passes.{item};
 
-use psci_fw::{Act, FwCall, FwReply, Outcome};
+use psci_fw::{Act, Firmware, FwCall, FwReply, Outcome};
+use psci_messages::Message;
 use psci_status::Core;
 
 /// A call of the firmware, as its book keeps it.
@@ -64,4 +67,25 @@ pub(crate) fn quiet(act: Act) -> Outcome
     ensures { result ≡ record { act = act; message = None } }
 {
     Outcome { act, message: None }
+}
+
+/// An outcome that sends a message, which is copied from where it stands.
+pub(crate) fn sending(act: Act, message: &Message) -> Outcome
+    ensures { result ≡ record { act = act; message = Some message.now } }
+{
+    Outcome {
+        act,
+        message: Some(message.copy()),
+    }
+}
+
+/// The message that stands in a slot, where one is named.
+pub(crate) fn sent_from(firmware: &Firmware, slot: Option<u16>) -> Option<&Message>
+    ensures { option_map (λ message. message.now) result
+        ≡ sent_from firmware.now.board (seen firmware.now) slot }
+{
+    match slot {
+        Some(number) => firmware.outstanding(number),
+        None => None,
+    }
 }

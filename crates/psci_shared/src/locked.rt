@@ -100,24 +100,19 @@ impl<N: Named> FwLocked<N> {
             total,
             rest: _,
         } = self;
+        // no pass's list has more items than the book has entries, so it is not full before it
         total.audit(&mut pass.share);
         let place = book.len();
-        if pass.items.len() == pass.room as usize {
+        if place == book.room() {
             pass.told_full = true;
             return Err(BookFull);
         }
         let before = book.life();
-        match book.carry_out::<A>(&mut pass.items, place, ticket, pass.core, call) {
-            Ok(Done { named, said }) => {
-                total.add(&mut pass.share, 1);
-                write_all::<N, A>(words, writer, book, before, named, *count);
-                words.meet(writer, &mut pass.reader);
-                Ok(book.reply_of(said))
-            }
-            Err(BookFull) => {
-                pass.told_full = true;
-                Err(BookFull)
-            }
-        }
+        let done = book.carry_out::<A>(&mut pass.items, place, ticket, pass.core, call);
+        let Done { named, said } = done;
+        total.add(&mut pass.share, 1);
+        write_all::<N, A>(words, writer, book, before, named, *count);
+        words.meet(writer, &mut pass.reader);
+        Ok(book.reply_of(said))
     }
 }

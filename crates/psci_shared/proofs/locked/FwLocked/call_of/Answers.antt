@@ -15,19 +15,19 @@ write_all-requires-clause-behind g c =
     let old = c.args.self.now in (
       old.book.entries,
       _,
-      ap (λ (k : BookView). k.entries) c.in-Ok.ensures.book,
+      ap (λ (k : BookView). k.entries) c.carry_out-done.ensures.book,
       c.life-before.ensures,
-      c.in-Ok.ensures.done.1,
+      c.carry_out-done.ensures.done.1,
       old.written,
     )
 
-pub invariant_of-self-in-Ok-clause-written : goal.invariant_of-self-in-Ok-clause-written
-invariant_of-self-in-Ok-clause-written g c =
-    written_on _ _ _ _ _ _ _ _ c.in-Ok.ensures.book c.life-before.ensures c.args.self.now.written
+pub invariant_of-self-2-clause-written : goal.invariant_of-self-2-clause-written
+invariant_of-self-2-clause-written g c =
+    written_on _ _ _ _ _ _ _ _ c.carry_out-done.ensures.book c.life-before.ensures c.args.self.now.written
     c.write_all.ensures.log c.meet.ensures.log
 
-pub returns-in-Ok-clause-entered : goal.returns-in-Ok-clause-entered
-returns-in-Ok-clause-entered g c = (
+pub returns-clause-entered : goal.returns-clause-entered
+returns-clause-entered g c = (
   search rules,
   (map newest (written c.write_all.new.writer), search rules),
   search rules,
