@@ -157,7 +157,7 @@ el3_live() {
     live affinity-1 --machine hosts/el3/machines/affinity-1.machine each boot-core idle suspend-5
     live affinity-1-osi --machine hosts/el3/machines/affinity-1.machine --mode osi each boot-core idle
     live_fault wrong-boot-core "event 1, "
-    live_fault wrong-mpidr "the proved program: return 0 #0 start "
+    live_fault wrong-mpidr "the proved program: return 0 #1 start 2 "
     live sixteen --board "((4 4) (4 4)) $rest lives 65535" boot-core idle
     [ -e "$cache/kexec/fetched" ] || { skip "kexec at EL3" "$cache/kexec"; return; }
     live kexec each kexec each boot-core idle suspend-5
