@@ -58,6 +58,18 @@ el3_machines() {
     if cmp -s "$work/out" hosts/el3/machines/four.machine; then pass; else fail "hosts/el3/machine text"; fi
     hosts/el3/machine text "((4 4) (4 4)) $rest" > "$work/out" 2>&1
     if cmp -s "$work/out" hosts/el3/machines/sixteen.machine; then pass; else fail "hosts/el3/machine text"; fi
+    machine_refuses "a number in decimal" text "(2 x) exec"
+    sed 's/0x200/0x210/' hosts/el3/machines/affinity-1.machine > "$work/far.machine"
+    machine_refuses "QEMU has rows of 16 cores" table "$work/far.machine"
+    sed 's/^boot 0x300/boot 0x301/' hosts/el3/machines/affinity-1.machine > "$work/far.machine"
+    machine_refuses "machine fault 4" table "$work/far.machine"
+}
+
+# machine_refuses TEXT WORD..: hosts/el3/machine ends with 1, and says this
+machine_refuses() {
+    local status=0
+    hosts/el3/machine "${@:2}" > "$work/out" 2>&1 || status=$?
+    if [ $status = 1 ] && grep -qF -- "$1" "$work/out"; then pass; else fail "hosts/el3/machine ${*:2}"; fi
 }
 
 # spoiled STATUS TEXT SED-SCRIPT: the short record, changed by sed
@@ -145,7 +157,7 @@ el3_live() {
     live affinity-1 --machine hosts/el3/machines/affinity-1.machine each boot-core idle suspend-5
     live affinity-1-osi --machine hosts/el3/machines/affinity-1.machine --mode osi each boot-core idle
     live_fault wrong-boot-core "event 1, "
-    live_fault wrong-mpidr "the proved program: return 0 #0 start "
+    live_fault wrong-mpidr "the proved program: return 0 #1 start 2 "
     live sixteen --board "((4 4) (4 4)) $rest lives 65535" boot-core idle
     [ -e "$cache/kexec/fetched" ] || { skip "kexec at EL3" "$cache/kexec"; return; }
     live kexec each kexec each boot-core idle suspend-5

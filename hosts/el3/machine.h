@@ -9,16 +9,12 @@
 #define GICR_SIZE 0x20000
 #define UART 0x09040000        /* the secure PL011: QEMU's second -serial */
 #define PINS 0x090b0000        /* the secure PL061: pin 0 powers the machine off, pin 1 resets it */
-#define MEMORY 0x40000000      /* of the normal world */
-#define MEMORY_END 0x60000000
-#define KERNEL 0x40200000      /* where the boot core enters, */
-#define DEVICE_TREE 0x47000000 /* and what it gets in x0 */
+#define DEVICE_TREE 0x47000000 /* what the boot core gets in x0 */
 
 /* Memory that the normal world can't reach. A reset of the machine leaves what it holds. */
 #define SECURE_MEMORY 0x0e000000
 #define STACKS 0x0e200000
-#define STACK (1 << STACK_BITS) /* of each core */
-#define STACK_BITS 14
+#define STACK 0x4000 /* of each core */
 #define RECORD_START 0x0e400000
 #define RECORD_END 0x0f000000
 
