@@ -92,6 +92,17 @@ off_not_down_in_life_2 down =
     (record { core = (1, refl); domain = refl })).down in
     absurd (cc)
 
+off_not_down_by_the_system : OffIsDown two
+    (says (after (Enter 0x200 ∷ call 0x200 0x8400000f 1 0 0 ∷ on_1 ∷ Deliver 0 ∷ Enter 1 ∷ off 1
+    ∷ [])) (status_of 0x200 1 0) (value 1)) → ⊥
+unfolding computing
+off_not_down_by_the_system down =
+    let no : false ≡ true =
+    (down 1 0 1
+    (record { caller = 0x200; regs = _; sent = _; event = refl; asks = refl; said = refl })
+    (record { core = (1, refl); domain = refl })).down in
+    absurd (cc)
+
 off_not_down_while_halting : OffIsDown two
     (says (after (core_1_on ++ off 1 ∷ system_off 0x200 ∷ [])) (status_of 0x200 1 0) (value 1)) → ⊥
 unfolding computing
@@ -222,5 +233,14 @@ unfolding computing
 standby_while_halting real =
     let no : false ≡ true =
     (real 1 0 1 (record { core = (1, refl); domain = refl })).1
+    (record { caller = 0x200; regs = _; sent = _; event = refl; asks = refl; said = refl }) in
+    absurd (cc)
+
+boot_core_off_and_on : StatesWereReal two
+    (says (after (Enter 0x200 ∷ [])) (state_of 0x200 0x200 0) (value 1)) → ⊥
+unfolding computing
+boot_core_off_and_on real =
+    let no : false ≡ true =
+    (real 0x200 0 0x200 (record { core = (2, refl); domain = refl })).0
     (record { caller = 0x200; regs = _; sent = _; event = refl; asks = refl; said = refl }) in
     absurd (cc)

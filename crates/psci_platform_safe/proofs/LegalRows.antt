@@ -7,7 +7,7 @@ use Rattle.psci_world_laws.specs.psci_fw_spec.declared.outcome.Act.TheVariants a
 use Rattle.psci_world_laws.specs.psci_messages.declared.kind.Kind.TheVariants.{Down, Start}
 use Rattle.psci_world_laws.specs.psci_world_spec.declared.event.Event.{Event}
 use Rattle.psci_world_laws.specs.psci_world_spec.declared.event.Event.TheVariants.{Deliver, Enter}
-use Rattle.psci_world_laws.specs.psci_world_spec.declared.event.Event.TheVariants.{Take}
+use Rattle.psci_world_laws.specs.psci_world_spec.declared.event.Event.TheVariants.{Reset, Take}
 use Rattle.psci_world_laws.specs.psci_world_spec.declared.said.Record.{Record}
 use Rattle.psci_world_laws.specs.psci_world_spec.declared.said.Said.{Said}
 use Rattle.psci_world_laws.specs.psci_world_spec.declared.said.Said.TheVariants.{Fw}
@@ -88,6 +88,11 @@ its_numbers : reverse (map (λ (r : Record). r.event) (numbered two (after core_
     ≡ Enter 0 ∷ on_3 ∷ Deliver 0 ∷ Enter 3 ∷ off 3 ∷ Deliver 1 ∷ Take 1 ∷ []
 unfolding computing
 its_numbers = refl
+
+its_reset : map (λ (r : Record). r.event) (numbered two (after (Enter 0x200 ∷ Reset 1 ∷ [])))
+    ≡ Reset 3 ∷ Enter 0 ∷ []
+unfolding computing
+its_reset = refl
 
 -- an MPIDR that no core has: INVALID_PARAMETERS (-2)
 gap_asked_on : said_of (Enter 0x200 ∷ call 0x200 0xc4000003 2 0x40001000 7 ∷ [])

@@ -17,10 +17,14 @@ pub mod Suspended
 -- Worked examples.
 pub mod Histories
 mod Moments
+mod Openings
 mod LegalRows
 mod TallRows
+mod HoldsRows
+mod ClaimedRows
 mod OpenedRows
 mod OpenerRows
+mod WaitRows
 mod EntryRows
 mod AskedRows
 mod AskedForRows
