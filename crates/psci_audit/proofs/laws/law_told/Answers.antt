@@ -1,7 +1,7 @@
 -- Legal lists are the lists of legal runs.
-use Rattle.psci_audit_spec.proofs.Following.{legal_run}
-use Rattle.psci_audit_spec.proofs.Only.{legal_list}
-use Rattle.psci_audit_spec.proofs.laws.law_told.Goals as goal
+use Rattle.psci_audit.proofs.MayFollow.{legal_run}
+use Rattle.psci_audit.proofs.Only.{legal_list}
+use Rattle.psci_audit.proofs.laws.law_told.Goals as goal
 
 pub returns : goal.returns
 returns c = record {

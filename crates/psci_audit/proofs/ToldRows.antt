@@ -21,11 +21,11 @@ use Rattle.psci_world_spec.specs.declared.said.Record.{Record}
 use Rattle.psci_world_spec.specs.declared.said.Said.TheVariants.{Fw, Kick, Acked, Ignored, Taken}
 use Rattle.psci_world_spec.specs.declared.said.Said.TheVariants.{Absent}
 use Rattle.psci_world_spec.proofs.Scripts.{board, computing}
-use Rattle.psci_audit_spec.specs.Entries.{Entry, Asked, Controlled}
-use Rattle.psci_audit_spec.specs.Told.{Tells, asked, controlled}
-use Rattle.psci_audit_spec.proofs.ListRows.{ack_3, boots, delivers_3, enters, not_woken, on_3}
-use Rattle.psci_audit_spec.proofs.ListRows.{resets, start, start_3, start_number, takes_3}
-use Rattle.psci_audit_spec.proofs.ListRows.{version, wakes}
+use Rattle.psci_audit.specs.Entries.{Entry, Asked, Controlled}
+use Rattle.psci_audit.specs.Told.{Tells, asked, controlled}
+use Rattle.psci_audit.proofs.ListRows.{ack_3, boots, delivers_3, enters, not_woken, on_3}
+use Rattle.psci_audit.proofs.ListRows.{resets, start, start_3, start_number, takes_3}
+use Rattle.psci_audit.proofs.ListRows.{version, wakes}
 
 -- the boot core enters
 abbrev entered : Record

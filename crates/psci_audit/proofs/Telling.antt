@@ -23,11 +23,11 @@ use Rattle.psci_world_spec.specs.Histories.{call, control, delivered, entered, o
 use Rattle.psci_world_spec.specs.Histories.{ack_in, sent_in}
 use Rattle.psci_world_spec.specs.Places as places
 use Rattle.psci_world_spec.specs.Places.{place_controlled, place_said}
-use Rattle.psci_audit_spec.specs.Entries.{Entry, Asked, Controlled, acks, asked_in, controlled_in}
-use Rattle.psci_audit_spec.specs.Entries.{controller_history, firmware_history, made_by, place}
-use Rattle.psci_audit_spec.specs.Entries.{place_by, sent, sent_by}
-use Rattle.psci_audit_spec.specs.Legal.{Now, now}
-use Rattle.psci_audit_spec.specs.Told.{IsTold, Tells}
+use Rattle.psci_audit.specs.Entries.{Entry, Asked, Controlled, acks, asked_in, controlled_in}
+use Rattle.psci_audit.specs.Entries.{controller_history, firmware_history, made_by, place}
+use Rattle.psci_audit.specs.Entries.{place_by, sent, sent_by}
+use Rattle.psci_audit.specs.Legal.{Now, now}
+use Rattle.psci_audit.specs.Told.{IsTold, Tells}
 
 -- One record -----------------------------------------------------------------------------------
 

@@ -29,7 +29,7 @@ use Rattle.psci_world_spec.specs.Legal.{IsLegalPast}
 use Rattle.psci_world_spec.specs.Lists.{indexed}
 use Rattle.psci_world_spec.specs.Places.{place}
 use Rattle.psci_headline.specs.Safe.{AlwaysSafe}
-use Rattle.psci_audit_spec.specs.Entries.{Entry, Asked, Controlled}
+use Rattle.psci_audit.specs.Entries.{Entry, Asked, Controlled}
 
 -- a call of the firmware, with its reply
 abbrev pub asked : ℕ → FwCall → FwReply → FwExchange

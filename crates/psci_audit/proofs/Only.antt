@@ -37,13 +37,13 @@ use Rattle.psci_world_spec.specs.Legal.{if_started, if_stopped, legal}
 use Rattle.psci_world_spec.specs.Legal.{said_by, take}
 use Rattle.psci_world_spec.specs.Lists.{indexed}
 use Rattle.psci_world_spec.specs.Places.{place}
-use Rattle.psci_audit_spec.specs.Entries.{Entry, Asked, Controlled}
-use Rattle.psci_audit_spec.specs.Legal.{IsLegal, MayAsk, MayBe, MayControl, MayFollow}
-use Rattle.psci_audit_spec.specs.Legal.{MayWake, Now}
-use Rattle.psci_audit_spec.specs.Told.{IsListOf, IsTold, Tells}
-use Rattle.psci_audit_spec.proofs.Reading.{at_core, delivery_said, is_delivery, is_kick, is_out}
-use Rattle.psci_audit_spec.proofs.Reading.{kick_said}
-use Rattle.psci_audit_spec.proofs.Telling.{now_of, same_now}
+use Rattle.psci_audit.specs.Entries.{Entry, Asked, Controlled}
+use Rattle.psci_audit.specs.Legal.{IsLegal, MayAsk, MayBe, MayControl, MayFollow}
+use Rattle.psci_audit.specs.Legal.{MayWake, Now}
+use Rattle.psci_audit.specs.Told.{IsListOf, IsTold, Tells}
+use Rattle.psci_audit.proofs.Reading.{at_core, delivery_said, is_delivery, is_kick, is_out}
+use Rattle.psci_audit.proofs.Reading.{kick_said}
+use Rattle.psci_audit.proofs.Telling.{now_of, same_now}
 
 -- Calls of the firmware ------------------------------------------------------------------------
 

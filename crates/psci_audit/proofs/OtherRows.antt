@@ -17,11 +17,11 @@ use Rattle.psci_world_spec.specs.psci_messages.declared.start.Cause.TheVariants 
 use Rattle.psci_world_spec.specs.psci_messages.declared.taken.Taken.TheVariants as takens
 use Rattle.psci_world_spec.specs.psci_messages.Message.{AckValue, MessageValue}
 use Rattle.psci_world_spec.proofs.Scripts.{board, part}
-use Rattle.psci_audit_spec.specs.Entries.{Entry, Asked, Controlled}
-use Rattle.psci_audit_spec.specs.Legal.{IsLegal}
-use Rattle.psci_audit_spec.specs.Told.{asked, controlled}
-use Rattle.psci_audit_spec.proofs.ListRows.{ack_3, boots, delivers_3, enters, judging, on_3, resets}
-use Rattle.psci_audit_spec.proofs.ListRows.{start, start_3, takes_3, version, wakes}
+use Rattle.psci_audit.specs.Entries.{Entry, Asked, Controlled}
+use Rattle.psci_audit.specs.Legal.{IsLegal}
+use Rattle.psci_audit.specs.Told.{asked, controlled}
+use Rattle.psci_audit.proofs.ListRows.{ack_3, boots, delivers_3, enters, judging, on_3, resets}
+use Rattle.psci_audit.proofs.ListRows.{start, start_3, takes_3, version, wakes}
 
 -- a core calls the function of this word, stops, and sends a message
 abbrev stops : ℕ → ℕ → MessageValue → Entry

@@ -38,12 +38,12 @@ use Rattle.psci_world_spec.specs.Legal.{if_started, if_stopped, legal, legal_rec
 use Rattle.psci_world_spec.specs.Legal.{said_by, said_of, take}
 use Rattle.psci_world_spec.specs.Lists.{indexed}
 use Rattle.psci_world_spec.specs.Places.{place}
-use Rattle.psci_audit_spec.specs.Entries.{Entry, Asked, Controlled}
-use Rattle.psci_audit_spec.specs.Legal.{IsLegal, IsOutcome, MayAsk, MayBe, MayControl, MayFollow}
-use Rattle.psci_audit_spec.specs.Legal.{MayWake, Now}
-use Rattle.psci_audit_spec.specs.Told.{IsListOf, IsTold, Tells, asked, controlled}
-use Rattle.psci_audit_spec.proofs.Reading.{on_core, same_outcome}
-use Rattle.psci_audit_spec.proofs.Telling.{now_of, same_now}
+use Rattle.psci_audit.specs.Entries.{Entry, Asked, Controlled}
+use Rattle.psci_audit.specs.Legal.{IsLegal, IsOutcome, MayAsk, MayBe, MayControl, MayFollow}
+use Rattle.psci_audit.specs.Legal.{MayWake, Now}
+use Rattle.psci_audit.specs.Told.{IsListOf, IsTold, Tells, asked, controlled}
+use Rattle.psci_audit.proofs.Reading.{on_core, same_outcome}
+use Rattle.psci_audit.proofs.Telling.{now_of, same_now}
 
 -- some event tells the entry next
 pub record IsNext (b : BoardValue) (past : List Record) (e : Entry) : Type 0 where

@@ -18,10 +18,10 @@ use Rattle.psci_world_spec.specs.psci_messages.declared.start.Start.{Start}
 use Rattle.psci_world_spec.specs.psci_messages.declared.taken.Taken.TheVariants as takens
 use Rattle.psci_world_spec.specs.psci_messages.Message.{AckValue, MessageValue}
 use Rattle.psci_world_spec.proofs.Scripts.{board, computing}
-use Rattle.psci_audit_spec.specs.Entries.{Entry, Asked, Controlled, acks, controller_history}
-use Rattle.psci_audit_spec.specs.Entries.{firmware_history, place, sent}
-use Rattle.psci_audit_spec.specs.Legal.{IsLegal, MayFollow}
-use Rattle.psci_audit_spec.specs.Told.{asked, controlled}
+use Rattle.psci_audit.specs.Entries.{Entry, Asked, Controlled, acks, controller_history}
+use Rattle.psci_audit.specs.Entries.{firmware_history, place, sent}
+use Rattle.psci_audit.specs.Legal.{IsLegal, MayFollow}
+use Rattle.psci_audit.specs.Told.{asked, controlled}
 
 -- what an example unfolds to judge a list that is written out
 unfoldable pub judging : Unit {0}

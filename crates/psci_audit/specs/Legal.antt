@@ -18,8 +18,8 @@ use Rattle.psci_world_spec.specs.psci_messages.Message.{AckValue, MessageValue}
 use Rattle.psci_world_spec.specs.declared.place.Place.{Place}
 use Rattle.psci_world_spec.specs.declared.place.Place.TheVariants.{Started, Running, Stopped}
 use Rattle.psci_world_spec.specs.Lists.{indexed}
-use Rattle.psci_audit_spec.specs.Entries.{Entry, Asked, Controlled, acks, controller_values}
-use Rattle.psci_audit_spec.specs.Entries.{firmware_values, place, sent}
+use Rattle.psci_audit.specs.Entries.{Entry, Asked, Controlled, acks, controller_values}
+use Rattle.psci_audit.specs.Entries.{firmware_values, place, sent}
 
 -- What a list says, as far as the next entry is judged by it.
 pub record Now : Type 0 where
