@@ -2,16 +2,16 @@
 use Rattle.std.proofs.Common.{◌≡◌, List, [], ◌∷◌, ◌++◌, Option, None, Some, reverse, refl, ap, sym}
 use Rattle.std.proofs.Common.{◌∙◌, subst}
 use Rattle.std.proofs.lemmas.List.{reverse-append}
-use Rattle.psci_machine.specs.psci_board.Board.{BoardValue}
-use Rattle.psci_machine.specs.psci_fw_spec.Said.{listed}
-use Rattle.psci_machine.specs.psci_messages.Message.{AckValue, MessageValue}
+use Rattle.psci_fw.specs.psci_board.Board.{BoardValue}
+use Rattle.psci_fw.specs.psci_fw_spec.Said.{listed}
+use Rattle.psci_fw.specs.psci_messages.Message.{AckValue, MessageValue}
 use Rattle.psci_world_spec.specs.declared.event.Event.{Event}
 use Rattle.psci_world_spec.specs.declared.said.Record.{Record}
 use Rattle.psci_world_spec.specs.declared.said.Said.{Said}
 use Rattle.psci_world_spec.specs.Histories.{ack_in, acks, sent, sent_in}
 use Rattle.psci_world_spec.specs.Legal.{legal, legal_record}
 use Rattle.psci_machine.specs.Seen.{IsAfter, machine_board}
-use Rattle.psci_present.specs.Seen.{HasPast, IsPresent, PresentValue}
+use Rattle.psci_machine.specs.Present.{HasPast, IsPresent, PresentValue}
 
 pub first_present : (b : BoardValue) (p : PresentValue) → IsAfter b [] p.machine
     → p.messages ≡ [] → p.acks ≡ [] → IsPresent b [] p

@@ -5,10 +5,10 @@ use Rattle.std.proofs.Common.{get_or}
 use Rattle.std.specs.Prelude.{slice_get}
 use Rattle.std.proofs.lemmas.List.{get_or-reverse, length-reverse}
 use Rattle.std.proofs.lemmas.Option.{get_or_from_slice_get, slice_get-get_or, slice_get_within}
-use Rattle.psci_machine.specs.psci_board.Board.{BoardValue}
-use Rattle.psci_machine.specs.psci_ctl_spec.Legal.{IsOfBoard}
+use Rattle.psci_fw.specs.psci_board.Board.{BoardValue}
+use Rattle.psci_ctl.specs.psci_ctl_spec.Legal.{IsOfBoard}
 use Rattle.psci_headline.specs.psci_fw_laws.Messages.{IsSound}
-use Rattle.psci_machine.specs.psci_messages.Message.{MessageValue}
+use Rattle.psci_fw.specs.psci_messages.Message.{MessageValue}
 
 -- an item of a list from its other end is one of the list
 from_the_end : (xs : List MessageValue) (k : ℕ) (x : MessageValue)

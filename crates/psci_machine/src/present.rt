@@ -1,8 +1,10 @@
 //! The present of a world.
 
 use crate::kept::{keep_ack, keep_message};
+use crate::machine::Machine;
+use psci_ctl::{Ack, Board, Memory, Message};
 use psci_headline::{law_messages, law_sent};
-use psci_machine::{Ack, Board, Event, Machine, Memory, Message, Said, law_histories};
+use psci_world_spec::{Event, Said, law_histories};
 use std::alloc::Global;
 use std::marker::Model;
 
@@ -18,7 +20,7 @@ pub struct Present {
 }
 
 impl Model for Present {
-    ghost use Rattle.psci_present.specs.Seen.{HasPast, PresentValue};
+    ghost use Rattle.psci_machine.specs.Present.{HasPast, PresentValue};
 
     ghost Value = { PresentValue };
 
@@ -36,10 +38,10 @@ impl Model for Present {
 }
 
 ghost use Rattle.std.specs.Prelude.{◌≡◌, [], ◌∷◌, IfOk, OnOk, OnErr, List};
-ghost use Rattle.psci_machine.specs.psci_board.Board.{BoardValue};
+ghost use Rattle.psci_fw.specs.psci_board.Board.{BoardValue};
 ghost use Rattle.psci_world_spec.specs.declared.said.Record.{Record};
 ghost use Rattle.psci_world_spec.specs.Legal.{legal, legal_record};
-ghost use Rattle.psci_present.specs.Seen.{IsPresent};
+ghost use Rattle.psci_machine.specs.Present.{IsPresent};
 
 impl Present {
     /// The present of this board, before any event: the power controller is in its first life, the

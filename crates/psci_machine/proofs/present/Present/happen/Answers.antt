@@ -1,12 +1,12 @@
 -- After an event it is the present of one record more.
 use Rattle.std.proofs.Common.{◌∙◌, subst, sym}
-use Rattle.psci_machine.specs.psci_fw_spec.Sent.{sent_messages}
+use Rattle.psci_fw.specs.psci_fw_spec.Sent.{sent_messages}
 use Rattle.psci_machine.specs.Seen.{machine_board}
 use Rattle.psci_world_spec.specs.Histories.{firmware_history, sent}
-use Rattle.psci_present.specs.Seen.{IsPresent}
-use Rattle.psci_present.proofs.Booked.{sent_of_board}
-use Rattle.psci_present.proofs.Presents.{happens, has_past}
-use Rattle.psci_present.proofs.present.Present.happen.Goals as goal
+use Rattle.psci_machine.specs.Present.{IsPresent}
+use Rattle.psci_machine.proofs.Booked.{sent_of_board}
+use Rattle.psci_machine.proofs.Presents.{happens, has_past}
+use Rattle.psci_machine.proofs.present.Present.happen.Goals as goal
 
 pub step-said-requires : goal.step-said-requires
 step-said-requires c =

@@ -1,9 +1,9 @@
 -- A new present is that of no records.
 use Rattle.std.proofs.Common.{[], subst, sym}
-use Rattle.psci_machine.specs.psci_board.Board.{BoardValue}
-use Rattle.psci_present.specs.Seen.{IsPresent, PresentValue}
-use Rattle.psci_present.proofs.Presents.{first_present}
-use Rattle.psci_present.proofs.present.Present.new.Goals as goal
+use Rattle.psci_fw.specs.psci_board.Board.{BoardValue}
+use Rattle.psci_machine.specs.Present.{IsPresent, PresentValue}
+use Rattle.psci_machine.proofs.Presents.{first_present}
+use Rattle.psci_machine.proofs.present.Present.new.Goals as goal
 
 pub returns : goal.returns
 returns c = first_present c.args.board.now _ c.in_ok-new.ensures.after c.new-2.ensures.items

@@ -1,10 +1,11 @@
 //! What the world keeps of what was said: each message and each acknowledgement.
 
 ghost use Rattle.std.specs.Prelude.{◌≡◌, ◌<◌, ◌++◌, IsOk, OnOk, vec_capacity, vec_len};
-ghost use Rattle.psci_machine.specs.psci_fw_spec.Said.{listed};
+ghost use Rattle.psci_fw.specs.psci_fw_spec.Said.{listed};
 ghost use Rattle.psci_world_spec.specs.Histories.{ack_in, sent_in};
 
-use psci_machine::{Ack, Memory, Message, Said};
+use psci_ctl::{Ack, Memory, Message};
+use psci_world_spec::Said;
 
 /// Keeps the message that was sent, if one was.
 pub fn keep_message(messages: &mut Vec<Message>, said: &Said) -> Result<(), Memory>

@@ -1,7 +1,7 @@
 -- What the present of a world is seen as, and what holds of it.
 use Rattle.std.specs.Prelude.{◌≡◌, List, reverse}
-use Rattle.psci_machine.specs.psci_board.Board.{BoardValue}
-use Rattle.psci_machine.specs.psci_messages.Message.{AckValue, MessageValue}
+use Rattle.psci_fw.specs.psci_board.Board.{BoardValue}
+use Rattle.psci_fw.specs.psci_messages.Message.{AckValue, MessageValue}
 use Rattle.psci_machine.specs.Seen.{IsAfter, MachineValue, machine_board}
 use Rattle.psci_world_spec.specs.declared.said.Record.{Record}
 use Rattle.psci_world_spec.specs.Histories.{acks, sent}
