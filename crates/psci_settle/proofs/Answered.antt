@@ -26,8 +26,8 @@ use Rattle.psci_world_laws.proofs.fw_laws.Consequences.{once_down}
 use Rattle.psci_world_laws.proofs.fw_laws.Parts.{updated_at}
 use Rattle.psci_settle.specs.Waiting.{IsTold, WasTold}
 use Rattle.psci_settle.proofs.Taking.{HasName, IsEmptied, IsNamedOnce, named, still_or}
-use Rattle.psci_complete.specs.Confirming.{AreConfirming, IsConfirmedOr, IsOffOr, IsOutstanding}
-use Rattle.psci_complete.specs.Confirming.{IsYetToCome}
+use Rattle.psci_settle.specs.Confirming.{AreConfirming, IsConfirmedOr, IsOffOr, IsOutstanding}
+use Rattle.psci_settle.specs.Confirming.{IsYetToCome}
 
 -- what an acknowledgement says of a message that was sent, it says of the one that it answers
 told_of : (b : BoardValue) (starts : ℕ → ℕ) (depth : ℕ → ℕ → ℕ) (a : AckValue)

@@ -26,10 +26,10 @@ use Rattle.psci_world_laws.specs.psci_fw_laws.KnownBelow.{KnownLaws}
 use Rattle.psci_world_laws.specs.psci_fw_laws.Messages.{is_system}
 use Rattle.psci_world_laws.proofs.fw_laws.Parts.{updated_at}
 use Rattle.psci_settle.proofs.Slots.{put_system}
-use Rattle.psci_complete.specs.Confirming.{AreConfirming}
-use Rattle.psci_complete.proofs.Beside.{AreBeside, IsFlat, all_domains, arrived, arrived_flat}
-use Rattle.psci_complete.proofs.Beside.{claims, phased, rested, runs}
-use Rattle.psci_complete.proofs.Coming.{on_path, yet_still}
+use Rattle.psci_settle.specs.Confirming.{AreConfirming}
+use Rattle.psci_settle.proofs.Beside.{AreBeside, IsFlat, all_domains, arrived, arrived_flat}
+use Rattle.psci_settle.proofs.Beside.{claims, phased, rested, runs}
+use Rattle.psci_settle.proofs.Coming.{on_path, yet_still}
 
 -- A core goes on or halts ----------------------------------------------------------------------
 

@@ -4,7 +4,7 @@ use Rattle.std.proofs.Common.{◌≡◌, [], ◌∷◌, refl}
 use Rattle.psci_world_laws.specs.psci_world_spec.declared.event.Event.TheVariants.{Deliver, Enter}
 use Rattle.psci_world_laws.specs.psci_world_spec.declared.event.Event.TheVariants.{Wake}
 use Rattle.psci_world_laws.proofs.world_spec.Scripts.{board, off, on_3, retention, system_reset}
-use Rattle.psci_complete.proofs.Telling.{computing, failing, settles}
+use Rattle.psci_settle.proofs.Untold.{computing, failing, settles}
 
 -- Later lives -----------------------------------------------------------------------------------
 

@@ -23,9 +23,9 @@ use Rattle.psci_world_laws.specs.psci_world_spec.Legal.{IsLegalPast}
 use Rattle.psci_world_laws.proofs.Agreeing.{found_other, found_own}
 use Rattle.psci_settle.specs.Drained.{AreAtRest}
 use Rattle.psci_settle.specs.Settling.{halts_in, is_halting}
-use Rattle.psci_complete.specs.Complete.{IsToldWhole}
-use Rattle.psci_complete.specs.Confirming.{AreConfirming, Confirming, IsYetToCome}
-use Rattle.psci_complete.proofs.Confirmed.{RunLaws}
+use Rattle.psci_settle.specs.Complete.{IsToldWhole}
+use Rattle.psci_settle.specs.Confirming.{AreConfirming, Confirming, IsYetToCome}
+use Rattle.psci_settle.proofs.Confirmed.{RunLaws}
 
 -- The life -------------------------------------------------------------------------------------
 

@@ -10,7 +10,7 @@ use Rattle.psci_world_laws.specs.psci_messages.Slots.{Slot, OfCore}
 use Rattle.psci_world_laws.specs.psci_fw_spec.Values.{updated}
 use Rattle.psci_world_laws.specs.psci_fw_laws.KnownBelow.{KnownLaws, known_below}
 use Rattle.psci_world_laws.proofs.fw_laws.Parts.{updated_there}
-use Rattle.psci_complete.specs.Confirming.{IsYetToCome}
+use Rattle.psci_settle.specs.Confirming.{IsYetToCome}
 
 -- Paths ----------------------------------------------------------------------------------------
 

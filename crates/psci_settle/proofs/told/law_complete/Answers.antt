@@ -1,14 +1,14 @@
--- What is told after every legal run.
+-- Where firmware and power controller agree, all is told.
 use Rattle.std.proofs.Common.{subst, sym}
 use Rattle.psci_world_laws.specs.psci_fw_laws.Kept.{Holds}
 use Rattle.psci_world_laws.specs.psci_world_spec.Histories.{firmware_history, firmware_values}
 use Rattle.psci_world_laws.proofs.world_spec.Answered.{firmware_legal}
-use Rattle.psci_complete.proofs.Confirmed.{confirming}
-use Rattle.psci_complete.proofs.laws.law_confirming.Goals as goal
+use Rattle.psci_settle.proofs.Whole.{whole}
+use Rattle.psci_settle.proofs.told.law_complete.Goals as goal
 
 pub returns : goal.returns
-returns c = λ b past board.
-    confirming b past (record {
+returns c = λ b past board legal awake rest.
+    whole b past (record {
       sums = c.law_known_below.ensures.sums b board;
       paths = c.law_paths.ensures b board;
       firmware = record {
@@ -20,4 +20,6 @@ returns c = λ b past board.
           (c.law_kept.ensures.kept b (firmware_history b p) board (firmware_legal b p is));
       agree = λ p. c.law_agreement.ensures b p board;
       waits = λ p. c.law_waiting.ensures b p board;
-    })
+    }) legal awake rest (c.law_confirming.ensures b past board legal)
+    (c.law_invariant.ensures.legal b (firmware_history b past) board
+    (firmware_legal b past legal))

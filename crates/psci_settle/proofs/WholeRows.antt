@@ -6,7 +6,7 @@ use Rattle.psci_world_laws.specs.psci_world_spec.declared.event.Event.TheVariant
 use Rattle.psci_world_laws.specs.psci_world_spec.declared.event.Event.TheVariants.{Take}
 use Rattle.psci_world_laws.proofs.world_spec.Scripts.{board, call, off, on_3, one_core, retention}
 use Rattle.psci_world_laws.proofs.world_spec.Scripts.{system_reset, tall}
-use Rattle.psci_complete.proofs.Telling.{computing, failing, settles}
+use Rattle.psci_settle.proofs.Untold.{computing, failing, settles}
 
 -- Platform-coordinated mode ---------------------------------------------------------------------
 

@@ -8,7 +8,7 @@ use Rattle.psci_world_laws.specs.psci_world_spec.declared.event.Event.TheVariant
 use Rattle.psci_world_laws.specs.psci_world_spec.declared.event.Event.TheVariants.{Take, Wake}
 use Rattle.psci_world_laws.proofs.world_spec.Scripts.{board, off, on_3, retention, value}
 use Rattle.psci_world_laws.proofs.world_spec.Scripts.{version}
-use Rattle.psci_complete.proofs.Telling.{Hw, IsAway, IsOff, IsUntold, after, at, computing, says}
+use Rattle.psci_settle.proofs.Untold.{Hw, IsAway, IsOff, IsUntold, after, at, computing, says}
 
 -- Start 2 ---------------------------------------------------------------------------------------
 

@@ -26,9 +26,9 @@ use Rattle.psci_world_laws.specs.psci_fw_laws.KnownBelow.{KnownLaws, known_below
 use Rattle.psci_world_laws.specs.psci_fw_laws.Messages.{known_on}
 use Rattle.psci_world_laws.proofs.fw_laws.Parts.{updated_here, updated_there}
 use Rattle.psci_settle.proofs.Slots.{clear_there, put_here, put_there}
-use Rattle.psci_complete.specs.Confirming.{AreConfirming, IsConfirmedOr, IsOffOr, IsOutstanding}
-use Rattle.psci_complete.specs.Confirming.{IsYetToCome}
-use Rattle.psci_complete.proofs.Coming.{not_at, on_path, other_core, sum_beside, yet_still}
+use Rattle.psci_settle.specs.Confirming.{AreConfirming, IsConfirmedOr, IsOffOr, IsOutstanding}
+use Rattle.psci_settle.specs.Confirming.{IsYetToCome}
+use Rattle.psci_settle.proofs.Coming.{not_at, on_path, other_core, sum_beside, yet_still}
 
 -- What is told of the domains beside a core's path, and of the other cores.
 pub record AreBeside (b : BoardValue) (starts : ℕ → ℕ) (v : Values) (c : ℕ) : Type 0 where

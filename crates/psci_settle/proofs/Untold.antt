@@ -17,7 +17,7 @@ use Rattle.psci_world_laws.specs.psci_world_spec.Places.{place}
 use Rattle.psci_world_laws.proofs.world_spec.Scripts as scripts
 use Rattle.psci_settle.specs.Settling.{begun, is_halting, is_started, is_waiting, round, rounds}
 use Rattle.psci_settle.specs.Settling.{settled}
-use Rattle.psci_complete.specs.Complete.{IsToldWhole}
+use Rattle.psci_settle.specs.Complete.{IsToldWhole}
 
 unfoldable pub computing : Unit {0}
 unfolding scripts.computing settled begun round is_waiting rounds

@@ -12,8 +12,8 @@ use Rattle.psci_world_laws.specs.psci_world_spec.declared.said.Record.{Record}
 use Rattle.psci_world_laws.specs.psci_world_spec.Histories.{firmware_values}
 use Rattle.psci_world_laws.specs.psci_world_spec.Legal.{run_from}
 use Rattle.psci_world_laws.proofs.world_spec.Scripts.{acked, call, one_core}
-use Rattle.psci_complete.specs.Confirming.{Confirming}
-use Rattle.psci_complete.proofs.Telling.{after, computing, says}
+use Rattle.psci_settle.specs.Confirming.{Confirming}
+use Rattle.psci_settle.proofs.Untold.{after, computing, says}
 
 -- the Down of a core that asks for standby is acknowledged as stale, though no core was started
 abbrev never_confirmed : List Record

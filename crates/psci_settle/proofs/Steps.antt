@@ -28,11 +28,11 @@ use Rattle.psci_world_laws.proofs.fw_laws.Arriving.{found_life}
 use Rattle.psci_world_laws.proofs.Agreeing.{found_other, found_own}
 use Rattle.psci_settle.specs.Waiting.{WasTold}
 use Rattle.psci_headline.proofs.Records.{IsOfRecord}
-use Rattle.psci_complete.specs.Confirming.{AreConfirming}
-use Rattle.psci_complete.proofs.Answered.{answered}
-use Rattle.psci_complete.proofs.Beside.{pends}
-use Rattle.psci_complete.proofs.Coming.{yet_later}
-use Rattle.psci_complete.proofs.Effects.{enters, goes_on, halts, parks, rests, stops, stops_at_once}
+use Rattle.psci_settle.specs.Confirming.{AreConfirming}
+use Rattle.psci_settle.proofs.Answered.{answered}
+use Rattle.psci_settle.proofs.Beside.{pends}
+use Rattle.psci_settle.proofs.Coming.{yet_later}
+use Rattle.psci_settle.proofs.Effects.{enters, goes_on, halts, parks, rests, stops, stops_at_once}
 
 -- What is told in this life, where there is one.
 abbrev pub ConfirmingNow : BoardValue → controlled.Values → Values → Type 0

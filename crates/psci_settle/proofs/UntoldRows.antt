@@ -14,7 +14,7 @@ use Rattle.psci_world_laws.specs.psci_world_spec.Legal.{run_from}
 use Rattle.psci_world_laws.proofs.world_spec.Scripts.{acked, board, call, off, on_3, retention}
 use Rattle.psci_world_laws.proofs.world_spec.Scripts.{system_off, system_reset, tall, value}
 use Rattle.psci_world_laws.proofs.world_spec.Scripts.{version}
-use Rattle.psci_complete.proofs.Telling.{Hw, IsAway, IsOff, IsUntold, after, at, computing, says}
+use Rattle.psci_settle.proofs.Untold.{Hw, IsAway, IsOff, IsUntold, after, at, computing, says}
 
 -- Says ON of what is asleep ---------------------------------------------------------------------
 

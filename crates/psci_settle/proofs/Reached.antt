@@ -20,7 +20,7 @@ use Rattle.psci_settle.proofs.Going.{IsGoing, goes_on, out_now}
 use Rattle.psci_settle.proofs.Resting.{at_rest}
 use Rattle.psci_settle.proofs.Standing.{SettleLaws}
 use Rattle.psci_settle.proofs.Starts.{HasBegun, has_begun}
-use Rattle.psci_complete.proofs.Whole.{LifeGoesOn, going_life}
+use Rattle.psci_settle.proofs.Whole.{LifeGoesOn, going_life}
 
 -- no Down was delivered before the first round
 first_count : (b : BoardValue) (before : List Record) (life : ℕ) (past : List Record) (k : ℕ)

@@ -7,8 +7,8 @@ use Rattle.psci_settle.specs.Settling.{settled}
 use Rattle.psci_settle.proofs.BoardLaws.{BoardLaws, is_given}
 use Rattle.psci_settle.proofs.Sources.{live_depth}
 use Rattle.psci_settle.proofs.Standing.{IsDeeper}
-use Rattle.psci_complete.proofs.Reached.{reached}
-use Rattle.psci_complete.proofs.laws.law_told_whole.Goals as goal
+use Rattle.psci_settle.proofs.Reached.{reached}
+use Rattle.psci_settle.proofs.told.law_told_whole.Goals as goal
 
 pub returns : goal.returns
 returns c = λ b past board is awake.

@@ -9,7 +9,7 @@ use Rattle.psci_world_laws.specs.psci_world_spec.declared.event.Event.TheVariant
 use Rattle.psci_world_laws.specs.psci_world_spec.declared.event.Event.TheVariants.{Take}
 use Rattle.psci_world_laws.proofs.world_spec.Scripts.{board, call, off, on_3, retention}
 use Rattle.psci_world_laws.proofs.world_spec.Scripts.{system_reset, value, version}
-use Rattle.psci_complete.proofs.Telling.{Hw, IsAway, IsOff, IsUntold, after, at, computing, says}
+use Rattle.psci_settle.proofs.Untold.{Hw, IsAway, IsOff, IsUntold, after, at, computing, says}
 
 -- Life 3 ----------------------------------------------------------------------------------------
 

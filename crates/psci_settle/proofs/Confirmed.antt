@@ -34,8 +34,8 @@ use Rattle.psci_world_laws.proofs.world_spec.Answered.{firmware_legal}
 use Rattle.psci_world_laws.specs.Agreement.{Agree}
 use Rattle.psci_settle.specs.Waiting.{Waiting}
 use Rattle.psci_headline.proofs.Moves.{FirmwareLaws, moves}
-use Rattle.psci_complete.specs.Confirming.{Confirming}
-use Rattle.psci_complete.proofs.Steps.{ConfirmingNow, controlled_by, effect, first_now}
+use Rattle.psci_settle.specs.Confirming.{Confirming}
+use Rattle.psci_settle.proofs.Steps.{ConfirmingNow, controlled_by, effect, first_now}
 
 -- What the laws below say of a board and of its legal pasts.
 pub record RunLaws (b : BoardValue) : Type 0 where
