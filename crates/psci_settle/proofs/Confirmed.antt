@@ -1,37 +1,37 @@
 -- What is told after every legal run.
 use Rattle.std.proofs.Common.{◌≡◌, List, [], ◌∷◌, ◌++◌, Option, None, Some}
 use Rattle.std.proofs.Common.{subst, sym}
-use Rattle.psci_world_laws.specs.psci_board.Board.{BoardValue}
-use Rattle.psci_world_laws.specs.psci_board.Laws.{PathLaws}
-use Rattle.psci_world_laws.specs.psci_ctl_spec.Changes.{after}
-use Rattle.psci_world_laws.specs.psci_ctl_spec.Changes as controlling
-use Rattle.psci_world_laws.specs.psci_ctl_spec.Effects.{effect_of}
-use Rattle.psci_world_laws.specs.psci_ctl_spec.Exchange.{CtlExchange}
-use Rattle.psci_world_laws.specs.psci_ctl_spec.History as controls
-use Rattle.psci_world_laws.specs.psci_ctl_spec.Values as controlled
-use Rattle.psci_world_laws.proofs.ctl_spec.OneMore.{values_more}
-use Rattle.psci_world_laws.specs.psci_messages.Message.{AckValue, MessageValue}
-use Rattle.psci_world_laws.specs.psci_fw_spec.History as remembers
-use Rattle.psci_world_laws.specs.psci_fw_spec.Lives.{start_of_life}
-use Rattle.psci_world_laws.specs.psci_fw_spec.Values.{Values}
-use Rattle.psci_world_laws.specs.psci_fw_laws.Kept.{Holds}
-use Rattle.psci_world_laws.specs.psci_fw_laws.KnownBelow.{KnownLaws}
-use Rattle.psci_world_laws.specs.psci_world_spec.declared.event.Event.{Event}
-use Rattle.psci_world_laws.specs.psci_world_spec.declared.event.Event.TheVariants.{Call, Enter}
-use Rattle.psci_world_laws.specs.psci_world_spec.declared.event.Event.TheVariants.{Wake, Reset}
-use Rattle.psci_world_laws.specs.psci_world_spec.declared.event.Event.TheVariants.{Deliver, Take}
-use Rattle.psci_world_laws.specs.psci_world_spec.declared.said.Record.{Record}
-use Rattle.psci_world_laws.specs.psci_world_spec.declared.said.Said.{Said}
-use Rattle.psci_world_laws.specs.psci_world_spec.declared.said.Said.TheVariants.{Acked}
-use Rattle.psci_world_laws.specs.psci_world_spec.declared.said.Said.TheVariants.{Kick as Kicked}
-use Rattle.psci_world_laws.specs.psci_world_spec.Histories.{acks, call, control}
-use Rattle.psci_world_laws.specs.psci_world_spec.Histories.{controller_history, controller_values}
-use Rattle.psci_world_laws.specs.psci_world_spec.Histories.{delivered, firmware_history}
-use Rattle.psci_world_laws.specs.psci_world_spec.Histories.{firmware_values, sent}
-use Rattle.psci_world_laws.specs.psci_world_spec.Legal.{IsLegalPast}
-use Rattle.psci_world_laws.specs.psci_world_spec.Lists.{indexed}
-use Rattle.psci_world_laws.proofs.world_spec.Answered.{firmware_legal}
-use Rattle.psci_world_laws.specs.Agreement.{Agree}
+use Rattle.psci_headline.specs.psci_board.Board.{BoardValue}
+use Rattle.psci_headline.specs.psci_board.Laws.{PathLaws}
+use Rattle.psci_headline.specs.psci_ctl_spec.Changes.{after}
+use Rattle.psci_headline.specs.psci_ctl_spec.Changes as controlling
+use Rattle.psci_headline.specs.psci_ctl_spec.Effects.{effect_of}
+use Rattle.psci_headline.specs.psci_ctl_spec.Exchange.{CtlExchange}
+use Rattle.psci_headline.specs.psci_ctl_spec.History as controls
+use Rattle.psci_headline.specs.psci_ctl_spec.Values as controlled
+use Rattle.psci_headline.proofs.ctl_spec.OneMore.{values_more}
+use Rattle.psci_headline.specs.psci_messages.Message.{AckValue, MessageValue}
+use Rattle.psci_headline.specs.psci_fw_spec.History as remembers
+use Rattle.psci_headline.specs.psci_fw_spec.Lives.{start_of_life}
+use Rattle.psci_headline.specs.psci_fw_spec.Values.{Values}
+use Rattle.psci_headline.specs.psci_fw_laws.Kept.{Holds}
+use Rattle.psci_headline.specs.psci_fw_laws.KnownBelow.{KnownLaws}
+use Rattle.psci_headline.specs.psci_world_spec.declared.event.Event.{Event}
+use Rattle.psci_headline.specs.psci_world_spec.declared.event.Event.TheVariants.{Call, Enter}
+use Rattle.psci_headline.specs.psci_world_spec.declared.event.Event.TheVariants.{Wake, Reset}
+use Rattle.psci_headline.specs.psci_world_spec.declared.event.Event.TheVariants.{Deliver, Take}
+use Rattle.psci_headline.specs.psci_world_spec.declared.said.Record.{Record}
+use Rattle.psci_headline.specs.psci_world_spec.declared.said.Said.{Said}
+use Rattle.psci_headline.specs.psci_world_spec.declared.said.Said.TheVariants.{Acked}
+use Rattle.psci_headline.specs.psci_world_spec.declared.said.Said.TheVariants.{Kick as Kicked}
+use Rattle.psci_headline.specs.psci_world_spec.Histories.{acks, call, control}
+use Rattle.psci_headline.specs.psci_world_spec.Histories.{controller_history, controller_values}
+use Rattle.psci_headline.specs.psci_world_spec.Histories.{delivered, firmware_history}
+use Rattle.psci_headline.specs.psci_world_spec.Histories.{firmware_values, sent}
+use Rattle.psci_headline.specs.psci_world_spec.Legal.{IsLegalPast}
+use Rattle.psci_headline.specs.psci_world_spec.Lists.{indexed}
+use Rattle.psci_headline.proofs.world_spec.Answered.{firmware_legal}
+use Rattle.psci_headline.specs.Agreement.{Agree}
 use Rattle.psci_settle.specs.Waiting.{Waiting}
 use Rattle.psci_headline.proofs.Moves.{FirmwareLaws, moves}
 use Rattle.psci_settle.specs.Confirming.{Confirming}

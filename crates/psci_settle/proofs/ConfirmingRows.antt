@@ -3,15 +3,15 @@
 use Rattle.std.proofs.Common.{◌≡◌, ℕ, ◌<◌, inl, inr, true, false, List, [], ◌∷◌, Some, refl}
 use Rattle.std.proofs.Common.{arith, subst}
 use Rattle.std.proofs.lemmas.Option.{none-some}
-use Rattle.psci_world_laws.specs.psci_messages.declared.kind.Kind.TheVariants.{Down}
-use Rattle.psci_world_laws.specs.psci_messages.Slots.{OfCore}
-use Rattle.psci_world_laws.specs.psci_fw_laws.KnownBelow.{known_below}
-use Rattle.psci_world_laws.specs.psci_world_spec.declared.event.Event.TheVariants.{Deliver, Enter}
-use Rattle.psci_world_laws.specs.psci_world_spec.declared.event.Event.TheVariants.{Take}
-use Rattle.psci_world_laws.specs.psci_world_spec.declared.said.Record.{Record}
-use Rattle.psci_world_laws.specs.psci_world_spec.Histories.{firmware_values}
-use Rattle.psci_world_laws.specs.psci_world_spec.Legal.{run_from}
-use Rattle.psci_world_laws.proofs.world_spec.Scripts.{acked, call, one_core}
+use Rattle.psci_headline.specs.psci_messages.declared.kind.Kind.TheVariants.{Down}
+use Rattle.psci_headline.specs.psci_messages.Slots.{OfCore}
+use Rattle.psci_headline.specs.psci_fw_laws.KnownBelow.{known_below}
+use Rattle.psci_headline.specs.psci_world_spec.declared.event.Event.TheVariants.{Deliver, Enter}
+use Rattle.psci_headline.specs.psci_world_spec.declared.event.Event.TheVariants.{Take}
+use Rattle.psci_headline.specs.psci_world_spec.declared.said.Record.{Record}
+use Rattle.psci_headline.specs.psci_world_spec.Histories.{firmware_values}
+use Rattle.psci_headline.specs.psci_world_spec.Legal.{run_from}
+use Rattle.psci_headline.proofs.world_spec.Scripts.{acked, call, one_core}
 use Rattle.psci_settle.specs.Confirming.{Confirming}
 use Rattle.psci_settle.proofs.Untold.{after, computing, says}
 

@@ -2,29 +2,29 @@
 use Rattle.std.proofs.Common.{◌≡◌, ℕ, inl, inr, ◌<◌, true, false, List}
 use Rattle.std.proofs.Common.{[], ◌∷◌, length, Some, refl, arith, subst, sym, ◌∙◌}
 use Rattle.std.specs.Prelude.{slice_get}
-use Rattle.psci_world_laws.specs.psci_board.Board.{BoardValue}
-use Rattle.psci_world_laws.specs.psci_board.Laws.{PathLaws}
-use Rattle.psci_world_laws.specs.psci_board.declared.node.Core.{Core}
-use Rattle.psci_world_laws.specs.psci_claims.psci_parts.declared.part.Part.{Part}
-use Rattle.psci_world_laws.specs.psci_messages.declared.kind.Kind.{Kind}
-use Rattle.psci_world_laws.specs.psci_messages.declared.kind.Kind.TheVariants as kinds
-use Rattle.psci_world_laws.specs.psci_messages.declared.start.Start.{Start}
-use Rattle.psci_world_laws.specs.psci_messages.Message.{ArePartsOf, AreClaims, MessageValue}
-use Rattle.psci_world_laws.specs.psci_messages.Slots.{OfSystem, slot_of}
-use Rattle.psci_world_laws.specs.psci_fw_spec.After.{change}
-use Rattle.psci_world_laws.specs.psci_fw_spec.Changes.{Rest, with_arrival, with_halt}
-use Rattle.psci_world_laws.specs.psci_fw_spec.Changes.{with_phase, with_rest}
-use Rattle.psci_world_laws.specs.psci_fw_spec.Effects.{Rests}
-use Rattle.psci_world_laws.specs.psci_fw_spec.Effects.{Stops, Enters, Parks, StopsAtOnce}
-use Rattle.psci_world_laws.specs.psci_fw_spec.Lives.{in_life}
-use Rattle.psci_world_laws.specs.psci_fw_spec.Phases.{Phase, Away, Pending, Running, Suspended}
-use Rattle.psci_world_laws.specs.psci_fw_spec.Phases.{unless_pending}
-use Rattle.psci_world_laws.specs.psci_fw_spec.Values.{Values}
-use Rattle.psci_world_laws.specs.psci_fw_laws.Allowed.{IsAllowed}
-use Rattle.psci_world_laws.specs.psci_fw_laws.Kept.{Holds}
-use Rattle.psci_world_laws.specs.psci_fw_laws.KnownBelow.{KnownLaws}
-use Rattle.psci_world_laws.specs.psci_fw_laws.Messages.{is_system}
-use Rattle.psci_world_laws.proofs.fw_laws.Parts.{updated_at}
+use Rattle.psci_headline.specs.psci_board.Board.{BoardValue}
+use Rattle.psci_headline.specs.psci_board.Laws.{PathLaws}
+use Rattle.psci_headline.specs.psci_board.declared.node.Core.{Core}
+use Rattle.psci_headline.specs.psci_claims.psci_parts.declared.part.Part.{Part}
+use Rattle.psci_headline.specs.psci_messages.declared.kind.Kind.{Kind}
+use Rattle.psci_headline.specs.psci_messages.declared.kind.Kind.TheVariants as kinds
+use Rattle.psci_headline.specs.psci_messages.declared.start.Start.{Start}
+use Rattle.psci_headline.specs.psci_messages.Message.{ArePartsOf, AreClaims, MessageValue}
+use Rattle.psci_headline.specs.psci_messages.Slots.{OfSystem, slot_of}
+use Rattle.psci_headline.specs.psci_fw_spec.After.{change}
+use Rattle.psci_headline.specs.psci_fw_spec.Changes.{Rest, with_arrival, with_halt}
+use Rattle.psci_headline.specs.psci_fw_spec.Changes.{with_phase, with_rest}
+use Rattle.psci_headline.specs.psci_fw_spec.Effects.{Rests}
+use Rattle.psci_headline.specs.psci_fw_spec.Effects.{Stops, Enters, Parks, StopsAtOnce}
+use Rattle.psci_headline.specs.psci_fw_spec.Lives.{in_life}
+use Rattle.psci_headline.specs.psci_fw_spec.Phases.{Phase, Away, Pending, Running, Suspended}
+use Rattle.psci_headline.specs.psci_fw_spec.Phases.{unless_pending}
+use Rattle.psci_headline.specs.psci_fw_spec.Values.{Values}
+use Rattle.psci_headline.specs.psci_fw_laws.Allowed.{IsAllowed}
+use Rattle.psci_headline.specs.psci_fw_laws.Kept.{Holds}
+use Rattle.psci_headline.specs.psci_fw_laws.KnownBelow.{KnownLaws}
+use Rattle.psci_headline.specs.psci_fw_laws.Messages.{is_system}
+use Rattle.psci_headline.proofs.fw_laws.Parts.{updated_at}
 use Rattle.psci_settle.proofs.Slots.{put_system}
 use Rattle.psci_settle.specs.Confirming.{AreConfirming}
 use Rattle.psci_settle.proofs.Beside.{AreBeside, IsFlat, all_domains, arrived, arrived_flat}
@@ -98,7 +98,7 @@ first_part m kind are =
 
 -- nothing is granted on the path of a core that runs
 flat_running : (b : BoardValue) (v : Values) (sent : List MessageValue) (c : ℕ) → Holds b v sent
-    → c < Rattle.psci_world_laws.specs.psci_board.Board.cores b → v.phase c ≡ Running
+    → c < Rattle.psci_headline.specs.psci_board.Board.cores b → v.phase c ≡ Running
     → IsFlat b v c
 flat_running b v sent c holds on runs level place path some =
     let has = holds.grants.claimed level place some in

@@ -3,29 +3,29 @@ use Rattle.std.proofs.Common.{◌≡◌, ℕ, inl, inr, ◌+◌, ◌<◌, ◌≤
 use Rattle.std.proofs.Common.{Option, None, Some, refl, arith, subst, sym, ◌∙◌}
 use Rattle.std.specs.Prelude.{slice_get}
 use Rattle.std.proofs.lemmas.Bool.{cases_eq, cond_both}
-use Rattle.psci_world_laws.specs.psci_board.Board.{BoardValue}
-use Rattle.psci_world_laws.specs.psci_board.Laws.{PathLaws}
-use Rattle.psci_world_laws.specs.psci_ctl_spec.Changes.{next_life, one_more}
-use Rattle.psci_world_laws.specs.psci_ctl_spec.Changes as controlling
-use Rattle.psci_world_laws.specs.psci_ctl_spec.Effects as controlling_effects
-use Rattle.psci_world_laws.specs.psci_ctl_spec.Values as controlled
-use Rattle.psci_world_laws.specs.psci_messages.declared.start.Start.{Start}
-use Rattle.psci_world_laws.specs.psci_messages.Message.{AckValue, MessageValue}
-use Rattle.psci_world_laws.specs.psci_fw_spec.declared.status.Status.TheVariants as statuses
-use Rattle.psci_world_laws.specs.psci_fw_spec.After.{change}
-use Rattle.psci_world_laws.specs.psci_fw_spec.Changes.{with_mode, with_pending}
-use Rattle.psci_world_laws.specs.psci_fw_spec.Effects.{Effect, Nothing, GoesOn, SetsMode, AsksOn}
-use Rattle.psci_world_laws.specs.psci_fw_spec.Effects.{Rests, Halts}
-use Rattle.psci_world_laws.specs.psci_fw_spec.Effects.{Stops, Enters, Parks, StopsAtOnce}
-use Rattle.psci_world_laws.specs.psci_fw_spec.Effects.{Acknowledges}
-use Rattle.psci_world_laws.specs.psci_fw_spec.Lives.{first_confirmed, in_life, start_of_life}
-use Rattle.psci_world_laws.specs.psci_fw_spec.Phases.{Away, Pending}
-use Rattle.psci_world_laws.specs.psci_fw_spec.Values.{Values}
-use Rattle.psci_world_laws.specs.psci_fw_laws.Allowed.{IsAllowed}
-use Rattle.psci_world_laws.specs.psci_fw_laws.Kept.{Holds}
-use Rattle.psci_world_laws.specs.psci_fw_laws.KnownBelow.{KnownLaws}
-use Rattle.psci_world_laws.proofs.fw_laws.Arriving.{found_life}
-use Rattle.psci_world_laws.proofs.Agreeing.{found_other, found_own}
+use Rattle.psci_headline.specs.psci_board.Board.{BoardValue}
+use Rattle.psci_headline.specs.psci_board.Laws.{PathLaws}
+use Rattle.psci_headline.specs.psci_ctl_spec.Changes.{next_life, one_more}
+use Rattle.psci_headline.specs.psci_ctl_spec.Changes as controlling
+use Rattle.psci_headline.specs.psci_ctl_spec.Effects as controlling_effects
+use Rattle.psci_headline.specs.psci_ctl_spec.Values as controlled
+use Rattle.psci_headline.specs.psci_messages.declared.start.Start.{Start}
+use Rattle.psci_headline.specs.psci_messages.Message.{AckValue, MessageValue}
+use Rattle.psci_headline.specs.psci_fw_spec.declared.status.Status.TheVariants as statuses
+use Rattle.psci_headline.specs.psci_fw_spec.After.{change}
+use Rattle.psci_headline.specs.psci_fw_spec.Changes.{with_mode, with_pending}
+use Rattle.psci_headline.specs.psci_fw_spec.Effects.{Effect, Nothing, GoesOn, SetsMode, AsksOn}
+use Rattle.psci_headline.specs.psci_fw_spec.Effects.{Rests, Halts}
+use Rattle.psci_headline.specs.psci_fw_spec.Effects.{Stops, Enters, Parks, StopsAtOnce}
+use Rattle.psci_headline.specs.psci_fw_spec.Effects.{Acknowledges}
+use Rattle.psci_headline.specs.psci_fw_spec.Lives.{first_confirmed, in_life, start_of_life}
+use Rattle.psci_headline.specs.psci_fw_spec.Phases.{Away, Pending}
+use Rattle.psci_headline.specs.psci_fw_spec.Values.{Values}
+use Rattle.psci_headline.specs.psci_fw_laws.Allowed.{IsAllowed}
+use Rattle.psci_headline.specs.psci_fw_laws.Kept.{Holds}
+use Rattle.psci_headline.specs.psci_fw_laws.KnownBelow.{KnownLaws}
+use Rattle.psci_headline.proofs.fw_laws.Arriving.{found_life}
+use Rattle.psci_headline.proofs.Agreeing.{found_other, found_own}
 use Rattle.psci_settle.specs.Waiting.{WasTold}
 use Rattle.psci_headline.proofs.Records.{IsOfRecord}
 use Rattle.psci_settle.specs.Confirming.{AreConfirming}

@@ -2,19 +2,19 @@
 use Rattle.std.specs.Prelude.{◌≡◌, ◌++◌, ℕ, ◌+◌, Bool, true, false, ◌==◌, ◌&&◌, not, List, [], ◌∷◌}
 use Rattle.std.specs.Prelude.{is_some}
 use Rattle.std.specs.List.{list_all, range_with_len}
-use Rattle.psci_world_laws.specs.psci_board.Board.{BoardValue, cores, height, nodes}
-use Rattle.psci_world_laws.specs.psci_board.declared.node.Node.{Node}
-use Rattle.psci_world_laws.specs.psci_messages.Slots.{OfCore, OfSystem}
-use Rattle.psci_world_laws.specs.psci_fw_spec.NodeHwState.{hw_at, hw_code, node_hw}
-use Rattle.psci_world_laws.specs.psci_fw_spec.Phases.{is_away}
-use Rattle.psci_world_laws.specs.psci_fw_spec.SystemCalls.{is_off_status}
-use Rattle.psci_world_laws.specs.psci_world_spec.declared.event.Event.{Event}
-use Rattle.psci_world_laws.specs.psci_world_spec.declared.said.Record.{Record}
-use Rattle.psci_world_laws.specs.psci_world_spec.declared.said.Said.{Said}
-use Rattle.psci_world_laws.specs.psci_world_spec.Histories.{controller_values, firmware_values}
-use Rattle.psci_world_laws.specs.psci_world_spec.Legal.{run_from}
-use Rattle.psci_world_laws.specs.psci_world_spec.Places.{place}
-use Rattle.psci_world_laws.proofs.world_spec.Scripts as scripts
+use Rattle.psci_headline.specs.psci_board.Board.{BoardValue, cores, height, nodes}
+use Rattle.psci_headline.specs.psci_board.declared.node.Node.{Node}
+use Rattle.psci_headline.specs.psci_messages.Slots.{OfCore, OfSystem}
+use Rattle.psci_headline.specs.psci_fw_spec.NodeHwState.{hw_at, hw_code, node_hw}
+use Rattle.psci_headline.specs.psci_fw_spec.Phases.{is_away}
+use Rattle.psci_headline.specs.psci_fw_spec.SystemCalls.{is_off_status}
+use Rattle.psci_headline.specs.psci_world_spec.declared.event.Event.{Event}
+use Rattle.psci_headline.specs.psci_world_spec.declared.said.Record.{Record}
+use Rattle.psci_headline.specs.psci_world_spec.declared.said.Said.{Said}
+use Rattle.psci_headline.specs.psci_world_spec.Histories.{controller_values, firmware_values}
+use Rattle.psci_headline.specs.psci_world_spec.Legal.{run_from}
+use Rattle.psci_headline.specs.psci_world_spec.Places.{place}
+use Rattle.psci_headline.proofs.world_spec.Scripts as scripts
 use Rattle.psci_settle.specs.Settling.{begun, is_halting, is_started, is_waiting, round, rounds}
 use Rattle.psci_settle.specs.Settling.{settled}
 use Rattle.psci_settle.specs.Complete.{IsToldWhole}

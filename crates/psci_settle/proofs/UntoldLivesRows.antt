@@ -1,14 +1,14 @@
 -- Worked examples: records after which just one thing is not told as it is, in the last life, in
 -- OS-initiated mode and in the extended format.
 use Rattle.std.proofs.Common.{◌≡◌, [], ◌∷◌, refl, arith}
-use Rattle.psci_world_laws.specs.psci_abi.psci_format.declared.format.Format.TheVariants.{Extended}
-use Rattle.psci_world_laws.specs.psci_fw_spec.declared.hw.Hw.TheVariants as hw
-use Rattle.psci_world_laws.specs.psci_fw_spec.declared.status.Status.TheVariants.{On, Off}
-use Rattle.psci_world_laws.specs.psci_fw_spec.Phases.{Away, Running}
-use Rattle.psci_world_laws.specs.psci_world_spec.declared.event.Event.TheVariants.{Deliver, Enter}
-use Rattle.psci_world_laws.specs.psci_world_spec.declared.event.Event.TheVariants.{Take}
-use Rattle.psci_world_laws.proofs.world_spec.Scripts.{board, call, off, on_3, retention}
-use Rattle.psci_world_laws.proofs.world_spec.Scripts.{system_reset, value, version}
+use Rattle.psci_headline.specs.psci_abi.psci_format.declared.format.Format.TheVariants.{Extended}
+use Rattle.psci_headline.specs.psci_fw_spec.declared.hw.Hw.TheVariants as hw
+use Rattle.psci_headline.specs.psci_fw_spec.declared.status.Status.TheVariants.{On, Off}
+use Rattle.psci_headline.specs.psci_fw_spec.Phases.{Away, Running}
+use Rattle.psci_headline.specs.psci_world_spec.declared.event.Event.TheVariants.{Deliver, Enter}
+use Rattle.psci_headline.specs.psci_world_spec.declared.event.Event.TheVariants.{Take}
+use Rattle.psci_headline.proofs.world_spec.Scripts.{board, call, off, on_3, retention}
+use Rattle.psci_headline.proofs.world_spec.Scripts.{system_reset, value, version}
 use Rattle.psci_settle.proofs.Untold.{Hw, IsAway, IsOff, IsUntold, after, at, computing, says}
 
 -- Life 3 ----------------------------------------------------------------------------------------

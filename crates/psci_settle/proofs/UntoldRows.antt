@@ -2,18 +2,18 @@
 -- message or an acknowledgement is outstanding still, or where the life is halting, or by a run
 -- that is not legal.
 use Rattle.std.proofs.Common.{◌≡◌, true, false, [], ◌∷◌, refl, arith}
-use Rattle.psci_world_laws.specs.psci_fw_spec.declared.hw.Hw.TheVariants as hw
-use Rattle.psci_world_laws.specs.psci_fw_spec.declared.status.Status.TheVariants.{On, Off}
-use Rattle.psci_world_laws.specs.psci_fw_spec.Phases.{Away, Running}
-use Rattle.psci_world_laws.specs.psci_messages.declared.kind.Kind.TheVariants.{Down}
-use Rattle.psci_world_laws.specs.psci_abi.psci_format.declared.format.Format.TheVariants.{Extended}
-use Rattle.psci_world_laws.specs.psci_world_spec.declared.event.Event.TheVariants.{Deliver, Enter}
-use Rattle.psci_world_laws.specs.psci_world_spec.declared.event.Event.TheVariants.{Reset, Take}
-use Rattle.psci_world_laws.specs.psci_world_spec.declared.event.Event.TheVariants.{Wake}
-use Rattle.psci_world_laws.specs.psci_world_spec.Legal.{run_from}
-use Rattle.psci_world_laws.proofs.world_spec.Scripts.{acked, board, call, off, on_3, retention}
-use Rattle.psci_world_laws.proofs.world_spec.Scripts.{system_off, system_reset, tall, value}
-use Rattle.psci_world_laws.proofs.world_spec.Scripts.{version}
+use Rattle.psci_headline.specs.psci_fw_spec.declared.hw.Hw.TheVariants as hw
+use Rattle.psci_headline.specs.psci_fw_spec.declared.status.Status.TheVariants.{On, Off}
+use Rattle.psci_headline.specs.psci_fw_spec.Phases.{Away, Running}
+use Rattle.psci_headline.specs.psci_messages.declared.kind.Kind.TheVariants.{Down}
+use Rattle.psci_headline.specs.psci_abi.psci_format.declared.format.Format.TheVariants.{Extended}
+use Rattle.psci_headline.specs.psci_world_spec.declared.event.Event.TheVariants.{Deliver, Enter}
+use Rattle.psci_headline.specs.psci_world_spec.declared.event.Event.TheVariants.{Reset, Take}
+use Rattle.psci_headline.specs.psci_world_spec.declared.event.Event.TheVariants.{Wake}
+use Rattle.psci_headline.specs.psci_world_spec.Legal.{run_from}
+use Rattle.psci_headline.proofs.world_spec.Scripts.{acked, board, call, off, on_3, retention}
+use Rattle.psci_headline.proofs.world_spec.Scripts.{system_off, system_reset, tall, value}
+use Rattle.psci_headline.proofs.world_spec.Scripts.{version}
 use Rattle.psci_settle.proofs.Untold.{Hw, IsAway, IsOff, IsUntold, after, at, computing, says}
 
 -- Says ON of what is asleep ---------------------------------------------------------------------

@@ -1,13 +1,13 @@
 -- Worked examples: records after which just one thing is not told as it is, by later starts of
 -- core 3, which was woken from retention so often.
 use Rattle.std.proofs.Common.{◌≡◌, [], ◌∷◌, refl, arith}
-use Rattle.psci_world_laws.specs.psci_fw_spec.declared.hw.Hw.TheVariants as hw
-use Rattle.psci_world_laws.specs.psci_fw_spec.declared.status.Status.TheVariants.{On, Off}
-use Rattle.psci_world_laws.specs.psci_fw_spec.Phases.{Away, Running}
-use Rattle.psci_world_laws.specs.psci_world_spec.declared.event.Event.TheVariants.{Deliver, Enter}
-use Rattle.psci_world_laws.specs.psci_world_spec.declared.event.Event.TheVariants.{Take, Wake}
-use Rattle.psci_world_laws.proofs.world_spec.Scripts.{board, off, on_3, retention, value}
-use Rattle.psci_world_laws.proofs.world_spec.Scripts.{version}
+use Rattle.psci_headline.specs.psci_fw_spec.declared.hw.Hw.TheVariants as hw
+use Rattle.psci_headline.specs.psci_fw_spec.declared.status.Status.TheVariants.{On, Off}
+use Rattle.psci_headline.specs.psci_fw_spec.Phases.{Away, Running}
+use Rattle.psci_headline.specs.psci_world_spec.declared.event.Event.TheVariants.{Deliver, Enter}
+use Rattle.psci_headline.specs.psci_world_spec.declared.event.Event.TheVariants.{Take, Wake}
+use Rattle.psci_headline.proofs.world_spec.Scripts.{board, off, on_3, retention, value}
+use Rattle.psci_headline.proofs.world_spec.Scripts.{version}
 use Rattle.psci_settle.proofs.Untold.{Hw, IsAway, IsOff, IsUntold, after, at, computing, says}
 
 -- Start 2 ---------------------------------------------------------------------------------------

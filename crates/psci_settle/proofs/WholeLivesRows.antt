@@ -1,9 +1,9 @@
 -- Worked examples: worlds of which all is told once they have settled, in later lives and by later
 -- starts.
 use Rattle.std.proofs.Common.{◌≡◌, [], ◌∷◌, refl}
-use Rattle.psci_world_laws.specs.psci_world_spec.declared.event.Event.TheVariants.{Deliver, Enter}
-use Rattle.psci_world_laws.specs.psci_world_spec.declared.event.Event.TheVariants.{Wake}
-use Rattle.psci_world_laws.proofs.world_spec.Scripts.{board, off, on_3, retention, system_reset}
+use Rattle.psci_headline.specs.psci_world_spec.declared.event.Event.TheVariants.{Deliver, Enter}
+use Rattle.psci_headline.specs.psci_world_spec.declared.event.Event.TheVariants.{Wake}
+use Rattle.psci_headline.proofs.world_spec.Scripts.{board, off, on_3, retention, system_reset}
 use Rattle.psci_settle.proofs.Untold.{computing, failing, settles}
 
 -- Later lives -----------------------------------------------------------------------------------

@@ -1,11 +1,11 @@
 -- Worked examples: worlds of which all is told once they have settled.
 use Rattle.std.proofs.Common.{◌≡◌, [], ◌∷◌, refl}
-use Rattle.psci_world_laws.specs.psci_abi.psci_format.declared.format.Format.TheVariants.{Extended}
-use Rattle.psci_world_laws.specs.psci_world_spec.declared.event.Event.TheVariants.{Enter, Wake}
-use Rattle.psci_world_laws.specs.psci_world_spec.declared.event.Event.TheVariants.{Deliver, Reset}
-use Rattle.psci_world_laws.specs.psci_world_spec.declared.event.Event.TheVariants.{Take}
-use Rattle.psci_world_laws.proofs.world_spec.Scripts.{board, call, off, on_3, one_core, retention}
-use Rattle.psci_world_laws.proofs.world_spec.Scripts.{system_reset, tall}
+use Rattle.psci_headline.specs.psci_abi.psci_format.declared.format.Format.TheVariants.{Extended}
+use Rattle.psci_headline.specs.psci_world_spec.declared.event.Event.TheVariants.{Enter, Wake}
+use Rattle.psci_headline.specs.psci_world_spec.declared.event.Event.TheVariants.{Deliver, Reset}
+use Rattle.psci_headline.specs.psci_world_spec.declared.event.Event.TheVariants.{Take}
+use Rattle.psci_headline.proofs.world_spec.Scripts.{board, call, off, on_3, one_core, retention}
+use Rattle.psci_headline.proofs.world_spec.Scripts.{system_reset, tall}
 use Rattle.psci_settle.proofs.Untold.{computing, failing, settles}
 
 -- Platform-coordinated mode ---------------------------------------------------------------------

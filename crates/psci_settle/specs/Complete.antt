@@ -1,12 +1,12 @@
 -- What is told once firmware and power controller agree: all of it.
 use Rattle.std.specs.Prelude.{◌≡◌, ℕ, ◌<◌, List}
-use Rattle.psci_world_laws.specs.psci_board.Board.{BoardValue, HasNode, cores}
-use Rattle.psci_world_laws.specs.psci_board.declared.node.Node.{Node}
-use Rattle.psci_world_laws.specs.psci_fw_spec.declared.status.Status.TheVariants.{Off}
-use Rattle.psci_world_laws.specs.psci_fw_spec.NodeHwState.{hw_at, node_hw}
-use Rattle.psci_world_laws.specs.psci_fw_spec.Phases.{Away}
-use Rattle.psci_world_laws.specs.psci_world_spec.declared.said.Record.{Record}
-use Rattle.psci_world_laws.specs.psci_world_spec.Histories.{controller_values, firmware_values}
+use Rattle.psci_headline.specs.psci_board.Board.{BoardValue, HasNode, cores}
+use Rattle.psci_headline.specs.psci_board.declared.node.Node.{Node}
+use Rattle.psci_headline.specs.psci_fw_spec.declared.status.Status.TheVariants.{Off}
+use Rattle.psci_headline.specs.psci_fw_spec.NodeHwState.{hw_at, node_hw}
+use Rattle.psci_headline.specs.psci_fw_spec.Phases.{Away}
+use Rattle.psci_headline.specs.psci_world_spec.declared.said.Record.{Record}
+use Rattle.psci_headline.specs.psci_world_spec.Histories.{controller_values, firmware_values}
 
 -- All is told of the domains and cores after these records.
 pub record IsToldWhole (b : BoardValue) (past : List Record) : Type 0 where

@@ -1,18 +1,18 @@
 //! What holds of every legal run: each law is the contract of a function that does nothing.
 
 ghost use Rattle.std.specs.Prelude.{◌≡◌, false, List};
-ghost use Rattle.psci_world_laws.specs.psci_board.Board.{BoardValue, IsBoard};
-ghost use Rattle.psci_world_laws.specs.psci_world_spec.declared.said.Record.{Record};
-ghost use Rattle.psci_world_laws.specs.psci_world_spec.Legal.{IsLegalPast};
+ghost use Rattle.psci_headline.specs.psci_board.Board.{BoardValue, IsBoard};
+ghost use Rattle.psci_headline.specs.psci_world_spec.declared.said.Record.{Record};
+ghost use Rattle.psci_headline.specs.psci_world_spec.Legal.{IsLegalPast};
 ghost use Rattle.psci_settle.specs.Drained.{AreAtRest};
 ghost use Rattle.psci_settle.specs.Settling.{is_halting, settled};
 ghost use Rattle.psci_settle.specs.Complete.{IsToldWhole};
 ghost use Rattle.psci_settle.specs.Confirming.{Confirming};
 
+use crate::laws::law_waiting;
 use psci_board::{law_children, law_sizes};
 use psci_ctl_spec::{law_acknowledgements, law_parts, law_replies, law_sums};
-use crate::laws::law_waiting;
-use psci_world_laws::{
+use psci_headline::{
     law_agreement, law_caller, law_controlled, law_depths, law_granted, law_invariant, law_kept,
     law_known_below, law_limits, law_never_refused, law_paths, law_sent, law_values,
 };

@@ -1,8 +1,8 @@
 -- What is told after every legal run.
 use Rattle.std.proofs.Common.{subst, sym}
-use Rattle.psci_world_laws.specs.psci_fw_laws.Kept.{Holds}
-use Rattle.psci_world_laws.specs.psci_world_spec.Histories.{firmware_history, firmware_values}
-use Rattle.psci_world_laws.proofs.world_spec.Answered.{firmware_legal}
+use Rattle.psci_headline.specs.psci_fw_laws.Kept.{Holds}
+use Rattle.psci_headline.specs.psci_world_spec.Histories.{firmware_history, firmware_values}
+use Rattle.psci_headline.proofs.world_spec.Answered.{firmware_legal}
 use Rattle.psci_settle.proofs.Confirmed.{confirming}
 use Rattle.psci_settle.proofs.told.law_confirming.Goals as goal
 
